@@ -1,1 +1,6 @@
+pub mod After
+pub mod Frames
 pub mod Kinds
+pub mod Reader
+pub mod Reasons
+pub mod Run

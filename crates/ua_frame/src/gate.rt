@@ -1,8 +1,6 @@
 //! Which frames are taken.
 
 ghost use Rattle.std.specs.Prelude.{◌≡◌};
-ghost use Rattle.ua_frame.specs.Kinds.{closed_gate, gate_with, lets_in};
-
 use crate::kind::Kind;
 
 /// The kinds of frames that are taken at some place, and the largest size of a frame, in octets
@@ -19,6 +17,8 @@ pub struct Gate {
 }
 
 impl Gate {
+    ghost use Rattle.ua_frame.specs.Kinds.{closed_gate, gate_with, lets_in};
+
     /// The gate that takes no kind, with the largest size for those that are added.
     pub fn new(largest: u32) -> Gate
         ensures { result ≡ closed_gate largest }

@@ -9,6 +9,7 @@ mod body;
 mod fault;
 mod frame;
 mod gate;
+mod header;
 mod kind;
 
 pub use body::Body;
