@@ -131,7 +131,7 @@ size_of-frame_more f more h = size_front (frame_octets f) more (omega (arith, le
 
 -- ---- a frame that a gate lets in has a good header, and the other way round
 
-by_tests : (unknown place large small : Bool) → first_reason ((UnknownType, not unknown) ∷ ((OutOfPlace, not place) ∷ ((TooLarge, large) ∷ ((TooSmall, small) ∷ [])))) ≡ None → (IsTrue unknown) × (IsTrue place) × (large ≡ false) × (small ≡ false)
+pub by_tests : (unknown place large small : Bool) → first_reason ((UnknownType, not unknown) ∷ ((OutOfPlace, not place) ∷ ((TooLarge, large) ∷ ((TooSmall, small) ∷ [])))) ≡ None → (IsTrue unknown) × (IsTrue place) × (large ≡ false) × (small ≡ false)
 by_tests true true false false e = (refl, refl, refl, refl)
 by_tests true true false true e = absurd cc
 by_tests true true true small e = absurd cc

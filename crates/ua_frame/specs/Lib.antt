@@ -4,3 +4,4 @@ pub mod Kinds
 pub mod Reader
 pub mod Reasons
 pub mod Run
+pub mod Unfinished

@@ -11,6 +11,7 @@ mod frame;
 mod gate;
 mod header;
 mod kind;
+mod unfinished;
 
 pub use body::Body;
 pub use fault::FrameFault;
