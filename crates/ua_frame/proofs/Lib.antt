@@ -1,2 +1,4 @@
 pub mod Fronts
 pub mod Parts
+pub mod Readers
+pub mod Streams

@@ -1,10 +1,11 @@
 -- What a frame reader holds, and what it makes of a piece.
-use Rattle.std.specs.Prelude.{◌≡◌, ℕ, ◌<◌, ◌≤◌, List, [], ◌++◌, Bool, true, false, Option, Some, None, Result, Ok, Err, length, take}
+use Rattle.std.specs.Prelude.{◌≡◌, ℕ, ◌<◌, ◌≤◌, List, [], ◌∷◌, ◌++◌, Bool, true, false, Option, Some, None, Result, Ok, Err, length, take}
 use Rattle.ua_frame.specs.declared.fault.FrameFault.{FrameFault}
 use Rattle.ua_frame.specs.declared.fault.FrameFault.TheVariants.{UnknownType, OutOfPlace, TooLarge, TooSmall, OutOfMemory, Closed}
 use Rattle.ua_frame.specs.declared.frame.Frame.{Frame}
 use Rattle.ua_frame.specs.declared.gate.Gate.{Gate}
-use Rattle.ua_frame.specs.Frames.{frame_octets, frames_octets, IsSized, LetsIn, header_fault, IsPartial}
+use Rattle.ua_frame.specs.Frames.{frame_octets, IsSized, LetsIn, header_fault, header_code, IsPartial}
+use Rattle.ua_frame.specs.Run.{Rules, Run, Going, Stopped}
 
 -- what stands in a reader: its gate, the octets of a frame that isn't whole yet, and whether it failed
 pub record Reader : Type 0 where
@@ -64,8 +65,30 @@ Takes old piece (Err Closed) new = (old.failed ≡ true) × (new ≡ old)
 
 -- ---- a whole stream, at one gate
 
+-- the rules of a reader whose gate stays: what the gate lets in is taken, and tells of itself
+abbrev pub gate_rules : Gate → Rules Frame
+gate_rules gate = record { gate = λ before. gate; reasons = λ before f. []; tells = λ before f. f ∷ []; over = λ before. false }
+
 -- a reader stands after these octets, of which these are the frames
 pub record StandsAfter (reader : Reader) (octets : List ℕ) (frames : List Frame) : Type 0 where
   pub «open» : reader.failed ≡ false
-  pub whole : octets ≡ frames_octets frames ++ reader.held
-  pub partial : IsPartial reader.gate reader.held
+  pub run : Run (gate_rules reader.gate) octets frames reader.held Going
+
+-- behind these frames of the octets stands a header with this wrong
+pub record RefusedAfter (gate : Gate) (fault : FrameFault) (octets : List ℕ) (frames : List Frame) : Type 0 where
+  pub rest : List ℕ
+  pub code : ℕ
+  pub code_is : header_code fault ≡ Some code
+  pub fault_is : header_fault gate rest ≡ Some fault
+  pub run : Run (gate_rules gate) octets frames rest (Stopped code)
+
+-- what a reader that stands after these octets answers to a piece, and where it then stands
+abbrev pub Answers : Reader → List ℕ → Result (ℕ × Option Frame) FrameFault → Reader → List ℕ → List Frame → Type 0
+Answers old piece (Ok (n, None)) new octets frames = (n ≡ length piece) × StandsAfter new (octets ++ piece) frames
+Answers old piece (Ok (n, Some f)) new octets frames = (n ≤ length piece) × StandsAfter new (octets ++ take n piece) (frames ++ f ∷ [])
+Answers old piece (Err UnknownType) new octets frames = RefusedAfter old.gate UnknownType (octets ++ piece) frames
+Answers old piece (Err OutOfPlace) new octets frames = RefusedAfter old.gate OutOfPlace (octets ++ piece) frames
+Answers old piece (Err TooLarge) new octets frames = RefusedAfter old.gate TooLarge (octets ++ piece) frames
+Answers old piece (Err TooSmall) new octets frames = RefusedAfter old.gate TooSmall (octets ++ piece) frames
+Answers old piece (Err OutOfMemory) new octets frames = Unit {0}
+Answers old piece (Err Closed) new octets frames = ⊥

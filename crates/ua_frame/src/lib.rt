@@ -11,6 +11,7 @@ mod frame;
 mod gate;
 mod header;
 mod kind;
+mod reader;
 mod unfinished;
 
 pub use body::Body;
@@ -18,3 +19,4 @@ pub use fault::FrameFault;
 pub use frame::Frame;
 pub use gate::Gate;
 pub use kind::Kind;
+pub use reader::FrameReader;
