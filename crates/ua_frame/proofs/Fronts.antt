@@ -76,7 +76,7 @@ flag_first Msg flag t = refl
 flag_first Opn flag t = refl
 flag_first Clo flag t = refl
 
-behind_first : (k : Kind) (flag : ℕ) (t : List ℕ) → drop 4 (kind_octets k ++ flag ∷ t) ≡ t
+pub behind_first : (k : Kind) (flag : ℕ) (t : List ℕ) → drop 4 (kind_octets k ++ flag ∷ t) ≡ t
 behind_first Hel flag t = refl
 behind_first Ack flag t = refl
 behind_first kind.Err flag t = refl

@@ -1,6 +1,7 @@
 pub mod After
 pub mod Frames
 pub mod Kinds
+pub mod Laws
 pub mod Reader
 pub mod Reasons
 pub mod Run
