@@ -1,4 +1,5 @@
 pub mod Fronts
+pub mod Octets
 pub mod Parts
 pub mod Readers
 pub mod Streams

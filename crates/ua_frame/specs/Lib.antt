@@ -2,6 +2,8 @@ pub mod After
 pub mod Frames
 pub mod Kinds
 pub mod Laws
+pub mod Limits
+pub mod Messages
 pub mod Reader
 pub mod Reasons
 pub mod Run

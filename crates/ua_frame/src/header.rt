@@ -1,6 +1,8 @@
 //! The eight octets that a frame begins with.
 
-ghost use Rattle.std.specs.Prelude.{◌≡◌, ◌≤◌, ◌+◌, ◌++◌, IsSome, length};
+ghost use Rattle.std.specs.Prelude.{◌≡◌, ◌≤◌, ◌+◌, ◌∷◌, ◌++◌, IsSome, length};
+ghost use Rattle.ua_builtin.specs.Number.{number_octets};
+ghost use Rattle.ua_frame.specs.Kinds.{kind_octets};
 ghost use Rattle.ua_frame.specs.Frames.{kind_of, size_of, header_fault, frame_octets, IsSized};
 
 use crate::body::Body;
@@ -12,6 +14,18 @@ use byteorder::{ByteOrder, LittleEndian};
 
 /// The number of octets of a header.
 pub const HEADER_LEN: usize = 8;
+
+/// The octets of a header: a kind, a flag, and the size of the whole frame.
+#[inline]
+pub fn header_octets(kind: Kind, flag: u8, size: u32) -> [u8; HEADER_LEN]
+    ensures { result ≡ kind_octets kind ++ flag ∷ number_octets 4 size }
+{
+    let name = kind.octets();
+    let size = size.to_le_bytes();
+    [
+        name[0], name[1], name[2], flag, size[0], size[1], size[2], size[3],
+    ]
+}
 
 /// The kind that a header names.
 #[inline]

@@ -20,7 +20,22 @@ pub enum Kind {
 }
 
 impl Kind {
-    ghost use Rattle.ua_frame.specs.Kinds.{has_flag, least_size};
+    ghost use Rattle.ua_frame.specs.Kinds.{has_flag, kind_octets, least_size};
+
+    /// The three octets that name this kind, in ASCII.
+    #[inline]
+    pub fn octets(self) -> [u8; 3]
+        ensures { result ≡ kind_octets self }
+    {
+        match self {
+            Kind::Hel => *b"HEL",
+            Kind::Ack => *b"ACK",
+            Kind::Err => *b"ERR",
+            Kind::Msg => *b"MSG",
+            Kind::Opn => *b"OPN",
+            Kind::Clo => *b"CLO",
+        }
+    }
 
     /// The least size of a frame of this kind, in octets with its header.
     #[inline]

@@ -5,18 +5,27 @@
 //! order, or the first thing wrong with a header, as soon as its eight octets are there.
 #![tactic(auto)]
 
+mod ack;
 mod body;
+mod error;
 mod fault;
 mod frame;
 mod gate;
 mod header;
+mod hello;
 mod kind;
+mod limits;
 mod reader;
 mod unfinished;
 
+pub use ack::{Ack, ack_octets};
 pub use body::Body;
+pub use error::{ErrorFrame, error_frame};
 pub use fault::FrameFault;
 pub use frame::Frame;
 pub use gate::Gate;
+pub use header::{HEADER_LEN, header_octets};
+pub use hello::Hello;
 pub use kind::Kind;
+pub use limits::Limits;
 pub use reader::FrameReader;
