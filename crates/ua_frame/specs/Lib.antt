@@ -1,5 +1,8 @@
 pub mod After
+pub mod Agreement
+pub mod Faults
 pub mod Frames
+pub mod Greeting
 pub mod Kinds
 pub mod Laws
 pub mod Limits
@@ -8,3 +11,4 @@ pub mod Reader
 pub mod Reasons
 pub mod Run
 pub mod Unfinished
+pub mod Whole
