@@ -161,8 +161,8 @@ found_passes : (p : Kind → Bool) (ks : List Kind) (k : Kind) → find p ks ≡
 found_passes p [] k e = absurd cc
 found_passes p (x ∷ xs) k e =
     (elim (p x) as (λ (t : Bool). p x ≡ t → (if t then Some x else find p xs) ≡ Some k → IsTrue (p k)) [
-      true ↦ λ t e. subst (λ (y : Kind). IsTrue (p y)) (some_is x k e) t
-    | false ↦ λ t e. found_passes p xs k e
+      | true ↦ λ t e. subst (λ (y : Kind). IsTrue (p y)) (some_is x k e) t
+      | false ↦ λ t e. found_passes p xs k e
     ]) refl e
 
 -- the octets that a header has, where it names a kind

@@ -1,7 +1,9 @@
+pub mod FirstWrongs
 pub mod Fronts
 pub mod Greetings
 pub mod Octets
 pub mod Parts
+pub mod RawFrames
 pub mod Readers
 pub mod Streams
 pub mod Unique

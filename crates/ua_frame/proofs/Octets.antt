@@ -68,6 +68,6 @@ pub ack_octets-is : (a : Ack) (h n : List ℕ) → h ≡ kind_octets kind.Ack ++
     → put_mid 8 20 (h ++ zeros) n ≡ frame_octets (ack_frame a)
 ack_octets-is a h n p q =
     let numbers = five (little_bytes 4 a.protocol_version) (little_bytes 4 a.receive_buffer_size) (little_bytes 4 a.send_buffer_size) (little_bytes 4 a.max_message_size) (little_bytes 4 a.max_chunk_count)
-      (number_octets 4 a.protocol_version) (number_octets 4 a.receive_buffer_size) (number_octets 4 a.send_buffer_size) (number_octets 4 a.max_message_size) (number_octets 4 a.max_chunk_count)
-      (little_bytes-is 4 a.protocol_version) (little_bytes-is 4 a.receive_buffer_size) (little_bytes-is 4 a.send_buffer_size) (little_bytes-is 4 a.max_message_size) (little_bytes-is 4 a.max_chunk_count) in
+    (number_octets 4 a.protocol_version) (number_octets 4 a.receive_buffer_size) (number_octets 4 a.send_buffer_size) (number_octets 4 a.max_message_size) (number_octets 4 a.max_chunk_count)
+    (little_bytes-is 4 a.protocol_version) (little_bytes-is 4 a.receive_buffer_size) (little_bytes-is 4 a.send_buffer_size) (little_bytes-is 4 a.max_message_size) (little_bytes-is 4 a.max_chunk_count) in
     ap (λ (t : List ℕ). put_mid 8 20 (t ++ zeros) n) p ∙ (ap (λ (t : List ℕ). put_mid 8 20 ((kind_octets kind.Ack ++ 70 ∷ number_octets 4 28) ++ zeros) t) (q ∙ numbers) ∙ ack_of_numbers a)

@@ -62,12 +62,15 @@ pub run_refused : {E : Type 0} (R : Rules E) (o held piece : List ℕ) (n : ℕ)
 run_refused R o held piece n fs f code r octets sized let_in refused = record {
   whole = ap (λ (z : List ℕ). z ++ piece) r.whole ∙ append_assoc (frames_octets fs) held piece;
   good = r.good;
-  ends = (r.ends.0, inr (record {
-    frame = f;
-    more = drop n piece;
-    parts = ap (λ (z : List ℕ). held ++ z) (sym (take-append-drop n piece)) ∙ (sym (append_assoc held (take n piece) (drop n piece)) ∙ ap (λ (z : List ℕ). z ++ drop n piece) octets);
-    sized = sized;
-    let_in = let_in;
-    refused = refused;
-  }));
+  ends = (
+    r.ends.0,
+    inr (record {
+      frame = f;
+      more = drop n piece;
+      parts = ap (λ (z : List ℕ). held ++ z) (sym (take-append-drop n piece)) ∙ (sym (append_assoc held (take n piece) (drop n piece)) ∙ ap (λ (z : List ℕ). z ++ drop n piece) octets);
+      sized = sized;
+      let_in = let_in;
+      refused = refused;
+    }),
+  );
 }

@@ -16,7 +16,7 @@ use Rattle.ua_frame.proofs.Fronts.{behind_first, fault_front, size_front, length
 
 -- ---- octets begin with one frame
 
-body_of-frame : (f : Frame) → drop 8 (frame_octets f) ≡ f.body
+pub body_of-frame : (f : Frame) → drop 8 (frame_octets f) ≡ f.body
 unfolding frame_octets
 body_of-frame f =
     sym (drop-drop 4 4 (frame_octets f))

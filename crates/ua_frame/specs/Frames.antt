@@ -1,6 +1,6 @@
 -- Frames as octets, and what a header says.
 use Rattle.std.specs.Prelude.{◌≡◌, ℕ, ◌+◌, ◌<◌, ◌≤◌, ◌^◌, ◌⊎◌, List, [], ◌∷◌, ◌++◌, Bool, true, false, ◌&&◌, not, nat_eq, nat_lt, IsTrue, All, Option, Some, None, find, length, slice_index, take, drop}
-use Rattle.std.specs.List.{flat_map}
+use Rattle.std.specs.List.{flat_map, AllByRecursion}
 use Rattle.ua_builtin.specs.Number.{number_octets, number_at}
 use Rattle.ua_frame.specs.declared.fault.FrameFault.{FrameFault}
 use Rattle.ua_frame.specs.declared.fault.FrameFault.TheVariants.{UnknownType, OutOfPlace, TooLarge, TooSmall, OutOfMemory, Closed}
@@ -119,8 +119,12 @@ pub record IsRawFrame (octets : List ℕ) : Type 0 where
 abbrev pub IsRest : List ℕ → Type 0
 IsRest rest = (length rest < 8) ⊎ ((size_of rest < 8) ⊎ (length rest < size_of rest))
 
+-- octets, joined
+unfoldable pub joined : List (List ℕ) → List ℕ
+joined parts = flat_map (λ (part : List ℕ). part) parts
+
 -- the octets are these frames, joined, and then less than a frame (OPC 10000-6, 7.1)
 pub record Frames (octets : List ℕ) (frames : List (List ℕ)) (rest : List ℕ) : Type 0 where
-  pub whole : octets ≡ flat_map (λ (frame : List ℕ). frame) frames ++ rest
-  pub each : All IsRawFrame frames
+  pub whole : octets ≡ joined frames ++ rest
+  pub each : AllByRecursion IsRawFrame frames
   pub partial : IsRest rest

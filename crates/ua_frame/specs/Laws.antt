@@ -1,7 +1,9 @@
 -- Laws of streams.
-use Rattle.std.specs.Prelude.{◌≡◌, ℕ, List}
+use Rattle.std.specs.Prelude.{◌≡◌, ◌↔◌, ℕ, List}
 use Rattle.ua_frame.specs.declared.frame.Frame.{Frame}
-use Rattle.ua_frame.specs.Run.{Rules, Run, End}
+use Rattle.ua_frame.specs.FirstWrong.{FirstWrong}
+use Rattle.ua_frame.specs.Frames.{Frames}
+use Rattle.ua_frame.specs.Run.{Rules, Run, End, Stopped}
 
 -- two readings of a stream are one
 pub record IsSame (fs gs : List Frame) (x y : List ℕ) (e d : End) : Type 0 where
@@ -12,3 +14,17 @@ pub record IsSame (fs gs : List Frame) (x y : List ℕ) (e d : End) : Type 0 whe
 -- the octets of a stream have one reading by given rules
 abbrev pub HasOneReading : {E : Type 0} → Rules E → Type 0
 HasOneReading R = (octets : List ℕ) (fs gs : List Frame) (x y : List ℕ) (e d : End) → Run R octets fs x e → Run R octets gs y d → IsSame fs gs x y e d
+
+-- octets are frames, by their sizes alone, in one way
+abbrev pub FramesAreOne : Type 0
+FramesAreOne = (octets : List ℕ) (fs gs : List (List ℕ)) (x y : List ℕ) → Frames octets fs x → Frames octets gs y → (fs ≡ gs) × (x ≡ y)
+
+-- some reading of the octets stops with this code
+pub record Stops {E : Type 0} (R : Rules E) (octets : List ℕ) (code : ℕ) : Type 0 where
+  pub frames : List Frame
+  pub rest : List ℕ
+  pub run : Run R octets frames rest (Stopped code)
+
+-- a stream stops with the code of its first wrong frame, by the first reason of the table that is against it
+abbrev pub StopsAtFirstWrong : {E : Type 0} → Rules E → Type 0
+StopsAtFirstWrong R = (octets : List ℕ) (frames : List (List ℕ)) (rest : List ℕ) (code : ℕ) → Frames octets frames rest → Stops R octets code ↔ FirstWrong R frames rest code

@@ -1,6 +1,7 @@
 pub mod After
 pub mod Agreement
 pub mod Faults
+pub mod FirstWrong
 pub mod Frames
 pub mod Greeting
 pub mod Kinds

@@ -1,6 +1,7 @@
 //! Which frames are taken.
 
 ghost use Rattle.std.specs.Prelude.{◌≡◌};
+
 use crate::kind::Kind;
 
 /// The kinds of frames that are taken at some place, and the largest size of a frame, in octets

@@ -68,9 +68,7 @@ impl Greeting {
     /// Takes octets up to the end of a HEL, else the whole piece. After an agreement or a fault it
     /// answers Closed.
     pub fn take(&mut self, piece: &[u8]) -> Result<(usize, Greeted), GreetFault>
-        ensures greets {
-            (octets : List ℕ) → Waits self.old octets → Greets self.old piece.now result self.new octets
-        }
+        ensures greets { (octets : List ℕ) → Waits self.old octets → Greets self.old piece.now result self.new octets }
         ensures closed { IsDone self.old → (result ≡ Err Closed) × (self.new ≡ self.old) }
         ensures limits { limits_of self.new ≡ limits_of self.old }
     {

@@ -1,11 +1,23 @@
 //! Laws of streams. Each is the contract of a function that does nothing.
 
-ghost use Rattle.ua_frame.specs.Laws.{HasOneReading};
+ghost use Rattle.ua_frame.specs.Laws.{HasOneReading, FramesAreOne, StopsAtFirstWrong};
 ghost use Rattle.ua_frame.specs.Run.{Rules};
 
 /// A stream has one reading by given rules: its good frames, what is left behind them and how it
 /// goes on there are determined by its octets alone, however they were cut into pieces.
 pub fn one_reading<E>()
     ensures { (rules : Rules E) → HasOneReading rules }
+{}
+
+/// Octets are frames in one way, by the sizes that their headers name.
+pub fn one_framing()
+    ensures { FramesAreOne }
+{
+}
+
+/// A stream is refused with the code of its first wrong frame, by the first reason in the order of
+/// the table that is against it, the header of an unfinished frame counting as one frame more.
+pub fn stops_at_first_wrong<E>()
+    ensures { (rules : Rules E) → StopsAtFirstWrong rules }
 {
 }

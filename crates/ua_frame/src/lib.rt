@@ -36,3 +36,6 @@ pub use kind::Kind;
 pub use limits::Limits;
 pub use reader::FrameReader;
 pub use whole::read_whole;
+
+#[cfg(test)]
+mod tests;

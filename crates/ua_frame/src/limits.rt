@@ -29,11 +29,7 @@ impl Limits {
         ensures allowed { IsSome result ↔ AreAllowed receive send message chunks }
         ensures sizes { IfSome result (λ limits. HasSizes limits receive send message chunks) }
     {
-        if receive < LEAST_BUFFER_SIZE
-            || send < LEAST_BUFFER_SIZE
-            || message == 0
-            || chunks == 0
-        {
+        if receive < LEAST_BUFFER_SIZE || send < LEAST_BUFFER_SIZE || message == 0 || chunks == 0 {
             return None;
         }
         Some(Limits {

@@ -76,10 +76,8 @@ impl FrameReader {
     /// is closed.
     pub fn take(&mut self, piece: &[u8]) -> Result<(usize, Option<Frame>), FrameFault>
         ensures takes { Takes self.old piece.now result self.new }
-        ensures stands {
-            (octets : List ℕ) (frames : List Frame) → StandsAfter self.old octets frames
-            → Answers self.old piece.now result self.new octets frames
-        }
+        ensures stands { (octets : List ℕ) (frames : List Frame) → StandsAfter self.old octets frames
+            → Answers self.old piece.now result self.new octets frames }
     {
         self.advance(piece)
     }

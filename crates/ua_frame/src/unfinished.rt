@@ -110,16 +110,20 @@ impl Unfinished {
     }
 
     /// Takes octets up to the end of the frame, else the whole piece. A fault leaves nothing.
-    pub fn take(&mut self, alloc: Global, piece: &[u8]) -> Result<(usize, Option<Frame>), FrameFault>
+    pub fn take(
+        &mut self,
+        alloc: Global,
+        piece: &[u8],
+    ) -> Result<(usize, Option<Frame>), FrameFault>
         requires kept { IsKept self.old }
         ensures makes { Makes self.old.gate (octets_of self.old) piece.now result (octets_of self.new) }
         ensures kept { IsKept self.new }
         ensures gate { self.new.gate ≡ self.old.gate }
     {
-        if self.have < HEADER_LEN {
-            self.begin(alloc, piece)
-        } else {
+        if self.have == HEADER_LEN {
             self.go_on(alloc, piece)
+        } else {
+            self.begin(alloc, piece)
         }
     }
 }
