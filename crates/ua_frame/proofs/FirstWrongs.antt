@@ -40,7 +40,7 @@ pub data IsJudged (gate : Gate) (octets : List ℕ) : Type 0 where
   Good : (good : header_fault gate octets ≡ None) → IsJudged gate octets
   Bad : (fault : FrameFault) (code : ℕ) (is : header_fault gate octets ≡ Some fault) (code_is : header_code fault ≡ Some code) → IsJudged gate octets
 
-judged_by : (gate : Gate) (octets : List ℕ) (o : Option FrameFault) → header_fault gate octets ≡ o → IsJudged gate octets
+pub judged_by : (gate : Gate) (octets : List ℕ) (o : Option FrameFault) → header_fault gate octets ≡ o → IsJudged gate octets
 judged_by gate octets None e = Good e
 judged_by gate octets (Some fault) e = let c = code_of_header fault (of_header gate octets fault e) in Bad fault c.0 e c.1
 

@@ -5,6 +5,7 @@ pub mod Octets
 pub mod Parts
 pub mod RawFrames
 pub mod Readers
+pub mod Readings
 pub mod Streams
 pub mod Unique
 pub mod Wholes

@@ -28,3 +28,24 @@ pub record Stops {E : Type 0} (R : Rules E) (octets : List ℕ) (code : ℕ) : T
 -- a stream stops with the code of its first wrong frame, by the first reason of the table that is against it
 abbrev pub StopsAtFirstWrong : {E : Type 0} → Rules E → Type 0
 StopsAtFirstWrong R = (octets : List ℕ) (frames : List (List ℕ)) (rest : List ℕ) (code : ℕ) → Frames octets frames rest → Stops R octets code ↔ FirstWrong R frames rest code
+
+-- some reading of the octets by these rules
+pub record Reading {E : Type 0} (R : Rules E) (octets : List ℕ) : Type 0 where
+  pub frames : List Frame
+  pub rest : List ℕ
+  pub end : End
+  pub run : Run R octets frames rest end
+
+-- any octets have a reading
+abbrev pub HasReadings : {E : Type 0} → Rules E → Type 0
+HasReadings R = (octets : List ℕ) → Reading R octets
+
+-- the octets as frames, by their sizes alone, and a rest
+pub record Framing (octets : List ℕ) : Type 0 where
+  pub frames : List (List ℕ)
+  pub rest : List ℕ
+  pub framed : Frames octets frames rest
+
+-- any octets are frames and a rest
+abbrev pub HaveFrames : Type 0
+HaveFrames = (octets : List ℕ) → Framing octets

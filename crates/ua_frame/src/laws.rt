@@ -1,13 +1,25 @@
 //! Laws of streams. Each is the contract of a function that does nothing.
 
-ghost use Rattle.ua_frame.specs.Laws.{HasOneReading, FramesAreOne, StopsAtFirstWrong};
+ghost use Rattle.ua_frame.specs.Laws.{HasReadings, HasOneReading, HaveFrames, FramesAreOne, StopsAtFirstWrong};
 ghost use Rattle.ua_frame.specs.Run.{Rules};
+
+/// Any octets have a reading by given rules: good frames, and how they go on behind them.
+pub fn has_readings<E>()
+    ensures { (rules : Rules E) → HasReadings rules }
+{
+}
 
 /// A stream has one reading by given rules: its good frames, what is left behind them and how it
 /// goes on there are determined by its octets alone, however they were cut into pieces.
 pub fn one_reading<E>()
     ensures { (rules : Rules E) → HasOneReading rules }
 {}
+
+/// Any octets are frames and a rest, by the sizes that their headers name.
+pub fn have_frames()
+    ensures { HaveFrames }
+{
+}
 
 /// Octets are frames in one way, by the sizes that their headers name.
 pub fn one_framing()
