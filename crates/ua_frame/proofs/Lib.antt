@@ -6,6 +6,7 @@ pub mod Parts
 pub mod RawFrames
 pub mod Readers
 pub mod Readings
+pub mod RunFrames
 pub mod Streams
 pub mod Unique
 pub mod Wholes

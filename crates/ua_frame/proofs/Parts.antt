@@ -1,7 +1,7 @@
 -- What a piece makes of the octets of a frame that isn't whole yet.
-use Rattle.std.proofs.Common.{◌≡◌, ℕ, ◌+◌, ◌-◌, ◌<◌, ◌≤◌, ◌⊎◌, inl, inr, min, List, [], ◌∷◌, ◌++◌, Bool, true, false, not, nat_lt, IsTrue, IsSome, Option, Some, None, Ok, length, take, drop, refl, sym, ◌∙◌, ap, subst, arith, append_assoc, append-nil, length-append, take-append-drop}
+use Rattle.std.proofs.Common.{◌≡◌, ℕ, ◌+◌, ◌-◌, ◌<◌, ◌≤◌, ◌⊎◌, inl, inr, max, min, List, [], ◌∷◌, ◌++◌, Bool, true, false, not, nat_lt, IsTrue, IsSome, Option, Some, None, Ok, length, take, drop, refl, sym, ◌∙◌, ap, subst, arith, append_assoc, append-nil, length-append, take-append-drop}
 use Rattle.std.proofs.Math.Seq.{take-add}
-use Rattle.std.proofs.lemmas.Bool.{ltb-false}
+use Rattle.std.proofs.lemmas.Bool.{ltb-false, cases_lt}
 use Rattle.std.proofs.lemmas.List.{take_all, length-take-le, length-take, length-drop, take_rest}
 use Rattle.ua_frame.specs.declared.fault.FrameFault.{FrameFault}
 use Rattle.ua_frame.specs.declared.fault.FrameFault.TheVariants.{OutOfMemory}
@@ -12,7 +12,8 @@ use Rattle.ua_frame.specs.declared.kind.Kind.TheVariants.{Hel, Ack, Msg, Opn, Cl
 use Rattle.ua_frame.specs.declared.kind.Kind.TheVariants as kind
 use Rattle.ua_frame.specs.Kinds.{least_size, has_flag, lets_in}
 use Rattle.ua_frame.specs.Frames.{frame_octets, IsSized, LetsIn, kind_of, flag_of, size_of, header_fault, IsPartial}
-use Rattle.ua_frame.specs.Unfinished.{Completes, Fails, Makes}
+use Rattle.ua_frame.specs.declared.unfinished.Unfinished.{Unfinished}
+use Rattle.ua_frame.specs.Unfinished.{octets_of, IsKept, Completes, Fails, Makes}
 use Rattle.ua_frame.proofs.Fronts.{fault_by, fault_front, size_front, by_tests, let_in-from_fault}
 
 -- ---- a good header names a kind, and a size above a header's
@@ -140,3 +141,27 @@ module _ (gate : Gate) (old mid piece : List ℕ) (n : ℕ) (within : n ≤ leng
 
   pub fails_more : (fault : FrameFault) → Fails gate (mid ++ take (length piece - n) (drop n piece)) fault → Fails gate (old ++ piece) fault
   fails_more fault h = subst (λ (t : List ℕ). Fails gate t fault) whole_behind h
+
+-- ---- what is held is bounded
+
+size_within : (gate : Gate) (k : Option Kind) (flag size : ℕ) → fault_by gate k flag size ≡ None → size ≤ gate.largest
+size_within gate None flag size e = absurd cc
+size_within gate (Some k) flag size e =
+    let t = by_tests (has_flag k flag) (lets_in gate k) (nat_lt gate.largest size) (nat_lt size (least_size k)) e in
+    ltb-false gate.largest size t.2
+
+good_size : (gate : Gate) (h : List ℕ) → header_fault gate h ≡ None → size_of h ≤ gate.largest
+unfolding header_fault
+good_size gate h e = size_within gate (kind_of h) (flag_of h) (size_of h) e
+
+kept_by : (u : Unfinished) → IsKept u → ((u.have < 8) ⊎ (8 ≤ u.have)) → length (octets_of u) < max 8 u.gate.largest
+kept_by u k (inl less) = omega (arith, length-append (take u.have u.header) u.body.items, ap length (k.short less), length-take u.have u.header, k.eight)
+kept_by u k (inr whole) =
+    let is : u.have ≡ 8 = omega (arith, k.fits, whole) in
+    omega (arith, length-append (take u.have u.header) u.body.items, length-take u.have u.header, k.eight, k.part is, good_size u.gate u.header (k.good is))
+
+pub kept_below : (u : Unfinished) → IsKept u → length (octets_of u) < max 8 u.gate.largest
+kept_below u k = kept_by u k (cases_lt u.have 8)
+
+pub held_below : (u : Unfinished) (gate : Gate) (n : ℕ) → IsKept u → u.gate ≡ gate → n ≡ length (octets_of u) → n < max 8 gate.largest
+held_below u gate n k same count = omega (arith, kept_below u k, ap (λ (g : Gate). g.largest) same, count)

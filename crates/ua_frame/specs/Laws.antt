@@ -1,9 +1,9 @@
 -- Laws of streams.
-use Rattle.std.specs.Prelude.{◌≡◌, ◌↔◌, ℕ, List}
+use Rattle.std.specs.Prelude.{◌≡◌, ◌↔◌, ℕ, List, ◌++◌, map}
 use Rattle.ua_frame.specs.declared.frame.Frame.{Frame}
 use Rattle.ua_frame.specs.FirstWrong.{FirstWrong}
-use Rattle.ua_frame.specs.Frames.{Frames}
-use Rattle.ua_frame.specs.Run.{Rules, Run, End, Stopped}
+use Rattle.ua_frame.specs.Frames.{Frames, frame_octets}
+use Rattle.ua_frame.specs.Run.{Rules, Run, End, Going, Stopped}
 
 -- two readings of a stream are one
 pub record IsSame (fs gs : List Frame) (x y : List ℕ) (e d : End) : Type 0 where
@@ -49,3 +49,16 @@ pub record Framing (octets : List ℕ) : Type 0 where
 -- any octets are frames and a rest
 abbrev pub HaveFrames : Type 0
 HaveFrames = (octets : List ℕ) → Framing octets
+
+-- octets by their sizes are these frames, and then some more
+pub record BeginWith (frames : List Frame) (raws : List (List ℕ)) : Type 0 where
+  pub behind : List (List ℕ)
+  pub parts : raws ≡ map frame_octets frames ++ behind
+
+-- the frames of a reading are the first frames of the octets
+abbrev pub ReadsFirstFrames : {E : Type 0} → Rules E → Type 0
+ReadsFirstFrames R = (octets : List ℕ) (frames : List Frame) (rest : List ℕ) (end : End) (raws : List (List ℕ)) (r : List ℕ) → Run R octets frames rest end → Frames octets raws r → BeginWith frames raws
+
+-- where a stream goes on, they are all its frames
+abbrev pub ReadsAllFrames : {E : Type 0} → Rules E → Type 0
+ReadsAllFrames R = (octets : List ℕ) (frames : List Frame) (rest : List ℕ) → Run R octets frames rest Going → Frames octets (map frame_octets frames) rest

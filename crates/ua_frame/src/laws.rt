@@ -1,6 +1,6 @@
 //! Laws of streams. Each is the contract of a function that does nothing.
 
-ghost use Rattle.ua_frame.specs.Laws.{HasReadings, HasOneReading, HaveFrames, FramesAreOne, StopsAtFirstWrong};
+ghost use Rattle.ua_frame.specs.Laws.{HasReadings, HasOneReading, HaveFrames, FramesAreOne, ReadsFirstFrames, ReadsAllFrames, StopsAtFirstWrong};
 ghost use Rattle.ua_frame.specs.Run.{Rules};
 
 /// Any octets have a reading by given rules: good frames, and how they go on behind them.
@@ -24,6 +24,14 @@ pub fn have_frames()
 /// Octets are frames in one way, by the sizes that their headers name.
 pub fn one_framing()
     ensures { FramesAreOne }
+{
+}
+
+/// The good frames of a reading are the first frames of the octets, in order; where the stream goes
+/// on, they are all of them.
+pub fn reads_frames<E>()
+    ensures first { (rules : Rules E) → ReadsFirstFrames rules }
+    ensures all { (rules : Rules E) → ReadsAllFrames rules }
 {
 }
 

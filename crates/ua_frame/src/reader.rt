@@ -1,6 +1,6 @@
 //! A reader of frames.
 
-ghost use Rattle.std.specs.Prelude.{◌≡◌, [], ℕ, List, length};
+ghost use Rattle.std.specs.Prelude.{◌≡◌, ◌<◌, [], ℕ, List, length, max};
 ghost use Rattle.ua_frame.specs.declared.frame.Frame.{Frame};
 ghost use Rattle.ua_frame.specs.Reader.{Reader, open_reader, Takes, StandsAfter, Answers};
 
@@ -51,10 +51,12 @@ impl FrameReader {
         self.unfinished.gate = gate;
     }
 
-    /// How many octets of a frame that is not whole yet are held.
+    /// How many octets of a frame that is not whole yet are held: less than a header, or less than
+    /// the largest frame.
     #[inline]
     pub fn held(&self) -> usize
-        ensures { result ≡ length self.now.held }
+        ensures count { result ≡ length self.now.held }
+        ensures bound { result < max 8 self.now.gate.largest }
     {
         self.unfinished.len()
     }
