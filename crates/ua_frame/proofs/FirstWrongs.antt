@@ -1,5 +1,5 @@
 -- A stream stops at its first wrong frame.
-use Rattle.std.proofs.Common.{◌≡◌, ℕ, ◌+◌, ◌<◌, ◌≤◌, ◌⊎◌, inl, inr, List, [], ◌∷◌, ◌++◌, Bool, false, true, Option, Some, None, length, refl, sym, ◌∙◌, ap, subst, arith, append_assoc, append-nil, length-append}
+use Rattle.std.proofs.Common.{◌≡◌, ℕ, ◌⊎◌, inl, inr, List, [], ◌∷◌, ◌++◌, false, Option, Some, None, refl, sym, ◌∙◌, ap, subst, arith, append_assoc, append-nil, length-append}
 use Rattle.std.specs.List.{AllByRecursion}
 use Rattle.std.specs.Option.{option_and_then}
 use Rattle.ua_builtin.specs.Exact.{some_is}
@@ -9,11 +9,11 @@ use Rattle.ua_frame.specs.declared.frame.Frame.{Frame}
 use Rattle.ua_frame.specs.declared.gate.Gate.{Gate}
 use Rattle.ua_frame.specs.After.{AllFrom, AllAfter}
 use Rattle.ua_frame.specs.FirstWrong.{frame_in, frames_in, header_refusal, or_else, first_refusal, Passes, WrongNext, FirstFrom, FirstWrong}
-use Rattle.ua_frame.specs.Frames.{frame_octets, frames_octets, IsSized, LetsIn, header_fault, header_code, IsRawFrame, IsRest, Frames, joined}
+use Rattle.ua_frame.specs.Frames.{frame_octets, frames_octets, header_fault, header_code, IsRawFrame, IsRest, Frames, joined}
 use Rattle.ua_frame.specs.Laws.{Stops}
-use Rattle.ua_frame.specs.Run.{Rules, refusal, Fits, Stopped, WrongHeader, WrongFrame, EndsIn, Run}
+use Rattle.ua_frame.specs.Run.{Rules, refusal, Fits, Stopped, WrongHeader, WrongFrame, EndsIn}
 use Rattle.ua_frame.proofs.Fronts.{fault_front, fault-from_let_in}
-use Rattle.ua_frame.proofs.RawFrames.{one_raw, no_raw_rest, joined-cons, joined-nil, raw_of-frame, frame_in-frame, frames_in-push, IsGood, good_raw}
+use Rattle.ua_frame.proofs.RawFrames.{one_raw, no_raw_rest, joined-cons, joined-nil, raw_of-frame, frame_in-frame, frames_in-push, good_raw}
 use Rattle.ua_frame.proofs.Readers.{of_header}
 use Rattle.ua_frame.proofs.Unique.{front_frame, front_none}
 

@@ -1,6 +1,5 @@
 -- A greeting: what it makes of a HEL, and where it then stands.
-use Rattle.std.proofs.Common.{◌≡◌, ℕ, ◌≤◌, List, [], ◌∷◌, ◌++◌, Bool, true, false, Option, Some, None, Result, Ok, Err, length, take, refl, sym, ◌∙◌, ap, subst, arith}
-use Rattle.ua_builtin.specs.Exact.{some_is}
+use Rattle.std.proofs.Common.{◌≡◌, ℕ, List, [], ◌++◌, false, Option, Some, None, Ok, Err, take, refl, sym, ◌∙◌, ap, subst, arith}
 use Rattle.ua_builtin.specs.Format.{Flat, flat}
 use Rattle.ua_builtin.specs.Status.{of_code}
 use Rattle.ua_builtin.specs.declared.status_code.StatusCode.{StatusCode}
@@ -15,11 +14,11 @@ use Rattle.ua_frame.specs.declared.limits.Limits.{Limits}
 use Rattle.ua_frame.specs.Agreement.{hello_reasons, unless_refused, ack_to, agreed}
 use Rattle.ua_frame.specs.Faults.{refused_with}
 use Rattle.ua_frame.specs.Frames.{frame_octets, LetsIn}
-use Rattle.ua_frame.specs.Greeting.{hello_in, greeting_reasons, greeting_reasons_of, hello_gate, greeting_rules, IsBegun, IsAgreed, IsRefused, limits_of, IsDone, Waits, Greets, IsJudged}
-use Rattle.ua_frame.specs.Messages.{hello, err_frame}
+use Rattle.ua_frame.specs.Greeting.{hello_in, greeting_reasons, greeting_reasons_of, hello_gate, greeting_rules, IsAgreed, limits_of, IsDone, Waits, Greets, IsJudged}
+use Rattle.ua_frame.specs.Messages.{hello}
 use Rattle.ua_frame.specs.Reader.{Reader, open_reader, TakesFrame}
 use Rattle.ua_frame.specs.Reasons.{first_reason}
-use Rattle.ua_frame.specs.Run.{Run, refusal, Over, Going, Stopped}
+use Rattle.ua_frame.specs.Run.{refusal, Over}
 use Rattle.ua_frame.specs.Whole.{IsWhole, whole_of, whole_encodes, encodes_whole}
 use Rattle.ua_frame.proofs.Streams.{run_nil, run_frame, run_refused}
 

@@ -1,5 +1,5 @@
 -- Octets that are written one by one.
-use Rattle.std.proofs.Common.{◌≡◌, ℕ, List, [], ◌∷◌, ◌++◌, length, refl, sym, ◌∙◌, ap, subst, arith, append-nil}
+use Rattle.std.proofs.Common.{◌≡◌, ℕ, List, [], ◌∷◌, ◌++◌, length, refl, ◌∙◌, ap, arith}
 use Rattle.std.specs.Prelude.{slice_index}
 use Rattle.std.specs.List.{flat_map}
 use borrow.Rule.Slice.PartMut.{put_mid}
@@ -13,7 +13,7 @@ use Rattle.ua_frame.specs.declared.kind.Kind.TheVariants.{Hel, Ack as AckKind, M
 use Rattle.ua_frame.specs.declared.kind.Kind.TheVariants as kind
 use Rattle.ua_frame.specs.Kinds.{kind_octets}
 use Rattle.ua_frame.specs.Frames.{frame_octets}
-use Rattle.ua_frame.specs.Messages.{ack, ack_frame, error, err_frame, fields_of_ack}
+use Rattle.ua_frame.specs.Messages.{ack, ack_frame, error, err_frame}
 
 four_of : (b : List ℕ) → length b ≡ 4 → slice_index b 0 ∷ (slice_index b 1 ∷ (slice_index b 2 ∷ (slice_index b 3 ∷ []))) ≡ b
 four_of (a ∷ (b ∷ (c ∷ (d ∷ [])))) l = refl

@@ -1,5 +1,5 @@
 -- What a piece makes of the octets of a frame that isn't whole yet.
-use Rattle.std.proofs.Common.{◌≡◌, ℕ, ◌+◌, ◌-◌, ◌<◌, ◌≤◌, ◌⊎◌, inl, inr, max, min, List, [], ◌∷◌, ◌++◌, Bool, true, false, not, nat_lt, IsTrue, IsSome, Option, Some, None, Ok, length, take, drop, refl, sym, ◌∙◌, ap, subst, arith, append_assoc, append-nil, length-append, take-append-drop}
+use Rattle.std.proofs.Common.{◌≡◌, ℕ, ◌+◌, ◌-◌, ◌<◌, ◌≤◌, ◌⊎◌, inl, inr, max, min, List, [], ◌++◌, nat_lt, IsSome, Option, Some, None, Ok, length, take, drop, refl, sym, ◌∙◌, ap, subst, arith, append_assoc, append-nil, length-append, take-append-drop}
 use Rattle.std.proofs.Math.Seq.{take-add}
 use Rattle.std.proofs.lemmas.Bool.{ltb-false, cases_lt}
 use Rattle.std.proofs.lemmas.List.{take_all, length-take-le, length-take, length-drop, take_rest}
@@ -11,7 +11,7 @@ use Rattle.ua_frame.specs.declared.kind.Kind.{Kind}
 use Rattle.ua_frame.specs.declared.kind.Kind.TheVariants.{Hel, Ack, Msg, Opn, Clo}
 use Rattle.ua_frame.specs.declared.kind.Kind.TheVariants as kind
 use Rattle.ua_frame.specs.Kinds.{least_size, has_flag, lets_in}
-use Rattle.ua_frame.specs.Frames.{frame_octets, IsSized, LetsIn, kind_of, flag_of, size_of, header_fault, IsPartial}
+use Rattle.ua_frame.specs.Frames.{frame_octets, IsSized, kind_of, flag_of, size_of, header_fault, IsPartial}
 use Rattle.ua_frame.specs.declared.unfinished.Unfinished.{Unfinished}
 use Rattle.ua_frame.specs.Unfinished.{octets_of, IsKept, Completes, Fails, Makes}
 use Rattle.ua_frame.proofs.Fronts.{fault_by, fault_front, size_front, by_tests, let_in-from_fault}

@@ -1,14 +1,13 @@
 -- Streams by their sizes alone.
-use Rattle.std.proofs.Common.{◌≡◌, ℕ, ◌+◌, ◌<◌, ◌≤◌, ◌⊎◌, inl, inr, List, [], ◌∷◌, ◌++◌, Bool, false, true, IsSome, Option, Some, None, length, take, drop, refl, sym, ◌∙◌, ap, subst, arith, append_assoc, append-nil, length-append, take-append-drop}
+use Rattle.std.proofs.Common.{◌≡◌, ℕ, ◌+◌, inl, inr, List, [], ◌∷◌, ◌++◌, IsSome, Option, Some, None, length, take, drop, refl, sym, ◌∙◌, ap, subst, arith, append_assoc, length-append, take-append-drop}
 use Rattle.std.specs.List.{flat_map, AllByRecursion}
 use Rattle.std.proofs.lemmas.List.{take_at, append_cancel_left, flat_map_more, length-take-le, length-drop}
-use Rattle.ua_frame.specs.declared.fault.FrameFault.{FrameFault}
 use Rattle.ua_frame.specs.declared.frame.Frame.{Frame}
 use Rattle.ua_frame.specs.declared.gate.Gate.{Gate}
 use Rattle.ua_frame.specs.declared.kind.Kind.{Kind}
 use Rattle.ua_frame.specs.FirstWrong.{frame_named, frame_in, listed, frames_in}
-use Rattle.ua_frame.specs.Frames.{frame_size, frame_octets, IsSized, LetsIn, kind_of, flag_of, size_of, header_fault, IsRawFrame, IsRest, Frames, joined}
-use Rattle.ua_frame.proofs.Fronts.{size_front, kind_front, flag_front, fault_front, length-frame_octets, size_of-frame, kind_of-frame, flag_of-frame, let_in-from_fault, frame_by, header_frame}
+use Rattle.ua_frame.specs.Frames.{frame_octets, IsSized, LetsIn, kind_of, flag_of, size_of, header_fault, IsRawFrame, IsRest, Frames, joined}
+use Rattle.ua_frame.proofs.Fronts.{size_front, fault_front, length-frame_octets, size_of-frame, kind_of-frame, flag_of-frame, let_in-from_fault, frame_by, header_frame}
 use Rattle.ua_frame.proofs.Parts.{good_header}
 use Rattle.ua_frame.proofs.Unique.{body_of-frame}
 

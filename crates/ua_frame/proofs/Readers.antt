@@ -1,19 +1,17 @@
 -- What a reader answers, from what is made of the frame that isn't whole yet, and over whole streams.
-use Rattle.std.proofs.Common.{◌≡◌, ℕ, ◌+◌, ◌<◌, ◌≤◌, ◌⊎◌, inl, inr, List, [], ◌∷◌, ◌++◌, Bool, false, true, Option, Some, None, Result, Ok, Err, length, take, drop, refl, sym, ◌∙◌, ap, subst, arith, append-nil, length-append}
-use Rattle.std.specs.Prelude.{if◌then◌else◌, is_err}
-use Rattle.std.proofs.lemmas.List.{length-take}
+use Rattle.std.proofs.Common.{◌≡◌, ℕ, inl, inr, List, [], ◌∷◌, ◌++◌, Bool, false, true, Option, Some, None, Result, Ok, Err, take, refl, sym, ◌∙◌, ap, subst, arith}
+use Rattle.std.specs.Prelude.{is_err}
 use Rattle.ua_frame.specs.declared.fault.FrameFault.{FrameFault}
 use Rattle.ua_frame.specs.declared.fault.FrameFault.TheVariants.{UnknownType, OutOfPlace, TooLarge, TooSmall, OutOfMemory, Closed}
 use Rattle.ua_frame.specs.declared.frame.Frame.{Frame}
 use Rattle.ua_frame.specs.declared.gate.Gate.{Gate}
-use Rattle.ua_frame.specs.declared.kind.Kind.{Kind}
 use Rattle.ua_frame.specs.declared.unfinished.Unfinished.{Unfinished}
 use Rattle.ua_frame.specs.Reasons.{first_reason}
-use Rattle.ua_frame.specs.Frames.{kind_of, flag_of, size_of, header_fault, header_code, is_unknown, is_out_of_place, is_too_small, IsPartial}
+use Rattle.ua_frame.specs.Frames.{kind_of, flag_of, size_of, header_fault, header_code, is_unknown, is_out_of_place, is_too_small}
 use Rattle.std.specs.Prelude.{nat_lt}
-use Rattle.ua_frame.specs.Run.{Rules, Run, Going, Stopped}
-use Rattle.ua_frame.specs.Reader.{Reader, open_reader, failed_reader, TakesAll, TakesFrame, Refuses, Starves, Takes, gate_rules, StandsAfter, RefusedAfter, Answers}
-use Rattle.ua_frame.specs.Unfinished.{octets_of, IsKept, Completes, Fails, Makes}
+use Rattle.ua_frame.specs.Run.{Run, Going}
+use Rattle.ua_frame.specs.Reader.{Reader, open_reader, Refuses, Starves, Takes, gate_rules, StandsAfter, RefusedAfter, Answers}
+use Rattle.ua_frame.specs.Unfinished.{octets_of, Fails, Makes}
 use Rattle.ua_frame.proofs.Streams.{run_frame, run_part, run_header}
 
 -- ---- what is wrong with a header is one of four things

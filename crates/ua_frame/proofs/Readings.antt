@@ -1,18 +1,16 @@
 -- Each stream has a reading.
-use Rattle.std.proofs.Common.{◌≡◌, ℕ, zero, suc, ◌+◌, ◌-◌, ◌<◌, ◌≤◌, ◌⊎◌, inl, inr, List, [], ◌∷◌, ◌++◌, Bool, false, true, Option, Some, None, length, take, drop, refl, sym, ◌∙◌, ap, subst, arith, append_assoc, append-nil, length-append, take-append-drop}
-use Rattle.std.specs.List.{AllByRecursion}
+use Rattle.std.proofs.Common.{◌≡◌, ℕ, zero, suc, ◌<◌, ◌≤◌, ◌⊎◌, inl, inr, List, [], ◌∷◌, ◌++◌, Bool, false, true, Option, Some, None, length, take, drop, refl, sym, ◌∙◌, ap, subst, arith, append_assoc, append-nil, length-append, take-append-drop}
 use Rattle.std.proofs.lemmas.Bool.{cases_lt}
 use Rattle.std.proofs.lemmas.List.{length-take-le}
 use Rattle.ua_frame.specs.declared.frame.Frame.{Frame}
-use Rattle.ua_frame.specs.declared.gate.Gate.{Gate}
 use Rattle.ua_frame.specs.After.{AllFrom, AllAfter}
-use Rattle.ua_frame.specs.Frames.{frame_octets, frames_octets, IsSized, LetsIn, size_of, header_fault, header_code, IsRawFrame, IsRest, Frames, joined}
+use Rattle.ua_frame.specs.Frames.{frame_octets, frames_octets, IsSized, LetsIn, size_of, header_fault, IsRawFrame, IsRest}
 use Rattle.ua_frame.specs.Laws.{Reading, Framing}
-use Rattle.ua_frame.specs.Run.{Rules, refusal, Fits, End, Going, Stopped, Over, WrongHeader, WrongFrame, EndsIn, Run}
+use Rattle.ua_frame.specs.Run.{Rules, refusal, Fits, End, Going, Stopped, Over, EndsIn}
 use Rattle.ua_frame.proofs.FirstWrongs.{IsJudged, Good, Bad, judged_by}
 use Rattle.ua_frame.proofs.Fronts.{size_front, fault_front, length-frame_octets}
 use Rattle.ua_frame.proofs.Parts.{good_header}
-use Rattle.ua_frame.proofs.RawFrames.{IsGood, good_raw, joined-cons, joined-nil}
+use Rattle.ua_frame.proofs.RawFrames.{good_raw, joined-cons, joined-nil}
 use Rattle.ua_frame.proofs.Unique.{front_frame, front_none}
 
 -- ---- the first octets, as many as the header names

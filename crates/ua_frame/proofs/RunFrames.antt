@@ -1,12 +1,12 @@
 -- The frames of a reading are frames of the octets, by their sizes alone.
-use Rattle.std.proofs.Common.{◌≡◌, ℕ, ◌<◌, ◌≤◌, ◌⊎◌, inl, inr, List, [], ◌∷◌, ◌++◌, Bool, false, length, refl, sym, ◌∙◌, ap, subst, append_assoc, append-nil}
+use Rattle.std.proofs.Common.{◌≡◌, ℕ, inl, inr, List, [], ◌∷◌, ◌++◌, sym, ◌∙◌, ap, subst, append-nil}
 use Rattle.std.specs.Prelude.{map}
 use Rattle.std.specs.List.{AllByRecursion}
 use Rattle.ua_frame.specs.declared.frame.Frame.{Frame}
 use Rattle.ua_frame.specs.declared.gate.Gate.{Gate}
 use Rattle.ua_frame.specs.After.{AllFrom, AllAfter}
 use Rattle.ua_frame.specs.Frames.{frame_octets, frames_octets, IsRawFrame, IsPartial, IsRest, Frames, joined}
-use Rattle.ua_frame.specs.Laws.{Framing, BeginWith}
+use Rattle.ua_frame.specs.Laws.{BeginWith}
 use Rattle.ua_frame.specs.Run.{Rules, Fits, End, Going, Run}
 use Rattle.ua_frame.proofs.RawFrames.{joined-cons, joined-nil, one_framing, raw_of-frame}
 use Rattle.ua_frame.proofs.Readings.{framing}

@@ -1,13 +1,11 @@
 -- How a stream goes on: by a frame, by octets that are no frame yet, by a refusal.
-use Rattle.std.proofs.Common.{◌≡◌, ℕ, ◌<◌, ◌≤◌, ◌⊎◌, inl, inr, List, [], ◌∷◌, ◌++◌, Bool, false, true, Option, Some, None, length, take, drop, refl, sym, ◌∙◌, ap, subst, arith, append_assoc, append-nil, take-append-drop}
-use Rattle.std.specs.List.{flat_map}
+use Rattle.std.proofs.Common.{◌≡◌, ℕ, ◌≤◌, inl, inr, List, [], ◌∷◌, ◌++◌, false, Some, None, length, take, drop, refl, sym, ◌∙◌, ap, arith, append_assoc, append-nil, take-append-drop}
 use Rattle.std.proofs.lemmas.List.{flat_map_more}
 use Rattle.ua_frame.specs.declared.fault.FrameFault.{FrameFault}
 use Rattle.ua_frame.specs.declared.frame.Frame.{Frame}
-use Rattle.ua_frame.specs.declared.gate.Gate.{Gate}
-use Rattle.ua_frame.specs.After.{AllAfter, AllAfter-push, AllAfter-nil, each_after-push}
+use Rattle.ua_frame.specs.After.{AllAfter-push, AllAfter-nil, each_after-push}
 use Rattle.ua_frame.specs.Frames.{frame_octets, frames_octets, IsSized, LetsIn, header_fault, header_code, IsPartial}
-use Rattle.ua_frame.specs.Run.{Rules, refusal, Fits, events, End, Going, Stopped, Over, WrongHeader, WrongFrame, EndsIn, Run}
+use Rattle.ua_frame.specs.Run.{Rules, refusal, Fits, events, End, Going, Stopped, EndsIn, Run}
 
 pub frames_octets-push : (fs : List Frame) (f : Frame) → frames_octets (fs ++ f ∷ []) ≡ frames_octets fs ++ frame_octets f
 unfolding frames_octets

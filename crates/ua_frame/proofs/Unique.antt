@@ -1,6 +1,5 @@
 -- A stream has one reading.
-use Rattle.std.proofs.Common.{◌≡◌, ℕ, ◌+◌, ◌<◌, ◌≤◌, ◌⊎◌, inl, inr, List, [], ◌∷◌, ◌++◌, Bool, false, true, Option, Some, None, length, take, drop, refl, sym, ◌∙◌, ap, subst, arith, append_assoc, append-nil, length-append}
-use Rattle.std.specs.List.{flat_map}
+use Rattle.std.proofs.Common.{◌≡◌, ℕ, ◌+◌, ◌⊎◌, inl, inr, List, [], ◌∷◌, ◌++◌, Bool, false, true, Option, Some, None, length, take, drop, refl, sym, ◌∙◌, ap, subst, arith, append_assoc, append-nil, length-append}
 use Rattle.std.proofs.lemmas.List.{take_at, drop_at, drop-drop, append_cancel_left}
 use Rattle.ua_builtin.specs.Exact.{some_is}
 use Rattle.ua_builtin.specs.Number.{number_octets, length-number_octets}
@@ -12,7 +11,7 @@ use Rattle.ua_frame.specs.After.{AllFrom, AllAfter}
 use Rattle.ua_frame.specs.Frames.{frame_size, frame_octets, frames_octets, IsSized, LetsIn, kind_of, flag_of, size_of, header_fault, header_code, IsPartial}
 use Rattle.ua_frame.specs.Run.{Rules, refusal, Fits, End, Going, Stopped, Over, WrongHeader, WrongFrame, EndsIn, Run}
 use Rattle.ua_frame.specs.Laws.{IsSame}
-use Rattle.ua_frame.proofs.Fronts.{behind_first, fault_front, size_front, length-frame_octets, size_of-frame_more, kind_of-frame, flag_of-frame, fault-from_let_in}
+use Rattle.ua_frame.proofs.Fronts.{behind_first, fault_front, length-frame_octets, size_of-frame_more, kind_of-frame, flag_of-frame, fault-from_let_in}
 
 -- ---- octets begin with one frame
 

@@ -1,5 +1,5 @@
 -- Octets behind a value.
-use Rattle.std.proofs.Common.{◌≡◌, ℕ, ◌≤◌, List, [], ◌∷◌, ◌++◌, Option, Some, None, length, refl, sym, ◌∙◌, ap, subst, append-nil}
+use Rattle.std.proofs.Common.{◌≡◌, ℕ, ◌≤◌, List, [], Some, None, sym, ◌∙◌, ap, append-nil}
 use Rattle.ua_builtin.specs.Exact.{Begins, some_is}
 use Rattle.ua_builtin.specs.Format.{Format, most_levels}
 use Rattle.ua_frame.specs.Whole.{IsWhole}

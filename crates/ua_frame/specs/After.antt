@@ -1,6 +1,6 @@
 -- What is said of each item of a list together with the items before it.
 use Rattle.std.specs.Prelude.{◌≡◌, List, [], ◌∷◌, ◌++◌}
-use Rattle.std.proofs.Common.{refl, ap, ◌∙◌, append-nil, append_assoc}
+use Rattle.std.proofs.Common.{ap, ◌∙◌, append-nil, append_assoc}
 
 -- P holds of each item after the items before it, those of start among them
 abbrev pub AllFrom : {A : Type 0} → (List A → A → Type 0) → List A → List A → Type 0

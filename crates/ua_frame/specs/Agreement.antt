@@ -1,5 +1,5 @@
 -- What a server answers to a Hello.
-use Rattle.std.specs.Prelude.{◌≡◌, ℕ, min, List, [], ◌∷◌, Bool, false, ◌||◌, nat_lt, Option, Some, None, Result, Ok, Err, length}
+use Rattle.std.specs.Prelude.{ℕ, min, List, [], ◌∷◌, Bool, ◌||◌, nat_lt, Option, Some, None, Result, Ok, Err, length}
 use Rattle.ua_builtin.specs.Status.{of_code}
 use Rattle.ua_builtin.specs.declared.status_code.StatusCode.{StatusCode}
 use Rattle.ua_frame.specs.declared.ack.Ack.{Ack}

@@ -1,5 +1,4 @@
 -- Faults of a greeting.
-use Rattle.std.specs.Prelude.{ℕ, Option, Some, None}
 use Rattle.ua_builtin.specs.declared.status_code.StatusCode.{StatusCode}
 use Rattle.ua_builtin.specs.Status.{of_code}
 use Rattle.ua_frame.specs.declared.fault.FrameFault.{FrameFault}

@@ -1,5 +1,5 @@
 -- Frames as octets, and what a header says.
-use Rattle.std.specs.Prelude.{◌≡◌, ℕ, ◌+◌, ◌<◌, ◌≤◌, ◌^◌, ◌⊎◌, List, [], ◌∷◌, ◌++◌, Bool, true, false, ◌&&◌, not, nat_eq, nat_lt, IsTrue, All, Option, Some, None, find, length, slice_index, take, drop}
+use Rattle.std.specs.Prelude.{◌≡◌, ℕ, ◌+◌, ◌<◌, ◌≤◌, ◌^◌, ◌⊎◌, List, [], ◌∷◌, ◌++◌, Bool, true, false, ◌&&◌, not, nat_eq, nat_lt, IsTrue, Option, Some, None, find, length, slice_index, take, drop}
 use Rattle.std.specs.List.{flat_map, AllByRecursion}
 use Rattle.ua_builtin.specs.Number.{number_octets, number_at}
 use Rattle.ua_frame.specs.declared.fault.FrameFault.{FrameFault}

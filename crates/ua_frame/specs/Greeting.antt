@@ -1,7 +1,5 @@
 -- The first frame that a server takes: a HEL, which it agrees to or refuses.
 use Rattle.std.specs.Prelude.{◌≡◌, ℕ, ◌≤◌, List, [], ◌∷◌, ◌++◌, Bool, true, false, is_none, Option, Some, None, Result, Ok, Err, length, take}
-use Rattle.ua_builtin.specs.declared.status_code.StatusCode.{StatusCode}
-use Rattle.ua_builtin.specs.Status.{of_code}
 use Rattle.ua_frame.specs.declared.ack.Ack.{Ack}
 use Rattle.ua_frame.specs.declared.fault.GreetFault.{GreetFault}
 use Rattle.ua_frame.specs.declared.fault.GreetFault.TheVariants.{Refused, Closed, OutOfMemory}

@@ -1,8 +1,7 @@
 -- Hello, Acknowledge and Error: how octets encode them (OPC 10000-6, 7.1.2.3 to 7.1.2.5).
-use Rattle.std.specs.Prelude.{◌≡◌, ℕ, List, [], Option, None}
+use Rattle.std.specs.Prelude.{ℕ, List, Option, None}
 use Rattle.std.proofs.Common.{refl}
 use Rattle.ua_builtin.specs.Number.{IsNumber}
-use Rattle.ua_builtin.specs.Exact.{Joined}
 use Rattle.ua_builtin.specs.Format.{Flat}
 use Rattle.ua_builtin.specs.Join.{number, both, made, pair_starts, image_starts, number_starts, TakesSome}
 use Rattle.ua_builtin.specs.Counted.{text}

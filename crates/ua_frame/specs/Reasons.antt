@@ -1,6 +1,5 @@
 -- Tables of reasons: the first that holds.
-use Rattle.std.specs.Prelude.{◌≡◌, List, [], ◌∷◌, Bool, true, false, if◌then◌else◌, Option, Some, None}
-use Rattle.std.proofs.Common.{refl}
+use Rattle.std.specs.Prelude.{List, [], ◌∷◌, Bool, if◌then◌else◌, Option, Some, None}
 
 -- the first reason of a table that holds
 abbrev pub first_reason : {A : Type 0} → List (A × Bool) → Option A

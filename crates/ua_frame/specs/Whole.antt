@@ -1,8 +1,8 @@
 -- Values whose encoding is the whole of some octets.
-use Rattle.std.specs.Prelude.{◌≡◌, ℕ, ◌≤◌, List, [], ◌∷◌, ◌++◌, Option, Some, None}
+use Rattle.std.specs.Prelude.{◌≡◌, ℕ, ◌≤◌, List, [], ◌∷◌, Option, Some, None}
 use Rattle.std.proofs.Common.{refl, sym, ◌∙◌, ap, subst, append-nil}
-use Rattle.ua_builtin.specs.Exact.{Begins, some_is}
-use Rattle.ua_builtin.specs.Format.{Flat, Format, flat, most_levels}
+use Rattle.ua_builtin.specs.Exact.{some_is}
+use Rattle.ua_builtin.specs.Format.{Flat, Format, most_levels}
 
 -- these octets encode the value, or, where there is none, no value that may be read
 abbrev pub IsWhole : {A : Type 0} → Format A → List ℕ → Option A → Type 0

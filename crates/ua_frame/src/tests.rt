@@ -61,7 +61,10 @@ fn agrees_to_a_hel_octet_by_octet(rt: HostRuntime) -> Result<(), Fail> {
             (n, Greeted::Agreed(hello, ack)) => {
                 agreed = true;
                 assert_eq!(rt; (i, n), (55, 1));
-                assert_eq!(rt; hello.endpoint_url.as_str(), Some("opc.tcp://localhost:4840"));
+                assert_eq!(rt;
+                    hello.endpoint_url.as_str(),
+                    Some("opc.tcp://localhost:4840")
+                );
                 assert_eq!(rt; ack_octets(&ack).as_slice(), ACK);
             }
         }

@@ -1,4 +1,4 @@
-use Rattle.std.proofs.Common.{◌≡◌, ◌∙◌}
+use Rattle.std.proofs.Common.{◌∙◌}
 use Rattle.ua_frame.proofs.Octets.{ack_octets-is}
 use Rattle.ua_frame.proofs.ack.ack_octets.Goals as goal
 

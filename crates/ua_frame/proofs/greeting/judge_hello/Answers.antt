@@ -1,4 +1,4 @@
-use Rattle.std.proofs.Common.{◌≡◌, refl, sym}
+use Rattle.std.proofs.Common.{sym}
 use Rattle.ua_frame.proofs.Greetings.{judged_unreadable, judged_refused}
 use Rattle.ua_frame.proofs.greeting.judge_hello.Goals as goal
 

@@ -1,4 +1,4 @@
-use Rattle.std.proofs.Common.{◌≡◌, ◌∙◌, ◌+◌, List, ℕ, length, sym, ap}
+use Rattle.std.proofs.Common.{◌∙◌, ◌+◌, List, ℕ, length, sym, ap}
 use Rattle.ua_frame.proofs.Fronts.{header_frame}
 use Rattle.ua_frame.proofs.header.make_frame.Goals as goal
 

@@ -1,4 +1,4 @@
-use Rattle.std.proofs.Common.{◌≡◌, ◌∙◌, ◌-◌, ℕ, take, drop, ap, arith}
+use Rattle.std.proofs.Common.{◌∙◌, ◌-◌, ℕ, take, drop, ap, arith}
 use Rattle.ua_frame.proofs.Fronts.{size_of-read}
 use Rattle.ua_frame.proofs.header.read_size.Goals as goal
 

@@ -1,4 +1,4 @@
-use Rattle.std.proofs.Common.{◌≡◌, ◌∙◌, ap, subst, sym, append-nil, length, refl, None, List, [], ℕ}
+use Rattle.std.proofs.Common.{◌∙◌, ap, subst, sym, append-nil, length, None, List, [], ℕ}
 use Rattle.ua_frame.specs.Whole.{IsWhole}
 use Rattle.ua_frame.proofs.Wholes.{not_whole}
 use Rattle.ua_frame.proofs.whole.read_whole.Goals as goal

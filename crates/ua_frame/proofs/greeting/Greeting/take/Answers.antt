@@ -1,4 +1,4 @@
-use Rattle.std.proofs.Common.{◌≡◌, refl, true}
+use Rattle.std.proofs.Common.{refl, true}
 use Rattle.std.proofs.lemmas.Result.{err_from_is_err_and}
 use Rattle.ua_frame.specs.declared.greeting.Greeting.{Greeting}
 use Rattle.ua_frame.specs.Reader.{TakesFrame}

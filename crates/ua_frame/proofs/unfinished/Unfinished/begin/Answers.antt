@@ -1,6 +1,6 @@
-use Rattle.std.proofs.Common.{◌≡◌, ◌∙◌, ◌-◌, ◌+◌, ◌<◌, ◌≤◌, ◌++◌, List, ℕ, length, refl, sym, ap, arith}
+use Rattle.std.proofs.Common.{◌≡◌, ◌∙◌, length, sym, ap, arith}
 use Rattle.ua_frame.specs.Frames.{header_fault}
-use Rattle.ua_frame.proofs.Parts.{good_header, refused, header_then, within_piece, makes_more}
+use Rattle.ua_frame.proofs.Parts.{good_header, refused, header_then, makes_more}
 use Rattle.ua_frame.proofs.unfinished.Unfinished.begin.Goals as goal
 
 pub returns-in-Some-clause-makes : goal.returns-in-Some-clause-makes

@@ -1,4 +1,4 @@
-use Rattle.std.proofs.Common.{◌≡◌, ◌∙◌, ◌-◌, ◌+◌, ◌<◌, ◌≤◌, ◌++◌, List, ℕ, length, min, refl, sym, ap, arith}
+use Rattle.std.proofs.Common.{◌≡◌, ◌-◌, length, min, arith}
 use Rattle.ua_frame.specs.Frames.{size_of}
 use Rattle.ua_frame.proofs.Parts.{good_header, starved, goes_on, completes}
 use Rattle.ua_frame.proofs.unfinished.Unfinished.go_on.Goals as goal
