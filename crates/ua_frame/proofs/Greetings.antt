@@ -1,5 +1,5 @@
 -- A greeting: what it makes of a HEL, and where it then stands.
-use Rattle.std.proofs.Common.{◌≡◌, ℕ, List, [], ◌++◌, false, Option, Some, None, Ok, Err, take, refl, sym, ◌∙◌, ap, subst, arith}
+use Rattle.std.proofs.Common.{◌≡◌, ℕ, List, [], ◌++◌, false, Option, Some, None, Ok, Err, length, take, drop, refl, sym, ◌∙◌, ap, subst, arith, append_assoc, take-append-drop}
 use Rattle.ua_builtin.specs.Format.{Flat, flat}
 use Rattle.ua_builtin.specs.Status.{of_code}
 use Rattle.ua_builtin.specs.declared.status_code.StatusCode.{StatusCode}
@@ -13,14 +13,16 @@ use Rattle.ua_frame.specs.declared.hello.Hello.{Hello}
 use Rattle.ua_frame.specs.declared.limits.Limits.{Limits}
 use Rattle.ua_frame.specs.Agreement.{hello_reasons, unless_refused, ack_to, agreed}
 use Rattle.ua_frame.specs.Faults.{refused_with}
-use Rattle.ua_frame.specs.Frames.{frame_octets, LetsIn}
+use Rattle.ua_frame.specs.Frames.{frame_octets, LetsIn, header_fault}
 use Rattle.ua_frame.specs.Greeting.{hello_in, greeting_reasons, greeting_reasons_of, hello_gate, greeting_rules, IsAgreed, limits_of, IsDone, Waits, Greets, IsJudged}
 use Rattle.ua_frame.specs.Messages.{hello}
 use Rattle.ua_frame.specs.Reader.{Reader, open_reader, TakesFrame}
 use Rattle.ua_frame.specs.Reasons.{first_reason}
 use Rattle.ua_frame.specs.Run.{refusal, Over}
-use Rattle.ua_frame.specs.Whole.{IsWhole, whole_of, whole_encodes, encodes_whole}
+use Rattle.ua_frame.specs.Whole.{IsWhole, whole_of}
+use Rattle.ua_frame.proofs.Wholes.{whole_encodes, encodes_whole}
 use Rattle.ua_frame.proofs.Streams.{run_nil, run_frame, run_refused}
+use Rattle.ua_frame.proofs.Unique.{frame_more_fault, frame_more_length}
 
 -- ---- the Hello in a body
 
@@ -84,5 +86,7 @@ module _ (x mid y : Greeting) (octets piece : List ℕ) (n : ℕ) (f : Frame) (b
     judged.1,
     done,
   )
-  refuses_at OutOfMemory judged done = done
+  refuses_at OutOfMemory judged done =
+      let whole : octets ++ piece ≡ frame_octets f ++ drop n piece = ap (λ (t : List ℕ). octets ++ t) (sym (take-append-drop n piece)) ∙ (sym (append_assoc octets (take n piece) (drop n piece)) ∙ ap (λ (t : List ℕ). t ++ drop n piece) frame_is) in
+      (record { whole = omega (arith, ap length whole, frame_more_length f (drop n piece)); good = ap (header_fault hello_gate) whole ∙ frame_more_fault hello_gate f (drop n piece) taken.sized let_in }, done)
   refuses_at Closed judged done = judged

@@ -12,7 +12,7 @@ use Rattle.ua_frame.specs.declared.hello.Hello.{Hello}
 use Rattle.ua_frame.specs.declared.kind.Kind.TheVariants.{Hel}
 use Rattle.ua_frame.specs.declared.limits.Limits.{Limits}
 use Rattle.ua_frame.specs.Agreement.{is_url_long, is_buffer_small, agreed}
-use Rattle.ua_frame.specs.Frames.{frame_octets}
+use Rattle.ua_frame.specs.Frames.{frame_octets, header_fault}
 use Rattle.ua_frame.specs.Kinds.{closed_gate, gate_with}
 use Rattle.ua_frame.specs.Messages.{hello, err_frame}
 use Rattle.ua_frame.specs.Reader.{open_reader}
@@ -72,6 +72,11 @@ pub record IsAgreed (limits : Limits) (octets : List ℕ) (h : Hello) (a : Ack) 
 abbrev pub IsRefused : List ℕ → ℕ → Type 0
 IsRefused octets code = Run greeting_rules octets [] octets (Stopped code)
 
+-- a good header is there, without which no memory is asked for
+pub record HasGoodHeader (octets : List ℕ) : Type 0 where
+  pub whole : 8 ≤ length octets
+  pub good : header_fault hello_gate octets ≡ None
+
 -- the limits with which a greeting was made
 abbrev pub limits_of : Greeting → Limits
 limits_of x = x.limits
@@ -91,7 +96,7 @@ abbrev pub Greets : Greeting → List ℕ → Result (ℕ × Greeted) GreetFault
 Greets old piece (Ok (n, NeedMore)) new octets = (n ≡ length piece) × Waits new (octets ++ piece)
 Greets old piece (Ok (n, Agreed h a)) new octets = (n ≤ length piece) × IsAgreed (limits_of old) (octets ++ take n piece) h a × IsDone new
 Greets old piece (Err (Refused code err)) new octets = IsRefused (octets ++ piece) code.code × (err ≡ frame_octets (err_frame code)) × IsDone new
-Greets old piece (Err OutOfMemory) new octets = IsDone new
+Greets old piece (Err OutOfMemory) new octets = HasGoodHeader (octets ++ piece) × IsDone new
 Greets old piece (Err Closed) new octets = ⊥
 
 -- what is made of the body of a HEL
