@@ -7,7 +7,10 @@
 mod bytes;
 mod counted;
 mod fault;
+pub mod laws;
 mod numbers;
+mod pairs;
+mod signed;
 mod source;
 mod status_code;
 mod text;
