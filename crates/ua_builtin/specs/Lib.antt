@@ -1,5 +1,9 @@
+pub mod Boolean
 pub mod Counted
+pub mod DateTime
+pub mod DoubleBits
 pub mod Exact
+pub mod FloatBits
 pub mod Format
 pub mod Join
 pub mod Laws

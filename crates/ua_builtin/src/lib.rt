@@ -4,9 +4,13 @@
 //! `NoValue` only where no front encodes one, and `write` adds the one canonical encoding.
 #![tactic(auto)]
 
+mod boolean;
 mod bytes;
 mod counted;
+mod date_time;
+mod double_bits;
 mod fault;
+mod float_bits;
 pub mod laws;
 mod numbers;
 mod pairs;
@@ -17,7 +21,10 @@ mod text;
 mod wire;
 
 pub use bytes::UaBytes;
+pub use date_time::DateTime;
+pub use double_bits::DoubleBits;
 pub use fault::{ReadFault, WriteFault};
+pub use float_bits::FloatBits;
 pub use source::{Octets, Source};
 pub use status_code::StatusCode;
 pub use text::UaString;
