@@ -3,12 +3,16 @@ pub mod Counted
 pub mod DateTime
 pub mod DoubleBits
 pub mod Exact
+pub mod ExpandedNodeId
+pub mod ExtensionObject
 pub mod Flags
 pub mod FloatBits
 pub mod Format
+pub mod Guid
 pub mod Join
 pub mod Laws
 pub mod LocalizedText
+pub mod NodeId
 pub mod Number
 pub mod QualifiedName
 pub mod Signed
