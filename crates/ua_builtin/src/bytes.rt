@@ -24,7 +24,7 @@ impl Model for UaBytes {
 }
 
 impl UaBytes {
-    ghost use Rattle.std.specs.Prelude.{◌≡◌, option_map, option_copied, None};
+    ghost use Rattle.std.specs.Prelude.{◌≡◌, option_map, None, IfOk};
 
     /// These octets, or null for `None`.
     #[inline]
@@ -59,6 +59,17 @@ impl UaBytes {
         ensures { option_map (λ v. v.items) result ≡ self }
     {
         self.octets
+    }
+
+    /// A value of its own, equal to this one.
+    pub fn try_clone(&self) -> Result<UaBytes, AllocError>
+        ensures { IfOk result (λ v. v ≡ self.now) }
+    {
+        let octets = match &self.octets {
+            Some(octets) => Some(octets.clone()?),
+            None => None,
+        };
+        Ok(UaBytes { octets })
     }
 }
 

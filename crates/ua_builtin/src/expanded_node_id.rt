@@ -24,9 +24,20 @@ const HAS_SERVER_INDEX: u8 = 0x40;
 const HAS_NAMESPACE_URI: u8 = 0x80;
 
 impl ExpandedNodeId {
-    ghost use Rattle.std.specs.Prelude.{◌≡◌, ◌++◌, not, OnOk, OnErr};
+    ghost use Rattle.std.specs.Prelude.{◌≡◌, ◌++◌, not, IfOk, OnOk, OnErr};
     ghost use Rattle.ua_builtin.specs.Format.{Extends};
     ghost use Rattle.ua_builtin.specs.ExpandedNodeId.{octet_of, flagged_index, is_here};
+
+    /// A value of its own, equal to this one.
+    pub fn try_clone(&self) -> Result<ExpandedNodeId, AllocError>
+        ensures { IfOk result (λ v. v ≡ self.now) }
+    {
+        Ok(ExpandedNodeId {
+            node_id: self.node_id.try_clone()?,
+            namespace_uri: self.namespace_uri.try_clone()?,
+            server_index: self.server_index,
+        })
+    }
 
     // The form octet with the flags of what is there.
     fn octet(&self) -> u8

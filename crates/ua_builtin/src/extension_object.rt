@@ -25,6 +25,35 @@ pub struct ExtensionObject {
     pub body: ExtensionBody,
 }
 
+impl ExtensionBody {
+    ghost use Rattle.std.specs.Prelude.{◌≡◌, IfOk};
+
+    /// A value of its own, equal to this one.
+    pub fn try_clone(&self) -> Result<ExtensionBody, AllocError>
+        ensures { IfOk result (λ v. v ≡ self.now) }
+    {
+        Ok(match self {
+            ExtensionBody::Absent => ExtensionBody::Absent,
+            ExtensionBody::ByteString(octets) => ExtensionBody::ByteString(octets.try_clone()?),
+            ExtensionBody::Xml(element) => ExtensionBody::Xml(element.try_clone()?),
+        })
+    }
+}
+
+impl ExtensionObject {
+    ghost use Rattle.std.specs.Prelude.{◌≡◌, IfOk};
+
+    /// A value of its own, equal to this one.
+    pub fn try_clone(&self) -> Result<ExtensionObject, AllocError>
+        ensures { IfOk result (λ v. v ≡ self.now) }
+    {
+        Ok(ExtensionObject {
+            type_id: self.type_id.try_clone()?,
+            body: self.body.try_clone()?,
+        })
+    }
+}
+
 impl Wire for ExtensionObject {
     ghost use Rattle.ua_builtin.specs.Format.{flat};
     ghost use Rattle.ua_builtin.specs.ExtensionObject.{extension_object, extension_object_starts};

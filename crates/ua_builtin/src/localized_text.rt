@@ -18,6 +18,20 @@ pub struct LocalizedText {
 const LOCALE: u8 = 0x01;
 const TEXT: u8 = 0x02;
 
+impl LocalizedText {
+    ghost use Rattle.std.specs.Prelude.{◌≡◌, IfOk};
+
+    /// A value of its own, equal to this one.
+    pub fn try_clone(&self) -> Result<LocalizedText, AllocError>
+        ensures { IfOk result (λ v. v ≡ self.now) }
+    {
+        Ok(LocalizedText {
+            locale: self.locale.try_clone()?,
+            text: self.text.try_clone()?,
+        })
+    }
+}
+
 impl Wire for LocalizedText {
     ghost use Rattle.ua_builtin.specs.Format.{flat};
     ghost use Rattle.ua_builtin.specs.LocalizedText.{localized_text, localized_text_starts};

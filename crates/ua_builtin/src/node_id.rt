@@ -25,8 +25,24 @@ pub struct NodeId {
     pub identifier: Identifier,
 }
 
+impl Identifier {
+    ghost use Rattle.std.specs.Prelude.{◌≡◌, IfOk};
+
+    /// A value of its own, equal to this one.
+    pub fn try_clone(&self) -> Result<Identifier, AllocError>
+        ensures { IfOk result (λ v. v ≡ self.now) }
+    {
+        Ok(match self {
+            Identifier::Numeric(number) => Identifier::Numeric(*number),
+            Identifier::Text(text) => Identifier::Text(text.try_clone()?),
+            Identifier::Guid(guid) => Identifier::Guid(*guid),
+            Identifier::Opaque(octets) => Identifier::Opaque(octets.try_clone()?),
+        })
+    }
+}
+
 impl NodeId {
-    ghost use Rattle.std.specs.Prelude.{◌≡◌, ◌++◌, IsTrue, OnOk, OnErr};
+    ghost use Rattle.std.specs.Prelude.{◌≡◌, ◌++◌, IsTrue, IfOk, OnOk, OnErr};
     ghost use Rattle.ua_builtin.specs.Format.{Gives, StaysBehind, Extends};
     ghost use Rattle.ua_builtin.specs.NodeId.{node, in_form, form_of};
 
@@ -39,6 +55,13 @@ impl NodeId {
             namespace,
             identifier,
         }
+    }
+
+    /// A value of its own, equal to this one.
+    pub fn try_clone(&self) -> Result<NodeId, AllocError>
+        ensures { IfOk result (λ v. v ≡ self.now) }
+    {
+        Ok(NodeId::new(self.namespace, self.identifier.try_clone()?))
     }
 
     /// Reads what stands behind the form octet.

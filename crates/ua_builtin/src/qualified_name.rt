@@ -14,6 +14,20 @@ pub struct QualifiedName {
     pub name: UaString,
 }
 
+impl QualifiedName {
+    ghost use Rattle.std.specs.Prelude.{◌≡◌, IfOk};
+
+    /// A value of its own, equal to this one.
+    pub fn try_clone(&self) -> Result<QualifiedName, AllocError>
+        ensures { IfOk result (λ v. v ≡ self.now) }
+    {
+        Ok(QualifiedName {
+            namespace: self.namespace,
+            name: self.name.try_clone()?,
+        })
+    }
+}
+
 impl Wire for QualifiedName {
     ghost use Rattle.ua_builtin.specs.Format.{flat};
     ghost use Rattle.ua_builtin.specs.QualifiedName.{qualified_name, qualified_name_starts};

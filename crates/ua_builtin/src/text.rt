@@ -77,6 +77,17 @@ impl UaString {
     {
         self.text
     }
+
+    /// A value of its own, equal to this one.
+    pub fn try_clone(&self) -> Result<UaString, AllocError>
+        ensures { IfOk result (λ v. v ≡ self.now) }
+    {
+        let text = match &self.text {
+            Some(text) => Some(text.clone()?),
+            None => None,
+        };
+        Ok(UaString { text })
+    }
 }
 
 impl Wire for UaString {

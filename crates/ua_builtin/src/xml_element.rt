@@ -12,6 +12,19 @@ pub struct XmlElement {
     pub octets: UaBytes,
 }
 
+impl XmlElement {
+    ghost use Rattle.std.specs.Prelude.{◌≡◌, IfOk};
+
+    /// A value of its own, equal to this one.
+    pub fn try_clone(&self) -> Result<XmlElement, AllocError>
+        ensures { IfOk result (λ v. v ≡ self.now) }
+    {
+        Ok(XmlElement {
+            octets: self.octets.try_clone()?,
+        })
+    }
+}
+
 impl Wire for XmlElement {
     ghost use Rattle.ua_builtin.specs.Format.{flat};
     ghost use Rattle.ua_builtin.specs.XmlElement.{xml_element, xml_element_starts};
