@@ -15,6 +15,7 @@ pub mod LocalizedText
 pub mod NodeId
 pub mod Number
 pub mod QualifiedName
+pub mod Same
 pub mod Signed
 pub mod Status
 pub mod XmlElement

@@ -12,7 +12,7 @@ use std::alloc::{AllocError, Global};
 /// null, and the index of its server, where 0 is the server itself (OPC 10000-6, 5.2.2.10).
 ///
 /// A namespace index beside a URI means nothing, and is kept and written as it is.
-#[derive(Drop)]
+#[derive(PartialEq, Eq, Debug, Drop)]
 pub struct ExpandedNodeId {
     pub node_id: NodeId,
     pub namespace_uri: UaString,

@@ -10,7 +10,7 @@ use std::alloc::{AllocError, Global};
 
 /// The body of an [`ExtensionObject`]. A ByteString or an XmlElement that is null is a body, and
 /// differs from none.
-#[derive(Drop)]
+#[derive(PartialEq, Eq, Debug, Drop)]
 pub enum ExtensionBody {
     Absent,
     ByteString(UaBytes),
@@ -19,7 +19,7 @@ pub enum ExtensionBody {
 
 /// A structure of any type: the NodeId of its type's encoding, and its octets, which are kept as
 /// they stand (OPC 10000-6, 5.2.2.15).
-#[derive(Drop)]
+#[derive(PartialEq, Eq, Debug, Drop)]
 pub struct ExtensionObject {
     pub type_id: NodeId,
     pub body: ExtensionBody,

@@ -9,7 +9,7 @@ use uuid::Uuid;
 
 /// A Guid, which the crate `uuid` reads and prints: its first three fields are encoded with the
 /// least octet first (OPC 10000-6, 5.2.2.6).
-#[derive(Clone, Copy, PartialEq, Eq, Hash)]
+#[derive(Clone, Copy, PartialEq, Eq, Hash, Debug)]
 pub struct Guid {
     pub uuid: Uuid,
 }

@@ -9,7 +9,7 @@ use std::alloc::{AllocError, Global};
 
 /// A text for people, and the locale of its language; either may be null
 /// (OPC 10000-6, 5.2.2.14; OPC 10000-3, 8.5).
-#[derive(Drop)]
+#[derive(PartialEq, Eq, Debug, Drop)]
 pub struct LocalizedText {
     pub locale: UaString,
     pub text: UaString,

@@ -9,7 +9,7 @@ use crate::wire::Wire;
 use std::alloc::{AllocError, Global};
 
 /// What names a node within its namespace (OPC 10000-3, 8.2).
-#[derive(Drop)]
+#[derive(PartialEq, Eq, Hash, Debug, Drop)]
 pub enum Identifier {
     Numeric(u32),
     Text(UaString),
@@ -19,7 +19,7 @@ pub enum Identifier {
 
 /// The name of a node: its namespace, which is an index into the server's table of namespaces, and
 /// its identifier there (OPC 10000-6, 5.2.2.9).
-#[derive(Drop)]
+#[derive(PartialEq, Eq, Hash, Debug, Drop)]
 pub struct NodeId {
     pub namespace: u16,
     pub identifier: Identifier,

@@ -8,7 +8,7 @@ use std::alloc::{AllocError, Global};
 
 /// A name within a namespace, which is an index into the server's table of namespaces
 /// (OPC 10000-6, 5.2.2.13).
-#[derive(Drop)]
+#[derive(PartialEq, Eq, Debug, Drop)]
 pub struct QualifiedName {
     pub namespace: u16,
     pub name: UaString,

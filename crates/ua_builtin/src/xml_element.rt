@@ -7,7 +7,7 @@ use crate::wire::Wire;
 use std::alloc::{AllocError, Global};
 
 /// An XML element as octets, which are never looked at, or null (OPC 10000-6, 5.2.2.8).
-#[derive(Drop)]
+#[derive(PartialEq, Eq, Debug, Drop)]
 pub struct XmlElement {
     pub octets: UaBytes,
 }
