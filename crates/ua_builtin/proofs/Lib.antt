@@ -1,1 +1,2 @@
 pub mod ReadAnswers
+pub mod Texts

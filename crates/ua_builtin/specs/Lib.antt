@@ -13,6 +13,7 @@ pub mod Join
 pub mod Laws
 pub mod LocalizedText
 pub mod NodeId
+pub mod NodeText
 pub mod Number
 pub mod QualifiedName
 pub mod Same
