@@ -5,6 +5,7 @@ pub mod DoubleBits
 pub mod Exact
 pub mod ExpandedNodeId
 pub mod ExtensionObject
+pub mod Flagged
 pub mod Flags
 pub mod FloatBits
 pub mod Format
@@ -13,6 +14,7 @@ pub mod Join
 pub mod Laws
 pub mod LocalizedText
 pub mod NodeId
+pub mod NodeIdForms
 pub mod NodeText
 pub mod Number
 pub mod QualifiedName

@@ -3,6 +3,10 @@
 ghost use Rattle.std.specs.Prelude.{◌≡◌, List, [], ℕ};
 ghost use Rattle.std.specs.Bool.{Decides};
 ghost use Rattle.ua_builtin.specs.declared.node_id.NodeId.{NodeId};
+ghost use Rattle.ua_builtin.specs.NodeId.{node_id};
+ghost use Rattle.ua_builtin.specs.NodeIdForms.{EncodesNodeId};
+ghost use Rattle.ua_builtin.specs.LocalizedText.{localized_text};
+ghost use Rattle.ua_builtin.specs.Flagged.{SameEncodings, EncodesLocalizedText};
 ghost use Rattle.ua_builtin.specs.Laws.{CanonicalEncodes, EncodesOnce, ReadsBack};
 
 use crate::node_id::NodeId;
@@ -36,5 +40,17 @@ pub fn encodes_in_octets<T: Wire>()
 /// same kind, whatever form encoded them.
 pub fn equal_node_ids_are_the_same()
     ensures { (a b : NodeId) → Decides (⟦<NodeId as PartialEq>⟧.eq a b) (a ≡ b) }
+{
+}
+
+/// NodeIds are encoded in the six forms of the standard's table (OPC 10000-6, 5.2.2.9).
+pub fn node_ids_are_encoded_in_forms()
+    ensures { SameEncodings EncodesNodeId node_id.encodes }
+{
+}
+
+/// LocalizedTexts are encoded as the standard's table has it (OPC 10000-6, 5.2.2.14).
+pub fn localized_texts_are_encoded_by_flags()
+    ensures { SameEncodings EncodesLocalizedText localized_text.encodes }
 {
 }
