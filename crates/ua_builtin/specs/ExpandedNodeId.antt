@@ -49,7 +49,7 @@ expanded_node_id_starts = bind_starts (IsNumber 1) (λ octet. (behind_octet octe
 abbrev pub Says : ℕ → ℕ → Bool → Bool → Type 0
 Says octet form uri index = (bit_and octet 63 ≡ form) × (has octet 128 ≡ uri) × (has octet 64 ≡ index) × (nat_lt octet (256 ^ 1) ≡ true)
 
-flags_say : (form : ℕ) (uri index : Bool) → form < 6 → Says (form + flag_bit 128 uri + flag_bit 64 index) form uri index
+pub flags_say : (form : ℕ) (uri index : Bool) → form < 6 → Says (form + flag_bit 128 uri + flag_bit 64 index) form uri index
 flags_say zero false false h = (refl, refl, refl, refl)
 flags_say zero false true h = (refl, refl, refl, refl)
 flags_say zero true false h = (refl, refl, refl, refl)

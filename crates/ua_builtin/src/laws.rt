@@ -6,7 +6,9 @@ ghost use Rattle.ua_builtin.specs.declared.node_id.NodeId.{NodeId};
 ghost use Rattle.ua_builtin.specs.NodeId.{node_id};
 ghost use Rattle.ua_builtin.specs.NodeIdForms.{EncodesNodeId};
 ghost use Rattle.ua_builtin.specs.LocalizedText.{localized_text};
-ghost use Rattle.ua_builtin.specs.Flagged.{SameEncodings, EncodesLocalizedText};
+ghost use Rattle.ua_builtin.specs.Flagged.{SameEncodings, EncodesLocalizedText, EncodesExpanded, EncodesExtension};
+ghost use Rattle.ua_builtin.specs.ExpandedNodeId.{expanded_node_id};
+ghost use Rattle.ua_builtin.specs.ExtensionObject.{extension_object};
 ghost use Rattle.ua_builtin.specs.Laws.{CanonicalEncodes, EncodesOnce, ReadsBack};
 
 use crate::node_id::NodeId;
@@ -52,5 +54,17 @@ pub fn node_ids_are_encoded_in_forms()
 /// LocalizedTexts are encoded as the standard's table has it (OPC 10000-6, 5.2.2.14).
 pub fn localized_texts_are_encoded_by_flags()
     ensures { SameEncodings EncodesLocalizedText localized_text.encodes }
+{
+}
+
+/// ExpandedNodeIds are encoded as the standard's table has it (OPC 10000-6, 5.2.2.10).
+pub fn expanded_node_ids_are_encoded_by_flags()
+    ensures { SameEncodings EncodesExpanded expanded_node_id.encodes }
+{
+}
+
+/// ExtensionObjects are encoded as the standard's table has it (OPC 10000-6, 5.2.2.15).
+pub fn extension_objects_are_encoded_by_kind_of_body()
+    ensures { SameEncodings EncodesExtension extension_object.encodes }
 {
 }
