@@ -59,10 +59,10 @@ localized_there v b h =
     let flags = mask_flags h.has_locale h.has_text in
     let fits : m < 256 = below_256 h.has_locale h.has_text in
     let within : (behind_mask m).encodes v (h.locale ++ h.text) =
-        subst (λ (t : Bool). (cond t nothing (behind_flags (has m 1) (has m 2))).encodes v (h.locale ++ h.text)) (sym flags.2)
-        (subst (λ (x : Bool). (behind_flags x (has m 2)).encodes v (h.locale ++ h.text)) (sym flags.0)
-        (subst (λ (y : Bool). (behind_flags h.has_locale y).encodes v (h.locale ++ h.text)) (sym flags.1)
-        (record { of = (v.locale, v.text); is = refl; encoded = record { front = h.locale; back = h.text; parts = refl; first_encoded = text_there h.has_locale v.locale h.locale h.locale_encoded; second_encoded = text_there h.has_text v.text h.text h.text_encoded } }))) in
+    subst (λ (t : Bool). (cond t nothing (behind_flags (has m 1) (has m 2))).encodes v (h.locale ++ h.text)) (sym flags.2)
+    (subst (λ (x : Bool). (behind_flags x (has m 2)).encodes v (h.locale ++ h.text)) (sym flags.0)
+    (subst (λ (y : Bool). (behind_flags h.has_locale y).encodes v (h.locale ++ h.text)) (sym flags.1)
+    (record { of = (v.locale, v.text); is = refl; encoded = record { front = h.locale; back = h.text; parts = refl; first_encoded = text_there h.has_locale v.locale h.locale h.locale_encoded; second_encoded = text_there h.has_text v.text h.text h.text_encoded } }))) in
     record { head = m; front = number_octets 1 m; back = h.locale ++ h.text; parts = h.octets ∙ ap (λ (t : List ℕ). t ++ (h.locale ++ h.text)) (sym (one_octet m fits)); head_encoded = (fits, refl); rest_encoded = within }
 
 localized_back : (v : LocalizedText) (b : List ℕ) → localized_text.encodes v b → EncodesLocalizedText v b
@@ -78,8 +78,8 @@ localized_back v b h =
         locale_encoded = subst (λ (x : LocalizedText). EncodesFlagged (has h.head 1) x.locale p.1.encoded.front) (sym p.1.is) (text_back (has h.head 1) p.1.of.0 p.1.encoded.front p.1.encoded.first_encoded);
         text_encoded = subst (λ (x : LocalizedText). EncodesFlagged (has h.head 2) x.text p.1.encoded.back) (sym p.1.is) (text_back (has h.head 2) p.1.of.1 p.1.encoded.back p.1.encoded.second_encoded);
         octets = h.parts ∙ ap (λ (t : List ℕ). t ++ h.back) (h.head_encoded.1 ∙ one_octet h.head h.head_encoded.0)
-        ∙ ap (λ (t : List ℕ). h.head ∷ t) p.1.encoded.parts
-        ∙ ap (λ (m : ℕ). m ∷ (p.1.encoded.front ++ p.1.encoded.back)) (mask_sum h.head (ltb-false 3 h.head p.0));
+            ∙ ap (λ (t : List ℕ). h.head ∷ t) p.1.encoded.parts
+            ∙ ap (λ (m : ℕ). m ∷ (p.1.encoded.front ++ p.1.encoded.back)) (mask_sum h.head (ltb-false 3 h.head p.0));
       }
     ]
 
@@ -132,10 +132,10 @@ expanded_there v b h =
     let fits : m < 256 = ltb-true m 256 says.3 in
     let back : List ℕ = h.node ++ (h.uri ++ h.index) in
     let within : (behind_octet m).encodes v back =
-        subst (λ (k : ℕ). (behind_form k (has m 128) (has m 64)).encodes v back) (sym says.0)
-        (subst (λ (x : Bool). (behind_form h.form x (has m 64)).encodes v back) (sym says.1)
-        (subst (λ (y : Bool). (behind_form h.form h.has_uri y).encodes v back) (sym says.2)
-        (record { of = (v.node_id, (v.namespace_uri, v.server_index)); is = refl; encoded = record { front = h.node; back = h.uri ++ h.index; parts = refl; first_encoded = node_encoded; second_encoded = record { front = h.uri; back = h.index; parts = refl; first_encoded = text_there h.has_uri v.namespace_uri h.uri h.uri_encoded; second_encoded = index_there h.has_index v.server_index h.index h.index_encoded } } }))) in
+    subst (λ (k : ℕ). (behind_form k (has m 128) (has m 64)).encodes v back) (sym says.0)
+    (subst (λ (x : Bool). (behind_form h.form x (has m 64)).encodes v back) (sym says.1)
+    (subst (λ (y : Bool). (behind_form h.form h.has_uri y).encodes v back) (sym says.2)
+    (record { of = (v.node_id, (v.namespace_uri, v.server_index)); is = refl; encoded = record { front = h.node; back = h.uri ++ h.index; parts = refl; first_encoded = node_encoded; second_encoded = record { front = h.uri; back = h.index; parts = refl; first_encoded = text_there h.has_uri v.namespace_uri h.uri h.uri_encoded; second_encoded = index_there h.has_index v.server_index h.index h.index_encoded } } }))) in
     record { head = m; front = number_octets 1 m; back = back; parts = h.octets ∙ ap (λ (t : List ℕ). t ++ back) (sym (one_octet m fits)); head_encoded = (fits, refl); rest_encoded = within }
 
 expanded_back : (v : ExpandedNodeId) (b : List ℕ) → expanded_node_id.encodes v b → EncodesExpanded v b
@@ -156,8 +156,8 @@ expanded_back v b h =
       uri_encoded = subst (λ (x : ExpandedNodeId). EncodesFlagged (has o 128) x.namespace_uri rest.front) (sym p.is) (text_back (has o 128) p.of.1.0 rest.front rest.first_encoded);
       index_encoded = subst (λ (x : ExpandedNodeId). EncodesIndex (has o 64) x.server_index rest.back) (sym p.is) (index_back (has o 64) p.of.1.1 rest.back rest.second_encoded);
       octets = h.parts ∙ ap (λ (t : List ℕ). t ++ h.back) (h.head_encoded.1 ∙ one_octet o h.head_encoded.0)
-      ∙ ap (λ (t : List ℕ). o ∷ t) (p.encoded.parts ∙ ap (λ (t : List ℕ). node ++ t) rest.parts)
-      ∙ ap (λ (m : ℕ). m ∷ (node ++ (rest.front ++ rest.back))) (octet_sum o h.head_encoded.0);
+          ∙ ap (λ (t : List ℕ). o ∷ t) (p.encoded.parts ∙ ap (λ (t : List ℕ). node ++ t) rest.parts)
+          ∙ ap (λ (m : ℕ). m ∷ (node ++ (rest.front ++ rest.back))) (octet_sum o h.head_encoded.0);
     }
 
 pub expanded_node_ids : SameEncodings EncodesExpanded expanded_node_id.encodes

@@ -24,7 +24,7 @@ use Rattle.ua_builtin.specs.declared.node_id.Identifier.TheVariants.{Numeric, Te
 first_is : (text xs ys : List ℕ) (x y : ℕ) → text ≡ x ∷ xs → text ≡ y ∷ ys → x ≡ y
 first_is text xs ys x y p q = cc
 
-apart : (text xs ys : List ℕ) (x y : ℕ) → text ≡ x ∷ xs → text ≡ y ∷ ys → (x ≡ y → ⊥) → ⊥
+pub apart : (text xs ys : List ℕ) (x y : ℕ) → text ≡ x ∷ xs → text ≡ y ∷ ys → (x ≡ y → ⊥) → ⊥
 apart text xs ys x y p q ne = ne (first_is text xs ys x y p q)
 
 -- `g=` and no Guid names nothing
@@ -35,7 +35,7 @@ no_guid text rest e none (Global g) h = let same : rest ≡ h.0 = (let p = h.1 i
 no_guid text rest e none (Opaque b) h = apart text _ _ 103 98 e h.2 (λ p. absurd (omega arith))
 
 -- no identifier's text begins as a namespace does
-no_namespace : (i : Identifier) (text rest : List ℕ) → NamesIdentifier i text → text ≡ codes "ns=" ++ rest → ⊥
+pub no_namespace : (i : Identifier) (text rest : List ℕ) → NamesIdentifier i text → text ≡ codes "ns=" ++ rest → ⊥
 no_namespace (Numeric n) text rest h e = apart text _ _ 110 105 e h.1 (λ p. absurd (omega arith))
 no_namespace (Text t) text rest h e = apart text _ _ 110 115 e h.1 (λ p. absurd (omega arith))
 no_namespace (Global g) text rest h e = apart text _ _ 110 103 e h.1 (λ p. absurd (omega arith))
@@ -54,7 +54,7 @@ pub record Numbered (v : NodeId) (rest : List ℕ) : Type 0 where
 behind_same : (x y : List ℕ) → codes "ns=" ++ x ≡ codes "ns=" ++ y → x ≡ y
 behind_same x y e = cc
 
-numbered : (v : NodeId) (text rest : List ℕ) → text ≡ codes "ns=" ++ rest → NamesNode v text → Numbered v rest
+pub numbered : (v : NodeId) (text rest : List ℕ) → text ≡ codes "ns=" ++ rest → NamesNode v text → Numbered v rest
 numbered v text rest e h =
     elim h.namespace [
       | inl p ↦ absurd (no_namespace v.identifier h.back rest h.identifier (sym (h.parts ∙ ap (λ (f : List ℕ). f ++ h.back) p.1) ∙ e))
@@ -67,7 +67,7 @@ numbered v text rest e h =
       }
     ]
 
-no_semicolon : (bound n : ℕ) (digits : List ℕ) → IsDecimal bound n digits → HasNoSemicolon digits
+pub no_semicolon : (bound n : ℕ) (digits : List ℕ) → IsDecimal bound n digits → HasNoSemicolon digits
 no_semicolon bound n digits d i lt e = let r = digit_at digits i d.numeral.1 lt in absurd (omega (arith, r.0, r.1, e))
 
 pub no_cut : (text rest : List ℕ) → text ≡ codes "ns=" ++ rest → IsCutAtSemicolon rest None → (v : NodeId) → NamesNode v text → ⊥
@@ -122,13 +122,13 @@ numeric_names i n e fits = subst (λ (j : Identifier). NamesIdentifier (filled_i
 pub guid_names : (i : Identifier) (g : Guid) (shown : List ℕ) → i ≡ Global g → shown ≡ hyphenated_text lower g.uuid → Some g.uuid ≡ parsed shown → NamesIdentifier (filled_identifier i) (identifier_text i)
 guid_names i g shown e is back =
     let named : NamesIdentifier (filled_identifier (Global g)) (identifier_text (Global g)) =
-        (hyphenated_text lower g.uuid, refl, (by_index_length 36 _, ap parsed (sym is) ∙ sym back)) in
+    (hyphenated_text lower g.uuid, refl, (by_index_length 36 _, ap parsed (sym is) ∙ sym back)) in
     subst (λ (j : Identifier). NamesIdentifier (filled_identifier j) (identifier_text j)) (sym e) named
 
 pub opaque_names : (i : Identifier) (b : Option (List ℕ)) → i ≡ Opaque b → IsBytes (list_of b) → NamesIdentifier (filled_identifier i) (identifier_text i)
 opaque_names i b e bytes =
     let named : NamesIdentifier (filled_identifier (Opaque b)) (identifier_text (Opaque b)) =
-        (encode_of standard (list_of b), list_of b, refl, (refl, bytes), refl) in
+    (encode_of standard (list_of b), list_of b, refl, (refl, bytes), refl) in
     subst (λ (j : Identifier). NamesIdentifier (filled_identifier j) (identifier_text j)) (sym e) named
 
 namespace_cases : (n : ℕ) (zero_is : Bool) → nat_eq n 0 ≡ zero_is → n < 2 ^ 16 → ((n ≡ 0) × (namespace_text n ≡ [])) ⊎ NamesNamespace n (namespace_text n)

@@ -19,10 +19,8 @@ pub const FIRST_NEGATIVE: u32 = 1 << 31;
 /// Takes as many octets as the buffer has.
 #[inline]
 pub fn fill_octets<S: Source>(src: &mut S, octets: &mut [u8]) -> Result<(), ReadFault>
-    ensures exact {
-        MatchResult result (λ _. octets_at (length octets.old) (S.octets src.old) ≡ Some (octets.new, S.octets src.new))
-            (λ e. (e ≡ NoValue) × (octets_at (length octets.old) (S.octets src.old) ≡ None))
-    }
+    ensures exact { MatchResult result (λ _. octets_at (length octets.old) (S.octets src.old) ≡ Some (octets.new, S.octets src.new))
+        (λ e. (e ≡ NoValue) × (octets_at (length octets.old) (S.octets src.old) ≡ None)) }
     ensures behind { StaysBehind (S.octets src.old) (S.octets src.new) }
 {
     if !src.take_into(octets) {
@@ -33,7 +31,11 @@ pub fn fill_octets<S: Source>(src: &mut S, octets: &mut [u8]) -> Result<(), Read
 
 /// Takes that many octets, and no memory where there are fewer.
 #[inline]
-pub fn take_octets<S: Source>(alloc: Global, src: &mut S, count: usize) -> Result<Vec<u8>, ReadFault>
+pub fn take_octets<S: Source>(
+    alloc: Global,
+    src: &mut S,
+    count: usize,
+) -> Result<Vec<u8>, ReadFault>
     ensures exact { GivesBy (λ v. v.items) (octets_at count) (S.octets src.old) (S.octets src.new) result }
     ensures behind { StaysBehind (S.octets src.old) (S.octets src.new) }
     ensures long { length (S.octets src.old) < count → IsErrOf result NoValue }
@@ -49,10 +51,8 @@ pub fn take_octets<S: Source>(alloc: Global, src: &mut S, count: usize) -> Resul
 /// The text that the octets are.
 #[inline]
 pub fn text_of(octets: Vec<u8>) -> Option<String>
-    ensures {
-        MatchOption result (is_utf8 octets.items ≡ false)
-            (λ t. (is_utf8 octets.items ≡ true) × (string_bytes t ≡ octets.items))
-    }
+    ensures { MatchOption result (is_utf8 octets.items ≡ false)
+        (λ t. (is_utf8 octets.items ≡ true) × (string_bytes t ≡ octets.items)) }
 {
     if !simdutf8::is_utf8(&octets) {
         return None;

@@ -24,7 +24,11 @@ impl Wire for DateTime {
 
     #[inline]
     #[tactic(auto, unfolding(crate::specs::DateTime::date_time))]
-    fn read_value<S: Source>(alloc: Global, src: &mut S, depth: u32) -> Result<DateTime, ReadFault> {
+    fn read_value<S: Source>(
+        alloc: Global,
+        src: &mut S,
+        depth: u32,
+    ) -> Result<DateTime, ReadFault> {
         let ticks = i64::read_value(alloc, src, depth)?;
         Ok(DateTime { ticks })
     }

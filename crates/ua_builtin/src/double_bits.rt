@@ -23,7 +23,11 @@ impl Wire for DoubleBits {
 
     #[inline]
     #[tactic(auto, unfolding(crate::specs::DoubleBits::double_bits))]
-    fn read_value<S: Source>(alloc: Global, src: &mut S, depth: u32) -> Result<DoubleBits, ReadFault> {
+    fn read_value<S: Source>(
+        alloc: Global,
+        src: &mut S,
+        depth: u32,
+    ) -> Result<DoubleBits, ReadFault> {
         let bits = u64::read_value(alloc, src, depth)?;
         Ok(DoubleBits { bits })
     }

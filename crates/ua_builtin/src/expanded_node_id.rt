@@ -20,7 +20,9 @@ pub struct ExpandedNodeId {
 }
 
 const FORM: u8 = 0x3F;
+
 const HAS_SERVER_INDEX: u8 = 0x40;
+
 const HAS_NAMESPACE_URI: u8 = 0x80;
 
 impl ExpandedNodeId {

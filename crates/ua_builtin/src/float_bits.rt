@@ -23,7 +23,11 @@ impl Wire for FloatBits {
 
     #[inline]
     #[tactic(auto, unfolding(crate::specs::FloatBits::float_bits))]
-    fn read_value<S: Source>(alloc: Global, src: &mut S, depth: u32) -> Result<FloatBits, ReadFault> {
+    fn read_value<S: Source>(
+        alloc: Global,
+        src: &mut S,
+        depth: u32,
+    ) -> Result<FloatBits, ReadFault> {
         let bits = u32::read_value(alloc, src, depth)?;
         Ok(FloatBits { bits })
     }

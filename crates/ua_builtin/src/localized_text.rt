@@ -16,6 +16,7 @@ pub struct LocalizedText {
 }
 
 const LOCALE: u8 = 0x01;
+
 const TEXT: u8 = 0x02;
 
 impl LocalizedText {

@@ -8,6 +8,18 @@ use crate::text::UaString;
 use crate::wire::Wire;
 use std::alloc::{AllocError, Global};
 
+const TWO_OCTET: u8 = 0x00;
+
+const FOUR_OCTET: u8 = 0x01;
+
+const NUMERIC: u8 = 0x02;
+
+const STRING: u8 = 0x03;
+
+const GUID: u8 = 0x04;
+
+const OPAQUE: u8 = 0x05;
+
 /// What names a node within its namespace (OPC 10000-3, 8.2).
 #[derive(PartialEq, Eq, Hash, Debug, Drop)]
 pub enum Identifier {
@@ -75,30 +87,27 @@ impl NodeId {
         ensures behind { StaysBehind (S.octets src.old) (S.octets src.new) }
     {
         match form {
-            0 => {
+            TWO_OCTET => {
                 let number = u8::read_value(alloc, src, depth)?;
                 Ok(NodeId::new(0, Identifier::Numeric(u32::from(number))))
             }
-            1 => {
+            FOUR_OCTET => {
                 let (namespace, number): (u8, u16) = Wire::read_value(alloc, src, depth)?;
-                Ok(NodeId::new(
-                    u16::from(namespace),
-                    Identifier::Numeric(u32::from(number)),
-                ))
+                Ok(NodeId::new(u16::from(namespace), Identifier::Numeric(u32::from(number))))
             }
-            2 => {
+            NUMERIC => {
                 let (namespace, number) = Wire::read_value(alloc, src, depth)?;
                 Ok(NodeId::new(namespace, Identifier::Numeric(number)))
             }
-            3 => {
+            STRING => {
                 let (namespace, text) = Wire::read_value(alloc, src, depth)?;
                 Ok(NodeId::new(namespace, Identifier::Text(text)))
             }
-            4 => {
+            GUID => {
                 let (namespace, guid) = Wire::read_value(alloc, src, depth)?;
                 Ok(NodeId::new(namespace, Identifier::Guid(guid)))
             }
-            5 => {
+            OPAQUE => {
                 let (namespace, octets) = Wire::read_value(alloc, src, depth)?;
                 Ok(NodeId::new(namespace, Identifier::Opaque(octets)))
             }
@@ -113,16 +122,16 @@ impl NodeId {
         match &self.identifier {
             Identifier::Numeric(number) => {
                 if self.namespace == 0 && *number < 256 {
-                    0
+                    TWO_OCTET
                 } else if self.namespace < 256 && *number < 65536 {
-                    1
+                    FOUR_OCTET
                 } else {
-                    2
+                    NUMERIC
                 }
             }
-            Identifier::Text(_) => 3,
-            Identifier::Guid(_) => 4,
-            Identifier::Opaque(_) => 5,
+            Identifier::Text(_) => STRING,
+            Identifier::Guid(_) => GUID,
+            Identifier::Opaque(_) => OPAQUE,
         }
     }
 
