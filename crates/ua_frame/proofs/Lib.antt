@@ -1,0 +1,12 @@
+pub mod FirstWrongs
+pub mod Fronts
+pub mod Greetings
+pub mod Octets
+pub mod Parts
+pub mod RawFrames
+pub mod Readers
+pub mod Readings
+pub mod RunFrames
+pub mod Streams
+pub mod Unique
+pub mod Wholes

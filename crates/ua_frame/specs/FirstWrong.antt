@@ -1,0 +1,61 @@
+-- The first wrong frame of a stream, by its sizes alone and the table of reasons.
+use Rattle.std.specs.Prelude.{◌≡◌, ℕ, ◌≤◌, List, [], ◌∷◌, ◌++◌, false, Option, Some, None, length, drop}
+use Rattle.std.specs.List.{flat_map}
+use Rattle.std.specs.Option.{option_and_then}
+use Rattle.ua_frame.specs.declared.frame.Frame.{Frame}
+use Rattle.ua_frame.specs.declared.gate.Gate.{Gate}
+use Rattle.ua_frame.specs.declared.kind.Kind.{Kind}
+use Rattle.ua_frame.specs.After.{AllFrom}
+use Rattle.ua_frame.specs.Frames.{kind_of, flag_of, header_fault, header_code}
+use Rattle.ua_frame.specs.Run.{Rules, refusal}
+
+abbrev pub frame_named : Option Kind → List ℕ → Option Frame
+frame_named None octets = None
+frame_named (Some k) octets = Some (record { kind = k; flag = flag_of octets; body = drop 8 octets })
+
+-- the frame that octets are: their kind, their flag, and what follows the header; none where they name no kind
+abbrev pub frame_in : List ℕ → Option Frame
+frame_in octets = frame_named (kind_of octets) octets
+
+abbrev pub listed : Option Frame → List Frame
+listed None = []
+listed (Some f) = f ∷ []
+
+-- the frames that octets frame by frame are
+unfoldable pub frames_in : List (List ℕ) → List Frame
+frames_in raws = flat_map (λ raw. listed (frame_in raw)) raws
+
+-- the status code of what is wrong with a header where this gate stands
+abbrev pub header_refusal : Gate → List ℕ → Option ℕ
+header_refusal gate octets = option_and_then header_code (header_fault gate octets)
+
+abbrev pub or_else : Option ℕ → Option ℕ → Option ℕ
+or_else None other = other
+or_else (Some code) other = Some code
+
+-- the first reason by which octets that are a frame are refused after these frames, in the order of the table: those of the header, then those of the rules
+abbrev pub first_refusal : {E : Type 0} → Rules E → List Frame → List ℕ → Option ℕ
+first_refusal R before octets = or_else (header_refusal (R.gate before) octets) (option_and_then (refusal R before) (frame_in octets))
+
+-- octets that are a frame have no reason against them after those before, and those aren't the last
+pub record Passes {E : Type 0} (R : Rules E) (before : List (List ℕ)) (octets : List ℕ) : Type 0 where
+  pub goes_on : R.over (frames_in before) ≡ false
+  pub accepted : first_refusal R (frames_in before) octets ≡ None
+
+-- the next frame is refused with this code; behind the last one, the header of what is left
+abbrev pub WrongNext : {E : Type 0} → Rules E → List (List ℕ) → List (List ℕ) → List ℕ → ℕ → Type 0
+WrongNext R before [] rest code = (8 ≤ length rest) × (header_refusal (R.gate (frames_in before)) rest ≡ Some code)
+WrongNext R before (octets ∷ behind) rest code = first_refusal R (frames_in before) octets ≡ Some code
+
+-- behind those frames, some frames pass, and the next is the first that is wrong
+pub record FirstFrom {E : Type 0} (R : Rules E) (start frames : List (List ℕ)) (rest : List ℕ) (code : ℕ) : Type 0 where
+  pub before : List (List ℕ)
+  pub behind : List (List ℕ)
+  pub split : frames ≡ before ++ behind
+  pub good : AllFrom (Passes R) start before
+  pub goes_on : R.over (frames_in (start ++ before)) ≡ false
+  pub wrong : WrongNext R (start ++ before) behind rest code
+
+-- the first frame of these, or the header of what is left, that is wrong, is so with this code
+abbrev pub FirstWrong : {E : Type 0} → Rules E → List (List ℕ) → List ℕ → ℕ → Type 0
+FirstWrong R frames rest code = FirstFrom R [] frames rest code

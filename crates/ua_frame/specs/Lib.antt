@@ -1,0 +1,15 @@
+pub mod After
+pub mod Agreement
+pub mod Faults
+pub mod FirstWrong
+pub mod Frames
+pub mod Greeting
+pub mod Kinds
+pub mod Laws
+pub mod Limits
+pub mod Messages
+pub mod Reader
+pub mod Reasons
+pub mod Run
+pub mod Unfinished
+pub mod Whole

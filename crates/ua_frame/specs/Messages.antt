@@ -1,0 +1,97 @@
+-- Hello, Acknowledge and Error: how octets encode them (OPC 10000-6, 7.1.2.3 to 7.1.2.5).
+use Rattle.std.specs.Prelude.{ℕ, List, Option, None}
+use Rattle.std.proofs.Common.{refl}
+use Rattle.ua_builtin.specs.Number.{IsNumber}
+use Rattle.ua_builtin.specs.Format.{Flat}
+use Rattle.ua_builtin.specs.Join.{number, both, made, pair_starts, image_starts, number_starts, TakesSome}
+use Rattle.ua_builtin.specs.Counted.{text}
+use Rattle.ua_builtin.specs.Status.{status_code, status_code_starts}
+use Rattle.ua_builtin.specs.declared.status_code.StatusCode.{StatusCode}
+use Rattle.ua_frame.specs.declared.frame.Frame.{Frame}
+use Rattle.ua_frame.specs.declared.kind.Kind.TheVariants as kind
+use Rattle.ua_frame.specs.declared.hello.Hello.{Hello}
+use Rattle.ua_frame.specs.declared.ack.Ack.{Ack}
+use Rattle.ua_frame.specs.declared.error.ErrorFrame.{ErrorFrame}
+
+-- ---- Hello: five UInt32s and a String
+
+abbrev pub HelloFields : Type 0
+HelloFields = ℕ × (ℕ × (ℕ × (ℕ × (ℕ × Option (List ℕ)))))
+
+abbrev pub hello_fields : Flat HelloFields
+hello_fields = both (number 4) (both (number 4) (both (number 4) (both (number 4) (both (number 4) text))))
+
+abbrev pub hello_of : HelloFields → Hello
+hello_of p = record {
+  protocol_version = p.0;
+  receive_buffer_size = p.1.0;
+  send_buffer_size = p.1.1.0;
+  max_message_size = p.1.1.1.0;
+  max_chunk_count = p.1.1.1.1.0;
+  endpoint_url = p.1.1.1.1.1;
+}
+
+abbrev pub fields_of_hello : Hello → HelloFields
+fields_of_hello h = (h.protocol_version, (h.receive_buffer_size, (h.send_buffer_size, (h.max_message_size, (h.max_chunk_count, h.endpoint_url)))))
+
+-- its version, receive and send buffer size, greatest message size and chunk count, and the URL of the endpoint
+unfoldable pub hello : Flat Hello
+hello = made hello_of fields_of_hello (λ h. refl) hello_fields
+
+pub hello_starts : TakesSome hello.encodes
+unfolding hello
+hello_starts v h = image_starts hello_of hello_fields.encodes (pair_starts (IsNumber 4) (both (number 4) (both (number 4) (both (number 4) (both (number 4) text)))).encodes (number_starts 3)) v h
+
+-- ---- Acknowledge: five UInt32s
+
+abbrev pub AckFields : Type 0
+AckFields = ℕ × (ℕ × (ℕ × (ℕ × ℕ)))
+
+abbrev pub ack_fields : Flat AckFields
+ack_fields = both (number 4) (both (number 4) (both (number 4) (both (number 4) (number 4))))
+
+abbrev pub ack_of : AckFields → Ack
+ack_of p = record {
+  protocol_version = p.0;
+  receive_buffer_size = p.1.0;
+  send_buffer_size = p.1.1.0;
+  max_message_size = p.1.1.1.0;
+  max_chunk_count = p.1.1.1.1;
+}
+
+abbrev pub fields_of_ack : Ack → AckFields
+fields_of_ack a = (a.protocol_version, (a.receive_buffer_size, (a.send_buffer_size, (a.max_message_size, a.max_chunk_count))))
+
+-- its version, receive and send buffer size, greatest message size and chunk count
+unfoldable pub ack : Flat Ack
+ack = made ack_of fields_of_ack (λ a. refl) ack_fields
+
+pub ack_starts : TakesSome ack.encodes
+unfolding ack
+ack_starts v h = image_starts ack_of ack_fields.encodes (pair_starts (IsNumber 4) (both (number 4) (both (number 4) (both (number 4) (number 4)))).encodes (number_starts 3)) v h
+
+-- ---- Error: a StatusCode and a String
+
+abbrev pub error_of : StatusCode × Option (List ℕ) → ErrorFrame
+error_of p = record { error = p.0; reason = p.1 }
+
+abbrev pub fields_of_error : ErrorFrame → StatusCode × Option (List ℕ)
+fields_of_error e = (e.error, e.reason)
+
+-- the status code of the error, and its reason
+unfoldable pub error : Flat ErrorFrame
+error = made error_of fields_of_error (λ e. refl) (both status_code text)
+
+pub error_starts : TakesSome error.encodes
+unfolding error
+error_starts v h = image_starts error_of (both status_code text).encodes (pair_starts status_code.encodes text.encodes status_code_starts) v h
+
+-- ---- the frames of an ACK and of an ERR without a reason
+
+-- the ACK frame of an Acknowledge, flagged F
+abbrev pub ack_frame : Ack → Frame
+ack_frame a = record { kind = kind.Ack; flag = 70; body = ack.canonical a }
+
+-- the ERR frame of a status code, flagged F, with a null reason
+abbrev pub err_frame : StatusCode → Frame
+err_frame code = record { kind = kind.Err; flag = 70; body = error.canonical (record { error = code; reason = None }) }

@@ -1,0 +1,63 @@
+//! Error.
+
+ghost use Rattle.std.specs.Prelude.{◌≡◌};
+ghost use Rattle.ua_frame.specs.Frames.{frame_octets};
+ghost use Rattle.ua_frame.specs.Messages.{err_frame};
+
+use crate::header::header_octets;
+use crate::kind::Kind;
+use std::alloc::{AllocError, Global};
+use ua_builtin::{ReadFault, Source, StatusCode, UaString, Wire};
+
+/// Error, the body of an ERR frame and of an abort: why one end gives up (OPC 10000-6, 7.1.2.5
+/// and 6.7.3).
+#[derive(Drop)]
+pub struct ErrorFrame {
+    pub error: StatusCode,
+    pub reason: UaString,
+}
+
+/// Over the body of a frame or of an abort. Octets behind the reason are for the caller to refuse.
+impl Wire for ErrorFrame {
+    ghost use Rattle.ua_builtin.specs.Format.{flat};
+    ghost use Rattle.ua_frame.specs.Messages.{error, error_starts};
+
+    ghost format = { flat error };
+
+    ghost starts = { error_starts };
+
+    #[tactic(auto, unfolding(crate::specs::Messages::error))]
+    fn read_value<S: Source>(
+        alloc: Global,
+        src: &mut S,
+        depth: u32,
+    ) -> Result<ErrorFrame, ReadFault> {
+        let error = StatusCode::read_value(alloc, src, depth)?;
+        let reason = UaString::read_value(alloc, src, depth)?;
+        Ok(ErrorFrame { error, reason })
+    }
+
+    #[tactic(auto, unfolding(crate::specs::Messages::error))]
+    fn is_encodable(&self) -> bool {
+        self.error.is_encodable() && self.reason.is_encodable()
+    }
+
+    #[tactic(auto, unfolding(crate::specs::Messages::error))]
+    fn append(&self, out: &mut Vec<u8>) -> Result<(), AllocError> {
+        self.error.append(out)?;
+        self.reason.append(out)?;
+        Ok(())
+    }
+}
+
+/// The octets of an ERR frame with this code and a null reason.
+pub fn error_frame(code: StatusCode) -> [u8; 16]
+    ensures { result ≡ frame_octets (err_frame code) }
+{
+    let header = header_octets(Kind::Err, b'F', 16);
+    let code = code.code.to_le_bytes();
+    [
+        header[0], header[1], header[2], header[3], header[4], header[5], header[6], header[7],
+        code[0], code[1], code[2], code[3], 0xFF, 0xFF, 0xFF, 0xFF,
+    ]
+}

@@ -1,0 +1,41 @@
+//! The frames of UA TCP (OPC 10000-6, 7.1): a reader of frames in whatever pieces their octets come,
+//! the HEL, ACK and ERR messages, and what a server answers to a HEL.
+//!
+//! Its contract is that of [`FrameReader::take`]: the frames of the octets so far, each once and in
+//! order, or the first thing wrong with a header, as soon as its eight octets are there.
+#![tactic(auto)]
+
+mod ack;
+mod agreement;
+mod body;
+mod error;
+mod fault;
+mod frame;
+mod gate;
+mod greeting;
+mod header;
+mod hello;
+mod kind;
+pub mod laws;
+mod limits;
+mod reader;
+mod unfinished;
+mod whole;
+
+pub use ack::{Ack, ack_octets};
+pub use agreement::agree;
+pub use body::Body;
+pub use error::{ErrorFrame, error_frame};
+pub use fault::{FrameFault, GreetFault};
+pub use frame::Frame;
+pub use gate::Gate;
+pub use greeting::{Greeted, Greeting};
+pub use header::{HEADER_LEN, header_octets};
+pub use hello::Hello;
+pub use kind::Kind;
+pub use limits::Limits;
+pub use reader::FrameReader;
+pub use whole::read_whole;
+
+#[cfg(test)]
+mod tests;
