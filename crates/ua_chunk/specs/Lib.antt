@@ -1,0 +1,12 @@
+pub mod Abort
+pub mod Assembling
+pub mod Delivered
+pub mod Flag
+pub mod Gathered
+pub mod Item
+pub mod Kept
+pub mod Open
+pub mod Pending
+pub mod Refusal
+pub mod Sequence
+pub mod View
