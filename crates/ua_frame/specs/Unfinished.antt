@@ -1,0 +1,39 @@
+-- A frame that isn't whole yet, as it is kept, and what a piece makes of it.
+use Rattle.std.specs.Prelude.{◌≡◌, ℕ, ◌+◌, ◌<◌, ◌≤◌, ◌⊎◌, List, [], ◌++◌, Option, Some, None, Result, Ok, Err, length, take}
+use Rattle.ua_frame.specs.declared.fault.FrameFault.{FrameFault}
+use Rattle.ua_frame.specs.declared.fault.FrameFault.TheVariants.{OutOfMemory}
+use Rattle.ua_frame.specs.declared.frame.Frame.{Frame}
+use Rattle.ua_frame.specs.declared.gate.Gate.{Gate}
+use Rattle.ua_frame.specs.declared.unfinished.Unfinished.{Unfinished}
+use Rattle.ua_frame.specs.Frames.{frame_octets, IsSized, LetsIn, header_fault, size_of, IsPartial}
+
+-- the octets that are there
+abbrev pub octets_of : Unfinished → List ℕ
+octets_of u = take u.have u.header ++ u.body.items
+
+-- nothing stands behind a header that isn't whole; a whole one is good, and the frame that it begins isn't whole
+pub record IsKept (u : Unfinished) : Type 0 where
+  pub eight : length u.header ≡ 8
+  pub fits : u.have ≤ 8
+  pub short : u.have < 8 → u.body.items ≡ []
+  pub good : u.have ≡ 8 → header_fault u.gate u.header ≡ None
+  pub part : u.have ≡ 8 → 8 + length u.body.items < size_of u.header
+
+-- the octets that are there and the first n of a piece are a frame that the gate lets in
+pub record Completes (gate : Gate) (old piece : List ℕ) (n : ℕ) (f : Frame) : Type 0 where
+  pub some : 0 < n
+  pub within : n ≤ length piece
+  pub octets : old ++ take n piece ≡ frame_octets f
+  pub sized : IsSized f
+  pub let_in : LetsIn gate f
+
+-- a header is there: it is refused, or there is no memory for what follows it
+pub record Fails (gate : Gate) (octets : List ℕ) (fault : FrameFault) : Type 0 where
+  pub header : 8 ≤ length octets
+  pub why : (header_fault gate octets ≡ Some fault) ⊎ ((fault ≡ OutOfMemory) × (header_fault gate octets ≡ None))
+
+-- what a piece makes of the octets that are there, and the octets that then are
+abbrev pub Makes : Gate → List ℕ → List ℕ → Result (ℕ × Option Frame) FrameFault → List ℕ → Type 0
+Makes gate old piece (Ok (n, None)) new = (n ≡ length piece) × (new ≡ old ++ piece) × IsPartial gate (old ++ piece)
+Makes gate old piece (Ok (n, Some f)) new = Completes gate old piece n f × (new ≡ [])
+Makes gate old piece (Err fault) new = Fails gate (old ++ piece) fault × (new ≡ [])

@@ -1,0 +1,83 @@
+//! The eight octets that a frame begins with.
+
+ghost use Rattle.std.specs.Prelude.{◌≡◌, ◌≤◌, ◌+◌, ◌++◌, IsSome, length};
+ghost use Rattle.ua_frame.specs.Frames.{kind_of, size_of, header_fault, frame_octets, IsSized};
+
+use crate::body::Body;
+use crate::fault::FrameFault;
+use crate::frame::Frame;
+use crate::gate::Gate;
+use crate::kind::Kind;
+use byteorder::{ByteOrder, LittleEndian};
+
+/// The number of octets of a header.
+pub const HEADER_LEN: usize = 8;
+
+/// The kind that a header names.
+#[inline]
+#[tactic(auto, unfolding(crate::specs::Frames::kind_of))]
+fn read_kind(header: &[u8]) -> Option<Kind>
+    requires { length header.now ≡ 8 }
+    ensures { result ≡ kind_of header.now }
+{
+    match (header[0], header[1], header[2]) {
+        (b'H', b'E', b'L') => Some(Kind::Hel),
+        (b'A', b'C', b'K') => Some(Kind::Ack),
+        (b'E', b'R', b'R') => Some(Kind::Err),
+        (b'M', b'S', b'G') => Some(Kind::Msg),
+        (b'O', b'P', b'N') => Some(Kind::Opn),
+        (b'C', b'L', b'O') => Some(Kind::Clo),
+        _ => None,
+    }
+}
+
+/// The size that a header names.
+#[inline]
+pub fn read_size(header: &[u8]) -> u32
+    requires { length header.now ≡ 8 }
+    ensures { result ≡ size_of header.now }
+{
+    LittleEndian::read_u32(&header[4..])
+}
+
+/// What is wrong with a header where this gate stands.
+#[tactic(auto, unfolding(crate::specs::Frames::header_fault))]
+pub fn judge(gate: &Gate, header: &[u8]) -> Option<FrameFault>
+    requires { length header.now ≡ 8 }
+    ensures { result ≡ header_fault gate.now header.now }
+{
+    let Some(kind) = read_kind(header) else {
+        return Some(FrameFault::UnknownType);
+    };
+    if !kind.has_flag(header[3]) {
+        return Some(FrameFault::UnknownType);
+    }
+    if !gate.takes(kind) {
+        return Some(FrameFault::OutOfPlace);
+    }
+    let size = read_size(header);
+    if gate.largest < size {
+        return Some(FrameFault::TooLarge);
+    }
+    if size < kind.least_size() {
+        return Some(FrameFault::TooSmall);
+    }
+    None
+}
+
+/// The frame of a header and all that follows it.
+#[tactic(auto, using(crate::proofs::Fronts::header_frame))]
+pub fn make_frame(header: &[u8], body: Vec<u8>) -> Frame
+    requires head { length header.now ≡ 8 }
+    requires sized { size_of header.now ≡ 8 + length body.items }
+    requires known { IsSome (kind_of header.now) }
+    ensures octets { header.now ++ body.items ≡ frame_octets result }
+    ensures sized { IsSized result }
+{
+    let kind = read_kind(header).unwrap();
+    Frame {
+        kind,
+        flag: header[3],
+        body: Body::new(body),
+    }
+}

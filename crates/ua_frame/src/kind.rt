@@ -1,0 +1,49 @@
+//! The kinds of frames.
+
+ghost use Rattle.std.specs.Prelude.{◌≡◌};
+
+/// What kind of message or chunk a frame is (OPC 10000-6, 7.1.2.2 and 6.7.2.2).
+#[derive(Clone, Copy, PartialEq, Eq, Debug)]
+pub enum Kind {
+    /// Hello: a client asks for a connection.
+    Hel,
+    /// Acknowledge: a server agrees to it.
+    Ack,
+    /// Error: a server ends a connection.
+    Err,
+    /// A chunk of a message.
+    Msg,
+    /// Opens a secure channel.
+    Opn,
+    /// Closes a secure channel.
+    Clo,
+}
+
+impl Kind {
+    ghost use Rattle.ua_frame.specs.Kinds.{has_flag, least_size};
+
+    /// The least size of a frame of this kind, in octets with its header.
+    #[inline]
+    pub fn least_size(self) -> u32
+        ensures { result ≡ least_size self }
+    {
+        match self {
+            Kind::Hel | Kind::Opn => 32,
+            Kind::Ack => 28,
+            Kind::Err => 16,
+            Kind::Msg | Kind::Clo => 24,
+        }
+    }
+
+    /// Whether a frame of this kind may have this flag (OPC 10000-6, 6.7.2.2).
+    #[inline]
+    pub fn has_flag(self, flag: u8) -> bool
+        ensures { result ≡ has_flag self flag }
+    {
+        match self {
+            Kind::Hel | Kind::Ack | Kind::Err => true,
+            Kind::Msg => flag == b'F' || flag == b'C' || flag == b'A',
+            Kind::Opn | Kind::Clo => flag == b'F',
+        }
+    }
+}

@@ -1,0 +1,86 @@
+//! A reader of frames.
+
+ghost use Rattle.std.specs.Prelude.{◌≡◌, [], ℕ, List, length};
+ghost use Rattle.ua_frame.specs.declared.frame.Frame.{Frame};
+ghost use Rattle.ua_frame.specs.Reader.{Reader, open_reader, Takes, StandsAfter, Answers};
+
+use crate::fault::FrameFault;
+use crate::frame::Frame;
+use crate::gate::Gate;
+use crate::unfinished::Unfinished;
+use std::alloc::Global;
+use std::marker::Model;
+
+/// Reads frames from octets that come in any pieces.
+#[derive(Drop)]
+pub struct FrameReader {
+    alloc: Global,
+    unfinished: Unfinished,
+    failed: bool,
+}
+
+impl Model for FrameReader {
+    ghost use Rattle.ua_frame.specs.Reader.{Reader};
+
+    ghost Value = { Reader };
+
+    ghost use Rattle.ua_frame.specs.Unfinished.{octets_of, IsKept};
+
+    ghost view = { λ r. record { gate = r.unfinished.gate; held = octets_of r.unfinished; failed = r.failed } };
+
+    ghost invariant = { λ r. IsKept r.unfinished };
+}
+
+impl FrameReader {
+    /// A reader that has no octet yet.
+    pub fn new(alloc: Global, gate: Gate) -> FrameReader
+        ensures { result ≡ open_reader gate [] }
+    {
+        FrameReader {
+            alloc,
+            unfinished: Unfinished::new(alloc, gate),
+            failed: false,
+        }
+    }
+
+    /// Sets the gate for the frames to come, between two frames.
+    pub fn set_gate(&mut self, gate: Gate)
+        requires { self.old.held ≡ [] }
+        ensures { self.new ≡ record self.old { gate = gate } }
+    {
+        self.unfinished.gate = gate;
+    }
+
+    /// How many octets of a frame that is not whole yet are held.
+    #[inline]
+    pub fn held(&self) -> usize
+        ensures { result ≡ length self.now.held }
+    {
+        self.unfinished.len()
+    }
+
+    /// Takes octets, by what is held and the piece alone.
+    fn advance(&mut self, piece: &[u8]) -> Result<(usize, Option<Frame>), FrameFault>
+        ensures { Takes self.old piece.now result self.new }
+    {
+        if self.failed {
+            return Err(FrameFault::Closed);
+        }
+        let taken = self.unfinished.take(self.alloc, piece);
+        self.failed = taken.is_err();
+        taken
+    }
+
+    /// Takes octets up to the end of the first whole frame, else the whole piece. What is wrong
+    /// with a header is answered as soon as its eight octets are there. After a fault the reader
+    /// is closed.
+    pub fn take(&mut self, piece: &[u8]) -> Result<(usize, Option<Frame>), FrameFault>
+        ensures takes { Takes self.old piece.now result self.new }
+        ensures stands {
+            (octets : List ℕ) (frames : List Frame) → StandsAfter self.old octets frames
+            → Answers self.old piece.now result self.new octets frames
+        }
+    {
+        self.advance(piece)
+    }
+}

@@ -1,0 +1,125 @@
+//! A frame that is not whole yet.
+
+ghost use Rattle.std.specs.Prelude.{◌≡◌, ◌≤◌, ◌<◌, ◌+◌, ◌-◌, ◌++◌, [], IfOk, length, min, take};
+ghost use Rattle.ua_frame.specs.Unfinished.{octets_of, IsKept, Makes};
+
+use crate::fault::FrameFault;
+use crate::frame::Frame;
+use crate::gate::Gate;
+use crate::header;
+use crate::header::HEADER_LEN;
+use std::alloc::{AllocError, Global};
+use std::mem;
+
+/// The octets of a frame that is not whole yet. Its header stands apart from its body, so that it
+/// is judged before any memory is taken, and the body is handed over as it is.
+#[derive(Drop)]
+pub struct Unfinished {
+    pub gate: Gate,
+    header: [u8; HEADER_LEN],
+    have: usize,
+    body: Vec<u8>,
+}
+
+/// Puts the front of a piece where the header goes on.
+fn fill(header: &mut [u8], have: usize, piece: &[u8]) -> usize
+    requires { have ≤ length header.old }
+    ensures count { result ≡ min (length header.old - have) (length piece.now) }
+    ensures filled { take (have + result) header.new ≡ take have header.old ++ take result piece.now }
+{
+    let n = (header.len() - have).min(piece.len());
+    header[have..have + n].copy_from_slice(&piece[..n]);
+    n
+}
+
+/// Adds the front of a piece to a body, up to the length that it is to have.
+fn extend(body: &mut Vec<u8>, len: usize, piece: &[u8]) -> Result<usize, AllocError>
+    requires { length body.old.items ≤ len }
+    ensures count { IfOk result (λ n. n ≡ min (len - length body.old.items) (length piece.now)) }
+    ensures added { IfOk result (λ n. body.new.items ≡ body.old.items ++ take n piece.now) }
+{
+    let n = (len - body.len()).min(piece.len());
+    body.extend_from_slice(&piece[..n])?;
+    Ok(n)
+}
+
+impl Unfinished {
+    /// Nothing of a frame yet.
+    pub fn new(alloc: Global, gate: Gate) -> Unfinished
+        ensures gate { result.gate ≡ gate }
+        ensures none { octets_of result ≡ [] }
+        ensures kept { IsKept result }
+    {
+        Unfinished {
+            gate,
+            header: [0; HEADER_LEN],
+            have: 0,
+            body: Vec::new(alloc),
+        }
+    }
+
+    /// The number of octets that are there.
+    #[inline]
+    pub fn len(&self) -> usize
+        requires { IsKept self.now }
+        ensures { result ≡ length (octets_of self.now) }
+    {
+        self.have + self.body.len()
+    }
+
+    /// Takes octets behind a whole header.
+    fn go_on(&mut self, alloc: Global, piece: &[u8]) -> Result<(usize, Option<Frame>), FrameFault>
+        requires kept { IsKept self.old }
+        requires header { self.old.have ≡ 8 }
+        ensures makes { Makes self.old.gate (octets_of self.old) piece.now result (octets_of self.new) }
+        ensures kept { IsKept self.new }
+        ensures gate { self.new.gate ≡ self.old.gate }
+    {
+        let len = header::read_size(&self.header) as usize - HEADER_LEN;
+        let Ok(n) = extend(&mut self.body, len, piece) else {
+            *self = Unfinished::new(alloc, self.gate);
+            return Err(FrameFault::OutOfMemory);
+        };
+        if self.body.len() < len {
+            return Ok((n, None));
+        }
+        let body = mem::replace(&mut self.body, Vec::new(alloc));
+        self.have = 0;
+        Ok((n, Some(header::make_frame(&self.header, body))))
+    }
+
+    /// Takes octets of a header that is not whole, and those behind it.
+    fn begin(&mut self, alloc: Global, piece: &[u8]) -> Result<(usize, Option<Frame>), FrameFault>
+        requires kept { IsKept self.old }
+        requires header { self.old.have < 8 }
+        ensures makes { Makes self.old.gate (octets_of self.old) piece.now result (octets_of self.new) }
+        ensures kept { IsKept self.new }
+        ensures gate { self.new.gate ≡ self.old.gate }
+    {
+        let n = fill(&mut self.header, self.have, piece);
+        self.have += n;
+        if self.have < HEADER_LEN {
+            return Ok((n, None));
+        }
+        if let Some(fault) = header::judge(&self.gate, &self.header) {
+            self.have = 0;
+            return Err(fault);
+        }
+        let (m, frame) = self.go_on(alloc, &piece[n..])?;
+        Ok((n + m, frame))
+    }
+
+    /// Takes octets up to the end of the frame, else the whole piece. A fault leaves nothing.
+    pub fn take(&mut self, alloc: Global, piece: &[u8]) -> Result<(usize, Option<Frame>), FrameFault>
+        requires kept { IsKept self.old }
+        ensures makes { Makes self.old.gate (octets_of self.old) piece.now result (octets_of self.new) }
+        ensures kept { IsKept self.new }
+        ensures gate { self.new.gate ≡ self.old.gate }
+    {
+        if self.have < HEADER_LEN {
+            self.begin(alloc, piece)
+        } else {
+            self.go_on(alloc, piece)
+        }
+    }
+}
