@@ -2,6 +2,7 @@
 use Rattle.std.proofs.Common.{◌≡◌, ℕ, Bool, true, false, cond, not, ◌&&◌, ◌||◌, eqb, List, [], ◌∷◌, ◌++◌, refl, sym, ◌∙◌, ap, subst, append_assoc, append-nil}
 use Rattle.std.proofs.lemmas.Bool.{or_parts, or_from, or_right, and_parts, cond-false, cond-true, eqb-true, eqb-false, ne_eqb, eq-eqb, not-true, true_from_ne_false}
 use Rattle.std.specs.List.{list_any, filter}
+use Rattle.ua_frame.specs.After.{each_after, each_after-push}
 use Rattle.ua_chunk.specs.declared.chunk.Chunk.{Chunk}
 use Rattle.ua_chunk.specs.Delivered.{given, delivered, delivered_behind}
 use Rattle.ua_chunk.specs.Gathered.{is_of, is_more, ends, after_last, unfinished}
@@ -29,14 +30,12 @@ unfinished_more id cs c h more = unfinished_own id cs c h ∙ ap (λ b. cond (no
 
 -- ---- what is delivered
 
-behind_push : (before cs : List Chunk) (c : Chunk) → delivered_behind before (cs ++ c ∷ []) ≡ delivered_behind before cs ++ given (before ++ cs) c
-behind_push before [] c = append-nil (given before c) ∙ ap (λ b. given b c) (sym (append-nil before))
-behind_push before (d ∷ cs) c =
-    ap (λ t. given before d ++ t) (behind_push (before ++ d ∷ []) cs c ∙ ap (λ b. delivered_behind (before ++ d ∷ []) cs ++ given b c) (append_assoc before (d ∷ []) cs))
-    ∙ sym (append_assoc (given before d) (delivered_behind (before ++ d ∷ []) cs) (given (before ++ d ∷ cs) c))
-
 pub delivered_push : (cs : List Chunk) (c : Chunk) → delivered (cs ++ c ∷ []) ≡ delivered cs ++ given cs c
-delivered_push cs c = behind_push [] cs c
+delivered_push cs c = each_after-push given cs c
+
+pub delivered_from : (cs : List Chunk) → delivered cs ≡ delivered_behind [] cs
+unfolding each_after
+delivered_from cs = refl
 
 -- ---- the open ids
 

@@ -1,5 +1,6 @@
 -- How an assembler stands.
-use Rattle.std.specs.Prelude.{◌≡◌, ◌≤◌, ◌+◌, ℕ, min, nat_lt, Bool, true, false, ◌&&◌, not, if◌then◌else◌, length, Option, Some, None, List, [], ◌∷◌, ◌++◌}
+use Rattle.std.specs.Prelude.{◌≡◌, ◌≤◌, ◌+◌, ℕ, min, nat_lt, Bool, true, false, ◌&&◌, not, length, Option, Some, None, List, [], ◌∷◌, ◌++◌}
+use Rattle.ua_frame.specs.Reasons.{first_reason}
 use Rattle.ua_chunk.specs.declared.assembler.Assembler.{Assembler}
 use Rattle.ua_chunk.specs.declared.chunk.Chunk.{Chunk}
 use Rattle.ua_chunk.specs.declared.pending.Pending.{Pending}
@@ -49,13 +50,13 @@ pub record SameLimits (a b : Assembler) : Type 0 where
 
 -- why it is refused
 abbrev pub refusal_kept : Assembler → Pending → Chunk → Option AssembleFault
-refusal_kept a m c =
-    if not (may_follow a.last c.sequence) then Some Sequence
-    else if is_abort_flag c.flag && not (is_readable_abort c.body) then Some Unreadable
-    else if is_more_flag c.flag && nat_lt 3 (length a.pending) then Some TooManyOpen
-    else if not (is_abort_flag c.flag) && passes a.octets (length m.message + length c.body) then Some MessageTooLarge
-    else if not (is_abort_flag c.flag) && passes a.chunks (m.chunks + 1) then Some TooManyChunks
-    else None
+refusal_kept a m c = first_reason (
+    (Sequence, not (may_follow a.last c.sequence))
+    ∷ (Unreadable, is_abort_flag c.flag && not (is_readable_abort c.body))
+    ∷ (TooManyOpen, is_more_flag c.flag && nat_lt 3 (length a.pending))
+    ∷ (MessageTooLarge, not (is_abort_flag c.flag) && passes a.octets (length m.message + length c.body))
+    ∷ (TooManyChunks, not (is_abort_flag c.flag) && passes a.chunks (m.chunks + 1))
+    ∷ [])
 
 -- its message with it
 abbrev pub added : Pending → Chunk → Pending

@@ -1,6 +1,7 @@
 -- What lists of chunks deliver.
 use Rattle.std.specs.Prelude.{ℕ, Option, Some, None, List, [], ◌∷◌, ◌++◌}
 use Rattle.ua_builtin.specs.declared.status_code.StatusCode.{StatusCode}
+use Rattle.ua_frame.specs.After.{each_from, each_after}
 use Rattle.ua_chunk.specs.declared.chunk.Chunk.{Chunk}
 use Rattle.ua_chunk.specs.declared.flag.Flag.{Flag}
 use Rattle.ua_chunk.specs.declared.flag.Flag.TheVariants.{F, C, A}
@@ -23,11 +24,10 @@ given_by A before c = aborted c.request (abort_of c.body)
 abbrev pub given : List Chunk → Chunk → List Item
 given before c = given_by c.flag before c
 
--- what each chunk of a list delivers behind those before it
+-- what each chunk of a list delivers behind those before it, those of the first list among them
 abbrev pub delivered_behind : List Chunk → List Chunk → List Item
-delivered_behind before [] = []
-delivered_behind before (c ∷ cs) = given before c ++ delivered_behind (before ++ c ∷ []) cs
+delivered_behind before cs = each_from given before cs
 
--- what a list of chunks delivers, in order
+-- what a list of chunks delivers: what each of them delivers behind those before it, in order
 abbrev pub delivered : List Chunk → List Item
-delivered cs = delivered_behind [] cs
+delivered cs = each_after given cs

@@ -1,5 +1,7 @@
 -- Which chunks are refused.
-use Rattle.std.specs.Prelude.{◌≡◌, ◌≤◌, ℕ, ◌==◌, nat_lt, Bool, ◌&&◌, not, if◌then◌else◌, length, Option, Some, None, List, [], ◌∷◌, ◌++◌}
+use Rattle.std.specs.Prelude.{◌≡◌, ◌≤◌, ℕ, ◌==◌, nat_lt, Bool, ◌&&◌, not, length, Option, Some, None, List, [], ◌∷◌, ◌++◌}
+use Rattle.ua_frame.specs.After.{AllFrom}
+use Rattle.ua_frame.specs.Reasons.{first_reason}
 use Rattle.ua_chunk.specs.declared.chunk.Chunk.{Chunk}
 use Rattle.ua_chunk.specs.declared.fault.AssembleFault.{AssembleFault}
 use Rattle.ua_chunk.specs.declared.fault.AssembleFault.TheVariants.{Sequence, Unreadable, TooManyOpen, MessageTooLarge, TooManyChunks, OutOfMemory, Closed}
@@ -17,15 +19,19 @@ passes limit n = not (limit == 0) && nat_lt limit n
 abbrev pub most_open : ℕ
 most_open = 4
 
--- why a chunk is refused that stands behind these chunks and this last number: the first reason that holds
+-- the reasons why a chunk may be refused that stands behind these chunks and this last number, in the order in which they are judged
+abbrev pub reasons : ℕ → ℕ → Option ℕ → List Chunk → Chunk → List (AssembleFault × Bool)
+reasons octets chunks last cs c =
+    (Sequence, not (may_follow last c.sequence))
+    ∷ (Unreadable, is_abort_flag c.flag && not (is_readable_abort c.body))
+    ∷ (TooManyOpen, nat_lt most_open (length (open_ids (cs ++ c ∷ []))))
+    ∷ (MessageTooLarge, not (is_abort_flag c.flag) && passes octets (length (joined (gathered cs c))))
+    ∷ (TooManyChunks, not (is_abort_flag c.flag) && passes chunks (length (gathered cs c)))
+    ∷ []
+
+-- why the chunk is refused: the first reason that holds
 abbrev pub refusal : ℕ → ℕ → Option ℕ → List Chunk → Chunk → Option AssembleFault
-refusal octets chunks last cs c =
-    if not (may_follow last c.sequence) then Some Sequence
-    else if is_abort_flag c.flag && not (is_readable_abort c.body) then Some Unreadable
-    else if nat_lt most_open (length (open_ids (cs ++ c ∷ []))) then Some TooManyOpen
-    else if not (is_abort_flag c.flag) && passes octets (length (joined (gathered cs c))) then Some MessageTooLarge
-    else if not (is_abort_flag c.flag) && passes chunks (length (gathered cs c)) then Some TooManyChunks
-    else None
+refusal octets chunks last cs c = first_reason (reasons octets chunks last cs c)
 
 -- the fault is this reason, or memory was refused where there is no reason
 abbrev pub IsFor : Option AssembleFault → AssembleFault → Type 0
@@ -42,7 +48,6 @@ abbrev pub TakesAll : ℕ → ℕ → Option ℕ → List Chunk → List Chunk �
 TakesAll octets chunks last before [] = Unit {0}
 TakesAll octets chunks last before (c ∷ cs) = (refusal octets chunks last before c ≡ None) × TakesAll octets chunks (Some c.sequence) (before ++ c ∷ []) cs
 
--- after each of the chunks few messages are unfinished
+-- after each of the chunks, behind those before it, few messages are unfinished
 abbrev pub FewOpen : List Chunk → List Chunk → Type 0
-FewOpen before [] = Unit {0}
-FewOpen before (c ∷ cs) = (length (open_ids (before ++ c ∷ [])) ≤ most_open) × FewOpen (before ++ c ∷ []) cs
+FewOpen before cs = AllFrom (λ us c. length (open_ids (us ++ c ∷ [])) ≤ most_open) before cs

@@ -27,3 +27,31 @@ pub enum AssembleFault {
     #[error("the assembler is closed")]
     Closed,
 }
+
+/// Why an OPN frame is not taken.
+#[derive(Clone, Copy, PartialEq, Eq, Debug, Error)]
+pub enum OpenFault {
+    /// Its security header or its sequence header does not read.
+    #[error("the headers are unreadable")]
+    Unreadable,
+    /// Its security header reads and names another policy than None, whatever follows.
+    #[error("the security policy is not None")]
+    Policy,
+    /// Memory was refused. Reading takes none today, so this never comes.
+    #[error("out of memory")]
+    OutOfMemory,
+}
+
+/// Why a body is not cut. Of several reasons it is the first of these.
+#[derive(Clone, Copy, PartialEq, Eq, Debug, Error)]
+pub enum CutFault {
+    /// It has more octets than the limit.
+    #[error("the body has too many octets")]
+    TooManyOctets,
+    /// It has more chunks than the limit.
+    #[error("the body has too many chunks")]
+    TooManyChunks,
+    /// Memory was refused.
+    #[error("out of memory")]
+    OutOfMemory,
+}

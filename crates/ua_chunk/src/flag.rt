@@ -12,8 +12,35 @@ pub enum Flag {
 }
 
 impl Flag {
-    ghost use Rattle.std.specs.Prelude.{◌≡◌};
-    ghost use Rattle.ua_chunk.specs.Flag.{is_more_flag, is_abort_flag};
+    ghost use Rattle.std.specs.Prelude.{◌≡◌, IsTrue};
+    ghost use Rattle.ua_frame.specs.Kinds.{has_flag};
+    ghost use Rattle.ua_frame.specs.declared.kind.Kind.TheVariants.{Msg};
+    ghost use Rattle.ua_chunk.specs.Flag.{is_more_flag, is_abort_flag, flag_octet};
+
+    /// The flag of this octet.
+    #[inline]
+    pub(crate) fn from_octet(octet: u8) -> Flag
+        requires { IsTrue (has_flag Msg octet) }
+        ensures { octet ≡ flag_octet result }
+    {
+        match octet {
+            b'C' => Flag::C,
+            b'A' => Flag::A,
+            _ => Flag::F,
+        }
+    }
+
+    /// The octet of the flag.
+    #[inline]
+    pub fn octet(self) -> u8
+        ensures { result ≡ flag_octet self }
+    {
+        match self {
+            Flag::F => b'F',
+            Flag::C => b'C',
+            Flag::A => b'A',
+        }
+    }
 
     /// Whether more chunks of the message are to come.
     #[inline]

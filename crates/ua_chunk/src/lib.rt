@@ -8,16 +8,22 @@
 mod abort;
 mod assembler;
 mod chunk;
+mod cutting;
 mod delivered;
 mod fault;
 mod fields;
 mod flag;
+mod lane;
 mod message;
+mod open_chunk;
 mod pending;
 
 pub use assembler::Assembler;
-pub use chunk::Chunk;
+pub use chunk::{Chunk, read_chunk};
+pub use cutting::cut;
 pub use delivered::Delivered;
-pub use fault::AssembleFault;
+pub use fault::{AssembleFault, CutFault, OpenFault};
 pub use flag::Flag;
+pub use lane::Lane;
 pub use message::Message;
+pub use open_chunk::{NONE_POLICY, OpenChunk, read_open};

@@ -1,11 +1,6 @@
 use Rattle.std.proofs.Common.{arith}
 use Rattle.ua_builtin.specs.Number.{number_at-short}
-use Rattle.ua_chunk.proofs.FieldsRead.{number_front}
 use Rattle.ua_chunk.proofs.fields.split_number.Goals as goal
 
 pub returns-then-octets-lt4 : goal.returns-then-octets-lt4
 returns-then-octets-lt4 c = number_at-short 4 c.args.octets.now (omega arith)
-
-pub returns : goal.returns
-returns c =
-    rw (c.read_u32.ensures, c.split_at.ensures.front, c.split_at.ensures.back) (number_front c.args.octets.now (omega arith) (λ i. omega (arith, c.type_inv.octets i)))
