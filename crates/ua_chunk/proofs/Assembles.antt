@@ -92,7 +92,7 @@ many : (limit : ℕ) (us : List Chunk) (c : Chunk) → limit < 2 ^ 32 → passes
 many limit us c h = ap (λ b. not (eqb limit 0) && b) (many_by limit (length us) (length (us ++ c ∷ [])) h (length-append us (c ∷ [])))
 
 -- the chain of reasons, by its tests
-abbrev chain : Bool → Bool → Bool → Bool → Bool → Option AssembleFault
+abbrev pub chain : Bool → Bool → Bool → Bool → Bool → Option AssembleFault
 chain follows unreadable crowded octets chunks =
     cond (not follows) (Some Sequence) (cond unreadable (Some Unreadable) (cond crowded (Some TooManyOpen) (cond octets (Some MessageTooLarge) (cond chunks (Some TooManyChunks) None))))
 

@@ -1,7 +1,10 @@
 pub mod Assembles
 pub mod FieldsRead
+pub mod Fresh
+pub mod Interleaved
 pub mod KeptMessages
 pub mod Layouts
+pub mod Merged
 pub mod Lists
 pub mod OneMore
 pub mod Pieces

@@ -17,6 +17,14 @@ pub filter_push : {X : Type 0} (p : X → Bool) (xs : List X) (y : X) → filter
 filter_push p [] y = refl
 filter_push p (x ∷ xs) y = filter_push_step (p x) (p y) x y (filter p xs) (filter p (xs ++ y ∷ [])) (filter_push p xs y)
 
+pub filter_append : {X : Type 0} (p : X → Bool) (xs ys : List X) → filter p (xs ++ ys) ≡ filter p xs ++ filter p ys
+filter_append p [] ys = refl
+filter_append p (x ∷ xs) ys = filter_one (p x) x (filter p xs) (filter p ys) (filter p (xs ++ ys)) (filter_append p xs ys)
+  where
+    filter_one : {X : Type 0} (b : Bool) (x : X) (f g h : List X) → h ≡ f ++ g → cond b (x ∷ h) h ≡ cond b (x ∷ f) f ++ g
+    filter_one true x f g h e = ap (λ t. x ∷ t) e
+    filter_one false x f g h e = e
+
 after_one : {X : Type 0} (b : Bool) (y : X) → cond (b || false) [] (y ∷ []) ≡ cond b [] (y ∷ [])
 after_one true y = refl
 after_one false y = refl

@@ -14,6 +14,7 @@ mod fault;
 mod fields;
 mod flag;
 mod lane;
+pub mod laws;
 mod message;
 mod open_chunk;
 mod pending;
