@@ -84,7 +84,7 @@ stands_fresh a cs s none = record {
 
 -- ---- what a cut body delivers
 
-cut_behind : (lane : Lane) (s id : ℕ) (p : List ℕ) (ps : List (List ℕ)) (before : List Chunk) → delivered_behind before (numbered lane s id (p ∷ ps)) ≡ Whole id (joined (unfinished id before) ++ flat_map (λ p. p) (p ∷ ps)) ∷ []
+pub cut_behind : (lane : Lane) (s id : ℕ) (p : List ℕ) (ps : List (List ℕ)) (before : List Chunk) → delivered_behind before (numbered lane s id (p ∷ ps)) ≡ Whole id (joined (unfinished id before) ++ flat_map (λ p. p) (p ∷ ps)) ∷ []
 cut_behind lane s id p [] before =
     ap (λ t. Whole id t ∷ []) (joined_push (unfinished id before) (chunk_of lane F s id p) ∙ ap (λ t. joined (unfinished id before) ++ t) (sym (append-nil p)))
 cut_behind lane s id p (q ∷ qs) before =

@@ -1,4 +1,5 @@
 pub mod Assembles
+pub mod CutLaws
 pub mod FieldsRead
 pub mod Fresh
 pub mod Interleaved

@@ -2,15 +2,18 @@
 //!
 //! Each function does nothing; its contract is the law.
 
-ghost use Rattle.std.specs.Prelude.{◌≡◌, ◌++◌, ℕ, List, [], map, Option, IsTrue};
+ghost use Rattle.std.specs.Prelude.{◌≡◌, ◌++◌, ℕ, List, [], ◌∷◌, ◌<◌, length, map, Option, IsTrue, IsFalse};
 ghost use Rattle.ua_chunk.specs.declared.assembler.Assembler.{Assembler};
 ghost use Rattle.ua_chunk.specs.declared.chunk.Chunk.{Chunk};
+ghost use Rattle.ua_chunk.specs.declared.lane.Lane.{Lane};
 ghost use Rattle.ua_chunk.specs.Assembling.{Stands};
+ghost use Rattle.ua_chunk.specs.Cutting.{pieces, chunks_of};
 ghost use Rattle.ua_chunk.specs.Delivered.{delivered};
+ghost use Rattle.ua_chunk.specs.Item.Item.{Whole};
 ghost use Rattle.ua_chunk.specs.Merge.{Sent, HaveOwnIds, AllWithin, Merges, IsMerge, parts_of, part_of, outcomes};
 ghost use Rattle.ua_chunk.specs.Open.{open_ids};
-ghost use Rattle.ua_chunk.specs.Refusal.{FewOpen, TakesAll};
-ghost use Rattle.ua_chunk.specs.Sequence.{ordered};
+ghost use Rattle.ua_chunk.specs.Refusal.{FewOpen, TakesAll, passes};
+ghost use Rattle.ua_chunk.specs.Sequence.{ordered, may_follow};
 
 /// Where nothing is left unfinished, an assembler stands as a new one, and further chunks deliver
 /// what they deliver alone.
@@ -45,6 +48,23 @@ pub fn merged()
     ensures delivered {
         (ms : List Sent) (cs : List Chunk) →
         HaveOwnIds ms → Merges (map parts_of ms) (map part_of cs) → delivered cs ≡ outcomes ms cs
+    }
+{
+}
+
+/// What is cut, taken by an assembler without unfinished messages whose limits it keeps within and
+/// whose last number its first one follows: no chunk is refused, and they deliver just the body,
+/// whole and once.
+pub fn cut_is_delivered()
+    ensures taken {
+        (octets chunks : ℕ) (last : Option ℕ) (lane : Lane) (body : List ℕ) (sequence request : ℕ) →
+        0 < lane.room → 0 < length body → IsTrue (may_follow last sequence) →
+        IsFalse (passes octets (length body)) → IsFalse (passes chunks (length (pieces lane.room body))) →
+        TakesAll octets chunks last [] (chunks_of lane body sequence request)
+    }
+    ensures delivered {
+        (lane : Lane) (body : List ℕ) (sequence request : ℕ) → 0 < lane.room → 0 < length body →
+        delivered (chunks_of lane body sequence request) ≡ Whole request body ∷ []
     }
 {
 }
