@@ -74,7 +74,7 @@ few_open : (cs : List Chunk) (c : Chunk) (rest : List Pending) → length (open_
 few_open cs c rest h e =
     let last = cond (is_more c) (kept c.request (unfinished c.request cs ++ c ∷ []) ∷ []) [] in
     let all : length (open_ids (cs ++ c ∷ [])) ≡ length rest + length last =
-        sym (count_is (cs ++ c ∷ [])) ∙ ap length (messages_push cs c) ∙ length-append (without (is_under c.request) (kept_messages cs)) last ∙ ap (λ t. length t + length last) (sym e) in
+    sym (count_is (cs ++ c ∷ [])) ∙ ap length (messages_push cs c) ∙ length-append (without (is_under c.request) (kept_messages cs)) last ∙ ap (λ t. length t + length last) (sym e) in
     let small : length rest ≤ length (kept_messages cs) = subst (λ (t : List Pending). length t ≤ length (kept_messages cs)) (sym e) (without_shorter (is_under c.request) (kept_messages cs)) in
     few_by (is_more c) (length rest) (length (open_ids (cs ++ c ∷ []))) (kept c.request (unfinished c.request cs ++ c ∷ [])) (omega (arith, small, count_is cs)) all
 

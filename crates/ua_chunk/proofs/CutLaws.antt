@@ -111,8 +111,8 @@ one_open id (c ∷ cs) h =
     let same : c.request ≡ id = eqb-true c.request id parts.0 in
     one_step (is_more c && not (list_any (is_of c.request) cs)) c.request (open_ids cs) (one_open id cs parts.1)
     (λ t.
-        let later : list_any (is_of c.request) cs ≡ false = not-true (list_any (is_of c.request) cs) ((and_parts (is_more c) (not (list_any (is_of c.request) cs)) t).1) in
-        ap open_ids (all_none (is_of id) cs parts.1 (subst (λ (k : ℕ). list_any (is_of k) cs ≡ false) same later)))
+    let later : list_any (is_of c.request) cs ≡ false = not-true (list_any (is_of c.request) cs) ((and_parts (is_more c) (not (list_any (is_of c.request) cs)) t).1) in
+    ap open_ids (all_none (is_of id) cs parts.1 (subst (λ (k : ℕ). list_any (is_of k) cs ≡ false) same later)))
 
 few_all : (id : ℕ) (before cs : List Chunk) → list_all (is_of id) (before ++ cs) ≡ true → FewOpen before cs
 few_all id before [] h = tt
@@ -140,8 +140,8 @@ cut_taken octets chunks last lane b s id pos some h o c =
     let ps = some_pieces lane.room b some in
     subst (λ (t : List (List ℕ)). TakesAll octets chunks last [] (numbered lane s id t)) (sym ps.are)
     (taken_pieces octets chunks last lane s id ps.first ps.others h
-        (ap (λ (t : List (List ℕ)). passes octets (length (flat_map (λ p. p) t))) (sym ps.are) ∙ ap (λ (t : List ℕ). passes octets (length t)) (joined_pieces lane.room b pos some) ∙ o)
-        (ap (λ (t : List (List ℕ)). passes chunks (length t)) (sym ps.are) ∙ c))
+    (ap (λ (t : List (List ℕ)). passes octets (length (flat_map (λ p. p) t))) (sym ps.are) ∙ ap (λ (t : List ℕ). passes octets (length t)) (joined_pieces lane.room b pos some) ∙ o)
+    (ap (λ (t : List (List ℕ)). passes chunks (length t)) (sym ps.are) ∙ c))
 
 pub cut_delivered : (lane : Lane) (b : List ℕ) (s id : ℕ) → 0 < lane.room → 0 < length b → delivered (chunks_of lane b s id) ≡ Whole id b ∷ []
 cut_delivered lane b s id pos some =

@@ -18,8 +18,8 @@ use Rattle.ua_chunk.specs.Abort.{abort_body, abort_of, whole, is_readable_abort}
 taken_below : (n : ℕ) (octets : List ℕ) → ((i : ℕ) → slice_index octets i < 256) → (i : ℕ) → slice_index (take n octets) i < 256
 taken_below n octets h i =
     elim (cases_lt i n) [
-      inl l ↦ subst (λ (x : ℕ). x < 256) (sym (get_or-take n octets i 0 l)) (h i)
-    | inr l ↦ subst (λ (x : ℕ). x < 256) (sym (get_or_past (take n octets) i 0 (omega (arith, length-take n octets)))) (omega arith)
+      | inl l ↦ subst (λ (x : ℕ). x < 256) (sym (get_or-take n octets i 0 l)) (h i)
+      | inr l ↦ subst (λ (x : ℕ). x < 256) (sym (get_or_past (take n octets) i 0 (omega (arith, length-take n octets)))) (omega arith)
     ]
 
 -- the number in the first four octets

@@ -187,8 +187,8 @@ fits_among octets chunks m before c ps1 ps2 q w parts_is g body =
     let all : flat_map (λ p. p) m.pieces ≡ flat_map (λ p. p) ps1 ++ (q ++ flat_map (λ p. p) ps2) = ap (flat_map (λ p. p)) parts_is ∙ flat_map-append (λ (p : List ℕ). p) ps1 (q ∷ ps2) in
     let octets_is : length (joined (gathered before c)) ≡ length (flat_map (λ p. p) ps1) + length q = ap length g.octets ∙ length-append (flat_map (λ p. p) ps1) c.body ∙ ap (λ (b : List ℕ). length (flat_map (λ p. p) ps1) + length b) body in
     let some = holds_pieces m.end m (length (joined (gathered before c))) (length (gathered before c))
-            (omega (arith, octets_is, ap length all, length-append (flat_map (λ p. p) ps1) (q ++ flat_map (λ p. p) ps2), length-append q (flat_map (λ p. p) ps2)))
-            (omega (arith, g.count, ap length parts_is, length-append ps1 (q ∷ ps2))) in
+    (omega (arith, octets_is, ap length all, length-append (flat_map (λ p. p) ps1) (q ++ flat_map (λ p. p) ps2), length-append q (flat_map (λ p. p) ps2)))
+    (omega (arith, g.count, ap length parts_is, length-append ps1 (q ∷ ps2))) in
     record {
       octets_fit = fewer octets (length (joined (gathered before c))) (length (flat_map (λ p. p) (bodies_by m.end m))) some.0 w.octets_fit;
       chunks_fit = fewer chunks (length (gathered before c)) (length (bodies_by m.end m)) some.1 w.chunks_fit;
@@ -234,8 +234,9 @@ pub takes_behind : (octets chunks : ℕ) (ms : List Sent) (last : Option ℕ) (b
 takes_behind octets chunks ms last before [] within merge order few = tt
 takes_behind octets chunks ms last before (c ∷ cs) within merge order few =
     let follow = and_parts (may_follow last c.sequence) (ordered (Some c.sequence) cs) order in
-    let fine = fine_under octets chunks before c (map part_of (filter (is_of c.request) cs)) (sent_under c.request ms) (within c.request) (under_parts ms before c cs merge) in
-    (chain_none (may_follow last c.sequence) (is_abort_flag c.flag && not (is_readable_abort c.body)) (ltb most_open (length (open_ids (before ++ c ∷ []))))
-        (not (is_abort_flag c.flag) && passes octets (length (joined (gathered before c)))) (not (is_abort_flag c.flag) && passes chunks (length (gathered before c)))
-        follow.0 fine.readable (le-ltb most_open (length (open_ids (before ++ c ∷ []))) few.0) fine.octets_fit fine.chunks_fit,
-        takes_behind octets chunks ms (Some c.sequence) (before ++ c ∷ []) cs within (subst (IsMerge ms) (sym (append_assoc before (c ∷ []) cs)) merge) follow.1 few.1)
+    let fine = fine_under octets chunks before c (map part_of (filter (is_of c.request) cs)) (sent_under c.request ms) (within c.request) (under_parts ms before c cs merge) in (
+      chain_none (may_follow last c.sequence) (is_abort_flag c.flag && not (is_readable_abort c.body)) (ltb most_open (length (open_ids (before ++ c ∷ []))))
+          (not (is_abort_flag c.flag) && passes octets (length (joined (gathered before c)))) (not (is_abort_flag c.flag) && passes chunks (length (gathered before c)))
+          follow.0 fine.readable (le-ltb most_open (length (open_ids (before ++ c ∷ []))) few.0) fine.octets_fit fine.chunks_fit,
+      takes_behind octets chunks ms (Some c.sequence) (before ++ c ∷ []) cs within (subst (IsMerge ms) (sym (append_assoc before (c ∷ []) cs)) merge) follow.1 few.1,
+    )

@@ -27,8 +27,8 @@ same_pieces (suc n) zero k b pos some le le' = absurd (omega arith)
 same_pieces (suc n) (suc m) k b pos some le le' =
     same_step (ltb k (length b)) (take k b) b (pieces_in n k (drop k b)) (pieces_in m k (drop k b))
     (λ t.
-        let more : k < length b = ltb-true k (length b) t in
-        same_pieces n m k (drop k b) pos (omega (arith, length-drop k b)) (omega (arith, length-drop k b)) (omega (arith, length-drop k b)))
+    let more : k < length b = ltb-true k (length b) t in
+    same_pieces n m k (drop k b) pos (omega (arith, length-drop k b)) (omega (arith, length-drop k b)) (omega (arith, length-drop k b)))
 
 pub pieces_more : (k : ℕ) (b : List ℕ) → 0 < k → k < length b → pieces k b ≡ take k b ∷ pieces k (drop k b)
 unfolding pieces
@@ -52,8 +52,8 @@ joined_in zero k b pos le some = absurd (omega arith)
 joined_in (suc n) k b pos le some =
     joined_step (ltb k (length b)) (take k b) b (pieces_in n k (drop k b))
     (λ t.
-        let more : k < length b = ltb-true k (length b) t in
-        ap (λ u. take k b ++ u) (joined_in n k (drop k b) pos (omega (arith, length-drop k b)) (omega (arith, length-drop k b))) ∙ take-append-drop k b)
+    let more : k < length b = ltb-true k (length b) t in
+    ap (λ u. take k b ++ u) (joined_in n k (drop k b) pos (omega (arith, length-drop k b)) (omega (arith, length-drop k b))) ∙ take-append-drop k b)
 
 pub joined_pieces : (k : ℕ) (b : List ℕ) → 0 < k → 0 < length b → flat_map (λ p. p) (pieces k b) ≡ b
 unfolding pieces
@@ -89,8 +89,8 @@ counted_in zero limit k b pos le some = absurd (omega arith)
 counted_in (suc n) limit k b pos le some =
     counted_step (ltb k (length b)) limit k (take k b) b (pieces_in n k (drop k b)) some refl
     (λ l t.
-        let more : k < length b = ltb-true k (length b) t in
-        subst (λ (m : ℕ). Counted l k (length (pieces_in n k (drop k b))) m) (length-drop k b) (counted_in n l k (drop k b) pos (omega (arith, length-drop k b)) (omega (arith, length-drop k b))))
+    let more : k < length b = ltb-true k (length b) t in
+    subst (λ (m : ℕ). Counted l k (length (pieces_in n k (drop k b))) m) (length-drop k b) (counted_in n l k (drop k b) pos (omega (arith, length-drop k b)) (omega (arith, length-drop k b))))
 
 same_test : (t : Bool) (a b c d : ℕ) → ltb c d ≡ t → (c < d → a < b) → (d ≤ c → b ≤ a) → ltb a b ≡ ltb c d
 same_test true a b c d e f g = lt-ltb a b (f (ltb-true c d e)) ∙ sym e
@@ -133,7 +133,7 @@ framed lane flag size s id piece e =
     let token = token_header.canonical (lane.channel, lane.token) in
     let numbers = sequence_header.canonical (s, id) in
     let same : size ≡ 8 + length (token ++ (numbers ++ piece)) =
-        omega (arith, e, length-append token (numbers ++ piece), length-append numbers piece, numbers_length lane.channel lane.token, numbers_length s id) in
+    omega (arith, e, length-append token (numbers ++ piece), length-append numbers piece, numbers_length lane.channel lane.token, numbers_length s id) in
     ap (λ (t : List ℕ). 77 ∷ 83 ∷ 71 ∷ flag_octet flag ∷ t)
     (append_assoc (number_octets 4 size) (token ++ numbers) piece
     ∙ ap (λ (t : List ℕ). number_octets 4 size ++ t) (append_assoc token numbers piece)
@@ -173,7 +173,7 @@ cut_more lane id from number next body before rest left out new s pos more e n l
     let frame = frame_octets (frame_of (chunk_of lane C number id (take lane.room rest))) in
     let tail : List ℕ → ℕ → List ℕ = λ (b : List ℕ) (m : ℕ). chunks_octets (chunks_of lane b m id) in
     let rest_is : tail rest number ≡ frame ++ tail (drop lane.room rest) (next_number number) =
-        ap chunks_octets (numbered_more lane number id rest pos more) ∙ chunks_octets-cons (chunk_of lane C number id (take lane.room rest)) (chunks_of lane (drop lane.room rest) (next_number number) id) in
+    ap chunks_octets (numbered_more lane number id rest pos more) ∙ chunks_octets-cons (chunk_of lane C number id (take lane.room rest)) (chunks_of lane (drop lane.room rest) (next_number number) id) in
     record {
       parts =
           ap (λ (t : List ℕ). t ++ tail left next) e

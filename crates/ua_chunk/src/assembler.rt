@@ -1,5 +1,9 @@
 //! Assembles messages from chunks.
 
+ghost use Rattle.std.specs.Prelude.{◌≡◌, ◌+◌};
+ghost use Rattle.ua_chunk.specs.Refusal.{passes};
+ghost use Rattle.ua_chunk.specs.Sequence.{may_follow};
+
 use crate::abort;
 use crate::chunk::Chunk;
 use crate::delivered::Delivered;
@@ -7,10 +11,6 @@ use crate::fault::AssembleFault;
 use crate::flag::Flag;
 use crate::pending::{Pending, PendingMessages};
 use std::alloc::{AllocError, Global};
-
-ghost use Rattle.std.specs.Prelude.{◌≡◌, ◌+◌};
-ghost use Rattle.ua_chunk.specs.Refusal.{passes};
-ghost use Rattle.ua_chunk.specs.Sequence.{may_follow};
 
 /// The most messages that may be unfinished.
 const MOST_OPEN: usize = 4;
@@ -127,20 +127,16 @@ impl Assembler {
     /// assembler takes nothing more.
     pub fn accept(&mut self, chunk: Chunk) -> Result<Option<Delivered>, AssembleFault>
         // What is handed out is what the chunks deliver with this one, and did not without it.
-        ensures given {
-            (cs : List Chunk) → Stands self.old cs →
-            IfOk result (λ d. delivered (cs ++ chunk ∷ []) ≡ delivered cs ++ items_of d)
-        }
+        ensures given { (cs : List Chunk) → Stands self.old cs →
+            IfOk result (λ d. delivered (cs ++ chunk ∷ []) ≡ delivered cs ++ items_of d) }
         ensures stands { (cs : List Chunk) → Stands self.old cs → OnOk result (Stands self.new (cs ++ chunk ∷ [])) }
         ensures last { OnOk result (last_number self.new ≡ Some chunk.sequence) }
         ensures limits { SameLimits self.old self.new }
 
         // A fault is the first reason that holds.
-        ensures faults {
-            (cs : List Chunk) → Stands self.old cs →
+        ensures faults { (cs : List Chunk) → Stands self.old cs →
             let reason = refusal (octet_limit self.old) (chunk_limit self.old) (last_number self.old) cs chunk in
-            MatchResult result (λ _. reason ≡ None) (IsFor reason)
-        }
+            MatchResult result (λ _. reason ≡ None) (IsFor reason) }
         ensures failed { (cs : List Chunk) → Stands self.old cs → OnErr result (IsClosed self.new) }
         ensures closed { IsClosed self.old → (result ≡ Err AssembleFault.Closed) × IsClosed self.new }
     {
@@ -167,11 +163,9 @@ impl Assembler {
         ensures stands { (cs : List Chunk) → Stands self.old cs → OnOk result (Stands self.new cs) }
         ensures last { OnOk result (last_number self.new ≡ Some sequence) }
         ensures limits { SameLimits self.old self.new }
-        ensures follows {
-            (cs : List Chunk) → Stands self.old cs →
+        ensures follows { (cs : List Chunk) → Stands self.old cs →
             MatchResult result (λ _. IsTrue (may_follow (last_number self.old) sequence))
-                (λ fault. (fault ≡ AssembleFault.Sequence) × IsFalse (may_follow (last_number self.old) sequence))
-        }
+            (λ fault. (fault ≡ AssembleFault.Sequence) × IsFalse (may_follow (last_number self.old) sequence)) }
         ensures failed { (cs : List Chunk) → Stands self.old cs → OnErr result (IsClosed self.new) }
         ensures closed { IsClosed self.old → (result ≡ Err AssembleFault.Closed) × IsClosed self.new }
     {

@@ -104,10 +104,8 @@ fn append_chunks(
     requires size { lane.now.room + 24 < 2 ^ 32 }
     requires body { 0 < length body.now }
     requires sequence { sequence ≤ 4294966272 }
-    ensures ok {
-        IfOk result (λ n. (out.new.items ≡ out.old.items ++ chunks_octets (chunks_of lane.now body.now sequence request))
-            × (n ≡ number_after sequence (pieces lane.now.room body.now)))
-    }
+    ensures ok { IfOk result (λ n. (out.new.items ≡ out.old.items ++ chunks_octets (chunks_of lane.now body.now sequence request))
+        × (n ≡ number_after sequence (pieces lane.now.room body.now))) }
     ensures err { OnErr result (Extends out.old.items out.new.items) }
 {
     let mut number = sequence;

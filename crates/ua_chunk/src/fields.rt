@@ -35,10 +35,8 @@ pub fn split_number(octets: &[u8]) -> Option<(u32, &[u8])>
 /// A sequence number and a request id, and the octets behind them.
 #[inline]
 pub fn split_sequence(octets: &[u8]) -> Option<(u32, u32, &[u8])>
-    ensures {
-        MatchOption result (sequence_header.decode octets.now ≡ None)
-            (λ r. sequence_header.decode octets.now ≡ Some ((r.0, r.1), r.2.now))
-    }
+    ensures { MatchOption result (sequence_header.decode octets.now ≡ None)
+        (λ r. sequence_header.decode octets.now ≡ Some ((r.0, r.1), r.2.now)) }
 {
     let (sequence, rest) = split_number(octets)?;
     let (request, rest) = split_number(rest)?;
@@ -49,10 +47,8 @@ pub fn split_sequence(octets: &[u8]) -> Option<(u32, u32, &[u8])>
 #[inline]
 #[tactic(auto, unfolding(ua_builtin::specs::Counted::counted))]
 pub fn split_counted(octets: &[u8]) -> Option<(Option<&[u8]>, &[u8])>
-    ensures {
-        MatchOption result (counted.decode octets.now ≡ None)
-            (λ r. counted.decode octets.now ≡ Some (option_map (λ o. o.now) r.0, r.1.now))
-    }
+    ensures { MatchOption result (counted.decode octets.now ≡ None)
+        (λ r. counted.decode octets.now ≡ Some (option_map (λ o. o.now) r.0, r.1.now)) }
 {
     let (count, rest) = split_number(octets)?;
     if count >= FIRST_NEGATIVE {

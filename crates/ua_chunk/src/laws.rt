@@ -18,53 +18,35 @@ ghost use Rattle.ua_chunk.specs.Sequence.{ordered, may_follow};
 /// Where nothing is left unfinished, an assembler stands as a new one, and further chunks deliver
 /// what they deliver alone.
 pub fn fresh()
-    ensures stands {
-        (assembler : Assembler) (cs : List Chunk) → Stands assembler cs → open_ids cs ≡ [] → Stands assembler []
-    }
-    ensures delivered {
-        (cs ds : List Chunk) → open_ids cs ≡ [] → delivered (cs ++ ds) ≡ delivered cs ++ delivered ds
-    }
-{
-}
+    ensures stands { (assembler : Assembler) (cs : List Chunk) → Stands assembler cs → open_ids cs ≡ [] → Stands assembler [] }
+    ensures delivered { (cs ds : List Chunk) → open_ids cs ≡ [] → delivered (cs ++ ds) ≡ delivered cs ++ delivered ds }
+{}
 
 /// A merge of messages under request ids of their own has, under each id, just the chunks of the
 /// message of that id, in order.
 pub fn merge_by_request()
-    ensures {
-        (ms : List Sent) (cs : List Chunk) → HaveOwnIds ms → Merges (map parts_of ms) (map part_of cs) → IsMerge ms cs
-    }
-{
-}
+    ensures { (ms : List Sent) (cs : List Chunk) → HaveOwnIds ms → Merges (map parts_of ms) (map part_of cs) → IsMerge ms cs }
+{}
 
 /// Messages under request ids of their own, each within the limits and ending in an F or a readable
 /// A, whose chunks come merged in any way, numbered on, with few messages unfinished at a time:
 /// none of the chunks is refused, and each message is delivered at its last chunk, whole and once.
 pub fn merged()
-    ensures taken {
-        (octets chunks : ℕ) (last : Option ℕ) (ms : List Sent) (cs : List Chunk) →
+    ensures taken { (octets chunks : ℕ) (last : Option ℕ) (ms : List Sent) (cs : List Chunk) →
         HaveOwnIds ms → AllWithin octets chunks ms → Merges (map parts_of ms) (map part_of cs) →
-        IsTrue (ordered last cs) → FewOpen [] cs → TakesAll octets chunks last [] cs
-    }
-    ensures delivered {
-        (ms : List Sent) (cs : List Chunk) →
-        HaveOwnIds ms → Merges (map parts_of ms) (map part_of cs) → delivered cs ≡ outcomes ms cs
-    }
-{
-}
+        IsTrue (ordered last cs) → FewOpen [] cs → TakesAll octets chunks last [] cs }
+    ensures delivered { (ms : List Sent) (cs : List Chunk) →
+        HaveOwnIds ms → Merges (map parts_of ms) (map part_of cs) → delivered cs ≡ outcomes ms cs }
+{}
 
 /// What is cut, taken by an assembler without unfinished messages whose limits it keeps within and
 /// whose last number its first one follows: no chunk is refused, and they deliver just the body,
 /// whole and once.
 pub fn cut_is_delivered()
-    ensures taken {
-        (octets chunks : ℕ) (last : Option ℕ) (lane : Lane) (body : List ℕ) (sequence request : ℕ) →
+    ensures taken { (octets chunks : ℕ) (last : Option ℕ) (lane : Lane) (body : List ℕ) (sequence request : ℕ) →
         0 < lane.room → 0 < length body → IsTrue (may_follow last sequence) →
         IsFalse (passes octets (length body)) → IsFalse (passes chunks (length (pieces lane.room body))) →
-        TakesAll octets chunks last [] (chunks_of lane body sequence request)
-    }
-    ensures delivered {
-        (lane : Lane) (body : List ℕ) (sequence request : ℕ) → 0 < lane.room → 0 < length body →
-        delivered (chunks_of lane body sequence request) ≡ Whole request body ∷ []
-    }
-{
-}
+        TakesAll octets chunks last [] (chunks_of lane body sequence request) }
+    ensures delivered { (lane : Lane) (body : List ℕ) (sequence request : ℕ) → 0 < lane.room → 0 < length body →
+        delivered (chunks_of lane body sequence request) ≡ Whole request body ∷ [] }
+{}

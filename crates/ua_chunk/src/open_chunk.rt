@@ -34,10 +34,8 @@ struct PolicyHeader<'a> {
 
 /// The policy header, and the octets behind it.
 fn split_policy(octets: &[u8]) -> Option<(PolicyHeader<'_>, &[u8])>
-    ensures {
-        MatchOption result (policy_header.decode octets.now ≡ None)
-            (λ r. policy_header.decode octets.now ≡ Some ((r.0.channel, (option_map (λ o. o.now) r.0.policy, (option_map (λ o. o.now) r.0.certificate, option_map (λ o. o.now) r.0.thumbprint))), r.1.now))
-    }
+    ensures { MatchOption result (policy_header.decode octets.now ≡ None)
+        (λ r. policy_header.decode octets.now ≡ Some ((r.0.channel, (option_map (λ o. o.now) r.0.policy, (option_map (λ o. o.now) r.0.certificate, option_map (λ o. o.now) r.0.thumbprint))), r.1.now)) }
 {
     let (channel, rest) = split_number(octets)?;
     let (policy, rest) = split_counted(rest)?;
@@ -75,10 +73,8 @@ struct Headers {
 
 /// The headers in front of a body.
 fn read_headers(octets: &[u8]) -> Result<Headers, OpenFault>
-    ensures {
-        MatchResult result (λ h. HeadersAt octets.now h.channel h.sequence h.request h.len)
-            (λ fault. open_refusal octets.now ≡ Some fault)
-    }
+    ensures { MatchResult result (λ h. HeadersAt octets.now h.channel h.sequence h.request h.len)
+        (λ fault. open_refusal octets.now ≡ Some fault) }
 {
     let Some((header, rest)) = split_policy(octets) else {
         return Err(OpenFault::Unreadable);
@@ -100,10 +96,8 @@ fn read_headers(octets: &[u8]) -> Result<Headers, OpenFault>
 /// The chunk of an OPN frame. The certificate and the thumbprint are passed over. It takes no memory.
 pub fn read_open(frame: Frame) -> Result<OpenChunk, OpenFault>
     ensures chunk { IfOk result (IsOpenChunkOf frame) }
-    ensures faults {
-        MatchResult result (λ _. open_refusal frame.body ≡ None)
-            (λ fault. open_refusal frame.body ≡ Some fault)
-    }
+    ensures faults { MatchResult result (λ _. open_refusal frame.body ≡ None)
+        (λ fault. open_refusal frame.body ≡ Some fault) }
 {
     let mut octets = frame.body.into_vec();
     let headers = read_headers(&octets)?;

@@ -19,13 +19,11 @@ impl Pending {
 
     /// Adds the body of one more chunk.
     pub fn add(&mut self, body: Body) -> Result<(), AllocError>
-        ensures {
-            OnOk result (self.new ≡ record {
-              request = self.old.request;
-              chunks = min (self.old.chunks + 1) 4294967295;
-              message = self.old.message ++ body;
-            })
-        }
+        ensures { OnOk result (self.new ≡ record {
+          request = self.old.request;
+          chunks = min (self.old.chunks + 1) 4294967295;
+          message = self.old.message ++ body;
+        }) }
     {
         self.message.add(body)?;
         self.chunks = self.chunks.saturating_add(1);
