@@ -10,3 +10,4 @@ pub mod Lists
 pub mod OneMore
 pub mod Pieces
 pub mod Places
+pub mod ReaderLaws

@@ -15,6 +15,12 @@ use std::alloc::{AllocError, Global};
 /// The most messages that may be unfinished.
 const MOST_OPEN: usize = 4;
 
+/// Behind the numbers above this one the count may start again.
+const LAST_BEFORE_RESTART: u32 = 4294966271;
+
+/// The numbers at which it may start again are below this one.
+const RESTART_LIMIT: u32 = 1024;
+
 /// Assembles messages from the chunks of one direction of a secure channel, of which those of several
 /// messages may come interleaved.
 #[derive(Drop)]
@@ -34,7 +40,8 @@ fn follows(last: Option<u32>, sequence: u32) -> bool
     match last {
         None => true,
         Some(last) => {
-            (last < u32::MAX && sequence == last + 1) || (last > 4294966271 && sequence < 1024)
+            (last < u32::MAX && sequence == last + 1)
+                || (last > LAST_BEFORE_RESTART && sequence < RESTART_LIMIT)
         }
     }
 }

@@ -37,7 +37,7 @@ pub enum OpenFault {
     /// Its security header reads and names another policy than None, whatever follows.
     #[error("the security policy is not None")]
     Policy,
-    /// Memory was refused. Reading takes none today, so this never comes.
+    /// Memory was refused. Reading takes none, so this does not come.
     #[error("out of memory")]
     OutOfMemory,
 }
