@@ -1,1 +1,5 @@
+pub mod Flagged
+pub mod NamesOnce
+pub mod NodeIdForms
 pub mod ReadAnswers
+pub mod Texts

@@ -15,17 +15,13 @@ pub trait Source {
 
     /// Takes as many octets as `out` has. False, which changes nothing, where fewer are left.
     fn take_into(&mut self, out: &mut [u8]) -> bool
-        ensures {
-            MatchBool result (octets self.old ≡ out.new ++ octets self.new)
-                ((length (octets self.old) < length out.old) × (octets self.new ≡ octets self.old) × (out.new ≡ out.old))
-        };
+        ensures { MatchBool result (octets self.old ≡ out.new ++ octets self.new)
+            ((length (octets self.old) < length out.old) × (octets self.new ≡ octets self.old) × (out.new ≡ out.old)) };
 
     /// Passes over the next `n` octets. False, which changes nothing, where fewer are left.
     fn skip(&mut self, n: usize) -> bool
-        ensures {
-            MatchBool result ((n ≤ length (octets self.old)) × (octets self.new ≡ drop n (octets self.old)))
-                ((length (octets self.old) < n) × (octets self.new ≡ octets self.old))
-        };
+        ensures { MatchBool result ((n ≤ length (octets self.old)) × (octets self.new ≡ drop n (octets self.old)))
+            ((length (octets self.old) < n) × (octets self.new ≡ octets self.old)) };
 }
 
 /// A source over a slice.

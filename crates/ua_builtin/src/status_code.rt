@@ -16,38 +16,71 @@ pub struct StatusCode {
 
 impl StatusCode {
     pub const GOOD: StatusCode = StatusCode { code: 0 };
+
     pub const BAD_ENCODING_ERROR: StatusCode = StatusCode { code: 0x8006_0000 };
+
     pub const BAD_DECODING_ERROR: StatusCode = StatusCode { code: 0x8007_0000 };
+
     pub const BAD_UNKNOWN_RESPONSE: StatusCode = StatusCode { code: 0x8009_0000 };
+
     pub const BAD_SERVICE_UNSUPPORTED: StatusCode = StatusCode { code: 0x800B_0000 };
+
     pub const BAD_NOTHING_TO_DO: StatusCode = StatusCode { code: 0x800F_0000 };
+
     pub const BAD_TOO_MANY_OPERATIONS: StatusCode = StatusCode { code: 0x8010_0000 };
+
     pub const BAD_IDENTITY_TOKEN_REJECTED: StatusCode = StatusCode { code: 0x8021_0000 };
+
     pub const BAD_SESSION_ID_INVALID: StatusCode = StatusCode { code: 0x8025_0000 };
+
     pub const BAD_SESSION_NOT_ACTIVATED: StatusCode = StatusCode { code: 0x8027_0000 };
+
     pub const BAD_TIMESTAMPS_TO_RETURN_INVALID: StatusCode = StatusCode { code: 0x802B_0000 };
+
     pub const BAD_NODE_ID_UNKNOWN: StatusCode = StatusCode { code: 0x8034_0000 };
+
     pub const BAD_ATTRIBUTE_ID_INVALID: StatusCode = StatusCode { code: 0x8035_0000 };
+
     pub const BAD_INDEX_RANGE_INVALID: StatusCode = StatusCode { code: 0x8036_0000 };
+
     pub const BAD_INDEX_RANGE_NO_DATA: StatusCode = StatusCode { code: 0x8037_0000 };
+
     pub const BAD_DATA_ENCODING_INVALID: StatusCode = StatusCode { code: 0x8038_0000 };
+
     pub const BAD_NOT_READABLE: StatusCode = StatusCode { code: 0x803A_0000 };
+
     pub const BAD_NOT_WRITABLE: StatusCode = StatusCode { code: 0x803B_0000 };
+
     pub const BAD_REQUEST_TYPE_INVALID: StatusCode = StatusCode { code: 0x8053_0000 };
+
     pub const BAD_SECURITY_MODE_REJECTED: StatusCode = StatusCode { code: 0x8054_0000 };
+
     pub const BAD_SECURITY_POLICY_REJECTED: StatusCode = StatusCode { code: 0x8055_0000 };
+
     pub const BAD_TOO_MANY_SESSIONS: StatusCode = StatusCode { code: 0x8056_0000 };
+
     pub const BAD_MAX_AGE_INVALID: StatusCode = StatusCode { code: 0x8070_0000 };
+
     pub const BAD_WRITE_NOT_SUPPORTED: StatusCode = StatusCode { code: 0x8073_0000 };
+
     pub const BAD_TYPE_MISMATCH: StatusCode = StatusCode { code: 0x8074_0000 };
+
     pub const BAD_TCP_MESSAGE_TYPE_INVALID: StatusCode = StatusCode { code: 0x807E_0000 };
+
     pub const BAD_TCP_SECURE_CHANNEL_UNKNOWN: StatusCode = StatusCode { code: 0x807F_0000 };
+
     pub const BAD_TCP_MESSAGE_TOO_LARGE: StatusCode = StatusCode { code: 0x8080_0000 };
+
     pub const BAD_TCP_NOT_ENOUGH_RESOURCES: StatusCode = StatusCode { code: 0x8081_0000 };
+
     pub const BAD_TCP_ENDPOINT_URL_INVALID: StatusCode = StatusCode { code: 0x8083_0000 };
+
     pub const BAD_SECURE_CHANNEL_TOKEN_UNKNOWN: StatusCode = StatusCode { code: 0x8087_0000 };
+
     pub const BAD_SEQUENCE_NUMBER_INVALID: StatusCode = StatusCode { code: 0x8088_0000 };
+
     pub const BAD_REQUEST_TOO_LARGE: StatusCode = StatusCode { code: 0x80B8_0000 };
+
     pub const BAD_RESPONSE_TOO_LARGE: StatusCode = StatusCode { code: 0x80B9_0000 };
 }
 

@@ -1,0 +1,148 @@
+-- The assembler, which keeps messages, against the lists of chunks.
+use Rattle.std.proofs.Common.{◌≡◌, ℕ, zero, suc, ◌+◌, ◌≤◌, ◌<◌, ◌^◌, min, Bool, true, false, cond, not, ◌&&◌, eqb, ltb, Option, Some, None, List, [], ◌∷◌, ◌++◌, refl, sym, ◌∙◌, ap, subst, arith, length, length-append, append-nil}
+use Rattle.std.proofs.lemmas.Bool.{le-ltb, cases_Bool, ltb-false, ltb-true, lt-ltb}
+use Rattle.std.specs.List.{list_any}
+use Rattle.ua_chunk.specs.declared.assembler.Assembler.{Assembler}
+use Rattle.ua_chunk.specs.declared.chunk.Chunk.{Chunk}
+use Rattle.ua_chunk.specs.declared.pending.Pending.{Pending}
+use Rattle.ua_chunk.specs.declared.flag.Flag.{Flag}
+use Rattle.ua_chunk.specs.declared.flag.Flag.TheVariants.{F, C, A}
+use Rattle.ua_chunk.specs.declared.fault.AssembleFault.{AssembleFault}
+use Rattle.ua_chunk.specs.declared.fault.AssembleFault.TheVariants.{Sequence, Unreadable, TooManyOpen, MessageTooLarge, TooManyChunks, OutOfMemory, Closed}
+use Rattle.ua_chunk.specs.Abort.{is_readable_abort, abort_of}
+use Rattle.ua_chunk.specs.Assembling.{Stands, refusal_kept, added, given_kept, given_kept_by, put_back, put_back_by}
+use Rattle.ua_chunk.specs.Delivered.{given, given_by, delivered, aborted}
+use Rattle.ua_chunk.specs.Flag.{is_more_flag, is_abort_flag}
+use Rattle.ua_chunk.specs.Gathered.{is_of, is_more, unfinished, gathered, joined}
+use Rattle.ua_chunk.specs.Item.{Item}
+use Rattle.ua_chunk.specs.Item.Item.{Whole}
+use Rattle.ua_chunk.specs.Kept.{kept, kept_messages}
+use Rattle.ua_chunk.specs.Open.{open_ids}
+use Rattle.ua_chunk.specs.Pending.{without, is_under, message_of}
+use Rattle.ua_chunk.specs.Refusal.{refusal, passes, most_open, IsFor}
+use Rattle.ua_chunk.specs.Sequence.{may_follow}
+use Rattle.ua_chunk.proofs.OneMore.{delivered_push}
+use Rattle.ua_chunk.proofs.KeptMessages.{message_is, messages_push, joined_push, count_is}
+
+-- ---- what is handed out, and what is kept
+
+added_is : (id : ℕ) (us : List Chunk) (c : Chunk) → added (kept id us) c ≡ kept id (us ++ c ∷ [])
+added_is id us c =
+    let count : min (min (length us) 4294967295 + 1) 4294967295 ≡ min (length (us ++ c ∷ [])) 4294967295 = omega (arith, length-append us (c ∷ [])) in
+    ap (λ n. record { request = id; chunks = n; message = joined us ++ c.body }) count
+    ∙ ap (λ o. record { request = id; chunks = min (length (us ++ c ∷ [])) 4294967295; message = o }) (sym (joined_push us c))
+
+given_flag : (f : Flag) (cs : List Chunk) (c : Chunk) → given_kept_by f (kept c.request (unfinished c.request cs)) c ≡ given_by f cs c
+given_flag F cs c = ap (λ o. Whole c.request o ∷ []) (sym (joined_push (unfinished c.request cs) c))
+given_flag C cs c = refl
+given_flag A cs c = refl
+
+put_back_flag : (f : Flag) (cs : List Chunk) (c : Chunk) → put_back_by f (kept c.request (unfinished c.request cs)) c ≡ cond (is_more_flag f) (kept c.request (unfinished c.request cs ++ c ∷ []) ∷ []) []
+put_back_flag F cs c = refl
+put_back_flag C cs c = ap (λ m. m ∷ []) (added_is c.request (unfinished c.request cs) c)
+put_back_flag A cs c = refl
+
+pub delivered_is : (cs : List Chunk) (c : Chunk) (ms : List Pending) (ds : List Item) → ms ≡ kept_messages cs → ds ≡ given_kept (message_of c.request ms) c → delivered (cs ++ c ∷ []) ≡ delivered cs ++ ds
+delivered_is cs c ms ds e f =
+    delivered_push cs c
+    ∙ ap (λ t. delivered cs ++ t) (sym (given_flag c.flag cs c) ∙ ap (λ m. given_kept m c) (sym (ap (message_of c.request) e ∙ message_is c.request cs)) ∙ sym f)
+
+messages_are : (cs : List Chunk) (c : Chunk) (ms new : List Pending) → ms ≡ kept_messages cs → new ≡ without (is_under c.request) ms ++ put_back (message_of c.request ms) c → new ≡ kept_messages (cs ++ c ∷ [])
+messages_are cs c ms new e f =
+    f
+    ∙ ap (λ t. without (is_under c.request) t ++ put_back (message_of c.request t) c) e
+    ∙ ap (λ m. without (is_under c.request) (kept_messages cs) ++ put_back m c) (message_is c.request cs)
+    ∙ ap (λ t. without (is_under c.request) (kept_messages cs) ++ t) (put_back_flag c.flag cs c)
+    ∙ sym (messages_push cs c)
+
+-- ---- why a chunk is refused
+
+without_shorter : {X : Type 0} (p : X → Bool) (xs : List X) → length (without p xs) ≤ length xs
+without_shorter p [] = omega arith
+without_shorter p (x ∷ xs) = shorter (p x) x xs (without p xs) (without_shorter p xs)
+  where
+    shorter : {X : Type 0} (b : Bool) (x : X) (xs rest : List X) → length rest ≤ length xs → length (cond b xs (x ∷ rest)) ≤ length (x ∷ xs)
+    shorter true x xs rest h = omega arith
+    shorter false x xs rest h = omega arith
+
+few_by : (b : Bool) (n k : ℕ) (m : Pending) → n ≤ 4 → k ≡ n + length (cond b (m ∷ []) []) → ltb 4 k ≡ (b && ltb 3 n)
+few_by true n k m h e = grind arith
+few_by false n k m h e = le-ltb 4 k (omega (arith, e))
+
+few_open : (cs : List Chunk) (c : Chunk) (rest : List Pending) → length (open_ids cs) ≤ 4 → rest ≡ without (is_under c.request) (kept_messages cs)
+    → ltb 4 (length (open_ids (cs ++ c ∷ []))) ≡ (is_more c && ltb 3 (length rest))
+few_open cs c rest h e =
+    let last = cond (is_more c) (kept c.request (unfinished c.request cs ++ c ∷ []) ∷ []) [] in
+    let all : length (open_ids (cs ++ c ∷ [])) ≡ length rest + length last =
+    sym (count_is (cs ++ c ∷ [])) ∙ ap length (messages_push cs c) ∙ length-append (without (is_under c.request) (kept_messages cs)) last ∙ ap (λ t. length t + length last) (sym e) in
+    let small : length rest ≤ length (kept_messages cs) = subst (λ (t : List Pending). length t ≤ length (kept_messages cs)) (sym e) (without_shorter (is_under c.request) (kept_messages cs)) in
+    few_by (is_more c) (length rest) (length (open_ids (cs ++ c ∷ []))) (kept c.request (unfinished c.request cs ++ c ∷ [])) (omega (arith, small, count_is cs)) all
+
+large : (limit : ℕ) (us : List Chunk) (c : Chunk) → passes limit (length (joined (us ++ c ∷ []))) ≡ passes limit (length (joined us) + length c.body)
+large limit us c = ap (passes limit) (ap length (joined_push us c) ∙ length-append (joined us) c.body)
+
+many_by : (limit n m : ℕ) → limit < 2 ^ 32 → m ≡ n + 1 → ltb limit m ≡ ltb limit (min n 4294967295 + 1)
+many_by limit n m h e = many_cases (ltb limit m) refl
+  where
+    many_cases : (b : Bool) → ltb limit m ≡ b → ltb limit m ≡ ltb limit (min n 4294967295 + 1)
+    many_cases true t = t ∙ sym (lt-ltb limit (min n 4294967295 + 1) (omega (arith, ltb-true limit m t)))
+    many_cases false t = t ∙ sym (le-ltb limit (min n 4294967295 + 1) (omega (arith, ltb-false limit m t)))
+
+many : (limit : ℕ) (us : List Chunk) (c : Chunk) → limit < 2 ^ 32 → passes limit (length (us ++ c ∷ [])) ≡ passes limit (min (length us) 4294967295 + 1)
+many limit us c h = ap (λ b. not (eqb limit 0) && b) (many_by limit (length us) (length (us ++ c ∷ [])) h (length-append us (c ∷ [])))
+
+-- the chain of reasons, by its tests
+abbrev pub chain : Bool → Bool → Bool → Bool → Bool → Option AssembleFault
+chain follows unreadable crowded octets chunks =
+    cond (not follows) (Some Sequence) (cond unreadable (Some Unreadable) (cond crowded (Some TooManyOpen) (cond octets (Some MessageTooLarge) (cond chunks (Some TooManyChunks) None))))
+
+pub refusal_is : (a b : Assembler) (cs : List Chunk) (c : Chunk) → Stands a cs → a.chunks < 2 ^ 32 → b.last ≡ a.last → b.octets ≡ a.octets → b.chunks ≡ a.chunks → b.pending ≡ without (is_under c.request) a.pending
+    → refusal a.octets a.chunks a.last cs c ≡ refusal_kept b (message_of c.request a.pending) c
+refusal_is a b cs c s h last octets chunks pending =
+    let m : message_of c.request a.pending ≡ kept c.request (unfinished c.request cs) = ap (message_of c.request) s.unfinished ∙ message_is c.request cs in
+    let p : b.pending ≡ without (is_under c.request) (kept_messages cs) = pending ∙ ap (without (is_under c.request)) s.unfinished in
+    ap (λ t. chain (may_follow a.last c.sequence) (is_abort_flag c.flag && not (is_readable_abort c.body)) t (not (is_abort_flag c.flag) && passes a.octets (length (joined (gathered cs c)))) (not (is_abort_flag c.flag) && passes a.chunks (length (gathered cs c)))) (few_open cs c b.pending s.few p)
+    ∙ ap (λ t. chain (may_follow a.last c.sequence) (is_abort_flag c.flag && not (is_readable_abort c.body)) (is_more c && ltb 3 (length b.pending)) (not (is_abort_flag c.flag) && t) (not (is_abort_flag c.flag) && passes a.chunks (length (gathered cs c)))) (large a.octets (unfinished c.request cs) c)
+    ∙ ap (λ t. chain (may_follow a.last c.sequence) (is_abort_flag c.flag && not (is_readable_abort c.body)) (is_more c && ltb 3 (length b.pending)) (not (is_abort_flag c.flag) && passes a.octets (length (joined (unfinished c.request cs)) + length c.body)) (not (is_abort_flag c.flag) && t)) (many a.chunks (unfinished c.request cs) c h)
+    ∙ ap (λ (t : Pending). chain (may_follow a.last c.sequence) (is_abort_flag c.flag && not (is_readable_abort c.body)) (is_more c && ltb 3 (length b.pending)) (not (is_abort_flag c.flag) && passes a.octets (length t.message + length c.body)) (not (is_abort_flag c.flag) && passes a.chunks (t.chunks + 1))) (sym m)
+    ∙ ap (λ t. chain (may_follow t c.sequence) (is_abort_flag c.flag && not (is_readable_abort c.body)) (is_more c && ltb 3 (length b.pending)) (not (is_abort_flag c.flag) && passes a.octets (length (message_of c.request a.pending).message + length c.body)) (not (is_abort_flag c.flag) && passes a.chunks ((message_of c.request a.pending).chunks + 1))) (sym last)
+    ∙ ap (λ t. chain (may_follow b.last c.sequence) (is_abort_flag c.flag && not (is_readable_abort c.body)) (is_more c && ltb 3 (length b.pending)) (not (is_abort_flag c.flag) && passes t (length (message_of c.request a.pending).message + length c.body)) (not (is_abort_flag c.flag) && passes a.chunks ((message_of c.request a.pending).chunks + 1))) (sym octets)
+    ∙ ap (λ t. chain (may_follow b.last c.sequence) (is_abort_flag c.flag && not (is_readable_abort c.body)) (is_more c && ltb 3 (length b.pending)) (not (is_abort_flag c.flag) && passes b.octets (length (message_of c.request a.pending).message + length c.body)) (not (is_abort_flag c.flag) && passes t ((message_of c.request a.pending).chunks + 1))) (sym chunks)
+
+some_step : (t : Bool) (f : AssembleFault) (o : Option AssembleFault) (g : AssembleFault) → cond t (Some f) o ≡ Some g → (f ≡ g → IsFor (Some f) g) → (o ≡ Some g → IsFor o g) → IsFor (cond t (Some f) o) g
+some_step true f o g e h k = h cc
+some_step false f o g e h k = k e
+
+for_self : (f g : AssembleFault) (P : AssembleFault → Type 0) → f ≡ g → P f → P g
+for_self f g P e p = subst P e p
+
+chain_for : (follows unreadable crowded octets chunks : Bool) (g : AssembleFault) → chain follows unreadable crowded octets chunks ≡ Some g → IsFor (chain follows unreadable crowded octets chunks) g
+chain_for follows unreadable crowded octets chunks g e =
+    some_step (not follows) Sequence (cond unreadable (Some Unreadable) (cond crowded (Some TooManyOpen) (cond octets (Some MessageTooLarge) (cond chunks (Some TooManyChunks) None)))) g e (λ s. for_self Sequence g (IsFor (Some Sequence)) s refl)
+    (λ e1. some_step unreadable Unreadable (cond crowded (Some TooManyOpen) (cond octets (Some MessageTooLarge) (cond chunks (Some TooManyChunks) None))) g e1 (λ s. for_self Unreadable g (IsFor (Some Unreadable)) s refl)
+    (λ e2. some_step crowded TooManyOpen (cond octets (Some MessageTooLarge) (cond chunks (Some TooManyChunks) None)) g e2 (λ s. for_self TooManyOpen g (IsFor (Some TooManyOpen)) s refl)
+    (λ e3. some_step octets MessageTooLarge (cond chunks (Some TooManyChunks) None) g e3 (λ s. for_self MessageTooLarge g (IsFor (Some MessageTooLarge)) s refl)
+    (λ e4. some_step chunks TooManyChunks None g e4 (λ s. for_self TooManyChunks g (IsFor (Some TooManyChunks)) s refl)
+    (λ e5. absurd cc)))))
+
+-- a fault that is the first reason is for it
+pub fault_is_for : (octets chunks : ℕ) (last : Option ℕ) (cs : List Chunk) (c : Chunk) (g : AssembleFault) → refusal octets chunks last cs c ≡ Some g → IsFor (refusal octets chunks last cs c) g
+fault_is_for octets chunks last cs c g e =
+    chain_for (may_follow last c.sequence) (is_abort_flag c.flag && not (is_readable_abort c.body)) (ltb most_open (length (open_ids (cs ++ c ∷ []))))
+    (not (is_abort_flag c.flag) && passes octets (length (joined (gathered cs c)))) (not (is_abort_flag c.flag) && passes chunks (length (gathered cs c))) g e
+
+few_after : (follows unreadable crowded octets chunks : Bool) → chain follows unreadable crowded octets chunks ≡ None → crowded ≡ false
+few_after false unreadable crowded octets chunks e = absurd cc
+few_after true true crowded octets chunks e = absurd cc
+few_after true false true octets chunks e = absurd cc
+few_after true false false octets chunks e = refl
+
+-- an assembler that took a chunk stands after it
+pub stays : (a b : Assembler) (cs : List Chunk) (c : Chunk) → Stands a cs → refusal a.octets a.chunks a.last cs c ≡ None → b.closed ≡ false → b.pending ≡ without (is_under c.request) a.pending ++ put_back (message_of c.request a.pending) c → Stands b (cs ++ c ∷ [])
+stays a b cs c s none closed pending = record {
+  goes_on = closed;
+  unfinished = messages_are cs c a.pending b.pending s.unfinished pending;
+  few = ltb-false most_open (length (open_ids (cs ++ c ∷ [])))
+      (few_after (may_follow a.last c.sequence) (is_abort_flag c.flag && not (is_readable_abort c.body)) (ltb most_open (length (open_ids (cs ++ c ∷ []))))
+      (not (is_abort_flag c.flag) && passes a.octets (length (joined (gathered cs c)))) (not (is_abort_flag c.flag) && passes a.chunks (length (gathered cs c))) none);
+}

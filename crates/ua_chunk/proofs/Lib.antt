@@ -1,0 +1,13 @@
+pub mod Assembles
+pub mod CutLaws
+pub mod FieldsRead
+pub mod Fresh
+pub mod Interleaved
+pub mod KeptMessages
+pub mod Layouts
+pub mod Merged
+pub mod Lists
+pub mod OneMore
+pub mod Pieces
+pub mod Places
+pub mod ReaderLaws

@@ -1,0 +1,118 @@
+-- The definitions in other words, for readers.
+use Rattle.std.proofs.Common.{◌≡◌, ℕ, ◌<◌, ◌^◌, Bool, true, false, cond, not, ◌&&◌, ◌||◌, ◌↔◌, eqb, ltb, Option, Some, None, List, [], ◌∷◌, ◌++◌, refl, sym, ◌∙◌, ap, subst, arith, append-nil}
+use Rattle.std.proofs.lemmas.Bool.{or_parts, and_from, eqb-true, lt-ltb, false_from_ne_true}
+use Rattle.std.specs.List.{list_any, filter}
+use Rattle.ua_builtin.specs.Exact.{some_is}
+use Rattle.ua_builtin.specs.declared.status_code.StatusCode.{StatusCode}
+use Rattle.ua_frame.specs.declared.frame.Frame.{Frame}
+use Rattle.ua_chunk.specs.declared.chunk.Chunk.{Chunk}
+use Rattle.ua_chunk.specs.declared.flag.Flag.{Flag}
+use Rattle.ua_chunk.specs.declared.flag.Flag.TheVariants.{F, C, A}
+use Rattle.ua_chunk.specs.Abort.{abort_body, abort_of, whole}
+use Rattle.ua_chunk.specs.Flag.{flag_octet}
+use Rattle.ua_chunk.specs.Gathered.{is_of, is_more, ends, after_last, unfinished}
+use Rattle.ua_chunk.specs.Layout.{IsChunkOf, token_header, sequence_header, frame_of}
+use Rattle.ua_chunk.specs.Open.{open_ids}
+use Rattle.ua_chunk.proofs.OneMore.{not_open}
+
+-- ---- open ids
+
+no_filter : {X : Type 0} (p : X → Bool) (xs : List X) → list_any p xs ≡ false → filter p xs ≡ []
+no_filter p [] h = refl
+no_filter p (x ∷ xs) h =
+    let parts = or_parts (p x) (list_any p xs) h in
+    ap (λ b. cond b (x ∷ filter p xs) (filter p xs)) parts.0 ∙ no_filter p xs parts.1
+
+rest_empty : {X : Type 0} (b : Bool) (x : X) (al xs : List X) → cond b al (x ∷ xs) ≡ [] → al ≡ []
+rest_empty true x al xs e = e
+rest_empty false x al xs e = absurd cc
+
+left_out : (a b : Bool) → (a || b) ≡ true → a ≡ false → b ≡ true
+left_out true b h e = absurd cc
+left_out false b h e = h
+
+last_alone : (c : Chunk) (f : List Chunk) → is_more c ≡ true → f ≡ [] → after_last ends (c ∷ f) ≡ [] → ⊥
+last_alone c f more none e =
+    let alone : after_last ends (c ∷ []) ≡ [] = subst (λ (t : List Chunk). after_last ends (c ∷ t) ≡ []) none e in
+    let kept : c ∷ [] ≡ [] = subst (λ (b : Bool). cond (not b || false) [] (c ∷ []) ≡ []) more alone in
+    cc
+
+-- own: whether c has the id; more: whether it is a C; later: whether a later chunk has its id
+open_some_step : (own more later : Bool) (id : ℕ) (c : Chunk) (f : List Chunk) (o : List ℕ) → is_of id c ≡ own → is_more c ≡ more → list_any (λ j. eqb j id) (cond (more && not later) (c.request ∷ o) o) ≡ true
+    → after_last ends (cond own (c ∷ f) f) ≡ [] → (own ≡ true → later ≡ false → f ≡ []) → (list_any (λ j. eqb j id) o ≡ true → after_last ends f ≡ [] → ⊥) → ⊥
+open_some_step false false later id c f o s m h e none ih = ih h e
+open_some_step false true true id c f o s m h e none ih = ih h e
+open_some_step false true false id c f o s m h e none ih = ih (left_out (eqb c.request id) (list_any (λ j. eqb j id) o) h s) e
+open_some_step true false later id c f o s m h e none ih = ih h (rest_empty (ends c || list_any ends f) c (after_last ends f) f e)
+open_some_step true true true id c f o s m h e none ih = ih h (rest_empty (ends c || list_any ends f) c (after_last ends f) f e)
+open_some_step true true false id c f o s m h e none ih = last_alone c f m (none refl refl) e
+
+open_some : (id : ℕ) (cs : List Chunk) → list_any (λ j. eqb j id) (open_ids cs) ≡ true → unfinished id cs ≡ [] → ⊥
+open_some id [] h e = absurd cc
+open_some id (c ∷ cs) h e =
+    open_some_step (is_of id c) (is_more c) (list_any (is_of c.request) cs) id c (filter (is_of id) cs) (open_ids cs) refl refl h e
+    (λ own later. no_filter (is_of id) cs (subst (λ (k : ℕ). list_any (is_of k) cs ≡ false) (eqb-true c.request id own) later))
+    (open_some id cs)
+
+pub open_is_unfinished : (id : ℕ) (cs : List Chunk) → (list_any (λ j. eqb j id) (open_ids cs) ≡ false) ↔ (unfinished id cs ≡ [])
+open_is_unfinished id cs = (λ h. not_open id cs h, λ e. false_from_ne_true (list_any (λ j. eqb j id) (open_ids cs)) (λ h. open_some id cs h e))
+
+-- ---- chunks of frames
+
+same_flag : (f g : Flag) → flag_octet f ≡ flag_octet g → f ≡ g
+same_flag F F e = refl
+same_flag F C e = absurd (omega arith)
+same_flag F A e = absurd (omega arith)
+same_flag C F e = absurd (omega arith)
+same_flag C C e = refl
+same_flag C A e = absurd (omega arith)
+same_flag A F e = absurd (omega arith)
+same_flag A C e = absurd (omega arith)
+same_flag A A e = refl
+
+chunk_with : ℕ × ℕ → Flag → ℕ × ℕ → List ℕ → Chunk
+chunk_with security flag sequence body = record { channel = security.0; token = security.1; flag = flag; sequence = sequence.0; request = sequence.1; body = body }
+
+pub one_chunk : (f : Frame) (c d : Chunk) → IsChunkOf f c → IsChunkOf f d → c ≡ d
+unfolding chunk_with
+one_chunk f c d h k =
+    let first : ◌≡◌ {A = (ℕ × ℕ) × List ℕ} ((c.channel, c.token), h.sequence ++ c.body) ((d.channel, d.token), k.sequence ++ d.body) =
+    some_is ((c.channel, c.token), h.sequence ++ c.body) ((d.channel, d.token), k.sequence ++ d.body)
+    (sym (token_header.exact.complete (c.channel, c.token) h.security (h.sequence ++ c.body) h.security_encoded) ∙ ap token_header.decode (sym h.octets ∙ k.octets) ∙ token_header.exact.complete (d.channel, d.token) k.security (k.sequence ++ d.body) k.security_encoded) in
+    let rest : h.sequence ++ c.body ≡ k.sequence ++ d.body = ap (λ (u : (ℕ × ℕ) × List ℕ). u.1) first in
+    let second : ◌≡◌ {A = (ℕ × ℕ) × List ℕ} ((c.sequence, c.request), c.body) ((d.sequence, d.request), d.body) =
+    some_is ((c.sequence, c.request), c.body) ((d.sequence, d.request), d.body)
+    (sym (sequence_header.exact.complete (c.sequence, c.request) h.sequence c.body h.sequence_encoded) ∙ ap sequence_header.decode rest ∙ sequence_header.exact.complete (d.sequence, d.request) k.sequence d.body k.sequence_encoded) in
+    ap (λ (u : (ℕ × ℕ) × List ℕ). chunk_with u.0 c.flag (c.sequence, c.request) c.body) first
+    ∙ ap (λ (g : Flag). chunk_with (d.channel, d.token) g (c.sequence, c.request) c.body) (same_flag c.flag d.flag (sym h.flag ∙ k.flag))
+    ∙ ap (λ (u : (ℕ × ℕ) × List ℕ). chunk_with (d.channel, d.token) d.flag u.0 u.1) second
+
+pub frame_of_chunk : (c : Chunk) → c.channel < 2 ^ 32 → c.token < 2 ^ 32 → c.sequence < 2 ^ 32 → c.request < 2 ^ 32 → IsChunkOf (frame_of c) c
+frame_of_chunk c channel token sequence request = record {
+  flag = refl;
+  security = token_header.canonical (c.channel, c.token);
+  sequence = sequence_header.canonical (c.sequence, c.request);
+  octets = refl;
+  security_encoded = token_header.canonical_encodes (c.channel, c.token) (and_from (ltb c.channel (256 ^ 4)) (ltb c.token (256 ^ 4)) (lt-ltb c.channel (256 ^ 4) channel) (lt-ltb c.token (256 ^ 4) token));
+  sequence_encoded = sequence_header.canonical_encodes (c.sequence, c.request) (and_from (ltb c.sequence (256 ^ 4)) (ltb c.request (256 ^ 4)) (lt-ltb c.sequence (256 ^ 4) sequence) (lt-ltb c.request (256 ^ 4) request));
+}
+
+-- ---- aborts
+
+whole_some : (o : Option ((StatusCode × Option (List ℕ)) × List ℕ)) (a : StatusCode × Option (List ℕ)) → whole o ≡ Some a → o ≡ Some (a, [])
+whole_some None a e = absurd cc
+whole_some (Some (v, [])) a e = ap (λ (w : StatusCode × Option (List ℕ)). Some (w, [])) (some_is v a e)
+whole_some (Some (v, x ∷ rest)) a e = absurd cc
+
+abort_encoded : (b : List ℕ) (a : StatusCode × Option (List ℕ)) → abort_of b ≡ Some a → abort_body.encodes a b
+unfolding abort_of
+abort_encoded b a e =
+    let found = abort_body.exact.sound b a [] (whole_some (abort_body.decode b) a e) in
+    subst (abort_body.encodes a) (sym (found.parts ∙ append-nil found.front)) found.encoded
+
+abort_found : (b : List ℕ) (a : StatusCode × Option (List ℕ)) → abort_body.encodes a b → abort_of b ≡ Some a
+unfolding abort_of
+abort_found b a h = ap whole (ap abort_body.decode (sym (append-nil b)) ∙ abort_body.exact.complete a b [] h)
+
+pub abort_is_encoded : (b : List ℕ) (a : StatusCode × Option (List ℕ)) → (abort_of b ≡ Some a) ↔ abort_body.encodes a b
+abort_is_encoded b a = (abort_encoded b a, abort_found b a)

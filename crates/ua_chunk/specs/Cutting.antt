@@ -1,0 +1,78 @@
+-- The chunks of a body (OPC 10000-6, 6.7.2).
+use Rattle.std.specs.Prelude.{◌≡◌, ◌≤◌, ◌<◌, ◌+◌, ◌==◌, ℕ, zero, suc, nat_lt, Bool, if◌then◌else◌, length, take, drop, map, Option, Some, None, List, [], ◌∷◌, ◌++◌}
+use Rattle.ua_builtin.specs.Format.{Extends}
+use Rattle.ua_builtin.specs.Number.{number_octets}
+use Rattle.ua_frame.specs.Frames.{frames_octets}
+use Rattle.ua_frame.specs.Kinds.{kind_octets}
+use Rattle.ua_frame.specs.declared.kind.Kind.TheVariants.{Msg}
+use Rattle.ua_frame.specs.Reasons.{first_reason}
+use Rattle.ua_chunk.specs.declared.chunk.Chunk.{Chunk}
+use Rattle.ua_chunk.specs.declared.fault.CutFault.{CutFault}
+use Rattle.ua_chunk.specs.declared.fault.CutFault.TheVariants.{TooManyOctets, TooManyChunks, OutOfMemory}
+use Rattle.ua_chunk.specs.declared.flag.Flag.{Flag}
+use Rattle.ua_chunk.specs.declared.flag.Flag.TheVariants.{F, C}
+use Rattle.ua_chunk.specs.declared.lane.Lane.{Lane}
+use Rattle.ua_chunk.specs.Layout.{frame_of, token_header, sequence_header}
+use Rattle.ua_chunk.specs.Flag.{flag_octet}
+use Rattle.ua_chunk.specs.Refusal.{passes}
+use Rattle.ua_chunk.specs.Sequence.{next_number}
+
+-- at most n consecutive pieces of k octets, the last one of 1 to k
+abbrev pub pieces_in : ℕ → ℕ → List ℕ → List (List ℕ)
+pieces_in zero k b = []
+pieces_in (suc n) k b = if nat_lt k (length b) then take k b ∷ pieces_in n k (drop k b) else b ∷ []
+
+-- octets that aren't empty as consecutive pieces of k octets and a last one of 1 to k
+unfoldable pub pieces : ℕ → List ℕ → List (List ℕ)
+pieces k b = pieces_in (length b) k b
+
+-- the flag of a chunk with these pieces behind it
+abbrev pub flag_before : List (List ℕ) → Flag
+flag_before [] = F
+flag_before (p ∷ ps) = C
+
+abbrev pub chunk_of : Lane → Flag → ℕ → ℕ → List ℕ → Chunk
+chunk_of lane f s id b = record { channel = lane.channel; token = lane.token; flag = f; sequence = s; request = id; body = b }
+
+-- one chunk for each piece, all C but the last, which is F, numbered from s
+abbrev pub numbered : Lane → ℕ → ℕ → List (List ℕ) → List Chunk
+numbered lane s id [] = []
+numbered lane s id (p ∷ ps) = chunk_of lane (flag_before ps) s id p ∷ numbered lane (next_number s) id ps
+
+-- the chunks of a body, of as many octets as there is room for, numbered from s
+abbrev pub chunks_of : Lane → List ℕ → ℕ → ℕ → List Chunk
+chunks_of lane b s id = numbered lane s id (pieces lane.room b)
+
+-- the octets of chunks of messages, frame behind frame
+abbrev pub chunks_octets : List Chunk → List ℕ
+chunks_octets cs = frames_octets (map frame_of cs)
+
+-- the octets of a chunk of a message in front of its body, where its frame has this size
+abbrev pub front_octets : Lane → Flag → ℕ → ℕ → ℕ → List ℕ
+front_octets lane flag size s id = kind_octets Msg ++ flag_octet flag ∷ (number_octets 4 size ++ (token_header.canonical (lane.channel, lane.token) ++ sequence_header.canonical (s, id)))
+
+-- the number after as many chunks as there are pieces
+abbrev pub number_after : ℕ → List (List ℕ) → ℕ
+number_after s [] = s
+number_after s (p ∷ ps) = number_after (next_number s) ps
+
+-- why a body isn't cut: the first reason that holds
+abbrev pub cut_refusal : Lane → List ℕ → Option CutFault
+cut_refusal lane b = first_reason (
+    (TooManyOctets, passes lane.octets (length b))
+    ∷ (TooManyChunks, passes lane.chunks (length (pieces lane.room b)))
+    ∷ [])
+
+-- the fault is this reason, or memory was refused where there is no reason
+abbrev pub IsCutFor : Option CutFault → CutFault → Type 0
+IsCutFor reason TooManyOctets = reason ≡ Some TooManyOctets
+IsCutFor reason TooManyChunks = reason ≡ Some TooManyChunks
+IsCutFor reason OutOfMemory = reason ≡ None
+
+-- a body is cut up to these rest octets: what out has with the chunks of the rest is what it is to have
+pub record CutSoFar (lane : Lane) (id : ℕ) (body : List ℕ) (from : ℕ) (before : List ℕ) (rest : List ℕ) (number : ℕ) (out : List ℕ) : Type 0 where
+  pub parts : out ++ chunks_octets (chunks_of lane rest number id) ≡ before ++ chunks_octets (chunks_of lane body from id)
+  pub after : number_after number (pieces lane.room rest) ≡ number_after from (pieces lane.room body)
+  pub some : 0 < length rest
+  pub small : number ≤ 4294966272
+  pub extends : Extends before out

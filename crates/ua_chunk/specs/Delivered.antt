@@ -1,0 +1,33 @@
+-- What lists of chunks deliver.
+use Rattle.std.specs.Prelude.{ℕ, Option, Some, None, List, [], ◌∷◌, ◌++◌}
+use Rattle.ua_builtin.specs.declared.status_code.StatusCode.{StatusCode}
+use Rattle.ua_frame.specs.After.{each_from, each_after}
+use Rattle.ua_chunk.specs.declared.chunk.Chunk.{Chunk}
+use Rattle.ua_chunk.specs.declared.flag.Flag.{Flag}
+use Rattle.ua_chunk.specs.declared.flag.Flag.TheVariants.{F, C, A}
+use Rattle.ua_chunk.specs.Abort.{abort_of}
+use Rattle.ua_chunk.specs.Gathered.{gathered, joined}
+use Rattle.ua_chunk.specs.Item.{Item}
+use Rattle.ua_chunk.specs.Item.Item.{Whole, Aborted}
+
+-- an abort that reads, under its request id
+abbrev pub aborted : ℕ → Option (StatusCode × Option (List ℕ)) → List Item
+aborted id None = []
+aborted id (Some a) = Aborted id a.0 a.1 ∷ []
+
+abbrev pub given_by : Flag → List Chunk → Chunk → List Item
+given_by F before c = Whole c.request (joined (gathered before c)) ∷ []
+given_by C before c = []
+given_by A before c = aborted c.request (abort_of c.body)
+
+-- what a chunk delivers that stands behind these: an F the joined bodies of its message, an A its code and reason
+abbrev pub given : List Chunk → Chunk → List Item
+given before c = given_by c.flag before c
+
+-- what each chunk of a list delivers behind those before it, those of the first list among them
+abbrev pub delivered_behind : List Chunk → List Chunk → List Item
+delivered_behind before cs = each_from given before cs
+
+-- what a list of chunks delivers: what each of them delivers behind those before it, in order
+abbrev pub delivered : List Chunk → List Item
+delivered cs = each_after given cs

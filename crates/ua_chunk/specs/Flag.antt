@@ -1,0 +1,22 @@
+-- The flags of chunks (OPC 10000-6, 6.7.2.2).
+use Rattle.std.specs.Prelude.{ℕ, Bool, true, false}
+use Rattle.ua_chunk.specs.declared.flag.Flag.{Flag}
+use Rattle.ua_chunk.specs.declared.flag.Flag.TheVariants.{F, C, A}
+
+-- more chunks of the message are to come
+abbrev pub is_more_flag : Flag → Bool
+is_more_flag F = false
+is_more_flag C = true
+is_more_flag A = false
+
+-- the message is given up
+abbrev pub is_abort_flag : Flag → Bool
+is_abort_flag F = false
+is_abort_flag C = false
+is_abort_flag A = true
+
+-- the octet of a flag: its letter in ASCII
+abbrev pub flag_octet : Flag → ℕ
+flag_octet F = 70
+flag_octet C = 67
+flag_octet A = 65

@@ -1,0 +1,93 @@
+-- How frames carry chunks under the security policy None (OPC 10000-6, 6.7.2).
+use Rattle.std.specs.Prelude.{◌≡◌, ◌≤◌, ℕ, length, drop, Bool, true, false, not, List, [], ◌∷◌, ◌++◌, Option, Some, None, codes}
+use Rattle.std.specs.Str.{bytes_eq}
+use Rattle.ua_builtin.specs.Counted.{counted}
+use Rattle.ua_builtin.specs.Format.{Flat}
+use Rattle.ua_builtin.specs.Join.{number, both}
+use Rattle.ua_frame.specs.declared.frame.Frame.{Frame}
+use Rattle.ua_frame.specs.declared.kind.Kind.TheVariants.{Msg}
+use Rattle.ua_chunk.specs.declared.chunk.Chunk.{Chunk}
+use Rattle.ua_chunk.specs.declared.open_chunk.OpenChunk.{OpenChunk}
+use Rattle.ua_chunk.specs.declared.fault.OpenFault.{OpenFault}
+use Rattle.ua_chunk.specs.declared.fault.OpenFault.TheVariants.{Unreadable, Policy}
+use Rattle.ua_chunk.specs.Flag.{flag_octet}
+
+-- ---- headers
+
+-- of MSG and CLO: the secure channel's id and the security token's id, UInt32 each
+abbrev pub token_header : Flat (ℕ × ℕ)
+token_header = both (number 4) (number 4)
+
+-- the sequence number and the request id, UInt32 each (OPC 10000-6, 6.7.2.4)
+abbrev pub sequence_header : Flat (ℕ × ℕ)
+sequence_header = both (number 4) (number 4)
+
+-- of OPN: the secure channel's id; the policy's URI, the sender's certificate and the receiver's thumbprint, each octets or null (OPC 10000-6, 6.7.2.3)
+abbrev pub policy_header : Flat (ℕ × (Option (List ℕ) × (Option (List ℕ) × Option (List ℕ))))
+policy_header = both (number 4) (both counted (both counted counted))
+
+-- ---- MSG and CLO
+
+-- the frame carries this chunk: its flag, both headers, and the body behind them
+pub record IsChunkOf (f : Frame) (c : Chunk) : Type 0 where
+  pub flag : f.flag ≡ flag_octet c.flag
+  pub security : List ℕ
+  pub sequence : List ℕ
+  pub octets : f.body ≡ security ++ (sequence ++ c.body)
+  pub security_encoded : token_header.encodes (c.channel, c.token) security
+  pub sequence_encoded : sequence_header.encodes (c.sequence, c.request) sequence
+
+-- the frame of a chunk of a message
+abbrev pub frame_of : Chunk → Frame
+frame_of c = record {
+  kind = Msg;
+  flag = flag_octet c.flag;
+  body = token_header.canonical (c.channel, c.token) ++ (sequence_header.canonical (c.sequence, c.request) ++ c.body);
+}
+
+-- ---- OPN
+
+-- the URI of the security policy None (OPC 10000-7, 6.6.165)
+abbrev pub none_policy : List ℕ
+none_policy = codes "http://opcfoundation.org/UA/SecurityPolicy#None"
+
+-- the policy is None
+abbrev pub is_none_policy : Option (List ℕ) → Bool
+is_none_policy None = false
+is_none_policy (Some policy) = bytes_eq policy none_policy
+
+-- the frame carries this chunk: the policy header with the policy None, whatever the certificate and the thumbprint, the sequence header, and the body behind them
+pub record IsOpenChunkOf (f : Frame) (c : OpenChunk) : Type 0 where
+  pub certificate : Option (List ℕ)
+  pub thumbprint : Option (List ℕ)
+  pub security : List ℕ
+  pub sequence : List ℕ
+  pub octets : f.body ≡ security ++ (sequence ++ c.body)
+  pub security_encoded : policy_header.encodes (c.channel, (Some none_policy, (certificate, thumbprint))) security
+  pub sequence_encoded : sequence_header.encodes (c.sequence, c.request) sequence
+
+-- what is wrong behind a policy header, by whether its policy is None and by what the octets behind it begin with
+abbrev pub sequence_fault : Bool → Option ((ℕ × ℕ) × List ℕ) → Option OpenFault
+sequence_fault false found = Some Policy
+sequence_fault true None = Some Unreadable
+sequence_fault true (Some found) = None
+
+abbrev pub headers_fault : Option ((ℕ × (Option (List ℕ) × (Option (List ℕ) × Option (List ℕ)))) × List ℕ) → Option OpenFault
+headers_fault None = Some Unreadable
+headers_fault (Some found) = sequence_fault (is_none_policy found.0.1.0) (sequence_header.decode found.1)
+
+-- why an OPN frame with this body is refused: its policy header does not read, else it names another policy, else its sequence header does not read
+abbrev pub open_refusal : List ℕ → Option OpenFault
+open_refusal octets = headers_fault (policy_header.decode octets)
+
+-- the octets begin with headers of the policy None, count of them, which hold these numbers
+pub record HeadersAt (octets : List ℕ) (channel sequence request count : ℕ) : Type 0 where
+  pub certificate : Option (List ℕ)
+  pub thumbprint : Option (List ℕ)
+  pub security : List ℕ
+  pub numbers : List ℕ
+  pub within : count ≤ length octets
+  pub parts : octets ≡ security ++ (numbers ++ drop count octets)
+  pub security_encoded : policy_header.encodes (channel, (Some none_policy, (certificate, thumbprint))) security
+  pub sequence_encoded : sequence_header.encodes (sequence, request) numbers
+  pub good : open_refusal octets ≡ None

@@ -1,0 +1,15 @@
+pub mod Abort
+pub mod Assembling
+pub mod Cutting
+pub mod Delivered
+pub mod Flag
+pub mod Gathered
+pub mod Item
+pub mod Kept
+pub mod Layout
+pub mod Merge
+pub mod Open
+pub mod Pending
+pub mod Refusal
+pub mod Sequence
+pub mod View

@@ -1,0 +1,53 @@
+-- Which chunks are refused.
+use Rattle.std.specs.Prelude.{◌≡◌, ◌≤◌, ℕ, ◌==◌, nat_lt, Bool, ◌&&◌, not, length, Option, Some, None, List, [], ◌∷◌, ◌++◌}
+use Rattle.ua_frame.specs.After.{AllFrom}
+use Rattle.ua_frame.specs.Reasons.{first_reason}
+use Rattle.ua_chunk.specs.declared.chunk.Chunk.{Chunk}
+use Rattle.ua_chunk.specs.declared.fault.AssembleFault.{AssembleFault}
+use Rattle.ua_chunk.specs.declared.fault.AssembleFault.TheVariants.{Sequence, Unreadable, TooManyOpen, MessageTooLarge, TooManyChunks, OutOfMemory, Closed}
+use Rattle.ua_chunk.specs.Abort.{is_readable_abort}
+use Rattle.ua_chunk.specs.Flag.{is_abort_flag}
+use Rattle.ua_chunk.specs.Gathered.{gathered, joined}
+use Rattle.ua_chunk.specs.Open.{open_ids}
+use Rattle.ua_chunk.specs.Sequence.{may_follow}
+
+-- n passes the limit, of which 0 is none
+abbrev pub passes : ℕ → ℕ → Bool
+passes limit n = not (limit == 0) && nat_lt limit n
+
+-- the most messages that may be unfinished
+abbrev pub most_open : ℕ
+most_open = 4
+
+-- the reasons why a chunk may be refused that stands behind these chunks and this last number, in the order in which they are judged
+abbrev pub reasons : ℕ → ℕ → Option ℕ → List Chunk → Chunk → List (AssembleFault × Bool)
+reasons octets chunks last cs c =
+    (Sequence, not (may_follow last c.sequence))
+    ∷ (Unreadable, is_abort_flag c.flag && not (is_readable_abort c.body))
+    ∷ (TooManyOpen, nat_lt most_open (length (open_ids (cs ++ c ∷ []))))
+    ∷ (MessageTooLarge, not (is_abort_flag c.flag) && passes octets (length (joined (gathered cs c))))
+    ∷ (TooManyChunks, not (is_abort_flag c.flag) && passes chunks (length (gathered cs c)))
+    ∷ []
+
+-- why the chunk is refused: the first reason that holds
+abbrev pub refusal : ℕ → ℕ → Option ℕ → List Chunk → Chunk → Option AssembleFault
+refusal octets chunks last cs c = first_reason (reasons octets chunks last cs c)
+
+-- the fault is this reason, or memory was refused where there is no reason
+abbrev pub IsFor : Option AssembleFault → AssembleFault → Type 0
+IsFor reason Sequence = reason ≡ Some Sequence
+IsFor reason Unreadable = reason ≡ Some Unreadable
+IsFor reason TooManyOpen = reason ≡ Some TooManyOpen
+IsFor reason MessageTooLarge = reason ≡ Some MessageTooLarge
+IsFor reason TooManyChunks = reason ≡ Some TooManyChunks
+IsFor reason OutOfMemory = reason ≡ None
+IsFor reason Closed = ⊥
+
+-- none of the chunks is refused behind those before it
+abbrev pub TakesAll : ℕ → ℕ → Option ℕ → List Chunk → List Chunk → Type 0
+TakesAll octets chunks last before [] = Unit {0}
+TakesAll octets chunks last before (c ∷ cs) = (refusal octets chunks last before c ≡ None) × TakesAll octets chunks (Some c.sequence) (before ++ c ∷ []) cs
+
+-- after each of the chunks, behind those before it, few messages are unfinished
+abbrev pub FewOpen : List Chunk → List Chunk → Type 0
+FewOpen before cs = AllFrom (λ us c. length (open_ids (us ++ c ∷ [])) ≤ most_open) before cs

@@ -1,0 +1,215 @@
+//! Assembles messages from chunks.
+
+ghost use Rattle.std.specs.Prelude.{◌≡◌, ◌+◌};
+ghost use Rattle.ua_chunk.specs.Refusal.{passes};
+ghost use Rattle.ua_chunk.specs.Sequence.{may_follow};
+
+use crate::abort;
+use crate::chunk::Chunk;
+use crate::delivered::Delivered;
+use crate::fault::AssembleFault;
+use crate::flag::Flag;
+use crate::pending::{Pending, PendingMessages};
+use std::alloc::{AllocError, Global};
+
+/// The most messages that may be unfinished.
+const MOST_OPEN: usize = 4;
+
+/// Behind the numbers above this one the count may start again.
+const LAST_BEFORE_RESTART: u32 = 4294966271;
+
+/// The numbers at which it may start again are below this one.
+const RESTART_LIMIT: u32 = 1024;
+
+/// Assembles messages from the chunks of one direction of a secure channel, of which those of several
+/// messages may come interleaved.
+#[derive(Drop)]
+pub struct Assembler {
+    alloc: Global,
+    octets: u32,
+    chunks: u32,
+    last: Option<u32>,
+    closed: bool,
+    pending: PendingMessages,
+}
+
+/// Whether a number may come after the last one.
+fn follows(last: Option<u32>, sequence: u32) -> bool
+    ensures { result ≡ may_follow last sequence }
+{
+    match last {
+        None => true,
+        Some(last) => {
+            (last < u32::MAX && sequence == last + 1)
+                || (last > LAST_BEFORE_RESTART && sequence < RESTART_LIMIT)
+        }
+    }
+}
+
+/// Whether the sum passes a limit, of which 0 is none.
+#[inline]
+fn sum_passes(limit: u32, a: usize, b: usize) -> bool
+    ensures { result ≡ passes limit (a + b) }
+{
+    limit != 0 && a.saturating_add(b) > limit as usize
+}
+
+impl Assembler {
+    ghost use Rattle.std.specs.Prelude.{◌≡◌, ◌∷◌, ◌++◌, [], List, length, true, false, Some, None, IsTrue, IsFalse, OnOk, OnErr, IfOk, MatchResult};
+    ghost use Rattle.ua_chunk.specs.declared.chunk.Chunk.{Chunk};
+    ghost use Rattle.ua_chunk.specs.Assembling.{Stands, IsClosed, SameLimits, octet_limit, chunk_limit, last_number, refusal_kept, given_kept, put_back};
+    ghost use Rattle.ua_chunk.specs.Delivered.{delivered};
+    ghost use Rattle.ua_chunk.specs.Open.{open_ids, open_octets};
+    ghost use Rattle.ua_chunk.specs.Refusal.{refusal, IsFor};
+    ghost use Rattle.ua_chunk.specs.View.{items_of};
+
+    /// An assembler for messages of at most so many octets and chunks, each 0 for any number, behind
+    /// the last sequence number, if there was one.
+    pub fn new(alloc: Global, octets: u32, chunks: u32, last: Option<u32>) -> Assembler
+        ensures stands { Stands result [] }
+        ensures last { last_number result ≡ last }
+        ensures octets { octet_limit result ≡ octets }
+        ensures chunks { chunk_limit result ≡ chunks }
+    {
+        Assembler {
+            alloc,
+            octets,
+            chunks,
+            last,
+            closed: false,
+            pending: PendingMessages::new(alloc),
+        }
+    }
+
+    /// Why a chunk whose message was taken out is refused, but for memory.
+    fn refusal(&self, pending: &Pending, chunk: &Chunk) -> Option<AssembleFault>
+        ensures { result ≡ refusal_kept self.now pending.now chunk.now }
+    {
+        if !follows(self.last, chunk.sequence) {
+            return Some(AssembleFault::Sequence);
+        }
+        let aborts = chunk.flag.is_abort();
+        if aborts && !abort::is_readable(chunk.body.as_slice()) {
+            return Some(AssembleFault::Unreadable);
+        }
+        if chunk.flag.is_more() && self.pending.len() >= MOST_OPEN {
+            return Some(AssembleFault::TooManyOpen);
+        }
+        if !aborts && sum_passes(self.octets, pending.message.len(), chunk.body.len()) {
+            return Some(AssembleFault::MessageTooLarge);
+        }
+        if !aborts && sum_passes(self.chunks, pending.chunks as usize, 1) {
+            return Some(AssembleFault::TooManyChunks);
+        }
+        None
+    }
+
+    /// Adds a chunk to its message, which was taken out.
+    fn add(&mut self, mut pending: Pending, chunk: Chunk) -> Result<Option<Delivered>, AllocError>
+        ensures given { IfOk result (λ d. items_of d ≡ given_kept pending chunk) }
+        ensures pending { OnOk result (self.new.pending ≡ self.old.pending ++ put_back pending chunk) }
+        ensures last { OnOk result (self.new.last ≡ Some chunk.sequence) }
+        ensures closed { self.new.closed ≡ self.old.closed }
+        ensures limits { SameLimits self.old self.new }
+    {
+        self.last = Some(chunk.sequence);
+        match chunk.flag {
+            Flag::F => {
+                pending.add(chunk.body)?;
+                Ok(Some(Delivered::Whole(chunk.request, pending.message)))
+            }
+            Flag::C => {
+                pending.add(chunk.body)?;
+                self.pending.put(pending)?;
+                Ok(None)
+            }
+            Flag::A => {
+                let abort = abort::read(self.alloc, chunk.body.as_slice())?;
+                Ok(abort.map(|(code, reason)| Delivered::Aborted(chunk.request, code, reason)))
+            }
+        }
+    }
+
+    /// Takes the next chunk, and hands out the message that it ends, if it does. After a fault the
+    /// assembler takes nothing more.
+    pub fn accept(&mut self, chunk: Chunk) -> Result<Option<Delivered>, AssembleFault>
+        // What is handed out is what the chunks deliver with this one, and did not without it.
+        ensures given { (cs : List Chunk) → Stands self.old cs →
+            IfOk result (λ d. delivered (cs ++ chunk ∷ []) ≡ delivered cs ++ items_of d) }
+        ensures stands { (cs : List Chunk) → Stands self.old cs → OnOk result (Stands self.new (cs ++ chunk ∷ [])) }
+        ensures last { OnOk result (last_number self.new ≡ Some chunk.sequence) }
+        ensures limits { SameLimits self.old self.new }
+
+        // A fault is the first reason that holds.
+        ensures faults { (cs : List Chunk) → Stands self.old cs →
+            let reason = refusal (octet_limit self.old) (chunk_limit self.old) (last_number self.old) cs chunk in
+            MatchResult result (λ _. reason ≡ None) (IsFor reason) }
+        ensures failed { (cs : List Chunk) → Stands self.old cs → OnErr result (IsClosed self.new) }
+        ensures closed { IsClosed self.old → (result ≡ Err AssembleFault.Closed) × IsClosed self.new }
+    {
+        if self.closed {
+            return Err(AssembleFault::Closed);
+        }
+        let _chunks = self.chunks;
+        let pending = self.pending.take_out(self.alloc, chunk.request);
+        if let Some(fault) = self.refusal(&pending, &chunk) {
+            self.close();
+            return Err(fault);
+        }
+        match self.add(pending, chunk) {
+            Ok(delivered) => Ok(delivered),
+            Err(_) => {
+                self.close();
+                Err(AssembleFault::OutOfMemory)
+            }
+        }
+    }
+
+    /// Takes the sequence number of a frame that is no part of a message: an OPN or a CLO.
+    pub fn step(&mut self, sequence: u32) -> Result<(), AssembleFault>
+        ensures stands { (cs : List Chunk) → Stands self.old cs → OnOk result (Stands self.new cs) }
+        ensures last { OnOk result (last_number self.new ≡ Some sequence) }
+        ensures limits { SameLimits self.old self.new }
+        ensures follows { (cs : List Chunk) → Stands self.old cs →
+            MatchResult result (λ _. IsTrue (may_follow (last_number self.old) sequence))
+            (λ fault. (fault ≡ AssembleFault.Sequence) × IsFalse (may_follow (last_number self.old) sequence)) }
+        ensures failed { (cs : List Chunk) → Stands self.old cs → OnErr result (IsClosed self.new) }
+        ensures closed { IsClosed self.old → (result ≡ Err AssembleFault.Closed) × IsClosed self.new }
+    {
+        if self.closed {
+            return Err(AssembleFault::Closed);
+        }
+        if !follows(self.last, sequence) {
+            self.close();
+            return Err(AssembleFault::Sequence);
+        }
+        self.last = Some(sequence);
+        Ok(())
+    }
+
+    fn close(&mut self)
+        ensures closed { IsClosed self.new }
+        ensures limits { SameLimits self.old self.new }
+    {
+        self.closed = true;
+        self.pending.clear();
+    }
+
+    /// How many octets are held of the unfinished messages.
+    #[inline]
+    pub fn held(&self) -> usize
+        ensures held { (cs : List Chunk) → Stands self.now cs → result ≡ open_octets cs }
+        ensures closed { IsClosed self.now → result ≡ 0 }
+    {
+        self.pending.held()
+    }
+
+    /// How many messages are unfinished.
+    #[inline]
+    pub fn open_count(&self) -> usize
+        ensures count { (cs : List Chunk) → Stands self.now cs → result ≡ length (open_ids cs) }
+        ensures closed { IsClosed self.now → result ≡ 0 }
+    {
+        self.pending.len()
+    }
+}

@@ -1,0 +1,48 @@
+//! Chunks of messages.
+
+ghost use Rattle.std.specs.Prelude.{◌≤◌, length, IsTrue};
+ghost use Rattle.ua_frame.specs.Kinds.{has_flag};
+ghost use Rattle.ua_frame.specs.declared.kind.Kind.TheVariants.{Msg};
+ghost use Rattle.ua_chunk.specs.Layout.{IsChunkOf};
+
+use crate::fields::{drop_front, front_number};
+use crate::flag::Flag;
+use ua_frame::{Body, Frame};
+
+/// A chunk of a message: a MSG or a CLO frame under the security policy None (OPC 10000-6, 6.7.2).
+#[derive(Drop)]
+pub struct Chunk {
+    /// The secure channel's id.
+    pub channel: u32,
+    /// The security token's id.
+    pub token: u32,
+    pub flag: Flag,
+    /// The sequence number.
+    pub sequence: u32,
+    /// The request id, which all chunks of a message share.
+    pub request: u32,
+    /// What follows the sequence header.
+    pub body: Body,
+}
+
+/// The chunk of a MSG or CLO frame. It takes no memory.
+pub fn read_chunk(frame: Frame) -> Chunk
+    requires flag { IsTrue (has_flag Msg frame.flag) }
+    requires body { 16 ≤ length frame.body }
+    ensures { IsChunkOf frame result }
+{
+    let mut octets = frame.body.into_vec();
+    let (channel, rest) = front_number(&octets);
+    let (token, rest) = front_number(rest);
+    let (sequence, rest) = front_number(rest);
+    let (request, _) = front_number(rest);
+    drop_front(&mut octets, 16);
+    Chunk {
+        channel,
+        token,
+        flag: Flag::from_octet(frame.flag),
+        sequence,
+        request,
+        body: Body::new(octets),
+    }
+}

@@ -1,0 +1,161 @@
+//! Cuts bodies into chunks.
+
+ghost use Rattle.std.specs.Prelude.{◌≡◌, ◌≤◌, ◌<◌, ◌+◌, ◌^◌, ◌++◌, length, OnOk, OnErr, IfOk, MatchResult, None};
+ghost use Rattle.ua_builtin.specs.Format.{Extends};
+ghost use Rattle.ua_frame.specs.Frames.{frame_octets};
+ghost use Rattle.ua_chunk.specs.Cutting.{pieces, front_octets, chunk_of, chunks_of, chunks_octets, number_after, cut_refusal, IsCutFor};
+ghost use Rattle.ua_chunk.specs.Layout.{frame_of};
+ghost use Rattle.ua_chunk.specs.Refusal.{passes};
+ghost use Rattle.ua_chunk.specs.Sequence.{next_number};
+
+use crate::fault::CutFault;
+use crate::flag::Flag;
+use crate::lane::Lane;
+use std::alloc::AllocError;
+use ua_builtin::Wire;
+
+/// The octets of a chunk in front of its body.
+const HEADERS: usize = 24;
+
+/// The greatest sequence number that senders use. The number 1 follows it.
+const LAST_NUMBER: u32 = 4294966272;
+
+/// The number behind one that senders use.
+fn next_number(sequence: u32) -> u32
+    requires { sequence ≤ 4294966272 }
+    ensures { result ≡ next_number sequence }
+{
+    if sequence == LAST_NUMBER {
+        1
+    } else {
+        sequence + 1
+    }
+}
+
+/// Whether octets have more pieces of this size than a limit, of which 0 is none.
+fn has_more_pieces(limit: u32, room: u32, body: &[u8]) -> bool
+    requires room { 0 < room }
+    requires body { 0 < length body.now }
+    ensures { result ≡ passes limit (length (pieces room body.now)) }
+{
+    limit != 0 && body.len() as u128 > u128::from(limit) * u128::from(room)
+}
+
+/// The octets of a body's chunks, if so many can be counted.
+fn octets_of_chunks(room: u32, len: usize) -> Option<usize>
+    requires { 0 < room }
+{
+    let chunks = len.div_ceil(room as usize);
+    chunks.checked_mul(HEADERS)?.checked_add(len)
+}
+
+/// Adds what stands in front of the body of a chunk.
+fn append_headers(
+    lane: &Lane,
+    flag: Flag,
+    size: u32,
+    sequence: u32,
+    request: u32,
+    out: &mut Vec<u8>,
+) -> Result<(), AllocError>
+    ensures ok { OnOk result (out.new.items ≡ out.old.items ++ front_octets lane.now flag size sequence request) }
+    ensures err { OnErr result (Extends out.old.items out.new.items) }
+{
+    let Lane { channel, token, .. } = *lane;
+    out.extend_from_slice(b"MSG")?;
+    out.push(flag.octet())?;
+    size.append(out)?;
+    channel.append(out)?;
+    token.append(out)?;
+    sequence.append(out)?;
+    request.append(out)?;
+    Ok(())
+}
+
+/// Adds the frame of a chunk. After an error some of it may stand there.
+fn append_chunk(
+    lane: &Lane,
+    flag: Flag,
+    sequence: u32,
+    request: u32,
+    piece: &[u8],
+    out: &mut Vec<u8>,
+) -> Result<(), AllocError>
+    requires { length piece.now + 24 < 2 ^ 32 }
+    ensures ok { OnOk result (out.new.items ≡ out.old.items ++ frame_octets (frame_of (chunk_of lane.now flag sequence request piece.now))) }
+    ensures err { OnErr result (Extends out.old.items out.new.items) }
+{
+    let size = (HEADERS + piece.len()) as u32;
+    append_headers(lane, flag, size, sequence, request, out)?;
+    out.extend_from_slice(piece)?;
+    Ok(())
+}
+
+/// Adds the chunks of a body, and answers the number after them. After an error some of them may
+/// stand there.
+fn append_chunks(
+    lane: &Lane,
+    body: &[u8],
+    sequence: u32,
+    request: u32,
+    out: &mut Vec<u8>,
+) -> Result<u32, AllocError>
+    requires room { 0 < lane.now.room }
+    requires size { lane.now.room + 24 < 2 ^ 32 }
+    requires body { 0 < length body.now }
+    requires sequence { sequence ≤ 4294966272 }
+    ensures ok { IfOk result (λ n. (out.new.items ≡ out.old.items ++ chunks_octets (chunks_of lane.now body.now sequence request))
+        × (n ≡ number_after sequence (pieces lane.now.room body.now))) }
+    ensures err { OnErr result (Extends out.old.items out.new.items) }
+{
+    let mut number = sequence;
+    let mut rest = body;
+    while rest.len() > lane.room as usize {
+        let (piece, behind) = rest.split_at(lane.room as usize);
+        append_chunk(lane, Flag::C, number, request, piece, out)?;
+        number = next_number(number);
+        rest = behind;
+    }
+    append_chunk(lane, Flag::F, number, request, rest, out)?;
+    Ok(next_number(number))
+}
+
+/// Adds the chunks of a body at the end, whole frames numbered from `sequence`, and answers the
+/// sequence number after them. A fault leaves what was there.
+pub fn cut(
+    lane: &Lane,
+    body: &[u8],
+    sequence: u32,
+    request: u32,
+    out: &mut Vec<u8>,
+) -> Result<u32, CutFault>
+    requires room { 0 < lane.now.room }
+    requires size { lane.now.room + 24 < 2 ^ 32 }
+    requires body { 0 < length body.now }
+    requires sequence { sequence ≤ 4294966272 }
+    ensures chunks { OnOk result (out.new.items ≡ out.old.items ++ chunks_octets (chunks_of lane.now body.now sequence request)) }
+    ensures next { IfOk result (λ n. n ≡ number_after sequence (pieces lane.now.room body.now)) }
+    ensures faults { MatchResult result (λ _. cut_refusal lane.now body.now ≡ None) (IsCutFor (cut_refusal lane.now body.now)) }
+    ensures err { OnErr result (out.new.items ≡ out.old.items) }
+{
+    if lane.octets != 0 && body.len() > lane.octets as usize {
+        return Err(CutFault::TooManyOctets);
+    }
+    if has_more_pieces(lane.chunks, lane.room, body) {
+        return Err(CutFault::TooManyChunks);
+    }
+    let Some(size) = octets_of_chunks(lane.room, body.len()) else {
+        return Err(CutFault::OutOfMemory);
+    };
+    if out.reserve(size).is_err() {
+        return Err(CutFault::OutOfMemory);
+    }
+    let len = out.len();
+    match append_chunks(lane, body, sequence, request, out) {
+        Ok(next) => Ok(next),
+        Err(_) => {
+            out.truncate(len);
+            Err(CutFault::OutOfMemory)
+        }
+    }
+}

@@ -1,0 +1,32 @@
+//! Chunks of messages (OPC 10000-6, 6.7): their layouts, cutting a body into them, and the assembler
+//! that joins the chunks of messages which come interleaved.
+//!
+//! Its contract is that of [`Assembler`]: whatever chunks came, what is handed out is what their list
+//! delivers, each message at its last chunk, whole and once, and a refusal is the first reason that holds.
+#![tactic(auto)]
+
+mod abort;
+mod assembler;
+mod chunk;
+mod cutting;
+mod delivered;
+mod fault;
+mod fields;
+mod flag;
+mod lane;
+pub mod laws;
+mod message;
+mod open_chunk;
+mod pending;
+#[cfg(test)]
+mod tests;
+
+pub use assembler::Assembler;
+pub use chunk::{Chunk, read_chunk};
+pub use cutting::cut;
+pub use delivered::Delivered;
+pub use fault::{AssembleFault, CutFault, OpenFault};
+pub use flag::Flag;
+pub use lane::Lane;
+pub use message::Message;
+pub use open_chunk::{NONE_POLICY, OpenChunk, read_open};

@@ -1,0 +1,111 @@
+//! Chunks of OPN frames.
+
+ghost use Rattle.std.specs.Prelude.{◌≡◌, ◌++◌, Some, None, MatchOption, MatchResult, IfOk, option_map};
+ghost use Rattle.ua_chunk.specs.Layout.{policy_header, is_none_policy, HeadersAt, IsOpenChunkOf, open_refusal};
+
+use crate::fault::OpenFault;
+use crate::fields::{drop_front, split_counted, split_number, split_sequence};
+use ua_frame::{Body, Frame};
+
+/// The URI of the security policy None.
+pub const NONE_POLICY: &str = "http://opcfoundation.org/UA/SecurityPolicy#None";
+
+/// The chunk of an OPN frame under the security policy None (OPC 10000-6, 6.7.2).
+#[derive(Drop)]
+pub struct OpenChunk {
+    /// The secure channel's id.
+    pub channel: u32,
+    /// The sequence number.
+    pub sequence: u32,
+    /// The request id.
+    pub request: u32,
+    /// What follows the sequence header.
+    pub body: Body,
+}
+
+/// What stands in front of the sequence header of an OPN frame.
+#[derive(Clone, Copy)]
+struct PolicyHeader<'a> {
+    channel: u32,
+    policy: Option<&'a [u8]>,
+    certificate: Option<&'a [u8]>,
+    thumbprint: Option<&'a [u8]>,
+}
+
+/// The policy header, and the octets behind it.
+fn split_policy(octets: &[u8]) -> Option<(PolicyHeader<'_>, &[u8])>
+    ensures { MatchOption result (policy_header.decode octets.now ≡ None)
+        (λ r. policy_header.decode octets.now ≡ Some ((r.0.channel, (option_map (λ o. o.now) r.0.policy, (option_map (λ o. o.now) r.0.certificate, option_map (λ o. o.now) r.0.thumbprint))), r.1.now)) }
+{
+    let (channel, rest) = split_number(octets)?;
+    let (policy, rest) = split_counted(rest)?;
+    let (certificate, rest) = split_counted(rest)?;
+    let (thumbprint, rest) = split_counted(rest)?;
+    Some((
+        PolicyHeader {
+            channel,
+            policy,
+            certificate,
+            thumbprint,
+        },
+        rest,
+    ))
+}
+
+/// Whether a policy is None.
+fn is_none(policy: Option<&[u8]>) -> bool
+    ensures { result ≡ is_none_policy (option_map (λ o. o.now) policy.entry) }
+{
+    match policy {
+        None => false,
+        Some(policy) => policy == NONE_POLICY.as_bytes(),
+    }
+}
+
+/// The numbers in the headers of an OPN frame, and how many octets the headers have.
+#[derive(Clone, Copy)]
+struct Headers {
+    channel: u32,
+    sequence: u32,
+    request: u32,
+    len: usize,
+}
+
+/// The headers in front of a body.
+fn read_headers(octets: &[u8]) -> Result<Headers, OpenFault>
+    ensures { MatchResult result (λ h. HeadersAt octets.now h.channel h.sequence h.request h.len)
+        (λ fault. open_refusal octets.now ≡ Some fault) }
+{
+    let Some((header, rest)) = split_policy(octets) else {
+        return Err(OpenFault::Unreadable);
+    };
+    if !is_none(header.policy) {
+        return Err(OpenFault::Policy);
+    }
+    let Some((sequence, request, rest)) = split_sequence(rest) else {
+        return Err(OpenFault::Unreadable);
+    };
+    Ok(Headers {
+        channel: header.channel,
+        sequence,
+        request,
+        len: octets.len() - rest.len(),
+    })
+}
+
+/// The chunk of an OPN frame. The certificate and the thumbprint are passed over. It takes no memory.
+pub fn read_open(frame: Frame) -> Result<OpenChunk, OpenFault>
+    ensures chunk { IfOk result (IsOpenChunkOf frame) }
+    ensures faults { MatchResult result (λ _. open_refusal frame.body ≡ None)
+        (λ fault. open_refusal frame.body ≡ Some fault) }
+{
+    let mut octets = frame.body.into_vec();
+    let headers = read_headers(&octets)?;
+    drop_front(&mut octets, headers.len);
+    Ok(OpenChunk {
+        channel: headers.channel,
+        sequence: headers.sequence,
+        request: headers.request,
+        body: Body::new(octets),
+    })
+}

@@ -1,0 +1,128 @@
+//! Unfinished messages.
+
+use crate::message::Message;
+use std::alloc::{AllocError, Global};
+use std::marker::Model;
+use ua_frame::Body;
+
+/// What has come of a message.
+#[derive(Drop)]
+pub struct Pending {
+    pub request: u32,
+    /// How many chunks have come. It stops at its greatest number.
+    pub chunks: u32,
+    pub message: Message,
+}
+
+impl Pending {
+    ghost use Rattle.std.specs.Prelude.{◌≡◌, ◌+◌, ◌++◌, min, OnOk};
+
+    /// Adds the body of one more chunk.
+    pub fn add(&mut self, body: Body) -> Result<(), AllocError>
+        ensures { OnOk result (self.new ≡ record {
+          request = self.old.request;
+          chunks = min (self.old.chunks + 1) 4294967295;
+          message = self.old.message ++ body;
+        }) }
+    {
+        self.message.add(body)?;
+        self.chunks = self.chunks.saturating_add(1);
+        Ok(())
+    }
+}
+
+/// The messages that are unfinished, in the order of their last chunks.
+#[derive(Drop)]
+pub struct PendingMessages {
+    messages: Vec<Pending>,
+    held: usize,
+}
+
+impl Model for PendingMessages {
+    ghost use Rattle.std.specs.Prelude.{List, ◌≡◌};
+    ghost use Rattle.ua_chunk.specs.declared.pending.Pending.{Pending};
+
+    ghost Value = { List Pending };
+
+    ghost use Rattle.ua_chunk.specs.Pending.{octets_in};
+
+    ghost view = { λ p. p.messages.items };
+
+    ghost invariant = { λ p. p.held ≡ octets_in p.messages.items };
+}
+
+impl PendingMessages {
+    ghost use Rattle.std.specs.Prelude.{◌≡◌, ◌∷◌, ◌++◌, [], length, OnOk, OnErr};
+    ghost use Rattle.std.specs.List.{position};
+    ghost use Rattle.ua_chunk.specs.Pending.{octets_in, is_under, message_of, without};
+
+    /// No messages.
+    pub fn new(alloc: Global) -> PendingMessages
+        ensures { result ≡ [] }
+    {
+        PendingMessages {
+            messages: Vec::new(alloc),
+            held: 0,
+        }
+    }
+
+    /// How many messages there are.
+    #[inline]
+    pub fn len(&self) -> usize
+        ensures { result ≡ length self.now }
+    {
+        self.messages.len()
+    }
+
+    /// How many octets have come of all of them.
+    #[inline]
+    pub fn held(&self) -> usize
+        ensures { result ≡ octets_in self.now }
+    {
+        self.held
+    }
+
+    /// Drops all of them.
+    pub fn clear(&mut self)
+        ensures { self.new ≡ [] }
+    {
+        self.messages.clear();
+        self.held = 0;
+    }
+
+    fn place(&self, request: u32) -> Option<usize>
+        ensures { result ≡ position (is_under request) self.now }
+    {
+        self.messages.iter().position(|m| m.request == request)
+    }
+
+    /// Takes out what has come under a request id.
+    pub fn take_out(&mut self, alloc: Global, request: u32) -> Pending
+        ensures taken { result ≡ message_of request self.old }
+        ensures rest { self.new ≡ without (is_under request) self.old }
+    {
+        let Some(place) = self.place(request) else {
+            return Pending {
+                request,
+                chunks: 0,
+                message: Message::new(alloc),
+            };
+        };
+        let pending = self.messages.remove(place);
+        self.held -= pending.message.len();
+        pending
+    }
+
+    /// Puts a message at the end. An error changes nothing.
+    pub fn put(&mut self, pending: Pending) -> Result<(), AllocError>
+        ensures ok { OnOk result (self.new ≡ self.old ++ pending ∷ []) }
+        ensures err { OnErr result (self.new ≡ self.old) }
+    {
+        let Some(held) = self.held.checked_add(pending.message.len()) else {
+            return Err(AllocError);
+        };
+        self.messages.push(pending)?;
+        self.held = held;
+        Ok(())
+    }
+}

@@ -1,0 +1,67 @@
+//! The program's commands.
+
+ghost use Rattle.std.specs.Prelude.{◌≡◌, ◌≤◌, ◌⊎◌};
+
+use crate::arguments::{self, Dissect, Request};
+use crate::dissect::dissect_first;
+use crate::fault::Fault;
+use crate::input::{decode_hex, read_file};
+use clap::error::ErrorKind;
+use std::convert::AsStr;
+use std::io::Write;
+use std::rt::Files;
+
+/// What `ua dissect` prints.
+fn dissect<'a, R: Files + AllocGlobal>(rt: &R, asked: &Dissect<'a>) -> Result<String, Fault<'a>> {
+    let mut octets = read_file(rt, asked.file)?;
+    if asked.hex {
+        octets = decode_hex(rt.alloc(), asked.file, octets.as_slice())?;
+    }
+    let mut text = String::new(rt.alloc());
+    dissect_first(rt.alloc(), octets.as_slice(), &mut text)?;
+    Ok(text)
+}
+
+/// Writes a text: the status that follows, or 1 where the writer fails.
+fn print(to: &mut impl Write, text: &str, status: u8) -> u8
+    ensures { (result ≡ status) ⊎ (result ≡ 1) }
+{
+    match to.write_all(text.as_bytes()).and_then(|_| to.flush()) {
+        Ok(()) => status,
+        Err(_) => 1,
+    }
+}
+
+/// Runs the program on its words, of which the first is its name. The status is 0 where the
+/// command is done, 1 where it met a fault or a writer failed, 2 where the words don't parse.
+pub fn run<S: AsStr, R: Files + AllocGlobal, O: Write, E: Write>(
+    rt: &R,
+    words: &[S],
+    out: &mut O,
+    err: &mut E,
+) -> u8
+    ensures { result ≤ 2 }
+{
+    let asked = match arguments::parse(rt.alloc(), words) {
+        Ok(Request::Dissect(asked)) => asked,
+        Ok(Request::Nothing) => return print(err, "ua: a command is missing\n", 2),
+        Err(error) if error.kind() == ErrorKind::OutOfMemory => return print(
+            err,
+            "ua: no memory\n",
+            1,
+        ),
+        Err(error) => {
+            return match format!(in rt.alloc(); "{error}") {
+                Ok(text) => print(err, text.as_str(), 2),
+                Err(_) => print(err, "ua: no memory\n", 1),
+            };
+        }
+    };
+    match dissect(rt, &asked) {
+        Ok(text) => print(out, text.as_str(), 0),
+        Err(fault) => match format!(in rt.alloc(); "ua: {fault}\n") {
+            Ok(text) => print(err, text.as_str(), 1),
+            Err(_) => print(err, "ua: no memory\n", 1),
+        },
+    }
+}

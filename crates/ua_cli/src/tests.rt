@@ -1,0 +1,195 @@
+//! What `ua` prints, and its statuses: no clause speaks of them.
+
+use crate::run::run;
+use std::io::Write;
+use std::process::Abort;
+use std::rt::Files;
+use std::test::Fail;
+use std::{fs, io};
+
+/// The HEL of a client that takes 65535 octets each way, to `opc.tcp://localhost:4840`.
+const HELLO: [u8; 56] = [
+    0x48, 0x45, 0x4C, 0x46, 0x38, 0x00, 0x00, 0x00, 0x00, 0x00, 0x00, 0x00, 0xFF, 0xFF, 0x00, 0x00,
+    0xFF, 0xFF, 0x00, 0x00, 0x00, 0x00, 0x00, 0x00, 0x00, 0x00, 0x00, 0x00, 0x18, 0x00, 0x00, 0x00,
+    0x6F, 0x70, 0x63, 0x2E, 0x74, 0x63, 0x70, 0x3A, 0x2F, 0x2F, 0x6C, 0x6F, 0x63, 0x61, 0x6C, 0x68,
+    0x6F, 0x73, 0x74, 0x3A, 0x34, 0x38, 0x34, 0x30,
+];
+
+/// What `HELLO` prints as.
+const HELLO_LINE: &str =
+    "0 HEL 56 version 0 receive 65535 send 65535 message 0 chunks 0 url opc.tcp://localhost:4840\n";
+
+/// A writer that fails at each call.
+#[derive(Drop)]
+struct Broken;
+
+impl Write for Broken {
+    fn write(&mut self, _octets: &[u8]) -> io::Result<usize> {
+        Err(io::Error::from(io::ErrorKind::Other))
+    }
+
+    fn flush(&mut self) -> io::Result<()> {
+        Ok(())
+    }
+}
+
+/// Runs `ua` on words, and compares what it writes and its status.
+fn expect_run<R: Files + AllocGlobal + Abort>(
+    rt: &R,
+    words: &[&str],
+    want_out: &str,
+    want_err: &str,
+    status: u8,
+) -> Result<(), Fail> {
+    let mut out = Vec::new(rt.alloc());
+    let mut err = Vec::new(rt.alloc());
+    let got = run(rt, words, &mut out, &mut err);
+    assert_eq!(rt; out.as_slice(), want_out.as_bytes());
+    assert_eq!(rt; err.as_slice(), want_err.as_bytes());
+    assert_eq!(rt; got, status);
+    Ok(())
+}
+
+/// Puts octets into a file, and runs `ua dissect` on it.
+fn expect_dissected<R: Files + AllocGlobal + Abort>(
+    rt: &R,
+    octets: &[u8],
+    want: &str,
+) -> Result<(), Fail> {
+    fs::write(rt, "stream.bin", octets)?;
+    expect_run(rt, &["ua", "dissect", "stream.bin"], want, "", 0)?;
+    expect_run(
+        rt,
+        &["ua", "dissect", "--server", "stream.bin"],
+        want,
+        "",
+        0,
+    )
+}
+
+#[test]
+fn prints_the_first_frame(rt: HostRuntime) -> Result<(), Fail> {
+    let rows: [(&[u8], &str); 10] = [
+        (b"", "end 0\n"),
+        (b"HEL", "rest 3\n"),
+        (b"HELF\x01\x20\x00\x00", "rest 8\n"),
+        (b"HELF\x1F\x00\x00\x00", "refused 80070000 at 0\n"),
+        (b"HEXF\x38\x00\x00\x00", "refused 807E0000 at 0\n"),
+        (b"HELF\x01\x00\x00\x01", "refused 80800000 at 0\n"),
+        (b"MSGX\x18\x00\x00\x00", "refused 807E0000 at 0\n"),
+        (b"OPNF\x84\x00\x00\x00\x01\x02", "rest 10\n"),
+        (
+            b"ERRF\x10\x00\x00\x00\x00\x00\x81\x80\xFF\xFF\xFF\xFF",
+            "0 ERR 16 code 80810000 reason null\nend 16\n",
+        ),
+        (
+            b"ERRF\x15\x00\x00\x00\x00\x00\x07\x80\x05\x00\x00\x00a\\\x01\x7Fb",
+            "0 ERR 21 code 80070000 reason a\\\\\\x01\\x7fb\nend 21\n",
+        ),
+    ];
+    for (octets, want) in rows {
+        expect_dissected(&rt, octets, want)?;
+    }
+    Ok(())
+}
+
+#[test]
+fn prints_a_hello_and_what_follows(rt: HostRuntime) -> Result<(), Fail> {
+    let alloc = rt.alloc();
+    let mut stream = HELLO.to_vec(alloc)?;
+    let mut want = String::from_str(alloc, HELLO_LINE)?;
+    want.push_str("end 56\n")?;
+    expect_dissected(&rt, stream.as_slice(), want.as_str())?;
+    stream.extend_from_slice(b"MSG")?;
+    let mut want = String::from_str(alloc, HELLO_LINE)?;
+    want.push_str("rest 3\n")?;
+    expect_dissected(&rt, stream.as_slice(), want.as_str())?;
+    expect_dissected(&rt, &HELLO[..55], "rest 55\n")
+}
+
+#[test]
+fn refuses_octets_behind_the_url(rt: HostRuntime) -> Result<(), Fail> {
+    let mut stream = HELLO.to_vec(rt.alloc())?;
+    stream.extend_from_slice(b"\0")?;
+    if let Some(size) = stream.get_mut(4) {
+        *size = 57;
+    }
+    expect_dissected(&rt, stream.as_slice(), "refused 80070000 at 0\n")
+}
+
+#[test]
+fn prints_an_acknowledge(rt: HostRuntime) -> Result<(), Fail> {
+    let octets: [u8; 28] = [
+        0x41, 0x43, 0x4B, 0x46, 0x1C, 0x00, 0x00, 0x00, 0x00, 0x00, 0x00, 0x00, 0xFF, 0xFF, 0x00,
+        0x00, 0xFF, 0xFF, 0x00, 0x00, 0x00, 0x00, 0x10, 0x00, 0x00, 0x01, 0x00, 0x00,
+    ];
+    let want = "0 ACK 28 version 0 receive 65535 send 65535 message 1048576 chunks 256\nend 28\n";
+    expect_dissected(&rt, octets.as_slice(), want)
+}
+
+#[test]
+fn reads_hexadecimal(rt: HostRuntime) -> Result<(), Fail> {
+    let words = ["ua", "dissect", "digits.txt", "--hex"];
+    fs::write(
+        &rt,
+        "digits.txt",
+        "45 52 52 46\r\n1000 0000\t0000\x0C8180 fFFffFff\n",
+    )?;
+    let want = "0 ERR 16 code 80810000 reason null\nend 16\n";
+    expect_run(&rt, words.as_slice(), want, "", 0)?;
+    for digits in ["4", "4g", "45 5\u{a0}2"] {
+        fs::write(&rt, "digits.txt", digits)?;
+        expect_run(
+            &rt,
+            words.as_slice(),
+            "",
+            "ua: digits.txt is not hexadecimal\n",
+            1,
+        )?;
+    }
+    Ok(())
+}
+
+#[test]
+fn names_a_file_that_it_cannot_read(rt: HostRuntime) -> Result<(), Fail> {
+    let words = ["ua", "dissect", "no such file"];
+    expect_run(
+        &rt,
+        words.as_slice(),
+        "",
+        "ua: cannot read no such file\n",
+        1,
+    )
+}
+
+#[test]
+fn refuses_words_that_do_not_parse(rt: HostRuntime) -> Result<(), Fail> {
+    let rows: [&[&str]; 6] = [
+        &[],
+        &["ua"],
+        &["ua", "dissect"],
+        &["ua", "dissect", "a", "b"],
+        &["ua", "walk"],
+        &["ua", "--help"],
+    ];
+    for words in rows {
+        let mut out = Vec::new(rt.alloc());
+        let mut err = Vec::new(rt.alloc());
+        let status = run(&rt, words, &mut out, &mut err);
+        assert_eq!(rt; status, 2);
+        assert!(rt; out.is_empty());
+        assert!(rt; !err.is_empty());
+    }
+    Ok(())
+}
+
+#[test]
+fn fails_where_a_writer_fails(rt: HostRuntime) -> Result<(), Fail> {
+    fs::write(&rt, "empty.bin", "")?;
+    let words = ["ua", "dissect", "empty.bin"];
+    let mut err = Vec::new(rt.alloc());
+    assert_eq!(rt; run(&rt, words.as_slice(), &mut Broken, &mut err), 1);
+    let mut out = Vec::new(rt.alloc());
+    assert_eq!(rt; run(&rt, &["ua", "walk"], &mut out, &mut Broken), 1);
+    Ok(())
+}
