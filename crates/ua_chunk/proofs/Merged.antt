@@ -156,8 +156,8 @@ record Fine (octets chunks : ℕ) (before : List Chunk) (c : Chunk) : Type 0 whe
   octets_fit : (not (is_abort_flag c.flag) && passes octets (length (joined (gathered before c)))) ≡ false
   chunks_fit : (not (is_abort_flag c.flag) && passes chunks (length (gathered before c))) ≡ false
 
-fine_plain : (octets chunks : ℕ) (before : List Chunk) (c : Chunk) → is_abort_flag c.flag ≡ false → Fits octets chunks before c → Fine octets chunks before c
-fine_plain octets chunks before c e f = record {
+fine_counted : (octets chunks : ℕ) (before : List Chunk) (c : Chunk) → is_abort_flag c.flag ≡ false → Fits octets chunks before c → Fine octets chunks before c
+fine_counted octets chunks before c e f = record {
   readable = ap (λ b. b && not (is_readable_abort c.body)) e;
   octets_fit = ap (λ b. not b && passes octets (length (joined (gathered before c)))) e ∙ f.octets_fit;
   chunks_fit = ap (λ b. not b && passes chunks (length (gathered before c))) e ∙ f.chunks_fit;
@@ -207,14 +207,14 @@ fits_whole octets chunks m before c end w g body =
 
 fine_last : (f : Flag) (octets chunks : ℕ) (m : Sent) (before : List Chunk) (c : Chunk) → m.end ≡ f → IsWithin octets chunks m → Gathers before c m.pieces → part_of c ≡ last_part m → Fine octets chunks before c
 fine_last F octets chunks m before c end w g e =
-    fine_plain octets chunks before c (ap (λ (p : Part). is_abort_flag p.flag) e ∙ ap is_abort_flag end) (fits_whole octets chunks m before c end w g (ap (λ (p : Part). p.body) e))
+    fine_counted octets chunks before c (ap (λ (p : Part). is_abort_flag p.flag) e ∙ ap is_abort_flag end) (fits_whole octets chunks m before c end w g (ap (λ (p : Part). p.body) e))
 fine_last C octets chunks m before c end w g e = let no : is_more_flag C ≡ false = ap is_more_flag (sym end) ∙ w.ending in absurd cc
 fine_last A octets chunks m before c end w g e =
     fine_abort octets chunks before c (ap (λ (p : Part). is_abort_flag p.flag) e ∙ ap is_abort_flag end) (ap (λ (p : Part). is_readable_abort p.body) e ∙ w.readable end)
 
 fine_front : (octets chunks : ℕ) (m : Sent) (before : List Chunk) (c : Chunk) (ys : List Part) → IsWithin octets chunks m → Front m.request m.pieces (last_part m) (map part_of (filter (is_of c.request) before)) ys (part_of c) → Fine octets chunks before c
 fine_front octets chunks m before c ys w (among ps1 ps2 q parts_is xs_is y_is) =
-    fine_plain octets chunks before c (ap (λ (p : Part). is_abort_flag p.flag) y_is) (fits_among octets chunks m before c ps1 ps2 q w parts_is (gathers m.request ps1 before c xs_is) (ap (λ (p : Part). p.body) y_is))
+    fine_counted octets chunks before c (ap (λ (p : Part). is_abort_flag p.flag) y_is) (fits_among octets chunks m before c ps1 ps2 q w parts_is (gathers m.request ps1 before c xs_is) (ap (λ (p : Part). p.body) y_is))
 fine_front octets chunks m before c ys w (at_end xs_is y_is) =
     fine_last m.end octets chunks m before c refl w (gathers m.request m.pieces before c xs_is) y_is
 

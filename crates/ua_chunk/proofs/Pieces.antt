@@ -1,6 +1,7 @@
 -- Cutting a body into pieces.
 use Rattle.std.proofs.Common.{◌≡◌, ℕ, zero, suc, ◌+◌, ◌-◌, ◌*◌, ◌<◌, ◌≤◌, ◌^◌, Bool, true, false, cond, not, ◌&&◌, eqb, ltb, List, [], ◌∷◌, ◌++◌, refl, sym, ◌∙◌, ap, subst, arith, length, take, drop, length-append, length-drop, append_assoc, append-nil, take-append-drop, map}
 use Rattle.std.proofs.lemmas.Bool.{ltb-true, ltb-false, lt-ltb, le-ltb, eqb-true, eqb-false, cond-true, cond-false, cases_Bool}
+use Rattle.std.proofs.lemmas.List.{length-take-le}
 use Rattle.std.specs.List.{flat_map}
 use Rattle.ua_builtin.specs.Format.{Extends}
 use Rattle.ua_builtin.specs.Number.{number_octets, length-number_octets}
@@ -9,7 +10,7 @@ use Rattle.ua_chunk.specs.declared.chunk.Chunk.{Chunk}
 use Rattle.ua_chunk.specs.declared.flag.Flag.{Flag}
 use Rattle.ua_chunk.specs.declared.flag.Flag.TheVariants.{F, C}
 use Rattle.ua_chunk.specs.declared.lane.Lane.{Lane}
-use Rattle.ua_chunk.specs.Cutting.{pieces, pieces_in, flag_before, chunk_of, numbered, chunks_of, chunks_octets, front_octets, number_after, CutSoFar}
+use Rattle.ua_chunk.specs.Cutting.{AreFull, pieces, pieces_in, flag_before, chunk_of, numbered, chunks_of, chunks_octets, front_octets, number_after, CutSoFar}
 use Rattle.ua_chunk.specs.Flag.{flag_octet}
 use Rattle.ua_chunk.specs.Layout.{frame_of, token_header, sequence_header}
 use Rattle.ua_chunk.specs.Refusal.{passes}
@@ -58,6 +59,26 @@ joined_in (suc n) k b pos le some =
 pub joined_pieces : (k : ℕ) (b : List ℕ) → 0 < k → 0 < length b → flat_map (λ p. p) (pieces k b) ≡ b
 unfolding pieces
 joined_pieces k b pos some = joined_in (length b) k b pos (omega arith) some
+
+full_more : (k : ℕ) (x : List ℕ) (ps : List (List ℕ)) → length x ≡ k → AreFull k ps → AreFull k (x ∷ ps)
+full_more k x [] e h = absurd h
+full_more k x (q ∷ ps) e h = (e, h)
+
+full_step : (t : Bool) (k : ℕ) (x b : List ℕ) (ps : List (List ℕ)) → ltb k (length b) ≡ t → 0 < length b → (t ≡ true → (length x ≡ k) × AreFull k ps) → AreFull k (cond t (x ∷ ps) (b ∷ []))
+full_step true k x b ps e some h = let g = h refl in full_more k x ps g.0 g.1
+full_step false k x b ps e some h = (some, ltb-false k (length b) e)
+
+full_in : (n k : ℕ) (b : List ℕ) → 0 < k → length b ≤ n → 0 < length b → AreFull k (pieces_in n k b)
+full_in zero k b pos le some = absurd (omega arith)
+full_in (suc n) k b pos le some =
+    full_step (ltb k (length b)) k (take k b) b (pieces_in n k (drop k b)) refl some
+    (λ t.
+        let more : k < length b = ltb-true k (length b) t in
+        (length-take-le k b (omega arith), full_in n k (drop k b) pos (omega (arith, length-drop k b)) (omega (arith, length-drop k b))))
+
+pub full_pieces : (k : ℕ) (b : List ℕ) → 0 < k → 0 < length b → AreFull k (pieces k b)
+unfolding pieces
+full_pieces k b pos some = full_in (length b) k b pos (omega arith) some
 
 -- ---- how many
 

@@ -26,6 +26,12 @@ pieces_in (suc n) k b = if nat_lt k (length b) then take k b ∷ pieces_in n k (
 unfoldable pub pieces : ℕ → List ℕ → List (List ℕ)
 pieces k b = pieces_in (length b) k b
 
+-- each of the pieces has k octets, but the last one, which has 1 to k
+abbrev pub AreFull : ℕ → List (List ℕ) → Type 0
+AreFull k [] = ⊥
+AreFull k (p ∷ []) = (0 < length p) × (length p ≤ k)
+AreFull k (p ∷ (q ∷ ps)) = (length p ≡ k) × AreFull k (q ∷ ps)
+
 -- the flag of a chunk with these pieces behind it
 abbrev pub flag_before : List (List ℕ) → Flag
 flag_before [] = F

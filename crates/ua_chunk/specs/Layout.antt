@@ -47,7 +47,7 @@ frame_of c = record {
 
 -- ---- OPN
 
--- the URI of the security policy None (OPC 10000-7, 6.6.165)
+-- the URI of the security policy None
 abbrev pub none_policy : List ℕ
 none_policy = codes "http://opcfoundation.org/UA/SecurityPolicy#None"
 

@@ -3,12 +3,12 @@
 //! Each function does nothing; its contract is the law.
 
 ghost use Rattle.std.specs.Prelude.{◌≡◌, ◌<◌, ◌^◌, ◌==◌, ◌++◌, ◌∷◌, ◌↔◌, [], ℕ, List, Option, Some, IsTrue, IsFalse, length, map};
-ghost use Rattle.std.specs.List.{list_any};
+ghost use Rattle.std.specs.List.{flat_map, list_any};
 ghost use Rattle.ua_builtin.specs.declared.status_code.StatusCode.{StatusCode};
 ghost use Rattle.ua_frame.specs.declared.frame.Frame.{Frame};
 ghost use Rattle.ua_chunk.specs.Abort.{abort_body, abort_of};
 ghost use Rattle.ua_chunk.specs.Assembling.{Stands};
-ghost use Rattle.ua_chunk.specs.Cutting.{pieces, chunks_of};
+ghost use Rattle.ua_chunk.specs.Cutting.{AreFull, pieces, chunks_of};
 ghost use Rattle.ua_chunk.specs.Delivered.{delivered};
 ghost use Rattle.ua_chunk.specs.Gathered.{unfinished};
 ghost use Rattle.ua_chunk.specs.Item.Item.{Whole};
@@ -56,6 +56,15 @@ pub fn cut_is_delivered()
     ensures delivered { (lane : Lane) (body : List ℕ) (sequence request : ℕ) → 0 < lane.room → 0 < length body →
         delivered (chunks_of lane body sequence request) ≡ Whole request body ∷ [] }
 {}
+
+/// The pieces of a body, joined, are the body, and each but the last fills its room.
+pub fn pieces_are_full()
+    ensures joined {
+        (room : ℕ) (body : List ℕ) → 0 < room → 0 < length body → flat_map (λ piece. piece) (pieces room body) ≡ body
+    }
+    ensures full { (room : ℕ) (body : List ℕ) → 0 < room → 0 < length body → AreFull room (pieces room body) }
+{
+}
 
 /// The open request ids are those with a C behind their last F or A.
 pub fn open_is_unfinished()
