@@ -25,6 +25,8 @@ mod qualified_name;
 mod signed;
 mod source;
 mod status_code;
+#[cfg(test)]
+mod tests;
 mod text;
 mod wire;
 mod xml_element;
