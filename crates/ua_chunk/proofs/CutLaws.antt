@@ -1,18 +1,18 @@
 -- What is cut is taken and delivered.
-use Rattle.std.proofs.Common.{◌≡◌, ℕ, ◌+◌, ◌<◌, ◌≤◌, ◌^◌, Bool, true, false, cond, not, ◌&&◌, ◌||◌, eqb, ltb, Option, Some, None, List, [], ◌∷◌, ◌++◌, refl, sym, ◌∙◌, ap, subst, arith, length, map, append_assoc, append-nil}
-use Rattle.std.proofs.lemmas.Bool.{or_parts, or_left, or_right, and_parts, and_from, eq-eqb, eqb-true, lt-ltb, not-true, cond-true}
+use Rattle.std.proofs.Common.{◌≡◌, ℕ, ◌+◌, ◌<◌, ◌≤◌, Bool, true, false, cond, not, ◌&&◌, eqb, ltb, Option, Some, None, List, [], ◌∷◌, ◌++◌, refl, sym, ◌∙◌, ap, subst, arith, length, map, append_assoc}
+use Rattle.std.proofs.lemmas.Bool.{or_parts, or_left, or_right, and_parts, and_from, eq-eqb, eqb-true, lt-ltb, not-true}
 use Rattle.std.specs.List.{list_any, list_all, flat_map}
 use Rattle.ua_chunk.specs.declared.chunk.Chunk.{Chunk}
-use Rattle.ua_chunk.specs.declared.flag.Flag.TheVariants.{F, C, A}
+use Rattle.ua_chunk.specs.declared.flag.Flag.TheVariants.{F}
 use Rattle.ua_chunk.specs.declared.lane.Lane.{Lane}
-use Rattle.ua_chunk.specs.Cutting.{pieces, numbered, chunk_of, chunks_of}
+use Rattle.ua_chunk.specs.Cutting.{pieces, numbered, chunks_of}
 use Rattle.ua_chunk.specs.Delivered.{delivered, delivered_behind}
 use Rattle.ua_chunk.specs.Gathered.{is_of, is_more}
 use Rattle.ua_chunk.specs.Item.Item.{Whole}
-use Rattle.ua_chunk.specs.Merge.{Part, part_of, Sent, more_part, parts_of, sent_under, IsWithin, AllWithin, IsMerge, Interleaves, Merges}
+use Rattle.ua_chunk.specs.Merge.{Part, part_of, Sent, more_part, parts_of, IsWithin, AllWithin, Interleaves, Merges}
 use Rattle.ua_chunk.specs.Merge.Interleaves.{none, left}
 use Rattle.ua_chunk.specs.Open.{open_ids}
-use Rattle.ua_chunk.specs.Refusal.{passes, most_open, TakesAll, FewOpen}
+use Rattle.ua_chunk.specs.Refusal.{passes, TakesAll, FewOpen}
 use Rattle.ua_chunk.specs.Sequence.{follows, may_follow, ordered, next_number}
 use Rattle.ua_chunk.proofs.Fresh.{cut_behind, some_pieces}
 use Rattle.ua_chunk.proofs.Interleaved.{merge_by_id}

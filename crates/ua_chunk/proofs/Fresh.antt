@@ -1,20 +1,18 @@
 -- Chunks behind chunks that leave nothing unfinished, and what a cut body delivers.
-use Rattle.std.proofs.Common.{◌≡◌, ℕ, ◌+◌, ◌<◌, ◌≤◌, Bool, true, false, cond, not, ◌&&◌, ◌||◌, eqb, ltb, List, [], ◌∷◌, ◌++◌, refl, sym, ◌∙◌, ap, subst, arith, length, map, append-nil, append_assoc, take, drop, length-drop}
-use Rattle.std.proofs.lemmas.Bool.{or_parts, or_left, or_right, cond-true, cond-false, cases_Bool, and_parts, and_from, eq-eqb, eqb-true, le-ltb}
-use Rattle.std.specs.List.{list_any, list_all, filter, flat_map}
-use Rattle.ua_frame.specs.After.{each_from}
+use Rattle.std.proofs.Common.{◌≡◌, ℕ, ◌<◌, Bool, true, false, cond, ◌||◌, eqb, ltb, List, [], ◌∷◌, ◌++◌, refl, sym, ◌∙◌, ap, arith, length, map, append-nil, append_assoc, take, drop}
+use Rattle.std.proofs.lemmas.Bool.{cond-true, eq-eqb}
+use Rattle.std.specs.List.{list_any, filter, flat_map}
 use Rattle.ua_chunk.specs.declared.assembler.Assembler.{Assembler}
 use Rattle.ua_chunk.specs.declared.chunk.Chunk.{Chunk}
 use Rattle.ua_chunk.specs.declared.flag.Flag.{Flag}
 use Rattle.ua_chunk.specs.declared.flag.Flag.TheVariants.{F, C, A}
 use Rattle.ua_chunk.specs.declared.lane.Lane.{Lane}
 use Rattle.ua_chunk.specs.Assembling.{Stands}
-use Rattle.ua_chunk.specs.Cutting.{pieces, pieces_in, numbered, chunk_of, chunks_of, flag_before}
+use Rattle.ua_chunk.specs.Cutting.{pieces, pieces_in, numbered, chunk_of}
 use Rattle.ua_chunk.specs.Delivered.{given, given_by, delivered, delivered_behind}
-use Rattle.ua_chunk.specs.Gathered.{is_of, ends, after_last, unfinished, gathered, joined}
-use Rattle.ua_chunk.specs.Item.{Item}
+use Rattle.ua_chunk.specs.Gathered.{is_of, ends, after_last, unfinished, joined}
 use Rattle.ua_chunk.specs.Item.Item.{Whole}
-use Rattle.ua_chunk.specs.Kept.{kept_messages, kept}
+use Rattle.ua_chunk.specs.Kept.{kept}
 use Rattle.ua_chunk.specs.Open.{open_ids}
 use Rattle.ua_chunk.specs.Sequence.{next_number}
 use Rattle.ua_chunk.proofs.Lists.{filter_append}

@@ -1,6 +1,6 @@
 -- Merged lists, seen by request ids.
-use Rattle.std.proofs.Common.{◌≡◌, ℕ, Bool, true, false, cond, ◌&&◌, ◌||◌, eqb, Option, Some, None, List, [], ◌∷◌, ◌++◌, refl, sym, ◌∙◌, ap, subst, map}
-use Rattle.std.proofs.lemmas.Bool.{or_parts, or_from, and_parts, and_from, cond-true, cond-false, eqb-true, eq-eqb, false_from_ne_true}
+use Rattle.std.proofs.Common.{◌≡◌, ℕ, Bool, true, false, cond, eqb, Some, None, List, [], ◌∷◌, ◌++◌, refl, ◌∙◌, ap, subst, map}
+use Rattle.std.proofs.lemmas.Bool.{or_parts, or_from, and_parts, and_from, cond-true, cond-false, eqb-true, false_from_ne_true}
 use Rattle.std.specs.List.{list_any, list_all, filter}
 use Rattle.ua_chunk.specs.declared.chunk.Chunk.{Chunk}
 use Rattle.ua_chunk.specs.Gathered.{is_of}

@@ -1,14 +1,14 @@
 -- What is kept of the unfinished messages, after one more chunk.
-use Rattle.std.proofs.Common.{◌≡◌, ℕ, suc, ◌+◌, ◌≤◌, min, Bool, true, false, cond, eqb, List, [], ◌∷◌, ◌++◌, ◌||◌, refl, sym, ◌∙◌, ap, subst, arith, map, length, append-nil, length-append, append_assoc}
-use Rattle.std.proofs.lemmas.Bool.{or_parts, cond-true, cond-false, eqb-true, eq-eqb}
+use Rattle.std.proofs.Common.{◌≡◌, ℕ, suc, Bool, true, false, cond, eqb, List, [], ◌∷◌, ◌++◌, ◌||◌, refl, sym, ◌∙◌, ap, map, length, append-nil}
+use Rattle.std.proofs.lemmas.Bool.{or_parts, cond-false, eqb-true, eq-eqb}
 use Rattle.std.proofs.lemmas.List.Concat.{flat_map-append}
-use Rattle.std.specs.List.{list_any, sum_by, flat_map}
+use Rattle.std.specs.List.{list_any}
 use Rattle.ua_chunk.specs.declared.chunk.Chunk.{Chunk}
 use Rattle.ua_chunk.specs.declared.pending.Pending.{Pending}
-use Rattle.ua_chunk.specs.Gathered.{is_of, is_more, unfinished, joined}
+use Rattle.ua_chunk.specs.Gathered.{is_more, unfinished, joined}
 use Rattle.ua_chunk.specs.Kept.{kept, kept_messages}
-use Rattle.ua_chunk.specs.Open.{open_ids, open_octets}
-use Rattle.ua_chunk.specs.Pending.{first_of, without, is_under, message_of, nothing_of, octets_in}
+use Rattle.ua_chunk.specs.Open.{open_ids}
+use Rattle.ua_chunk.specs.Pending.{without, is_under, message_of, nothing_of}
 use Rattle.ua_chunk.proofs.Lists.{map_push, map_same}
 use Rattle.ua_chunk.proofs.OneMore.{open_push, open_gone, not_open, unfinished_other, unfinished_more, eqb_comm}
 

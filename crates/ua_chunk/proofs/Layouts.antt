@@ -1,15 +1,13 @@
 -- How frames carry chunks.
-use Rattle.std.proofs.Common.{◌≡◌, ℕ, ◌-◌, ◌+◌, ◌≤◌, Bool, true, false, Option, Some, None, List, [], ◌∷◌, ◌++◌, refl, sym, ◌∙◌, ap, subst, arith, length, drop, length-append, append_assoc}
+use Rattle.std.proofs.Common.{◌≡◌, ℕ, ◌-◌, ◌≤◌, Bool, true, Option, Some, None, List, ◌++◌, refl, sym, ◌∙◌, ap, subst, arith, length, drop, length-append, append_assoc}
 use Rattle.std.proofs.lemmas.List.{drop_at, drop-drop}
 use Rattle.std.proofs.lemmas.Slice.Eq.{bytes_eq-Decides}
-use Rattle.ua_builtin.specs.Exact.{Begins, ◌>>=◌}
+use Rattle.ua_builtin.specs.Exact.{Begins}
 use Rattle.ua_builtin.specs.Number.{number_at}
 use Rattle.ua_frame.specs.declared.frame.Frame.{Frame}
-use Rattle.ua_chunk.specs.declared.chunk.Chunk.{Chunk}
 use Rattle.ua_chunk.specs.declared.flag.Flag.{Flag}
-use Rattle.ua_chunk.specs.declared.open_chunk.OpenChunk.{OpenChunk}
 use Rattle.ua_chunk.specs.Flag.{flag_octet}
-use Rattle.ua_chunk.specs.Layout.{token_header, sequence_header, policy_header, none_policy, is_none_policy, sequence_fault, headers_fault, open_refusal, HeadersAt, IsChunkOf, IsOpenChunkOf}
+use Rattle.ua_chunk.specs.Layout.{token_header, sequence_header, policy_header, none_policy, is_none_policy, sequence_fault, headers_fault, HeadersAt, IsChunkOf}
 
 -- two numbers, one behind the other
 two_numbers : (b rest left : List ℕ) (n m : ℕ) → number_at 4 b ≡ Some (n, rest) → number_at 4 rest ≡ Some (m, left) → token_header.decode b ≡ Some ((n, m), left)

@@ -1,6 +1,6 @@
 -- Lists after one more element, and filters.
-use Rattle.std.proofs.Common.{◌≡◌, ℕ, Bool, true, false, cond, not, ◌&&◌, ◌||◌, List, [], ◌∷◌, ◌++◌, refl, sym, ◌∙◌, ap, subst, append_assoc, map}
-use Rattle.std.proofs.lemmas.Bool.{or_parts, or_from, cond-false}
+use Rattle.std.proofs.Common.{◌≡◌, Bool, true, false, cond, ◌||◌, List, [], ◌∷◌, ◌++◌, refl, sym, ◌∙◌, ap, map}
+use Rattle.std.proofs.lemmas.Bool.{or_parts, cond-false}
 use Rattle.std.proofs.lemmas.List.Folds.{list_any-append}
 use Rattle.std.specs.List.{list_any, filter}
 use Rattle.ua_chunk.specs.Gathered.{after_last}

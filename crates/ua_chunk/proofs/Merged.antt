@@ -1,21 +1,19 @@
 -- What merged messages deliver, and that none of their chunks is refused.
-use Rattle.std.proofs.Common.{◌≡◌, ℕ, suc, ◌+◌, ◌<◌, ◌≤◌, Bool, true, false, cond, not, ◌&&◌, ◌||◌, eqb, ltb, Option, Some, None, List, [], ◌∷◌, ◌++◌, refl, sym, ◌∙◌, ap, subst, arith, length, map, length-append, append_assoc}
-use Rattle.std.proofs.lemmas.Bool.{or_from, and_parts, cond-true, cond-false, eq-eqb, le-ltb, ltb-false, cases_Bool, not_from_true}
+use Rattle.std.proofs.Common.{◌≡◌, ℕ, suc, ◌+◌, ◌≤◌, Bool, true, false, cond, not, ◌&&◌, eqb, ltb, Option, Some, None, List, [], ◌∷◌, ◌++◌, refl, sym, ◌∙◌, ap, subst, arith, length, map, length-append, append_assoc}
+use Rattle.std.proofs.lemmas.Bool.{or_from, and_parts, cond-true, cond-false, eq-eqb, le-ltb, ltb-false}
 use Rattle.std.proofs.lemmas.List.Concat.{flat_map-append}
 use Rattle.std.specs.List.{list_any, filter, flat_map}
 use Rattle.ua_chunk.specs.declared.chunk.Chunk.{Chunk}
-use Rattle.ua_chunk.specs.declared.fault.AssembleFault.{AssembleFault}
 use Rattle.ua_chunk.specs.declared.flag.Flag.{Flag}
 use Rattle.ua_chunk.specs.declared.flag.Flag.TheVariants.{F, C, A}
 use Rattle.ua_chunk.specs.Abort.{abort_of, is_readable_abort}
 use Rattle.ua_chunk.specs.Delivered.{given, given_by, delivered, delivered_behind, aborted}
 use Rattle.ua_chunk.specs.Flag.{is_more_flag, is_abort_flag}
 use Rattle.ua_chunk.specs.Gathered.{is_of, ends, after_last, unfinished, gathered, joined}
-use Rattle.ua_chunk.specs.Item.{Item}
 use Rattle.ua_chunk.specs.Item.Item.{Whole}
-use Rattle.ua_chunk.specs.Merge.{Part, part_of, Sent, more_part, last_part, parts_of, sent_under, parts_under, outcome_by, outcome_under, outcomes, bodies_by, IsWithin, AllWithin, IsMerge}
+use Rattle.ua_chunk.specs.Merge.{Part, part_of, Sent, more_part, last_part, sent_under, parts_under, outcome_by, outcome_under, outcomes, bodies_by, IsWithin, AllWithin, IsMerge}
 use Rattle.ua_chunk.specs.Open.{open_ids}
-use Rattle.ua_chunk.specs.Refusal.{passes, most_open, refusal, TakesAll, FewOpen}
+use Rattle.ua_chunk.specs.Refusal.{passes, most_open, TakesAll, FewOpen}
 use Rattle.ua_chunk.specs.Sequence.{may_follow, ordered}
 use Rattle.ua_chunk.proofs.Assembles.{chain}
 use Rattle.ua_chunk.proofs.KeptMessages.{joined_push}

@@ -1,12 +1,11 @@
 -- What lists of chunks come to after one more.
-use Rattle.std.proofs.Common.{◌≡◌, ℕ, Bool, true, false, cond, not, ◌&&◌, ◌||◌, eqb, List, [], ◌∷◌, ◌++◌, refl, sym, ◌∙◌, ap, subst, append_assoc, append-nil}
-use Rattle.std.proofs.lemmas.Bool.{or_parts, or_from, or_right, and_parts, cond-false, cond-true, eqb-true, eqb-false, ne_eqb, eq-eqb, not-true, true_from_ne_false}
+use Rattle.std.proofs.Common.{◌≡◌, ℕ, Bool, true, false, cond, not, ◌&&◌, ◌||◌, eqb, List, [], ◌∷◌, ◌++◌, refl, sym, ◌∙◌, ap, subst, append-nil}
+use Rattle.std.proofs.lemmas.Bool.{or_parts, or_from, or_right, and_parts, cond-true, eqb-true, eqb-false, ne_eqb, eq-eqb, not-true, true_from_ne_false}
 use Rattle.std.specs.List.{list_any, filter}
 use Rattle.ua_frame.specs.After.{each_after, each_after-push}
 use Rattle.ua_chunk.specs.declared.chunk.Chunk.{Chunk}
 use Rattle.ua_chunk.specs.Delivered.{given, delivered, delivered_behind}
 use Rattle.ua_chunk.specs.Gathered.{is_of, is_more, ends, after_last, unfinished}
-use Rattle.ua_chunk.specs.Item.{Item}
 use Rattle.ua_chunk.specs.Open.{open_ids}
 use Rattle.ua_chunk.specs.Pending.{without}
 use Rattle.ua_chunk.proofs.Lists.{any_push, filter_push, after_last_push, without_none, ended, filter_some}

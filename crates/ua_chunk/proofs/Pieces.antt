@@ -1,6 +1,6 @@
 -- Cutting a body into pieces.
-use Rattle.std.proofs.Common.{◌≡◌, ℕ, zero, suc, ◌+◌, ◌-◌, ◌*◌, ◌<◌, ◌≤◌, ◌^◌, Bool, true, false, cond, not, ◌&&◌, eqb, ltb, List, [], ◌∷◌, ◌++◌, refl, sym, ◌∙◌, ap, subst, arith, length, take, drop, length-append, length-drop, append_assoc, append-nil, take-append-drop, map}
-use Rattle.std.proofs.lemmas.Bool.{ltb-true, ltb-false, lt-ltb, le-ltb, eqb-true, eqb-false, cond-true, cond-false, cases_Bool}
+use Rattle.std.proofs.Common.{◌≡◌, ℕ, zero, suc, ◌+◌, ◌-◌, ◌*◌, ◌<◌, ◌≤◌, Bool, true, false, cond, not, ◌&&◌, eqb, ltb, List, [], ◌∷◌, ◌++◌, refl, sym, ◌∙◌, ap, subst, arith, length, take, drop, length-append, length-drop, append_assoc, append-nil, take-append-drop}
+use Rattle.std.proofs.lemmas.Bool.{ltb-true, ltb-false, lt-ltb, le-ltb, eqb-false, cond-true, cond-false}
 use Rattle.std.proofs.lemmas.List.{length-take-le}
 use Rattle.std.specs.List.{flat_map}
 use Rattle.ua_builtin.specs.Format.{Extends}
@@ -73,8 +73,8 @@ full_in zero k b pos le some = absurd (omega arith)
 full_in (suc n) k b pos le some =
     full_step (ltb k (length b)) k (take k b) b (pieces_in n k (drop k b)) refl some
     (λ t.
-        let more : k < length b = ltb-true k (length b) t in
-        (length-take-le k b (omega arith), full_in n k (drop k b) pos (omega (arith, length-drop k b)) (omega (arith, length-drop k b))))
+    let more : k < length b = ltb-true k (length b) t in
+    (length-take-le k b (omega arith), full_in n k (drop k b) pos (omega (arith, length-drop k b)) (omega (arith, length-drop k b))))
 
 pub full_pieces : (k : ℕ) (b : List ℕ) → 0 < k → 0 < length b → AreFull k (pieces k b)
 unfolding pieces

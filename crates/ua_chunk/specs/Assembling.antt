@@ -1,5 +1,5 @@
 -- How an assembler stands.
-use Rattle.std.specs.Prelude.{◌≡◌, ◌≤◌, ◌+◌, ℕ, min, nat_lt, Bool, true, false, ◌&&◌, not, length, Option, Some, None, List, [], ◌∷◌, ◌++◌}
+use Rattle.std.specs.Prelude.{◌≡◌, ◌≤◌, ◌+◌, ℕ, min, nat_lt, true, false, ◌&&◌, not, length, Option, List, [], ◌∷◌, ◌++◌}
 use Rattle.ua_frame.specs.Reasons.{first_reason}
 use Rattle.ua_chunk.specs.declared.assembler.Assembler.{Assembler}
 use Rattle.ua_chunk.specs.declared.chunk.Chunk.{Chunk}

@@ -1,5 +1,5 @@
 -- The chunks of a body (OPC 10000-6, 6.7.2).
-use Rattle.std.specs.Prelude.{◌≡◌, ◌≤◌, ◌<◌, ◌+◌, ◌==◌, ℕ, zero, suc, nat_lt, Bool, if◌then◌else◌, length, take, drop, map, Option, Some, None, List, [], ◌∷◌, ◌++◌}
+use Rattle.std.specs.Prelude.{◌≡◌, ◌≤◌, ◌<◌, ℕ, zero, suc, nat_lt, if◌then◌else◌, length, take, drop, map, Option, Some, None, List, [], ◌∷◌, ◌++◌}
 use Rattle.ua_builtin.specs.Format.{Extends}
 use Rattle.ua_builtin.specs.Number.{number_octets}
 use Rattle.ua_frame.specs.Frames.{frames_octets}

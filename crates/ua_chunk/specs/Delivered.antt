@@ -1,5 +1,5 @@
 -- What lists of chunks deliver.
-use Rattle.std.specs.Prelude.{ℕ, Option, Some, None, List, [], ◌∷◌, ◌++◌}
+use Rattle.std.specs.Prelude.{ℕ, Option, Some, None, List, [], ◌∷◌}
 use Rattle.ua_builtin.specs.declared.status_code.StatusCode.{StatusCode}
 use Rattle.ua_frame.specs.After.{each_from, each_after}
 use Rattle.ua_chunk.specs.declared.chunk.Chunk.{Chunk}

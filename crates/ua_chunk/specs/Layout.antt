@@ -1,5 +1,5 @@
 -- How frames carry chunks under the security policy None (OPC 10000-6, 6.7.2).
-use Rattle.std.specs.Prelude.{◌≡◌, ◌≤◌, ℕ, length, drop, Bool, true, false, not, List, [], ◌∷◌, ◌++◌, Option, Some, None, codes}
+use Rattle.std.specs.Prelude.{◌≡◌, ◌≤◌, ℕ, length, drop, Bool, true, false, List, ◌++◌, Option, Some, None, codes}
 use Rattle.std.specs.Str.{bytes_eq}
 use Rattle.ua_builtin.specs.Counted.{counted}
 use Rattle.ua_builtin.specs.Format.{Flat}

@@ -59,12 +59,9 @@ pub fn cut_is_delivered()
 
 /// The pieces of a body, joined, are the body, and each but the last fills its room.
 pub fn pieces_are_full()
-    ensures joined {
-        (room : ℕ) (body : List ℕ) → 0 < room → 0 < length body → flat_map (λ piece. piece) (pieces room body) ≡ body
-    }
+    ensures joined { (room : ℕ) (body : List ℕ) → 0 < room → 0 < length body → flat_map (λ piece. piece) (pieces room body) ≡ body }
     ensures full { (room : ℕ) (body : List ℕ) → 0 < room → 0 < length body → AreFull room (pieces room body) }
-{
-}
+{}
 
 /// The open request ids are those with a C behind their last F or A.
 pub fn open_is_unfinished()

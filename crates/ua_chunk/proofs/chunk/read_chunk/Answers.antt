@@ -1,4 +1,4 @@
-use Rattle.std.proofs.Common.{◌≡◌, sym, ◌∙◌, ap, drop, List, ℕ}
+use Rattle.std.proofs.Common.{◌≡◌, sym, ◌∙◌, ap, drop}
 use Rattle.ua_builtin.specs.Number.{number_at}
 use Rattle.ua_chunk.proofs.Layouts.{sixteen, chunk_is}
 use Rattle.ua_chunk.proofs.chunk.read_chunk.Goals as goal

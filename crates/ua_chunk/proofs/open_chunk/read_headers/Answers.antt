@@ -1,4 +1,3 @@
-use Rattle.std.proofs.Common.{sym}
 use Rattle.ua_chunk.proofs.Layouts.{shorter, headers_at}
 use Rattle.ua_chunk.proofs.open_chunk.read_headers.Goals as goal
 

@@ -1,5 +1,4 @@
-use Rattle.std.proofs.Common.{◌≡◌, None, sym, ◌∙◌, refl, arith}
-use Rattle.ua_chunk.specs.Refusal.{refusal}
+use Rattle.std.proofs.Common.{sym, ◌∙◌, refl, arith}
 use Rattle.ua_chunk.proofs.Assembles.{delivered_is, refusal_is, fault_is_for, stays}
 use Rattle.ua_chunk.proofs.assembler.Assembler.accept.Goals as goal
 
