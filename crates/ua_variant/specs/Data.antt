@@ -1,0 +1,57 @@
+-- What the values stand for, without capacities and pointers.
+use Rattle.std.specs.Prelude.{ℕ, Bool, List, Option}
+use lib.IntN.{ℤ}
+use Rattle.ua_builtin.specs.declared.status_code.StatusCode.{StatusCode}
+
+-- the scalars that hold no further value, one case a type id; the reserved ids 26 to 31 keep theirs
+pub data LeafData : Type 0 where
+  byte : ℕ → LeafData
+  uint32 : ℕ → LeafData
+  string : Option (List ℕ) → LeafData
+  byte_string : Option (List ℕ) → LeafData
+  status_code : StatusCode → LeafData
+  reserved : ℕ → Option (List ℕ) → LeafData
+
+-- the fields of a DiagnosticInfo but its inner one; a null text is an absent one
+pub record DiagnosticFields : Type 0 where
+  pub symbolic_id : Option ℕ
+  pub namespace_uri : Option ℕ
+  pub locale : Option ℕ
+  pub localized_text : Option ℕ
+  pub additional_info : Option (List ℕ)
+  pub inner_status_code : Option StatusCode
+
+-- a DiagnosticInfo with its inner ones
+pub data DiagnosticData : Type 0 where
+  innermost : DiagnosticFields → DiagnosticData
+  around : DiagnosticFields → DiagnosticData → DiagnosticData
+
+-- the fields of a DataValue but its value
+pub record DataFields : Type 0 where
+  pub status : Option StatusCode
+  pub source_timestamp : Option ℕ
+  pub source_picoseconds : Option ℕ
+  pub server_timestamp : Option ℕ
+  pub server_picoseconds : Option ℕ
+
+-- an array has the type id of its elements and its dimensions; an absent one is null
+mutual
+  pub data VariantData : Type 0 where
+    null : VariantData
+    one : ScalarData → VariantData
+    absent : ℕ → List ℤ → VariantData
+    many : ℕ → ScalarsData → List ℤ → VariantData
+
+  pub data ScalarData : Type 0 where
+    leaf : LeafData → ScalarData
+    data_value : DataValueData → ScalarData
+    variant : VariantData → ScalarData
+    diagnostic : DiagnosticData → ScalarData
+
+  pub data ScalarsData : Type 0 where
+    no_scalars : ScalarsData
+    scalar : ScalarData → ScalarsData → ScalarsData
+
+  pub data DataValueData : Type 0 where
+    bare : DataFields → DataValueData
+    valued : VariantData → DataFields → DataValueData

@@ -1,0 +1,9 @@
+pub mod Codes
+pub mod Data
+pub mod Leaf
+pub mod Measure
+pub mod Parts
+pub mod Sizes
+pub mod Trees
+pub mod Values
+pub mod View
