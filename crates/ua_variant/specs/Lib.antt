@@ -1,5 +1,11 @@
+pub mod Canonical
 pub mod Codes
 pub mod Data
+pub mod Decoding
+pub mod Diagnostics
+pub mod Encodable
+pub mod Encoding
+pub mod Fields
 pub mod Leaf
 pub mod Measure
 pub mod Parts
