@@ -1,6 +1,16 @@
+pub mod Boolean
 pub mod Counted
+pub mod DateTime
+pub mod DoubleBits
 pub mod Exact
+pub mod Flags
+pub mod FloatBits
 pub mod Format
 pub mod Join
+pub mod Laws
+pub mod LocalizedText
 pub mod Number
+pub mod QualifiedName
+pub mod Signed
 pub mod Status
+pub mod XmlElement

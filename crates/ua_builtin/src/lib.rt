@@ -4,18 +4,35 @@
 //! `NoValue` only where no front encodes one, and `write` adds the one canonical encoding.
 #![tactic(auto)]
 
+mod boolean;
 mod bytes;
 mod counted;
+mod date_time;
+mod double_bits;
 mod fault;
+mod flags;
+mod float_bits;
+pub mod laws;
+mod localized_text;
 mod numbers;
+mod pairs;
+mod qualified_name;
+mod signed;
 mod source;
 mod status_code;
 mod text;
 mod wire;
+mod xml_element;
 
 pub use bytes::UaBytes;
+pub use date_time::DateTime;
+pub use double_bits::DoubleBits;
 pub use fault::{ReadFault, WriteFault};
+pub use float_bits::FloatBits;
+pub use localized_text::LocalizedText;
+pub use qualified_name::QualifiedName;
 pub use source::{Octets, Source};
 pub use status_code::StatusCode;
 pub use text::UaString;
 pub use wire::Wire;
+pub use xml_element::XmlElement;

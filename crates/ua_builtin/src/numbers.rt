@@ -57,6 +57,36 @@ impl Wire for u8 {
     }
 }
 
+/// UInt16, 2 octets (OPC 10000-6, 5.2.2.2).
+impl Wire for u16 {
+    ghost format = { flat (number 2) };
+
+    ghost memoryless = { Unit {0} };
+
+    ghost starts = { number_starts 1 };
+
+    #[inline]
+    fn read_value<S: Source>(_alloc: Global, src: &mut S, _depth: u32) -> Result<u16, ReadFault> {
+        let mut octets = [0; 2];
+        take_number(src, &mut octets)?;
+        Ok(LittleEndian::read_u16(&octets))
+    }
+
+    #[inline]
+    fn is_encodable(&self) -> bool {
+        let _value = *self;
+        true
+    }
+
+    #[inline]
+    fn append(&self, out: &mut Vec<u8>) -> Result<(), AllocError> {
+        let mut octets = [0; 2];
+        LittleEndian::write_u16(&mut octets, *self);
+        out.extend_from_slice(&octets)?;
+        Ok(())
+    }
+}
+
 /// UInt32, 4 octets (OPC 10000-6, 5.2.2.2).
 impl Wire for u32 {
     ghost format = { flat (number 4) };
@@ -82,6 +112,36 @@ impl Wire for u32 {
     fn append(&self, out: &mut Vec<u8>) -> Result<(), AllocError> {
         let mut octets = [0; 4];
         LittleEndian::write_u32(&mut octets, *self);
+        out.extend_from_slice(&octets)?;
+        Ok(())
+    }
+}
+
+/// UInt64, 8 octets (OPC 10000-6, 5.2.2.2).
+impl Wire for u64 {
+    ghost format = { flat (number 8) };
+
+    ghost memoryless = { Unit {0} };
+
+    ghost starts = { number_starts 7 };
+
+    #[inline]
+    fn read_value<S: Source>(_alloc: Global, src: &mut S, _depth: u32) -> Result<u64, ReadFault> {
+        let mut octets = [0; 8];
+        take_number(src, &mut octets)?;
+        Ok(LittleEndian::read_u64(&octets))
+    }
+
+    #[inline]
+    fn is_encodable(&self) -> bool {
+        let _value = *self;
+        true
+    }
+
+    #[inline]
+    fn append(&self, out: &mut Vec<u8>) -> Result<(), AllocError> {
+        let mut octets = [0; 8];
+        LittleEndian::write_u64(&mut octets, *self);
         out.extend_from_slice(&octets)?;
         Ok(())
     }

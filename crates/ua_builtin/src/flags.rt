@@ -1,0 +1,46 @@
+//! Texts that are there where a mask flags them.
+
+ghost use Rattle.std.specs.Prelude.{◌≡◌, ◌++◌, IsTrue, OnOk, OnErr, is_some};
+ghost use Rattle.ua_builtin.specs.Format.{Gives, StaysBehind, Extends};
+ghost use Rattle.ua_builtin.specs.Flags.{flagged_text};
+
+use crate::fault::ReadFault;
+use crate::source::Source;
+use crate::text::UaString;
+use crate::wire::Wire;
+use std::alloc::{AllocError, Global};
+
+/// Reads a text where it is flagged; else it is null.
+pub fn read_flagged<S: Source>(
+    alloc: Global,
+    src: &mut S,
+    depth: u32,
+    set: bool,
+) -> Result<UaString, ReadFault>
+    ensures exact { Gives ((flagged_text set).decode) (S.octets src.old) (S.octets src.new) result }
+    ensures behind { StaysBehind (S.octets src.old) (S.octets src.new) }
+{
+    if !set {
+        return Ok(UaString::null());
+    }
+    UaString::read_value(alloc, src, depth)
+}
+
+/// Whether a text that is flagged where it isn't null can be encoded.
+pub fn is_flagged_encodable(text: &UaString) -> bool
+    ensures { result ≡ (flagged_text (is_some text.now)).encodable text.now }
+{
+    !text.is_some() || text.is_encodable()
+}
+
+/// Adds a text unless it is null.
+pub fn append_flagged(text: &UaString, out: &mut Vec<u8>) -> Result<(), AllocError>
+    requires { IsTrue ((flagged_text (is_some text.now)).encodable text.now) }
+    ensures ok { OnOk result (out.new.items ≡ out.old.items ++ (flagged_text (is_some text.now)).canonical text.now) }
+    ensures err { OnErr result (Extends out.old.items out.new.items) }
+{
+    if text.is_some() {
+        text.append(out)?;
+    }
+    Ok(())
+}

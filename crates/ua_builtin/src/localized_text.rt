@@ -1,0 +1,58 @@
+//! LocalizedText.
+
+use crate::fault::ReadFault;
+use crate::flags;
+use crate::source::Source;
+use crate::text::UaString;
+use crate::wire::Wire;
+use std::alloc::{AllocError, Global};
+
+/// A text for people, and the locale of its language; either may be null
+/// (OPC 10000-6, 5.2.2.14; OPC 10000-3, 8.5).
+#[derive(Drop)]
+pub struct LocalizedText {
+    pub locale: UaString,
+    pub text: UaString,
+}
+
+const LOCALE: u8 = 0x01;
+const TEXT: u8 = 0x02;
+
+impl Wire for LocalizedText {
+    ghost use Rattle.ua_builtin.specs.Format.{flat};
+    ghost use Rattle.ua_builtin.specs.LocalizedText.{localized_text, localized_text_starts};
+
+    ghost format = { flat localized_text };
+
+    ghost starts = { localized_text_starts };
+
+    #[tactic(auto, unfolding(crate::specs::LocalizedText::localized_text))]
+    fn read_value<S: Source>(
+        alloc: Global,
+        src: &mut S,
+        depth: u32,
+    ) -> Result<LocalizedText, ReadFault> {
+        let mask = u8::read_value(alloc, src, depth)?;
+        if mask > LOCALE + TEXT {
+            return Err(ReadFault::NoValue);
+        }
+        let locale = flags::read_flagged(alloc, src, depth, mask & LOCALE != 0)?;
+        let text = flags::read_flagged(alloc, src, depth, mask & TEXT != 0)?;
+        Ok(LocalizedText { locale, text })
+    }
+
+    #[tactic(auto, using(crate::specs::LocalizedText::mask_flags), unfolding(crate::specs::LocalizedText::localized_text))]
+    fn is_encodable(&self) -> bool {
+        flags::is_flagged_encodable(&self.locale) && flags::is_flagged_encodable(&self.text)
+    }
+
+    #[tactic(auto, using(crate::specs::LocalizedText::mask_flags), unfolding(crate::specs::LocalizedText::localized_text))]
+    fn append(&self, out: &mut Vec<u8>) -> Result<(), AllocError> {
+        let locale = if self.locale.is_some() { LOCALE } else { 0 };
+        let text = if self.text.is_some() { TEXT } else { 0 };
+        (locale + text).append(out)?;
+        flags::append_flagged(&self.locale, out)?;
+        flags::append_flagged(&self.text, out)?;
+        Ok(())
+    }
+}

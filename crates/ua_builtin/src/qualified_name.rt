@@ -1,0 +1,47 @@
+//! QualifiedName.
+
+use crate::fault::ReadFault;
+use crate::source::Source;
+use crate::text::UaString;
+use crate::wire::Wire;
+use std::alloc::{AllocError, Global};
+
+/// A name within a namespace, which is an index into the server's table of namespaces
+/// (OPC 10000-6, 5.2.2.13).
+#[derive(Drop)]
+pub struct QualifiedName {
+    pub namespace: u16,
+    pub name: UaString,
+}
+
+impl Wire for QualifiedName {
+    ghost use Rattle.ua_builtin.specs.Format.{flat};
+    ghost use Rattle.ua_builtin.specs.QualifiedName.{qualified_name, qualified_name_starts};
+
+    ghost format = { flat qualified_name };
+
+    ghost starts = { qualified_name_starts };
+
+    #[tactic(auto, unfolding(crate::specs::QualifiedName::qualified_name))]
+    fn read_value<S: Source>(
+        alloc: Global,
+        src: &mut S,
+        depth: u32,
+    ) -> Result<QualifiedName, ReadFault> {
+        let namespace = u16::read_value(alloc, src, depth)?;
+        let name = UaString::read_value(alloc, src, depth)?;
+        Ok(QualifiedName { namespace, name })
+    }
+
+    #[tactic(auto, unfolding(crate::specs::QualifiedName::qualified_name))]
+    fn is_encodable(&self) -> bool {
+        self.namespace.is_encodable() && self.name.is_encodable()
+    }
+
+    #[tactic(auto, unfolding(crate::specs::QualifiedName::qualified_name))]
+    fn append(&self, out: &mut Vec<u8>) -> Result<(), AllocError> {
+        self.namespace.append(out)?;
+        self.name.append(out)?;
+        Ok(())
+    }
+}

@@ -1,0 +1,46 @@
+//! XmlElement.
+
+use crate::bytes::UaBytes;
+use crate::fault::ReadFault;
+use crate::source::Source;
+use crate::wire::Wire;
+use std::alloc::{AllocError, Global};
+
+/// An XML element as octets, which are never looked at, or null (OPC 10000-6, 5.2.2.8).
+#[derive(Drop)]
+pub struct XmlElement {
+    pub octets: UaBytes,
+}
+
+impl Wire for XmlElement {
+    ghost use Rattle.ua_builtin.specs.Format.{flat};
+    ghost use Rattle.ua_builtin.specs.XmlElement.{xml_element, xml_element_starts};
+
+    ghost format = { flat xml_element };
+
+    ghost starts = { xml_element_starts };
+
+    #[inline]
+    #[tactic(auto, unfolding(crate::specs::XmlElement::xml_element))]
+    fn read_value<S: Source>(
+        alloc: Global,
+        src: &mut S,
+        depth: u32,
+    ) -> Result<XmlElement, ReadFault> {
+        let octets = UaBytes::read_value(alloc, src, depth)?;
+        Ok(XmlElement { octets })
+    }
+
+    #[inline]
+    #[tactic(auto, unfolding(crate::specs::XmlElement::xml_element))]
+    fn is_encodable(&self) -> bool {
+        self.octets.is_encodable()
+    }
+
+    #[inline]
+    #[tactic(auto, unfolding(crate::specs::XmlElement::xml_element))]
+    fn append(&self, out: &mut Vec<u8>) -> Result<(), AllocError> {
+        self.octets.append(out)?;
+        Ok(())
+    }
+}
