@@ -1,23 +1,42 @@
 -- What the values stand for, without capacities and pointers.
 use Rattle.std.specs.Prelude.{ℕ, Bool, List, Option}
 use lib.IntN.{ℤ}
+use Rattle.ua_builtin.specs.declared.float_bits.FloatBits.{FloatBits}
+use Rattle.ua_builtin.specs.declared.xml_element.XmlElement.{XmlElement}
+use Rattle.ua_builtin.specs.declared.double_bits.DoubleBits.{DoubleBits}
+use Rattle.ua_builtin.specs.declared.date_time.DateTime.{DateTime}
 use Rattle.ua_builtin.specs.declared.status_code.StatusCode.{StatusCode}
+use Rattle.ua_builtin.specs.declared.qualified_name.QualifiedName.{QualifiedName}
+use Rattle.ua_builtin.specs.declared.localized_text.LocalizedText.{LocalizedText}
 
 -- the scalars that hold no further value, one case a type id; the reserved ids 26 to 31 keep theirs
 pub data LeafData : Type 0 where
+  boolean : Bool → LeafData
+  sbyte : ℤ → LeafData
   byte : ℕ → LeafData
+  int16 : ℤ → LeafData
+  uint16 : ℕ → LeafData
+  int32 : ℤ → LeafData
   uint32 : ℕ → LeafData
+  int64 : ℤ → LeafData
+  uint64 : ℕ → LeafData
+  float : FloatBits → LeafData
+  double : DoubleBits → LeafData
   string : Option (List ℕ) → LeafData
+  date_time : DateTime → LeafData
   byte_string : Option (List ℕ) → LeafData
+  xml_element : XmlElement → LeafData
   status_code : StatusCode → LeafData
+  qualified_name : QualifiedName → LeafData
+  localized_text : LocalizedText → LeafData
   reserved : ℕ → Option (List ℕ) → LeafData
 
 -- the fields of a DiagnosticInfo but its inner one; a null text is an absent one
 pub record DiagnosticFields : Type 0 where
-  pub symbolic_id : Option ℕ
-  pub namespace_uri : Option ℕ
-  pub locale : Option ℕ
-  pub localized_text : Option ℕ
+  pub symbolic_id : Option ℤ
+  pub namespace_uri : Option ℤ
+  pub locale : Option ℤ
+  pub localized_text : Option ℤ
   pub additional_info : Option (List ℕ)
   pub inner_status_code : Option StatusCode
 
@@ -29,9 +48,9 @@ pub data DiagnosticData : Type 0 where
 -- the fields of a DataValue but its value
 pub record DataFields : Type 0 where
   pub status : Option StatusCode
-  pub source_timestamp : Option ℕ
+  pub source_timestamp : Option DateTime
   pub source_picoseconds : Option ℕ
-  pub server_timestamp : Option ℕ
+  pub server_timestamp : Option DateTime
   pub server_picoseconds : Option ℕ
 
 -- an array has the type id of its elements and its dimensions; an absent one is null

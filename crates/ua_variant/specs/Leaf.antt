@@ -7,18 +7,39 @@ use Rattle.ua_builtin.specs.Exact.{Begins, Exact, Image, image_read, not_false}
 use Rattle.ua_builtin.specs.Number.{number_at, IsNumber}
 use Rattle.ua_builtin.specs.Format.{Flat}
 use Rattle.ua_builtin.specs.Join.{number, number_starts, such, image_exact, TakesSome}
+use Rattle.ua_builtin.specs.Boolean.{boolean as boolean_format, boolean_starts}
+use Rattle.ua_builtin.specs.Signed.{signed, signed_starts}
+use Rattle.ua_builtin.specs.FloatBits.{float_bits, float_bits_starts}
+use Rattle.ua_builtin.specs.DoubleBits.{double_bits, double_bits_starts}
 use Rattle.ua_builtin.specs.Counted.{text, text_starts, counted, counted_starts}
+use Rattle.ua_builtin.specs.DateTime.{date_time as date_time_format, date_time_starts}
+use Rattle.ua_builtin.specs.XmlElement.{xml_element as xml_element_format, xml_element_starts}
 use Rattle.ua_builtin.specs.Status.{status_code as status_code_format, status_code_starts}
-use Rattle.ua_variant.specs.Data.{LeafData, byte, uint32, string, byte_string, status_code, reserved}
+use Rattle.ua_builtin.specs.QualifiedName.{qualified_name as qualified_name_format, qualified_name_starts}
+use Rattle.ua_builtin.specs.LocalizedText.{localized_text as localized_text_format, localized_text_starts}
+use Rattle.ua_variant.specs.Data.{LeafData, boolean, sbyte, byte, int16, uint16, int32, uint32, int64, uint64, float, double, string, date_time, byte_string, xml_element, status_code, qualified_name, localized_text, reserved}
 use Rattle.ua_variant.specs.Parts.{unwritten, Reader}
 
 -- the type id (OPC 10000-6, 5.1.2)
 abbrev pub leaf_kind : LeafData → ℕ
+leaf_kind (boolean x) = 1
+leaf_kind (sbyte x) = 2
 leaf_kind (byte x) = 3
+leaf_kind (int16 x) = 4
+leaf_kind (uint16 x) = 5
+leaf_kind (int32 x) = 6
 leaf_kind (uint32 x) = 7
+leaf_kind (int64 x) = 8
+leaf_kind (uint64 x) = 9
+leaf_kind (float x) = 10
+leaf_kind (double x) = 11
 leaf_kind (string x) = 12
+leaf_kind (date_time x) = 13
 leaf_kind (byte_string x) = 15
+leaf_kind (xml_element x) = 16
 leaf_kind (status_code x) = 19
+leaf_kind (qualified_name x) = 20
+leaf_kind (localized_text x) = 21
 leaf_kind (reserved k x) = k
 
 -- the reserved type ids
@@ -44,11 +65,24 @@ typed {A} format starts value = record { Of = A; format = format; starts = start
 
 -- the type of each, as its format (OPC 10000-6, 5.2.2)
 abbrev pub leaf_typed : LeafData → Typed
+leaf_typed (boolean x) = typed (boolean_format) (boolean_starts) x
+leaf_typed (sbyte x) = typed (signed w8) (signed_starts w8 0 refl) x
 leaf_typed (byte x) = typed (number 1) (number_starts 0) x
+leaf_typed (int16 x) = typed (signed w16) (signed_starts w16 1 refl) x
+leaf_typed (uint16 x) = typed (number 2) (number_starts 1) x
+leaf_typed (int32 x) = typed (signed w32) (signed_starts w32 3 refl) x
 leaf_typed (uint32 x) = typed (number 4) (number_starts 3) x
+leaf_typed (int64 x) = typed (signed w64) (signed_starts w64 7 refl) x
+leaf_typed (uint64 x) = typed (number 8) (number_starts 7) x
+leaf_typed (float x) = typed (float_bits) (float_bits_starts) x
+leaf_typed (double x) = typed (double_bits) (double_bits_starts) x
 leaf_typed (string x) = typed (text) (text_starts) x
+leaf_typed (date_time x) = typed (date_time_format) (date_time_starts) x
 leaf_typed (byte_string x) = typed (counted) (counted_starts) x
+leaf_typed (xml_element x) = typed (xml_element_format) (xml_element_starts) x
 leaf_typed (status_code x) = typed (status_code_format) (status_code_starts) x
+leaf_typed (qualified_name x) = typed (qualified_name_format) (qualified_name_starts) x
+leaf_typed (localized_text x) = typed (localized_text_format) (localized_text_starts) x
 leaf_typed (reserved k x) = typed (reserved_octets k) (reserved_starts k) x
 
 abbrev pub EncodesLeaf : LeafData → List ℕ → Type 0
@@ -71,12 +105,25 @@ leaf_starts l h = (leaf_typed l).starts (leaf_typed l).value h
 unfoldable pub leaf_at : ℕ → Reader LeafData
 leaf_at k octets =
     cond (is_reserved k) (image_read (reserved k) counted.decode octets) (
+    cond (eqb k 1) (image_read boolean (boolean_format).decode octets) (
+    cond (eqb k 2) (image_read sbyte (signed w8).decode octets) (
     cond (eqb k 3) (image_read byte (number 1).decode octets) (
+    cond (eqb k 4) (image_read int16 (signed w16).decode octets) (
+    cond (eqb k 5) (image_read uint16 (number 2).decode octets) (
+    cond (eqb k 6) (image_read int32 (signed w32).decode octets) (
     cond (eqb k 7) (image_read uint32 (number 4).decode octets) (
+    cond (eqb k 8) (image_read int64 (signed w64).decode octets) (
+    cond (eqb k 9) (image_read uint64 (number 8).decode octets) (
+    cond (eqb k 10) (image_read float (float_bits).decode octets) (
+    cond (eqb k 11) (image_read double (double_bits).decode octets) (
     cond (eqb k 12) (image_read string (text).decode octets) (
+    cond (eqb k 13) (image_read date_time (date_time_format).decode octets) (
     cond (eqb k 15) (image_read byte_string (counted).decode octets) (
+    cond (eqb k 16) (image_read xml_element (xml_element_format).decode octets) (
     cond (eqb k 19) (image_read status_code (status_code_format).decode octets) (
-    None))))))
+    cond (eqb k 20) (image_read qualified_name (qualified_name_format).decode octets) (
+    cond (eqb k 21) (image_read localized_text (localized_text_format).decode octets) (
+    None)))))))))))))))))))
 
 -- a leaf of the type id
 abbrev pub IsLeaf : ℕ → LeafData → List ℕ → Type 0
@@ -110,12 +157,25 @@ leaf_sound : (k : ℕ) → Sound (IsLeaf k) (leaf_at k)
 unfolding leaf_at
 leaf_sound k =
     sound_if (is_reserved k) (λ h. leaf_part (reserved k) counted k (λ x b e. (refl, (h, e)))) (λ _.
+    sound_if (eqb k 1) (λ h. of_kind k 1 (image_read boolean (boolean_format).decode) h (leaf_part boolean (boolean_format) 1 (λ x b e. (refl, e)))) (λ _.
+    sound_if (eqb k 2) (λ h. of_kind k 2 (image_read sbyte (signed w8).decode) h (leaf_part sbyte (signed w8) 2 (λ x b e. (refl, e)))) (λ _.
     sound_if (eqb k 3) (λ h. of_kind k 3 (image_read byte (number 1).decode) h (leaf_part byte (number 1) 3 (λ x b e. (refl, e)))) (λ _.
+    sound_if (eqb k 4) (λ h. of_kind k 4 (image_read int16 (signed w16).decode) h (leaf_part int16 (signed w16) 4 (λ x b e. (refl, e)))) (λ _.
+    sound_if (eqb k 5) (λ h. of_kind k 5 (image_read uint16 (number 2).decode) h (leaf_part uint16 (number 2) 5 (λ x b e. (refl, e)))) (λ _.
+    sound_if (eqb k 6) (λ h. of_kind k 6 (image_read int32 (signed w32).decode) h (leaf_part int32 (signed w32) 6 (λ x b e. (refl, e)))) (λ _.
     sound_if (eqb k 7) (λ h. of_kind k 7 (image_read uint32 (number 4).decode) h (leaf_part uint32 (number 4) 7 (λ x b e. (refl, e)))) (λ _.
+    sound_if (eqb k 8) (λ h. of_kind k 8 (image_read int64 (signed w64).decode) h (leaf_part int64 (signed w64) 8 (λ x b e. (refl, e)))) (λ _.
+    sound_if (eqb k 9) (λ h. of_kind k 9 (image_read uint64 (number 8).decode) h (leaf_part uint64 (number 8) 9 (λ x b e. (refl, e)))) (λ _.
+    sound_if (eqb k 10) (λ h. of_kind k 10 (image_read float (float_bits).decode) h (leaf_part float (float_bits) 10 (λ x b e. (refl, e)))) (λ _.
+    sound_if (eqb k 11) (λ h. of_kind k 11 (image_read double (double_bits).decode) h (leaf_part double (double_bits) 11 (λ x b e. (refl, e)))) (λ _.
     sound_if (eqb k 12) (λ h. of_kind k 12 (image_read string (text).decode) h (leaf_part string (text) 12 (λ x b e. (refl, e)))) (λ _.
+    sound_if (eqb k 13) (λ h. of_kind k 13 (image_read date_time (date_time_format).decode) h (leaf_part date_time (date_time_format) 13 (λ x b e. (refl, e)))) (λ _.
     sound_if (eqb k 15) (λ h. of_kind k 15 (image_read byte_string (counted).decode) h (leaf_part byte_string (counted) 15 (λ x b e. (refl, e)))) (λ _.
+    sound_if (eqb k 16) (λ h. of_kind k 16 (image_read xml_element (xml_element_format).decode) h (leaf_part xml_element (xml_element_format) 16 (λ x b e. (refl, e)))) (λ _.
     sound_if (eqb k 19) (λ h. of_kind k 19 (image_read status_code (status_code_format).decode) h (leaf_part status_code (status_code_format) 19 (λ x b e. (refl, e)))) (λ _.
-    sound_none k))))))
+    sound_if (eqb k 20) (λ h. of_kind k 20 (image_read qualified_name (qualified_name_format).decode) h (leaf_part qualified_name (qualified_name_format) 20 (λ x b e. (refl, e)))) (λ _.
+    sound_if (eqb k 21) (λ h. of_kind k 21 (image_read localized_text (localized_text_format).decode) h (leaf_part localized_text (localized_text_format) 21 (λ x b e. (refl, e)))) (λ _.
+    sound_none k)))))))))))))))))))
 
 if_true : {A : Type 0} (b : Bool) (x y : A) → IsTrue b → cond b x y ≡ x
 if_true true x y h = refl
@@ -123,11 +183,24 @@ if_true false x y h = not_false h
 
 leaf_complete : (l : LeafData) (front rest : List ℕ) → EncodesLeaf l front → leaf_at (leaf_kind l) (front ++ rest) ≡ Some (l, rest)
 unfolding leaf_at
+leaf_complete (boolean x) front rest h = (image_exact boolean (boolean_format)).complete (boolean x) front rest (record { of = x; is = refl; encoded = h })
+leaf_complete (sbyte x) front rest h = (image_exact sbyte (signed w8)).complete (sbyte x) front rest (record { of = x; is = refl; encoded = h })
 leaf_complete (byte x) front rest h = (image_exact byte (number 1)).complete (byte x) front rest (record { of = x; is = refl; encoded = h })
+leaf_complete (int16 x) front rest h = (image_exact int16 (signed w16)).complete (int16 x) front rest (record { of = x; is = refl; encoded = h })
+leaf_complete (uint16 x) front rest h = (image_exact uint16 (number 2)).complete (uint16 x) front rest (record { of = x; is = refl; encoded = h })
+leaf_complete (int32 x) front rest h = (image_exact int32 (signed w32)).complete (int32 x) front rest (record { of = x; is = refl; encoded = h })
 leaf_complete (uint32 x) front rest h = (image_exact uint32 (number 4)).complete (uint32 x) front rest (record { of = x; is = refl; encoded = h })
+leaf_complete (int64 x) front rest h = (image_exact int64 (signed w64)).complete (int64 x) front rest (record { of = x; is = refl; encoded = h })
+leaf_complete (uint64 x) front rest h = (image_exact uint64 (number 8)).complete (uint64 x) front rest (record { of = x; is = refl; encoded = h })
+leaf_complete (float x) front rest h = (image_exact float (float_bits)).complete (float x) front rest (record { of = x; is = refl; encoded = h })
+leaf_complete (double x) front rest h = (image_exact double (double_bits)).complete (double x) front rest (record { of = x; is = refl; encoded = h })
 leaf_complete (string x) front rest h = (image_exact string (text)).complete (string x) front rest (record { of = x; is = refl; encoded = h })
+leaf_complete (date_time x) front rest h = (image_exact date_time (date_time_format)).complete (date_time x) front rest (record { of = x; is = refl; encoded = h })
 leaf_complete (byte_string x) front rest h = (image_exact byte_string (counted)).complete (byte_string x) front rest (record { of = x; is = refl; encoded = h })
+leaf_complete (xml_element x) front rest h = (image_exact xml_element (xml_element_format)).complete (xml_element x) front rest (record { of = x; is = refl; encoded = h })
 leaf_complete (status_code x) front rest h = (image_exact status_code (status_code_format)).complete (status_code x) front rest (record { of = x; is = refl; encoded = h })
+leaf_complete (qualified_name x) front rest h = (image_exact qualified_name (qualified_name_format)).complete (qualified_name x) front rest (record { of = x; is = refl; encoded = h })
+leaf_complete (localized_text x) front rest h = (image_exact localized_text (localized_text_format)).complete (localized_text x) front rest (record { of = x; is = refl; encoded = h })
 leaf_complete (reserved k x) front rest h =
     if_true (is_reserved k) (image_read (reserved k) counted.decode (front ++ rest)) _ h.0
     ∙ (image_exact (reserved k) counted).complete (reserved k x) front rest (record { of = x; is = refl; encoded = h.1 })
@@ -147,20 +220,46 @@ reserved_apart k h = Prim.grind (arith, common_steps)
 
 -- a leaf's type id is none of these
 pub leaf_apart : (l : LeafData) (b : List ℕ) → EncodesLeaf l b → holds_values (leaf_kind l) ≡ false
+leaf_apart (boolean x) b h = refl
+leaf_apart (sbyte x) b h = refl
 leaf_apart (byte x) b h = refl
+leaf_apart (int16 x) b h = refl
+leaf_apart (uint16 x) b h = refl
+leaf_apart (int32 x) b h = refl
 leaf_apart (uint32 x) b h = refl
+leaf_apart (int64 x) b h = refl
+leaf_apart (uint64 x) b h = refl
+leaf_apart (float x) b h = refl
+leaf_apart (double x) b h = refl
 leaf_apart (string x) b h = refl
+leaf_apart (date_time x) b h = refl
 leaf_apart (byte_string x) b h = refl
+leaf_apart (xml_element x) b h = refl
 leaf_apart (status_code x) b h = refl
+leaf_apart (qualified_name x) b h = refl
+leaf_apart (localized_text x) b h = refl
 leaf_apart (reserved k x) b h = reserved_apart k h.0
 
 reserved_within : (k : ℕ) → IsTrue (is_reserved k) → (0 < k) × (k < 32)
 reserved_within k h = (Prim.grind (arith, common_steps), Prim.grind (arith, common_steps))
 
 pub leaf_kind_within : (l : LeafData) (b : List ℕ) → EncodesLeaf l b → (0 < leaf_kind l) × (leaf_kind l < 32)
+leaf_kind_within (boolean x) b h = (omega arith, omega arith)
+leaf_kind_within (sbyte x) b h = (omega arith, omega arith)
 leaf_kind_within (byte x) b h = (omega arith, omega arith)
+leaf_kind_within (int16 x) b h = (omega arith, omega arith)
+leaf_kind_within (uint16 x) b h = (omega arith, omega arith)
+leaf_kind_within (int32 x) b h = (omega arith, omega arith)
 leaf_kind_within (uint32 x) b h = (omega arith, omega arith)
+leaf_kind_within (int64 x) b h = (omega arith, omega arith)
+leaf_kind_within (uint64 x) b h = (omega arith, omega arith)
+leaf_kind_within (float x) b h = (omega arith, omega arith)
+leaf_kind_within (double x) b h = (omega arith, omega arith)
 leaf_kind_within (string x) b h = (omega arith, omega arith)
+leaf_kind_within (date_time x) b h = (omega arith, omega arith)
 leaf_kind_within (byte_string x) b h = (omega arith, omega arith)
+leaf_kind_within (xml_element x) b h = (omega arith, omega arith)
 leaf_kind_within (status_code x) b h = (omega arith, omega arith)
+leaf_kind_within (qualified_name x) b h = (omega arith, omega arith)
+leaf_kind_within (localized_text x) b h = (omega arith, omega arith)
 leaf_kind_within (reserved k x) b h = reserved_within k h.0

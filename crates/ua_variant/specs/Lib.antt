@@ -1,3 +1,4 @@
+pub mod Arrays
 pub mod Canonical
 pub mod Codes
 pub mod Data
@@ -9,7 +10,9 @@ pub mod Fields
 pub mod Leaf
 pub mod Measure
 pub mod Parts
+pub mod Scalars
 pub mod Sizes
 pub mod Trees
 pub mod Values
+pub mod Variants
 pub mod View

@@ -29,11 +29,24 @@ pub data_value_falls : (d : DataValue) → deep-DataValue d ≤ 2 * data_value_c
 data_value_falls d = data_value_at d.value (data_fields_of d)
 
 pub scalar_falls : (s : Scalar) → deep-Scalar s ≤ 2 * scalar_count (scalar_of s) + 1
+scalar_falls (Scalar.Boolean x) = omega arith
+scalar_falls (Scalar.SByte x) = omega arith
 scalar_falls (Scalar.Byte x) = omega arith
+scalar_falls (Scalar.Int16 x) = omega arith
+scalar_falls (Scalar.UInt16 x) = omega arith
+scalar_falls (Scalar.Int32 x) = omega arith
 scalar_falls (Scalar.UInt32 x) = omega arith
+scalar_falls (Scalar.Int64 x) = omega arith
+scalar_falls (Scalar.UInt64 x) = omega arith
+scalar_falls (Scalar.Float x) = omega arith
+scalar_falls (Scalar.Double x) = omega arith
 scalar_falls (Scalar.String x) = omega arith
+scalar_falls (Scalar.DateTime x) = omega arith
 scalar_falls (Scalar.ByteString x) = omega arith
+scalar_falls (Scalar.XmlElement x) = omega arith
 scalar_falls (Scalar.StatusCode x) = omega arith
+scalar_falls (Scalar.QualifiedName x) = omega arith
+scalar_falls (Scalar.LocalizedText x) = omega arith
 scalar_falls (Scalar.DataValue d) = omega (arith, data_value_falls d)
 scalar_falls (Scalar.Variant v) = omega arith
 scalar_falls (Scalar.DiagnosticInfo d) = omega arith

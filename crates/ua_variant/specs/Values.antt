@@ -2,7 +2,7 @@
 use Rattle.std.specs.Prelude.{◌≡◌, ℕ, Bool, List, [], ◌∷◌, Option, Some, None, refl}
 use lib.IntN.{ℤ}
 use Rattle.std.proofs.Common.{ap}
-use Rattle.ua_variant.specs.Data.{LeafData, byte, uint32, string, byte_string, status_code, reserved, DiagnosticFields, DiagnosticData, innermost, around, DataFields, VariantData, null, one, absent, many, ScalarData, leaf, data_value, variant, diagnostic, ScalarsData, no_scalars, scalar, DataValueData, bare, valued}
+use Rattle.ua_variant.specs.Data.{LeafData, boolean, sbyte, byte, int16, uint16, int32, uint32, int64, uint64, float, double, string, date_time, byte_string, xml_element, status_code, qualified_name, localized_text, reserved, DiagnosticFields, DiagnosticData, innermost, around, DataFields, VariantData, null, one, absent, many, ScalarData, leaf, data_value, variant, diagnostic, ScalarsData, no_scalars, scalar, DataValueData, bare, valued}
 use Rattle.ua_variant.specs.View.{row, row_list, diagnostic_within, diagnostic_fields_of, diagnostic_of, value_within, data_fields_of, data_value_of, scalar_of, many_of, variant_of}
 use Rattle.ua_variant.specs.declared.values.Scalar.{Scalar}
 use Rattle.ua_variant.specs.declared.values.Variant.{Variant}
@@ -46,11 +46,24 @@ pub data_value_value_of : (d : DataValue) → data_value_value (data_value_of d)
 data_value_value_of d = data_back d.value (data_fields_of d)
 
 abbrev pub leaf_value : LeafData → Scalar
+leaf_value (boolean x) = Scalar.Boolean x
+leaf_value (sbyte x) = Scalar.SByte x
 leaf_value (byte x) = Scalar.Byte x
+leaf_value (int16 x) = Scalar.Int16 x
+leaf_value (uint16 x) = Scalar.UInt16 x
+leaf_value (int32 x) = Scalar.Int32 x
 leaf_value (uint32 x) = Scalar.UInt32 x
+leaf_value (int64 x) = Scalar.Int64 x
+leaf_value (uint64 x) = Scalar.UInt64 x
+leaf_value (float x) = Scalar.Float x
+leaf_value (double x) = Scalar.Double x
 leaf_value (string x) = Scalar.String x
+leaf_value (date_time x) = Scalar.DateTime x
 leaf_value (byte_string x) = Scalar.ByteString x
+leaf_value (xml_element x) = Scalar.XmlElement x
 leaf_value (status_code x) = Scalar.StatusCode x
+leaf_value (qualified_name x) = Scalar.QualifiedName x
+leaf_value (localized_text x) = Scalar.LocalizedText x
 leaf_value (reserved k x) = Scalar.Reserved k x
 
 abbrev pub scalar_value : ScalarData → Scalar
@@ -60,11 +73,24 @@ scalar_value (variant v) = Scalar.Variant v
 scalar_value (diagnostic d) = Scalar.DiagnosticInfo (diagnostic_value d)
 
 leaf_forth : (l : LeafData) → scalar_of (leaf_value l) ≡ leaf l
+leaf_forth (boolean x) = refl
+leaf_forth (sbyte x) = refl
 leaf_forth (byte x) = refl
+leaf_forth (int16 x) = refl
+leaf_forth (uint16 x) = refl
+leaf_forth (int32 x) = refl
 leaf_forth (uint32 x) = refl
+leaf_forth (int64 x) = refl
+leaf_forth (uint64 x) = refl
+leaf_forth (float x) = refl
+leaf_forth (double x) = refl
 leaf_forth (string x) = refl
+leaf_forth (date_time x) = refl
 leaf_forth (byte_string x) = refl
+leaf_forth (xml_element x) = refl
 leaf_forth (status_code x) = refl
+leaf_forth (qualified_name x) = refl
+leaf_forth (localized_text x) = refl
 leaf_forth (reserved k x) = refl
 
 pub scalar_forth : (s : ScalarData) → scalar_of (scalar_value s) ≡ s
@@ -74,11 +100,24 @@ scalar_forth (variant v) = refl
 scalar_forth (diagnostic d) = ap diagnostic (diagnostic_forth d)
 
 pub scalar_value_of : (s : Scalar) → scalar_value (scalar_of s) ≡ s
+scalar_value_of (Scalar.Boolean x) = refl
+scalar_value_of (Scalar.SByte x) = refl
 scalar_value_of (Scalar.Byte x) = refl
+scalar_value_of (Scalar.Int16 x) = refl
+scalar_value_of (Scalar.UInt16 x) = refl
+scalar_value_of (Scalar.Int32 x) = refl
 scalar_value_of (Scalar.UInt32 x) = refl
+scalar_value_of (Scalar.Int64 x) = refl
+scalar_value_of (Scalar.UInt64 x) = refl
+scalar_value_of (Scalar.Float x) = refl
+scalar_value_of (Scalar.Double x) = refl
 scalar_value_of (Scalar.String x) = refl
+scalar_value_of (Scalar.DateTime x) = refl
 scalar_value_of (Scalar.ByteString x) = refl
+scalar_value_of (Scalar.XmlElement x) = refl
 scalar_value_of (Scalar.StatusCode x) = refl
+scalar_value_of (Scalar.QualifiedName x) = refl
+scalar_value_of (Scalar.LocalizedText x) = refl
 scalar_value_of (Scalar.DataValue d) = ap (λ (x : DataValue). Scalar.DataValue x) (data_value_value_of d)
 scalar_value_of (Scalar.Variant v) = refl
 scalar_value_of (Scalar.DiagnosticInfo d) = ap (λ (x : DiagnosticInfo). Scalar.DiagnosticInfo x) (diagnostic_value_of d)

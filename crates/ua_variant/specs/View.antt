@@ -2,7 +2,7 @@
 use Rattle.std.specs.Prelude.{◌≡◌, ℕ, Bool, List, [], ◌∷◌, Option, Some, None, map, refl}
 use lib.IntN.{ℤ}
 use Rattle.std.proofs.Common.{ap}
-use Rattle.ua_variant.specs.Data.{LeafData, byte, uint32, string, byte_string, status_code, reserved, DiagnosticFields, DiagnosticData, innermost, around, DataFields, VariantData, null, one, absent, many, ScalarData, leaf, data_value, variant, diagnostic, ScalarsData, no_scalars, scalar, DataValueData, bare, valued}
+use Rattle.ua_variant.specs.Data.{LeafData, boolean, sbyte, byte, int16, uint16, int32, uint32, int64, uint64, float, double, string, date_time, byte_string, xml_element, status_code, qualified_name, localized_text, reserved, DiagnosticFields, DiagnosticData, innermost, around, DataFields, VariantData, null, one, absent, many, ScalarData, leaf, data_value, variant, diagnostic, ScalarsData, no_scalars, scalar, DataValueData, bare, valued}
 use Rattle.ua_variant.specs.declared.values.Scalar.{Scalar}
 use Rattle.ua_variant.specs.declared.values.Variant.{Variant}
 use Rattle.ua_variant.specs.declared.values.DataValue.{DataValue}
@@ -38,11 +38,24 @@ abbrev pub data_value_of : DataValue → DataValueData
 data_value_of d = value_within d.value (data_fields_of d)
 
 abbrev pub scalar_of : Scalar → ScalarData
+scalar_of (Scalar.Boolean x) = leaf (boolean x)
+scalar_of (Scalar.SByte x) = leaf (sbyte x)
 scalar_of (Scalar.Byte x) = leaf (byte x)
+scalar_of (Scalar.Int16 x) = leaf (int16 x)
+scalar_of (Scalar.UInt16 x) = leaf (uint16 x)
+scalar_of (Scalar.Int32 x) = leaf (int32 x)
 scalar_of (Scalar.UInt32 x) = leaf (uint32 x)
+scalar_of (Scalar.Int64 x) = leaf (int64 x)
+scalar_of (Scalar.UInt64 x) = leaf (uint64 x)
+scalar_of (Scalar.Float x) = leaf (float x)
+scalar_of (Scalar.Double x) = leaf (double x)
 scalar_of (Scalar.String x) = leaf (string x)
+scalar_of (Scalar.DateTime x) = leaf (date_time x)
 scalar_of (Scalar.ByteString x) = leaf (byte_string x)
+scalar_of (Scalar.XmlElement x) = leaf (xml_element x)
 scalar_of (Scalar.StatusCode x) = leaf (status_code x)
+scalar_of (Scalar.QualifiedName x) = leaf (qualified_name x)
+scalar_of (Scalar.LocalizedText x) = leaf (localized_text x)
 scalar_of (Scalar.DataValue d) = data_value (data_value_of d)
 scalar_of (Scalar.Variant v) = variant v
 scalar_of (Scalar.DiagnosticInfo d) = diagnostic (diagnostic_of d)

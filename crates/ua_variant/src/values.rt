@@ -5,7 +5,7 @@ ghost use Rattle.ua_variant.specs.View.{variant_of, diagnostic_of, scalar_of};
 
 use std::alloc::{AllocError, Global};
 use std::marker::Model;
-use ua_builtin::{StatusCode, UaBytes, UaString};
+use ua_builtin::{DateTime, DoubleBits, FloatBits, LocalizedText, QualifiedName, StatusCode, UaBytes, UaString, XmlElement};
 
 /// The dimensions of an array; none where it has one dimension alone.
 #[derive(Drop)]
@@ -27,10 +27,10 @@ impl Model for Dimensions {
 #[cycle(diagnostics)]
 #[derive(Drop)]
 pub struct DiagnosticInfo {
-    pub symbolic_id: Option<u32>,
-    pub namespace_uri: Option<u32>,
-    pub locale: Option<u32>,
-    pub localized_text: Option<u32>,
+    pub symbolic_id: Option<i32>,
+    pub namespace_uri: Option<i32>,
+    pub locale: Option<i32>,
+    pub localized_text: Option<i32>,
     /// Null where there is none.
     pub additional_info: UaString,
     pub inner_status_code: Option<StatusCode>,
@@ -85,11 +85,24 @@ pub enum Variant {
 #[cycle(values)]
 #[derive(Drop)]
 pub enum Scalar {
+    Boolean(bool),
+    SByte(i8),
     Byte(u8),
+    Int16(i16),
+    UInt16(u16),
+    Int32(i32),
     UInt32(u32),
+    Int64(i64),
+    UInt64(u64),
+    Float(FloatBits),
+    Double(DoubleBits),
     String(UaString),
+    DateTime(DateTime),
     ByteString(UaBytes),
+    XmlElement(XmlElement),
     StatusCode(StatusCode),
+    QualifiedName(QualifiedName),
+    LocalizedText(LocalizedText),
     DataValue(DataValue),
     Variant(BoxedVariant),
     DiagnosticInfo(DiagnosticInfo),
@@ -104,10 +117,10 @@ pub enum Scalar {
 pub struct DataValue {
     pub value: Option<BoxedVariant>,
     pub status: Option<StatusCode>,
-    pub source_timestamp: Option<u32>,
+    pub source_timestamp: Option<DateTime>,
     /// What is to be added to the source time, in units of 10 picoseconds.
     pub source_picoseconds: Option<u16>,
-    pub server_timestamp: Option<u32>,
+    pub server_timestamp: Option<DateTime>,
     /// What is to be added to the server time, in units of 10 picoseconds.
     pub server_picoseconds: Option<u16>,
 }
