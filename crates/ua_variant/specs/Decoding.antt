@@ -60,10 +60,14 @@ dims_at f n octets = cond f (
 unfoldable pub no_dims_at : Bool → Reader (List ℤ)
 no_dims_at f octets = cond f (number_at 4 octets >>= λ m. when (is_none_count m.0) (Some ([], m.1))) (Some ([], octets))
 
+-- n elements and their dimensions
+abbrev pub elements_at : (ℕ → Reader ScalarData) → ℕ → Bool → ℕ → Reader VariantData
+elements_at p k f n octets = row_at n (p k) octets >>= λ ss. dims_at f n ss.1 >>= λ ds. Some (many k ss.0 ds.0, ds.1)
+
 unfoldable pub array_at : (ℕ → Reader ScalarData) → ℕ → Bool → Reader VariantData
 array_at p k f octets = number_at 4 octets >>= λ n. cond (is_negative n.0)
     (no_dims_at f n.1 >>= λ ds. Some (absent k ds.0, ds.1))
-    (row_at n.0 (p k) n.1 >>= λ ss. dims_at f n.0 ss.1 >>= λ ds. Some (many k ss.0 ds.0, ds.1))
+    (elements_at p k f n.0 n.1)
 
 -- behind the first octet t
 unfoldable pub variant_after : (ℕ → Reader ScalarData) → ℕ → Reader VariantData
@@ -87,3 +91,14 @@ unfoldable mutual
 -- the scalars of each type id, with n levels left
 abbrev pub scalars_at : ℕ → ℕ → Reader ScalarData
 scalars_at n = scalar_at (data_value_at n) (variant_at n) (diagnostic_at n)
+
+-- these before the rest of a row
+abbrev pub before : List ScalarData → ScalarsData → ScalarsData
+before [] r = r
+before (s ∷ ss) r = scalar s (before ss r)
+
+abbrev pub with_front : List ScalarData → Option (ScalarsData × List ℕ) → Option (ScalarsData × List ℕ)
+with_front ss r = r >>= λ x. Some (before ss x.0, x.1)
+
+abbrev pub with_sizes : List ℤ → Option (List ℤ × List ℕ) → Option (List ℤ × List ℕ)
+with_sizes ds r = r >>= λ x. Some (ds ++ x.0, x.1)

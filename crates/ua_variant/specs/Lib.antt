@@ -7,7 +7,10 @@ pub mod Diagnostics
 pub mod Encodable
 pub mod Encoding
 pub mod Fields
+pub mod Flags
+pub mod Formats
 pub mod Leaf
+pub mod Lengths
 pub mod Measure
 pub mod Parts
 pub mod Scalars
@@ -16,3 +19,4 @@ pub mod Trees
 pub mod Values
 pub mod Variants
 pub mod View
+pub mod Written

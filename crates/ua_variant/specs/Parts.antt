@@ -127,6 +127,15 @@ exact_flagged p r false e = exact_only None
 
 -- ---- as formats
 
+-- what is there passes the test
+abbrev pub optional_fits : {A : Type 0} → (A → Bool) → Option A → Bool
+optional_fits t None = true
+optional_fits t (Some x) = t x
+
+abbrev pub flagged_fits : {A : Type 0} → (Option A → Bool) → Option A → Bool
+flagged_fits t None = true
+flagged_fits t (Some x) = t (Some x)
+
 abbrev pub optional_encodable : {A : Type 0} → (A → Bool) → Bool → Option A → Bool
 optional_encodable t true None = false
 optional_encodable t true (Some x) = t x

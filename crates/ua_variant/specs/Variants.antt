@@ -23,7 +23,7 @@ After n t y b = ShallowV (suc n) y (t ∷ b)
 head_of : (t k : ℕ) (b a c : List ℕ) → t ∷ b ≡ a ++ c → IsOctet k a → (t ≡ k) × (b ≡ c)
 head_of t k b a c e o = let h : t ∷ b ≡ k ∷ c = e ∙ ap (λ (x : List ℕ). x ++ c) o.1 in (cc, cc)
 
-kind_within : (s : ScalarData) (b : List ℕ) → EncodesScalar s b → (0 < kind_of s) × (kind_of s < 32)
+pub kind_within : (s : ScalarData) (b : List ℕ) → EncodesScalar s b → (0 < kind_of s) × (kind_of s < 32)
 kind_within (leaf l) b r = leaf_kind_within l b r
 kind_within (data_value d) b r = (omega arith, omega arith)
 kind_within (variant v) b r = (omega arith, omega arith)

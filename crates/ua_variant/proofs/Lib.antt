@@ -1,0 +1,5 @@
+pub mod Fits
+pub mod Flags
+pub mod Loops
+pub mod Rows
+pub mod Written
