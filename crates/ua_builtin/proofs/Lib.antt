@@ -1,1 +1,4 @@
+pub mod Flagged
+pub mod NodeIdForms
 pub mod ReadAnswers
+pub mod Texts

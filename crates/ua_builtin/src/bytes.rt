@@ -7,10 +7,11 @@ use crate::fault::ReadFault;
 use crate::source::Source;
 use crate::wire::Wire;
 use std::alloc::{AllocError, Global};
+use std::hash::{Hash, Hasher};
 use std::marker::Model;
 
 /// A ByteString: octets, or null, which differs from no octets (OPC 10000-6, 5.2.2.7).
-#[derive(Drop)]
+#[derive(Debug, Drop)]
 pub struct UaBytes {
     octets: Option<Vec<u8>>,
 }
@@ -24,7 +25,7 @@ impl Model for UaBytes {
 }
 
 impl UaBytes {
-    ghost use Rattle.std.specs.Prelude.{◌≡◌, option_map, option_copied, None};
+    ghost use Rattle.std.specs.Prelude.{◌≡◌, option_map, None, IfOk};
 
     /// These octets, or null for `None`.
     #[inline]
@@ -59,6 +60,50 @@ impl UaBytes {
         ensures { option_map (λ v. v.items) result ≡ self }
     {
         self.octets
+    }
+
+    /// A value of its own, equal to this one.
+    pub fn try_clone(&self) -> Result<UaBytes, AllocError>
+        ensures { IfOk result (λ v. v ≡ self.now) }
+    {
+        let octets = match &self.octets {
+            Some(octets) => Some(octets.clone()?),
+            None => None,
+        };
+        Ok(UaBytes { octets })
+    }
+}
+
+impl PartialEq for UaBytes {
+    ghost use Rattle.std.specs.Cmp.{partial_equiv_from_equiv};
+    ghost use Rattle.ua_builtin.specs.Same.{is_same, is_same_equivalence};
+
+    ghost eq = { is_same };
+
+    ghost laws = { partial_equiv_from_equiv is_same_equivalence };
+
+    #[tactic(auto, using(crate::specs::Same::seen))]
+    fn eq(&self, other: &UaBytes) -> bool {
+        self.octets == other.octets
+    }
+}
+
+impl Eq for UaBytes {
+    ghost use Rattle.ua_builtin.specs.Same.{is_same_equivalence};
+
+    ghost laws = { is_same_equivalence };
+}
+
+impl Hash for UaBytes {
+    ghost use Rattle.ua_builtin.specs.Same.{octets_hashed, octets_alike};
+
+    ghost hash_input = { octets_hashed };
+
+    ghost respects_eq = { octets_alike };
+
+    #[tactic(auto, using(crate::specs::Same::seen))]
+    fn hash<H: Hasher>(&self, state: &mut H) {
+        self.octets.hash(state);
     }
 }
 

@@ -1,6 +1,6 @@
 //! Octets and texts behind their count.
 
-ghost use Rattle.std.specs.Prelude.{◌≡◌, ◌<◌, length, true, false, string_bytes, IsErrOf, MatchOption};
+ghost use Rattle.std.specs.Prelude.{◌≡◌, ◌<◌, length, true, false, string_bytes, Some, None, IsErrOf, MatchOption, MatchResult};
 ghost use Rattle.std.specs.Str.{is_utf8};
 ghost use Rattle.ua_builtin.specs.Format.{GivesBy, StaysBehind};
 ghost use Rattle.ua_builtin.specs.Counted.{octets_at};
@@ -16,6 +16,21 @@ pub const NULL_COUNT: u32 = u32::MAX;
 /// Counts from here on are negative as an Int32, and mean null.
 pub const FIRST_NEGATIVE: u32 = 1 << 31;
 
+/// Takes as many octets as the buffer has.
+#[inline]
+pub fn fill_octets<S: Source>(src: &mut S, octets: &mut [u8]) -> Result<(), ReadFault>
+    ensures exact {
+        MatchResult result (λ _. octets_at (length octets.old) (S.octets src.old) ≡ Some (octets.new, S.octets src.new))
+            (λ e. (e ≡ NoValue) × (octets_at (length octets.old) (S.octets src.old) ≡ None))
+    }
+    ensures behind { StaysBehind (S.octets src.old) (S.octets src.new) }
+{
+    if !src.take_into(octets) {
+        return Err(ReadFault::NoValue);
+    }
+    Ok(())
+}
+
 /// Takes that many octets, and no memory where there are fewer.
 #[inline]
 pub fn take_octets<S: Source>(alloc: Global, src: &mut S, count: usize) -> Result<Vec<u8>, ReadFault>
@@ -27,9 +42,7 @@ pub fn take_octets<S: Source>(alloc: Global, src: &mut S, count: usize) -> Resul
         return Err(ReadFault::NoValue);
     }
     let mut octets = vec![in alloc; 0; count]?;
-    if !src.take_into(octets.as_mut_slice()) {
-        return Err(ReadFault::NoValue);
-    }
+    fill_octets(src, octets.as_mut_slice())?;
     Ok(octets)
 }
 
@@ -44,8 +57,6 @@ pub fn text_of(octets: Vec<u8>) -> Option<String>
     if !simdutf8::is_utf8(&octets) {
         return None;
     }
-    match String::from_utf8(octets) {
-        Ok(text) => Some(text),
-        Err(_) => None,
-    }
+    // The octets are UTF-8 by the test above, so no second scan is made.
+    Some(unsafe { String::from_utf8_unchecked(octets) })
 }

@@ -46,3 +46,24 @@ pub enum WriteFault {
     #[error("out of memory")]
     OutOfMemory,
 }
+
+/// Why a text is not read as a NodeId.
+#[derive(Clone, Copy, PartialEq, Eq, Debug, Error)]
+pub enum TextFault {
+    /// The text names no NodeId.
+    #[error("the text is not a NodeId")]
+    NotNodeId,
+    /// Memory was refused.
+    #[error("out of memory")]
+    OutOfMemory,
+}
+
+impl From<AllocError> for TextFault {
+    ghost use Rattle.ua_builtin.specs.declared.fault.TextFault.TheVariants.{OutOfMemory};
+
+    ghost from_gives = { λ _ e. e ≡ OutOfMemory };
+
+    fn from(_: AllocError) -> TextFault {
+        TextFault::OutOfMemory
+    }
+}

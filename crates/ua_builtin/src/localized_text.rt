@@ -9,7 +9,7 @@ use std::alloc::{AllocError, Global};
 
 /// A text for people, and the locale of its language; either may be null
 /// (OPC 10000-6, 5.2.2.14; OPC 10000-3, 8.5).
-#[derive(Drop)]
+#[derive(PartialEq, Eq, Debug, Drop)]
 pub struct LocalizedText {
     pub locale: UaString,
     pub text: UaString,
@@ -17,6 +17,20 @@ pub struct LocalizedText {
 
 const LOCALE: u8 = 0x01;
 const TEXT: u8 = 0x02;
+
+impl LocalizedText {
+    ghost use Rattle.std.specs.Prelude.{◌≡◌, IfOk};
+
+    /// A value of its own, equal to this one.
+    pub fn try_clone(&self) -> Result<LocalizedText, AllocError>
+        ensures { IfOk result (λ v. v ≡ self.now) }
+    {
+        Ok(LocalizedText {
+            locale: self.locale.try_clone()?,
+            text: self.text.try_clone()?,
+        })
+    }
+}
 
 impl Wire for LocalizedText {
     ghost use Rattle.ua_builtin.specs.Format.{flat};

@@ -8,10 +8,24 @@ use std::alloc::{AllocError, Global};
 
 /// A name within a namespace, which is an index into the server's table of namespaces
 /// (OPC 10000-6, 5.2.2.13).
-#[derive(Drop)]
+#[derive(PartialEq, Eq, Debug, Drop)]
 pub struct QualifiedName {
     pub namespace: u16,
     pub name: UaString,
+}
+
+impl QualifiedName {
+    ghost use Rattle.std.specs.Prelude.{◌≡◌, IfOk};
+
+    /// A value of its own, equal to this one.
+    pub fn try_clone(&self) -> Result<QualifiedName, AllocError>
+        ensures { IfOk result (λ v. v ≡ self.now) }
+    {
+        Ok(QualifiedName {
+            namespace: self.namespace,
+            name: self.name.try_clone()?,
+        })
+    }
 }
 
 impl Wire for QualifiedName {

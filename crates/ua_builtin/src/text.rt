@@ -6,10 +6,11 @@ use crate::fault::ReadFault;
 use crate::source::Source;
 use crate::wire::Wire;
 use std::alloc::{AllocError, Global};
+use std::hash::{Hash, Hasher};
 use std::marker::Model;
 
 /// A String: a text, or null, which differs from the empty text (OPC 10000-6, 5.2.2.4).
-#[derive(Drop)]
+#[derive(Debug, Drop)]
 pub struct UaString {
     text: Option<String>,
 }
@@ -76,6 +77,50 @@ impl UaString {
         ensures { option_map string_bytes result ≡ self }
     {
         self.text
+    }
+
+    /// A value of its own, equal to this one.
+    pub fn try_clone(&self) -> Result<UaString, AllocError>
+        ensures { IfOk result (λ v. v ≡ self.now) }
+    {
+        let text = match &self.text {
+            Some(text) => Some(text.clone()?),
+            None => None,
+        };
+        Ok(UaString { text })
+    }
+}
+
+impl PartialEq for UaString {
+    ghost use Rattle.std.specs.Cmp.{partial_equiv_from_equiv};
+    ghost use Rattle.ua_builtin.specs.Same.{is_same, is_same_equivalence};
+
+    ghost eq = { is_same };
+
+    ghost laws = { partial_equiv_from_equiv is_same_equivalence };
+
+    #[tactic(auto, using(crate::specs::Same::seen))]
+    fn eq(&self, other: &UaString) -> bool {
+        self.text == other.text
+    }
+}
+
+impl Eq for UaString {
+    ghost use Rattle.ua_builtin.specs.Same.{is_same_equivalence};
+
+    ghost laws = { is_same_equivalence };
+}
+
+impl Hash for UaString {
+    ghost use Rattle.ua_builtin.specs.Same.{text_hashed, text_alike};
+
+    ghost hash_input = { text_hashed };
+
+    ghost respects_eq = { text_alike };
+
+    #[tactic(auto, using(crate::specs::Same::seen))]
+    fn hash<H: Hasher>(&self, state: &mut H) {
+        self.text.hash(state);
     }
 }
 

@@ -7,9 +7,22 @@ use crate::wire::Wire;
 use std::alloc::{AllocError, Global};
 
 /// An XML element as octets, which are never looked at, or null (OPC 10000-6, 5.2.2.8).
-#[derive(Drop)]
+#[derive(PartialEq, Eq, Debug, Drop)]
 pub struct XmlElement {
     pub octets: UaBytes,
+}
+
+impl XmlElement {
+    ghost use Rattle.std.specs.Prelude.{◌≡◌, IfOk};
+
+    /// A value of its own, equal to this one.
+    pub fn try_clone(&self) -> Result<XmlElement, AllocError>
+        ensures { IfOk result (λ v. v ≡ self.now) }
+    {
+        Ok(XmlElement {
+            octets: self.octets.try_clone()?,
+        })
+    }
 }
 
 impl Wire for XmlElement {

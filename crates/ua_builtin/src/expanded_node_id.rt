@@ -1,0 +1,112 @@
+//! ExpandedNodeId.
+
+use crate::fault::ReadFault;
+use crate::flags;
+use crate::node_id::NodeId;
+use crate::source::Source;
+use crate::text::UaString;
+use crate::wire::Wire;
+use std::alloc::{AllocError, Global};
+
+/// The name of a node that may be on another server: with the URI of its namespace, unless that is
+/// null, and the index of its server, where 0 is the server itself (OPC 10000-6, 5.2.2.10).
+///
+/// A namespace index beside a URI means nothing, and is kept and written as it is.
+#[derive(PartialEq, Eq, Debug, Drop)]
+pub struct ExpandedNodeId {
+    pub node_id: NodeId,
+    pub namespace_uri: UaString,
+    pub server_index: u32,
+}
+
+const FORM: u8 = 0x3F;
+const HAS_SERVER_INDEX: u8 = 0x40;
+const HAS_NAMESPACE_URI: u8 = 0x80;
+
+impl ExpandedNodeId {
+    ghost use Rattle.std.specs.Prelude.{◌≡◌, ◌++◌, not, IfOk, OnOk, OnErr};
+    ghost use Rattle.ua_builtin.specs.Format.{Extends};
+    ghost use Rattle.ua_builtin.specs.ExpandedNodeId.{octet_of, flagged_index, is_here};
+
+    /// A value of its own, equal to this one.
+    pub fn try_clone(&self) -> Result<ExpandedNodeId, AllocError>
+        ensures { IfOk result (λ v. v ≡ self.now) }
+    {
+        Ok(ExpandedNodeId {
+            node_id: self.node_id.try_clone()?,
+            namespace_uri: self.namespace_uri.try_clone()?,
+            server_index: self.server_index,
+        })
+    }
+
+    // The form octet with the flags of what is there.
+    fn octet(&self) -> u8
+        ensures { result ≡ octet_of self.now }
+    {
+        let mut octet = self.node_id.form();
+        if self.namespace_uri.is_some() {
+            octet += HAS_NAMESPACE_URI;
+        }
+        if self.server_index != 0 {
+            octet += HAS_SERVER_INDEX;
+        }
+        octet
+    }
+
+    // Adds the index unless it is 0.
+    fn append_index(&self, out: &mut Vec<u8>) -> Result<(), AllocError>
+        ensures ok { OnOk result (out.new.items ≡ out.old.items ++ (flagged_index (not (is_here self.now.server_index))).canonical self.now.server_index) }
+        ensures err { OnErr result (Extends out.old.items out.new.items) }
+    {
+        if self.server_index != 0 {
+            self.server_index.append(out)?;
+        }
+        Ok(())
+    }
+}
+
+impl Wire for ExpandedNodeId {
+    ghost use Rattle.ua_builtin.specs.Format.{flat};
+    ghost use Rattle.ua_builtin.specs.ExpandedNodeId.{expanded_node_id, expanded_node_id_starts};
+
+    ghost format = { flat expanded_node_id };
+
+    ghost starts = { expanded_node_id_starts };
+
+    #[tactic(auto, unfolding(crate::specs::ExpandedNodeId::expanded_node_id))]
+    fn read_value<S: Source>(
+        alloc: Global,
+        src: &mut S,
+        depth: u32,
+    ) -> Result<ExpandedNodeId, ReadFault> {
+        let octet = u8::read_value(alloc, src, depth)?;
+        let node_id = NodeId::read_form(alloc, src, depth, octet & FORM)?;
+        let has_uri = octet & HAS_NAMESPACE_URI != 0;
+        let namespace_uri = flags::read_flagged(alloc, src, depth, has_uri)?;
+        let server_index = if octet & HAS_SERVER_INDEX != 0 {
+            u32::read_value(alloc, src, depth)?
+        } else {
+            0
+        };
+        Ok(ExpandedNodeId {
+            node_id,
+            namespace_uri,
+            server_index,
+        })
+    }
+
+    #[tactic(auto, using(crate::specs::ExpandedNodeId::octet_says), unfolding(crate::specs::ExpandedNodeId::expanded_node_id))]
+    fn is_encodable(&self) -> bool {
+        let _index = self.server_index;
+        self.node_id.is_form_encodable() && flags::is_flagged_encodable(&self.namespace_uri)
+    }
+
+    #[tactic(auto, using(crate::specs::ExpandedNodeId::octet_says), unfolding(crate::specs::ExpandedNodeId::expanded_node_id))]
+    fn append(&self, out: &mut Vec<u8>) -> Result<(), AllocError> {
+        self.octet().append(out)?;
+        self.node_id.append_form(out)?;
+        flags::append_flagged(&self.namespace_uri, out)?;
+        self.append_index(out)?;
+        Ok(())
+    }
+}

@@ -1,0 +1,107 @@
+//! ExtensionObject.
+
+use crate::bytes::UaBytes;
+use crate::fault::ReadFault;
+use crate::node_id::NodeId;
+use crate::source::Source;
+use crate::wire::Wire;
+use crate::xml_element::XmlElement;
+use std::alloc::{AllocError, Global};
+
+/// The body of an [`ExtensionObject`]. A ByteString or an XmlElement that is null is a body, and
+/// differs from none.
+#[derive(PartialEq, Eq, Debug, Drop)]
+pub enum ExtensionBody {
+    Absent,
+    ByteString(UaBytes),
+    Xml(XmlElement),
+}
+
+/// A structure of any type: the NodeId of its type's encoding, and its octets, which are kept as
+/// they stand (OPC 10000-6, 5.2.2.15).
+#[derive(PartialEq, Eq, Debug, Drop)]
+pub struct ExtensionObject {
+    pub type_id: NodeId,
+    pub body: ExtensionBody,
+}
+
+impl ExtensionBody {
+    ghost use Rattle.std.specs.Prelude.{◌≡◌, IfOk};
+
+    /// A value of its own, equal to this one.
+    pub fn try_clone(&self) -> Result<ExtensionBody, AllocError>
+        ensures { IfOk result (λ v. v ≡ self.now) }
+    {
+        Ok(match self {
+            ExtensionBody::Absent => ExtensionBody::Absent,
+            ExtensionBody::ByteString(octets) => ExtensionBody::ByteString(octets.try_clone()?),
+            ExtensionBody::Xml(element) => ExtensionBody::Xml(element.try_clone()?),
+        })
+    }
+}
+
+impl ExtensionObject {
+    ghost use Rattle.std.specs.Prelude.{◌≡◌, IfOk};
+
+    /// A value of its own, equal to this one.
+    pub fn try_clone(&self) -> Result<ExtensionObject, AllocError>
+        ensures { IfOk result (λ v. v ≡ self.now) }
+    {
+        Ok(ExtensionObject {
+            type_id: self.type_id.try_clone()?,
+            body: self.body.try_clone()?,
+        })
+    }
+}
+
+impl Wire for ExtensionObject {
+    ghost use Rattle.ua_builtin.specs.Format.{flat};
+    ghost use Rattle.ua_builtin.specs.ExtensionObject.{extension_object, extension_object_starts};
+
+    ghost format = { flat extension_object };
+
+    ghost starts = { extension_object_starts };
+
+    #[tactic(auto, unfolding(crate::specs::ExtensionObject::extension_object))]
+    fn read_value<S: Source>(
+        alloc: Global,
+        src: &mut S,
+        depth: u32,
+    ) -> Result<ExtensionObject, ReadFault> {
+        let type_id = NodeId::read_value(alloc, src, depth)?;
+        let body = match u8::read_value(alloc, src, depth)? {
+            0 => ExtensionBody::Absent,
+            1 => ExtensionBody::ByteString(UaBytes::read_value(alloc, src, depth)?),
+            2 => ExtensionBody::Xml(XmlElement::read_value(alloc, src, depth)?),
+            _ => return Err(ReadFault::NoValue),
+        };
+        Ok(ExtensionObject { type_id, body })
+    }
+
+    #[tactic(auto, unfolding(crate::specs::ExtensionObject::extension_object))]
+    fn is_encodable(&self) -> bool {
+        self.type_id.is_encodable()
+            && match &self.body {
+                ExtensionBody::Absent => true,
+                ExtensionBody::ByteString(octets) => octets.is_encodable(),
+                ExtensionBody::Xml(element) => element.is_encodable(),
+            }
+    }
+
+    #[tactic(auto, unfolding(crate::specs::ExtensionObject::extension_object))]
+    fn append(&self, out: &mut Vec<u8>) -> Result<(), AllocError> {
+        self.type_id.append(out)?;
+        match &self.body {
+            ExtensionBody::Absent => 0u8.append(out)?,
+            ExtensionBody::ByteString(octets) => {
+                1u8.append(out)?;
+                octets.append(out)?;
+            }
+            ExtensionBody::Xml(element) => {
+                2u8.append(out)?;
+                element.append(out)?;
+            }
+        }
+        Ok(())
+    }
+}

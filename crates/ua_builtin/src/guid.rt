@@ -1,0 +1,50 @@
+//! Guid.
+
+use crate::counted::fill_octets;
+use crate::fault::ReadFault;
+use crate::source::Source;
+use crate::wire::Wire;
+use std::alloc::{AllocError, Global};
+use uuid::Uuid;
+
+/// A Guid, which the crate `uuid` reads and prints: its first three fields are encoded with the
+/// least octet first (OPC 10000-6, 5.2.2.6).
+#[derive(Clone, Copy, PartialEq, Eq, Hash, Debug)]
+pub struct Guid {
+    pub uuid: Uuid,
+}
+
+impl Wire for Guid {
+    ghost use Rattle.ua_builtin.specs.Format.{flat};
+    ghost use Rattle.ua_builtin.specs.Guid.{guid, guid_starts};
+
+    ghost format = { flat guid };
+
+    ghost memoryless = { Unit {0} };
+
+    ghost starts = { guid_starts };
+
+    #[inline]
+    #[tactic(auto, unfolding(crate::specs::Guid::guid))]
+    fn read_value<S: Source>(_alloc: Global, src: &mut S, _depth: u32) -> Result<Guid, ReadFault> {
+        let mut octets = [0; 16];
+        fill_octets(src, &mut octets)?;
+        Ok(Guid {
+            uuid: Uuid::from_bytes_le(octets),
+        })
+    }
+
+    #[inline]
+    #[tactic(auto, unfolding(crate::specs::Guid::guid))]
+    fn is_encodable(&self) -> bool {
+        // Always so; no clause of the crate `uuid` says it.
+        self.uuid.as_bytes().as_slice().len() == 16
+    }
+
+    #[inline]
+    #[tactic(auto, unfolding(crate::specs::Guid::guid))]
+    fn append(&self, out: &mut Vec<u8>) -> Result<(), AllocError> {
+        out.extend_from_slice(&self.uuid.to_bytes_le())?;
+        Ok(())
+    }
+}

@@ -1,0 +1,205 @@
+//! NodeId.
+
+use crate::bytes::UaBytes;
+use crate::fault::ReadFault;
+use crate::guid::Guid;
+use crate::source::Source;
+use crate::text::UaString;
+use crate::wire::Wire;
+use std::alloc::{AllocError, Global};
+
+/// What names a node within its namespace (OPC 10000-3, 8.2).
+#[derive(PartialEq, Eq, Hash, Debug, Drop)]
+pub enum Identifier {
+    Numeric(u32),
+    Text(UaString),
+    Guid(Guid),
+    Opaque(UaBytes),
+}
+
+/// The name of a node: its namespace, which is an index into the server's table of namespaces, and
+/// its identifier there (OPC 10000-6, 5.2.2.9).
+#[derive(PartialEq, Eq, Hash, Debug, Drop)]
+pub struct NodeId {
+    pub namespace: u16,
+    pub identifier: Identifier,
+}
+
+impl Identifier {
+    ghost use Rattle.std.specs.Prelude.{◌≡◌, IfOk};
+
+    /// A value of its own, equal to this one.
+    pub fn try_clone(&self) -> Result<Identifier, AllocError>
+        ensures { IfOk result (λ v. v ≡ self.now) }
+    {
+        Ok(match self {
+            Identifier::Numeric(number) => Identifier::Numeric(*number),
+            Identifier::Text(text) => Identifier::Text(text.try_clone()?),
+            Identifier::Guid(guid) => Identifier::Guid(*guid),
+            Identifier::Opaque(octets) => Identifier::Opaque(octets.try_clone()?),
+        })
+    }
+}
+
+impl NodeId {
+    ghost use Rattle.std.specs.Prelude.{◌≡◌, ◌++◌, IsTrue, IfOk, OnOk, OnErr};
+    ghost use Rattle.ua_builtin.specs.Format.{Gives, StaysBehind, Extends};
+    ghost use Rattle.ua_builtin.specs.NodeId.{node, in_form, form_of};
+
+    /// A node's name of these parts.
+    #[inline]
+    pub fn new(namespace: u16, identifier: Identifier) -> NodeId
+        ensures { result ≡ node namespace identifier }
+    {
+        NodeId {
+            namespace,
+            identifier,
+        }
+    }
+
+    /// A value of its own, equal to this one.
+    pub fn try_clone(&self) -> Result<NodeId, AllocError>
+        ensures { IfOk result (λ v. v ≡ self.now) }
+    {
+        Ok(NodeId::new(self.namespace, self.identifier.try_clone()?))
+    }
+
+    /// Reads what stands behind the form octet.
+    pub(crate) fn read_form<S: Source>(
+        alloc: Global,
+        src: &mut S,
+        depth: u32,
+        form: u8,
+    ) -> Result<NodeId, ReadFault>
+        ensures exact { Gives ((in_form form).decode) (S.octets src.old) (S.octets src.new) result }
+        ensures behind { StaysBehind (S.octets src.old) (S.octets src.new) }
+    {
+        match form {
+            0 => {
+                let number = u8::read_value(alloc, src, depth)?;
+                Ok(NodeId::new(0, Identifier::Numeric(u32::from(number))))
+            }
+            1 => {
+                let (namespace, number): (u8, u16) = Wire::read_value(alloc, src, depth)?;
+                Ok(NodeId::new(
+                    u16::from(namespace),
+                    Identifier::Numeric(u32::from(number)),
+                ))
+            }
+            2 => {
+                let (namespace, number) = Wire::read_value(alloc, src, depth)?;
+                Ok(NodeId::new(namespace, Identifier::Numeric(number)))
+            }
+            3 => {
+                let (namespace, text) = Wire::read_value(alloc, src, depth)?;
+                Ok(NodeId::new(namespace, Identifier::Text(text)))
+            }
+            4 => {
+                let (namespace, guid) = Wire::read_value(alloc, src, depth)?;
+                Ok(NodeId::new(namespace, Identifier::Guid(guid)))
+            }
+            5 => {
+                let (namespace, octets) = Wire::read_value(alloc, src, depth)?;
+                Ok(NodeId::new(namespace, Identifier::Opaque(octets)))
+            }
+            _ => Err(ReadFault::NoValue),
+        }
+    }
+
+    /// The form octet that a writer sets: that of the shortest form.
+    pub(crate) fn form(&self) -> u8
+        ensures { result ≡ form_of self.now }
+    {
+        match &self.identifier {
+            Identifier::Numeric(number) => {
+                if self.namespace == 0 && *number < 256 {
+                    0
+                } else if self.namespace < 256 && *number < 65536 {
+                    1
+                } else {
+                    2
+                }
+            }
+            Identifier::Text(_) => 3,
+            Identifier::Guid(_) => 4,
+            Identifier::Opaque(_) => 5,
+        }
+    }
+
+    /// Whether what stands behind the form octet can be encoded.
+    pub(crate) fn is_form_encodable(&self) -> bool
+        ensures { result ≡ (in_form (form_of self.now)).encodable self.now }
+    {
+        let _namespace = self.namespace;
+        match &self.identifier {
+            Identifier::Numeric(number) => {
+                let _number = *number;
+                true
+            }
+            Identifier::Text(text) => text.is_encodable(),
+            Identifier::Guid(guid) => guid.is_encodable(),
+            Identifier::Opaque(octets) => octets.is_encodable(),
+        }
+    }
+
+    /// Adds what stands behind the form octet.
+    pub(crate) fn append_form(&self, out: &mut Vec<u8>) -> Result<(), AllocError>
+        requires { IsTrue ((in_form (form_of self.now)).encodable self.now) }
+        ensures ok { OnOk result (out.new.items ≡ out.old.items ++ (in_form (form_of self.now)).canonical self.now) }
+        ensures err { OnErr result (Extends out.old.items out.new.items) }
+    {
+        match &self.identifier {
+            Identifier::Numeric(number) => {
+                if self.namespace == 0 && *number < 256 {
+                    (*number as u8).append(out)?;
+                } else if self.namespace < 256 && *number < 65536 {
+                    (self.namespace as u8).append(out)?;
+                    (*number as u16).append(out)?;
+                } else {
+                    self.namespace.append(out)?;
+                    number.append(out)?;
+                }
+            }
+            Identifier::Text(text) => {
+                self.namespace.append(out)?;
+                text.append(out)?;
+            }
+            Identifier::Guid(guid) => {
+                self.namespace.append(out)?;
+                guid.append(out)?;
+            }
+            Identifier::Opaque(octets) => {
+                self.namespace.append(out)?;
+                octets.append(out)?;
+            }
+        }
+        Ok(())
+    }
+}
+
+impl Wire for NodeId {
+    ghost use Rattle.ua_builtin.specs.Format.{flat};
+    ghost use Rattle.ua_builtin.specs.NodeId.{node_id, node_id_starts};
+
+    ghost format = { flat node_id };
+
+    ghost starts = { node_id_starts };
+
+    #[tactic(auto, unfolding(crate::specs::NodeId::node_id))]
+    fn read_value<S: Source>(alloc: Global, src: &mut S, depth: u32) -> Result<NodeId, ReadFault> {
+        let form = u8::read_value(alloc, src, depth)?;
+        NodeId::read_form(alloc, src, depth, form)
+    }
+
+    #[tactic(auto, unfolding(crate::specs::NodeId::node_id))]
+    fn is_encodable(&self) -> bool {
+        self.is_form_encodable()
+    }
+
+    #[tactic(auto, unfolding(crate::specs::NodeId::node_id))]
+    fn append(&self, out: &mut Vec<u8>) -> Result<(), AllocError> {
+        self.form().append(out)?;
+        self.append_form(out)?;
+        Ok(())
+    }
+}
