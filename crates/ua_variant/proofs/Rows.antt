@@ -1,5 +1,5 @@
 -- One more element of a row.
-use Rattle.std.proofs.Common.{◌≡◌, ℕ, zero, suc, ◌+◌, ◌<◌, max, min, List, [], ◌∷◌, ◌++◌, length, get_or, take, map, ◌≤◌, refl, sym, subst, ap, ◌∙◌, arith}
+use Rattle.std.proofs.Common.{◌≡◌, ℕ, zero, suc, ◌+◌, ◌<◌, max, min, List, [], ◌∷◌, ◌++◌, length, get_or, take, map, ◌≤◌, refl, sym, subst, ap, ap₂, ◌∙◌, arith}
 use Rattle.std.proofs.lemmas.List.{take_more, map-append}
 use Rattle.ua_variant.specs.Data.{ScalarData}
 use Rattle.ua_variant.specs.Measure.{scalar_depth, scalars_depth, scalar_count, scalars_count}
@@ -51,3 +51,8 @@ length_all (s ∷ ss) = omega (arith, length_all ss)
 -- how many elements there are
 pub length_seen : (ss : List Scalar) (all : List ScalarData) → map scalar_of ss ≡ all → length ss ≡ row_length (row all)
 length_seen ss all e = length_all ss ∙ ap (λ xs. row_length (row xs)) e
+
+-- one more copy
+pub seen_push : (copies ss : List Scalar) (i : ℕ) (s copy : Scalar) → map scalar_of copies ≡ seen (take i ss) → copy ≡ s → i < length ss → s ≡ get_or ss i s → map scalar_of (copies ++ copy ∷ []) ≡ seen (take (i + 1) ss)
+seen_push copies ss i s copy before same h is =
+    map-append scalar_of copies (copy ∷ []) ∙ ap₂ (λ (xs : List ScalarData) (x : Scalar). xs ++ scalar_of x ∷ []) before (same ∙ is) ∙ sym (seen_next ss i s h)

@@ -1,5 +1,5 @@
 -- What loops and branches of the writers know.
-use Rattle.std.proofs.Common.{◌≡◌, ℕ, zero, suc, ◌+◌, ◌<◌, ◌≤◌, Bool, true, ◌&&◌, List, [], ◌∷◌, ◌++◌, length, get_or, take, map, refl, sym, ap, ◌∙◌, append_assoc, append-nil, arith}
+use Rattle.std.proofs.Common.{◌≡◌, ℕ, zero, suc, ◌+◌, ◌<◌, ◌≤◌, Bool, true, ◌&&◌, IsTrue, List, [], ◌∷◌, ◌++◌, length, get_or, take, map, refl, sym, ap, ◌∙◌, append_assoc, append-nil, arith}
 use lib.IntN.{ℤ, pos}
 use Rattle.std.specs.Int.RustNames.{unsigned_abs, FitsSigned}
 use Rattle.std.specs.Int.{w32}
@@ -9,9 +9,11 @@ use Rattle.std.proofs.lemmas.List.{take_more}
 use Rattle.std.proofs.lemmas.Grind.{common_steps}
 use Rattle.ua_builtin.specs.Exact.{both_true}
 use Rattle.ua_builtin.specs.Number.{number_octets}
-use Rattle.ua_variant.specs.Data.{ScalarData, ScalarsData, many}
+use Rattle.ua_variant.specs.Data.{VariantData, DataValueData, DiagnosticData, ScalarData, ScalarsData, many}
 use Rattle.ua_variant.specs.View.{scalar_of, row}
-use Rattle.ua_variant.specs.Encodable.{variant_fits, scalars_fit, dims_encodable, row_length, is_kind, is_count}
+use Rattle.std.specs.Prelude.{leb}
+use Rattle.ua_variant.specs.Measure.{variant_depth, data_value_depth, diagnostic_depth}
+use Rattle.ua_variant.specs.Encodable.{variant_encodable, data_value_encodable, diagnostic_encodable, data_value_fits, diagnostic_fits, variant_fits, scalars_fit, dims_encodable, row_length, is_kind, is_count}
 use Rattle.ua_variant.specs.Canonical.{row_canonical, scalar_canonical, sizes_canonical}
 use Rattle.ua_variant.specs.Arrays.{count_is}
 use Rattle.ua_variant.specs.declared.values.Scalar.{Scalar}
@@ -49,3 +51,13 @@ sizes_after old ds i n h f is =
     append_assoc old (sizes_canonical (take i ds)) (number_octets 4 n)
     ∙ ap (λ r. old ++ (sizes_canonical (take i ds) ++ number_octets 4 r)) (is ∙ ap unsigned_abs (to_z-of_z w32 (get_or ds i (pos 0)) f))
     ∙ ap (λ r. old ++ r) (sym (ap sizes_canonical (take_more ds i (pos 0) h) ∙ sizes_push (take i ds) (get_or ds i (pos 0))))
+
+-- what can be written fits
+pub variant_fits_of : (v : VariantData) → IsTrue (variant_encodable v) → variant_fits v ≡ true
+variant_fits_of v h = (both_true (leb (variant_depth v) 100) (variant_fits v) h).1
+
+pub data_value_fits_of : (d : DataValueData) → IsTrue (data_value_encodable d) → data_value_fits d ≡ true
+data_value_fits_of d h = (both_true (leb (data_value_depth d) 100) (data_value_fits d) h).1
+
+pub diagnostic_fits_of : (d : DiagnosticData) → IsTrue (diagnostic_encodable d) → diagnostic_fits d ≡ true
+diagnostic_fits_of d h = (both_true (leb (diagnostic_depth d) 100) (diagnostic_fits d) h).1

@@ -5,9 +5,13 @@ use Rattle.ua_builtin.specs.declared.float_bits.FloatBits.{FloatBits}
 use Rattle.ua_builtin.specs.declared.xml_element.XmlElement.{XmlElement}
 use Rattle.ua_builtin.specs.declared.double_bits.DoubleBits.{DoubleBits}
 use Rattle.ua_builtin.specs.declared.date_time.DateTime.{DateTime}
+use Rattle.ua_builtin.specs.declared.guid.Guid.{Guid}
+use Rattle.ua_builtin.specs.declared.node_id.NodeId.{NodeId}
+use Rattle.ua_builtin.specs.declared.expanded_node_id.ExpandedNodeId.{ExpandedNodeId}
 use Rattle.ua_builtin.specs.declared.status_code.StatusCode.{StatusCode}
 use Rattle.ua_builtin.specs.declared.qualified_name.QualifiedName.{QualifiedName}
 use Rattle.ua_builtin.specs.declared.localized_text.LocalizedText.{LocalizedText}
+use Rattle.ua_builtin.specs.declared.extension_object.ExtensionObject.{ExtensionObject}
 
 -- the scalars that hold no further value, one case a type id; the reserved ids 26 to 31 keep theirs
 pub data LeafData : Type 0 where
@@ -24,11 +28,15 @@ pub data LeafData : Type 0 where
   double : DoubleBits → LeafData
   string : Option (List ℕ) → LeafData
   date_time : DateTime → LeafData
+  guid : Guid → LeafData
   byte_string : Option (List ℕ) → LeafData
   xml_element : XmlElement → LeafData
+  node_id : NodeId → LeafData
+  expanded_node_id : ExpandedNodeId → LeafData
   status_code : StatusCode → LeafData
   qualified_name : QualifiedName → LeafData
   localized_text : LocalizedText → LeafData
+  extension_object : ExtensionObject → LeafData
   reserved : ℕ → Option (List ℕ) → LeafData
 
 -- the fields of a DiagnosticInfo but its inner one; a null text is an absent one

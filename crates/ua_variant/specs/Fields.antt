@@ -10,10 +10,14 @@ use Rattle.ua_builtin.specs.FloatBits.{float_bits, float_bits_starts}
 use Rattle.ua_builtin.specs.DoubleBits.{double_bits, double_bits_starts}
 use Rattle.ua_builtin.specs.Counted.{text, text_starts, counted, counted_starts}
 use Rattle.ua_builtin.specs.DateTime.{date_time as date_time_format, date_time_starts}
+use Rattle.ua_builtin.specs.Guid.{guid as guid_format, guid_starts}
 use Rattle.ua_builtin.specs.XmlElement.{xml_element as xml_element_format, xml_element_starts}
+use Rattle.ua_builtin.specs.NodeId.{node_id as node_id_format, node_id_starts}
+use Rattle.ua_builtin.specs.ExpandedNodeId.{expanded_node_id as expanded_node_id_format, expanded_node_id_starts}
 use Rattle.ua_builtin.specs.Status.{status_code as status_code_format, status_code_starts}
 use Rattle.ua_builtin.specs.QualifiedName.{qualified_name as qualified_name_format, qualified_name_starts}
 use Rattle.ua_builtin.specs.LocalizedText.{localized_text as localized_text_format, localized_text_starts}
+use Rattle.ua_builtin.specs.ExtensionObject.{extension_object as extension_object_format, extension_object_starts}
 use Rattle.ua_variant.specs.Data.{DataFields, DiagnosticFields}
 use Rattle.ua_variant.specs.Parts.{optional, flagged, flag, flag_bit}
 

@@ -13,11 +13,15 @@ use Rattle.ua_builtin.specs.FloatBits.{float_bits, float_bits_starts}
 use Rattle.ua_builtin.specs.DoubleBits.{double_bits, double_bits_starts}
 use Rattle.ua_builtin.specs.Counted.{text, text_starts, counted, counted_starts}
 use Rattle.ua_builtin.specs.DateTime.{date_time as date_time_format, date_time_starts}
+use Rattle.ua_builtin.specs.Guid.{guid as guid_format, guid_starts}
 use Rattle.ua_builtin.specs.XmlElement.{xml_element as xml_element_format, xml_element_starts}
+use Rattle.ua_builtin.specs.NodeId.{node_id as node_id_format, node_id_starts}
+use Rattle.ua_builtin.specs.ExpandedNodeId.{expanded_node_id as expanded_node_id_format, expanded_node_id_starts}
 use Rattle.ua_builtin.specs.Status.{status_code as status_code_format, status_code_starts}
 use Rattle.ua_builtin.specs.QualifiedName.{qualified_name as qualified_name_format, qualified_name_starts}
 use Rattle.ua_builtin.specs.LocalizedText.{localized_text as localized_text_format, localized_text_starts}
-use Rattle.ua_variant.specs.Data.{LeafData, boolean, sbyte, byte, int16, uint16, int32, uint32, int64, uint64, float, double, string, date_time, byte_string, xml_element, status_code, qualified_name, localized_text, reserved}
+use Rattle.ua_builtin.specs.ExtensionObject.{extension_object as extension_object_format, extension_object_starts}
+use Rattle.ua_variant.specs.Data.{LeafData, boolean, sbyte, byte, int16, uint16, int32, uint32, int64, uint64, float, double, string, date_time, guid, byte_string, xml_element, node_id, expanded_node_id, status_code, qualified_name, localized_text, extension_object, reserved}
 use Rattle.ua_variant.specs.Parts.{unwritten, Reader}
 
 -- the type id (OPC 10000-6, 5.1.2)
@@ -35,11 +39,15 @@ leaf_kind (float x) = 10
 leaf_kind (double x) = 11
 leaf_kind (string x) = 12
 leaf_kind (date_time x) = 13
+leaf_kind (guid x) = 14
 leaf_kind (byte_string x) = 15
 leaf_kind (xml_element x) = 16
+leaf_kind (node_id x) = 17
+leaf_kind (expanded_node_id x) = 18
 leaf_kind (status_code x) = 19
 leaf_kind (qualified_name x) = 20
 leaf_kind (localized_text x) = 21
+leaf_kind (extension_object x) = 22
 leaf_kind (reserved k x) = k
 
 -- the reserved type ids
@@ -78,11 +86,15 @@ leaf_typed (float x) = typed (float_bits) (float_bits_starts) x
 leaf_typed (double x) = typed (double_bits) (double_bits_starts) x
 leaf_typed (string x) = typed (text) (text_starts) x
 leaf_typed (date_time x) = typed (date_time_format) (date_time_starts) x
+leaf_typed (guid x) = typed (guid_format) (guid_starts) x
 leaf_typed (byte_string x) = typed (counted) (counted_starts) x
 leaf_typed (xml_element x) = typed (xml_element_format) (xml_element_starts) x
+leaf_typed (node_id x) = typed (node_id_format) (node_id_starts) x
+leaf_typed (expanded_node_id x) = typed (expanded_node_id_format) (expanded_node_id_starts) x
 leaf_typed (status_code x) = typed (status_code_format) (status_code_starts) x
 leaf_typed (qualified_name x) = typed (qualified_name_format) (qualified_name_starts) x
 leaf_typed (localized_text x) = typed (localized_text_format) (localized_text_starts) x
+leaf_typed (extension_object x) = typed (extension_object_format) (extension_object_starts) x
 leaf_typed (reserved k x) = typed (reserved_octets k) (reserved_starts k) x
 
 abbrev pub EncodesLeaf : LeafData → List ℕ → Type 0
@@ -118,12 +130,16 @@ leaf_at k octets =
     cond (eqb k 11) (image_read double (double_bits).decode octets) (
     cond (eqb k 12) (image_read string (text).decode octets) (
     cond (eqb k 13) (image_read date_time (date_time_format).decode octets) (
+    cond (eqb k 14) (image_read guid (guid_format).decode octets) (
     cond (eqb k 15) (image_read byte_string (counted).decode octets) (
     cond (eqb k 16) (image_read xml_element (xml_element_format).decode octets) (
+    cond (eqb k 17) (image_read node_id (node_id_format).decode octets) (
+    cond (eqb k 18) (image_read expanded_node_id (expanded_node_id_format).decode octets) (
     cond (eqb k 19) (image_read status_code (status_code_format).decode octets) (
     cond (eqb k 20) (image_read qualified_name (qualified_name_format).decode octets) (
     cond (eqb k 21) (image_read localized_text (localized_text_format).decode octets) (
-    None)))))))))))))))))))
+    cond (eqb k 22) (image_read extension_object (extension_object_format).decode octets) (
+    None)))))))))))))))))))))))
 
 -- a leaf of the type id
 abbrev pub IsLeaf : ℕ → LeafData → List ℕ → Type 0
@@ -170,12 +186,16 @@ leaf_sound k =
     sound_if (eqb k 11) (λ h. of_kind k 11 (image_read double (double_bits).decode) h (leaf_part double (double_bits) 11 (λ x b e. (refl, e)))) (λ _.
     sound_if (eqb k 12) (λ h. of_kind k 12 (image_read string (text).decode) h (leaf_part string (text) 12 (λ x b e. (refl, e)))) (λ _.
     sound_if (eqb k 13) (λ h. of_kind k 13 (image_read date_time (date_time_format).decode) h (leaf_part date_time (date_time_format) 13 (λ x b e. (refl, e)))) (λ _.
+    sound_if (eqb k 14) (λ h. of_kind k 14 (image_read guid (guid_format).decode) h (leaf_part guid (guid_format) 14 (λ x b e. (refl, e)))) (λ _.
     sound_if (eqb k 15) (λ h. of_kind k 15 (image_read byte_string (counted).decode) h (leaf_part byte_string (counted) 15 (λ x b e. (refl, e)))) (λ _.
     sound_if (eqb k 16) (λ h. of_kind k 16 (image_read xml_element (xml_element_format).decode) h (leaf_part xml_element (xml_element_format) 16 (λ x b e. (refl, e)))) (λ _.
+    sound_if (eqb k 17) (λ h. of_kind k 17 (image_read node_id (node_id_format).decode) h (leaf_part node_id (node_id_format) 17 (λ x b e. (refl, e)))) (λ _.
+    sound_if (eqb k 18) (λ h. of_kind k 18 (image_read expanded_node_id (expanded_node_id_format).decode) h (leaf_part expanded_node_id (expanded_node_id_format) 18 (λ x b e. (refl, e)))) (λ _.
     sound_if (eqb k 19) (λ h. of_kind k 19 (image_read status_code (status_code_format).decode) h (leaf_part status_code (status_code_format) 19 (λ x b e. (refl, e)))) (λ _.
     sound_if (eqb k 20) (λ h. of_kind k 20 (image_read qualified_name (qualified_name_format).decode) h (leaf_part qualified_name (qualified_name_format) 20 (λ x b e. (refl, e)))) (λ _.
     sound_if (eqb k 21) (λ h. of_kind k 21 (image_read localized_text (localized_text_format).decode) h (leaf_part localized_text (localized_text_format) 21 (λ x b e. (refl, e)))) (λ _.
-    sound_none k)))))))))))))))))))
+    sound_if (eqb k 22) (λ h. of_kind k 22 (image_read extension_object (extension_object_format).decode) h (leaf_part extension_object (extension_object_format) 22 (λ x b e. (refl, e)))) (λ _.
+    sound_none k)))))))))))))))))))))))
 
 if_true : {A : Type 0} (b : Bool) (x y : A) → IsTrue b → cond b x y ≡ x
 if_true true x y h = refl
@@ -196,11 +216,15 @@ leaf_complete (float x) front rest h = (image_exact float (float_bits)).complete
 leaf_complete (double x) front rest h = (image_exact double (double_bits)).complete (double x) front rest (record { of = x; is = refl; encoded = h })
 leaf_complete (string x) front rest h = (image_exact string (text)).complete (string x) front rest (record { of = x; is = refl; encoded = h })
 leaf_complete (date_time x) front rest h = (image_exact date_time (date_time_format)).complete (date_time x) front rest (record { of = x; is = refl; encoded = h })
+leaf_complete (guid x) front rest h = (image_exact guid (guid_format)).complete (guid x) front rest (record { of = x; is = refl; encoded = h })
 leaf_complete (byte_string x) front rest h = (image_exact byte_string (counted)).complete (byte_string x) front rest (record { of = x; is = refl; encoded = h })
 leaf_complete (xml_element x) front rest h = (image_exact xml_element (xml_element_format)).complete (xml_element x) front rest (record { of = x; is = refl; encoded = h })
+leaf_complete (node_id x) front rest h = (image_exact node_id (node_id_format)).complete (node_id x) front rest (record { of = x; is = refl; encoded = h })
+leaf_complete (expanded_node_id x) front rest h = (image_exact expanded_node_id (expanded_node_id_format)).complete (expanded_node_id x) front rest (record { of = x; is = refl; encoded = h })
 leaf_complete (status_code x) front rest h = (image_exact status_code (status_code_format)).complete (status_code x) front rest (record { of = x; is = refl; encoded = h })
 leaf_complete (qualified_name x) front rest h = (image_exact qualified_name (qualified_name_format)).complete (qualified_name x) front rest (record { of = x; is = refl; encoded = h })
 leaf_complete (localized_text x) front rest h = (image_exact localized_text (localized_text_format)).complete (localized_text x) front rest (record { of = x; is = refl; encoded = h })
+leaf_complete (extension_object x) front rest h = (image_exact extension_object (extension_object_format)).complete (extension_object x) front rest (record { of = x; is = refl; encoded = h })
 leaf_complete (reserved k x) front rest h =
     if_true (is_reserved k) (image_read (reserved k) counted.decode (front ++ rest)) _ h.0
     ∙ (image_exact (reserved k) counted).complete (reserved k x) front rest (record { of = x; is = refl; encoded = h.1 })
@@ -233,11 +257,15 @@ leaf_apart (float x) b h = refl
 leaf_apart (double x) b h = refl
 leaf_apart (string x) b h = refl
 leaf_apart (date_time x) b h = refl
+leaf_apart (guid x) b h = refl
 leaf_apart (byte_string x) b h = refl
 leaf_apart (xml_element x) b h = refl
+leaf_apart (node_id x) b h = refl
+leaf_apart (expanded_node_id x) b h = refl
 leaf_apart (status_code x) b h = refl
 leaf_apart (qualified_name x) b h = refl
 leaf_apart (localized_text x) b h = refl
+leaf_apart (extension_object x) b h = refl
 leaf_apart (reserved k x) b h = reserved_apart k h.0
 
 reserved_within : (k : ℕ) → IsTrue (is_reserved k) → (0 < k) × (k < 32)
@@ -257,9 +285,13 @@ leaf_kind_within (float x) b h = (omega arith, omega arith)
 leaf_kind_within (double x) b h = (omega arith, omega arith)
 leaf_kind_within (string x) b h = (omega arith, omega arith)
 leaf_kind_within (date_time x) b h = (omega arith, omega arith)
+leaf_kind_within (guid x) b h = (omega arith, omega arith)
 leaf_kind_within (byte_string x) b h = (omega arith, omega arith)
 leaf_kind_within (xml_element x) b h = (omega arith, omega arith)
+leaf_kind_within (node_id x) b h = (omega arith, omega arith)
+leaf_kind_within (expanded_node_id x) b h = (omega arith, omega arith)
 leaf_kind_within (status_code x) b h = (omega arith, omega arith)
 leaf_kind_within (qualified_name x) b h = (omega arith, omega arith)
 leaf_kind_within (localized_text x) b h = (omega arith, omega arith)
+leaf_kind_within (extension_object x) b h = (omega arith, omega arith)
 leaf_kind_within (reserved k x) b h = reserved_within k h.0

@@ -2,7 +2,7 @@
 use Rattle.std.specs.Prelude.{◌≡◌, ℕ, Bool, List, [], ◌∷◌, Option, Some, None, refl}
 use lib.IntN.{ℤ}
 use Rattle.std.proofs.Common.{ap}
-use Rattle.ua_variant.specs.Data.{LeafData, boolean, sbyte, byte, int16, uint16, int32, uint32, int64, uint64, float, double, string, date_time, byte_string, xml_element, status_code, qualified_name, localized_text, reserved, DiagnosticFields, DiagnosticData, innermost, around, DataFields, VariantData, null, one, absent, many, ScalarData, leaf, data_value, variant, diagnostic, ScalarsData, no_scalars, scalar, DataValueData, bare, valued}
+use Rattle.ua_variant.specs.Data.{LeafData, boolean, sbyte, byte, int16, uint16, int32, uint32, int64, uint64, float, double, string, date_time, guid, byte_string, xml_element, node_id, expanded_node_id, status_code, qualified_name, localized_text, extension_object, reserved, DiagnosticFields, DiagnosticData, innermost, around, DataFields, VariantData, null, one, absent, many, ScalarData, leaf, data_value, variant, diagnostic, ScalarsData, no_scalars, scalar, DataValueData, bare, valued}
 use Rattle.ua_variant.specs.View.{row, row_list, diagnostic_within, diagnostic_fields_of, diagnostic_of, value_within, data_fields_of, data_value_of, scalar_of, many_of, variant_of}
 use Rattle.ua_variant.specs.declared.values.Scalar.{Scalar}
 use Rattle.ua_variant.specs.declared.values.Variant.{Variant}
@@ -59,11 +59,15 @@ leaf_value (float x) = Scalar.Float x
 leaf_value (double x) = Scalar.Double x
 leaf_value (string x) = Scalar.String x
 leaf_value (date_time x) = Scalar.DateTime x
+leaf_value (guid x) = Scalar.Guid x
 leaf_value (byte_string x) = Scalar.ByteString x
 leaf_value (xml_element x) = Scalar.XmlElement x
+leaf_value (node_id x) = Scalar.NodeId x
+leaf_value (expanded_node_id x) = Scalar.ExpandedNodeId x
 leaf_value (status_code x) = Scalar.StatusCode x
 leaf_value (qualified_name x) = Scalar.QualifiedName x
 leaf_value (localized_text x) = Scalar.LocalizedText x
+leaf_value (extension_object x) = Scalar.ExtensionObject x
 leaf_value (reserved k x) = Scalar.Reserved k x
 
 abbrev pub scalar_value : ScalarData → Scalar
@@ -86,11 +90,15 @@ leaf_forth (float x) = refl
 leaf_forth (double x) = refl
 leaf_forth (string x) = refl
 leaf_forth (date_time x) = refl
+leaf_forth (guid x) = refl
 leaf_forth (byte_string x) = refl
 leaf_forth (xml_element x) = refl
+leaf_forth (node_id x) = refl
+leaf_forth (expanded_node_id x) = refl
 leaf_forth (status_code x) = refl
 leaf_forth (qualified_name x) = refl
 leaf_forth (localized_text x) = refl
+leaf_forth (extension_object x) = refl
 leaf_forth (reserved k x) = refl
 
 pub scalar_forth : (s : ScalarData) → scalar_of (scalar_value s) ≡ s
@@ -113,11 +121,15 @@ scalar_value_of (Scalar.Float x) = refl
 scalar_value_of (Scalar.Double x) = refl
 scalar_value_of (Scalar.String x) = refl
 scalar_value_of (Scalar.DateTime x) = refl
+scalar_value_of (Scalar.Guid x) = refl
 scalar_value_of (Scalar.ByteString x) = refl
 scalar_value_of (Scalar.XmlElement x) = refl
+scalar_value_of (Scalar.NodeId x) = refl
+scalar_value_of (Scalar.ExpandedNodeId x) = refl
 scalar_value_of (Scalar.StatusCode x) = refl
 scalar_value_of (Scalar.QualifiedName x) = refl
 scalar_value_of (Scalar.LocalizedText x) = refl
+scalar_value_of (Scalar.ExtensionObject x) = refl
 scalar_value_of (Scalar.DataValue d) = ap (λ (x : DataValue). Scalar.DataValue x) (data_value_value_of d)
 scalar_value_of (Scalar.Variant v) = refl
 scalar_value_of (Scalar.DiagnosticInfo d) = ap (λ (x : DiagnosticInfo). Scalar.DiagnosticInfo x) (diagnostic_value_of d)

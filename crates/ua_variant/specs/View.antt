@@ -2,7 +2,7 @@
 use Rattle.std.specs.Prelude.{◌≡◌, ℕ, Bool, List, [], ◌∷◌, Option, Some, None, map, refl}
 use lib.IntN.{ℤ}
 use Rattle.std.proofs.Common.{ap}
-use Rattle.ua_variant.specs.Data.{LeafData, boolean, sbyte, byte, int16, uint16, int32, uint32, int64, uint64, float, double, string, date_time, byte_string, xml_element, status_code, qualified_name, localized_text, reserved, DiagnosticFields, DiagnosticData, innermost, around, DataFields, VariantData, null, one, absent, many, ScalarData, leaf, data_value, variant, diagnostic, ScalarsData, no_scalars, scalar, DataValueData, bare, valued}
+use Rattle.ua_variant.specs.Data.{LeafData, boolean, sbyte, byte, int16, uint16, int32, uint32, int64, uint64, float, double, string, date_time, guid, byte_string, xml_element, node_id, expanded_node_id, status_code, qualified_name, localized_text, extension_object, reserved, DiagnosticFields, DiagnosticData, innermost, around, DataFields, VariantData, null, one, absent, many, ScalarData, leaf, data_value, variant, diagnostic, ScalarsData, no_scalars, scalar, DataValueData, bare, valued}
 use Rattle.ua_variant.specs.declared.values.Scalar.{Scalar}
 use Rattle.ua_variant.specs.declared.values.Variant.{Variant}
 use Rattle.ua_variant.specs.declared.values.DataValue.{DataValue}
@@ -51,11 +51,15 @@ scalar_of (Scalar.Float x) = leaf (float x)
 scalar_of (Scalar.Double x) = leaf (double x)
 scalar_of (Scalar.String x) = leaf (string x)
 scalar_of (Scalar.DateTime x) = leaf (date_time x)
+scalar_of (Scalar.Guid x) = leaf (guid x)
 scalar_of (Scalar.ByteString x) = leaf (byte_string x)
 scalar_of (Scalar.XmlElement x) = leaf (xml_element x)
+scalar_of (Scalar.NodeId x) = leaf (node_id x)
+scalar_of (Scalar.ExpandedNodeId x) = leaf (expanded_node_id x)
 scalar_of (Scalar.StatusCode x) = leaf (status_code x)
 scalar_of (Scalar.QualifiedName x) = leaf (qualified_name x)
 scalar_of (Scalar.LocalizedText x) = leaf (localized_text x)
+scalar_of (Scalar.ExtensionObject x) = leaf (extension_object x)
 scalar_of (Scalar.DataValue d) = data_value (data_value_of d)
 scalar_of (Scalar.Variant v) = variant v
 scalar_of (Scalar.DiagnosticInfo d) = diagnostic (diagnostic_of d)

@@ -18,7 +18,7 @@ use crate::values::{
 };
 use std::alloc::Global;
 use ua_builtin::{
-    DateTime, DoubleBits, FloatBits, LocalizedText, QualifiedName, ReadFault, Source, StatusCode, UaBytes, UaString, Wire, XmlElement,
+    DateTime, DoubleBits, ExpandedNodeId, ExtensionObject, FloatBits, Guid, LocalizedText, NodeId, QualifiedName, ReadFault, Source, StatusCode, UaBytes, UaString, Wire, XmlElement,
 };
 
 /// Counts from here on are negative as an Int32, and mean null.
@@ -92,11 +92,15 @@ fn read_leaf<S: Source>(
         11 => Ok(Scalar::Double(DoubleBits::read_value(alloc, src, depth)?)),
         12 => Ok(Scalar::String(UaString::read_value(alloc, src, depth)?)),
         13 => Ok(Scalar::DateTime(DateTime::read_value(alloc, src, depth)?)),
+        14 => Ok(Scalar::Guid(Guid::read_value(alloc, src, depth)?)),
         15 => Ok(Scalar::ByteString(UaBytes::read_value(alloc, src, depth)?)),
         16 => Ok(Scalar::XmlElement(XmlElement::read_value(alloc, src, depth)?)),
+        17 => Ok(Scalar::NodeId(NodeId::read_value(alloc, src, depth)?)),
+        18 => Ok(Scalar::ExpandedNodeId(ExpandedNodeId::read_value(alloc, src, depth)?)),
         19 => Ok(Scalar::StatusCode(StatusCode::read_value(alloc, src, depth)?)),
         20 => Ok(Scalar::QualifiedName(QualifiedName::read_value(alloc, src, depth)?)),
         21 => Ok(Scalar::LocalizedText(LocalizedText::read_value(alloc, src, depth)?)),
+        22 => Ok(Scalar::ExtensionObject(ExtensionObject::read_value(alloc, src, depth)?)),
         26..=31 => Ok(Scalar::Reserved(kind, UaBytes::read_value(alloc, src, depth)?)),
         _ => Err(ReadFault::NoValue),
     }

@@ -5,7 +5,7 @@ ghost use Rattle.ua_variant.specs.View.{variant_of, diagnostic_of, scalar_of};
 
 use std::alloc::{AllocError, Global};
 use std::marker::Model;
-use ua_builtin::{DateTime, DoubleBits, FloatBits, LocalizedText, QualifiedName, StatusCode, UaBytes, UaString, XmlElement};
+use ua_builtin::{DateTime, DoubleBits, ExpandedNodeId, ExtensionObject, FloatBits, Guid, LocalizedText, NodeId, QualifiedName, StatusCode, UaBytes, UaString, XmlElement};
 
 /// The dimensions of an array; none where it has one dimension alone.
 #[derive(Drop)]
@@ -98,11 +98,15 @@ pub enum Scalar {
     Double(DoubleBits),
     String(UaString),
     DateTime(DateTime),
+    Guid(Guid),
     ByteString(UaBytes),
     XmlElement(XmlElement),
+    NodeId(NodeId),
+    ExpandedNodeId(ExpandedNodeId),
     StatusCode(StatusCode),
     QualifiedName(QualifiedName),
     LocalizedText(LocalizedText),
+    ExtensionObject(ExtensionObject),
     DataValue(DataValue),
     Variant(BoxedVariant),
     DiagnosticInfo(DiagnosticInfo),
