@@ -1,8 +1,5 @@
 -- What the fields of values of the code need to be written.
-use Rattle.std.proofs.Common.{◌≡◌, ◌∙◌, ap, arith, refl, sym, true, ◌+◌, ◌*◌, ℕ, Bool, ◌&&◌, IsTrue}
-use Rattle.ua_builtin.specs.Exact.{both_true}
-use Rattle.ua_builtin.specs.Status.{status_code as status_code_format}
-use Rattle.ua_variant.specs.Parts.{optional_fits}
+use Rattle.std.proofs.Common.{◌≡◌, ◌∙◌, ap, arith, refl, sym, true, ◌+◌, ◌*◌, ℕ, Bool}
 use Rattle.ua_variant.specs.Data.{DataFields, DiagnosticFields}
 use Rattle.ua_variant.specs.Fields.{data_fields, data_flags, diagnostic_fields, diagnostic_flags}
 use Rattle.ua_variant.specs.Flags.{data_fields_fit, data_fields_encodable_as, diagnostic_fields_fit, diagnostic_fields_encodable_as}
@@ -20,9 +17,3 @@ data_fields_parts f h = sym (data_fields_fit_as f) ∙ h
 
 pub diagnostic_fields_parts : (f : DiagnosticFields) → diagnostic_fields_encodable f ≡ true → diagnostic_fields_fit f ≡ true
 diagnostic_fields_parts f h = sym (diagnostic_fields_fit_as f) ∙ h
-
-last_of_six : (a b c d e f : Bool) → (a && (b && (c && (d && (e && f))))) ≡ true → f ≡ true
-last_of_six a b c d e f h = (both_true e f (both_true d (e && f) (both_true c (d && (e && f)) (both_true b (c && (d && (e && f))) (both_true a (b && (c && (d && (e && f)))) h).1).1).1).1).1
-
-pub diagnostic_status_fits : (f : DiagnosticFields) → diagnostic_fields_encodable f ≡ true → IsTrue (optional_fits status_code_format.encodable f.inner_status_code)
-diagnostic_status_fits f h = last_of_six _ _ _ _ _ (optional_fits status_code_format.encodable f.inner_status_code) (diagnostic_fields_parts f h)

@@ -2,4 +2,5 @@ pub mod Fits
 pub mod Flags
 pub mod Loops
 pub mod Rows
+pub mod Valued
 pub mod Written

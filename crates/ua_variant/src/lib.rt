@@ -11,6 +11,8 @@ mod encodable;
 pub mod laws;
 mod measure;
 mod read;
+#[cfg(test)]
+mod tests;
 mod values;
 mod wire;
 mod write;

@@ -1,5 +1,5 @@
 use Rattle.ua_variant.specs.View.{diagnostic_fields_of}
-use Rattle.ua_variant.proofs.Flags.{diagnostic_status_fits}
+use Rattle.ua_variant.proofs.Valued.{diagnostic_status_fits}
 use Rattle.ua_variant.proofs.write.append_diagnostic_fields.Goals as goal
 
 pub append_field-requires-5 : goal.append_field-requires-5
