@@ -1,0 +1,39 @@
+use Rattle.std.proofs.Common.{◌≡◌, ◌+◌, ◌*◌, ◌-◌}
+use Rattle.std.proofs.Common.{map}
+use Rattle.ua_builtin.specs.Format.{StaysBehind}
+use Rattle.ua_variant.specs.View.{scalar_of}
+use Rattle.ua_variant.specs.Decoding.{row_at, scalars_at, with_front}
+use Rattle.ua_variant.proofs.read.+variants.Given as goal
+
+abbrev pub decreases-read_variant : goal.decreases-read_variant
+decreases-read_variant g l = 8 * l.depth + 0
+
+abbrev pub decreases-read_variant_level : goal.decreases-read_variant_level
+decreases-read_variant_level g l = 8 * l.depth + 7
+
+abbrev pub decreases-read_array : goal.decreases-read_array
+decreases-read_array g l = 8 * l.depth + 6
+
+abbrev pub decreases-read_elements : goal.decreases-read_elements
+decreases-read_elements g l = 8 * l.depth + 5
+
+abbrev pub decreases-read_row : goal.decreases-read_row
+decreases-read_row g l = 8 * l.depth + 4
+
+abbrev pub decreases-read_scalar : goal.decreases-read_scalar
+decreases-read_scalar g l = 8 * l.depth + 3
+
+abbrev pub decreases-read_boxed : goal.decreases-read_boxed
+decreases-read_boxed g l = 8 * l.depth + 2
+
+abbrev pub decreases-read_data_value : goal.decreases-read_data_value
+decreases-read_data_value g l = 8 * l.depth + 1
+
+abbrev pub decreases-read_data_value_level : goal.decreases-read_data_value_level
+decreases-read_data_value_level g l = 8 * l.depth + 7
+
+abbrev pub invariant-read_row-loop : goal.invariant-read_row-loop
+invariant-read_row-loop g l = record {
+  so_far : with_front (map scalar_of l.items.items) (row_at (l.count - l.counter) (scalars_at l.depth l.kind) (g.S.Source.octets l.src)) ≡ row_at l.count (scalars_at l.depth l.kind) (g.S.Source.octets l.fn.src);
+  behind : StaysBehind (g.S.Source.octets l.fn.src) (g.S.Source.octets l.src)
+}

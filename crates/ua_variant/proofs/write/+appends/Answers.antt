@@ -1,0 +1,27 @@
+use Rattle.std.proofs.Common.{◌≡◌, ◌++◌, ap, sym, ◌∙◌, arith}
+use Rattle.ua_variant.specs.View.{scalar_of}
+use Rattle.ua_variant.specs.Canonical.{scalar_canonical}
+use Rattle.ua_variant.proofs.Rows.{count_below}
+use Rattle.ua_variant.proofs.Fits.{fits_within}
+use Rattle.ua_variant.specs.Measure.{variant_count}
+use Rattle.ua_variant.specs.Encodable.{variant_fits}
+use Rattle.ua_variant.proofs.Valued.{valued_fits, valued_counts}
+use Rattle.ua_variant.proofs.Written.{row_after}
+use Rattle.ua_variant.proofs.write.+appends.Goals as goal
+
+pub append_row-append_scalar-requires : goal.append_row-append_scalar-requires
+append_row-append_scalar-requires t c = (
+  omega (arith, count_below c.as_slice-s-items.result.now c.loop-s.s-index c.s-item.result c.args.items.now c.as_slice-s-items.ensures (omega arith) c.s-item.is),
+  fits_within c.args.kind c.as_slice-s-items.result.now c.loop-s.s-index c.s-item.result c.args.items.now c.as_slice-s-items.ensures (omega arith) c.s-item.is c.requires,
+)
+
+pub append_row-loop-s-preserved : goal.append_row-loop-s-preserved
+append_row-loop-s-preserved t c =
+    c.in_ok-append_scalar.ensures.ok ∙ ap (λ xs. xs ++ scalar_canonical (scalar_of c.s-item.result)) c.loop-s.invariant
+    ∙ row_after c.args.out.now.items c.as_slice-s-items.result.now c.loop-s.s-index c.s-item.result (omega arith) c.s-item.is
+
+pub append_data_value-append_variant-requires : goal.append_data_value-append_variant-requires
+append_data_value-append_variant-requires t c = (
+  omega (arith, valued_counts c.args.value.now c.in-Some.v c.in-Some.is, ap variant_count c.get.ensures),
+  ap variant_fits c.get.ensures ∙ valued_fits c.args.value.now c.in-Some.v c.in-Some.is c.requires,
+)

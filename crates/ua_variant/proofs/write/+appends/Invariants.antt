@@ -1,0 +1,23 @@
+use Rattle.std.proofs.Common.{◌≡◌, ◌+◌, ◌*◌, ◌++◌, min, take, map}
+use Rattle.ua_variant.specs.Measure.{scalars_depth, variant_count, scalar_count, scalars_count, data_value_count}
+use Rattle.ua_variant.specs.View.{row, variant_of, scalar_of, data_value_of}
+use Rattle.ua_variant.specs.Canonical.{row_canonical}
+use Rattle.ua_variant.proofs.write.+appends.Given as goal
+
+abbrev pub decreases-append_data_value : goal.decreases-append_data_value
+decreases-append_data_value l = 4 * data_value_count (data_value_of l.value.now)
+
+abbrev pub decreases-append_row : goal.decreases-append_row
+decreases-append_row l = 4 * scalars_count (row l.items.now) + 2
+
+abbrev pub decreases-append_scalar : goal.decreases-append_scalar
+decreases-append_scalar l = 4 * scalar_count (scalar_of l.value.now) + 1
+
+abbrev pub decreases-append_variant : goal.decreases-append_variant
+decreases-append_variant l = 4 * variant_count (variant_of l.value.now)
+
+abbrev pub invariant-append_row-loop-s : goal.invariant-append_row-loop-s
+invariant-append_row-loop-s l = l.out.items ≡ l.fn.out.items ++ row_canonical (row (map scalar_of (take l.s-index l.s-items)))
+
+abbrev pub decreases-append_array : goal.decreases-append_array
+decreases-append_array l = 4 * scalars_count (row l.items.now) + 3

@@ -1,0 +1,57 @@
+-- Which octets encode which values.
+use Rattle.std.specs.Prelude.{◌≡◌, ℕ, ◌+◌, ◌*◌, ◌<◌, ◌⊎◌, Bool, true, false, cond, IsTrue, List, [], ◌∷◌, ◌++◌, length, Option, Some, None}
+use lib.IntN.{ℤ, pos, negsuc}
+use Rattle.ua_builtin.specs.Number.{IsNumber}
+use Rattle.ua_variant.specs.Data.{LeafData, DiagnosticFields, DiagnosticData, innermost, around, DataFields, VariantData, null, one, absent, many, ScalarData, leaf, data_value, variant, diagnostic, ScalarsData, no_scalars, scalar, DataValueData, bare, valued}
+use Rattle.ua_variant.specs.Parts.{Joins, Nothing, IsOctet, IsCount, IsNegative, Masked, flag}
+use Rattle.ua_variant.specs.Leaf.{EncodesLeaf}
+use Rattle.ua_variant.specs.Fields.{data_fields, diagnostic_fields}
+use Rattle.ua_variant.specs.Encodable.{kind_of, row_length, product, is_read_kind}
+
+-- a mask of at most 0x7F, the fields that it announces, and behind them where 0x40 is set the inner info (OPC 10000-6, 5.2.2.12)
+abbrev pub EncodesDiagnostic : DiagnosticData → List ℕ → Type 0
+EncodesDiagnostic (innermost f) b = Masked 127 (λ m c. (flag 64 m ≡ false) × (diagnostic_fields m).encodes f c) b
+EncodesDiagnostic (around f d) b = Masked 127 (λ m c. (flag 64 m ≡ true) × Joins ((diagnostic_fields m).encodes f) (EncodesDiagnostic d) c) b
+
+-- a dimension, an Int32 that is not negative
+abbrev pub IsSize : ℤ → List ℕ → Type 0
+IsSize (pos n) b = IsCount n b
+IsSize (negsuc n) b = ⊥
+
+abbrev pub EncodesSizes : List ℤ → List ℕ → Type 0
+EncodesSizes [] b = Nothing b
+EncodesSizes (d ∷ ds) b = Joins (IsSize d) (EncodesSizes ds) b
+
+-- the dimensions of an array of n elements: where they are flagged, a count and as many numbers whose product is n, or a count of at most 0
+abbrev pub EncodesDims : Bool → ℕ → List ℤ → List ℕ → Type 0
+EncodesDims false n ds b = (ds ≡ []) × Nothing b
+EncodesDims true n [] b = IsNegative b ⊎ IsNumber 4 0 b
+EncodesDims true n (d ∷ ds) b = (product (d ∷ ds) ≡ n) × Joins (IsCount (length (d ∷ ds))) (EncodesSizes (d ∷ ds)) b
+
+-- the first octet of an array: 0x80, 0x40 where dimensions follow, and the type id
+abbrev pub array_octet : Bool → ℕ → ℕ
+array_octet f k = 128 + cond f 64 0 + k
+
+-- a Variant (OPC 10000-6, 5.2.2.16): the octet of the type id, and behind it a value, or for an array a count, the elements and the dimensions
+abbrev mutual
+  pub EncodesVariant : VariantData → List ℕ → Type 0
+  EncodesVariant null b = IsOctet 0 b
+  EncodesVariant (one s) b = (kind_of s ≡ 24 → ⊥) × Joins (IsOctet (kind_of s)) (EncodesScalar s) b
+  EncodesVariant (absent k ds) b = IsTrue (is_read_kind k) × (ds ≡ []) × (f : Bool) × Joins (IsOctet (array_octet f k)) (Joins IsNegative (EncodesDims f 0 [])) b
+  EncodesVariant (many k ss ds) b = IsTrue (is_read_kind k) × (f : Bool) × Joins (IsOctet (array_octet f k)) (Joins (IsCount (row_length ss)) (Joins (EncodesRow k ss) (EncodesDims f (row_length ss) ds))) b
+
+  pub EncodesScalar : ScalarData → List ℕ → Type 0
+  EncodesScalar (leaf l) b = EncodesLeaf l b
+  EncodesScalar (data_value d) b = EncodesDataValue d b
+  EncodesScalar (variant v) b = EncodesVariant v b
+  EncodesScalar (diagnostic d) b = EncodesDiagnostic d b
+
+  -- values of the type id k, one behind the other
+  pub EncodesRow : ℕ → ScalarsData → List ℕ → Type 0
+  EncodesRow k no_scalars b = Nothing b
+  EncodesRow k (scalar s ss) b = (kind_of s ≡ k) × Joins (EncodesScalar s) (EncodesRow k ss) b
+
+  -- a mask of at most 0x3F, where 0x01 is set the value, and the other fields that it announces (OPC 10000-6, 5.2.2.17)
+  pub EncodesDataValue : DataValueData → List ℕ → Type 0
+  EncodesDataValue (bare f) b = Masked 63 (λ m c. (flag 1 m ≡ false) × (data_fields m).encodes f c) b
+  EncodesDataValue (valued v f) b = Masked 63 (λ m c. (flag 1 m ≡ true) × Joins (EncodesVariant v) ((data_fields m).encodes f) c) b

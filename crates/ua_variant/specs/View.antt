@@ -1,0 +1,75 @@
+-- The data that the values of the code stand for, and the values that stand for data.
+use Rattle.std.specs.Prelude.{◌≡◌, ℕ, Bool, List, [], ◌∷◌, Option, Some, None, map, refl}
+use lib.IntN.{ℤ}
+use Rattle.std.proofs.Common.{ap}
+use Rattle.ua_variant.specs.Data.{LeafData, boolean, sbyte, byte, int16, uint16, int32, uint32, int64, uint64, float, double, string, date_time, guid, byte_string, xml_element, node_id, expanded_node_id, status_code, qualified_name, localized_text, extension_object, reserved, DiagnosticFields, DiagnosticData, innermost, around, DataFields, VariantData, null, one, absent, many, ScalarData, leaf, data_value, variant, diagnostic, ScalarsData, no_scalars, scalar, DataValueData, bare, valued}
+use Rattle.ua_variant.specs.declared.values.Scalar.{Scalar}
+use Rattle.ua_variant.specs.declared.values.Variant.{Variant}
+use Rattle.ua_variant.specs.declared.values.DataValue.{DataValue}
+use Rattle.ua_variant.specs.declared.values.DiagnosticInfo.{DiagnosticInfo}
+
+-- the elements of an array, as a list and as data
+abbrev pub row : List ScalarData → ScalarsData
+row [] = no_scalars
+row (s ∷ ss) = scalar s (row ss)
+
+abbrev pub row_list : ScalarsData → List ScalarData
+row_list no_scalars = []
+row_list (scalar s ss) = s ∷ row_list ss
+
+abbrev pub diagnostic_within : Option DiagnosticData → DiagnosticFields → DiagnosticData
+diagnostic_within None f = innermost f
+diagnostic_within (Some d) f = around f d
+
+abbrev pub diagnostic_fields_of : DiagnosticInfo → DiagnosticFields
+diagnostic_fields_of d = record { symbolic_id = d.symbolic_id; namespace_uri = d.namespace_uri; locale = d.locale; localized_text = d.localized_text; additional_info = d.additional_info; inner_status_code = d.inner_status_code }
+
+abbrev pub diagnostic_of : DiagnosticInfo → DiagnosticData
+diagnostic_of d = diagnostic_within d.inner (diagnostic_fields_of d)
+
+abbrev pub value_within : Option VariantData → DataFields → DataValueData
+value_within None f = bare f
+value_within (Some v) f = valued v f
+
+abbrev pub data_fields_of : DataValue → DataFields
+data_fields_of d = record { status = d.status; source_timestamp = d.source_timestamp; source_picoseconds = d.source_picoseconds; server_timestamp = d.server_timestamp; server_picoseconds = d.server_picoseconds }
+
+abbrev pub data_value_of : DataValue → DataValueData
+data_value_of d = value_within d.value (data_fields_of d)
+
+abbrev pub scalar_of : Scalar → ScalarData
+scalar_of (Scalar.Boolean x) = leaf (boolean x)
+scalar_of (Scalar.SByte x) = leaf (sbyte x)
+scalar_of (Scalar.Byte x) = leaf (byte x)
+scalar_of (Scalar.Int16 x) = leaf (int16 x)
+scalar_of (Scalar.UInt16 x) = leaf (uint16 x)
+scalar_of (Scalar.Int32 x) = leaf (int32 x)
+scalar_of (Scalar.UInt32 x) = leaf (uint32 x)
+scalar_of (Scalar.Int64 x) = leaf (int64 x)
+scalar_of (Scalar.UInt64 x) = leaf (uint64 x)
+scalar_of (Scalar.Float x) = leaf (float x)
+scalar_of (Scalar.Double x) = leaf (double x)
+scalar_of (Scalar.String x) = leaf (string x)
+scalar_of (Scalar.DateTime x) = leaf (date_time x)
+scalar_of (Scalar.Guid x) = leaf (guid x)
+scalar_of (Scalar.ByteString x) = leaf (byte_string x)
+scalar_of (Scalar.XmlElement x) = leaf (xml_element x)
+scalar_of (Scalar.NodeId x) = leaf (node_id x)
+scalar_of (Scalar.ExpandedNodeId x) = leaf (expanded_node_id x)
+scalar_of (Scalar.StatusCode x) = leaf (status_code x)
+scalar_of (Scalar.QualifiedName x) = leaf (qualified_name x)
+scalar_of (Scalar.LocalizedText x) = leaf (localized_text x)
+scalar_of (Scalar.ExtensionObject x) = leaf (extension_object x)
+scalar_of (Scalar.DataValue d) = data_value (data_value_of d)
+scalar_of (Scalar.Variant v) = variant v
+scalar_of (Scalar.DiagnosticInfo d) = diagnostic (diagnostic_of d)
+scalar_of (Scalar.Reserved k x) = leaf (reserved k x)
+
+abbrev pub many_of : ℕ → Option (List ScalarData) → List ℤ → VariantData
+many_of k None ds = absent k ds
+many_of k (Some ss) ds = many k (row ss) ds
+
+abbrev pub variant_of : Variant → VariantData
+variant_of Variant.Null = null
+variant_of (Variant.One s) = one (scalar_of s)
+variant_of (Variant.Many k ss ds) = many_of k ss ds

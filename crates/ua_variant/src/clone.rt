@@ -1,0 +1,166 @@
+//! Copies of values.
+
+ghost use Rattle.std.specs.Prelude.{◌≡◌, IfOk};
+
+use crate::encodable::element_count;
+use crate::values::{
+    BoxedDiagnostic, BoxedVariant, DataValue, DiagnosticInfo, Dimensions, Scalar, Scalars, Variant,
+};
+use std::alloc::{AllocError, Global};
+
+impl Dimensions {
+    /// A value of its own, equal to this one.
+    pub fn try_clone(&self, alloc: Global) -> Result<Dimensions, AllocError>
+        ensures { IfOk result (λ d. d ≡ self.now) }
+    {
+        Ok(Dimensions::new(self.as_slice().to_vec(alloc)?))
+    }
+}
+
+impl DiagnosticInfo {
+    /// A value of its own, equal to this one.
+    pub fn try_clone(&self, alloc: Global) -> Result<DiagnosticInfo, AllocError>
+        ensures { IfOk result (λ d. d ≡ self.now) }
+    {
+        copy_diagnostic(alloc, self)
+    }
+}
+
+impl Variant {
+    /// A value of its own, equal to this one.
+    pub fn try_clone(&self, alloc: Global) -> Result<Variant, AllocError>
+        ensures { IfOk result (λ v. v ≡ self.now) }
+    {
+        copy_variant(alloc, self)
+    }
+}
+
+impl DataValue {
+    /// A value of its own, equal to this one.
+    pub fn try_clone(&self, alloc: Global) -> Result<DataValue, AllocError>
+        ensures { IfOk result (λ d. d ≡ self.now) }
+    {
+        copy_data_value(alloc, self)
+    }
+}
+
+fn copy_diagnostic(alloc: Global, value: &DiagnosticInfo) -> Result<DiagnosticInfo, AllocError>
+    ensures { IfOk result (λ d. d ≡ value.now) }
+{
+    let additional_info = value.additional_info.try_clone()?;
+    let inner = match &value.inner {
+        None => None,
+        Some(inner) => Some(BoxedDiagnostic::new(alloc, copy_diagnostic(alloc, inner.get())?)?),
+    };
+    Ok(DiagnosticInfo {
+        symbolic_id: value.symbolic_id,
+        namespace_uri: value.namespace_uri,
+        locale: value.locale,
+        localized_text: value.localized_text,
+        additional_info,
+        inner_status_code: value.inner_status_code,
+        inner,
+    })
+}
+
+#[cycle(copies)]
+fn copy_variant(alloc: Global, value: &Variant) -> Result<Variant, AllocError>
+    ensures { IfOk result (λ v. v ≡ value.now) }
+{
+    match value {
+        Variant::Null => Ok(Variant::Null),
+        Variant::One(s) => Ok(Variant::One(copy_scalar(alloc, s)?)),
+        Variant::Many {
+            kind,
+            items: None,
+            dims,
+        } => Ok(Variant::Many {
+            kind: *kind,
+            items: None,
+            dims: dims.try_clone(alloc)?,
+        }),
+        Variant::Many {
+            kind,
+            items: Some(items),
+            dims,
+        } => {
+            let items = Some(copy_row(alloc, items)?);
+            Ok(Variant::Many {
+                kind: *kind,
+                items,
+                dims: dims.try_clone(alloc)?,
+            })
+        }
+    }
+}
+
+#[cycle(copies)]
+fn copy_scalar(alloc: Global, value: &Scalar) -> Result<Scalar, AllocError>
+    ensures { IfOk result (λ s. s ≡ value.now) }
+{
+    match value {
+        Scalar::Boolean(x) => Ok(Scalar::Boolean(*x)),
+        Scalar::SByte(x) => Ok(Scalar::SByte(*x)),
+        Scalar::Byte(x) => Ok(Scalar::Byte(*x)),
+        Scalar::Int16(x) => Ok(Scalar::Int16(*x)),
+        Scalar::UInt16(x) => Ok(Scalar::UInt16(*x)),
+        Scalar::Int32(x) => Ok(Scalar::Int32(*x)),
+        Scalar::UInt32(x) => Ok(Scalar::UInt32(*x)),
+        Scalar::Int64(x) => Ok(Scalar::Int64(*x)),
+        Scalar::UInt64(x) => Ok(Scalar::UInt64(*x)),
+        Scalar::Float(x) => Ok(Scalar::Float(*x)),
+        Scalar::Double(x) => Ok(Scalar::Double(*x)),
+        Scalar::String(x) => Ok(Scalar::String(x.try_clone()?)),
+        Scalar::DateTime(x) => Ok(Scalar::DateTime(*x)),
+        Scalar::Guid(x) => Ok(Scalar::Guid(*x)),
+        Scalar::ByteString(x) => Ok(Scalar::ByteString(x.try_clone()?)),
+        Scalar::XmlElement(x) => Ok(Scalar::XmlElement(x.try_clone()?)),
+        Scalar::NodeId(x) => Ok(Scalar::NodeId(x.try_clone()?)),
+        Scalar::ExpandedNodeId(x) => Ok(Scalar::ExpandedNodeId(x.try_clone()?)),
+        Scalar::StatusCode(x) => Ok(Scalar::StatusCode(*x)),
+        Scalar::QualifiedName(x) => Ok(Scalar::QualifiedName(x.try_clone()?)),
+        Scalar::LocalizedText(x) => Ok(Scalar::LocalizedText(x.try_clone()?)),
+        Scalar::ExtensionObject(x) => Ok(Scalar::ExtensionObject(x.try_clone()?)),
+        Scalar::DataValue(d) => Ok(Scalar::DataValue(copy_data_value(alloc, d)?)),
+        Scalar::Variant(v) => Ok(Scalar::Variant(copy_boxed(alloc, v)?)),
+        Scalar::DiagnosticInfo(d) => Ok(Scalar::DiagnosticInfo(d.try_clone(alloc)?)),
+        Scalar::Reserved(kind, x) => Ok(Scalar::Reserved(*kind, x.try_clone()?)),
+    }
+}
+
+#[cycle(copies)]
+fn copy_boxed(alloc: Global, value: &BoxedVariant) -> Result<BoxedVariant, AllocError>
+    ensures { IfOk result (λ v. v ≡ value.now) }
+{
+    BoxedVariant::new(alloc, copy_variant(alloc, value.get())?)
+}
+
+#[cycle(copies)]
+fn copy_row(alloc: Global, items: &Scalars) -> Result<Scalars, AllocError>
+    ensures { IfOk result (λ r. r ≡ items.now) }
+{
+    let mut copies = Vec::with_capacity(alloc, element_count(items))?;
+    for s in items.as_slice() {
+        let copy = copy_scalar(alloc, s)?;
+        copies.push(copy)?;
+    }
+    Ok(Scalars::new(copies))
+}
+
+#[cycle(copies)]
+fn copy_data_value(alloc: Global, value: &DataValue) -> Result<DataValue, AllocError>
+    ensures { IfOk result (λ d. d ≡ value.now) }
+{
+    let copy = match &value.value {
+        None => None,
+        Some(v) => Some(copy_boxed(alloc, v)?),
+    };
+    Ok(DataValue {
+        value: copy,
+        status: value.status,
+        source_timestamp: value.source_timestamp,
+        source_picoseconds: value.source_picoseconds,
+        server_timestamp: value.server_timestamp,
+        server_picoseconds: value.server_picoseconds,
+    })
+}

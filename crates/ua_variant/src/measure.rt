@@ -1,0 +1,213 @@
+//! How deep values nest, and how many values they hold.
+
+ghost use Rattle.std.specs.Prelude.{◌≡◌, ◌≤◌, min};
+ghost use Rattle.ua_variant.specs.Measure.{variant_depth, scalar_depth, scalars_depth, data_value_depth, diagnostic_depth, variant_count, scalar_count, scalars_count, data_value_count, diagnostic_count, data_fields_count, diagnostic_fields_count, there};
+ghost use Rattle.ua_variant.specs.View.{row, variant_of, scalar_of, data_value_of, diagnostic_of, data_fields_of, diagnostic_fields_of};
+
+use crate::values::{DataValue, DiagnosticInfo, Scalar, Scalars, Variant};
+
+impl Variant {
+    /// How many levels the value has, or the greatest number.
+    pub fn depth(&self) -> u32
+        ensures { result ≡ min (variant_depth (variant_of self.now)) u32.MAX }
+    {
+        variant_levels(self)
+    }
+
+    /// How many values are in it, or the greatest number.
+    pub fn count(&self) -> u64
+        ensures { result ≡ min (variant_count (variant_of self.now)) u64.MAX }
+    {
+        count_variant(self)
+    }
+}
+
+impl DataValue {
+    /// How many levels the value has, or the greatest number.
+    pub fn depth(&self) -> u32
+        ensures { result ≡ min (data_value_depth (data_value_of self.now)) u32.MAX }
+    {
+        data_value_levels(self)
+    }
+
+    /// How many values are in it, or the greatest number.
+    pub fn count(&self) -> u64
+        ensures { result ≡ min (data_value_count (data_value_of self.now)) u64.MAX }
+    {
+        count_data_value(self)
+    }
+}
+
+impl DiagnosticInfo {
+    /// How many levels the value has, or the greatest number.
+    pub fn depth(&self) -> u32
+        ensures { result ≡ min (diagnostic_depth (diagnostic_of self.now)) u32.MAX }
+    {
+        diagnostic_levels(self)
+    }
+
+    /// How many values are in it, or the greatest number.
+    pub fn count(&self) -> u64
+        ensures { result ≡ min (diagnostic_count (diagnostic_of self.now)) u64.MAX }
+    {
+        count_diagnostic(self)
+    }
+}
+
+#[cycle(levels)]
+fn variant_levels(value: &Variant) -> u32
+    ensures { result ≡ min (variant_depth (variant_of value.now)) u32.MAX }
+{
+    match value {
+        Variant::Null => 1,
+        Variant::One(s) => scalar_levels(s).saturating_add(1),
+        Variant::Many { items: None, .. } => 1,
+        Variant::Many {
+            items: Some(items),
+            ..
+        } => row_levels(items).saturating_add(1),
+    }
+}
+
+#[cycle(levels)]
+fn scalar_levels(value: &Scalar) -> u32
+    ensures { result ≡ min (scalar_depth (scalar_of value.now)) u32.MAX }
+{
+    match value {
+        Scalar::DataValue(d) => data_value_levels(d),
+        Scalar::Variant(v) => variant_levels(v.get()),
+        Scalar::DiagnosticInfo(d) => diagnostic_levels(d),
+        _ => 0,
+    }
+}
+
+#[cycle(levels)]
+fn row_levels(items: &Scalars) -> u32
+    ensures { result ≡ min (scalars_depth (row items.now)) u32.MAX }
+{
+    let mut deepest = 0;
+    for s in items.as_slice() {
+        deepest = deepest.max(scalar_levels(s));
+    }
+    deepest
+}
+
+#[cycle(levels)]
+fn data_value_levels(value: &DataValue) -> u32
+    ensures { result ≡ min (data_value_depth (data_value_of value.now)) u32.MAX }
+{
+    match &value.value {
+        None => 1,
+        Some(v) => variant_levels(v.get()).saturating_add(1),
+    }
+}
+
+fn diagnostic_levels(value: &DiagnosticInfo) -> u32
+    ensures { result ≡ min (diagnostic_depth (diagnostic_of value.now)) u32.MAX }
+{
+    match &value.inner {
+        None => 1,
+        Some(d) => diagnostic_levels(d.get()).saturating_add(1),
+    }
+}
+
+#[cycle(counts)]
+fn count_variant(value: &Variant) -> u64
+    ensures { result ≡ min (variant_count (variant_of value.now)) u64.MAX }
+{
+    match value {
+        Variant::Null => 1,
+        Variant::One(s) => count_scalar(s).saturating_add(1),
+        Variant::Many {
+            items: None, dims, ..
+        } => (dims.as_slice().len() as u64).saturating_add(1),
+        Variant::Many {
+            items: Some(items),
+            dims,
+            ..
+        } => count_row(items)
+            .saturating_add(dims.as_slice().len() as u64)
+            .saturating_add(1),
+    }
+}
+
+#[cycle(counts)]
+fn count_scalar(value: &Scalar) -> u64
+    ensures { result ≡ min (scalar_count (scalar_of value.now)) u64.MAX }
+{
+    match value {
+        Scalar::DataValue(d) => count_data_value(d),
+        Scalar::Variant(v) => count_variant(v.get()),
+        Scalar::DiagnosticInfo(d) => count_diagnostic(d),
+        _ => 1,
+    }
+}
+
+#[cycle(counts)]
+fn count_row(items: &Scalars) -> u64
+    ensures { result ≡ min (scalars_count (row items.now)) u64.MAX }
+{
+    let mut all = 0u64;
+    for s in items.as_slice() {
+        all = all.saturating_add(count_scalar(s));
+    }
+    all
+}
+
+#[cycle(counts)]
+fn count_data_value(value: &DataValue) -> u64
+    ensures { result ≡ min (data_value_count (data_value_of value.now)) u64.MAX }
+{
+    let fields = count_data_fields(value);
+    match &value.value {
+        None => fields.saturating_add(1),
+        Some(v) => count_variant(v.get())
+            .saturating_add(fields)
+            .saturating_add(1),
+    }
+}
+
+fn count_diagnostic(value: &DiagnosticInfo) -> u64
+    ensures { result ≡ min (diagnostic_count (diagnostic_of value.now)) u64.MAX }
+{
+    let fields = count_diagnostic_fields(value);
+    match &value.inner {
+        None => fields.saturating_add(1),
+        Some(d) => count_diagnostic(d.get())
+            .saturating_add(fields)
+            .saturating_add(1),
+    }
+}
+
+#[inline]
+fn count_of<T>(field: &Option<T>) -> u64
+    ensures value { result ≡ there field.now }
+    ensures within { result ≤ 1 }
+{
+    match field {
+        None => 0,
+        Some(_) => 1,
+    }
+}
+
+fn count_data_fields(value: &DataValue) -> u64
+    ensures { result ≡ data_fields_count (data_fields_of value.now) }
+{
+    count_of(&value.status)
+        + count_of(&value.source_timestamp)
+        + count_of(&value.source_picoseconds)
+        + count_of(&value.server_timestamp)
+        + count_of(&value.server_picoseconds)
+}
+
+fn count_diagnostic_fields(value: &DiagnosticInfo) -> u64
+    ensures { result ≡ diagnostic_fields_count (diagnostic_fields_of value.now) }
+{
+    let info = if value.additional_info.is_some() { 1 } else { 0 };
+    count_of(&value.symbolic_id)
+        + count_of(&value.namespace_uri)
+        + count_of(&value.locale)
+        + count_of(&value.localized_text)
+        + info
+        + count_of(&value.inner_status_code)
+}

@@ -1,0 +1,448 @@
+//! Reads Variants, DataValues and DiagnosticInfos.
+
+ghost use Rattle.std.specs.Prelude.{◌≡◌, ◌<◌, map, IsErrOf};
+ghost use Rattle.ua_builtin.specs.Format.{Gives, GivesBy, StaysBehind};
+ghost use Rattle.ua_builtin.specs.Counted.{text, IsOverlong};
+ghost use Rattle.ua_builtin.specs.declared.fault.ReadFault.TheVariants.{NoValue};
+ghost use Rattle.ua_variant.specs.Data.{leaf};
+ghost use Rattle.ua_variant.specs.Formats.{made_read, IsOverlongArray};
+ghost use Rattle.ua_variant.specs.Leaf.{leaf_at};
+ghost use Rattle.ua_variant.specs.Parts.{flag, optional_read, flagged_read};
+ghost use Rattle.ua_variant.specs.Encodable.{is_read_kind as read_kind};
+ghost use Rattle.ua_variant.specs.Decoding.{diagnostic_at, diagnostic_step, variant_at, variant_step, variant_after, data_value_at, data_value_step, scalars_at, scalar_at, array_at, elements_at, row_at, size_at, sizes_at, dims_at, no_dims_at};
+ghost use Rattle.ua_variant.specs.View.{row, variant_of, scalar_of, data_value_of, diagnostic_of};
+
+use crate::encodable::product_of;
+use crate::values::{
+    BoxedDiagnostic, BoxedVariant, DataValue, DiagnosticInfo, Dimensions, Scalar, Scalars, Variant,
+};
+use std::alloc::Global;
+use ua_builtin::{
+    DateTime, DoubleBits, ExpandedNodeId, ExtensionObject, FloatBits, Guid, LocalizedText, NodeId, QualifiedName, ReadFault, Source, StatusCode, UaBytes, UaString, Wire, XmlElement,
+};
+
+/// Counts from here on are negative as an Int32, and mean null.
+const FIRST_NEGATIVE: u32 = 1 << 31;
+
+/// Whether the mask has the flag, a power of two.
+#[inline]
+fn has_flag(mask: u8, place: u8) -> bool
+    requires { 0 < place }
+    ensures { result ≡ flag place mask }
+{
+    mask / place % 2 == 1
+}
+
+/// Reads a field where it is announced.
+fn read_field<T: Wire + Drop, S: Source>(
+    alloc: Global,
+    src: &mut S,
+    depth: u32,
+    set: bool,
+) -> Result<Option<T>, ReadFault>
+    ensures exact { Gives (optional_read set (T.format.decode depth)) (S.octets src.old) (S.octets src.new) result }
+    ensures behind { StaysBehind (S.octets src.old) (S.octets src.new) }
+{
+    if !set {
+        return Ok(None);
+    }
+    let value = T::read_value(alloc, src, depth)?;
+    Ok(Some(value))
+}
+
+/// Reads a text where it is announced.
+fn read_info<S: Source>(
+    alloc: Global,
+    src: &mut S,
+    depth: u32,
+    set: bool,
+) -> Result<UaString, ReadFault>
+    ensures exact { Gives (flagged_read set text.decode) (S.octets src.old) (S.octets src.new) result }
+    ensures behind { StaysBehind (S.octets src.old) (S.octets src.new) }
+{
+    if !set {
+        return Ok(UaString::null());
+    }
+    let info = UaString::read_value(alloc, src, depth)?;
+    Ok(info)
+}
+
+/// Reads a scalar that holds no further value.
+#[tactic(auto, unfolding(crate::specs::Leaf::leaf_at))]
+fn read_leaf<S: Source>(
+    alloc: Global,
+    src: &mut S,
+    depth: u32,
+    kind: u8,
+) -> Result<Scalar, ReadFault>
+    ensures exact { GivesBy scalar_of (made_read leaf (leaf_at kind)) (S.octets src.old) (S.octets src.new) result }
+    ensures behind { StaysBehind (S.octets src.old) (S.octets src.new) }
+{
+    match kind {
+        1 => Ok(Scalar::Boolean(bool::read_value(alloc, src, depth)?)),
+        2 => Ok(Scalar::SByte(i8::read_value(alloc, src, depth)?)),
+        3 => Ok(Scalar::Byte(u8::read_value(alloc, src, depth)?)),
+        4 => Ok(Scalar::Int16(i16::read_value(alloc, src, depth)?)),
+        5 => Ok(Scalar::UInt16(u16::read_value(alloc, src, depth)?)),
+        6 => Ok(Scalar::Int32(i32::read_value(alloc, src, depth)?)),
+        7 => Ok(Scalar::UInt32(u32::read_value(alloc, src, depth)?)),
+        8 => Ok(Scalar::Int64(i64::read_value(alloc, src, depth)?)),
+        9 => Ok(Scalar::UInt64(u64::read_value(alloc, src, depth)?)),
+        10 => Ok(Scalar::Float(FloatBits::read_value(alloc, src, depth)?)),
+        11 => Ok(Scalar::Double(DoubleBits::read_value(alloc, src, depth)?)),
+        12 => Ok(Scalar::String(UaString::read_value(alloc, src, depth)?)),
+        13 => Ok(Scalar::DateTime(DateTime::read_value(alloc, src, depth)?)),
+        14 => Ok(Scalar::Guid(Guid::read_value(alloc, src, depth)?)),
+        15 => Ok(Scalar::ByteString(UaBytes::read_value(alloc, src, depth)?)),
+        16 => Ok(Scalar::XmlElement(XmlElement::read_value(alloc, src, depth)?)),
+        17 => Ok(Scalar::NodeId(NodeId::read_value(alloc, src, depth)?)),
+        18 => Ok(Scalar::ExpandedNodeId(ExpandedNodeId::read_value(alloc, src, depth)?)),
+        19 => Ok(Scalar::StatusCode(StatusCode::read_value(alloc, src, depth)?)),
+        20 => Ok(Scalar::QualifiedName(QualifiedName::read_value(alloc, src, depth)?)),
+        21 => Ok(Scalar::LocalizedText(LocalizedText::read_value(alloc, src, depth)?)),
+        22 => Ok(Scalar::ExtensionObject(ExtensionObject::read_value(alloc, src, depth)?)),
+        26..=31 => Ok(Scalar::Reserved(kind, UaBytes::read_value(alloc, src, depth)?)),
+        _ => Err(ReadFault::NoValue),
+    }
+}
+
+/// Reads an Int32 that is not negative.
+#[tactic(auto, unfolding(crate::specs::Decoding::size_at))]
+fn read_size<S: Source>(alloc: Global, src: &mut S) -> Result<i32, ReadFault>
+    ensures exact { Gives size_at (S.octets src.old) (S.octets src.new) result }
+    ensures behind { StaysBehind (S.octets src.old) (S.octets src.new) }
+{
+    let size = u32::read_value(alloc, src, 0)?;
+    if size >= FIRST_NEGATIVE {
+        return Err(ReadFault::NoValue);
+    }
+    Ok(size.cast_signed())
+}
+
+/// Reads so many dimensions; no memory is asked for where fewer octets are left.
+fn read_sizes<S: Source>(alloc: Global, src: &mut S, count: u32) -> Result<Vec<i32>, ReadFault>
+    ensures exact { GivesBy (λ v. v.items) (sizes_at count) (S.octets src.old) (S.octets src.new) result }
+    ensures behind { StaysBehind (S.octets src.old) (S.octets src.new) }
+{
+    if src.left() / 4 < count as usize {
+        return Err(ReadFault::NoValue);
+    }
+    let mut sizes = Vec::with_capacity(alloc, count as usize)?;
+    for _ in 0..count {
+        let size = read_size(alloc, src)?;
+        sizes.push(size)?;
+    }
+    Ok(sizes)
+}
+
+/// Reads the dimensions of an array of so many elements, where they are announced.
+#[tactic(auto, unfolding(crate::specs::Decoding::dims_at))]
+fn read_dims<S: Source>(
+    alloc: Global,
+    src: &mut S,
+    set: bool,
+    elements: u32,
+) -> Result<Dimensions, ReadFault>
+    requires { elements < 2147483648 }
+    ensures exact { Gives (dims_at set elements) (S.octets src.old) (S.octets src.new) result }
+    ensures behind { StaysBehind (S.octets src.old) (S.octets src.new) }
+{
+    if !set {
+        return Ok(Dimensions::none(alloc));
+    }
+    let count = u32::read_value(alloc, src, 0)?;
+    if count >= FIRST_NEGATIVE || count == 0 {
+        return Ok(Dimensions::none(alloc));
+    }
+    let sizes = read_sizes(alloc, src, count)?;
+    if product_of(&sizes) != elements as u64 {
+        return Err(ReadFault::NoValue);
+    }
+    Ok(Dimensions::new(sizes))
+}
+
+/// Reads the dimensions of a null array, where they are announced: a count of at most 0.
+#[tactic(auto, unfolding(crate::specs::Decoding::no_dims_at))]
+fn read_no_dims<S: Source>(alloc: Global, src: &mut S, set: bool) -> Result<Dimensions, ReadFault>
+    ensures exact { Gives (no_dims_at set) (S.octets src.old) (S.octets src.new) result }
+    ensures behind { StaysBehind (S.octets src.old) (S.octets src.new) }
+{
+    if !set {
+        return Ok(Dimensions::none(alloc));
+    }
+    let count = u32::read_value(alloc, src, 0)?;
+    if count >= FIRST_NEGATIVE || count == 0 {
+        return Ok(Dimensions::none(alloc));
+    }
+    Err(ReadFault::NoValue)
+}
+
+/// Reads a DiagnosticInfo of at most so many levels.
+#[cycle(diagnostics)]
+pub fn read_diagnostic<S: Source>(
+    alloc: Global,
+    src: &mut S,
+    depth: u32,
+) -> Result<DiagnosticInfo, ReadFault>
+    ensures exact { GivesBy diagnostic_of (diagnostic_at depth) (S.octets src.old) (S.octets src.new) result }
+    ensures behind { StaysBehind (S.octets src.old) (S.octets src.new) }
+{
+    if depth == 0 {
+        return Err(ReadFault::NoValue);
+    }
+    read_diagnostic_level(alloc, src, depth - 1)
+}
+
+/// Reads a DiagnosticInfo, with so many levels left within.
+#[cycle(diagnostics)]
+#[tactic(auto, unfolding(crate::specs::Decoding::diagnostic_step, crate::specs::Fields::diagnostic_fields))]
+fn read_diagnostic_level<S: Source>(
+    alloc: Global,
+    src: &mut S,
+    depth: u32,
+) -> Result<DiagnosticInfo, ReadFault>
+    ensures exact { GivesBy diagnostic_of (diagnostic_step (diagnostic_at depth)) (S.octets src.old) (S.octets src.new) result }
+    ensures behind { StaysBehind (S.octets src.old) (S.octets src.new) }
+{
+    let mask = u8::read_value(alloc, src, 0)?;
+    if mask > 0x7F {
+        return Err(ReadFault::NoValue);
+    }
+    let symbolic_id = read_field(alloc, src, 0, has_flag(mask, 0x01))?;
+    let namespace_uri = read_field(alloc, src, 0, has_flag(mask, 0x02))?;
+    let locale = read_field(alloc, src, 0, has_flag(mask, 0x08))?;
+    let localized_text = read_field(alloc, src, 0, has_flag(mask, 0x04))?;
+    let additional_info = read_info(alloc, src, 0, has_flag(mask, 0x10))?;
+    let inner_status_code = read_field(alloc, src, 0, has_flag(mask, 0x20))?;
+    let inner = read_inner(alloc, src, depth, has_flag(mask, 0x40))?;
+    Ok(DiagnosticInfo {
+        symbolic_id,
+        namespace_uri,
+        locale,
+        localized_text,
+        additional_info,
+        inner_status_code,
+        inner,
+    })
+}
+
+#[cycle(diagnostics)]
+fn read_inner<S: Source>(
+    alloc: Global,
+    src: &mut S,
+    depth: u32,
+    set: bool,
+) -> Result<Option<BoxedDiagnostic>, ReadFault>
+    ensures exact { Gives (optional_read set (diagnostic_at depth)) (S.octets src.old) (S.octets src.new) result }
+    ensures behind { StaysBehind (S.octets src.old) (S.octets src.new) }
+{
+    if !set {
+        return Ok(None);
+    }
+    let inner = read_diagnostic(alloc, src, depth)?;
+    Ok(Some(BoxedDiagnostic::new(alloc, inner)?))
+}
+
+/// Reads a Variant of at most so many levels.
+#[cycle(variants)]
+pub fn read_variant<S: Source>(alloc: Global, src: &mut S, depth: u32) -> Result<Variant, ReadFault>
+    ensures exact { GivesBy variant_of (variant_at depth) (S.octets src.old) (S.octets src.new) result }
+    ensures behind { StaysBehind (S.octets src.old) (S.octets src.new) }
+    ensures long { IsOverlongArray (S.octets src.old) → IsErrOf result NoValue }
+{
+    if depth == 0 {
+        return Err(ReadFault::NoValue);
+    }
+    read_variant_level(alloc, src, depth - 1)
+}
+
+/// Whether values of the type id are read.
+#[inline]
+fn is_read_kind(kind: u8) -> bool
+    ensures { result ≡ read_kind kind }
+{
+    1 <= kind && kind <= 31
+}
+
+/// Reads a Variant, with so many levels left within.
+#[cycle(variants)]
+#[tactic(auto, unfolding(crate::specs::Decoding::variant_step, crate::specs::Decoding::variant_after))]
+fn read_variant_level<S: Source>(
+    alloc: Global,
+    src: &mut S,
+    depth: u32,
+) -> Result<Variant, ReadFault>
+    ensures exact { GivesBy variant_of (variant_step (scalars_at depth)) (S.octets src.old) (S.octets src.new) result }
+    ensures behind { StaysBehind (S.octets src.old) (S.octets src.new) }
+    ensures long { IsOverlongArray (S.octets src.old) → IsErrOf result NoValue }
+{
+    let tag = u8::read_value(alloc, src, 0)?;
+    if tag == 0 {
+        return Ok(Variant::Null);
+    }
+    if tag >= 0x80 {
+        if !is_read_kind(tag % 0x40) {
+            return Err(ReadFault::NoValue);
+        }
+        return read_array(alloc, src, depth, tag % 0x40, has_flag(tag, 0x40));
+    }
+    if tag == 24 {
+        return Err(ReadFault::NoValue);
+    }
+    Ok(Variant::One(read_scalar(alloc, src, depth, tag)?))
+}
+
+/// Reads an array behind its first octet; no memory is asked for where fewer octets than elements
+/// are left.
+#[cycle(variants)]
+#[tactic(auto, unfolding(crate::specs::Decoding::array_at))]
+fn read_array<S: Source>(
+    alloc: Global,
+    src: &mut S,
+    depth: u32,
+    kind: u8,
+    flagged: bool,
+) -> Result<Variant, ReadFault>
+    ensures exact { GivesBy variant_of (array_at (scalars_at depth) kind flagged) (S.octets src.old) (S.octets src.new) result }
+    ensures behind { StaysBehind (S.octets src.old) (S.octets src.new) }
+    ensures long { IsOverlong (S.octets src.old) → IsErrOf result NoValue }
+{
+    let count = u32::read_value(alloc, src, 0)?;
+    if count >= FIRST_NEGATIVE {
+        let dims = read_no_dims(alloc, src, flagged)?;
+        return Ok(Variant::Many {
+            kind,
+            items: None,
+            dims,
+        });
+    }
+    if src.left() < count as usize {
+        return Err(ReadFault::NoValue);
+    }
+    read_elements(alloc, src, depth, kind, flagged, count)
+}
+
+/// Reads so many elements and the dimensions.
+#[cycle(variants)]
+fn read_elements<S: Source>(
+    alloc: Global,
+    src: &mut S,
+    depth: u32,
+    kind: u8,
+    flagged: bool,
+    count: u32,
+) -> Result<Variant, ReadFault>
+    requires { count < 2147483648 }
+    ensures exact { GivesBy variant_of (elements_at (scalars_at depth) kind flagged count) (S.octets src.old) (S.octets src.new) result }
+    ensures behind { StaysBehind (S.octets src.old) (S.octets src.new) }
+{
+    let items = read_row(alloc, src, depth, kind, count)?;
+    let dims = read_dims(alloc, src, flagged, count)?;
+    Ok(Variant::Many {
+        kind,
+        items: Some(items),
+        dims,
+    })
+}
+
+#[cycle(variants)]
+fn read_row<S: Source>(
+    alloc: Global,
+    src: &mut S,
+    depth: u32,
+    kind: u8,
+    count: u32,
+) -> Result<Scalars, ReadFault>
+    ensures exact { GivesBy (λ ss. row ss) (row_at count (scalars_at depth kind)) (S.octets src.old) (S.octets src.new) result }
+    ensures behind { StaysBehind (S.octets src.old) (S.octets src.new) }
+{
+    let mut items = Vec::with_capacity(alloc, count as usize)?;
+    for _ in 0..count {
+        let item = read_scalar(alloc, src, depth, kind)?;
+        items.push(item)?;
+    }
+    Ok(Scalars::new(items))
+}
+
+#[cycle(variants)]
+#[tactic(auto, unfolding(crate::specs::Decoding::scalar_at))]
+fn read_scalar<S: Source>(
+    alloc: Global,
+    src: &mut S,
+    depth: u32,
+    kind: u8,
+) -> Result<Scalar, ReadFault>
+    ensures exact { GivesBy scalar_of (scalars_at depth kind) (S.octets src.old) (S.octets src.new) result }
+    ensures behind { StaysBehind (S.octets src.old) (S.octets src.new) }
+{
+    match kind {
+        23 => Ok(Scalar::DataValue(read_data_value(alloc, src, depth)?)),
+        24 => Ok(Scalar::Variant(BoxedVariant::new(alloc, read_variant(alloc, src, depth)?)?)),
+        25 => Ok(Scalar::DiagnosticInfo(read_diagnostic(alloc, src, depth)?)),
+        _ => read_leaf(alloc, src, depth, kind),
+    }
+}
+
+/// Reads a DataValue of at most so many levels.
+#[cycle(variants)]
+pub fn read_data_value<S: Source>(
+    alloc: Global,
+    src: &mut S,
+    depth: u32,
+) -> Result<DataValue, ReadFault>
+    ensures exact { GivesBy data_value_of (data_value_at depth) (S.octets src.old) (S.octets src.new) result }
+    ensures behind { StaysBehind (S.octets src.old) (S.octets src.new) }
+{
+    if depth == 0 {
+        return Err(ReadFault::NoValue);
+    }
+    read_data_value_level(alloc, src, depth - 1)
+}
+
+/// Reads a DataValue, with so many levels left within.
+#[cycle(variants)]
+#[tactic(auto, unfolding(crate::specs::Decoding::data_value_step, crate::specs::Fields::data_fields))]
+fn read_data_value_level<S: Source>(
+    alloc: Global,
+    src: &mut S,
+    depth: u32,
+) -> Result<DataValue, ReadFault>
+    ensures exact { GivesBy data_value_of (data_value_step (variant_at depth)) (S.octets src.old) (S.octets src.new) result }
+    ensures behind { StaysBehind (S.octets src.old) (S.octets src.new) }
+{
+    let mask = u8::read_value(alloc, src, 0)?;
+    if mask > 0x3F {
+        return Err(ReadFault::NoValue);
+    }
+    let value = read_boxed(alloc, src, depth, has_flag(mask, 0x01))?;
+    let status = read_field(alloc, src, 0, has_flag(mask, 0x02))?;
+    let source_timestamp = read_field(alloc, src, 0, has_flag(mask, 0x04))?;
+    let source_picoseconds = read_field(alloc, src, 0, has_flag(mask, 0x10))?;
+    let server_timestamp = read_field(alloc, src, 0, has_flag(mask, 0x08))?;
+    let server_picoseconds = read_field(alloc, src, 0, has_flag(mask, 0x20))?;
+    Ok(DataValue {
+        value,
+        status,
+        source_timestamp,
+        source_picoseconds,
+        server_timestamp,
+        server_picoseconds,
+    })
+}
+
+#[cycle(variants)]
+fn read_boxed<S: Source>(
+    alloc: Global,
+    src: &mut S,
+    depth: u32,
+    set: bool,
+) -> Result<Option<BoxedVariant>, ReadFault>
+    ensures exact { Gives (optional_read set (variant_at depth)) (S.octets src.old) (S.octets src.new) result }
+    ensures behind { StaysBehind (S.octets src.old) (S.octets src.new) }
+{
+    if !set {
+        return Ok(None);
+    }
+    let value = read_variant(alloc, src, depth)?;
+    Ok(Some(BoxedVariant::new(alloc, value)?))
+}

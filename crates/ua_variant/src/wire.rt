@@ -1,0 +1,81 @@
+//! How octets encode Variants, DataValues and DiagnosticInfos.
+
+use crate::read::{read_data_value, read_diagnostic, read_variant};
+use crate::values::{DataValue, DiagnosticInfo, Variant};
+use crate::write::{append_data_value, append_diagnostic, append_variant};
+use std::alloc::{AllocError, Global};
+use ua_builtin::{ReadFault, Source, Wire};
+
+/// Variant (OPC 10000-6, 5.2.2.16).
+impl Wire for Variant {
+    ghost use Rattle.ua_variant.specs.Formats.{variant_format, variant_starts, IsOverlongArray};
+
+    ghost format = { variant_format };
+
+    ghost overlong = { IsOverlongArray };
+
+    ghost starts = { variant_starts };
+
+    #[tactic(auto, unfolding(crate::specs::Formats::variant_format))]
+    fn read_value<S: Source>(alloc: Global, src: &mut S, depth: u32) -> Result<Variant, ReadFault> {
+        read_variant(alloc, src, depth)
+    }
+
+    #[tactic(auto, unfolding(crate::specs::Formats::variant_format))]
+    fn is_encodable(&self) -> bool {
+        self.writable()
+    }
+
+    #[tactic(auto, using(crate::proofs::Written::variant_fits_of), unfolding(crate::specs::Formats::variant_format))]
+    fn append(&self, out: &mut Vec<u8>) -> Result<(), AllocError> {
+        append_variant(self, out)
+    }
+}
+
+/// DataValue (OPC 10000-6, 5.2.2.17).
+impl Wire for DataValue {
+    ghost use Rattle.ua_variant.specs.Formats.{data_value_format, data_value_starts};
+
+    ghost format = { data_value_format };
+
+    ghost starts = { data_value_starts };
+
+    #[tactic(auto, unfolding(crate::specs::Formats::data_value_format))]
+    fn read_value<S: Source>(alloc: Global, src: &mut S, depth: u32) -> Result<DataValue, ReadFault> {
+        read_data_value(alloc, src, depth)
+    }
+
+    #[tactic(auto, unfolding(crate::specs::Formats::data_value_format))]
+    fn is_encodable(&self) -> bool {
+        self.writable()
+    }
+
+    #[tactic(auto, using(crate::proofs::Written::data_value_fits_of), unfolding(crate::specs::Formats::data_value_format))]
+    fn append(&self, out: &mut Vec<u8>) -> Result<(), AllocError> {
+        append_data_value(self, out)
+    }
+}
+
+/// DiagnosticInfo (OPC 10000-6, 5.2.2.12).
+impl Wire for DiagnosticInfo {
+    ghost use Rattle.ua_variant.specs.Formats.{diagnostic_format, diagnostic_starts};
+
+    ghost format = { diagnostic_format };
+
+    ghost starts = { diagnostic_starts };
+
+    #[tactic(auto, unfolding(crate::specs::Formats::diagnostic_format))]
+    fn read_value<S: Source>(alloc: Global, src: &mut S, depth: u32) -> Result<DiagnosticInfo, ReadFault> {
+        read_diagnostic(alloc, src, depth)
+    }
+
+    #[tactic(auto, unfolding(crate::specs::Formats::diagnostic_format))]
+    fn is_encodable(&self) -> bool {
+        self.writable()
+    }
+
+    #[tactic(auto, using(crate::proofs::Written::diagnostic_fits_of), unfolding(crate::specs::Formats::diagnostic_format))]
+    fn append(&self, out: &mut Vec<u8>) -> Result<(), AllocError> {
+        append_diagnostic(self, out)
+    }
+}

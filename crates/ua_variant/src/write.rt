@@ -1,0 +1,299 @@
+//! Writes Variants, DataValues and DiagnosticInfos.
+
+ghost use Rattle.std.specs.Prelude.{◌≡◌, ◌<◌, ◌≤◌, ◌++◌, ◌∷◌, [], true, OnOk, OnErr, IsTrue};
+ghost use Rattle.ua_builtin.specs.Counted.{text};
+ghost use Rattle.ua_builtin.specs.Format.{Extends};
+ghost use Rattle.ua_variant.specs.Data.{many};
+ghost use Rattle.ua_variant.specs.Parts.{flag_bit, optional_canonical, optional_fits, flagged_canonical, flagged_fits};
+ghost use Rattle.ua_variant.specs.Canonical.{data_fields_canonical, diagnostic_fields_canonical, diagnostic_canonical, sizes_canonical, dims_canonical, has_dims, variant_canonical, scalar_canonical, row_canonical, data_value_canonical};
+ghost use Rattle.ua_variant.specs.Encoding.{array_octet};
+ghost use Rattle.ua_variant.specs.Fields.{data_flags, diagnostic_flags};
+ghost use Rattle.ua_variant.specs.Encodable.{row_length, are_sizes, variant_fits, scalar_fits, scalars_fit, data_value_fits, data_fields_encodable, diagnostic_fits, diagnostic_fields_encodable, dims_encodable};
+ghost use Rattle.ua_variant.specs.View.{row, variant_of, scalar_of, data_value_of, diagnostic_of, data_fields_of, diagnostic_fields_of};
+
+use crate::encodable::element_count;
+use crate::values::{DataValue, DiagnosticInfo, Dimensions, Scalar, Scalars, Variant};
+use std::alloc::AllocError;
+use ua_builtin::{UaString, Wire};
+
+/// The count of a null array.
+const NULL_COUNT: u32 = u32::MAX;
+
+/// Adds a field, where it is there.
+#[inline]
+fn append_field<T: Wire>(field: &Option<T>, out: &mut Vec<u8>) -> Result<(), AllocError>
+    requires { IsTrue (optional_fits T.format.encodable field.now) }
+    ensures ok { OnOk result (out.new.items ≡ out.old.items ++ optional_canonical T.format.canonical field.now) }
+    ensures err { OnErr result (Extends out.old.items out.new.items) }
+{
+    match field {
+        None => Ok(()),
+        Some(x) => x.append(out),
+    }
+}
+
+/// Adds a text, where it isn't null.
+#[inline]
+fn append_info(info: &UaString, out: &mut Vec<u8>) -> Result<(), AllocError>
+    requires { IsTrue (flagged_fits text.encodable info.now) }
+    ensures ok { OnOk result (out.new.items ≡ out.old.items ++ flagged_canonical text.canonical info.now) }
+    ensures err { OnErr result (Extends out.old.items out.new.items) }
+{
+    if info.is_some() {
+        info.append(out)?;
+    }
+    Ok(())
+}
+
+/// The flag of a field that is there.
+#[inline]
+fn flag_of<T>(place: u8, field: &Option<T>) -> u8
+    ensures value { result ≡ flag_bit place field.now }
+    ensures within { result ≤ place }
+{
+    match field {
+        None => 0,
+        Some(_) => place,
+    }
+}
+
+/// The flags of the fields that are there, but the value.
+fn data_mask(value: &DataValue) -> u8
+    ensures value { result ≡ data_flags (data_fields_of value.now) }
+    ensures within { result ≤ 62 }
+{
+    flag_of(0x02, &value.status)
+        + flag_of(0x04, &value.source_timestamp)
+        + flag_of(0x08, &value.server_timestamp)
+        + flag_of(0x10, &value.source_picoseconds)
+        + flag_of(0x20, &value.server_picoseconds)
+}
+
+/// The flags of the fields that are there, but the inner info.
+fn diagnostic_mask(value: &DiagnosticInfo) -> u8
+    ensures value { result ≡ diagnostic_flags (diagnostic_fields_of value.now) }
+    ensures within { result ≤ 63 }
+{
+    let info = if value.additional_info.is_some() {
+        0x10
+    } else {
+        0
+    };
+    flag_of(0x01, &value.symbolic_id)
+        + flag_of(0x02, &value.namespace_uri)
+        + flag_of(0x04, &value.localized_text)
+        + flag_of(0x08, &value.locale)
+        + info
+        + flag_of(0x20, &value.inner_status_code)
+}
+
+#[tactic(auto, using(crate::proofs::Flags::data_fields_parts), unfolding(crate::specs::Fields::data_fields))]
+fn append_data_fields(value: &DataValue, out: &mut Vec<u8>) -> Result<(), AllocError>
+    requires { data_fields_encodable (data_fields_of value.now) ≡ true }
+    ensures ok { OnOk result (out.new.items ≡ out.old.items ++ data_fields_canonical (data_fields_of value.now)) }
+    ensures err { OnErr result (Extends out.old.items out.new.items) }
+{
+    append_field(&value.status, out)?;
+    append_field(&value.source_timestamp, out)?;
+    append_field(&value.source_picoseconds, out)?;
+    append_field(&value.server_timestamp, out)?;
+    append_field(&value.server_picoseconds, out)?;
+    Ok(())
+}
+
+#[tactic(auto, using(crate::proofs::Flags::diagnostic_fields_parts), unfolding(crate::specs::Fields::diagnostic_fields))]
+fn append_diagnostic_fields(value: &DiagnosticInfo, out: &mut Vec<u8>) -> Result<(), AllocError>
+    requires { diagnostic_fields_encodable (diagnostic_fields_of value.now) ≡ true }
+    ensures ok { OnOk result (out.new.items ≡ out.old.items ++ diagnostic_fields_canonical (diagnostic_fields_of value.now)) }
+    ensures err { OnErr result (Extends out.old.items out.new.items) }
+{
+    append_field(&value.symbolic_id, out)?;
+    append_field(&value.namespace_uri, out)?;
+    append_field(&value.locale, out)?;
+    append_field(&value.localized_text, out)?;
+    append_info(&value.additional_info, out)?;
+    append_field(&value.inner_status_code, out)?;
+    Ok(())
+}
+
+pub fn append_diagnostic(value: &DiagnosticInfo, out: &mut Vec<u8>) -> Result<(), AllocError>
+    requires { diagnostic_fits (diagnostic_of value.now) ≡ true }
+    ensures ok { OnOk result (out.new.items ≡ out.old.items ++ diagnostic_canonical (diagnostic_of value.now)) }
+    ensures err { OnErr result (Extends out.old.items out.new.items) }
+{
+    let mask = diagnostic_mask(value);
+    match &value.inner {
+        None => {
+            out.push(mask)?;
+            append_diagnostic_fields(value, out)?;
+        }
+        Some(inner) => {
+            out.push(mask + 0x40)?;
+            append_diagnostic_fields(value, out)?;
+            append_diagnostic(inner.get(), out)?;
+        }
+    }
+    Ok(())
+}
+
+fn append_sizes(dims: &[i32], out: &mut Vec<u8>) -> Result<(), AllocError>
+    requires { are_sizes dims.now ≡ true }
+    ensures ok { OnOk result (out.new.items ≡ out.old.items ++ sizes_canonical dims.now) }
+    ensures err { OnErr result (Extends out.old.items out.new.items) }
+{
+    for d in dims {
+        d.unsigned_abs().append(out)?;
+    }
+    Ok(())
+}
+
+fn append_dims(dims: &Dimensions, n: usize, out: &mut Vec<u8>) -> Result<(), AllocError>
+    requires { dims_encodable dims.now n ≡ true }
+    ensures ok { OnOk result (out.new.items ≡ out.old.items ++ dims_canonical dims.now) }
+    ensures err { OnErr result (Extends out.old.items out.new.items) }
+{
+    let dims = dims.as_slice();
+    if dims.is_empty() {
+        return Ok(());
+    }
+    (dims.len() as u32).append(out)?;
+    append_sizes(dims, out)?;
+    Ok(())
+}
+
+/// The first octet of an array.
+fn array_tag(kind: u8, dims: &Dimensions) -> u8
+    requires { kind < 32 }
+    ensures { result ≡ array_octet (has_dims dims.now) kind }
+{
+    if dims.as_slice().is_empty() {
+        0x80 + kind
+    } else {
+        0xC0 + kind
+    }
+}
+
+#[cycle(appends)]
+#[tactic(auto, using(crate::proofs::Written::many_parts))]
+pub fn append_variant(value: &Variant, out: &mut Vec<u8>) -> Result<(), AllocError>
+    requires { variant_fits (variant_of value.now) ≡ true }
+    ensures ok { OnOk result (out.new.items ≡ out.old.items ++ variant_canonical (variant_of value.now)) }
+    ensures err { OnErr result (Extends out.old.items out.new.items) }
+{
+    match value {
+        Variant::Null => {
+            out.push(0)?;
+        }
+        Variant::One(s) => {
+            out.push(s.kind())?;
+            append_scalar(s, out)?;
+        }
+        Variant::Many {
+            kind,
+            items: None,
+            ..
+        } => {
+            out.push(0x80 + *kind)?;
+            NULL_COUNT.append(out)?;
+        }
+        Variant::Many {
+            kind,
+            items: Some(items),
+            dims,
+        } => {
+            append_array(*kind, items, dims, out)?;
+        }
+    }
+    Ok(())
+}
+
+#[cycle(appends)]
+fn append_array(
+    kind: u8,
+    items: &Scalars,
+    dims: &Dimensions,
+    out: &mut Vec<u8>,
+) -> Result<(), AllocError>
+    requires low { kind < 32 }
+    requires count { row_length (row items.now) < 2147483648 }
+    requires dims { dims_encodable dims.now (row_length (row items.now)) ≡ true }
+    requires each { scalars_fit kind (row items.now) ≡ true }
+    ensures ok { OnOk result (out.new.items ≡ out.old.items ++ variant_canonical (many kind (row items.now) dims.now)) }
+    ensures err { OnErr result (Extends out.old.items out.new.items) }
+{
+    let n = element_count(items);
+    out.push(array_tag(kind, dims))?;
+    (n as u32).append(out)?;
+    append_row(kind, items, out)?;
+    append_dims(dims, n, out)?;
+    Ok(())
+}
+
+#[cycle(appends)]
+fn append_scalar(value: &Scalar, out: &mut Vec<u8>) -> Result<(), AllocError>
+    requires { scalar_fits (scalar_of value.now) ≡ true }
+    ensures ok { OnOk result (out.new.items ≡ out.old.items ++ scalar_canonical (scalar_of value.now)) }
+    ensures err { OnErr result (Extends out.old.items out.new.items) }
+{
+    match value {
+        Scalar::Boolean(x) => x.append(out),
+        Scalar::SByte(x) => x.append(out),
+        Scalar::Byte(x) => x.append(out),
+        Scalar::Int16(x) => x.append(out),
+        Scalar::UInt16(x) => x.append(out),
+        Scalar::Int32(x) => x.append(out),
+        Scalar::UInt32(x) => x.append(out),
+        Scalar::Int64(x) => x.append(out),
+        Scalar::UInt64(x) => x.append(out),
+        Scalar::Float(x) => x.append(out),
+        Scalar::Double(x) => x.append(out),
+        Scalar::String(x) => x.append(out),
+        Scalar::DateTime(x) => x.append(out),
+        Scalar::Guid(x) => x.append(out),
+        Scalar::ByteString(x) => x.append(out),
+        Scalar::XmlElement(x) => x.append(out),
+        Scalar::NodeId(x) => x.append(out),
+        Scalar::ExpandedNodeId(x) => x.append(out),
+        Scalar::StatusCode(x) => x.append(out),
+        Scalar::QualifiedName(x) => x.append(out),
+        Scalar::LocalizedText(x) => x.append(out),
+        Scalar::ExtensionObject(x) => x.append(out),
+        Scalar::DataValue(d) => append_data_value(d, out),
+        Scalar::Variant(v) => append_variant(v.get(), out),
+        Scalar::DiagnosticInfo(d) => append_diagnostic(d, out),
+        Scalar::Reserved(_, _) => Ok(()),
+    }
+}
+
+#[cycle(appends)]
+fn append_row(kind: u8, items: &Scalars, out: &mut Vec<u8>) -> Result<(), AllocError>
+    requires { scalars_fit kind (row items.now) ≡ true }
+    ensures ok { OnOk result (out.new.items ≡ out.old.items ++ row_canonical (row items.now)) }
+    ensures err { OnErr result (Extends out.old.items out.new.items) }
+{
+    for s in items.as_slice() {
+        append_scalar(s, out)?;
+    }
+    Ok(())
+}
+
+#[cycle(appends)]
+pub fn append_data_value(value: &DataValue, out: &mut Vec<u8>) -> Result<(), AllocError>
+    requires { data_value_fits (data_value_of value.now) ≡ true }
+    ensures ok { OnOk result (out.new.items ≡ out.old.items ++ data_value_canonical (data_value_of value.now)) }
+    ensures err { OnErr result (Extends out.old.items out.new.items) }
+{
+    let mask = data_mask(value);
+    match &value.value {
+        None => {
+            out.push(mask)?;
+            append_data_fields(value, out)?;
+        }
+        Some(v) => {
+            out.push(mask + 0x01)?;
+            append_variant(v.get(), out)?;
+            append_data_fields(value, out)?;
+        }
+    }
+    Ok(())
+}
