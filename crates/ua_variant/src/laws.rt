@@ -12,29 +12,25 @@ pub fn canonical_encodes()
     ensures variant { CanonicalEncodes variant_format }
     ensures data_value { CanonicalEncodes data_value_format }
     ensures diagnostic { CanonicalEncodes diagnostic_format }
-{
-}
+{}
 
 /// No encoding begins another, and no octets encode two values.
 pub fn encodes_once()
     ensures variant { EncodesOnce variant_format.encodes }
     ensures data_value { EncodesOnce data_value_format.encodes }
     ensures diagnostic { EncodesOnce diagnostic_format.encodes }
-{
-}
+{}
 
 /// Reading gives back the value that was written, whatever follows.
 pub fn reads_back()
     ensures variant { ReadsBack variant_format }
     ensures data_value { ReadsBack data_value_format }
     ensures diagnostic { ReadsBack diagnostic_format }
-{
-}
+{}
 
 /// Each value that is counted takes an octet: no encoding is shorter than the count of its value.
 pub fn counts_within_octets()
     ensures variant { (v : VariantData) (b : List ℕ) → EncodesVariant v b → variant_count v ≤ length b }
     ensures data_value { (d : DataValueData) (b : List ℕ) → EncodesDataValue d b → data_value_count d ≤ length b }
     ensures diagnostic { (d : DiagnosticData) (b : List ℕ) → EncodesDiagnostic d b → diagnostic_count d ≤ length b }
-{
-}
+{}

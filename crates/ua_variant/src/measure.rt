@@ -119,7 +119,9 @@ fn count_variant(value: &Variant) -> u64
         Variant::Null => 1,
         Variant::One(s) => count_scalar(s).saturating_add(1),
         Variant::Many {
-            items: None, dims, ..
+            items: None,
+            dims,
+            ..
         } => (dims.as_slice().len() as u64).saturating_add(1),
         Variant::Many {
             items: Some(items),
@@ -203,7 +205,11 @@ fn count_data_fields(value: &DataValue) -> u64
 fn count_diagnostic_fields(value: &DiagnosticInfo) -> u64
     ensures { result ≡ diagnostic_fields_count (diagnostic_fields_of value.now) }
 {
-    let info = if value.additional_info.is_some() { 1 } else { 0 };
+    let info = if value.additional_info.is_some() {
+        1
+    } else {
+        0
+    };
     count_of(&value.symbolic_id)
         + count_of(&value.namespace_uri)
         + count_of(&value.locale)

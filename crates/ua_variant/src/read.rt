@@ -18,7 +18,8 @@ use crate::values::{
 };
 use std::alloc::Global;
 use ua_builtin::{
-    DateTime, DoubleBits, ExpandedNodeId, ExtensionObject, FloatBits, Guid, LocalizedText, NodeId, QualifiedName, ReadFault, Source, StatusCode, UaBytes, UaString, Wire, XmlElement,
+    DateTime, DoubleBits, ExpandedNodeId, ExtensionObject, FloatBits, Guid, LocalizedText, NodeId,
+    QualifiedName, ReadFault, Source, StatusCode, UaBytes, UaString, Wire, XmlElement,
 };
 
 /// Counts from here on are negative as an Int32, and mean null.

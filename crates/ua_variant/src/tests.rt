@@ -61,7 +61,14 @@ fn reads_measures_clones_and_writes_variants(rt: HostRuntime) {
     ];
     reads(&rt, alloc, &dims, 1, 4, &dims);
     let flagged = [0xC6, 1, 0, 0, 0, 0x2A, 0, 0, 0, 0xFF, 0xFF, 0xFF, 0xFF];
-    reads(&rt, alloc, &flagged, 1, 2, &[0x86, 1, 0, 0, 0, 0x2A, 0, 0, 0]);
+    reads(
+        &rt,
+        alloc,
+        &flagged,
+        1,
+        2,
+        &[0x86, 1, 0, 0, 0, 0x2A, 0, 0, 0],
+    );
     let signalling = [0x0A, 0x01, 0x00, 0x80, 0x7F];
     reads(&rt, alloc, &signalling, 1, 2, &signalling);
     reads(&rt, alloc, &[0x19, 0], 2, 2, &[0x19, 0]);
@@ -84,7 +91,13 @@ fn reads_every_type_id_in_both_forms(rt: HostRuntime) {
         (11, &[0, 0, 0, 0, 0, 0, 0xF0, 0x3F]),
         (12, &[1, 0, 0, 0, 0x41]),
         (13, &[0x00, 0x80, 0x3E, 0xD5, 0xDE, 0xB1, 0x9D, 0x01]),
-        (14, &[0x91, 0x2B, 0x96, 0x72, 0x75, 0xFA, 0xE6, 0x4A, 0x8D, 0x28, 0xB4, 0x04, 0xDC, 0x7D, 0xAF, 0x63]),
+        (
+            14,
+            &[
+                0x91, 0x2B, 0x96, 0x72, 0x75, 0xFA, 0xE6, 0x4A, 0x8D, 0x28, 0xB4, 0x04, 0xDC, 0x7D,
+                0xAF, 0x63,
+            ],
+        ),
         (15, &[2, 0, 0, 0, 0xAB, 0xCD]),
         (16, &[0xFF, 0xFF, 0xFF, 0xFF]),
         (17, &[0, 0x48]),
@@ -153,8 +166,8 @@ fn reads_a_hundred_levels(rt: HostRuntime) {
 fn reads_a_data_value_with_all_its_fields(rt: HostRuntime) {
     let alloc = rt.alloc();
     let octets = [
-        0x3F, 0x06, 0x2A, 0, 0, 0, 0, 0, 0, 0, 1, 0, 0, 0, 0, 0, 0, 0, 2, 0, 3, 0, 0, 0, 0, 0, 0, 0,
-        4, 0,
+        0x3F, 0x06, 0x2A, 0, 0, 0, 0, 0, 0, 0, 1, 0, 0, 0, 0, 0, 0, 0, 2, 0, 3, 0, 0, 0, 0, 0, 0,
+        0, 4, 0,
     ];
     let mut src = Octets::new(&octets);
     let value = DataValue::read(alloc, &mut src, 100).expect(&rt, "a value");

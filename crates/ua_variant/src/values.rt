@@ -5,7 +5,10 @@ ghost use Rattle.ua_variant.specs.View.{variant_of, diagnostic_of, scalar_of};
 
 use std::alloc::{AllocError, Global};
 use std::marker::Model;
-use ua_builtin::{DateTime, DoubleBits, ExpandedNodeId, ExtensionObject, FloatBits, Guid, LocalizedText, NodeId, QualifiedName, StatusCode, UaBytes, UaString, XmlElement};
+use ua_builtin::{
+    DateTime, DoubleBits, ExpandedNodeId, ExtensionObject, FloatBits, Guid, LocalizedText, NodeId,
+    QualifiedName, StatusCode, UaBytes, UaString, XmlElement,
+};
 
 /// The dimensions of an array; none where it has one dimension alone.
 #[derive(Drop)]

@@ -41,7 +41,11 @@ impl Wire for DataValue {
     ghost starts = { data_value_starts };
 
     #[tactic(auto, unfolding(crate::specs::Formats::data_value_format))]
-    fn read_value<S: Source>(alloc: Global, src: &mut S, depth: u32) -> Result<DataValue, ReadFault> {
+    fn read_value<S: Source>(
+        alloc: Global,
+        src: &mut S,
+        depth: u32,
+    ) -> Result<DataValue, ReadFault> {
         read_data_value(alloc, src, depth)
     }
 
@@ -65,7 +69,11 @@ impl Wire for DiagnosticInfo {
     ghost starts = { diagnostic_starts };
 
     #[tactic(auto, unfolding(crate::specs::Formats::diagnostic_format))]
-    fn read_value<S: Source>(alloc: Global, src: &mut S, depth: u32) -> Result<DiagnosticInfo, ReadFault> {
+    fn read_value<S: Source>(
+        alloc: Global,
+        src: &mut S,
+        depth: u32,
+    ) -> Result<DiagnosticInfo, ReadFault> {
         read_diagnostic(alloc, src, depth)
     }
 

@@ -23,10 +23,10 @@ read_data_value-returns-clause-exact g t c =
 pub read_row-loop-preserved : goal.read_row-loop-preserved
 read_row-loop-preserved g t c = record {
   so_far = let p = scalars_at c.args.depth c.args.kind in
-  ap (λ xs. with_front (map scalar_of xs) (row_at (c.args.count - (c.loop.counter + 1)) p (g.S.Source.octets c.read_scalar.new.src))) c.in_ok-push.ensures.items
-  ∙ ap (λ ss. with_front ss (row_at (c.args.count - (c.loop.counter + 1)) p (g.S.Source.octets c.read_scalar.new.src))) (map-append scalar_of c.loop.items.items (c.in_ok-item.item ∷ []))
-  ∙ sym (row_more p (map scalar_of c.loop.items.items) (scalar_of c.in_ok-item.item) (c.args.count - c.loop.counter) (c.args.count - (c.loop.counter + 1)) (g.S.Source.octets c.loop.src) (g.S.Source.octets c.read_scalar.new.src) (omega arith) c.in_ok-item.ensures.exact)
-  ∙ c.loop.invariant.so_far;
+      ap (λ xs. with_front (map scalar_of xs) (row_at (c.args.count - (c.loop.counter + 1)) p (g.S.Source.octets c.read_scalar.new.src))) c.in_ok-push.ensures.items
+      ∙ ap (λ ss. with_front ss (row_at (c.args.count - (c.loop.counter + 1)) p (g.S.Source.octets c.read_scalar.new.src))) (map-append scalar_of c.loop.items.items (c.in_ok-item.item ∷ []))
+      ∙ sym (row_more p (map scalar_of c.loop.items.items) (scalar_of c.in_ok-item.item) (c.args.count - c.loop.counter) (c.args.count - (c.loop.counter + 1)) (g.S.Source.octets c.loop.src) (g.S.Source.octets c.read_scalar.new.src) (omega arith) c.in_ok-item.ensures.exact)
+      ∙ c.loop.invariant.so_far;
   behind = λ start h. c.in_ok-item.ensures.behind start (c.loop.invariant.behind start h);
 }
 

@@ -35,5 +35,5 @@ decreases-read_data_value_level g l = 8 * l.depth + 7
 abbrev pub invariant-read_row-loop : goal.invariant-read_row-loop
 invariant-read_row-loop g l = record {
   so_far : with_front (map scalar_of l.items.items) (row_at (l.count - l.counter) (scalars_at l.depth l.kind) (g.S.Source.octets l.src)) ≡ row_at l.count (scalars_at l.depth l.kind) (g.S.Source.octets l.fn.src);
-  behind : StaysBehind (g.S.Source.octets l.fn.src) (g.S.Source.octets l.src)
+  behind : StaysBehind (g.S.Source.octets l.fn.src) (g.S.Source.octets l.src);
 }

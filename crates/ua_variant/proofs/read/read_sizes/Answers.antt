@@ -18,7 +18,7 @@ loop-preserved g c =
     let fits : FitsSigned w32 c.in_ok-size.size = search rules in
     record {
       so_far = ap (λ ds. with_sizes ds (sizes_at (c.args.count - (c.loop.counter + 1)) (g.S.Source.octets c.read_size.new.src))) (c.in_ok-push.ensures.items ∙ ap (λ x. c.loop.sizes.items ++ x ∷ []) (to_z-of_z w32 c.in_ok-size.size fits))
-      ∙ sym (sizes_more c.loop.sizes.items c.in_ok-size.size (c.args.count - c.loop.counter) (c.args.count - (c.loop.counter + 1)) (g.S.Source.octets c.loop.src) (g.S.Source.octets c.read_size.new.src) (omega arith) c.in_ok-size.ensures.exact)
-      ∙ c.loop.invariant.so_far;
+          ∙ sym (sizes_more c.loop.sizes.items c.in_ok-size.size (c.args.count - c.loop.counter) (c.args.count - (c.loop.counter + 1)) (g.S.Source.octets c.loop.src) (g.S.Source.octets c.read_size.new.src) (omega arith) c.in_ok-size.ensures.exact)
+          ∙ c.loop.invariant.so_far;
       behind = λ start h. c.in_ok-size.ensures.behind start (c.loop.invariant.behind start h);
     }
