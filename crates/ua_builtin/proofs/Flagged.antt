@@ -3,13 +3,13 @@ use Rattle.std.proofs.Common.{◌≡◌, ◌<◌, ◌≤◌, ◌+◌, ◌*◌, �
 use Rattle.std.proofs.lemmas.Bool.{eqb-true, ltb-true, ltb-false}
 use Rattle.std.proofs.lemmas.Nat.{and_mask}
 use Rattle.std.proofs.lemmas.Nat.Bits.{and_pow}
-use Rattle.ua_builtin.specs.Exact.{not_false}
-use Rattle.ua_builtin.specs.Number.{number_octets, one_octet}
-use Rattle.ua_builtin.specs.Format.{Flat}
-use Rattle.ua_builtin.specs.Join.{nothing, only, image, made, both}
+use Rattle.ua_octets.specs.Exact.{not_false}
+use Rattle.ua_octets.specs.Number.{number_octets, one_octet}
+use Rattle.ua_octets.specs.Format.{Flat}
+use Rattle.ua_octets.specs.Join.{nothing, only, image, made, both}
 use Rattle.ua_builtin.specs.Flags.{has, flag_bit, flagged_text}
 use Rattle.ua_builtin.specs.LocalizedText.{localized, localized_text, behind_mask, mask_flags}
-use Rattle.ua_builtin.specs.Counted.{counted}
+use Rattle.ua_octets.specs.Counted.{counted}
 use Rattle.ua_builtin.specs.XmlElement.{xml_element}
 use Rattle.ua_builtin.specs.NodeId.{in_form}
 use Rattle.ua_builtin.specs.NodeIdForms.{EncodesNodeId}

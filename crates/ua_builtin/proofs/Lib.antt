@@ -1,5 +1,4 @@
 pub mod Flagged
 pub mod NamesOnce
 pub mod NodeIdForms
-pub mod ReadAnswers
 pub mod Texts

@@ -2,9 +2,9 @@
 use Rattle.std.specs.Prelude.{ℤ}
 use Rattle.std.proofs.Common.{refl}
 use Rattle.std.specs.Int.{w64}
-use Rattle.ua_builtin.specs.Format.{Flat}
-use Rattle.ua_builtin.specs.Join.{made, image_starts, TakesSome}
-use Rattle.ua_builtin.specs.Signed.{signed, signed_starts}
+use Rattle.ua_octets.specs.Format.{Flat}
+use Rattle.ua_octets.specs.Join.{made, image_starts, TakesSome}
+use Rattle.ua_octets.specs.Signed.{signed, signed_starts}
 use Rattle.ua_builtin.specs.declared.date_time.DateTime.{DateTime}
 
 abbrev pub of_ticks : ℤ → DateTime

@@ -2,9 +2,9 @@
 use Rattle.std.specs.Prelude.{◌≡◌, ◌+◌, ◌<◌, ◌≤◌, ◌^◌, ◌&&◌, ℕ, zero, suc, List, ◌++◌, Bool, true, false, not, Option, Some, None, cond, IsTrue, nat_eq, nat_lt, bit_and, is_some}
 use Rattle.std.proofs.Common.{refl, sym, ◌∙◌, ap, append_assoc, arith}
 use Rattle.std.proofs.lemmas.Bool.{eqb-true}
-use Rattle.ua_builtin.specs.Number.{IsNumber, number_octets}
-use Rattle.ua_builtin.specs.Format.{Flat}
-use Rattle.ua_builtin.specs.Join.{number, bind, both, made, bind_starts, number_starts, TakesSome}
+use Rattle.ua_octets.specs.Number.{IsNumber, number_octets}
+use Rattle.ua_octets.specs.Format.{Flat}
+use Rattle.ua_octets.specs.Join.{number, bind, both, made, bind_starts, number_starts, TakesSome}
 use Rattle.ua_builtin.specs.Flags.{has, flag_bit, flagged, flagged_text}
 use Rattle.ua_builtin.specs.NodeId.{node, in_form, form_of}
 use Rattle.ua_builtin.specs.declared.node_id.NodeId.{NodeId}

@@ -1,10 +1,10 @@
 -- ExtensionObjects: a structure of any type, kept as its octets.
 use Rattle.std.specs.Prelude.{◌≡◌, ℕ, List, Bool, true, false, IsTrue, Option, None, cond, nat_eq}
 use Rattle.std.proofs.Common.{refl}
-use Rattle.ua_builtin.specs.Exact.{not_false}
-use Rattle.ua_builtin.specs.Format.{Flat}
-use Rattle.ua_builtin.specs.Join.{number, nothing, only, bind, both, image, made, pair_starts, image_starts, TakesSome}
-use Rattle.ua_builtin.specs.Counted.{counted}
+use Rattle.ua_octets.specs.Exact.{not_false}
+use Rattle.ua_octets.specs.Format.{Flat}
+use Rattle.ua_octets.specs.Join.{number, nothing, only, bind, both, image, made, pair_starts, image_starts, TakesSome}
+use Rattle.ua_octets.specs.Counted.{counted}
 use Rattle.ua_builtin.specs.XmlElement.{xml_element}
 use Rattle.ua_builtin.specs.NodeId.{node_id, node_id_starts}
 use Rattle.ua_builtin.specs.declared.xml_element.XmlElement.{XmlElement}

@@ -1,7 +1,7 @@
 -- The encodings of values with flagged parts, as the standard's tables have them.
 use Rattle.std.specs.Prelude.{◌≡◌, ◌+◌, ◌<◌, ◌^◌, ◌↔◌, ℕ, List, [], ◌∷◌, ◌++◌, Bool, true, false, Option, None}
-use Rattle.ua_builtin.specs.Number.{number_octets}
-use Rattle.ua_builtin.specs.Counted.{text, counted}
+use Rattle.ua_octets.specs.Number.{number_octets}
+use Rattle.ua_octets.specs.Counted.{text, counted}
 use Rattle.ua_builtin.specs.Flags.{flag_bit}
 use Rattle.ua_builtin.specs.XmlElement.{xml_element}
 use Rattle.ua_builtin.specs.NodeIdForms.{EncodesNodeId}

@@ -1,8 +1,8 @@
 -- Parts that are there where a mask flags them.
 use Rattle.std.specs.Prelude.{◌≡◌, ℕ, List, Bool, IsTrue, Option, None, cond, not, nat_eq, bit_and}
-use Rattle.ua_builtin.specs.Format.{Flat}
-use Rattle.ua_builtin.specs.Join.{only}
-use Rattle.ua_builtin.specs.Counted.{text, is_null, null_is}
+use Rattle.ua_octets.specs.Format.{Flat}
+use Rattle.ua_octets.specs.Join.{only}
+use Rattle.ua_octets.specs.Counted.{text, is_null, null_is}
 
 -- the mask has this bit
 abbrev pub has : ℕ → ℕ → Bool

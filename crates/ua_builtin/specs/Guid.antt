@@ -4,9 +4,9 @@ use Rattle.std.proofs.Common.{refl, sym, ap}
 use Rattle.std.proofs.lemmas.Bool.{eqb-true, eq-eqb}
 use Rattle.uuid.specs.Parts.{swap_fields}
 use Rattle.uuid.proofs.RoundTrips.{swap_twice}
-use Rattle.ua_builtin.specs.Format.{Flat}
-use Rattle.ua_builtin.specs.Join.{image, image_starts, TakesSome}
-use Rattle.ua_builtin.specs.Counted.{octets, AreOctets}
+use Rattle.ua_octets.specs.Format.{Flat}
+use Rattle.ua_octets.specs.Join.{image, image_starts, TakesSome}
+use Rattle.ua_octets.specs.Counted.{octets, AreOctets}
 use Rattle.ua_builtin.specs.declared.guid.Guid.{Guid}
 
 -- the Guid of these octets: those of its text, but for the order within the first 4, the next 2 and the next 2

@@ -1,9 +1,9 @@
 -- LocalizedTexts.
 use Rattle.std.specs.Prelude.{◌≡◌, ◌+◌, ◌^◌, ℕ, List, Bool, true, false, Option, Some, None, cond, nat_lt, is_some}
 use Rattle.std.proofs.Common.{refl}
-use Rattle.ua_builtin.specs.Number.{IsNumber}
-use Rattle.ua_builtin.specs.Format.{Flat}
-use Rattle.ua_builtin.specs.Join.{number, nothing, bind, both, made, bind_starts, number_starts, TakesSome}
+use Rattle.ua_octets.specs.Number.{IsNumber}
+use Rattle.ua_octets.specs.Format.{Flat}
+use Rattle.ua_octets.specs.Join.{number, nothing, bind, both, made, bind_starts, number_starts, TakesSome}
 use Rattle.ua_builtin.specs.Flags.{has, flag_bit, flagged_text}
 use Rattle.ua_builtin.specs.declared.localized_text.LocalizedText.{LocalizedText}
 

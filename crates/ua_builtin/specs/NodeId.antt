@@ -2,11 +2,11 @@
 use Rattle.std.specs.Prelude.{◌≡◌, ℕ, List, [], Bool, true, false, ◌&&◌, cond, IsTrue, Option, None, nat_eq, nat_lt}
 use Rattle.std.proofs.Common.{refl, ap, ◌∙◌}
 use Rattle.std.proofs.lemmas.Bool.{eqb-true}
-use Rattle.ua_builtin.specs.Exact.{both_true, not_false}
-use Rattle.ua_builtin.specs.Number.{IsNumber}
-use Rattle.ua_builtin.specs.Format.{Flat}
-use Rattle.ua_builtin.specs.Join.{number, nothing, bind, both, image, bind_starts, number_starts, TakesSome}
-use Rattle.ua_builtin.specs.Counted.{text, counted}
+use Rattle.ua_octets.specs.Exact.{both_true, not_false}
+use Rattle.ua_octets.specs.Number.{IsNumber}
+use Rattle.ua_octets.specs.Format.{Flat}
+use Rattle.ua_octets.specs.Join.{number, nothing, bind, both, image, bind_starts, number_starts, TakesSome}
+use Rattle.ua_octets.specs.Counted.{text, counted}
 use Rattle.ua_builtin.specs.Guid.{guid}
 use Rattle.ua_builtin.specs.declared.guid.Guid.{Guid}
 use Rattle.ua_builtin.specs.declared.node_id.NodeId.{NodeId}

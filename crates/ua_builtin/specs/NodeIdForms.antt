@@ -1,7 +1,7 @@
 -- The encodings of NodeIds, one by one as the standard's table has them (OPC 10000-6, 5.2.2.9).
 use Rattle.std.specs.Prelude.{◌≡◌, ◌<◌, ◌^◌, ℕ, List, [], ◌∷◌, ◌++◌, Option}
-use Rattle.ua_builtin.specs.Number.{number_octets}
-use Rattle.ua_builtin.specs.Counted.{text, counted}
+use Rattle.ua_octets.specs.Number.{number_octets}
+use Rattle.ua_octets.specs.Counted.{text, counted}
 use Rattle.ua_builtin.specs.Guid.{guid}
 use Rattle.ua_builtin.specs.NodeId.{node}
 use Rattle.ua_builtin.specs.declared.guid.Guid.{Guid}

@@ -5,7 +5,7 @@ use Rattle.std.specs.Str.Parse.{IsNumeral, digits_value}
 use Rattle.uuid.specs.Text.{hyphenated_text, lower, parsed}
 use Rattle.base64.specs.Engines.{standard}
 use Rattle.base64.specs.GeneralPurpose.{encode_of, IsBytes}
-use Rattle.ua_builtin.specs.Counted.{list_of}
+use Rattle.ua_octets.specs.Counted.{list_of}
 use Rattle.ua_builtin.specs.NodeId.{node}
 use Rattle.ua_builtin.specs.declared.guid.Guid.{Guid}
 use Rattle.ua_builtin.specs.declared.node_id.NodeId.{NodeId}

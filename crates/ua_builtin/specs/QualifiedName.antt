@@ -1,10 +1,10 @@
 -- QualifiedNames.
 use Rattle.std.specs.Prelude.{ℕ, List, Option}
 use Rattle.std.proofs.Common.{refl}
-use Rattle.ua_builtin.specs.Number.{IsNumber}
-use Rattle.ua_builtin.specs.Format.{Flat}
-use Rattle.ua_builtin.specs.Join.{number, both, made, pair_starts, image_starts, number_starts, TakesSome}
-use Rattle.ua_builtin.specs.Counted.{text}
+use Rattle.ua_octets.specs.Number.{IsNumber}
+use Rattle.ua_octets.specs.Format.{Flat}
+use Rattle.ua_octets.specs.Join.{number, both, made, pair_starts, image_starts, number_starts, TakesSome}
+use Rattle.ua_octets.specs.Counted.{text}
 use Rattle.ua_builtin.specs.declared.qualified_name.QualifiedName.{QualifiedName}
 
 abbrev pub qualified : ℕ × Option (List ℕ) → QualifiedName

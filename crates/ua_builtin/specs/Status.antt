@@ -1,9 +1,9 @@
 -- StatusCodes.
 use Rattle.std.specs.Prelude.{ℕ}
 use Rattle.std.proofs.Common.{refl}
-use Rattle.ua_builtin.specs.Number.{IsNumber}
-use Rattle.ua_builtin.specs.Format.{Flat}
-use Rattle.ua_builtin.specs.Join.{number, made, image_starts, number_starts, TakesSome}
+use Rattle.ua_octets.specs.Number.{IsNumber}
+use Rattle.ua_octets.specs.Format.{Flat}
+use Rattle.ua_octets.specs.Join.{number, made, image_starts, number_starts, TakesSome}
 use Rattle.ua_builtin.specs.declared.status_code.StatusCode.{StatusCode}
 
 abbrev pub of_code : ℕ → StatusCode

@@ -1,9 +1,9 @@
 -- XmlElements.
 use Rattle.std.specs.Prelude.{ℕ, List, Option}
 use Rattle.std.proofs.Common.{refl}
-use Rattle.ua_builtin.specs.Format.{Flat}
-use Rattle.ua_builtin.specs.Join.{made, image_starts, TakesSome}
-use Rattle.ua_builtin.specs.Counted.{counted, counted_starts}
+use Rattle.ua_octets.specs.Format.{Flat}
+use Rattle.ua_octets.specs.Join.{made, image_starts, TakesSome}
+use Rattle.ua_octets.specs.Counted.{counted, counted_starts}
 use Rattle.ua_builtin.specs.declared.xml_element.XmlElement.{XmlElement}
 
 abbrev pub of_octets : Option (List ℕ) → XmlElement

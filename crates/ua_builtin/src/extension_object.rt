@@ -1,12 +1,9 @@
 //! ExtensionObject.
 
-use crate::bytes::UaBytes;
-use crate::fault::ReadFault;
 use crate::node_id::NodeId;
-use crate::source::Source;
-use crate::wire::Wire;
 use crate::xml_element::XmlElement;
 use std::alloc::{AllocError, Global};
+use ua_octets::{ReadFault, Source, UaBytes, Wire};
 
 /// The body of an [`ExtensionObject`]. A ByteString or an XmlElement that is null is a body, and
 /// differs from none.
@@ -55,7 +52,7 @@ impl ExtensionObject {
 }
 
 impl Wire for ExtensionObject {
-    ghost use Rattle.ua_builtin.specs.Format.{flat};
+    ghost use Rattle.ua_octets.specs.Format.{flat};
     ghost use Rattle.ua_builtin.specs.ExtensionObject.{extension_object, extension_object_starts};
 
     ghost format = { flat extension_object };

@@ -1,14 +1,11 @@
 //! Texts that are there where a mask flags them.
 
 ghost use Rattle.std.specs.Prelude.{◌≡◌, ◌++◌, IsTrue, OnOk, OnErr, is_some};
-ghost use Rattle.ua_builtin.specs.Format.{Gives, StaysBehind, Extends};
+ghost use Rattle.ua_octets.specs.Format.{Gives, StaysBehind, Extends};
 ghost use Rattle.ua_builtin.specs.Flags.{flagged_text};
 
-use crate::fault::ReadFault;
-use crate::source::Source;
-use crate::text::UaString;
-use crate::wire::Wire;
 use std::alloc::{AllocError, Global};
+use ua_octets::{ReadFault, Source, UaString, Wire};
 
 /// Reads a text where it is flagged; else it is null.
 pub fn read_flagged<S: Source>(

@@ -1,10 +1,7 @@
 //! Guid.
 
-use crate::counted::fill_octets;
-use crate::fault::ReadFault;
-use crate::source::Source;
-use crate::wire::Wire;
 use std::alloc::{AllocError, Global};
+use ua_octets::{ReadFault, Source, Wire, fill_octets};
 use uuid::Uuid;
 
 /// A Guid, which the crate `uuid` reads and prints: its first three fields are encoded with the
@@ -15,7 +12,7 @@ pub struct Guid {
 }
 
 impl Wire for Guid {
-    ghost use Rattle.ua_builtin.specs.Format.{flat};
+    ghost use Rattle.ua_octets.specs.Format.{flat};
     ghost use Rattle.ua_builtin.specs.Guid.{guid, guid_starts};
 
     ghost format = { flat guid };

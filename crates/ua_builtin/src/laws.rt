@@ -1,6 +1,6 @@
-//! Laws of every value that octets encode, each carried by a function without a body.
+//! Laws of the built-in types, each carried by a function without a body.
 
-ghost use Rattle.std.specs.Prelude.{◌≡◌, List, [], ℕ};
+ghost use Rattle.std.specs.Prelude.{◌≡◌, List, ℕ};
 ghost use Rattle.std.specs.Bool.{Decides};
 ghost use Rattle.ua_builtin.specs.declared.node_id.NodeId.{NodeId};
 ghost use Rattle.ua_builtin.specs.NodeId.{node_id};
@@ -10,30 +10,9 @@ ghost use Rattle.ua_builtin.specs.LocalizedText.{localized_text};
 ghost use Rattle.ua_builtin.specs.Flagged.{SameEncodings, EncodesLocalizedText, EncodesExpanded, EncodesExtension};
 ghost use Rattle.ua_builtin.specs.ExpandedNodeId.{expanded_node_id};
 ghost use Rattle.ua_builtin.specs.ExtensionObject.{extension_object};
-ghost use Rattle.ua_builtin.specs.Laws.{CanonicalEncodes, EncodesOnce, ReadsBack};
 
 use crate::node_id::NodeId;
-use crate::wire::Wire;
-
-/// The canonical encoding of a value encodes it.
-pub fn canonical_encodes<T: Wire>()
-    ensures { CanonicalEncodes T.format }
-{}
-
-/// No encoding begins another, and no octets encode two values.
-pub fn encodes_once<T: Wire>()
-    ensures { EncodesOnce T.format.encodes }
-{}
-
-/// Reading gives back the value that was written, whatever follows.
-pub fn reads_back<T: Wire>()
-    ensures { ReadsBack T.format }
-{}
-
-/// No encoding is empty.
-pub fn encodes_in_octets<T: Wire>()
-    ensures { (v : T) → ¬ (T.format.encodes v []) }
-{}
+pub use ua_octets::laws::{canonical_encodes, encodes_in_octets, encodes_once, reads_back};
 
 /// Two NodeIds are equal where they mean the same: the same namespace, and the same identifier of the
 /// same kind, whatever form encoded them.

@@ -1,11 +1,8 @@
 //! LocalizedText.
 
-use crate::fault::ReadFault;
 use crate::flags;
-use crate::source::Source;
-use crate::text::UaString;
-use crate::wire::Wire;
 use std::alloc::{AllocError, Global};
+use ua_octets::{ReadFault, Source, UaString, Wire};
 
 /// A text for people, and the locale of its language; either may be null
 /// (OPC 10000-6, 5.2.2.14; OPC 10000-3, 8.5).
@@ -34,7 +31,7 @@ impl LocalizedText {
 }
 
 impl Wire for LocalizedText {
-    ghost use Rattle.ua_builtin.specs.Format.{flat};
+    ghost use Rattle.ua_octets.specs.Format.{flat};
     ghost use Rattle.ua_builtin.specs.LocalizedText.{localized_text, localized_text_starts};
 
     ghost format = { flat localized_text };

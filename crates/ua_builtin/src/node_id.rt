@@ -1,12 +1,8 @@
 //! NodeId.
 
-use crate::bytes::UaBytes;
-use crate::fault::ReadFault;
 use crate::guid::Guid;
-use crate::source::Source;
-use crate::text::UaString;
-use crate::wire::Wire;
 use std::alloc::{AllocError, Global};
+use ua_octets::{ReadFault, Source, UaBytes, UaString, Wire};
 
 const TWO_OCTET: u8 = 0x00;
 
@@ -55,7 +51,7 @@ impl Identifier {
 
 impl NodeId {
     ghost use Rattle.std.specs.Prelude.{◌≡◌, ◌++◌, IsTrue, IfOk, OnOk, OnErr};
-    ghost use Rattle.ua_builtin.specs.Format.{Gives, StaysBehind, Extends};
+    ghost use Rattle.ua_octets.specs.Format.{Gives, StaysBehind, Extends};
     ghost use Rattle.ua_builtin.specs.NodeId.{node, in_form, form_of};
 
     /// A node's name of these parts.
@@ -187,7 +183,7 @@ impl NodeId {
 }
 
 impl Wire for NodeId {
-    ghost use Rattle.ua_builtin.specs.Format.{flat};
+    ghost use Rattle.ua_octets.specs.Format.{flat};
     ghost use Rattle.ua_builtin.specs.NodeId.{node_id, node_id_starts};
 
     ghost format = { flat node_id };

@@ -9,14 +9,13 @@ ghost use Rattle.ua_builtin.specs.declared.guid.Guid.{Guid};
 ghost use Rattle.ua_builtin.specs.declared.node_id.NodeId.{NodeId};
 ghost use Rattle.ua_builtin.specs.declared.node_id.Identifier.{Identifier};
 
-use crate::bytes::UaBytes;
 use crate::fault::TextFault;
 use crate::guid::Guid;
 use crate::node_id::{Identifier, NodeId};
-use crate::text::UaString;
 use base64::DecodeAllocError;
 use base64::engine::general_purpose::STANDARD;
 use std::alloc::{AllocError, Global};
+use ua_octets::{UaBytes, UaString};
 use uuid::Uuid;
 
 impl NodeId {

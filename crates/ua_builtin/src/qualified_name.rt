@@ -1,10 +1,7 @@
 //! QualifiedName.
 
-use crate::fault::ReadFault;
-use crate::source::Source;
-use crate::text::UaString;
-use crate::wire::Wire;
 use std::alloc::{AllocError, Global};
+use ua_octets::{ReadFault, Source, UaString, Wire};
 
 /// A name within a namespace, which is an index into the server's table of namespaces
 /// (OPC 10000-6, 5.2.2.13).
@@ -29,7 +26,7 @@ impl QualifiedName {
 }
 
 impl Wire for QualifiedName {
-    ghost use Rattle.ua_builtin.specs.Format.{flat};
+    ghost use Rattle.ua_octets.specs.Format.{flat};
     ghost use Rattle.ua_builtin.specs.QualifiedName.{qualified_name, qualified_name_starts};
 
     ghost format = { flat qualified_name };

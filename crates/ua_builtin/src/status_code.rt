@@ -2,10 +2,8 @@
 
 ghost use Rattle.std.specs.Prelude.{◌≡◌};
 
-use crate::fault::ReadFault;
-use crate::source::Source;
-use crate::wire::Wire;
 use std::alloc::{AllocError, Global};
+use ua_octets::{ReadFault, Source, Wire};
 
 /// A StatusCode, as a number of 32 bits: the top bit is set where it is bad
 /// (OPC 10000-6, 5.2.2.11; OPC 10000-4, 7.39).
@@ -85,7 +83,7 @@ impl StatusCode {
 }
 
 impl Wire for StatusCode {
-    ghost use Rattle.ua_builtin.specs.Format.{flat};
+    ghost use Rattle.ua_octets.specs.Format.{flat};
     ghost use Rattle.ua_builtin.specs.Status.{status_code, status_code_starts};
 
     ghost format = { flat status_code };

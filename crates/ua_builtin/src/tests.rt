@@ -1,9 +1,9 @@
 //! Encodings and texts written out, as the standard's tables and examples give them.
 
 use crate::{
-    DateTime, DoubleBits, ExpandedNodeId, ExtensionBody, ExtensionObject, FloatBits, Guid,
-    Identifier, LocalizedText, NodeId, Octets, QualifiedName, ReadFault, Source, StatusCode,
-    TextFault, UaBytes, UaString, Wire, XmlElement,
+    DateTime, ExpandedNodeId, ExtensionBody, ExtensionObject, Guid, Identifier, LocalizedText,
+    NodeId, Octets, QualifiedName, ReadFault, Source, StatusCode, TextFault, UaBytes, UaString,
+    Wire, XmlElement,
 };
 use std::alloc::Global;
 use std::process::Abort;
@@ -44,53 +44,13 @@ fn i72() -> NodeId {
 }
 
 #[test]
-fn unsigned_numbers_have_the_least_octet_first(rt: HostRuntime) {
-    let alloc = rt.alloc();
-    reads(&rt, alloc, &[2, 1], &0x0102u16, &[2, 1]);
-    reads(&rt, alloc, &[4, 3, 2, 1], &0x0102_0304u32, &[4, 3, 2, 1]);
-    reads(
-        &rt,
-        alloc,
-        &[8, 7, 6, 5, 4, 3, 2, 1],
-        &0x0102_0304_0506_0708u64,
-        &[8, 7, 6, 5, 4, 3, 2, 1],
-    );
-}
-
-#[test]
-fn signed_numbers_are_in_twos_complement(rt: HostRuntime) {
-    let alloc = rt.alloc();
-    reads(&rt, alloc, &[0xFE], &-2i8, &[0xFE]);
-    reads(&rt, alloc, &[0xFE, 0xFF], &-2i16, &[0xFE, 0xFF]);
-    reads(&rt, alloc, &[0, 0, 0, 0x80], &i32::MIN, &[0, 0, 0, 0x80]);
-}
-
-#[test]
-fn patterns_moments_and_codes(rt: HostRuntime) {
+fn moments_and_codes(rt: HostRuntime) {
     let alloc = rt.alloc();
     let epoch = DateTime {
         ticks: 116_444_736_000_000_000,
     };
     let octets = [0x00, 0x80, 0x3E, 0xD5, 0xDE, 0xB1, 0x9D, 0x01];
     reads(&rt, alloc, &octets, &epoch, &octets);
-    let signalling = FloatBits { bits: 0x7F80_0001 };
-    reads(
-        &rt,
-        alloc,
-        &[1, 0, 0x80, 0x7F],
-        &signalling,
-        &[1, 0, 0x80, 0x7F],
-    );
-    let one = DoubleBits {
-        bits: 0x3FF0_0000_0000_0000,
-    };
-    reads(
-        &rt,
-        alloc,
-        &[0, 0, 0, 0, 0, 0, 0xF0, 0x3F],
-        &one,
-        &[0, 0, 0, 0, 0, 0, 0xF0, 0x3F],
-    );
     let unknown = StatusCode::BAD_NODE_ID_UNKNOWN;
     reads(
         &rt,
@@ -102,37 +62,10 @@ fn patterns_moments_and_codes(rt: HostRuntime) {
 }
 
 #[test]
-fn any_octet_but_zero_is_true(rt: HostRuntime) {
-    reads(&rt, rt.alloc(), &[0x00], &false, &[0x00]);
-    reads(&rt, rt.alloc(), &[0x05], &true, &[0x01]);
-}
-
-#[test]
-fn null_and_empty_texts_differ(rt: HostRuntime) {
+fn an_element_is_octets(rt: HostRuntime) {
     let alloc = rt.alloc();
-    let null = UaString::null();
-    let minus_one = [0xFF, 0xFF, 0xFF, 0xFF];
-    reads(&rt, alloc, &minus_one, &null, &minus_one);
-    reads(&rt, alloc, &[0xFE, 0xFF, 0xFF, 0xFF], &null, &minus_one);
-    let empty = text(&rt, alloc, "");
-    reads(&rt, alloc, &[0, 0, 0, 0], &empty, &[0, 0, 0, 0]);
-    assert!(rt; empty != null);
-    assert!(rt; empty.try_clone().expect(&rt, "memory") == empty);
-}
-
-#[test]
-fn octets_behind_their_count(rt: HostRuntime) {
-    let alloc = rt.alloc();
-    let held = octets(&rt, alloc, &[0xAB, 0xCD]);
-    reads(
-        &rt,
-        alloc,
-        &[2, 0, 0, 0, 0xAB, 0xCD],
-        &held,
-        &[2, 0, 0, 0, 0xAB, 0xCD],
-    );
     let element = XmlElement {
-        octets: held.try_clone().expect(&rt, "memory"),
+        octets: octets(&rt, alloc, &[0xAB, 0xCD]),
     };
     reads(
         &rt,
@@ -169,6 +102,7 @@ fn reads_three_forms_of_one_node_id(rt: HostRuntime) {
         &node,
         &[0x00, 0x48],
     );
+    assert!(rt; node.try_clone().expect(&rt, "memory") == node);
 }
 
 #[test]
@@ -205,11 +139,13 @@ fn a_flag_for_what_is_not_there_is_dropped(rt: HostRuntime) {
         &here,
         &[0x00, 0x48],
     );
+    assert!(rt; here.try_clone().expect(&rt, "memory") == here);
     let empty = LocalizedText {
         locale: UaString::null(),
         text: UaString::null(),
     };
     reads(&rt, alloc, &[0x01, 0xFF, 0xFF, 0xFF, 0xFF], &empty, &[0x00]);
+    assert!(rt; empty.try_clone().expect(&rt, "memory") == empty);
 }
 
 #[test]
@@ -258,15 +194,33 @@ fn a_body_stands_behind_its_kind(rt: HostRuntime) {
     let octets = [0x01, 0x00, 0x41, 0x01, 0x01, 1, 0, 0, 0, 0xAB];
     reads(&rt, alloc, &octets, &object, &octets);
     assert!(rt; object.try_clone().expect(&rt, "memory") == object);
+    let bare = ExtensionObject {
+        type_id: i72(),
+        body: ExtensionBody::Absent,
+    };
+    reads(&rt, alloc, &[0x00, 0x48, 0x00], &bare, &[0x00, 0x48, 0x00]);
+    assert!(rt; bare.try_clone().expect(&rt, "memory") == bare);
+    let null = ExtensionObject {
+        type_id: i72(),
+        body: ExtensionBody::Xml(XmlElement {
+            octets: UaBytes::null(),
+        }),
+    };
+    let octets = [0x00, 0x48, 0x02, 0xFF, 0xFF, 0xFF, 0xFF];
+    reads(&rt, alloc, &octets, &null, &octets);
+    assert!(rt; null.try_clone().expect(&rt, "memory") == null);
 }
 
 #[test]
 fn prints_octets_in_base64(rt: HostRuntime) {
     let alloc = rt.alloc();
-    let octets = [
+    let encoding = [
         0x05, 0x02, 0x00, 0x04, 0x00, 0x00, 0x00, 0xDE, 0xAD, 0xBE, 0xEF,
     ];
-    let node = NodeId::read(alloc, &mut Octets::new(&octets), 100).expect(&rt, "a NodeId");
+    let held = octets(&rt, alloc, &[0xDE, 0xAD, 0xBE, 0xEF]);
+    let node = NodeId::new(2, Identifier::Opaque(held));
+    reads(&rt, alloc, &encoding, &node, &encoding);
+    assert!(rt; node.try_clone().expect(&rt, "memory") == node);
     let text = node.to_text(alloc).expect(&rt, "memory");
     assert_eq!(rt; text.as_str(), "ns=2;b=3q2+7w==");
 }
@@ -289,7 +243,25 @@ fn texts_of_node_ids_both_ways(rt: HostRuntime) {
         let node = NodeId::parse_text(alloc, given).expect(&rt, "a NodeId");
         let text = node.to_text(alloc).expect(&rt, "memory");
         assert_eq!(rt; text.as_str(), printed);
+        assert!(rt; node.try_clone().expect(&rt, "memory") == node);
     }
+}
+
+#[test]
+fn a_text_names_a_number(rt: HostRuntime) {
+    let node = NodeId::parse_text(rt.alloc(), "ns=0;i=85").expect(&rt, "a NodeId");
+    assert!(rt; node == NodeId::new(0, Identifier::Numeric(85)));
+}
+
+#[test]
+fn a_null_identifier_prints_as_an_empty_one(rt: HostRuntime) {
+    let alloc = rt.alloc();
+    let null = NodeId::new(3, Identifier::Text(UaString::null()));
+    let text = null.to_text(alloc).expect(&rt, "memory");
+    assert_eq!(rt; text.as_str(), "ns=3;s=");
+    let null = NodeId::new(0, Identifier::Opaque(UaBytes::null()));
+    let text = null.to_text(alloc).expect(&rt, "memory");
+    assert_eq!(rt; text.as_str(), "b=");
 }
 
 #[test]
@@ -321,13 +293,14 @@ fn refuses_octets_that_are_not_in_the_tables(rt: HostRuntime) {
     is_refused::<ExpandedNodeId>(&rt, alloc, &[0x06, 0x48]);
     is_refused::<LocalizedText>(&rt, alloc, &[0x04]);
     is_refused::<ExtensionObject>(&rt, alloc, &[0x00, 0x48, 0x03]);
+    is_refused::<ExtensionObject>(&rt, alloc, &[0x00, 0x48, 0xFF]);
 }
 
 #[test]
 fn refuses_texts_that_are_not_utf8(rt: HostRuntime) {
     let alloc = rt.alloc();
-    is_refused::<UaString>(&rt, alloc, &[1, 0, 0, 0, 0xFF]);
     is_refused::<QualifiedName>(&rt, alloc, &[0, 0, 1, 0, 0, 0, 0xFF]);
+    is_refused::<LocalizedText>(&rt, alloc, &[0x01, 1, 0, 0, 0, 0xFF]);
     is_refused::<LocalizedText>(&rt, alloc, &[0x02, 1, 0, 0, 0, 0xFF]);
     is_refused::<NodeId>(&rt, alloc, &[0x03, 0, 0, 1, 0, 0, 0, 0xFF]);
     is_refused::<ExpandedNodeId>(&rt, alloc, &[0x80, 0x48, 1, 0, 0, 0, 0xFF]);

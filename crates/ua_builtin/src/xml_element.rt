@@ -1,10 +1,7 @@
 //! XmlElement.
 
-use crate::bytes::UaBytes;
-use crate::fault::ReadFault;
-use crate::source::Source;
-use crate::wire::Wire;
 use std::alloc::{AllocError, Global};
+use ua_octets::{ReadFault, Source, UaBytes, Wire};
 
 /// An XML element as octets, which are never looked at, or null (OPC 10000-6, 5.2.2.8).
 #[derive(PartialEq, Eq, Debug, Drop)]
@@ -26,7 +23,7 @@ impl XmlElement {
 }
 
 impl Wire for XmlElement {
-    ghost use Rattle.ua_builtin.specs.Format.{flat};
+    ghost use Rattle.ua_octets.specs.Format.{flat};
     ghost use Rattle.ua_builtin.specs.XmlElement.{xml_element, xml_element_starts};
 
     ghost format = { flat xml_element };

@@ -45,7 +45,7 @@ pub fn split_sequence(octets: &[u8]) -> Option<(u32, u32, &[u8])>
 
 /// Octets, or null, behind their Int32 count, and the octets behind them.
 #[inline]
-#[tactic(auto, unfolding(ua_builtin::specs::Counted::counted))]
+#[tactic(auto, unfolding(ua_octets::specs::Counted::counted))]
 pub fn split_counted(octets: &[u8]) -> Option<(Option<&[u8]>, &[u8])>
     ensures { MatchOption result (counted.decode octets.now ≡ None)
         (λ r. counted.decode octets.now ≡ Some (option_map (λ o. o.now) r.0, r.1.now)) }

@@ -5,8 +5,8 @@ use Rattle.ua_builtin.specs.Exact.{Exact, ◌>>=◌}
 use Rattle.ua_builtin.specs.Format.{Gives, GivesBy}
 use Rattle.ua_builtin.specs.Number.{number_at}
 use Rattle.ua_builtin.specs.Counted.{IsOverlong}
-use Rattle.ua_builtin.specs.declared.fault.ReadFault.{ReadFault}
-use Rattle.ua_builtin.specs.declared.fault.ReadFault.TheVariants.{NoValue, OutOfMemory}
+use Rattle.ua_octets.specs.declared.fault.ReadFault.{ReadFault}
+use Rattle.ua_octets.specs.declared.fault.ReadFault.TheVariants.{NoValue, OutOfMemory}
 use Rattle.ua_variant.specs.Data.{ScalarData, ScalarsData, no_scalars, scalar}
 use Rattle.ua_variant.specs.View.{row}
 use Rattle.ua_variant.specs.Parts.{Reader}

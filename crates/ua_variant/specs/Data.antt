@@ -1,9 +1,9 @@
 -- What the values stand for, without capacities and pointers.
 use Rattle.std.specs.Prelude.{ℕ, Bool, List, Option}
 use lib.IntN.{ℤ}
-use Rattle.ua_builtin.specs.declared.float_bits.FloatBits.{FloatBits}
+use Rattle.ua_octets.specs.declared.float_bits.FloatBits.{FloatBits}
 use Rattle.ua_builtin.specs.declared.xml_element.XmlElement.{XmlElement}
-use Rattle.ua_builtin.specs.declared.double_bits.DoubleBits.{DoubleBits}
+use Rattle.ua_octets.specs.declared.double_bits.DoubleBits.{DoubleBits}
 use Rattle.ua_builtin.specs.declared.date_time.DateTime.{DateTime}
 use Rattle.ua_builtin.specs.declared.guid.Guid.{Guid}
 use Rattle.ua_builtin.specs.declared.node_id.NodeId.{NodeId}

@@ -5,8 +5,8 @@ use Rattle.ua_builtin.specs.Exact.{Exact, ◌>>=◌}
 use Rattle.ua_builtin.specs.Number.{number_at}
 use Rattle.ua_builtin.specs.Counted.{IsOverlong}
 use Rattle.ua_builtin.specs.Format.{Format, Within, Gives, GivesBy}
-use Rattle.ua_builtin.specs.declared.fault.ReadFault.{ReadFault}
-use Rattle.ua_builtin.specs.declared.fault.ReadFault.TheVariants.{NoValue, OutOfMemory}
+use Rattle.ua_octets.specs.declared.fault.ReadFault.{ReadFault}
+use Rattle.ua_octets.specs.declared.fault.ReadFault.TheVariants.{NoValue, OutOfMemory}
 use Rattle.ua_variant.specs.Data.{DiagnosticData, innermost, around, VariantData, DataValueData, bare, valued}
 use Rattle.ua_variant.specs.declared.values.Variant.{Variant}
 use Rattle.ua_variant.specs.declared.values.DataValue.{DataValue}

@@ -3,7 +3,7 @@
 ghost use Rattle.std.specs.Prelude.{◌≡◌, ◌<◌, map, IsErrOf};
 ghost use Rattle.ua_builtin.specs.Format.{Gives, GivesBy, StaysBehind};
 ghost use Rattle.ua_builtin.specs.Counted.{text, IsOverlong};
-ghost use Rattle.ua_builtin.specs.declared.fault.ReadFault.TheVariants.{NoValue};
+ghost use Rattle.ua_octets.specs.declared.fault.ReadFault.TheVariants.{NoValue};
 ghost use Rattle.ua_variant.specs.Data.{leaf};
 ghost use Rattle.ua_variant.specs.Formats.{made_read, IsOverlongArray};
 ghost use Rattle.ua_variant.specs.Leaf.{leaf_at};

@@ -1,6 +1,0 @@
-use Rattle.std.proofs.Common.{◌≡◌, ◌<◌, length, refl, ap, ◌∙◌, arith}
-use Rattle.ua_builtin.specs.Counted.{octets_at-short}
-use Rattle.ua_builtin.proofs.counted.take_octets.Goals as goal
-
-pub returns-then-left-count-clause-exact : goal.returns-then-left-count-clause-exact
-returns-then-left-count-clause-exact g c = octets_at-short _ _ (omega arith)

@@ -1,5 +1,0 @@
-use Rattle.ua_builtin.specs.Laws.{encodes_once_of}
-use Rattle.ua_builtin.proofs.laws.encodes_once.Goals as goal
-
-pub returns : goal.returns
-returns g c = encodes_once_of g.T.Wire.format

@@ -1,0 +1,11 @@
+pub mod Boolean
+pub mod Counted
+pub mod DoubleBits
+pub mod Exact
+pub mod FloatBits
+pub mod Format
+pub mod Join
+pub mod Laws
+pub mod Number
+pub mod Same
+pub mod Signed

@@ -1,0 +1,32 @@
+//! Octets and the values that they encode (OPC 10000-6, 5.2): where octets come from, what it is
+//! for a type to be encoded, and the encodings of Booleans, numbers, Strings, ByteStrings and pairs, of
+//! which all others are made.
+//!
+//! Its contract is that of [`Wire`]: `read` takes just the front that encodes a value, answers
+//! `NoValue` only where no front encodes one, and `write` adds the one canonical encoding.
+#![tactic(auto)]
+
+mod boolean;
+mod bytes;
+mod counted;
+mod double_bits;
+mod fault;
+mod float_bits;
+pub mod laws;
+mod numbers;
+mod pairs;
+mod signed;
+mod source;
+#[cfg(test)]
+mod tests;
+mod text;
+mod wire;
+
+pub use bytes::UaBytes;
+pub use counted::fill_octets;
+pub use double_bits::DoubleBits;
+pub use fault::{ReadFault, WriteFault};
+pub use float_bits::FloatBits;
+pub use source::{Octets, Source};
+pub use text::UaString;
+pub use wire::Wire;
