@@ -223,6 +223,11 @@ fn cuts_by_the_room_and_the_limits(rt: HostRuntime) -> Result<(), Fail> {
 
 #[test]
 fn writes_whole_frames(rt: HostRuntime) -> Result<(), Fail> {
+    let (next, out) = cut_zeros(&rt, rt.alloc(), (0, 0), 8168, 5)?;
+    assert_eq!(rt; next, Ok(6));
+    let alone =
+        b"MSGF\x00\x20\x00\x00\x01\x00\x00\x00\x02\x00\x00\x00\x05\x00\x00\x00\x03\x00\x00\x00";
+    assert!(rt; out.starts_with(alone));
     let (next, out) = cut_zeros(&rt, rt.alloc(), (0, 0), 8169, 4294966272)?;
     assert_eq!(rt; next, Ok(2));
     let first =

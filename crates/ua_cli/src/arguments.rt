@@ -62,7 +62,7 @@ fn dissect_of<'a>(matches: &ArgMatches<'a>) -> Request<'a> {
 }
 
 /// What the words ask for, of which the first is the program's name.
-pub fn parse<'a, S: AsStr>(alloc: Global, words: &'a [S]) -> Result<Request<'a>, Error> {
+pub(crate) fn parse<'a, S: AsStr>(alloc: Global, words: &'a [S]) -> Result<Request<'a>, Error> {
     let matches = command(alloc)?.try_get_matches_from(words)?;
     match matches.subcommand() {
         Some(("dissect", found)) => Ok(dissect_of(found)),

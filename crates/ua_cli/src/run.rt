@@ -1,6 +1,8 @@
 //! The program's commands.
 
-ghost use Rattle.std.specs.Prelude.{◌≡◌, ◌≤◌, ◌⊎◌};
+ghost use Rattle.std.specs.Prelude.{◌≡◌, ◌≤◌, ◌≢◌, ◌⊎◌, string_bytes, IfOk, OnOk};
+ghost use Rattle.std.specs.Io.KnownBytes.{Appends};
+ghost use Rattle.ua_cli.specs.Printed.{AreLines, HasPrinted};
 
 use crate::arguments::{self, Dissect, Request};
 use crate::dissect::dissect_first;
@@ -8,29 +10,9 @@ use crate::fault::Fault;
 use crate::input::{decode_hex, read_file};
 use clap::error::ErrorKind;
 use std::convert::AsStr;
+use std::io;
 use std::io::Write;
 use std::rt::Files;
-
-/// What `ua dissect` prints.
-fn dissect<'a, R: Files + AllocGlobal>(rt: &R, asked: &Dissect<'a>) -> Result<String, Fault<'a>> {
-    let mut octets = read_file(rt, asked.file)?;
-    if asked.hex {
-        octets = decode_hex(rt.alloc(), asked.file, octets.as_slice())?;
-    }
-    let mut text = String::new(rt.alloc());
-    dissect_first(rt.alloc(), octets.as_slice(), &mut text)?;
-    Ok(text)
-}
-
-/// Writes a text: the status that follows, or 1 where the writer fails.
-fn print(to: &mut impl Write, text: &str, status: u8) -> u8
-    ensures { (result ≡ status) ⊎ (result ≡ 1) }
-{
-    match to.write_all(text.as_bytes()).and_then(|_| to.flush()) {
-        Ok(()) => status,
-        Err(_) => 1,
-    }
-}
 
 /// Runs the program on its words, of which the first is its name. The status is 0 where the
 /// command is done, 1 where it met a fault or a writer failed, 2 where the words don't parse.
@@ -40,7 +22,11 @@ pub fn run<S: AsStr, R: Files + AllocGlobal, O: Write, E: Write>(
     out: &mut O,
     err: &mut E,
 ) -> u8
-    ensures { result ≤ 2 }
+    ensures status { result ≤ 2 }
+    ensures done { result ≡ 0 → HasPrinted (O.contents out.old) (O.contents out.new) }
+    ensures silent { result ≡ 0 → err.new ≡ err.old }
+    ensures refused { result ≡ 2 → out.new ≡ out.old }
+    ensures streams { (out.new ≡ out.old) ⊎ (err.new ≡ err.old) }
 {
     let asked = match arguments::parse(rt.alloc(), words) {
         Ok(Request::Dissect(asked)) => asked,
@@ -64,4 +50,35 @@ pub fn run<S: AsStr, R: Files + AllocGlobal, O: Write, E: Write>(
             Err(_) => print(err, "ua: no memory\n", 1),
         },
     }
+}
+
+/// What `ua dissect` prints.
+fn dissect<'a, R: Files + AllocGlobal>(rt: &R, asked: &Dissect<'a>) -> Result<String, Fault<'a>>
+    ensures { IfOk result (λ text. AreLines (string_bytes text)) }
+{
+    let mut octets = read_file(rt, asked.file)?;
+    if asked.hex {
+        octets = decode_hex(rt.alloc(), asked.file, octets.as_slice())?;
+    }
+    let mut text = String::new(rt.alloc());
+    dissect_first(rt.alloc(), octets.as_slice(), &mut text)?;
+    Ok(text)
+}
+
+/// Writes a text: the status that follows, or 1 where the writer fails.
+fn print<W: Write>(to: &mut W, text: &str, status: u8) -> u8
+    ensures status { (result ≡ status) ⊎ (result ≡ 1) }
+    ensures printed { result ≢ 1 → Appends (W.contents to.old) (W.contents to.new) text.now }
+{
+    match write_text(to, text) {
+        Ok(()) => status,
+        Err(_) => 1,
+    }
+}
+
+fn write_text<W: Write>(to: &mut W, text: &str) -> io::Result<()>
+    ensures { OnOk result (Appends (W.contents to.old) (W.contents to.new) text.now) }
+{
+    to.write_all(text.as_bytes())?;
+    to.flush()
 }

@@ -33,6 +33,41 @@ impl Write for Broken {
     }
 }
 
+/// A writer that has room for so many octets, and then fails.
+#[derive(Drop)]
+struct Short {
+    room: usize,
+}
+
+impl Write for Short {
+    fn write(&mut self, octets: &[u8]) -> io::Result<usize> {
+        if self.room == 0 {
+            return Err(io::Error::from(io::ErrorKind::Other));
+        }
+        let n = octets.len().min(self.room);
+        self.room -= n;
+        Ok(n)
+    }
+
+    fn flush(&mut self) -> io::Result<()> {
+        Ok(())
+    }
+}
+
+/// A writer that takes each octet, and can't be flushed.
+#[derive(Drop)]
+struct Unflushed;
+
+impl Write for Unflushed {
+    fn write(&mut self, octets: &[u8]) -> io::Result<usize> {
+        Ok(octets.len())
+    }
+
+    fn flush(&mut self) -> io::Result<()> {
+        Err(io::Error::from(io::ErrorKind::Other))
+    }
+}
+
 /// Runs `ua` on words, and compares what it writes and its status.
 fn expect_run<R: Files + AllocGlobal + Abort>(
     rt: &R,
@@ -189,7 +224,25 @@ fn fails_where_a_writer_fails(rt: HostRuntime) -> Result<(), Fail> {
     let words = ["ua", "dissect", "empty.bin"];
     let mut err = Vec::new(rt.alloc());
     assert_eq!(rt; run(&rt, words.as_slice(), &mut Broken, &mut err), 1);
+    assert_eq!(rt; run(&rt, words.as_slice(), &mut Unflushed, &mut err), 1);
+    for room in 0..6 {
+        assert_eq!(rt;
+            run(&rt, words.as_slice(), &mut Short { room }, &mut err),
+            1
+        );
+    }
+    assert_eq!(rt;
+        run(&rt, words.as_slice(), &mut Short { room: 6 }, &mut err),
+        0
+    );
+    assert!(rt; err.is_empty());
     let mut out = Vec::new(rt.alloc());
-    assert_eq!(rt; run(&rt, &["ua", "walk"], &mut out, &mut Broken), 1);
+    for words in [["ua", "walk"], ["ua", "dissect"]] {
+        assert_eq!(rt; run(&rt, words.as_slice(), &mut out, &mut Broken), 1);
+        assert_eq!(rt; run(&rt, words.as_slice(), &mut out, &mut Unflushed), 1);
+    }
+    let words = ["ua", "dissect", "no such file"];
+    assert_eq!(rt; run(&rt, words.as_slice(), &mut out, &mut Broken), 1);
+    assert!(rt; out.is_empty());
     Ok(())
 }

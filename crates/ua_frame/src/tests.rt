@@ -4,6 +4,8 @@ use crate::{
     Ack, ErrorFrame, FrameFault, FrameReader, Gate, GreetFault, Greeted, Greeting, Hello, Kind,
     Limits, ack_octets, error_frame, read_whole,
 };
+use std::alloc::Global;
+use std::process::Abort;
 use std::test::Fail;
 use ua_builtin::{StatusCode, UaString, Wire};
 
@@ -106,6 +108,42 @@ fn refuses_at_the_first_octet_that_shows_a_reason(rt: HostRuntime) -> Result<(),
             }
         }
         assert!(rt; matches!(greeting.take(octets), Err(GreetFault::Closed)));
+    }
+    Ok(())
+}
+
+/// Feeds octets in pieces of a size, and compares the refusal at the last piece.
+fn expect_refused(
+    rt: &impl Abort,
+    alloc: Global,
+    octets: &[u8],
+    size: usize,
+    frame: &[u8; 16],
+) -> Result<(), Fail> {
+    assert!(rt; size > 0);
+    let mut greeting = Greeting::new(alloc, limits().ok_or("limits")?);
+    let mut taken = 0usize;
+    for piece in octets.chunks(size) {
+        taken = taken.saturating_add(piece.len());
+        match greeting.take(piece) {
+            Ok((n, Greeted::NeedMore)) => assert_eq!(rt; n, piece.len()),
+            Err(GreetFault::Refused { err_frame, .. }) => {
+                assert_eq!(rt; taken, octets.len());
+                assert_eq!(rt; err_frame.as_slice(), frame.as_slice());
+                return Ok(());
+            }
+            _ => return Err(Fail::from("neither waits nor refuses")),
+        }
+    }
+    Err(Fail::from("never refused"))
+}
+
+#[test]
+fn refuses_alike_in_all_pieces(rt: HostRuntime) -> Result<(), Fail> {
+    for (octets, frame) in REFUSED {
+        for size in [1, 3, 7, 20, 57] {
+            expect_refused(&rt, rt.alloc(), octets, size, frame)?;
+        }
     }
     Ok(())
 }

@@ -1,0 +1,53 @@
+-- What is printed of the first frame that a reader finds.
+use Rattle.std.proofs.Common.{◌≡◌, ℕ, ◌-◌, ◌≤◌, List, [], ◌++◌, Result, Ok, Err, OnOk, Some, length, take, drop, refl, sym, ap, ap₂, subst, ◌∙◌, arith, length-take, length-drop, take-append-drop}
+use Rattle.ua_frame.specs.declared.fault.FrameFault.{FrameFault}
+use Rattle.ua_frame.specs.declared.fault.FrameFault.TheVariants.{UnknownType, OutOfPlace, TooLarge, TooSmall, OutOfMemory, Closed}
+use Rattle.ua_frame.specs.declared.frame.Frame.{Frame}
+use Rattle.ua_frame.specs.Frames.{frame_octets, frame_size, header_code}
+use Rattle.ua_frame.specs.Reader.{Reader, open_reader, Refuses, Takes, TakesFrame}
+use Rattle.ua_frame.proofs.Fronts.{length-frame_octets}
+use Rattle.ua_cli.specs.Dissected.{open_gate, Dissected, PrintsLines}
+use Rattle.ua_cli.specs.Dissected.Dissected.{Refused, Framed}
+use Rattle.ua_cli.specs.Lines.{first_lines, refused_line}
+use Rattle.ua_cli.specs.Printed.{AreLines}
+
+pub on_ok : {A E P Q : Type 0} (r : Result A E) → (P → Q) → OnOk r P → OnOk r Q
+on_ok (Ok x) f h = f h
+on_ok (Err e) f h = tt
+
+-- the reader that has no octet yet
+abbrev pub first_reader : Reader
+first_reader = open_reader open_gate []
+
+first_size : (piece : List ℕ) (n : ℕ) (f : Frame) → n ≤ length piece → take n piece ≡ frame_octets f → n ≡ frame_size f
+first_size piece n f within octets = omega (arith, ap length octets, length-take n piece, length-frame_octets f)
+
+framed_first : (piece : List ℕ) (n : ℕ) (f : Frame) (y : Reader) (old new : List ℕ) → TakesFrame first_reader piece n f y → new ≡ old ++ first_lines f.kind f.body n (length piece - n) → PrintsLines piece old new
+framed_first piece n f y old new t h = record {
+  lines = first_lines f.kind f.body n (length piece - n);
+  dissected = Framed f (drop n piece) (sym (take-append-drop n piece) ∙ ap (λ u. u ++ drop n piece) t.octets) t.let_in (ap₂ (λ size left. first_lines f.kind f.body size left) (first_size piece n f t.within t.octets) (sym (length-drop n piece)));
+  added = h;
+}
+
+-- a first frame
+pub framed : (x y : Reader) (piece : List ℕ) (n : ℕ) (f : Frame) (old new : List ℕ) → x ≡ first_reader → TakesFrame x piece n f y → new ≡ old ++ first_lines f.kind f.body n (length piece - n) → PrintsLines piece old new
+framed x y piece n f old new is t h = framed_first piece n f y old new (subst (λ (r : Reader). TakesFrame r piece n f y) is t) h
+
+refused_by : (piece : List ℕ) (fault : FrameFault) (y : Reader) (code : ℕ) (old new : List ℕ) → Refuses first_reader piece fault y → header_code fault ≡ Some code → new ≡ old ++ refused_line code → PrintsLines piece old new
+refused_by piece fault y code old new t e h = record { lines = refused_line code; dissected = Refused fault code t.header t.fault_is e refl; added = h }
+
+refused_first : (piece : List ℕ) (fault : FrameFault) (y : Reader) (code : ℕ) (old new : List ℕ) → Takes first_reader piece (Err fault) y → header_code fault ≡ Some code → new ≡ old ++ refused_line code → PrintsLines piece old new
+refused_first piece UnknownType y code old new t e h = refused_by piece UnknownType y code old new t e h
+refused_first piece OutOfPlace y code old new t e h = refused_by piece OutOfPlace y code old new t e h
+refused_first piece TooLarge y code old new t e h = refused_by piece TooLarge y code old new t e h
+refused_first piece TooSmall y code old new t e h = refused_by piece TooSmall y code old new t e h
+refused_first piece OutOfMemory y code old new t e h = absurd cc
+refused_first piece Closed y code old new t e h = absurd cc
+
+-- a first header that is refused
+pub refused : (x y : Reader) (piece : List ℕ) (fault : FrameFault) (code : ℕ) (old new : List ℕ) → x ≡ first_reader → Takes x piece (Err fault) y → header_code fault ≡ Some code → new ≡ old ++ refused_line code → PrintsLines piece old new
+refused x y piece fault code old new is t e h = refused_first piece fault y code old new (subst (λ (r : Reader). Takes r piece (Err fault) y) is t) e h
+
+-- lines that were added to an empty text
+pub alone : (octets old new : List ℕ) → old ≡ [] → PrintsLines octets old new → AreLines new
+alone octets old new none p = record { octets = octets; dissected = subst (λ t. Dissected octets t) (sym (p.added ∙ ap (λ t. t ++ p.lines) none)) p.dissected }

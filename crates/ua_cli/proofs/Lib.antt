@@ -1,0 +1,5 @@
+mod Bodies
+mod Codes
+mod Firsts
+mod LastLines
+mod Shows
