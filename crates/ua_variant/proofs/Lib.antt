@@ -1,5 +1,5 @@
 pub mod Fits
-pub mod Flags
+pub mod Lengths
 pub mod Loops
 pub mod Rows
 pub mod Valued

@@ -1,5 +1,5 @@
 -- One more element of a row.
-use Rattle.std.proofs.Common.{◌≡◌, ℕ, zero, suc, ◌+◌, ◌<◌, max, min, List, [], ◌∷◌, ◌++◌, length, get_or, take, map, ◌≤◌, refl, sym, subst, ap, ap₂, ◌∙◌, arith}
+use Rattle.std.proofs.Common.{◌≡◌, ℕ, zero, suc, ◌+◌, ◌<◌, max, List, [], ◌∷◌, ◌++◌, length, get_or, take, map, ◌≤◌, refl, sym, subst, ap, ap₂, ◌∙◌, arith}
 use Rattle.std.proofs.lemmas.List.{take_more, map-append}
 use Rattle.ua_variant.specs.Data.{ScalarData}
 use Rattle.ua_variant.specs.Measure.{scalar_depth, scalars_depth, scalar_count, scalars_count}

@@ -1,21 +1,16 @@
 -- What loops and branches of the writers know.
-use Rattle.std.proofs.Common.{◌≡◌, ℕ, zero, suc, ◌+◌, ◌<◌, ◌≤◌, Bool, true, ◌&&◌, IsTrue, List, [], ◌∷◌, ◌++◌, length, get_or, take, map, refl, sym, ap, ◌∙◌, append_assoc, append-nil, arith}
-use lib.IntN.{ℤ, pos}
-use Rattle.std.specs.Int.RustNames.{unsigned_abs, FitsSigned}
-use Rattle.std.specs.Int.{w32}
-use Rattle.std.proofs.lemmas.Int.{to_z-of_z}
-use mir.Val.{to_z, of_z}
-use Rattle.std.proofs.lemmas.List.{take_more}
+use Rattle.std.proofs.Common.{◌≡◌, ℕ, ◌+◌, ◌<◌, true, ◌&&◌, IsTrue, List, [], ◌∷◌, ◌++◌, length, get_or, take, sym, ap, ◌∙◌, append_assoc, append-nil, arith}
+use lib.IntN.{ℤ}
 use Rattle.std.proofs.lemmas.Grind.{common_steps}
 use Rattle.ua_builtin.specs.Exact.{both_true}
-use Rattle.ua_builtin.specs.Number.{number_octets}
-use Rattle.ua_variant.specs.Data.{VariantData, DataValueData, DiagnosticData, ScalarData, ScalarsData, many}
+use Rattle.ua_variant.specs.Data.{VariantData, DataValueData, ScalarData, ScalarsData, many}
 use Rattle.ua_variant.specs.View.{scalar_of, row}
 use Rattle.std.specs.Prelude.{leb}
-use Rattle.ua_variant.specs.Measure.{variant_depth, data_value_depth, diagnostic_depth}
-use Rattle.ua_variant.specs.Encodable.{variant_encodable, data_value_encodable, diagnostic_encodable, data_value_fits, diagnostic_fits, variant_fits, scalars_fit, dims_encodable, row_length, is_kind, is_count}
-use Rattle.ua_variant.specs.Canonical.{row_canonical, scalar_canonical, sizes_canonical}
-use Rattle.ua_variant.specs.Arrays.{count_is}
+use Rattle.ua_variant.specs.Measure.{variant_depth, data_value_depth}
+use Rattle.ua_variant.specs.Encodable.{variant_encodable, data_value_encodable, data_value_fits, variant_fits, scalars_fit, row_length, is_kind}
+use Rattle.ua_parts.specs.Dimensions.{dims_encodable, is_count}
+use Rattle.ua_variant.specs.Canonical.{row_canonical, scalar_canonical}
+use Rattle.ua_parts.specs.DimensionReaders.{count_is}
 use Rattle.ua_variant.specs.declared.values.Scalar.{Scalar}
 use Rattle.ua_variant.proofs.Rows.{seen, seen_next}
 
@@ -41,23 +36,9 @@ row_after old ss i s h is =
     ∙ ap (λ r. old ++ r) (ap (λ x. row_canonical (row (seen (take i ss))) ++ scalar_canonical (scalar_of x)) is
     ∙ sym (ap (λ xs. row_canonical (row xs)) (seen_next ss i s h) ∙ row_push (seen (take i ss)) (scalar_of (get_or ss i s))))
 
-sizes_push : (ds : List ℤ) (d : ℤ) → sizes_canonical (ds ++ d ∷ []) ≡ sizes_canonical ds ++ number_octets 4 (unsigned_abs d)
-sizes_push [] d = append-nil (number_octets 4 (unsigned_abs d))
-sizes_push (x ∷ ds) d = ap (λ r. number_octets 4 (unsigned_abs x) ++ r) (sizes_push ds d) ∙ sym (append_assoc (number_octets 4 (unsigned_abs x)) (sizes_canonical ds) (number_octets 4 (unsigned_abs d)))
-
-pub sizes_after : (old : List ℕ) (ds : List ℤ) (i n : ℕ) → i < length ds → FitsSigned w32 (get_or ds i (pos 0)) → n ≡ unsigned_abs (to_z w32 (of_z w32 (get_or ds i (pos 0))))
-    → (old ++ sizes_canonical (take i ds)) ++ number_octets 4 n ≡ old ++ sizes_canonical (take (i + 1) ds)
-sizes_after old ds i n h f is =
-    append_assoc old (sizes_canonical (take i ds)) (number_octets 4 n)
-    ∙ ap (λ r. old ++ (sizes_canonical (take i ds) ++ number_octets 4 r)) (is ∙ ap unsigned_abs (to_z-of_z w32 (get_or ds i (pos 0)) f))
-    ∙ ap (λ r. old ++ r) (sym (ap sizes_canonical (take_more ds i (pos 0) h) ∙ sizes_push (take i ds) (get_or ds i (pos 0))))
-
 -- what can be written fits
 pub variant_fits_of : (v : VariantData) → IsTrue (variant_encodable v) → variant_fits v ≡ true
 variant_fits_of v h = (both_true (leb (variant_depth v) 100) (variant_fits v) h).1
 
 pub data_value_fits_of : (d : DataValueData) → IsTrue (data_value_encodable d) → data_value_fits d ≡ true
 data_value_fits_of d h = (both_true (leb (data_value_depth d) 100) (data_value_fits d) h).1
-
-pub diagnostic_fits_of : (d : DiagnosticData) → IsTrue (diagnostic_encodable d) → diagnostic_fits d ≡ true
-diagnostic_fits_of d h = (both_true (leb (diagnostic_depth d) 100) (diagnostic_fits d) h).1

@@ -1,39 +1,16 @@
 -- The one encoding that is written.
-use Rattle.std.specs.Prelude.{ℕ, ◌+◌, Bool, true, false, List, [], ◌∷◌, ◌++◌, length}
-use lib.IntN.{ℤ}
-use Rattle.std.specs.Int.RustNames.{unsigned_abs}
+use Rattle.std.specs.Prelude.{ℕ, ◌+◌, false, List, [], ◌∷◌, ◌++◌}
 use Rattle.ua_builtin.specs.Number.{number_octets}
-use Rattle.ua_variant.specs.Data.{LeafData, DiagnosticFields, DiagnosticData, innermost, around, DataFields, VariantData, null, one, absent, many, ScalarData, leaf, data_value, variant, diagnostic, ScalarsData, no_scalars, scalar, DataValueData, bare, valued}
+use Rattle.ua_variant.specs.Data.{DataFields, VariantData, null, one, absent, many, ScalarData, leaf, data_value, variant, diagnostic, ScalarsData, no_scalars, scalar, DataValueData, bare, valued}
 use Rattle.ua_variant.specs.Leaf.{leaf_canonical}
-use Rattle.ua_variant.specs.Fields.{data_fields, data_flags, diagnostic_fields, diagnostic_flags}
+use Rattle.ua_variant.specs.Fields.{data_fields, data_flags}
 use Rattle.ua_variant.specs.Encodable.{kind_of, row_length}
 use Rattle.ua_variant.specs.Encoding.{array_octet}
-
--- -1 as an Int32, the count of null
-abbrev pub null_count : List ℕ
-null_count = number_octets 4 4294967295
-
-abbrev pub diagnostic_fields_canonical : DiagnosticFields → List ℕ
-diagnostic_fields_canonical f = (diagnostic_fields (diagnostic_flags f)).canonical f
-
-abbrev pub diagnostic_canonical : DiagnosticData → List ℕ
-diagnostic_canonical (innermost f) = diagnostic_flags f ∷ diagnostic_fields_canonical f
-diagnostic_canonical (around f d) = (diagnostic_flags f + 64) ∷ (diagnostic_fields_canonical f ++ diagnostic_canonical d)
+use Rattle.ua_parts.specs.Dimensions.{null_count, has_dims, dims_canonical}
+use Rattle.ua_parts.specs.Diagnostic.{diagnostic_canonical}
 
 abbrev pub data_fields_canonical : DataFields → List ℕ
 data_fields_canonical f = (data_fields (data_flags f)).canonical f
-
-abbrev pub sizes_canonical : List ℤ → List ℕ
-sizes_canonical [] = []
-sizes_canonical (d ∷ ds) = number_octets 4 (unsigned_abs d) ++ sizes_canonical ds
-
-abbrev pub has_dims : List ℤ → Bool
-has_dims [] = false
-has_dims (d ∷ ds) = true
-
-abbrev pub dims_canonical : List ℤ → List ℕ
-dims_canonical [] = []
-dims_canonical (d ∷ ds) = number_octets 4 (length (d ∷ ds)) ++ sizes_canonical (d ∷ ds)
 
 abbrev mutual
   pub variant_canonical : VariantData → List ℕ

@@ -1,4 +1,5 @@
 -- What the values stand for, without capacities and pointers.
+pub use Rattle.ua_parts.specs.Diagnostic.{DiagnosticFields, DiagnosticData, innermost, around}
 use Rattle.std.specs.Prelude.{ℕ, Bool, List, Option}
 use lib.IntN.{ℤ}
 use Rattle.ua_octets.specs.declared.float_bits.FloatBits.{FloatBits}
@@ -38,20 +39,6 @@ pub data LeafData : Type 0 where
   localized_text : LocalizedText → LeafData
   extension_object : ExtensionObject → LeafData
   reserved : ℕ → Option (List ℕ) → LeafData
-
--- the fields of a DiagnosticInfo but its inner one; a null text is an absent one
-pub record DiagnosticFields : Type 0 where
-  pub symbolic_id : Option ℤ
-  pub namespace_uri : Option ℤ
-  pub locale : Option ℤ
-  pub localized_text : Option ℤ
-  pub additional_info : Option (List ℕ)
-  pub inner_status_code : Option StatusCode
-
--- a DiagnosticInfo with its inner ones
-pub data DiagnosticData : Type 0 where
-  innermost : DiagnosticFields → DiagnosticData
-  around : DiagnosticFields → DiagnosticData → DiagnosticData
 
 -- the fields of a DataValue but its value
 pub record DataFields : Type 0 where

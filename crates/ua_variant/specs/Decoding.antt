@@ -1,23 +1,16 @@
 -- Readers on lists: the value at the front and the octets behind it, or nothing.
-use Rattle.std.specs.Prelude.{◌≡◌, ℕ, suc, zero, ◌+◌, ◌%◌, Bool, true, false, cond, ◌&&◌, ◌||◌, not, leb, eqb, List, [], ◌∷◌, ◌++◌, Option, Some, None}
-use lib.IntN.{ℤ, pos}
+use Rattle.std.specs.Prelude.{ℕ, suc, zero, ◌%◌, Bool, cond, ◌&&◌, not, leb, eqb, List, [], ◌∷◌, Option, Some, None}
 use Rattle.ua_builtin.specs.Exact.{◌>>=◌}
 use Rattle.ua_builtin.specs.Number.{number_at}
-use Rattle.ua_variant.specs.Data.{LeafData, DiagnosticFields, DiagnosticData, innermost, around, DataFields, VariantData, null, one, absent, many, ScalarData, leaf, data_value, variant, diagnostic, ScalarsData, no_scalars, scalar, DataValueData, bare, valued}
-use Rattle.ua_variant.specs.View.{diagnostic_within, value_within}
-use Rattle.ua_variant.specs.Parts.{Reader, when, optional_read, flag}
+use Rattle.ua_variant.specs.Data.{VariantData, null, one, absent, many, ScalarData, leaf, data_value, variant, diagnostic, ScalarsData, no_scalars, scalar, DataValueData}
+use Rattle.ua_parts.specs.Diagnostic.{DiagnosticData}
+use Rattle.ua_variant.specs.View.{value_within}
+use Rattle.ua_parts.specs.Parts.{Reader, when, optional_read, flag}
 use Rattle.ua_variant.specs.Leaf.{leaf_at, holds_values}
-use Rattle.ua_variant.specs.Fields.{data_fields, diagnostic_fields}
-use Rattle.ua_variant.specs.Encodable.{product, is_read_kind, is_count}
-
-unfoldable pub diagnostic_step : Reader DiagnosticData → Reader DiagnosticData
-diagnostic_step inner octets = number_at 1 octets >>= λ m. when (leb m.0 127) (
-    (diagnostic_fields m.0).decode m.1 >>= λ f. optional_read (flag 64 m.0) inner f.1 >>= λ i. Some (diagnostic_within i.0 f.0, i.1))
-
--- with so many levels left
-unfoldable pub diagnostic_at : ℕ → Reader DiagnosticData
-diagnostic_at zero octets = None
-diagnostic_at (suc n) octets = diagnostic_step (diagnostic_at n) octets
+use Rattle.ua_variant.specs.Fields.{data_fields}
+use Rattle.ua_variant.specs.Encodable.{is_read_kind}
+use Rattle.ua_parts.specs.Dimensions.{is_negative, dims_at, no_dims_at}
+use Rattle.ua_parts.specs.Diagnostic.{diagnostic_at}
 
 unfoldable pub data_value_step : Reader VariantData → Reader DataValueData
 data_value_step inner octets = number_at 1 octets >>= λ m. when (leb m.0 63) (
@@ -36,29 +29,6 @@ scalar_at dv v dg k octets =
 abbrev pub row_at : ℕ → Reader ScalarData → Reader ScalarsData
 row_at zero p octets = Some (no_scalars, octets)
 row_at (suc n) p octets = p octets >>= λ s. row_at n p s.1 >>= λ ss. Some (scalar s.0 ss.0, ss.1)
-
-abbrev pub is_negative : ℕ → Bool
-is_negative n = leb 2147483648 n
-
-unfoldable pub size_at : Reader ℤ
-size_at octets = number_at 4 octets >>= λ n. when (is_count n.0) (Some (pos n.0, n.1))
-
--- n dimensions
-abbrev pub sizes_at : ℕ → Reader (List ℤ)
-sizes_at zero octets = Some ([], octets)
-sizes_at (suc n) octets = size_at octets >>= λ d. sizes_at n d.1 >>= λ ds. Some (d.0 ∷ ds.0, ds.1)
-
--- a count of at most 0
-abbrev pub is_none_count : ℕ → Bool
-is_none_count m = is_negative m || eqb m 0
-
-unfoldable pub dims_at : Bool → ℕ → Reader (List ℤ)
-dims_at f n octets = cond f (
-    number_at 4 octets >>= λ m. cond (is_none_count m.0) (Some ([], m.1)) (sizes_at m.0 m.1 >>= λ ds. when (eqb (product ds.0) n) (Some ds)))
-    (Some ([], octets))
-
-unfoldable pub no_dims_at : Bool → Reader (List ℤ)
-no_dims_at f octets = cond f (number_at 4 octets >>= λ m. when (is_none_count m.0) (Some ([], m.1))) (Some ([], octets))
 
 -- n elements and their dimensions
 abbrev pub elements_at : (ℕ → Reader ScalarData) → ℕ → Bool → ℕ → Reader VariantData
@@ -99,6 +69,3 @@ before (s ∷ ss) r = scalar s (before ss r)
 
 abbrev pub with_front : List ScalarData → Option (ScalarsData × List ℕ) → Option (ScalarsData × List ℕ)
 with_front ss r = r >>= λ x. Some (before ss x.0, x.1)
-
-abbrev pub with_sizes : List ℤ → Option (List ℤ × List ℕ) → Option (List ℤ × List ℕ)
-with_sizes ds r = r >>= λ x. Some (ds ++ x.0, x.1)

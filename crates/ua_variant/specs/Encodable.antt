@@ -1,11 +1,16 @@
 -- Which values can be written.
-use Rattle.std.specs.Prelude.{ℕ, ◌+◌, ◌*◌, Bool, true, false, ◌&&◌, leb, eqb, not, List, [], ◌∷◌, length, Option, Some, None}
-use lib.IntN.{ℤ, pos, negsuc}
-use Rattle.std.specs.Int.RustNames.{unsigned_abs}
-use Rattle.ua_variant.specs.Data.{LeafData, DiagnosticFields, DiagnosticData, innermost, around, DataFields, VariantData, null, one, absent, many, ScalarData, leaf, data_value, variant, diagnostic, ScalarsData, no_scalars, scalar, DataValueData, bare, valued}
+pub use Rattle.ua_parts.specs.Diagnostic.{diagnostic_encodable}
+pub use Rattle.ua_parts.specs.Dimensions.{dims_encodable}
+use Rattle.std.specs.Prelude.{ℕ, ◌+◌, Bool, true, false, ◌&&◌, leb, eqb, not, [], ◌∷◌}
+use Rattle.ua_variant.specs.Data.{DataFields, VariantData, null, one, absent, many, ScalarData, leaf, data_value, variant, diagnostic, ScalarsData, no_scalars, scalar, DataValueData, bare, valued}
 use Rattle.ua_variant.specs.Leaf.{leaf_kind, leaf_encodable}
-use Rattle.ua_variant.specs.Fields.{data_fields, data_flags, diagnostic_fields, diagnostic_flags}
-use Rattle.ua_variant.specs.Measure.{variant_depth, data_value_depth, diagnostic_depth}
+use Rattle.ua_variant.specs.Measure.{variant_depth, data_value_depth}
+use Rattle.ua_builtin.specs.Join.{number}
+use Rattle.ua_builtin.specs.DateTime.{date_time as date_time_format}
+use Rattle.ua_builtin.specs.Status.{status_code as status_code_format}
+use Rattle.ua_parts.specs.Parts.{optional_fits}
+use Rattle.ua_parts.specs.Dimensions.{is_count}
+use Rattle.ua_parts.specs.Diagnostic.{diagnostic_fits}
 
 -- the type id
 abbrev pub kind_of : ScalarData → ℕ
@@ -21,38 +26,9 @@ is_kind k = leb 1 k && leb k 25
 abbrev pub is_read_kind : ℕ → Bool
 is_read_kind k = leb 1 k && leb k 31
 
--- at most the greatest Int32
-abbrev pub is_count : ℕ → Bool
-is_count n = leb n 2147483647
-
--- the number of elements of an array with these dimensions
-abbrev pub product : List ℤ → ℕ
-product [] = 1
-product (d ∷ ds) = unsigned_abs d * product ds
-
--- an Int32 that is not negative
-abbrev pub is_size : ℤ → Bool
-is_size (pos n) = is_count n
-is_size (negsuc n) = false
-
-abbrev pub are_sizes : List ℤ → Bool
-are_sizes [] = true
-are_sizes (d ∷ ds) = is_size d && are_sizes ds
-
--- the dimensions of an array of n elements
-abbrev pub dims_encodable : List ℤ → ℕ → Bool
-dims_encodable [] n = true
-dims_encodable (d ∷ ds) n = is_count (length (d ∷ ds)) && are_sizes (d ∷ ds) && eqb (product (d ∷ ds)) n
-
-abbrev pub diagnostic_fields_encodable : DiagnosticFields → Bool
-diagnostic_fields_encodable f = (diagnostic_fields (diagnostic_flags f)).encodable f
-
-abbrev pub diagnostic_fits : DiagnosticData → Bool
-diagnostic_fits (innermost f) = diagnostic_fields_encodable f
-diagnostic_fits (around f d) = diagnostic_fields_encodable f && diagnostic_fits d
-
+-- each field that is there can be written
 abbrev pub data_fields_encodable : DataFields → Bool
-data_fields_encodable f = (data_fields (data_flags f)).encodable f
+data_fields_encodable f = optional_fits status_code_format.encodable f.status && (optional_fits (date_time_format).encodable f.source_timestamp && (optional_fits (number 2).encodable f.source_picoseconds && (optional_fits (date_time_format).encodable f.server_timestamp && optional_fits (number 2).encodable f.server_picoseconds)))
 
 abbrev pub is_variant : ScalarData → Bool
 is_variant (leaf l) = false
@@ -94,6 +70,3 @@ variant_encodable v = leb (variant_depth v) 100 && variant_fits v
 
 abbrev pub data_value_encodable : DataValueData → Bool
 data_value_encodable d = leb (data_value_depth d) 100 && data_value_fits d
-
-abbrev pub diagnostic_encodable : DiagnosticData → Bool
-diagnostic_encodable d = leb (diagnostic_depth d) 100 && diagnostic_fits d

@@ -1,32 +1,12 @@
 -- Which octets encode which values.
-use Rattle.std.specs.Prelude.{◌≡◌, ℕ, ◌+◌, ◌*◌, ◌<◌, ◌⊎◌, Bool, true, false, cond, IsTrue, List, [], ◌∷◌, ◌++◌, length, Option, Some, None}
-use lib.IntN.{ℤ, pos, negsuc}
-use Rattle.ua_builtin.specs.Number.{IsNumber}
-use Rattle.ua_variant.specs.Data.{LeafData, DiagnosticFields, DiagnosticData, innermost, around, DataFields, VariantData, null, one, absent, many, ScalarData, leaf, data_value, variant, diagnostic, ScalarsData, no_scalars, scalar, DataValueData, bare, valued}
-use Rattle.ua_variant.specs.Parts.{Joins, Nothing, IsOctet, IsCount, IsNegative, Masked, flag}
+pub use Rattle.ua_parts.specs.Diagnostic.{EncodesDiagnostic}
+pub use Rattle.ua_parts.specs.Dimensions.{EncodesDims}
+use Rattle.std.specs.Prelude.{◌≡◌, ℕ, ◌+◌, Bool, true, false, cond, IsTrue, List, []}
+use Rattle.ua_variant.specs.Data.{VariantData, null, one, absent, many, ScalarData, leaf, data_value, variant, diagnostic, ScalarsData, no_scalars, scalar, DataValueData, bare, valued}
+use Rattle.ua_parts.specs.Parts.{Joins, Nothing, IsOctet, IsCount, IsNegative, Masked, flag}
 use Rattle.ua_variant.specs.Leaf.{EncodesLeaf}
-use Rattle.ua_variant.specs.Fields.{data_fields, diagnostic_fields}
-use Rattle.ua_variant.specs.Encodable.{kind_of, row_length, product, is_read_kind}
-
--- a mask of at most 0x7F, the fields that it announces, and behind them where 0x40 is set the inner info (OPC 10000-6, 5.2.2.12)
-abbrev pub EncodesDiagnostic : DiagnosticData → List ℕ → Type 0
-EncodesDiagnostic (innermost f) b = Masked 127 (λ m c. (flag 64 m ≡ false) × (diagnostic_fields m).encodes f c) b
-EncodesDiagnostic (around f d) b = Masked 127 (λ m c. (flag 64 m ≡ true) × Joins ((diagnostic_fields m).encodes f) (EncodesDiagnostic d) c) b
-
--- a dimension, an Int32 that is not negative
-abbrev pub IsSize : ℤ → List ℕ → Type 0
-IsSize (pos n) b = IsCount n b
-IsSize (negsuc n) b = ⊥
-
-abbrev pub EncodesSizes : List ℤ → List ℕ → Type 0
-EncodesSizes [] b = Nothing b
-EncodesSizes (d ∷ ds) b = Joins (IsSize d) (EncodesSizes ds) b
-
--- the dimensions of an array of n elements: where they are flagged, a count and as many numbers whose product is n, or a count of at most 0
-abbrev pub EncodesDims : Bool → ℕ → List ℤ → List ℕ → Type 0
-EncodesDims false n ds b = (ds ≡ []) × Nothing b
-EncodesDims true n [] b = IsNegative b ⊎ IsNumber 4 0 b
-EncodesDims true n (d ∷ ds) b = (product (d ∷ ds) ≡ n) × Joins (IsCount (length (d ∷ ds))) (EncodesSizes (d ∷ ds)) b
+use Rattle.ua_variant.specs.Fields.{data_fields}
+use Rattle.ua_variant.specs.Encodable.{kind_of, row_length, is_read_kind}
 
 -- the first octet of an array: 0x80, 0x40 where dimensions follow, and the type id
 abbrev pub array_octet : Bool → ℕ → ℕ

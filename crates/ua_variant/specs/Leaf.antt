@@ -1,10 +1,9 @@
 -- Scalars that hold no further value: their type ids and encodings.
-use Rattle.std.specs.Prelude.{◌≡◌, ℕ, ◌<◌, ◌≤◌, Bool, true, false, ◌&&◌, cond, IsTrue, leb, eqb, List, [], ◌∷◌, ◌++◌, Option, Some, None}
-use Rattle.std.proofs.Common.{refl, sym, subst, ap, ◌∙◌, arith}
+use Rattle.std.specs.Prelude.{◌≡◌, ℕ, ◌<◌, Bool, true, false, ◌&&◌, cond, IsTrue, leb, eqb, List, [], ◌++◌, Option, Some, None}
+use Rattle.std.proofs.Common.{refl, sym, subst, ◌∙◌, arith}
 use Rattle.std.proofs.lemmas.Grind.{common_steps}
 use Rattle.std.specs.Int.{w8, w16, w32, w64}
 use Rattle.ua_builtin.specs.Exact.{Begins, Exact, Image, image_read, not_false}
-use Rattle.ua_builtin.specs.Number.{number_at, IsNumber}
 use Rattle.ua_builtin.specs.Format.{Flat}
 use Rattle.ua_builtin.specs.Join.{number, number_starts, such, image_exact, TakesSome}
 use Rattle.ua_builtin.specs.Boolean.{boolean as boolean_format, boolean_starts}
@@ -22,7 +21,7 @@ use Rattle.ua_builtin.specs.QualifiedName.{qualified_name as qualified_name_form
 use Rattle.ua_builtin.specs.LocalizedText.{localized_text as localized_text_format, localized_text_starts}
 use Rattle.ua_builtin.specs.ExtensionObject.{extension_object as extension_object_format, extension_object_starts}
 use Rattle.ua_variant.specs.Data.{LeafData, boolean, sbyte, byte, int16, uint16, int32, uint32, int64, uint64, float, double, string, date_time, guid, byte_string, xml_element, node_id, expanded_node_id, status_code, qualified_name, localized_text, extension_object, reserved}
-use Rattle.ua_variant.specs.Parts.{unwritten, Reader}
+use Rattle.ua_parts.specs.Parts.{unwritten, Reader}
 
 -- the type id (OPC 10000-6, 5.1.2)
 abbrev pub leaf_kind : LeafData → ℕ

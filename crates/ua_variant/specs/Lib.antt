@@ -3,16 +3,13 @@ pub mod Canonical
 pub mod Codes
 pub mod Data
 pub mod Decoding
-pub mod Diagnostics
 pub mod Encodable
 pub mod Encoding
 pub mod Fields
 pub mod Flags
 pub mod Formats
 pub mod Leaf
-pub mod Lengths
 pub mod Measure
-pub mod Parts
 pub mod Scalars
 pub mod Sizes
 pub mod Trees

@@ -1,12 +1,8 @@
 -- How deep values nest, and how many values a value holds.
-use Rattle.std.specs.Prelude.{ℕ, ◌+◌, max, Bool, List, [], ◌∷◌, length, Option, Some, None}
-use lib.IntN.{ℤ}
-use Rattle.ua_variant.specs.Data.{LeafData, DiagnosticFields, DiagnosticData, innermost, around, DataFields, VariantData, null, one, absent, many, ScalarData, leaf, data_value, variant, diagnostic, ScalarsData, no_scalars, scalar, DataValueData, bare, valued}
-
--- a DiagnosticInfo is one level more than its inner one
-abbrev pub diagnostic_depth : DiagnosticData → ℕ
-diagnostic_depth (innermost f) = 1
-diagnostic_depth (around f d) = 1 + diagnostic_depth d
+pub use Rattle.ua_parts.specs.Diagnostic.{diagnostic_depth, diagnostic_count}
+use Rattle.std.specs.Prelude.{ℕ, ◌+◌, max, length}
+use Rattle.ua_variant.specs.Data.{DataFields, VariantData, null, one, absent, many, ScalarData, leaf, data_value, variant, diagnostic, ScalarsData, no_scalars, scalar, DataValueData, bare, valued}
+use Rattle.ua_parts.specs.Parts.{there}
 
 -- a Variant, DataValue or DiagnosticInfo is one level more than the deepest of these directly within it
 abbrev mutual
@@ -30,21 +26,8 @@ abbrev mutual
   data_value_depth (bare f) = 1
   data_value_depth (valued v f) = 1 + variant_depth v
 
--- 1 where there is a field
-abbrev pub there : {A : Type 0} → Option A → ℕ
-there None = 0
-there (Some x) = 1
-
 abbrev pub data_fields_count : DataFields → ℕ
 data_fields_count f = there f.status + there f.source_timestamp + there f.source_picoseconds + there f.server_timestamp + there f.server_picoseconds
-
-abbrev pub diagnostic_fields_count : DiagnosticFields → ℕ
-diagnostic_fields_count f = there f.symbolic_id + there f.namespace_uri + there f.locale + there f.localized_text + there f.additional_info + there f.inner_status_code
-
--- a Variant, DataValue or DiagnosticInfo counts 1 beside what it holds; each other scalar, field and dimension counts 1
-abbrev pub diagnostic_count : DiagnosticData → ℕ
-diagnostic_count (innermost f) = 1 + diagnostic_fields_count f
-diagnostic_count (around f d) = 1 + diagnostic_fields_count f + diagnostic_count d
 
 abbrev mutual
   pub variant_count : VariantData → ℕ

@@ -1,19 +1,20 @@
 -- The readers of DataValues and scalars are exact, where those of what they hold are.
-use Rattle.std.specs.Prelude.{◌≡◌, ℕ, zero, suc, ◌+◌, ◌-◌, ◌<◌, ◌≤◌, Bool, true, false, cond, IsTrue, leb, eqb, List, [], ◌∷◌, ◌++◌, Option, Some, None}
-use Rattle.std.proofs.Common.{refl, sym, subst, ap, ◌∙◌, append-nil, arith}
+use Rattle.std.specs.Prelude.{◌≡◌, ℕ, suc, ◌+◌, ◌≤◌, Bool, true, false, cond, IsTrue, leb, eqb, List, [], ◌++◌, Option, Some, None}
+use Rattle.std.proofs.Common.{refl, sym, subst, ap, ◌∙◌, arith}
 use Rattle.std.proofs.lemmas.Grind.{common_steps}
-use Rattle.ua_builtin.specs.Exact.{Begins, Exact, ◌>>=◌}
-use Rattle.ua_builtin.specs.Format.{Flat, Within}
-use Rattle.ua_variant.specs.Data.{LeafData, DataFields, DiagnosticFields, DiagnosticData, innermost, around, VariantData, null, one, absent, many, ScalarData, leaf, data_value, variant, diagnostic, ScalarsData, no_scalars, scalar, DataValueData, bare, valued}
-use Rattle.ua_variant.specs.Measure.{variant_depth, scalar_depth, data_value_depth, diagnostic_depth}
+use Rattle.ua_builtin.specs.Exact.{Exact, ◌>>=◌}
+use Rattle.ua_builtin.specs.Format.{Within}
+use Rattle.ua_variant.specs.Data.{DataFields, VariantData, ScalarData, leaf, data_value, variant, diagnostic, DataValueData, bare, valued}
+use Rattle.ua_parts.specs.Diagnostic.{DiagnosticData}
+use Rattle.ua_variant.specs.Measure.{variant_depth, scalar_depth, data_value_depth}
 use Rattle.ua_variant.specs.View.{value_within}
-use Rattle.ua_variant.specs.Parts.{Reader, when, Joins, Nothing, IsOctet, flag, Optional, optional_read, exact_octet, exact_then, exact_map, exact_as, exact_when, exact_optional}
-use Rattle.ua_variant.specs.Leaf.{leaf_kind, EncodesLeaf, IsLeaf, leaf_at, exact_leaf, leaf_apart, holds_values, Sound, sound_if, eqb_is}
+use Rattle.ua_parts.specs.Parts.{Reader, when, Joins, Nothing, IsOctet, flag, Optional, optional_read, exact_octet, exact_then, exact_map, exact_as, exact_when, exact_optional}
+use Rattle.ua_variant.specs.Leaf.{leaf_kind, leaf_at, exact_leaf, leaf_apart, holds_values, Sound, sound_if, eqb_is}
 use Rattle.ua_variant.specs.Fields.{data_fields}
 use Rattle.ua_variant.specs.Encodable.{kind_of}
 use Rattle.ua_variant.specs.Encoding.{EncodesVariant, EncodesScalar, EncodesDataValue}
 use Rattle.ua_variant.specs.Decoding.{data_value_step, scalar_at}
-use Rattle.ua_variant.specs.Diagnostics.{Shallow, nil_behind}
+use Rattle.ua_parts.specs.Diagnostics.{Shallow}
 
 -- of the depth n at most
 abbrev pub ShallowV : ℕ → VariantData → List ℕ → Type 0

@@ -1,25 +1,15 @@
 -- What is directly in a value is smaller than the value.
-use Rattle.std.specs.Prelude.{ℕ, Bool, List, [], ◌∷◌, Option, Some, None, map, ◌+◌, ◌*◌, ◌≤◌, max}
-use lib.IntN.{ℤ}
+use Rattle.std.specs.Prelude.{List, [], ◌∷◌, Option, Some, None, map, ◌+◌, ◌*◌, ◌≤◌, max}
 use Rattle.std.proofs.Common.{arith}
 use denote.Param.Weighed.{most}
-use Rattle.ua_variant.specs.Data.{DiagnosticFields, DiagnosticData, innermost, around, DataFields, VariantData, null, one, absent, many, ScalarData, leaf, data_value, variant, diagnostic, ScalarsData, no_scalars, scalar, DataValueData, bare, valued}
-use Rattle.ua_variant.specs.Measure.{diagnostic_depth, variant_count, scalar_count, scalars_count, data_value_count}
-use Rattle.ua_variant.specs.View.{row, diagnostic_within, diagnostic_fields_of, diagnostic_of, value_within, data_fields_of, data_value_of, scalar_of, variant_of}
+use Rattle.ua_variant.specs.Data.{DataFields, VariantData}
+use Rattle.ua_variant.specs.Measure.{variant_count, scalar_count, scalars_count, data_value_count}
+use Rattle.ua_variant.specs.View.{row, value_within, data_fields_of, data_value_of, scalar_of, variant_of}
 use Rattle.ua_variant.specs.declared.values.Scalar.{Scalar}
 use Rattle.ua_variant.specs.declared.values.Variant.{Variant}
 use Rattle.ua_variant.specs.declared.values.DataValue.{DataValue}
-use Rattle.ua_variant.specs.declared.values.DiagnosticInfo.{DiagnosticInfo}
-use Rattle.ua_variant.specs.declared.values.BoxedDiagnostic.TheDeep.{deep-DiagnosticInfo}
 use Rattle.ua_variant.specs.declared.values.BoxedVariant.TheDeep.{deep-Variant, deep-Scalar, deep-DataValue}
-use Rattle.ua_variant.specs.Values.{made_diagnostic, made_data_value}
-
-diagnostic_at : (i : Option DiagnosticData) (f : DiagnosticFields) → max (deep-DiagnosticInfo (made_diagnostic i f)) 0 ≤ diagnostic_depth (diagnostic_within i f)
-diagnostic_at None f = omega arith
-diagnostic_at (Some d) f = omega arith
-
-pub diagnostic_falls : (d : DiagnosticInfo) → max (deep-DiagnosticInfo d) 0 ≤ diagnostic_depth (diagnostic_of d)
-diagnostic_falls d = diagnostic_at d.inner (diagnostic_fields_of d)
+use Rattle.ua_variant.specs.Values.{made_data_value}
 
 data_value_at : (v : Option VariantData) (f : DataFields) → deep-DataValue (made_data_value v f) ≤ 2 * data_value_count (value_within v f)
 data_value_at None f = omega arith

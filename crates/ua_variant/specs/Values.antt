@@ -1,31 +1,13 @@
 -- The values of the code that stand for data: each data is that of one value.
-use Rattle.std.specs.Prelude.{◌≡◌, ℕ, Bool, List, [], ◌∷◌, Option, Some, None, refl}
-use lib.IntN.{ℤ}
+use Rattle.std.specs.Prelude.{◌≡◌, List, [], ◌∷◌, Option, Some, None, refl}
 use Rattle.std.proofs.Common.{ap}
-use Rattle.ua_variant.specs.Data.{LeafData, boolean, sbyte, byte, int16, uint16, int32, uint32, int64, uint64, float, double, string, date_time, guid, byte_string, xml_element, node_id, expanded_node_id, status_code, qualified_name, localized_text, extension_object, reserved, DiagnosticFields, DiagnosticData, innermost, around, DataFields, VariantData, null, one, absent, many, ScalarData, leaf, data_value, variant, diagnostic, ScalarsData, no_scalars, scalar, DataValueData, bare, valued}
-use Rattle.ua_variant.specs.View.{row, row_list, diagnostic_within, diagnostic_fields_of, diagnostic_of, value_within, data_fields_of, data_value_of, scalar_of, many_of, variant_of}
+use Rattle.ua_variant.specs.Data.{LeafData, boolean, sbyte, byte, int16, uint16, int32, uint32, int64, uint64, float, double, string, date_time, guid, byte_string, xml_element, node_id, expanded_node_id, status_code, qualified_name, localized_text, extension_object, reserved, DataFields, VariantData, null, one, absent, many, ScalarData, leaf, data_value, variant, diagnostic, ScalarsData, no_scalars, scalar, DataValueData, bare, valued}
+use Rattle.ua_variant.specs.View.{row, row_list, value_within, data_fields_of, data_value_of, scalar_of, variant_of}
 use Rattle.ua_variant.specs.declared.values.Scalar.{Scalar}
 use Rattle.ua_variant.specs.declared.values.Variant.{Variant}
 use Rattle.ua_variant.specs.declared.values.DataValue.{DataValue}
-use Rattle.ua_variant.specs.declared.values.DiagnosticInfo.{DiagnosticInfo}
-
-abbrev pub made_diagnostic : Option DiagnosticData → DiagnosticFields → DiagnosticInfo
-made_diagnostic i f = record { symbolic_id = f.symbolic_id; namespace_uri = f.namespace_uri; locale = f.locale; localized_text = f.localized_text; additional_info = f.additional_info; inner_status_code = f.inner_status_code; inner = i }
-
-abbrev pub diagnostic_value : DiagnosticData → DiagnosticInfo
-diagnostic_value (innermost f) = made_diagnostic None f
-diagnostic_value (around f d) = made_diagnostic (Some d) f
-
-pub diagnostic_forth : (d : DiagnosticData) → diagnostic_of (diagnostic_value d) ≡ d
-diagnostic_forth (innermost f) = refl
-diagnostic_forth (around f d) = refl
-
-made_back : (i : Option DiagnosticData) (f : DiagnosticFields) → diagnostic_value (diagnostic_within i f) ≡ made_diagnostic i f
-made_back None f = refl
-made_back (Some d) f = refl
-
-pub diagnostic_value_of : (d : DiagnosticInfo) → diagnostic_value (diagnostic_of d) ≡ d
-diagnostic_value_of d = made_back d.inner (diagnostic_fields_of d)
+use Rattle.ua_parts.specs.declared.diagnostic_info.DiagnosticInfo.{DiagnosticInfo}
+use Rattle.ua_parts.specs.View.{diagnostic_value, diagnostic_forth, diagnostic_value_of}
 
 abbrev pub made_data_value : Option VariantData → DataFields → DataValue
 made_data_value v f = record { value = v; status = f.status; source_timestamp = f.source_timestamp; source_picoseconds = f.source_picoseconds; server_timestamp = f.server_timestamp; server_picoseconds = f.server_picoseconds }

@@ -1,18 +1,17 @@
 -- The readers of Variant and DataValue are exact, at each depth.
-use Rattle.std.specs.Prelude.{◌≡◌, ℕ, zero, suc, ◌+◌, ◌-◌, ◌*◌, ◌/◌, ◌%◌, ◌<◌, ◌≤◌, ◌⊎◌, Bool, true, false, cond, ◌&&◌, not, IsTrue, leb, eqb, List, [], ◌∷◌, ◌++◌, length, Option, Some, None}
-use lib.IntN.{ℤ}
+use Rattle.std.specs.Prelude.{◌≡◌, ℕ, zero, suc, ◌+◌, ◌-◌, ◌*◌, ◌/◌, ◌%◌, ◌<◌, ◌≤◌, Bool, true, false, cond, ◌&&◌, not, IsTrue, leb, eqb, List, [], ◌∷◌, ◌++◌, None}
 use Rattle.std.proofs.Common.{inl, inr, refl, sym, subst, ap, ap₂, ◌∙◌, arith}
 use Rattle.std.proofs.lemmas.Grind.{common_steps}
 use Rattle.ua_builtin.specs.Exact.{Exact, exact_only}
-use Rattle.ua_builtin.specs.Format.{Within}
-use Rattle.ua_variant.specs.Data.{DiagnosticFields, DiagnosticData, innermost, around, DataFields, VariantData, null, one, absent, many, ScalarData, leaf, data_value, variant, diagnostic, ScalarsData, no_scalars, scalar, DataValueData, bare, valued}
-use Rattle.ua_variant.specs.Measure.{variant_depth, scalar_depth, scalars_depth, data_value_depth}
-use Rattle.ua_variant.specs.Parts.{Reader, when, Joins, Nothing, IsOctet, flag, exact_octet, exact_then, exact_map, exact_as, exact_if, exact_when}
+use Rattle.ua_parts.specs.Diagnostic.{diagnostic_at}
+use Rattle.ua_variant.specs.Data.{VariantData, null, one, absent, many, ScalarData, leaf, data_value, variant, diagnostic, DataValueData, bare, valued}
+use Rattle.ua_variant.specs.Measure.{variant_depth, scalar_depth, scalars_depth}
+use Rattle.ua_parts.specs.Parts.{Reader, Joins, Nothing, IsOctet, flag, exact_octet, exact_then, exact_map, exact_as, exact_if, exact_when, exact_none}
 use Rattle.ua_variant.specs.Leaf.{leaf_kind_within, eqb_is}
-use Rattle.ua_variant.specs.Encodable.{kind_of, row_length, is_read_kind}
-use Rattle.ua_variant.specs.Encoding.{EncodesVariant, EncodesScalar, EncodesDataValue, array_octet}
-use Rattle.ua_variant.specs.Decoding.{variant_after, variant_step, variant_at, data_value_at, data_value_step, scalar_at, scalars_at, diagnostic_at, array_at}
-use Rattle.ua_variant.specs.Diagnostics.{exact_diagnostic, exact_none}
+use Rattle.ua_variant.specs.Encodable.{kind_of, is_read_kind}
+use Rattle.ua_variant.specs.Encoding.{EncodesVariant, EncodesScalar, array_octet}
+use Rattle.ua_variant.specs.Decoding.{variant_after, variant_step, variant_at, data_value_at, data_value_step, scalar_at, scalars_at}
+use Rattle.ua_parts.specs.Diagnostics.{exact_diagnostic}
 use Rattle.ua_variant.specs.Scalars.{ShallowV, ShallowD, ShallowS, exact_scalar, exact_data_value_step}
 use Rattle.ua_variant.specs.Arrays.{ArrayOf, exact_array}
 

@@ -1,12 +1,11 @@
 -- The data that the values of the code stand for, and the values that stand for data.
-use Rattle.std.specs.Prelude.{◌≡◌, ℕ, Bool, List, [], ◌∷◌, Option, Some, None, map, refl}
+pub use Rattle.ua_parts.specs.View.{diagnostic_fields_of, diagnostic_of}
+use Rattle.std.specs.Prelude.{ℕ, List, [], ◌∷◌, Option, Some, None}
 use lib.IntN.{ℤ}
-use Rattle.std.proofs.Common.{ap}
-use Rattle.ua_variant.specs.Data.{LeafData, boolean, sbyte, byte, int16, uint16, int32, uint32, int64, uint64, float, double, string, date_time, guid, byte_string, xml_element, node_id, expanded_node_id, status_code, qualified_name, localized_text, extension_object, reserved, DiagnosticFields, DiagnosticData, innermost, around, DataFields, VariantData, null, one, absent, many, ScalarData, leaf, data_value, variant, diagnostic, ScalarsData, no_scalars, scalar, DataValueData, bare, valued}
+use Rattle.ua_variant.specs.Data.{boolean, sbyte, byte, int16, uint16, int32, uint32, int64, uint64, float, double, string, date_time, guid, byte_string, xml_element, node_id, expanded_node_id, status_code, qualified_name, localized_text, extension_object, reserved, DataFields, VariantData, null, one, absent, many, ScalarData, leaf, data_value, variant, diagnostic, ScalarsData, no_scalars, scalar, DataValueData, bare, valued}
 use Rattle.ua_variant.specs.declared.values.Scalar.{Scalar}
 use Rattle.ua_variant.specs.declared.values.Variant.{Variant}
 use Rattle.ua_variant.specs.declared.values.DataValue.{DataValue}
-use Rattle.ua_variant.specs.declared.values.DiagnosticInfo.{DiagnosticInfo}
 
 -- the elements of an array, as a list and as data
 abbrev pub row : List ScalarData → ScalarsData
@@ -16,16 +15,6 @@ row (s ∷ ss) = scalar s (row ss)
 abbrev pub row_list : ScalarsData → List ScalarData
 row_list no_scalars = []
 row_list (scalar s ss) = s ∷ row_list ss
-
-abbrev pub diagnostic_within : Option DiagnosticData → DiagnosticFields → DiagnosticData
-diagnostic_within None f = innermost f
-diagnostic_within (Some d) f = around f d
-
-abbrev pub diagnostic_fields_of : DiagnosticInfo → DiagnosticFields
-diagnostic_fields_of d = record { symbolic_id = d.symbolic_id; namespace_uri = d.namespace_uri; locale = d.locale; localized_text = d.localized_text; additional_info = d.additional_info; inner_status_code = d.inner_status_code }
-
-abbrev pub diagnostic_of : DiagnosticInfo → DiagnosticData
-diagnostic_of d = diagnostic_within d.inner (diagnostic_fields_of d)
 
 abbrev pub value_within : Option VariantData → DataFields → DataValueData
 value_within None f = bare f

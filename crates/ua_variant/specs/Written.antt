@@ -1,20 +1,21 @@
 -- The canonical encoding of what can be written encodes it.
-use Rattle.std.specs.Prelude.{◌≡◌, ℕ, ◌+◌, ◌*◌, ◌<◌, ◌≤◌, ◌^◌, Bool, true, false, ◌&&◌, not, IsTrue, leb, eqb, List, [], ◌∷◌, ◌++◌, length, Option, Some, None}
-use lib.IntN.{ℤ, pos, negsuc}
+use Rattle.std.specs.Prelude.{◌≡◌, ℕ, ◌<◌, ◌≤◌, Bool, true, false, ◌&&◌, not, IsTrue, leb, eqb, List, [], ◌∷◌, ◌++◌}
 use Rattle.std.proofs.Common.{refl, sym, subst, ap, ◌∙◌, append-nil, arith}
 use Rattle.std.proofs.lemmas.Grind.{common_steps}
 use Rattle.ua_builtin.specs.Exact.{both_true, not_false}
-use Rattle.ua_builtin.specs.Number.{IsNumber, number_octets}
-use Rattle.ua_variant.specs.Data.{LeafData, DiagnosticFields, DiagnosticData, innermost, around, DataFields, VariantData, null, one, absent, many, ScalarData, leaf, data_value, variant, diagnostic, ScalarsData, no_scalars, scalar, DataValueData, bare, valued}
-use Rattle.ua_variant.specs.Measure.{variant_depth, data_value_depth, diagnostic_depth}
-use Rattle.ua_variant.specs.Parts.{Joins, IsOctet, IsCount, IsNegative, flag}
-use Rattle.ua_variant.specs.Leaf.{leaf_kind, leaf_canonical_encodes, leaf_apart, holds_values, leaf_encodable}
-use Rattle.ua_variant.specs.Fields.{data_fields, data_flags, diagnostic_fields, diagnostic_flags}
-use Rattle.ua_variant.specs.Flags.{data_mask, data_mask_low, data_mask_value, data_fields_fit, data_fields_encodable_as, diagnostic_mask, diagnostic_mask_low, diagnostic_mask_inner, diagnostic_fields_fit, diagnostic_fields_encodable_as}
-use Rattle.ua_variant.specs.Encodable.{kind_of, is_kind, is_read_kind, is_count, product, is_size, are_sizes, dims_encodable, data_fields_encodable, diagnostic_fields_encodable, diagnostic_fits, is_variant, row_length, variant_fits, scalar_fits, scalars_fit, data_value_fits, variant_encodable, data_value_encodable, diagnostic_encodable}
-use Rattle.ua_variant.specs.Encoding.{EncodesDiagnostic, IsSize, EncodesSizes, EncodesDims, array_octet, EncodesVariant, EncodesScalar, EncodesRow, EncodesDataValue}
-use Rattle.ua_variant.specs.Canonical.{null_count, diagnostic_fields_canonical, diagnostic_canonical, data_fields_canonical, sizes_canonical, has_dims, dims_canonical, variant_canonical, scalar_canonical, row_canonical, data_value_canonical}
-use Rattle.ua_variant.specs.Arrays.{count_is, eqb_to}
+use Rattle.ua_builtin.specs.Number.{number_octets}
+use Rattle.ua_variant.specs.Data.{DataFields, VariantData, null, one, absent, many, ScalarData, leaf, data_value, variant, diagnostic, ScalarsData, no_scalars, scalar, DataValueData, bare, valued}
+use Rattle.ua_variant.specs.Measure.{variant_depth, data_value_depth}
+use Rattle.ua_parts.specs.Parts.{IsOctet, flag, fits_second, depth_first}
+use Rattle.ua_variant.specs.Leaf.{leaf_canonical_encodes, leaf_apart, holds_values}
+use Rattle.ua_variant.specs.Fields.{data_fields, data_flags}
+use Rattle.ua_variant.specs.Flags.{data_mask, data_mask_low, data_mask_value, data_fields_encodable_as}
+use Rattle.ua_variant.specs.Encodable.{data_fields_encodable, kind_of, is_kind, is_read_kind, is_variant, row_length, variant_fits, scalar_fits, scalars_fit, data_value_fits, variant_encodable, data_value_encodable}
+use Rattle.ua_parts.specs.Diagnostics.{diagnostic_encodes}
+use Rattle.ua_parts.specs.Dimensions.{is_count, dims_encodable, null_count, has_dims, dims_canonical}
+use Rattle.ua_variant.specs.Encoding.{array_octet, EncodesVariant, EncodesScalar, EncodesRow, EncodesDataValue}
+use Rattle.ua_variant.specs.Canonical.{data_fields_canonical, variant_canonical, scalar_canonical, row_canonical, data_value_canonical}
+use Rattle.ua_parts.specs.DimensionReaders.{eqb_to, count_encodes, null_encodes, dims_encode}
 use Rattle.ua_variant.specs.Variants.{kind_within}
 
 -- ---- fields behind a mask
@@ -23,84 +24,29 @@ data_canonical_same : (m n : ℕ) (f : DataFields) → (data_fields m).canonical
 unfolding data_fields
 data_canonical_same m n f = refl
 
-data_fields_encoded : (f : DataFields) (v : ℕ) → v ≤ 1 → data_fields_fit f ≡ true → (data_fields (data_mask f v)).encodes f (data_fields_canonical f)
+data_fields_encoded : (f : DataFields) (v : ℕ) → v ≤ 1 → data_fields_encodable f ≡ true → (data_fields (data_mask f v)).encodes f (data_fields_canonical f)
 data_fields_encoded f v h fits =
     subst ((data_fields (data_mask f v)).encodes f) (data_canonical_same (data_mask f v) (data_flags f) f)
     ((data_fields (data_mask f v)).canonical_encodes f (data_fields_encodable_as f v h ∙ fits))
 
-pub data_fields_fitting : (f : DataFields) → data_fields_encodable f ≡ true → data_fields_fit f ≡ true
-data_fields_fitting f h =
-    let same : data_flags f ≡ data_mask f 0 = omega arith in
-    sym (data_fields_encodable_as f 0 (omega arith)) ∙ sym (ap (λ (m : ℕ). (data_fields m).encodable f) same) ∙ h
-
 low_63 : (m : ℕ) → m ≤ 63 → IsTrue (leb m 63)
 low_63 m h = Prim.grind (arith, common_steps)
 
-low_127 : (m : ℕ) → m ≤ 127 → IsTrue (leb m 127)
-low_127 m h = Prim.grind (arith, common_steps)
-
-bare_at : (f : DataFields) (m : ℕ) → m ≡ data_mask f 0 → data_fields_fit f ≡ true → EncodesDataValue (bare f) (m ∷ data_fields_canonical f)
+bare_at : (f : DataFields) (m : ℕ) → m ≡ data_mask f 0 → data_fields_encodable f ≡ true → EncodesDataValue (bare f) (m ∷ data_fields_canonical f)
 bare_at f m e fits =
     let low : m ≤ 63 = omega (arith, e, data_mask_low f 0 (omega arith)) in
     (m, (m ∷ [], data_fields_canonical f, refl, (omega arith, refl), (low_63 m low, (ap (flag 1) e ∙ data_mask_value f 0 (omega arith), subst (λ k. (data_fields k).encodes f (data_fields_canonical f)) (sym e) (data_fields_encoded f 0 (omega arith) fits)))))
 
 bare_encodes : (f : DataFields) → data_fields_encodable f ≡ true → EncodesDataValue (bare f) (data_value_canonical (bare f))
-bare_encodes f h = bare_at f (data_flags f) (omega arith) (data_fields_fitting f h)
+bare_encodes f h = bare_at f (data_flags f) (omega arith) h
 
 valued_encodes : (v : VariantData) (f : DataFields) → data_fields_encodable f ≡ true → EncodesVariant v (variant_canonical v) → EncodesDataValue (valued v f) (data_value_canonical (valued v f))
 valued_encodes v f h w =
     let m = data_mask f 1 in
     let low : m ≤ 63 = data_mask_low f 1 (omega arith) in
-    (m, (m ∷ [], variant_canonical v ++ data_fields_canonical f, refl, (omega arith, refl), (low_63 m low, (data_mask_value f 1 (omega arith), (variant_canonical v, data_fields_canonical f, refl, w, data_fields_encoded f 1 (omega arith) (data_fields_fitting f h))))))
-
-diagnostic_canonical_same : (m n : ℕ) (f : DiagnosticFields) → (diagnostic_fields m).canonical f ≡ (diagnostic_fields n).canonical f
-unfolding diagnostic_fields
-diagnostic_canonical_same m n f = refl
-
-diagnostic_fields_encoded : (f : DiagnosticFields) (v : ℕ) → v ≤ 1 → diagnostic_fields_fit f ≡ true → (diagnostic_fields (diagnostic_mask f v)).encodes f (diagnostic_fields_canonical f)
-diagnostic_fields_encoded f v h fits =
-    subst ((diagnostic_fields (diagnostic_mask f v)).encodes f) (diagnostic_canonical_same (diagnostic_mask f v) (diagnostic_flags f) f)
-    ((diagnostic_fields (diagnostic_mask f v)).canonical_encodes f (diagnostic_fields_encodable_as f v h ∙ fits))
-
-diagnostic_fields_fitting : (f : DiagnosticFields) → diagnostic_fields_encodable f ≡ true → diagnostic_fields_fit f ≡ true
-diagnostic_fields_fitting f h =
-    let same : diagnostic_flags f ≡ diagnostic_mask f 0 = omega arith in
-    sym (diagnostic_fields_encodable_as f 0 (omega arith)) ∙ sym (ap (λ (m : ℕ). (diagnostic_fields m).encodable f) same) ∙ h
-
-innermost_at : (f : DiagnosticFields) (m : ℕ) → m ≡ diagnostic_mask f 0 → diagnostic_fields_fit f ≡ true → EncodesDiagnostic (innermost f) (m ∷ diagnostic_fields_canonical f)
-innermost_at f m e fits =
-    let low : m ≤ 127 = omega (arith, e, diagnostic_mask_low f 0 (omega arith)) in
-    (m, (m ∷ [], diagnostic_fields_canonical f, refl, (omega arith, refl), (low_127 m low, (ap (flag 64) e ∙ diagnostic_mask_inner f 0 (omega arith), subst (λ k. (diagnostic_fields k).encodes f (diagnostic_fields_canonical f)) (sym e) (diagnostic_fields_encoded f 0 (omega arith) fits)))))
-
-pub diagnostic_encodes : (d : DiagnosticData) → diagnostic_fits d ≡ true → EncodesDiagnostic d (diagnostic_canonical d)
-diagnostic_encodes (innermost f) h = innermost_at f (diagnostic_flags f) (omega arith) (diagnostic_fields_fitting f h)
-diagnostic_encodes (around f d) h =
-    let w = both_true (diagnostic_fields_encodable f) (diagnostic_fits d) h in
-    let m = diagnostic_mask f 1 in
-    let low : m ≤ 127 = diagnostic_mask_low f 1 (omega arith) in
-    (m, (m ∷ [], diagnostic_fields_canonical f ++ diagnostic_canonical d, refl, (omega arith, refl), (low_127 m low, (diagnostic_mask_inner f 1 (omega arith), (diagnostic_fields_canonical f, diagnostic_canonical d, refl, diagnostic_fields_encoded f 1 (omega arith) (diagnostic_fields_fitting f w.0), diagnostic_encodes d w.1)))))
+    (m, (m ∷ [], variant_canonical v ++ data_fields_canonical f, refl, (omega arith, refl), (low_63 m low, (data_mask_value f 1 (omega arith), (variant_canonical v, data_fields_canonical f, refl, w, data_fields_encoded f 1 (omega arith) h)))))
 
 -- ---- arrays
-
-count_encodes : (n : ℕ) → is_count n ≡ true → IsCount n (number_octets 4 n)
-count_encodes n h = let low : n < 2147483648 = count_is n h in ((omega arith, refl), low)
-
-null_encodes : IsNegative null_count
-null_encodes = (4294967295, (omega arith, refl), omega arith)
-
-sizes_encode : (ds : List ℤ) → are_sizes ds ≡ true → EncodesSizes ds (sizes_canonical ds)
-sizes_encode [] h = refl
-sizes_encode (pos n ∷ ds) h =
-    let w = both_true (is_count n) (are_sizes ds) h in
-    (number_octets 4 n, sizes_canonical ds, refl, count_encodes n w.0, sizes_encode ds w.1)
-sizes_encode (negsuc n ∷ ds) h = not_false h
-
-dims_encode : (ds : List ℤ) (n : ℕ) → dims_encodable ds n ≡ true → EncodesDims (has_dims ds) n ds (dims_canonical ds)
-dims_encode [] n h = (refl, refl)
-dims_encode (d ∷ ds) n h =
-    let u = both_true (is_count (length (d ∷ ds)) && are_sizes (d ∷ ds)) (eqb (product (d ∷ ds)) n) h in
-    let w = both_true (is_count (length (d ∷ ds))) (are_sizes (d ∷ ds)) u.0 in
-    (eqb_to (product (d ∷ ds)) n u.1, (number_octets 4 (length (d ∷ ds)), sizes_canonical (d ∷ ds), refl, count_encodes (length (d ∷ ds)) w.0, sizes_encode (d ∷ ds) w.1))
 
 kind_read : (k : ℕ) → is_kind k ≡ true → is_read_kind k ≡ true
 kind_read k h = Prim.grind (arith, common_steps)
@@ -162,12 +108,6 @@ mutual
       let w = both_true (data_fields_encodable f) (variant_fits v) h in
       valued_encodes v f w.0 (variant_encodes v w.1)
 
-fits_second : (d : ℕ) (b : Bool) → IsTrue (leb d 100 && b) → b ≡ true
-fits_second d b h = (both_true (leb d 100) b h).1
-
-depth_first : (d : ℕ) (b : Bool) → IsTrue (leb d 100 && b) → d ≤ 100
-depth_first d b h = let l : leb d 100 ≡ true = (both_true (leb d 100) b h).0 in Prim.grind (arith, common_steps)
-
 pub variant_canonical_encodes : (v : VariantData) → IsTrue (variant_encodable v) → EncodesVariant v (variant_canonical v)
 variant_canonical_encodes v h = variant_encodes v (fits_second (variant_depth v) (variant_fits v) h)
 
@@ -179,9 +119,3 @@ data_value_canonical_encodes d h = data_value_encodes d (fits_second (data_value
 
 pub data_value_encodable_depth : (d : DataValueData) → IsTrue (data_value_encodable d) → data_value_depth d ≤ 100
 data_value_encodable_depth d h = depth_first (data_value_depth d) (data_value_fits d) h
-
-pub diagnostic_canonical_encodes : (d : DiagnosticData) → IsTrue (diagnostic_encodable d) → EncodesDiagnostic d (diagnostic_canonical d)
-diagnostic_canonical_encodes d h = diagnostic_encodes d (fits_second (diagnostic_depth d) (diagnostic_fits d) h)
-
-pub diagnostic_encodable_depth : (d : DiagnosticData) → IsTrue (diagnostic_encodable d) → diagnostic_depth d ≤ 100
-diagnostic_encodable_depth d h = depth_first (diagnostic_depth d) (diagnostic_fits d) h

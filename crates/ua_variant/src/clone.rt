@@ -3,28 +3,8 @@
 ghost use Rattle.std.specs.Prelude.{◌≡◌, IfOk};
 
 use crate::encodable::element_count;
-use crate::values::{
-    BoxedDiagnostic, BoxedVariant, DataValue, DiagnosticInfo, Dimensions, Scalar, Scalars, Variant,
-};
+use crate::values::{BoxedVariant, DataValue, Scalar, Scalars, Variant};
 use std::alloc::{AllocError, Global};
-
-impl Dimensions {
-    /// A value of its own, equal to this one.
-    pub fn try_clone(&self, alloc: Global) -> Result<Dimensions, AllocError>
-        ensures { IfOk result (λ d. d ≡ self.now) }
-    {
-        Ok(Dimensions::new(self.as_slice().to_vec(alloc)?))
-    }
-}
-
-impl DiagnosticInfo {
-    /// A value of its own, equal to this one.
-    pub fn try_clone(&self, alloc: Global) -> Result<DiagnosticInfo, AllocError>
-        ensures { IfOk result (λ d. d ≡ self.now) }
-    {
-        copy_diagnostic(alloc, self)
-    }
-}
 
 impl Variant {
     /// A value of its own, equal to this one.
@@ -42,25 +22,6 @@ impl DataValue {
     {
         copy_data_value(alloc, self)
     }
-}
-
-fn copy_diagnostic(alloc: Global, value: &DiagnosticInfo) -> Result<DiagnosticInfo, AllocError>
-    ensures { IfOk result (λ d. d ≡ value.now) }
-{
-    let additional_info = value.additional_info.try_clone()?;
-    let inner = match &value.inner {
-        None => None,
-        Some(inner) => Some(BoxedDiagnostic::new(alloc, copy_diagnostic(alloc, inner.get())?)?),
-    };
-    Ok(DiagnosticInfo {
-        symbolic_id: value.symbolic_id,
-        namespace_uri: value.namespace_uri,
-        locale: value.locale,
-        localized_text: value.localized_text,
-        additional_info,
-        inner_status_code: value.inner_status_code,
-        inner,
-    })
 }
 
 #[cycle(copies)]

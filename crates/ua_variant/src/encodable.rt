@@ -1,13 +1,13 @@
 //! Whether values can be written.
 
-ghost use Rattle.std.specs.Prelude.{◌≡◌, ◌<◌, min, length, IsTrue};
-ghost use Rattle.ua_variant.specs.Encodable.{variant_encodable, data_value_encodable, diagnostic_encodable, variant_fits, scalar_fits, scalars_fit, data_value_fits, diagnostic_fits, data_fields_encodable, diagnostic_fields_encodable, kind_of, is_kind, is_count, dims_encodable, product, are_sizes, row_length};
-ghost use Rattle.ua_builtin.specs.Counted.{text};
-ghost use Rattle.ua_variant.specs.Parts.{optional_fits, flagged_fits};
-ghost use Rattle.ua_variant.specs.View.{row, variant_of, scalar_of, data_value_of, diagnostic_of, data_fields_of, diagnostic_fields_of};
+ghost use Rattle.std.specs.Prelude.{◌≡◌};
+ghost use Rattle.ua_variant.specs.Encodable.{variant_encodable, data_value_encodable, variant_fits, scalar_fits, scalars_fit, data_value_fits, data_fields_encodable, kind_of, is_kind, row_length};
+ghost use Rattle.ua_variant.specs.View.{row, variant_of, scalar_of, data_value_of, data_fields_of};
 
-use crate::values::{DataValue, DiagnosticInfo, Dimensions, Scalar, Scalars, Variant};
-use ua_builtin::{UaString, Wire};
+use crate::values::{DataValue, Scalar, Scalars, Variant};
+use ua_builtin::Wire;
+use ua_parts::field::field_fits;
+use ua_parts::{dims_fit, is_counted};
 
 /// The most levels of a value that is written.
 const MOST_LEVELS: u32 = 100;
@@ -28,15 +28,6 @@ impl DataValue {
         ensures { result ≡ data_value_encodable (data_value_of self.now) }
     {
         self.depth() <= MOST_LEVELS && data_value_fits_in(self)
-    }
-}
-
-impl DiagnosticInfo {
-    /// Whether the value can be written.
-    pub fn writable(&self) -> bool
-        ensures { result ≡ diagnostic_encodable (diagnostic_of self.now) }
-    {
-        self.depth() <= MOST_LEVELS && diagnostic_fits_in(self)
     }
 }
 
@@ -76,14 +67,6 @@ impl Scalar {
     }
 }
 
-/// Whether a number is an Int32 as a count.
-#[inline]
-fn is_counted(n: usize) -> bool
-    ensures { result ≡ is_count n }
-{
-    n <= i32::MAX as usize
-}
-
 /// Whether values of the type id are written.
 #[inline]
 fn is_written_kind(kind: u8) -> bool
@@ -92,47 +75,12 @@ fn is_written_kind(kind: u8) -> bool
     1 <= kind && kind <= 25
 }
 
-/// Whether none is negative.
-fn are_dimensions(dims: &[i32]) -> bool
-    ensures { result ≡ are_sizes dims.now }
-{
-    for d in dims {
-        if *d < 0 {
-            return false;
-        }
-    }
-    true
-}
-
-/// The product, or the greatest number.
-pub fn product_of(dims: &[i32]) -> u64
-    ensures { result ≡ min (product dims.now) u64.MAX }
-{
-    let mut all = 1u64;
-    for d in dims {
-        all = all.saturating_mul(u64::from(d.unsigned_abs()));
-    }
-    all
-}
-
 /// How many elements there are.
 #[inline]
 pub fn element_count(items: &Scalars) -> usize
     ensures { result ≡ row_length (row items.now) }
 {
     items.as_slice().len()
-}
-
-/// Whether these are the dimensions of an array of n elements.
-fn dims_fit(dims: &Dimensions, n: usize) -> bool
-    requires { n < 2147483648 }
-    ensures { result ≡ dims_encodable dims.now n }
-{
-    let dims = dims.as_slice();
-    if dims.is_empty() {
-        return true;
-    }
-    is_counted(dims.len()) && are_dimensions(dims) && product_of(dims) == n as u64
 }
 
 #[cycle(fits)]
@@ -191,7 +139,7 @@ fn scalar_fits_in(value: &Scalar) -> bool
         Scalar::ExtensionObject(x) => x.is_encodable(),
         Scalar::DataValue(d) => data_value_fits_in(d),
         Scalar::Variant(v) => variant_fits_in(v.get()),
-        Scalar::DiagnosticInfo(d) => diagnostic_fits_in(d),
+        Scalar::DiagnosticInfo(d) => d.fits(),
         Scalar::Reserved(_, _) => false,
     }
 }
@@ -222,28 +170,6 @@ fn data_value_fits_in(value: &DataValue) -> bool
         }
 }
 
-fn diagnostic_fits_in(value: &DiagnosticInfo) -> bool
-    ensures { result ≡ diagnostic_fits (diagnostic_of value.now) }
-{
-    diagnostic_fields_fit(value)
-        && match &value.inner {
-            None => true,
-            Some(d) => diagnostic_fits_in(d.get()),
-        }
-}
-
-/// Whether a field can be written, where it is there.
-#[inline]
-fn field_fits<T: Wire>(field: &Option<T>) -> bool
-    ensures { result ≡ optional_fits T.format.encodable field.now }
-{
-    match field {
-        None => true,
-        Some(x) => x.is_encodable(),
-    }
-}
-
-#[tactic(auto, using(crate::proofs::Flags::data_fields_fit_as))]
 fn data_fields_fit(value: &DataValue) -> bool
     ensures { result ≡ data_fields_encodable (data_fields_of value.now) }
 {
@@ -252,24 +178,4 @@ fn data_fields_fit(value: &DataValue) -> bool
         && field_fits(&value.source_picoseconds)
         && field_fits(&value.server_timestamp)
         && field_fits(&value.server_picoseconds)
-}
-
-#[tactic(auto, using(crate::proofs::Flags::diagnostic_fields_fit_as))]
-fn diagnostic_fields_fit(value: &DiagnosticInfo) -> bool
-    ensures { result ≡ diagnostic_fields_encodable (diagnostic_fields_of value.now) }
-{
-    field_fits(&value.symbolic_id)
-        && field_fits(&value.namespace_uri)
-        && field_fits(&value.locale)
-        && field_fits(&value.localized_text)
-        && info_fits(&value.additional_info)
-        && field_fits(&value.inner_status_code)
-}
-
-/// Whether a text can be written, where it isn't null.
-#[inline]
-fn info_fits(info: &UaString) -> bool
-    ensures { result ≡ flagged_fits text.encodable info.now }
-{
-    !info.is_some() || info.is_encodable()
 }

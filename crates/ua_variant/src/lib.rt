@@ -17,6 +17,5 @@ mod values;
 mod wire;
 mod write;
 
-pub use values::{
-    BoxedDiagnostic, BoxedVariant, DataValue, DiagnosticInfo, Dimensions, Scalar, Scalars, Variant,
-};
+pub use ua_parts::{BoxedDiagnostic, DiagnosticInfo, Dimensions};
+pub use values::{BoxedVariant, DataValue, Scalar, Scalars, Variant};

@@ -1,10 +1,11 @@
 //! How deep values nest, and how many values they hold.
 
 ghost use Rattle.std.specs.Prelude.{◌≡◌, ◌≤◌, min};
-ghost use Rattle.ua_variant.specs.Measure.{variant_depth, scalar_depth, scalars_depth, data_value_depth, diagnostic_depth, variant_count, scalar_count, scalars_count, data_value_count, diagnostic_count, data_fields_count, diagnostic_fields_count, there};
-ghost use Rattle.ua_variant.specs.View.{row, variant_of, scalar_of, data_value_of, diagnostic_of, data_fields_of, diagnostic_fields_of};
+ghost use Rattle.ua_variant.specs.Measure.{variant_depth, scalar_depth, scalars_depth, data_value_depth, variant_count, scalar_count, scalars_count, data_value_count, data_fields_count};
+ghost use Rattle.ua_variant.specs.View.{row, variant_of, scalar_of, data_value_of, data_fields_of};
 
-use crate::values::{DataValue, DiagnosticInfo, Scalar, Scalars, Variant};
+use crate::values::{DataValue, Scalar, Scalars, Variant};
+use ua_parts::field::count_of;
 
 impl Variant {
     /// How many levels the value has, or the greatest number.
@@ -38,22 +39,6 @@ impl DataValue {
     }
 }
 
-impl DiagnosticInfo {
-    /// How many levels the value has, or the greatest number.
-    pub fn depth(&self) -> u32
-        ensures { result ≡ min (diagnostic_depth (diagnostic_of self.now)) u32.MAX }
-    {
-        diagnostic_levels(self)
-    }
-
-    /// How many values are in it, or the greatest number.
-    pub fn count(&self) -> u64
-        ensures { result ≡ min (diagnostic_count (diagnostic_of self.now)) u64.MAX }
-    {
-        count_diagnostic(self)
-    }
-}
-
 #[cycle(levels)]
 fn variant_levels(value: &Variant) -> u32
     ensures { result ≡ min (variant_depth (variant_of value.now)) u32.MAX }
@@ -76,7 +61,7 @@ fn scalar_levels(value: &Scalar) -> u32
     match value {
         Scalar::DataValue(d) => data_value_levels(d),
         Scalar::Variant(v) => variant_levels(v.get()),
-        Scalar::DiagnosticInfo(d) => diagnostic_levels(d),
+        Scalar::DiagnosticInfo(d) => d.depth(),
         _ => 0,
     }
 }
@@ -99,15 +84,6 @@ fn data_value_levels(value: &DataValue) -> u32
     match &value.value {
         None => 1,
         Some(v) => variant_levels(v.get()).saturating_add(1),
-    }
-}
-
-fn diagnostic_levels(value: &DiagnosticInfo) -> u32
-    ensures { result ≡ min (diagnostic_depth (diagnostic_of value.now)) u32.MAX }
-{
-    match &value.inner {
-        None => 1,
-        Some(d) => diagnostic_levels(d.get()).saturating_add(1),
     }
 }
 
@@ -140,7 +116,7 @@ fn count_scalar(value: &Scalar) -> u64
     match value {
         Scalar::DataValue(d) => count_data_value(d),
         Scalar::Variant(v) => count_variant(v.get()),
-        Scalar::DiagnosticInfo(d) => count_diagnostic(d),
+        Scalar::DiagnosticInfo(d) => d.count(),
         _ => 1,
     }
 }
@@ -169,29 +145,6 @@ fn count_data_value(value: &DataValue) -> u64
     }
 }
 
-fn count_diagnostic(value: &DiagnosticInfo) -> u64
-    ensures { result ≡ min (diagnostic_count (diagnostic_of value.now)) u64.MAX }
-{
-    let fields = count_diagnostic_fields(value);
-    match &value.inner {
-        None => fields.saturating_add(1),
-        Some(d) => count_diagnostic(d.get())
-            .saturating_add(fields)
-            .saturating_add(1),
-    }
-}
-
-#[inline]
-fn count_of<T>(field: &Option<T>) -> u64
-    ensures value { result ≡ there field.now }
-    ensures within { result ≤ 1 }
-{
-    match field {
-        None => 0,
-        Some(_) => 1,
-    }
-}
-
 fn count_data_fields(value: &DataValue) -> u64
     ensures { result ≡ data_fields_count (data_fields_of value.now) }
 {
@@ -200,20 +153,4 @@ fn count_data_fields(value: &DataValue) -> u64
         + count_of(&value.source_picoseconds)
         + count_of(&value.server_timestamp)
         + count_of(&value.server_picoseconds)
-}
-
-fn count_diagnostic_fields(value: &DiagnosticInfo) -> u64
-    ensures { result ≡ diagnostic_fields_count (diagnostic_fields_of value.now) }
-{
-    let info = if value.additional_info.is_some() {
-        1
-    } else {
-        0
-    };
-    count_of(&value.symbolic_id)
-        + count_of(&value.namespace_uri)
-        + count_of(&value.locale)
-        + count_of(&value.localized_text)
-        + info
-        + count_of(&value.inner_status_code)
 }

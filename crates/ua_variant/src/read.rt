@@ -1,72 +1,29 @@
-//! Reads Variants, DataValues and DiagnosticInfos.
+//! Reads Variants and DataValues.
 
-ghost use Rattle.std.specs.Prelude.{◌≡◌, ◌<◌, map, IsErrOf};
+ghost use Rattle.std.specs.Prelude.{◌≡◌, ◌<◌, IsErrOf};
 ghost use Rattle.ua_builtin.specs.Format.{Gives, GivesBy, StaysBehind};
-ghost use Rattle.ua_builtin.specs.Counted.{text, IsOverlong};
+ghost use Rattle.ua_builtin.specs.Counted.{IsOverlong};
 ghost use Rattle.ua_octets.specs.declared.fault.ReadFault.TheVariants.{NoValue};
+ghost use Rattle.ua_parts.specs.Formats.{made_read};
+ghost use Rattle.ua_parts.specs.Parts.{optional_read};
 ghost use Rattle.ua_variant.specs.Data.{leaf};
-ghost use Rattle.ua_variant.specs.Formats.{made_read, IsOverlongArray};
+ghost use Rattle.ua_variant.specs.Formats.{IsOverlongArray};
 ghost use Rattle.ua_variant.specs.Leaf.{leaf_at};
-ghost use Rattle.ua_variant.specs.Parts.{flag, optional_read, flagged_read};
 ghost use Rattle.ua_variant.specs.Encodable.{is_read_kind as read_kind};
-ghost use Rattle.ua_variant.specs.Decoding.{diagnostic_at, diagnostic_step, variant_at, variant_step, variant_after, data_value_at, data_value_step, scalars_at, scalar_at, array_at, elements_at, row_at, size_at, sizes_at, dims_at, no_dims_at};
-ghost use Rattle.ua_variant.specs.View.{row, variant_of, scalar_of, data_value_of, diagnostic_of};
+ghost use Rattle.ua_variant.specs.Decoding.{variant_at, variant_step, variant_after, data_value_at, data_value_step, scalars_at, scalar_at, array_at, elements_at, row_at};
+ghost use Rattle.ua_variant.specs.View.{row, variant_of, scalar_of, data_value_of};
 
-use crate::encodable::product_of;
-use crate::values::{
-    BoxedDiagnostic, BoxedVariant, DataValue, DiagnosticInfo, Dimensions, Scalar, Scalars, Variant,
-};
+use crate::values::{BoxedVariant, DataValue, Scalar, Scalars, Variant};
 use std::alloc::Global;
 use ua_builtin::{
     DateTime, DoubleBits, ExpandedNodeId, ExtensionObject, FloatBits, Guid, LocalizedText, NodeId,
     QualifiedName, ReadFault, Source, StatusCode, UaBytes, UaString, Wire, XmlElement,
 };
+use ua_parts::field::{has_flag, read_field};
+use ua_parts::{read_diagnostic, read_dims, read_no_dims};
 
 /// Counts from here on are negative as an Int32, and mean null.
 const FIRST_NEGATIVE: u32 = 1 << 31;
-
-/// Whether the mask has the flag, a power of two.
-#[inline]
-fn has_flag(mask: u8, place: u8) -> bool
-    requires { 0 < place }
-    ensures { result ≡ flag place mask }
-{
-    mask / place % 2 == 1
-}
-
-/// Reads a field where it is announced.
-fn read_field<T: Wire + Drop, S: Source>(
-    alloc: Global,
-    src: &mut S,
-    depth: u32,
-    set: bool,
-) -> Result<Option<T>, ReadFault>
-    ensures exact { Gives (optional_read set (T.format.decode depth)) (S.octets src.old) (S.octets src.new) result }
-    ensures behind { StaysBehind (S.octets src.old) (S.octets src.new) }
-{
-    if !set {
-        return Ok(None);
-    }
-    let value = T::read_value(alloc, src, depth)?;
-    Ok(Some(value))
-}
-
-/// Reads a text where it is announced.
-fn read_info<S: Source>(
-    alloc: Global,
-    src: &mut S,
-    depth: u32,
-    set: bool,
-) -> Result<UaString, ReadFault>
-    ensures exact { Gives (flagged_read set text.decode) (S.octets src.old) (S.octets src.new) result }
-    ensures behind { StaysBehind (S.octets src.old) (S.octets src.new) }
-{
-    if !set {
-        return Ok(UaString::null());
-    }
-    let info = UaString::read_value(alloc, src, depth)?;
-    Ok(info)
-}
 
 /// Reads a scalar that holds no further value.
 #[tactic(auto, unfolding(crate::specs::Leaf::leaf_at))]
@@ -105,143 +62,6 @@ fn read_leaf<S: Source>(
         26..=31 => Ok(Scalar::Reserved(kind, UaBytes::read_value(alloc, src, depth)?)),
         _ => Err(ReadFault::NoValue),
     }
-}
-
-/// Reads an Int32 that is not negative.
-#[tactic(auto, unfolding(crate::specs::Decoding::size_at))]
-fn read_size<S: Source>(alloc: Global, src: &mut S) -> Result<i32, ReadFault>
-    ensures exact { Gives size_at (S.octets src.old) (S.octets src.new) result }
-    ensures behind { StaysBehind (S.octets src.old) (S.octets src.new) }
-{
-    let size = u32::read_value(alloc, src, 0)?;
-    if size >= FIRST_NEGATIVE {
-        return Err(ReadFault::NoValue);
-    }
-    Ok(size.cast_signed())
-}
-
-/// Reads so many dimensions; no memory is asked for where fewer octets are left.
-fn read_sizes<S: Source>(alloc: Global, src: &mut S, count: u32) -> Result<Vec<i32>, ReadFault>
-    ensures exact { GivesBy (λ v. v.items) (sizes_at count) (S.octets src.old) (S.octets src.new) result }
-    ensures behind { StaysBehind (S.octets src.old) (S.octets src.new) }
-{
-    if src.left() / 4 < count as usize {
-        return Err(ReadFault::NoValue);
-    }
-    let mut sizes = Vec::with_capacity(alloc, count as usize)?;
-    for _ in 0..count {
-        let size = read_size(alloc, src)?;
-        sizes.push(size)?;
-    }
-    Ok(sizes)
-}
-
-/// Reads the dimensions of an array of so many elements, where they are announced.
-#[tactic(auto, unfolding(crate::specs::Decoding::dims_at))]
-fn read_dims<S: Source>(
-    alloc: Global,
-    src: &mut S,
-    set: bool,
-    elements: u32,
-) -> Result<Dimensions, ReadFault>
-    requires { elements < 2147483648 }
-    ensures exact { Gives (dims_at set elements) (S.octets src.old) (S.octets src.new) result }
-    ensures behind { StaysBehind (S.octets src.old) (S.octets src.new) }
-{
-    if !set {
-        return Ok(Dimensions::none(alloc));
-    }
-    let count = u32::read_value(alloc, src, 0)?;
-    if count >= FIRST_NEGATIVE || count == 0 {
-        return Ok(Dimensions::none(alloc));
-    }
-    let sizes = read_sizes(alloc, src, count)?;
-    if product_of(&sizes) != elements as u64 {
-        return Err(ReadFault::NoValue);
-    }
-    Ok(Dimensions::new(sizes))
-}
-
-/// Reads the dimensions of a null array, where they are announced: a count of at most 0.
-#[tactic(auto, unfolding(crate::specs::Decoding::no_dims_at))]
-fn read_no_dims<S: Source>(alloc: Global, src: &mut S, set: bool) -> Result<Dimensions, ReadFault>
-    ensures exact { Gives (no_dims_at set) (S.octets src.old) (S.octets src.new) result }
-    ensures behind { StaysBehind (S.octets src.old) (S.octets src.new) }
-{
-    if !set {
-        return Ok(Dimensions::none(alloc));
-    }
-    let count = u32::read_value(alloc, src, 0)?;
-    if count >= FIRST_NEGATIVE || count == 0 {
-        return Ok(Dimensions::none(alloc));
-    }
-    Err(ReadFault::NoValue)
-}
-
-/// Reads a DiagnosticInfo of at most so many levels.
-#[cycle(diagnostics)]
-pub fn read_diagnostic<S: Source>(
-    alloc: Global,
-    src: &mut S,
-    depth: u32,
-) -> Result<DiagnosticInfo, ReadFault>
-    ensures exact { GivesBy diagnostic_of (diagnostic_at depth) (S.octets src.old) (S.octets src.new) result }
-    ensures behind { StaysBehind (S.octets src.old) (S.octets src.new) }
-{
-    if depth == 0 {
-        return Err(ReadFault::NoValue);
-    }
-    read_diagnostic_level(alloc, src, depth - 1)
-}
-
-/// Reads a DiagnosticInfo, with so many levels left within.
-#[cycle(diagnostics)]
-#[tactic(auto, unfolding(crate::specs::Decoding::diagnostic_step, crate::specs::Fields::diagnostic_fields))]
-fn read_diagnostic_level<S: Source>(
-    alloc: Global,
-    src: &mut S,
-    depth: u32,
-) -> Result<DiagnosticInfo, ReadFault>
-    ensures exact { GivesBy diagnostic_of (diagnostic_step (diagnostic_at depth)) (S.octets src.old) (S.octets src.new) result }
-    ensures behind { StaysBehind (S.octets src.old) (S.octets src.new) }
-{
-    let mask = u8::read_value(alloc, src, 0)?;
-    if mask > 0x7F {
-        return Err(ReadFault::NoValue);
-    }
-    let symbolic_id = read_field(alloc, src, 0, has_flag(mask, 0x01))?;
-    let namespace_uri = read_field(alloc, src, 0, has_flag(mask, 0x02))?;
-    let locale = read_field(alloc, src, 0, has_flag(mask, 0x08))?;
-    let localized_text = read_field(alloc, src, 0, has_flag(mask, 0x04))?;
-    let additional_info = read_info(alloc, src, 0, has_flag(mask, 0x10))?;
-    let inner_status_code = read_field(alloc, src, 0, has_flag(mask, 0x20))?;
-    let inner = read_inner(alloc, src, depth, has_flag(mask, 0x40))?;
-    Ok(DiagnosticInfo {
-        symbolic_id,
-        namespace_uri,
-        locale,
-        localized_text,
-        additional_info,
-        inner_status_code,
-        inner,
-    })
-}
-
-#[cycle(diagnostics)]
-fn read_inner<S: Source>(
-    alloc: Global,
-    src: &mut S,
-    depth: u32,
-    set: bool,
-) -> Result<Option<BoxedDiagnostic>, ReadFault>
-    ensures exact { Gives (optional_read set (diagnostic_at depth)) (S.octets src.old) (S.octets src.new) result }
-    ensures behind { StaysBehind (S.octets src.old) (S.octets src.new) }
-{
-    if !set {
-        return Ok(None);
-    }
-    let inner = read_diagnostic(alloc, src, depth)?;
-    Ok(Some(BoxedDiagnostic::new(alloc, inner)?))
 }
 
 /// Reads a Variant of at most so many levels.

@@ -1,6 +1,6 @@
 //! Octets written out, as the standard's tables give them.
 
-use crate::{DataValue, DiagnosticInfo, Scalar, Variant};
+use crate::{BoxedVariant, DataValue, Dimensions, Scalar, Scalars, Variant};
 use std::alloc::Global;
 use std::process::Abort;
 use ua_builtin::{Octets, ReadFault, Source, Wire, WriteFault};
@@ -118,8 +118,7 @@ fn reads_every_type_id_in_both_forms(rt: HostRuntime) {
 #[test]
 fn refuses_what_encodes_no_variant(rt: HostRuntime) {
     let alloc = rt.alloc();
-    let refused: [&[u8]; 8] = [
-        &[0x86, 0xFF, 0xFF, 0xFF, 0x7F],
+    let refused: [&[u8]; 7] = [
         &[0xC6, 0xFF, 0xFF, 0xFF, 0xFF, 1, 0, 0, 0, 0, 0, 0, 0],
         &[0x80],
         &[0x40],
@@ -131,6 +130,29 @@ fn refuses_what_encodes_no_variant(rt: HostRuntime) {
     for octets in refused {
         is_refused::<Variant>(&rt, alloc, octets);
     }
+}
+
+// Passes with every allocation failing: `rt try --test --fail-alloc 1`.
+#[test]
+fn refuses_counts_past_the_octets_without_memory(rt: HostRuntime) {
+    let alloc = rt.alloc();
+    let overlong: [&[u8]; 9] = [
+        &[0x86, 0xFF, 0xFF, 0xFF, 0x7F],
+        &[0x98, 0xFF, 0xFF, 0xFF, 0x7F],
+        &[0x9A, 0xFF, 0xFF, 0xFF, 0x7F],
+        &[0xC6, 0, 0, 0, 0, 0xFF, 0xFF, 0xFF, 0x7F],
+        &[0x0C, 0xFF, 0xFF, 0xFF, 0x7F],
+        &[0x0F, 0xFF, 0xFF, 0xFF, 0x7F],
+        &[0x11, 3, 0, 0, 0xFF, 0xFF, 0xFF, 0x7F],
+        &[0x19, 0x10, 0xFF, 0xFF, 0xFF, 0x7F],
+        &[0x1A, 0xFF, 0xFF, 0xFF, 0x7F],
+    ];
+    for octets in overlong {
+        is_refused::<Variant>(&rt, alloc, octets);
+    }
+    is_refused::<DataValue>(&rt, alloc, &[0x01, 0x86, 0xFF, 0xFF, 0xFF, 0x7F]);
+    is_refused::<DataValue>(&rt, alloc, &[0x40]);
+    is_refused::<DataValue>(&rt, alloc, &[0x80]);
 }
 
 #[test]
@@ -152,14 +174,6 @@ fn reads_a_hundred_levels(rt: HostRuntime) {
     let deep = nested(&rt, alloc, &array, 99);
     reads(&rt, alloc, &deep, 100, 100, &deep);
     is_refused::<Variant>(&rt, alloc, &nested(&rt, alloc, &array, 100));
-    let infos = nested(&rt, alloc, &[0x40], 99);
-    let info = DiagnosticInfo::read(alloc, &mut Octets::new(&infos), 100).expect(&rt, "a value");
-    assert_eq!(rt; info.depth(), 100);
-    let copy = info.try_clone(alloc).expect(&rt, "memory");
-    let mut out = Vec::new(alloc);
-    copy.write(&mut out).expect(&rt, "an encoding");
-    assert_eq!(rt; out.as_slice(), infos.as_slice());
-    is_refused::<DiagnosticInfo>(&rt, alloc, &nested(&rt, alloc, &[0x40], 100));
 }
 
 #[test]
@@ -181,4 +195,28 @@ fn reads_a_data_value_with_all_its_fields(rt: HostRuntime) {
     let mut out = Vec::new(alloc);
     copy.write(&mut out).expect(&rt, "an encoding");
     assert_eq!(rt; out.as_slice(), octets.as_slice());
+}
+
+#[test]
+fn takes_a_value_apart(rt: HostRuntime) {
+    let alloc = rt.alloc();
+    let mut items = Vec::new(alloc);
+    items.push(Scalar::Int32(7)).expect(&rt, "memory");
+    items.push(Scalar::Int32(-1)).expect(&rt, "memory");
+    let array = Variant::Many {
+        kind: 6,
+        items: Some(Scalars::new(items)),
+        dims: Dimensions::none(alloc),
+    };
+    let mut out = Vec::new(alloc);
+    array.write(&mut out).expect(&rt, "an encoding");
+    let written = [0x86, 2, 0, 0, 0, 7, 0, 0, 0, 0xFF, 0xFF, 0xFF, 0xFF];
+    assert_eq!(rt; out.as_slice(), written.as_slice());
+    let boxed = BoxedVariant::new(alloc, array).expect(&rt, "memory");
+    assert_eq!(rt; boxed.get().count(), 3);
+    let Variant::Many { items, .. } = boxed.into_inner() else {
+        panic!(rt; "no array");
+    };
+    let items = items.expect(&rt, "elements");
+    assert_eq!(rt; items.into_vec().len(), 2);
 }

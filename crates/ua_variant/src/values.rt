@@ -1,7 +1,7 @@
-//! Values that hold values: Variant, DataValue and DiagnosticInfo.
+//! Values that hold values: Variant and DataValue.
 
-ghost use Rattle.std.specs.Prelude.{◌≡◌, map, is_some, IfOk, List, [], ◌∷◌, ◌++◌, length};
-ghost use Rattle.ua_variant.specs.View.{variant_of, diagnostic_of, scalar_of};
+ghost use Rattle.std.specs.Prelude.{◌≡◌, map, IfOk};
+ghost use Rattle.ua_variant.specs.View.{variant_of, scalar_of};
 
 use std::alloc::{AllocError, Global};
 use std::marker::Model;
@@ -9,64 +9,7 @@ use ua_builtin::{
     DateTime, DoubleBits, ExpandedNodeId, ExtensionObject, FloatBits, Guid, LocalizedText, NodeId,
     QualifiedName, StatusCode, UaBytes, UaString, XmlElement,
 };
-
-/// The dimensions of an array; none where it has one dimension alone.
-#[derive(Drop)]
-pub struct Dimensions {
-    items: Vec<i32>,
-}
-
-impl Model for Dimensions {
-    ghost use Rattle.std.specs.Prelude.{List};
-    ghost use lib.IntN.{ℤ};
-
-    ghost Value = { List ℤ };
-
-    ghost view = { λ a. a.items.items };
-}
-
-/// A DiagnosticInfo: what a vendor says about a StatusCode (OPC 10000-6, 5.2.2.12). The ids are
-/// places in the string table of the response header.
-#[cycle(diagnostics)]
-#[derive(Drop)]
-pub struct DiagnosticInfo {
-    pub symbolic_id: Option<i32>,
-    pub namespace_uri: Option<i32>,
-    pub locale: Option<i32>,
-    pub localized_text: Option<i32>,
-    /// Null where there is none.
-    pub additional_info: UaString,
-    pub inner_status_code: Option<StatusCode>,
-    pub inner: Option<BoxedDiagnostic>,
-}
-
-/// A DiagnosticInfo within another.
-#[cycle(diagnostics)]
-#[derive(Drop)]
-pub struct BoxedDiagnostic {
-    inner: Box<DiagnosticInfo>,
-}
-
-impl Model for BoxedDiagnostic {
-    ghost use Rattle.std.specs.Coded.{codes};
-    ghost use Rattle.ua_variant.specs.Data.{DiagnosticData};
-    ghost use Rattle.ua_variant.specs.Codes.{coded_diagnostic};
-    ghost use Rattle.ua_variant.specs.Measure.{diagnostic_depth};
-
-    ghost Value = { DiagnosticData };
-
-    ghost coded = { coded_diagnostic (Prim.hlevel codes) };
-
-    ghost use Rattle.ua_variant.specs.View.{diagnostic_of};
-
-    ghost view = { λ a. diagnostic_of a.inner.value };
-
-    ghost size = { diagnostic_depth };
-
-    ghost use Rattle.ua_variant.specs.Sizes.{diagnostic_falls};
-
-    ghost size_decreases = { λ a h. diagnostic_falls a.inner.value };
-}
+use ua_parts::{DiagnosticInfo, Dimensions};
 
 /// A value of any built-in type, or an array of such (OPC 10000-6, 5.2.2.16).
 #[cycle(values)]
@@ -191,42 +134,8 @@ impl Model for Scalars {
     ghost size_decreases = { λ a h. omega (arith, scalars_fall a.items.items) };
 }
 
-impl Dimensions {
-    /// These dimensions.
-    #[inline]
-    pub fn new(items: Vec<i32>) -> Dimensions
-        ensures { result ≡ items.items }
-    {
-        Dimensions { items }
-    }
-
-    /// No dimensions. Takes no memory.
-    #[inline]
-    pub fn none(alloc: Global) -> Dimensions
-        ensures { result ≡ [] }
-    {
-        Dimensions {
-            items: Vec::new(alloc),
-        }
-    }
-
-    #[inline]
-    pub fn as_slice(&self) -> &[i32]
-        ensures { result.now ≡ self.now }
-    {
-        &self.items
-    }
-
-    /// Hands the dimensions over.
-    #[inline]
-    pub fn into_vec(self) -> Vec<i32>
-        ensures { result.items ≡ self }
-    {
-        self.items
-    }
-}
-
 impl BoxedVariant {
+    /// This value, on the heap.
     #[inline]
     pub fn new(alloc: Global, value: Variant) -> Result<BoxedVariant, AllocError>
         ensures { IfOk result (λ b. b ≡ variant_of value) }
@@ -236,6 +145,7 @@ impl BoxedVariant {
         })
     }
 
+    /// The value.
     #[inline]
     pub fn get(&self) -> &Variant
         ensures { variant_of result.now ≡ self.now }
@@ -252,32 +162,6 @@ impl BoxedVariant {
     }
 }
 
-impl BoxedDiagnostic {
-    #[inline]
-    pub fn new(alloc: Global, value: DiagnosticInfo) -> Result<BoxedDiagnostic, AllocError>
-        ensures { IfOk result (λ b. b ≡ diagnostic_of value) }
-    {
-        Ok(BoxedDiagnostic {
-            inner: Box::new(alloc, value)?,
-        })
-    }
-
-    #[inline]
-    pub fn get(&self) -> &DiagnosticInfo
-        ensures { diagnostic_of result.now ≡ self.now }
-    {
-        &self.inner
-    }
-
-    /// Hands the value over.
-    #[inline]
-    pub fn into_inner(self) -> DiagnosticInfo
-        ensures { diagnostic_of result ≡ self }
-    {
-        Box::into_inner(self.inner)
-    }
-}
-
 impl Scalars {
     /// These elements.
     #[inline]
@@ -287,6 +171,7 @@ impl Scalars {
         Scalars { items }
     }
 
+    /// The elements, in order.
     #[inline]
     pub fn as_slice(&self) -> &[Scalar]
         ensures { map scalar_of result.now ≡ self.now }

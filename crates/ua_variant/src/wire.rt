@@ -1,8 +1,8 @@
-//! How octets encode Variants, DataValues and DiagnosticInfos.
+//! How octets encode Variants and DataValues.
 
-use crate::read::{read_data_value, read_diagnostic, read_variant};
-use crate::values::{DataValue, DiagnosticInfo, Variant};
-use crate::write::{append_data_value, append_diagnostic, append_variant};
+use crate::read::{read_data_value, read_variant};
+use crate::values::{DataValue, Variant};
+use crate::write::{append_data_value, append_variant};
 use std::alloc::{AllocError, Global};
 use ua_builtin::{ReadFault, Source, Wire};
 
@@ -57,33 +57,5 @@ impl Wire for DataValue {
     #[tactic(auto, using(crate::proofs::Written::data_value_fits_of), unfolding(crate::specs::Formats::data_value_format))]
     fn append(&self, out: &mut Vec<u8>) -> Result<(), AllocError> {
         append_data_value(self, out)
-    }
-}
-
-/// DiagnosticInfo (OPC 10000-6, 5.2.2.12).
-impl Wire for DiagnosticInfo {
-    ghost use Rattle.ua_variant.specs.Formats.{diagnostic_format, diagnostic_starts};
-
-    ghost format = { diagnostic_format };
-
-    ghost starts = { diagnostic_starts };
-
-    #[tactic(auto, unfolding(crate::specs::Formats::diagnostic_format))]
-    fn read_value<S: Source>(
-        alloc: Global,
-        src: &mut S,
-        depth: u32,
-    ) -> Result<DiagnosticInfo, ReadFault> {
-        read_diagnostic(alloc, src, depth)
-    }
-
-    #[tactic(auto, unfolding(crate::specs::Formats::diagnostic_format))]
-    fn is_encodable(&self) -> bool {
-        self.writable()
-    }
-
-    #[tactic(auto, using(crate::proofs::Written::diagnostic_fits_of), unfolding(crate::specs::Formats::diagnostic_format))]
-    fn append(&self, out: &mut Vec<u8>) -> Result<(), AllocError> {
-        append_diagnostic(self, out)
     }
 }

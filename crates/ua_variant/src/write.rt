@@ -1,61 +1,28 @@
-//! Writes Variants, DataValues and DiagnosticInfos.
+//! Writes Variants and DataValues.
 
-ghost use Rattle.std.specs.Prelude.{◌≡◌, ◌<◌, ◌≤◌, ◌++◌, ◌∷◌, [], true, OnOk, OnErr, IsTrue};
-ghost use Rattle.ua_builtin.specs.Counted.{text};
+ghost use Rattle.std.specs.Prelude.{◌≡◌, ◌<◌, ◌≤◌, ◌++◌, true, OnOk, OnErr, IsTrue};
+ghost use Rattle.ua_builtin.specs.DateTime.{date_time};
 ghost use Rattle.ua_builtin.specs.Format.{Extends};
+ghost use Rattle.ua_builtin.specs.Join.{number};
+ghost use Rattle.ua_builtin.specs.Status.{status_code};
+ghost use Rattle.ua_parts.specs.Dimensions.{dims_encodable, has_dims};
+ghost use Rattle.ua_parts.specs.Parts.{optional_fits};
 ghost use Rattle.ua_variant.specs.Data.{many};
-ghost use Rattle.ua_variant.specs.Parts.{flag_bit, optional_canonical, optional_fits, flagged_canonical, flagged_fits};
-ghost use Rattle.ua_variant.specs.Canonical.{data_fields_canonical, diagnostic_fields_canonical, diagnostic_canonical, sizes_canonical, dims_canonical, has_dims, variant_canonical, scalar_canonical, row_canonical, data_value_canonical};
+ghost use Rattle.ua_variant.specs.Canonical.{data_fields_canonical, variant_canonical, scalar_canonical, row_canonical, data_value_canonical};
 ghost use Rattle.ua_variant.specs.Encoding.{array_octet};
-ghost use Rattle.ua_variant.specs.Fields.{data_flags, diagnostic_flags};
-ghost use Rattle.ua_variant.specs.Encodable.{row_length, are_sizes, variant_fits, scalar_fits, scalars_fit, data_value_fits, data_fields_encodable, diagnostic_fits, diagnostic_fields_encodable, dims_encodable};
-ghost use Rattle.ua_variant.specs.View.{row, variant_of, scalar_of, data_value_of, diagnostic_of, data_fields_of, diagnostic_fields_of};
+ghost use Rattle.ua_variant.specs.Fields.{data_flags};
+ghost use Rattle.ua_variant.specs.Encodable.{row_length, variant_fits, scalar_fits, scalars_fit, data_value_fits};
+ghost use Rattle.ua_variant.specs.View.{row, variant_of, scalar_of, data_value_of, data_fields_of};
 
 use crate::encodable::element_count;
-use crate::values::{DataValue, DiagnosticInfo, Dimensions, Scalar, Scalars, Variant};
+use crate::values::{DataValue, Scalar, Scalars, Variant};
 use std::alloc::AllocError;
-use ua_builtin::{UaString, Wire};
+use ua_builtin::Wire;
+use ua_parts::field::{append_field, flag_of};
+use ua_parts::{Dimensions, append_diagnostic, append_dims};
 
 /// The count of a null array.
 const NULL_COUNT: u32 = u32::MAX;
-
-/// Adds a field, where it is there.
-#[inline]
-fn append_field<T: Wire>(field: &Option<T>, out: &mut Vec<u8>) -> Result<(), AllocError>
-    requires { IsTrue (optional_fits T.format.encodable field.now) }
-    ensures ok { OnOk result (out.new.items ≡ out.old.items ++ optional_canonical T.format.canonical field.now) }
-    ensures err { OnErr result (Extends out.old.items out.new.items) }
-{
-    match field {
-        None => Ok(()),
-        Some(x) => x.append(out),
-    }
-}
-
-/// Adds a text, where it isn't null.
-#[inline]
-fn append_info(info: &UaString, out: &mut Vec<u8>) -> Result<(), AllocError>
-    requires { IsTrue (flagged_fits text.encodable info.now) }
-    ensures ok { OnOk result (out.new.items ≡ out.old.items ++ flagged_canonical text.canonical info.now) }
-    ensures err { OnErr result (Extends out.old.items out.new.items) }
-{
-    if info.is_some() {
-        info.append(out)?;
-    }
-    Ok(())
-}
-
-/// The flag of a field that is there.
-#[inline]
-fn flag_of<T>(place: u8, field: &Option<T>) -> u8
-    ensures value { result ≡ flag_bit place field.now }
-    ensures within { result ≤ place }
-{
-    match field {
-        None => 0,
-        Some(_) => place,
-    }
-}
 
 /// The flags of the fields that are there, but the value.
 fn data_mask(value: &DataValue) -> u8
@@ -69,27 +36,13 @@ fn data_mask(value: &DataValue) -> u8
         + flag_of(0x20, &value.server_picoseconds)
 }
 
-/// The flags of the fields that are there, but the inner info.
-fn diagnostic_mask(value: &DiagnosticInfo) -> u8
-    ensures value { result ≡ diagnostic_flags (diagnostic_fields_of value.now) }
-    ensures within { result ≤ 63 }
-{
-    let info = if value.additional_info.is_some() {
-        0x10
-    } else {
-        0
-    };
-    flag_of(0x01, &value.symbolic_id)
-        + flag_of(0x02, &value.namespace_uri)
-        + flag_of(0x04, &value.localized_text)
-        + flag_of(0x08, &value.locale)
-        + info
-        + flag_of(0x20, &value.inner_status_code)
-}
-
-#[tactic(auto, using(crate::proofs::Flags::data_fields_parts), unfolding(crate::specs::Fields::data_fields))]
+#[tactic(auto, unfolding(crate::specs::Fields::data_fields))]
 fn append_data_fields(value: &DataValue, out: &mut Vec<u8>) -> Result<(), AllocError>
-    requires { data_fields_encodable (data_fields_of value.now) ≡ true }
+    requires status { IsTrue (optional_fits status_code.encodable value.now.status) }
+    requires source_timestamp { IsTrue (optional_fits date_time.encodable value.now.source_timestamp) }
+    requires source_picoseconds { IsTrue (optional_fits (number 2).encodable value.now.source_picoseconds) }
+    requires server_timestamp { IsTrue (optional_fits date_time.encodable value.now.server_timestamp) }
+    requires server_picoseconds { IsTrue (optional_fits (number 2).encodable value.now.server_picoseconds) }
     ensures ok { OnOk result (out.new.items ≡ out.old.items ++ data_fields_canonical (data_fields_of value.now)) }
     ensures err { OnErr result (Extends out.old.items out.new.items) }
 {
@@ -98,66 +51,6 @@ fn append_data_fields(value: &DataValue, out: &mut Vec<u8>) -> Result<(), AllocE
     append_field(&value.source_picoseconds, out)?;
     append_field(&value.server_timestamp, out)?;
     append_field(&value.server_picoseconds, out)?;
-    Ok(())
-}
-
-#[tactic(auto, using(crate::proofs::Flags::diagnostic_fields_parts), unfolding(crate::specs::Fields::diagnostic_fields))]
-fn append_diagnostic_fields(value: &DiagnosticInfo, out: &mut Vec<u8>) -> Result<(), AllocError>
-    requires { diagnostic_fields_encodable (diagnostic_fields_of value.now) ≡ true }
-    ensures ok { OnOk result (out.new.items ≡ out.old.items ++ diagnostic_fields_canonical (diagnostic_fields_of value.now)) }
-    ensures err { OnErr result (Extends out.old.items out.new.items) }
-{
-    append_field(&value.symbolic_id, out)?;
-    append_field(&value.namespace_uri, out)?;
-    append_field(&value.locale, out)?;
-    append_field(&value.localized_text, out)?;
-    append_info(&value.additional_info, out)?;
-    append_field(&value.inner_status_code, out)?;
-    Ok(())
-}
-
-pub fn append_diagnostic(value: &DiagnosticInfo, out: &mut Vec<u8>) -> Result<(), AllocError>
-    requires { diagnostic_fits (diagnostic_of value.now) ≡ true }
-    ensures ok { OnOk result (out.new.items ≡ out.old.items ++ diagnostic_canonical (diagnostic_of value.now)) }
-    ensures err { OnErr result (Extends out.old.items out.new.items) }
-{
-    let mask = diagnostic_mask(value);
-    match &value.inner {
-        None => {
-            out.push(mask)?;
-            append_diagnostic_fields(value, out)?;
-        }
-        Some(inner) => {
-            out.push(mask + 0x40)?;
-            append_diagnostic_fields(value, out)?;
-            append_diagnostic(inner.get(), out)?;
-        }
-    }
-    Ok(())
-}
-
-fn append_sizes(dims: &[i32], out: &mut Vec<u8>) -> Result<(), AllocError>
-    requires { are_sizes dims.now ≡ true }
-    ensures ok { OnOk result (out.new.items ≡ out.old.items ++ sizes_canonical dims.now) }
-    ensures err { OnErr result (Extends out.old.items out.new.items) }
-{
-    for d in dims {
-        d.unsigned_abs().append(out)?;
-    }
-    Ok(())
-}
-
-fn append_dims(dims: &Dimensions, n: usize, out: &mut Vec<u8>) -> Result<(), AllocError>
-    requires { dims_encodable dims.now n ≡ true }
-    ensures ok { OnOk result (out.new.items ≡ out.old.items ++ dims_canonical dims.now) }
-    ensures err { OnErr result (Extends out.old.items out.new.items) }
-{
-    let dims = dims.as_slice();
-    if dims.is_empty() {
-        return Ok(());
-    }
-    (dims.len() as u32).append(out)?;
-    append_sizes(dims, out)?;
     Ok(())
 }
 

@@ -1,4 +1,4 @@
-use Rattle.std.proofs.Common.{◌≡◌, ap, map, sym, ◌∙◌, arith}
+use Rattle.std.proofs.Common.{ap, map, ◌∙◌, arith}
 use Rattle.ua_variant.specs.View.{scalar_of}
 use Rattle.ua_variant.proofs.Rows.{count_below, seen_push}
 use Rattle.ua_variant.proofs.clone.+copies.Goals as goal

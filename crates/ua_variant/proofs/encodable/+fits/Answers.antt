@@ -1,5 +1,4 @@
-use Rattle.std.proofs.Common.{◌≡◌, ap, ap₂, sym, ◌∙◌, arith, ◌&&◌, false, true, Bool, refl, eqb}
-use Rattle.std.proofs.lemmas.Grind.{common_steps}
+use Rattle.std.proofs.Common.{ap, ap₂, sym, ◌∙◌, arith, ◌&&◌, eqb}
 use Rattle.ua_variant.specs.Encodable.{kind_of, scalar_fits}
 use Rattle.ua_variant.specs.View.{scalar_of}
 use Rattle.ua_variant.proofs.Rows.{count_below}

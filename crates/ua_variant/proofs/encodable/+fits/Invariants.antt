@@ -1,8 +1,7 @@
-use Rattle.std.proofs.Common.{◌≡◌, ◌+◌, ◌*◌, ◌++◌, min, take, map}
-use Rattle.ua_variant.specs.Measure.{scalars_depth, variant_count, scalar_count, scalars_count, data_value_count}
+use Rattle.std.proofs.Common.{◌≡◌, ◌+◌, ◌*◌, take, map, true}
+use Rattle.ua_variant.specs.Measure.{variant_count, scalar_count, scalars_count, data_value_count}
 use Rattle.ua_variant.specs.View.{row, variant_of, scalar_of, data_value_of}
 use Rattle.ua_variant.specs.Encodable.{scalars_fit}
-use Rattle.std.proofs.Common.{true}
 use Rattle.ua_variant.proofs.encodable.+fits.Given as goal
 
 abbrev pub decreases-data_value_fits_in : goal.decreases-data_value_fits_in

@@ -1,4 +1,5 @@
-use Rattle.ua_variant.specs.Formats.{variant_format, data_value_format, diagnostic_format}
+use Rattle.ua_variant.specs.Formats.{variant_format, data_value_format}
+use Rattle.ua_parts.specs.Formats.{diagnostic_format}
 use Rattle.ua_variant.proofs.laws.canonical_encodes.Goals as goal
 
 pub returns : goal.returns

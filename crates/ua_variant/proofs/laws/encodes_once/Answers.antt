@@ -1,5 +1,6 @@
 use Rattle.ua_builtin.specs.Laws.{encodes_once_of}
-use Rattle.ua_variant.specs.Formats.{variant_format, data_value_format, diagnostic_format}
+use Rattle.ua_variant.specs.Formats.{variant_format, data_value_format}
+use Rattle.ua_parts.specs.Formats.{diagnostic_format}
 use Rattle.ua_variant.proofs.laws.encodes_once.Goals as goal
 
 pub returns : goal.returns

@@ -1,5 +1,5 @@
-use Rattle.std.proofs.Common.{◌≡◌, ◌+◌, ◌*◌, ◌++◌, min, take, map}
-use Rattle.ua_variant.specs.Measure.{scalars_depth, variant_count, scalar_count, scalars_count, data_value_count}
+use Rattle.std.proofs.Common.{◌≡◌, ◌+◌, ◌*◌, min, take, map}
+use Rattle.ua_variant.specs.Measure.{variant_count, scalar_count, scalars_count, data_value_count}
 use Rattle.ua_variant.specs.View.{row, variant_of, scalar_of, data_value_of}
 use Rattle.ua_variant.proofs.measure.+counts.Given as goal
 

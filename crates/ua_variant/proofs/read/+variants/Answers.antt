@@ -1,9 +1,10 @@
-use Rattle.std.proofs.Common.{◌≡◌, ◌-◌, ◌+◌, ◌∷◌, [], map, Some, ap, sym, ◌∙◌, arith}
+use Rattle.std.proofs.Common.{◌-◌, ◌+◌, ◌∷◌, [], map, Some, ap, sym, ◌∙◌, arith}
 use Rattle.std.proofs.lemmas.List.{map-append}
 use Rattle.ua_variant.specs.View.{row, scalar_of, variant_of, data_value_of}
 use Rattle.ua_variant.specs.Decoding.{variant_at, variant_step, data_value_at, data_value_step, scalars_at, row_at, with_front}
 use Rattle.ua_variant.specs.Variants.{variant_none, variant_level, data_value_none, data_value_level}
-use Rattle.ua_variant.proofs.Loops.{gives_same, row_more, row_ends, array_short}
+use Rattle.ua_parts.proofs.Extents.{gives_same}
+use Rattle.ua_variant.proofs.Loops.{row_more, row_ends, array_short}
 use Rattle.ua_variant.proofs.read.+variants.Goals as goal
 
 pub read_variant-returns-then-depth-eq0-clause-exact : goal.read_variant-returns-then-depth-eq0-clause-exact

@@ -1,5 +1,4 @@
-use Rattle.std.proofs.Common.{◌≡◌, ◌+◌, ◌*◌, ◌-◌}
-use Rattle.std.proofs.Common.{map}
+use Rattle.std.proofs.Common.{◌≡◌, ◌+◌, ◌*◌, ◌-◌, map}
 use Rattle.ua_builtin.specs.Format.{StaysBehind}
 use Rattle.ua_variant.specs.View.{scalar_of}
 use Rattle.ua_variant.specs.Decoding.{row_at, scalars_at, with_front}

@@ -1,4 +1,4 @@
-use Rattle.std.proofs.Common.{◌≡◌, ◌++◌, ap, sym, ◌∙◌, arith}
+use Rattle.std.proofs.Common.{◌++◌, ap, ◌∙◌, arith}
 use Rattle.ua_variant.specs.View.{scalar_of}
 use Rattle.ua_variant.specs.Canonical.{scalar_canonical}
 use Rattle.ua_variant.proofs.Rows.{count_below}

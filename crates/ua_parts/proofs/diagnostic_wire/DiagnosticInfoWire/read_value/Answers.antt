@@ -1,0 +1,10 @@
+use Rattle.ua_parts.specs.View.{diagnostic_of}
+use Rattle.ua_parts.specs.View.{diagnostic_value, diagnostic_value_of}
+use Rattle.ua_parts.specs.Diagnostic.{diagnostic_at}
+use Rattle.ua_parts.specs.Formats.{diagnostic_format, gives_made}
+use Rattle.ua_parts.proofs.diagnostic_wire.DiagnosticInfoWire.read_value.Goals as goal
+
+pub returns-clause-exact : goal.returns-clause-exact
+unfolding diagnostic_format
+returns-clause-exact g c =
+    gives_made diagnostic_of diagnostic_value (diagnostic_at c.args.depth) diagnostic_value_of (g.S.Source.octets c.args.src.now) (g.S.Source.octets c.read_diagnostic.new.src) c.read_diagnostic.result c.read_diagnostic.ensures.exact

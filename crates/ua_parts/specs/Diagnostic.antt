@@ -1,0 +1,95 @@
+-- DiagnosticInfo (OPC 10000-6, 5.2.2.12): as pure data, its levels, its encodings, and which is written.
+use Rattle.std.specs.Prelude.{◌≡◌, ℕ, suc, zero, ◌+◌, Bool, true, false, ◌&&◌, leb, List, ◌∷◌, ◌++◌, Option, Some, None}
+use lib.IntN.{ℤ}
+use Rattle.std.proofs.Common.{refl}
+use Rattle.std.specs.Int.{w32}
+use Rattle.ua_builtin.specs.Exact.{◌>>=◌}
+use Rattle.ua_builtin.specs.Number.{number_at}
+use Rattle.ua_builtin.specs.Format.{Flat}
+use Rattle.ua_builtin.specs.Join.{both, made}
+use Rattle.ua_builtin.specs.Signed.{signed}
+use Rattle.ua_builtin.specs.Counted.{text}
+use Rattle.ua_builtin.specs.Status.{status_code as status_code_format}
+use Rattle.ua_builtin.specs.declared.status_code.StatusCode.{StatusCode}
+use Rattle.ua_parts.specs.Parts.{Reader, when, Joins, Masked, flag, flag_bit, there, optional, flagged, optional_fits, flagged_fits, optional_read}
+
+-- the fields of a DiagnosticInfo but its inner one; a null text is an absent one
+pub record DiagnosticFields : Type 0 where
+  pub symbolic_id : Option ℤ
+  pub namespace_uri : Option ℤ
+  pub locale : Option ℤ
+  pub localized_text : Option ℤ
+  pub additional_info : Option (List ℕ)
+  pub inner_status_code : Option StatusCode
+
+-- a DiagnosticInfo with its inner ones
+pub data DiagnosticData : Type 0 where
+  innermost : DiagnosticFields → DiagnosticData
+  around : DiagnosticFields → DiagnosticData → DiagnosticData
+
+abbrev pub diagnostic_within : Option DiagnosticData → DiagnosticFields → DiagnosticData
+diagnostic_within None f = innermost f
+diagnostic_within (Some d) f = around f d
+
+-- ---- levels and counts
+
+-- a DiagnosticInfo is one level more than its inner one
+abbrev pub diagnostic_depth : DiagnosticData → ℕ
+diagnostic_depth (innermost f) = 1
+diagnostic_depth (around f d) = 1 + diagnostic_depth d
+
+abbrev pub diagnostic_fields_count : DiagnosticFields → ℕ
+diagnostic_fields_count f = there f.symbolic_id + there f.namespace_uri + there f.locale + there f.localized_text + there f.additional_info + there f.inner_status_code
+
+-- a Variant, DataValue or DiagnosticInfo counts 1 beside what it holds; each other scalar, field and dimension counts 1
+abbrev pub diagnostic_count : DiagnosticData → ℕ
+diagnostic_count (innermost f) = 1 + diagnostic_fields_count f
+diagnostic_count (around f d) = 1 + diagnostic_fields_count f + diagnostic_count d
+
+-- ---- which octets encode it
+
+-- symbolic id, namespace, locale, localized text, additional info, inner status (OPC 10000-6, 5.2.2.12)
+unfoldable pub diagnostic_fields : ℕ → Flat DiagnosticFields
+diagnostic_fields m =
+    made (λ (a, (b, (c, (d, (e, f))))). record { symbolic_id = a; namespace_uri = b; locale = c; localized_text = d; additional_info = e; inner_status_code = f })
+    (λ f. (f.symbolic_id, (f.namespace_uri, (f.locale, (f.localized_text, (f.additional_info, f.inner_status_code)))))) (λ f. refl)
+    (both (optional (flag 1 m) (signed w32)) (both (optional (flag 2 m) (signed w32)) (both (optional (flag 8 m) (signed w32)) (both (optional (flag 4 m) (signed w32)) (both (flagged (flag 16 m) text) (optional (flag 32 m) status_code_format))))))
+
+-- a mask of at most 0x7F, the fields that it announces, and behind them where 0x40 is set the inner info (OPC 10000-6, 5.2.2.12)
+abbrev pub EncodesDiagnostic : DiagnosticData → List ℕ → Type 0
+EncodesDiagnostic (innermost f) b = Masked 127 (λ m c. (flag 64 m ≡ false) × (diagnostic_fields m).encodes f c) b
+EncodesDiagnostic (around f d) b = Masked 127 (λ m c. (flag 64 m ≡ true) × Joins ((diagnostic_fields m).encodes f) (EncodesDiagnostic d) c) b
+
+-- ---- which can be written, and how
+
+abbrev pub diagnostic_flags : DiagnosticFields → ℕ
+diagnostic_flags f = flag_bit 1 f.symbolic_id + flag_bit 2 f.namespace_uri + flag_bit 4 f.localized_text + flag_bit 8 f.locale + flag_bit 16 f.additional_info + flag_bit 32 f.inner_status_code
+
+-- each field that is there can be written
+abbrev pub diagnostic_fields_encodable : DiagnosticFields → Bool
+diagnostic_fields_encodable f = optional_fits (signed w32).encodable f.symbolic_id && (optional_fits (signed w32).encodable f.namespace_uri && (optional_fits (signed w32).encodable f.locale && (optional_fits (signed w32).encodable f.localized_text && (flagged_fits text.encodable f.additional_info && optional_fits status_code_format.encodable f.inner_status_code))))
+
+abbrev pub diagnostic_fits : DiagnosticData → Bool
+diagnostic_fits (innermost f) = diagnostic_fields_encodable f
+diagnostic_fits (around f d) = diagnostic_fields_encodable f && diagnostic_fits d
+
+abbrev pub diagnostic_encodable : DiagnosticData → Bool
+diagnostic_encodable d = leb (diagnostic_depth d) 100 && diagnostic_fits d
+
+abbrev pub diagnostic_fields_canonical : DiagnosticFields → List ℕ
+diagnostic_fields_canonical f = (diagnostic_fields (diagnostic_flags f)).canonical f
+
+abbrev pub diagnostic_canonical : DiagnosticData → List ℕ
+diagnostic_canonical (innermost f) = diagnostic_flags f ∷ diagnostic_fields_canonical f
+diagnostic_canonical (around f d) = (diagnostic_flags f + 64) ∷ (diagnostic_fields_canonical f ++ diagnostic_canonical d)
+
+-- ---- reading on lists
+
+unfoldable pub diagnostic_step : Reader DiagnosticData → Reader DiagnosticData
+diagnostic_step inner octets = number_at 1 octets >>= λ m. when (leb m.0 127) (
+    (diagnostic_fields m.0).decode m.1 >>= λ f. optional_read (flag 64 m.0) inner f.1 >>= λ i. Some (diagnostic_within i.0 f.0, i.1))
+
+-- with so many levels left
+unfoldable pub diagnostic_at : ℕ → Reader DiagnosticData
+diagnostic_at zero octets = None
+diagnostic_at (suc n) octets = diagnostic_step (diagnostic_at n) octets

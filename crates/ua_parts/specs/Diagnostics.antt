@@ -1,0 +1,145 @@
+-- The reader of DiagnosticInfo is exact, at each depth, and what is written encodes.
+use Rattle.std.specs.Prelude.{◌≡◌, ℕ, zero, suc, ◌+◌, ◌*◌, ◌/◌, ◌%◌, ◌-◌, ◌<◌, ◌≤◌, Bool, true, false, ◌&&◌, IsTrue, leb, eqb, List, [], ◌∷◌, ◌++◌, Option, Some, None}
+use Rattle.std.proofs.Common.{refl, sym, subst, ap, ap₂, ◌∙◌, append-nil, arith}
+use Rattle.std.proofs.lemmas.Grind.{common_steps}
+use Rattle.std.specs.Int.{w32}
+use Rattle.ua_builtin.specs.Exact.{Exact, ◌>>=◌, both_true}
+use Rattle.ua_builtin.specs.Format.{Within}
+use Rattle.ua_builtin.specs.Signed.{signed}
+use Rattle.ua_builtin.specs.Counted.{text}
+use Rattle.ua_builtin.specs.Status.{status_code as status_code_format}
+use Rattle.ua_parts.specs.Parts.{when, Joins, IsOctet, flag, there, Optional, optional_read, exact_octet, exact_then, exact_map, exact_as, exact_when, exact_optional, nil_behind, exact_none, fits_second, depth_first}
+use Rattle.ua_parts.specs.Flags.{bit_is, there_within, flag_there, optional_at, flagged_at, bits_of}
+use Rattle.ua_parts.specs.Diagnostic.{DiagnosticFields, DiagnosticData, innermost, around, diagnostic_within, diagnostic_depth, diagnostic_fields, diagnostic_flags, EncodesDiagnostic, diagnostic_fields_encodable, diagnostic_fits, diagnostic_encodable, diagnostic_fields_canonical, diagnostic_canonical, diagnostic_step, diagnostic_at}
+
+-- of the depth n at most
+abbrev pub Shallow : ℕ → DiagnosticData → List ℕ → Type 0
+Shallow n = Within EncodesDiagnostic diagnostic_depth n
+
+-- behind the mask m
+abbrev Body : ℕ → ℕ → DiagnosticData → List ℕ → Type 0
+Body n m y b = IsTrue (leb m 127) × ((f : DiagnosticFields) × Joins ((diagnostic_fields m).encodes f) (λ c. (i : Option DiagnosticData) × (y ≡ diagnostic_within i f) × Optional (Shallow n) (flag 64 m) i c) b)
+
+body : (n m : ℕ) → Exact (Shallow n) (diagnostic_at n)
+    → Exact (Body n m) (λ octets. when (leb m 127) ((diagnostic_fields m).decode octets >>= λ f. optional_read (flag 64 m) (diagnostic_at n) f.1 >>= λ i. Some (diagnostic_within i.0 f.0, i.1)))
+body n m e =
+    exact_when (leb m 127) (exact_then (diagnostic_fields m).exact (λ f. exact_map (λ (i : Option DiagnosticData). diagnostic_within i f) (exact_optional (Shallow n) (diagnostic_at n) (flag 64 m) e)))
+
+to_at : (n m : ℕ) (y : DiagnosticData) (b a c c1 c2 : List ℕ) (f : DiagnosticFields) (i : Option DiagnosticData) (t : Bool)
+    → flag 64 m ≡ t → IsTrue (leb m 127) → b ≡ a ++ c → IsOctet m a → c ≡ c1 ++ c2 → (diagnostic_fields m).encodes f c1 → y ≡ diagnostic_within i f → Optional (Shallow n) t i c2 → Shallow (suc n) y b
+to_at n m y b a c c1 c2 f None true is low e o e1 r1 iy r2 = absurd r2
+to_at n m y b a c c1 c2 f None false is low e o e1 r1 iy r2 =
+    subst (λ x. Shallow (suc n) x b) (sym iy) ((m, (a, c, e, o, (low, (is, subst ((diagnostic_fields m).encodes f) (sym (nil_behind c c1 c2 e1 r2)) r1)))), omega arith)
+to_at n m y b a c c1 c2 f (Some d) true is low e o e1 r1 iy r2 =
+    let deep : diagnostic_depth d ≤ n = r2.1 in
+    subst (λ x. Shallow (suc n) x b) (sym iy) ((m, (a, c, e, o, (low, (is, (c1, c2, e1, r1, r2.0))))), omega arith)
+to_at n m y b a c c1 c2 f (Some d) false is low e o e1 r1 iy r2 = absurd r2
+
+diagnostic_to : (n : ℕ) (y : DiagnosticData) (b : List ℕ) → (m : ℕ) × Joins (IsOctet m) (Body n m y) b → Shallow (suc n) y b
+diagnostic_to n y b r =
+    let j = r.1 in
+    let w = j.4 in
+    let g = w.1.1 in
+    to_at n r.0 y b j.0 j.1 g.0 g.1 w.1.0 g.4.0 (flag 64 r.0) refl w.0 j.2 j.3 g.2 g.3 g.4.1 g.4.2
+
+diagnostic_back : (n : ℕ) (y : DiagnosticData) (b : List ℕ) → Shallow (suc n) y b → (m : ℕ) × Joins (IsOctet m) (Body n m y) b
+diagnostic_back n (innermost f) b r =
+    let m = r.0.0 in
+    let j = r.0.1 in
+    let w = j.4 in
+    (m, (j.0, j.1, j.2, j.3, (w.0, (f, (j.1, [], sym (append-nil j.1), w.1.1, (None, refl, subst (λ (t : Bool). Optional (Shallow n) t None []) (sym w.1.0) refl))))))
+diagnostic_back n (around f d) b r =
+    let m = r.0.0 in
+    let j = r.0.1 in
+    let w = j.4 in
+    let g = w.1.1 in
+    let deep : diagnostic_depth d ≤ n = let h : 1 + diagnostic_depth d ≤ suc n = r.1 in omega arith in
+    (m, (j.0, j.1, j.2, j.3, (w.0, (f, (g.0, g.1, g.2, g.3, (Some d, refl, subst (λ (t : Bool). Optional (Shallow n) t (Some d) g.1) (sym w.1.0) (g.4, deep)))))))
+
+no_level : (d : DiagnosticData) (b : List ℕ) → Shallow 0 d b → ⊥
+no_level (innermost f) b r = let h : 1 ≤ 0 = r.1 in absurd (omega arith)
+no_level (around f d) b r = let h : 1 + diagnostic_depth d ≤ 0 = r.1 in absurd (omega arith)
+
+pub exact_diagnostic : (n : ℕ) → Exact (Shallow n) (diagnostic_at n)
+unfolding diagnostic_at diagnostic_step
+exact_diagnostic zero = exact_none no_level
+exact_diagnostic (suc n) = exact_as (Shallow (suc n)) (exact_then exact_octet (λ m. body n m (exact_diagnostic n))) (diagnostic_to n) (diagnostic_back n)
+
+pub diagnostic_none : (n : ℕ) (octets : List ℕ) → n ≡ 0 → diagnostic_at n octets ≡ None
+unfolding diagnostic_at
+diagnostic_none n octets e = ap (λ k. diagnostic_at k octets) e
+
+pub diagnostic_level : (n : ℕ) (octets : List ℕ) → 0 < n → diagnostic_at n octets ≡ diagnostic_step (diagnostic_at (n - 1)) octets
+unfolding diagnostic_at
+diagnostic_level zero octets h = absurd (omega arith)
+diagnostic_level (suc n) octets h = ap (λ k. diagnostic_step (diagnostic_at k) octets) (omega arith)
+
+-- ---- the mask
+
+-- with the flag of the inner one, v
+abbrev pub diagnostic_mask : DiagnosticFields → ℕ → ℕ
+diagnostic_mask f v = diagnostic_flags f + 64 * v
+
+diagnostic_sum : (f : DiagnosticFields) → diagnostic_flags f ≡ there f.symbolic_id + 2 * there f.namespace_uri + 4 * there f.localized_text + 8 * there f.locale + 16 * there f.additional_info + 32 * there f.inner_status_code
+diagnostic_sum f = omega (arith, bit_is 1 f.symbolic_id, bit_is 2 f.namespace_uri, bit_is 4 f.localized_text, bit_is 8 f.locale, bit_is 16 f.additional_info, bit_is 32 f.inner_status_code)
+
+-- a seventh bit above six
+seventh : (m n v : ℕ) → n ≤ 63 → v ≤ 1 → m ≡ n + 64 * v → (m / 1 % 2 ≡ n / 1 % 2) × (m / 2 % 2 ≡ n / 2 % 2) × (m / 4 % 2 ≡ n / 4 % 2) × (m / 8 % 2 ≡ n / 8 % 2) × (m / 16 % 2 ≡ n / 16 % 2) × (m / 32 % 2 ≡ n / 32 % 2) × (m / 64 % 2 ≡ v) × (m ≤ 127)
+seventh m n v h k e = (omega arith, omega arith, omega arith, omega arith, omega arith, omega arith, omega arith, omega arith)
+
+low_bits : (f : DiagnosticFields) → let n = diagnostic_flags f in
+    (n / 1 % 2 ≡ there f.symbolic_id) × (n / 2 % 2 ≡ there f.namespace_uri) × (n / 4 % 2 ≡ there f.localized_text) × (n / 8 % 2 ≡ there f.locale) × (n / 16 % 2 ≡ there f.additional_info) × (n / 32 % 2 ≡ there f.inner_status_code) × (n ≤ 63)
+low_bits f =
+    bits_of (diagnostic_flags f) (there f.symbolic_id) (there f.namespace_uri) (there f.localized_text) (there f.locale) (there f.additional_info) (there f.inner_status_code) (diagnostic_sum f) (there_within f.symbolic_id) (there_within f.namespace_uri) (there_within f.localized_text) (there_within f.locale) (there_within f.additional_info) (there_within f.inner_status_code)
+
+pub diagnostic_mask_low : (f : DiagnosticFields) (v : ℕ) → v ≤ 1 → diagnostic_mask f v ≤ 127
+diagnostic_mask_low f v h = (seventh (diagnostic_mask f v) (diagnostic_flags f) v (low_bits f).6 h refl).7
+
+pub diagnostic_mask_inner : (f : DiagnosticFields) (v : ℕ) → v ≤ 1 → flag 64 (diagnostic_mask f v) ≡ eqb v 1
+diagnostic_mask_inner f v h = ap (λ (r : ℕ). eqb r 1) (seventh (diagnostic_mask f v) (diagnostic_flags f) v (low_bits f).6 h refl).6
+
+pub diagnostic_fields_encodable_as : (f : DiagnosticFields) (v : ℕ) → v ≤ 1 → (diagnostic_fields (diagnostic_mask f v)).encodable f ≡ diagnostic_fields_encodable f
+unfolding diagnostic_fields
+diagnostic_fields_encodable_as f v h =
+    let m = diagnostic_mask f v in
+    let b = low_bits f in
+    let s = seventh m (diagnostic_flags f) v b.6 h refl in
+    ap₂ (λ (x y : Bool). x && y) (optional_at (signed w32).encodable (flag 1 m) f.symbolic_id (flag_there 1 m f.symbolic_id (s.0 ∙ b.0)))
+    (ap₂ (λ (x y : Bool). x && y) (optional_at (signed w32).encodable (flag 2 m) f.namespace_uri (flag_there 2 m f.namespace_uri (s.1 ∙ b.1)))
+    (ap₂ (λ (x y : Bool). x && y) (optional_at (signed w32).encodable (flag 8 m) f.locale (flag_there 8 m f.locale (s.3 ∙ b.3)))
+    (ap₂ (λ (x y : Bool). x && y) (optional_at (signed w32).encodable (flag 4 m) f.localized_text (flag_there 4 m f.localized_text (s.2 ∙ b.2)))
+    (ap₂ (λ (x y : Bool). x && y) (flagged_at text.encodable (flag 16 m) f.additional_info (flag_there 16 m f.additional_info (s.4 ∙ b.4)))
+    (optional_at status_code_format.encodable (flag 32 m) f.inner_status_code (flag_there 32 m f.inner_status_code (s.5 ∙ b.5)))))))
+
+-- ---- what is written
+
+diagnostic_canonical_same : (m n : ℕ) (f : DiagnosticFields) → (diagnostic_fields m).canonical f ≡ (diagnostic_fields n).canonical f
+unfolding diagnostic_fields
+diagnostic_canonical_same m n f = refl
+
+diagnostic_fields_encoded : (f : DiagnosticFields) (v : ℕ) → v ≤ 1 → diagnostic_fields_encodable f ≡ true → (diagnostic_fields (diagnostic_mask f v)).encodes f (diagnostic_fields_canonical f)
+diagnostic_fields_encoded f v h fits =
+    subst ((diagnostic_fields (diagnostic_mask f v)).encodes f) (diagnostic_canonical_same (diagnostic_mask f v) (diagnostic_flags f) f)
+    ((diagnostic_fields (diagnostic_mask f v)).canonical_encodes f (diagnostic_fields_encodable_as f v h ∙ fits))
+
+low_127 : (m : ℕ) → m ≤ 127 → IsTrue (leb m 127)
+low_127 m h = Prim.grind (arith, common_steps)
+
+innermost_at : (f : DiagnosticFields) (m : ℕ) → m ≡ diagnostic_mask f 0 → diagnostic_fields_encodable f ≡ true → EncodesDiagnostic (innermost f) (m ∷ diagnostic_fields_canonical f)
+innermost_at f m e fits =
+    let low : m ≤ 127 = omega (arith, e, diagnostic_mask_low f 0 (omega arith)) in
+    (m, (m ∷ [], diagnostic_fields_canonical f, refl, (omega arith, refl), (low_127 m low, (ap (flag 64) e ∙ diagnostic_mask_inner f 0 (omega arith), subst (λ k. (diagnostic_fields k).encodes f (diagnostic_fields_canonical f)) (sym e) (diagnostic_fields_encoded f 0 (omega arith) fits)))))
+
+pub diagnostic_encodes : (d : DiagnosticData) → diagnostic_fits d ≡ true → EncodesDiagnostic d (diagnostic_canonical d)
+diagnostic_encodes (innermost f) h = innermost_at f (diagnostic_flags f) (omega arith) h
+diagnostic_encodes (around f d) h =
+    let w = both_true (diagnostic_fields_encodable f) (diagnostic_fits d) h in
+    let m = diagnostic_mask f 1 in
+    let low : m ≤ 127 = diagnostic_mask_low f 1 (omega arith) in
+    (m, (m ∷ [], diagnostic_fields_canonical f ++ diagnostic_canonical d, refl, (omega arith, refl), (low_127 m low, (diagnostic_mask_inner f 1 (omega arith), (diagnostic_fields_canonical f, diagnostic_canonical d, refl, diagnostic_fields_encoded f 1 (omega arith) w.0, diagnostic_encodes d w.1)))))
+
+pub diagnostic_canonical_encodes : (d : DiagnosticData) → IsTrue (diagnostic_encodable d) → EncodesDiagnostic d (diagnostic_canonical d)
+diagnostic_canonical_encodes d h = diagnostic_encodes d (fits_second (diagnostic_depth d) (diagnostic_fits d) h)
+
+pub diagnostic_encodable_depth : (d : DiagnosticData) → IsTrue (diagnostic_encodable d) → diagnostic_depth d ≤ 100
+diagnostic_encodable_depth d h = depth_first (diagnostic_depth d) (diagnostic_fits d) h

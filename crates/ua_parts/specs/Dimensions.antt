@@ -1,0 +1,93 @@
+-- The dimensions of an array: Int32 numbers behind their count (OPC 10000-6, 5.2.2.16).
+use Rattle.std.specs.Prelude.{◌≡◌, ℕ, suc, zero, ◌*◌, ◌⊎◌, Bool, true, false, cond, ◌&&◌, ◌||◌, leb, eqb, List, [], ◌∷◌, ◌++◌, length, Option, Some}
+use lib.IntN.{ℤ, pos, negsuc}
+use Rattle.std.specs.Int.RustNames.{unsigned_abs}
+use Rattle.ua_builtin.specs.Exact.{◌>>=◌}
+use Rattle.ua_builtin.specs.Number.{IsNumber, number_at, number_octets}
+use Rattle.ua_parts.specs.Parts.{Reader, when, Joins, Nothing, IsCount, IsNegative}
+
+-- the number of elements of an array with these dimensions
+abbrev pub product : List ℤ → ℕ
+product [] = 1
+product (d ∷ ds) = unsigned_abs d * product ds
+
+-- ---- which octets encode them
+
+-- a dimension, an Int32 that is not negative
+abbrev pub IsSize : ℤ → List ℕ → Type 0
+IsSize (pos n) b = IsCount n b
+IsSize (negsuc n) b = ⊥
+
+abbrev pub EncodesSizes : List ℤ → List ℕ → Type 0
+EncodesSizes [] b = Nothing b
+EncodesSizes (d ∷ ds) b = Joins (IsSize d) (EncodesSizes ds) b
+
+-- the dimensions of an array of n elements: where they are flagged, a count and as many numbers whose product is n, or a count of at most 0
+abbrev pub EncodesDims : Bool → ℕ → List ℤ → List ℕ → Type 0
+EncodesDims false n ds b = (ds ≡ []) × Nothing b
+EncodesDims true n [] b = IsNegative b ⊎ IsNumber 4 0 b
+EncodesDims true n (d ∷ ds) b = (product (d ∷ ds) ≡ n) × Joins (IsCount (length (d ∷ ds))) (EncodesSizes (d ∷ ds)) b
+
+-- ---- which can be written, and how
+
+-- at most the greatest Int32
+abbrev pub is_count : ℕ → Bool
+is_count n = leb n 2147483647
+
+-- an Int32 that is not negative
+abbrev pub is_size : ℤ → Bool
+is_size (pos n) = is_count n
+is_size (negsuc n) = false
+
+abbrev pub are_sizes : List ℤ → Bool
+are_sizes [] = true
+are_sizes (d ∷ ds) = is_size d && are_sizes ds
+
+-- the dimensions of an array of n elements
+abbrev pub dims_encodable : List ℤ → ℕ → Bool
+dims_encodable [] n = true
+dims_encodable (d ∷ ds) n = is_count (length (d ∷ ds)) && are_sizes (d ∷ ds) && eqb (product (d ∷ ds)) n
+
+-- -1 as an Int32, the count of null
+abbrev pub null_count : List ℕ
+null_count = number_octets 4 4294967295
+
+abbrev pub sizes_canonical : List ℤ → List ℕ
+sizes_canonical [] = []
+sizes_canonical (d ∷ ds) = number_octets 4 (unsigned_abs d) ++ sizes_canonical ds
+
+abbrev pub has_dims : List ℤ → Bool
+has_dims [] = false
+has_dims (d ∷ ds) = true
+
+abbrev pub dims_canonical : List ℤ → List ℕ
+dims_canonical [] = []
+dims_canonical (d ∷ ds) = number_octets 4 (length (d ∷ ds)) ++ sizes_canonical (d ∷ ds)
+
+-- ---- reading on lists
+
+abbrev pub is_negative : ℕ → Bool
+is_negative n = leb 2147483648 n
+
+unfoldable pub size_at : Reader ℤ
+size_at octets = number_at 4 octets >>= λ n. when (is_count n.0) (Some (pos n.0, n.1))
+
+-- n dimensions
+abbrev pub sizes_at : ℕ → Reader (List ℤ)
+sizes_at zero octets = Some ([], octets)
+sizes_at (suc n) octets = size_at octets >>= λ d. sizes_at n d.1 >>= λ ds. Some (d.0 ∷ ds.0, ds.1)
+
+-- a count of at most 0
+abbrev pub is_none_count : ℕ → Bool
+is_none_count m = is_negative m || eqb m 0
+
+unfoldable pub dims_at : Bool → ℕ → Reader (List ℤ)
+dims_at f n octets = cond f (
+    number_at 4 octets >>= λ m. cond (is_none_count m.0) (Some ([], m.1)) (sizes_at m.0 m.1 >>= λ ds. when (eqb (product ds.0) n) (Some ds)))
+    (Some ([], octets))
+
+unfoldable pub no_dims_at : Bool → Reader (List ℤ)
+no_dims_at f octets = cond f (number_at 4 octets >>= λ m. when (is_none_count m.0) (Some ([], m.1))) (Some ([], octets))
+
+abbrev pub with_sizes : List ℤ → Option (List ℤ × List ℕ) → Option (List ℤ × List ℕ)
+with_sizes ds r = r >>= λ x. Some (ds ++ x.0, x.1)

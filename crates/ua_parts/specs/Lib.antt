@@ -1,0 +1,10 @@
+pub mod Codes
+pub mod Diagnostic
+pub mod Diagnostics
+pub mod DimensionReaders
+pub mod Dimensions
+pub mod Flags
+pub mod Formats
+pub mod Parts
+pub mod Sizes
+pub mod View

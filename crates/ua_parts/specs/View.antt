@@ -1,0 +1,28 @@
+-- The data that a DiagnosticInfo of the code stands for, and the one that stands for data.
+use Rattle.std.specs.Prelude.{◌≡◌, Option, Some, None, refl}
+use Rattle.ua_parts.specs.Diagnostic.{DiagnosticFields, DiagnosticData, innermost, around, diagnostic_within}
+use Rattle.ua_parts.specs.declared.diagnostic_info.DiagnosticInfo.{DiagnosticInfo}
+
+abbrev pub diagnostic_fields_of : DiagnosticInfo → DiagnosticFields
+diagnostic_fields_of d = record { symbolic_id = d.symbolic_id; namespace_uri = d.namespace_uri; locale = d.locale; localized_text = d.localized_text; additional_info = d.additional_info; inner_status_code = d.inner_status_code }
+
+abbrev pub diagnostic_of : DiagnosticInfo → DiagnosticData
+diagnostic_of d = diagnostic_within d.inner (diagnostic_fields_of d)
+
+abbrev pub made_diagnostic : Option DiagnosticData → DiagnosticFields → DiagnosticInfo
+made_diagnostic i f = record { symbolic_id = f.symbolic_id; namespace_uri = f.namespace_uri; locale = f.locale; localized_text = f.localized_text; additional_info = f.additional_info; inner_status_code = f.inner_status_code; inner = i }
+
+abbrev pub diagnostic_value : DiagnosticData → DiagnosticInfo
+diagnostic_value (innermost f) = made_diagnostic None f
+diagnostic_value (around f d) = made_diagnostic (Some d) f
+
+pub diagnostic_forth : (d : DiagnosticData) → diagnostic_of (diagnostic_value d) ≡ d
+diagnostic_forth (innermost f) = refl
+diagnostic_forth (around f d) = refl
+
+made_back : (i : Option DiagnosticData) (f : DiagnosticFields) → diagnostic_value (diagnostic_within i f) ≡ made_diagnostic i f
+made_back None f = refl
+made_back (Some d) f = refl
+
+pub diagnostic_value_of : (d : DiagnosticInfo) → diagnostic_value (diagnostic_of d) ≡ d
+diagnostic_value_of d = made_back d.inner (diagnostic_fields_of d)

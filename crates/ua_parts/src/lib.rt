@@ -1,0 +1,18 @@
+//! The parts that values which hold values are made of, both ways: fields that a mask announces,
+//! the dimensions of arrays, and DiagnosticInfo (OPC 10000-6, 5.2.2.12).
+//!
+//! Its contract is that of `Wire` for DiagnosticInfo, over the relation `EncodesDiagnostic`, with
+//! exact `depth`, `count`, `writable` and `try_clone`; `Dimensions` and the functions of `field`
+//! are for the crate above, which reads and writes Variants and DataValues with them.
+#![tactic(auto)]
+
+mod diagnostic_info;
+mod diagnostic_wire;
+mod dimensions;
+pub mod field;
+#[cfg(test)]
+mod tests;
+
+pub use diagnostic_info::{BoxedDiagnostic, DiagnosticInfo};
+pub use diagnostic_wire::{append_diagnostic, read_diagnostic};
+pub use dimensions::{Dimensions, append_dims, dims_fit, is_counted, read_dims, read_no_dims};
