@@ -1,1 +1,2 @@
+pub mod FrontsRead
 pub mod ReadAnswers

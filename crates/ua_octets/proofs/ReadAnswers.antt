@@ -1,9 +1,9 @@
 -- What an answer by the reader on lists says of encodings.
-use Rattle.std.proofs.Common.{◌≡◌, ◌≤◌, ◌++◌, ℕ, List, Option, Some, None, Result, Ok, Err, IfOk, IsErrOf, refl, sym, ◌∙◌, ap}
+use Rattle.std.proofs.Common.{◌≡◌, ◌≤◌, ◌++◌, ℕ, List, Option, Some, None, Result, Ok, Err, IfOk, IsErrOf, sym, ◌∙◌, ap}
 use Rattle.ua_octets.specs.declared.fault.ReadFault.{ReadFault}
 use Rattle.ua_octets.specs.declared.fault.ReadFault.TheVariants.{NoValue, OutOfMemory}
-use Rattle.ua_octets.specs.Exact.{Begins, Exact}
-use Rattle.ua_octets.specs.Format.{Format, Gives, Within}
+use Rattle.ua_octets.specs.Exact.{Begins}
+use Rattle.ua_octets.specs.Format.{Format, Gives}
 
 -- what is read is encoded by a front
 pub found_by : {A : Type 0} (f : Format A) (levels : ℕ) (old new : List ℕ) (answer : Result A ReadFault) → Gives (f.decode levels) old new answer → IfOk answer (λ v. Begins f.encodes old v new)

@@ -1,15 +1,15 @@
 -- Octets and texts behind their count.
-use Rattle.std.specs.Prelude.{◌≡◌, ℕ, zero, suc, ◌<◌, ◌≤◌, ◌-◌, ◌^◌, List, [], ◌∷◌, ◌++◌, Bool, true, false, cond, IsTrue, length, take, drop, nat_eq, nat_lt, Option, Some, None, string_bytes, String}
+use Rattle.std.specs.Prelude.{◌≡◌, ℕ, ◌<◌, ◌≤◌, ◌-◌, ◌^◌, List, [], ◌++◌, Bool, true, false, cond, IsTrue, length, take, drop, nat_eq, nat_lt, Option, Some, None, string_bytes, String}
 use Rattle.std.specs.Str.{is_utf8, IsUtf8}
 use Rattle.std.specs.declared.alloc.Global.{Global}
 use Rattle.std.proofs.lemmas.Str.{is_utf8-from_IsUtf8, IsUtf8-from_is_utf8, IsUtf8-string_bytes}
-use Rattle.std.proofs.Common.{refl, sym, ◌∙◌, ap, subst, arith, length-append, take-append-drop}
-use Rattle.std.proofs.lemmas.Bool.{ltb-true, eqb-true, eq-eqb, le-ltb, lt-ltb, ltb-false}
+use Rattle.std.proofs.Common.{refl, sym, ◌∙◌, ap, arith, length-append, take-append-drop}
+use Rattle.std.proofs.lemmas.Bool.{eqb-true, le-ltb, lt-ltb, ltb-false}
 use Rattle.std.proofs.lemmas.List.{take_at, drop_at, length-take-le}
-use Rattle.ua_octets.specs.Exact.{Begins, Exact, some_is, guard_some, guard_true, not_false}
+use Rattle.ua_octets.specs.Exact.{Begins, Exact, some_is, not_false}
 use Rattle.ua_octets.specs.Number.{number_at, IsNumber}
 use Rattle.ua_octets.specs.Format.{Flat}
-use Rattle.ua_octets.specs.Join.{number, nothing, only, bind, image, such, bind_starts, number_starts, TakesSome}
+use Rattle.ua_octets.specs.Join.{number, only, bind, image, such, bind_starts, number_starts, TakesSome}
 
 -- ---- so many octets
 

@@ -1,9 +1,9 @@
 -- How octets encode the values of a type: the relation, the canonical encoding, and the reader on lists with its laws.
-use Rattle.std.specs.Prelude.{◌≡◌, ℕ, ◌≤◌, List, [], ◌∷◌, ◌++◌, Bool, IsTrue, Option, Some, None, Result, Ok, Err}
+use Rattle.std.specs.Prelude.{◌≡◌, ℕ, ◌≤◌, List, [], ◌++◌, Bool, IsTrue, Option, Some, None, Result, Ok, Err}
 use Rattle.std.proofs.Common.{refl, sym, ◌∙◌, ap, append_assoc, arith}
 use Rattle.ua_octets.specs.declared.fault.ReadFault.{ReadFault}
 use Rattle.ua_octets.specs.declared.fault.ReadFault.TheVariants.{NoValue, OutOfMemory}
-use Rattle.ua_octets.specs.Exact.{Begins, Exact, exact_same}
+use Rattle.ua_octets.specs.Exact.{Exact, exact_same}
 
 -- the format of values that hold no values of levels of their own
 pub record Flat (A : Type 0) : Type 1 where

@@ -1,8 +1,8 @@
 -- Formats made of formats.
-use Rattle.std.specs.Prelude.{◌≡◌, ℕ, zero, suc, ◌<◌, ◌≤◌, ◌^◌, ◌-◌, max, List, [], ◌∷◌, ◌++◌, Bool, true, false, ◌&&◌, cond, IsTrue, length, take, drop, nat_eq, nat_lt, Option, Some, None}
-use Rattle.std.proofs.Common.{refl, sym, ◌∙◌, ap, subst, append_assoc, arith}
+use Rattle.std.specs.Prelude.{◌≡◌, ℕ, suc, ◌≤◌, ◌^◌, max, List, [], ◌++◌, Bool, false, ◌&&◌, IsTrue, nat_lt, Some, None}
+use Rattle.std.proofs.Common.{refl, ◌∙◌, ap, subst, arith}
 use Rattle.std.proofs.lemmas.Bool.{ltb-true}
-use Rattle.ua_octets.specs.Exact.{Begins, Exact, ◌>>=◌, both_true, not_false, append_empty, Never, exact_never, IsOnly, exact_only, Follows, then_read, exact_bind, Joined, pair_read, exact_pair, Image, image_read, exact_image, Passing, such_read, exact_such, exact_same}
+use Rattle.ua_octets.specs.Exact.{Exact, both_true, not_false, append_empty, Never, exact_never, IsOnly, exact_only, Follows, then_read, exact_bind, Joined, pair_read, exact_pair, Image, image_read, exact_image, Passing, such_read, exact_such, exact_same}
 use Rattle.ua_octets.specs.Number.{IsNumber, number_at, number_octets, exact_number, number_some}
 use Rattle.ua_octets.specs.Format.{Flat, Format, Within, most_levels}
 

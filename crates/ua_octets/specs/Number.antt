@@ -1,10 +1,10 @@
 -- Whole numbers as octets, the least first.
 use Rattle.std.specs.Prelude.{Bool, false, ◌≡◌, ◌<◌, ◌%◌, ◌/◌, ◌*◌, ◌+◌, ◌^◌, ℕ, zero, suc, List, [], ◌∷◌, ◌++◌, true, cond, nat_lt, length, slice_index, Option, Some, None}
-use Rattle.std.proofs.Common.{refl, sym, ◌∙◌, ap, subst, arith}
+use Rattle.std.proofs.Common.{refl, sym, ◌∙◌, ap, arith}
 use Rattle.std.proofs.lemmas.Bool.{lt-ltb, ltb-true}
-use Rattle.std.proofs.Math.Nat.{div-div-eq-div-mul, div-one, mod-lt, div-add-mod', pow-suc}
-use Rattle.std.specs.Int.{byte_at, bytes_low_first}
-use Rattle.byteorder.specs.Endian.{little_bytes, little_number, little_from}
+use Rattle.std.proofs.Math.Nat.{div-div-eq-div-mul, div-one, mod-lt, pow-suc}
+use Rattle.std.specs.Int.{bytes_low_first}
+use Rattle.byteorder.specs.Endian.{little_bytes, little_number}
 use Rattle.byteorder.specs.Numbers.{little_from-cons}
 use Rattle.ua_octets.specs.Exact.{Begins, Exact, ◌>>=◌, bind_some, some_is, guard_some, guard_true}
 

@@ -1,5 +1,5 @@
 -- When texts and octets that may be null are equal, and what a hash reads of them.
-use Rattle.std.specs.Prelude.{◌≡◌, ℕ, List, Bool, true, false, Option, Some, None, option_map, nat_eq}
+use Rattle.std.specs.Prelude.{◌≡◌, ℕ, List, Bool, true, Option, Some, None, option_map, nat_eq}
 use Rattle.std.proofs.Common.{refl, ap}
 use Rattle.std.specs.Bool.{Decides}
 use Rattle.std.specs.Option.{option_eq}

@@ -1,8 +1,8 @@
 -- Signed whole numbers, in two's complement.
-use Rattle.std.specs.Prelude.{◌≡◌, ◌<◌, ◌/◌, ◌^◌, ◌&&◌, ℕ, ℤ, pos, negsuc, suc, Bool, true, IsTrue, nat_lt}
-use Rattle.std.specs.Int.{Width, w8, w16, w32, w64, w128, cast_signed, cast_unsigned}
+use Rattle.std.specs.Prelude.{◌≡◌, ◌/◌, ◌^◌, ℕ, ℤ, pos, negsuc, suc, Bool, IsTrue, nat_lt}
+use Rattle.std.specs.Int.{Width, cast_signed, cast_unsigned}
 use Rattle.std.specs.Int.RustNames.{FitsSigned}
-use Rattle.std.proofs.Common.{refl, sym}
+use Rattle.std.proofs.Common.{sym}
 use Rattle.std.proofs.lemmas.Bool.{ltb-true}
 use Rattle.std.proofs.lemmas.Int.{to_z-of_z}
 use mir.Val.{bits, hbits}

@@ -1,6 +1,9 @@
 //! Encodings written out, as the standard's tables and examples give them.
 
-use crate::{DoubleBits, FloatBits, Octets, ReadFault, Source, UaBytes, UaString, Wire};
+use crate::{
+    DoubleBits, FloatBits, Octets, ReadFault, Source, UaBytes, UaString, Wire, front_number,
+    is_text, split_counted, split_number,
+};
 use std::alloc::Global;
 use std::process::Abort;
 
@@ -159,4 +162,22 @@ fn refuses_what_no_front_encodes(rt: HostRuntime) {
     is_refused::<UaString>(&rt, alloc, &[1, 0, 0, 0, 0xFF]);
     is_refused::<UaString>(&rt, alloc, &[0xFF, 0xFF, 0xFF, 0x7F]);
     is_refused::<UaBytes>(&rt, alloc, &[3, 0, 0, 0, 0xAB, 0xCD]);
+}
+
+#[test]
+fn fields_stand_at_the_front(rt: HostRuntime) {
+    let octets = [2, 0, 0, 0, 0x68, 0x69, 0x21];
+    let (count, rest) = front_number(&octets);
+    assert_eq!(rt; count, 2);
+    assert_eq!(rt; rest, [0x68, 0x69, 0x21].as_slice());
+    let (field, rest) = split_counted(&octets).expect(&rt, "a field");
+    assert!(rt; field == Some([0x68, 0x69].as_slice()));
+    assert!(rt; is_text(field));
+    assert!(rt; !is_text(Some([0xFF].as_slice())));
+    assert_eq!(rt; rest, [0x21].as_slice());
+    assert!(rt; split_counted(&octets[..5]).is_none());
+    let (null, rest) = split_counted(&[0xFE, 0xFF, 0xFF, 0xFF]).expect(&rt, "null");
+    assert!(rt; null.is_none());
+    assert_eq!(rt; rest.len(), 0);
+    assert!(rt; split_number(&octets[4..]).is_none());
 }

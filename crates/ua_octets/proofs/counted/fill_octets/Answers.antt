@@ -1,4 +1,4 @@
-use Rattle.std.proofs.Common.{◌≡◌, ◌<◌, length, refl, ap, ◌∙◌, arith}
+use Rattle.std.proofs.Common.{◌≡◌, length, refl, ap, ◌∙◌, arith}
 use Rattle.ua_octets.specs.Format.{stays_behind}
 use Rattle.ua_octets.specs.Counted.{octets_at, octets_taken, octets_at-short}
 use Rattle.ua_octets.proofs.counted.fill_octets.Goals as goal

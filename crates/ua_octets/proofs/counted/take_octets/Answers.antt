@@ -1,4 +1,4 @@
-use Rattle.std.proofs.Common.{◌≡◌, ◌<◌, length, refl, ap, ◌∙◌, arith}
+use Rattle.std.proofs.Common.{arith}
 use Rattle.ua_octets.specs.Counted.{octets_at-short}
 use Rattle.ua_octets.proofs.counted.take_octets.Goals as goal
 

@@ -1,4 +1,4 @@
-use Rattle.std.proofs.Common.{◌≡◌, ◌<◌, length, refl, ap, ◌∙◌, arith}
+use Rattle.std.proofs.Common.{◌≡◌, length, refl, ap, ◌∙◌, arith}
 use Rattle.ua_octets.specs.Format.{stays_behind}
 use Rattle.ua_octets.specs.Number.{number_at, number_at-octets, number_at-short}
 use Rattle.ua_octets.proofs.numbers.take_number.Goals as goal

@@ -1,0 +1,51 @@
+-- Fields at the front of octets.
+use Rattle.std.proofs.Common.{◌≡◌, ℕ, ◌<◌, ◌≤◌, ◌^◌, Bool, true, false, cond, Option, Some, None, List, refl, sym, ◌∙◌, ap, subst, arith, length, take, drop, take-append-drop, ◌↔◌, inl, inr}
+use Rattle.std.specs.Prelude.{slice_index}
+use Rattle.std.specs.Str.{is_utf8, IsUtf8}
+use Rattle.std.proofs.lemmas.Bool.{lt-ltb, cases_lt}
+use Rattle.std.proofs.lemmas.List.{length-take, length-take-le, get_or-take, get_or_past}
+use Rattle.std.proofs.lemmas.Str.{is_utf8-from_IsUtf8}
+use Rattle.byteorder.specs.Endian.{little_number}
+use Rattle.ua_octets.specs.Counted.{counted, not_utf8, octets_at, octets_at-short, octets_taken, behind_count, octets as octets_of, list_of, is_there, there_is, is_null, null_is}
+use Rattle.ua_octets.specs.Format.{Flat}
+use Rattle.ua_octets.specs.Join.{image, only}
+use Rattle.ua_octets.specs.Exact.{◌>>=◌, not_false, image_read}
+use Rattle.ua_octets.specs.Number.{number_at, number_at-octets}
+
+taken_below : (n : ℕ) (octets : List ℕ) → ((i : ℕ) → slice_index octets i < 256) → (i : ℕ) → slice_index (take n octets) i < 256
+taken_below n octets h i =
+    elim (cases_lt i n) [
+      | inl l ↦ subst (λ (x : ℕ). x < 256) (sym (get_or-take n octets i 0 l)) (h i)
+      | inr l ↦ subst (λ (x : ℕ). x < 256) (sym (get_or_past (take n octets) i 0 (omega (arith, length-take n octets)))) (omega arith)
+    ]
+
+-- the number in the first four octets
+pub number_front : (octets : List ℕ) → 4 ≤ length octets → ((i : ℕ) → slice_index octets i < 256) → number_at 4 octets ≡ Some (little_number 4 (take 4 octets), drop 4 octets)
+number_front octets h below =
+    ap (number_at 4) (sym (take-append-drop 4 octets))
+    ∙ number_at-octets 4 (take 4 octets) (drop 4 octets) (length-take-le 4 octets h) (taken_below 4 octets below)
+
+-- ---- octets behind their count
+
+counted_positive : (octets rest : List ℕ) (n : ℕ) → number_at 4 octets ≡ Some (n, rest) → n < 2 ^ 31 → counted.decode octets ≡ image_read Some (octets_at n) rest
+unfolding counted
+counted_positive octets rest n e small =
+    ap (λ (o : Option (ℕ × List ℕ)). o >>= λ x. (behind_count x.0).decode x.1) e
+    ∙ ap (λ (t : Bool). (cond {A = Flat (Option (List ℕ))} t (image Some list_of is_there there_is (octets_of n)) (only None is_null null_is)).decode rest) (lt-ltb n (2 ^ 31) small)
+
+pub counted_short : (octets rest : List ℕ) (n : ℕ) → number_at 4 octets ≡ Some (n, rest) → n < 2 ^ 31 → length rest < n → counted.decode octets ≡ None
+counted_short octets rest n e small short =
+    counted_positive octets rest n e small ∙ ap (λ (o : Option (List ℕ × List ℕ)). o >>= λ x. Some (Some x.0, x.1)) (octets_at-short n rest short)
+
+octets_there : (n : ℕ) (rest : List ℕ) → n ≤ length rest → octets_at n rest ≡ Some (take n rest, drop n rest)
+octets_there n rest h = ap (octets_at n) (sym (take-append-drop n rest)) ∙ octets_taken n (take n rest) (drop n rest) (length-take-le n rest h)
+
+pub counted_there : (octets rest : List ℕ) (n : ℕ) → number_at 4 octets ≡ Some (n, rest) → n < 2 ^ 31 → n ≤ length rest → counted.decode octets ≡ Some (Some (take n rest), drop n rest)
+counted_there octets rest n e small there =
+    counted_positive octets rest n e small ∙ ap (λ (o : Option (List ℕ × List ℕ)). o >>= λ x. Some (Some x.0, x.1)) (octets_there n rest there)
+
+-- ---- texts
+
+pub utf8_test : (b : Bool) (octets : List ℕ) → ((b ≡ true) ↔ IsUtf8 octets) → b ≡ is_utf8 octets
+utf8_test true octets h = sym (is_utf8-from_IsUtf8 octets (h.0 refl))
+utf8_test false octets h = sym (not_utf8 octets (λ u. not_false (h.1 u)))
