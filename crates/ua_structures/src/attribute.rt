@@ -1,5 +1,8 @@
 //! Reading and writing attributes.
 
+ghost use Rattle.std.specs.Prelude.{◌≡◌, ◌∷◌, [], IfOk};
+ghost use Rattle.ua_structures.specs.Plain.{value_of_node, value_for_node, read_of, write_of};
+
 use crate::array::UaArray;
 use crate::header::{RequestHeader, ResponseHeader};
 use std::alloc::{AllocError, Global};
@@ -18,6 +21,29 @@ pub struct ReadValueId {
     pub index_range: UaString,
     /// The encoding of a structure; a null name is the default.
     pub data_encoding: QualifiedName,
+}
+
+/// The attribute of a node's value (OPC 10000-6, A.1).
+const VALUE: u32 = 13;
+
+/// The times of source and server (OPC 10000-4, 7.40).
+const BOTH_TIMES: i32 = 2;
+
+impl ReadValueId {
+    /// The whole value of a node, in its default encoding.
+    pub fn of_value(node_id: NodeId) -> ReadValueId
+        ensures { result ≡ value_of_node node_id }
+    {
+        ReadValueId {
+            node_id,
+            attribute_id: VALUE,
+            index_range: UaString::null(),
+            data_encoding: QualifiedName {
+                namespace: 0,
+                name: UaString::null(),
+            },
+        }
+    }
 }
 
 impl Wire for ReadValueId {
@@ -77,6 +103,31 @@ impl ReadRequest {
     ghost use Rattle.ua_builtin.specs.Exact.{image_read};
     ghost use Rattle.ua_builtin.specs.Format.{Gives, StaysBehind};
     ghost use Rattle.ua_structures.specs.Attribute.{read_request_fields, read_request_of};
+
+    /// A Read of these items, however old their values, with the times of source and server.
+    pub fn of_items(request_header: RequestHeader, items: Vec<ReadValueId>) -> ReadRequest
+        ensures { result ≡ read_of request_header items.items }
+    {
+        ReadRequest {
+            request_header,
+            max_age: DoubleBits { bits: 0 },
+            timestamps_to_return: BOTH_TIMES,
+            nodes_to_read: UaArray::new(Some(items)),
+        }
+    }
+
+    /// A Read of this one item, as [`of_items`](ReadRequest::of_items) makes it.
+    pub fn of_item(
+        alloc: Global,
+        request_header: RequestHeader,
+        item: ReadValueId,
+    ) -> Result<ReadRequest, AllocError>
+        ensures { IfOk result (λ request. request ≡ read_of request_header (item ∷ [])) }
+    {
+        let mut items = Vec::new(alloc);
+        items.push(item)?;
+        Ok(ReadRequest::of_items(request_header, items))
+    }
 
     /// Reads the fields behind a header that was read already.
     pub fn read_behind<S: Source>(
@@ -190,6 +241,20 @@ pub struct WriteValue {
     pub value: DataValue,
 }
 
+impl WriteValue {
+    /// The whole value of a node, set to this.
+    pub fn of_value(node_id: NodeId, value: DataValue) -> WriteValue
+        ensures { result ≡ value_for_node node_id value }
+    {
+        WriteValue {
+            node_id,
+            attribute_id: VALUE,
+            index_range: UaString::null(),
+            value,
+        }
+    }
+}
+
 impl Wire for WriteValue {
     ghost use Rattle.ua_structures.specs.Attribute.{write_value, write_value_starts};
 
@@ -241,6 +306,29 @@ impl WriteRequest {
     ghost use Rattle.ua_builtin.specs.Exact.{image_read};
     ghost use Rattle.ua_builtin.specs.Format.{Gives, StaysBehind};
     ghost use Rattle.ua_structures.specs.Attribute.{write_request_fields, write_request_of};
+
+    /// A Write of these items.
+    pub fn of_items(request_header: RequestHeader, items: Vec<WriteValue>) -> WriteRequest
+        ensures { result ≡ write_of request_header items.items }
+    {
+        WriteRequest {
+            request_header,
+            nodes_to_write: UaArray::new(Some(items)),
+        }
+    }
+
+    /// A Write of this one item.
+    pub fn of_item(
+        alloc: Global,
+        request_header: RequestHeader,
+        item: WriteValue,
+    ) -> Result<WriteRequest, AllocError>
+        ensures { IfOk result (λ request. request ≡ write_of request_header (item ∷ [])) }
+    {
+        let mut items = Vec::new(alloc);
+        items.push(item)?;
+        Ok(WriteRequest::of_items(request_header, items))
+    }
 
     /// Reads the fields behind a header that was read already.
     pub fn read_behind<S: Source>(

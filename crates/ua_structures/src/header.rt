@@ -1,11 +1,25 @@
 //! Headers of requests and responses, and the fault.
 
+ghost use Rattle.std.specs.Prelude.{◌≡◌};
+ghost use Rattle.ua_structures.specs.Plain.{null_object as nothing_held, request_header_of, response_header_of, service_fault_of};
+
 use crate::array::UaArray;
 use std::alloc::{AllocError, Global};
 use ua_builtin::{
-    DateTime, ExtensionObject, NodeId, ReadFault, Source, StatusCode, UaString, Wire,
+    DateTime, ExtensionBody, ExtensionObject, Identifier, NodeId, ReadFault, Source, StatusCode,
+    UaString, Wire,
 };
 use ua_variant::DiagnosticInfo;
+
+// The object that holds nothing.
+fn null_object() -> ExtensionObject
+    ensures { result ≡ nothing_held }
+{
+    ExtensionObject {
+        type_id: NodeId::new(0, Identifier::Numeric(0)),
+        body: ExtensionBody::Absent,
+    }
+}
 
 /// What stands at the head of each request (OPC 10000-4, 7.33).
 #[derive(Drop)]
@@ -22,6 +36,29 @@ pub struct RequestHeader {
     /// How long the client waits, in milliseconds; 0 is no limit.
     pub timeout_hint: u32,
     pub additional_header: ExtensionObject,
+}
+
+impl RequestHeader {
+    /// The header of a request under this token (that of CreateSession, null without a session),
+    /// sent at this moment, with this handle: it asks for no diagnostics, names no audit entry and
+    /// no timeout, and adds nothing.
+    pub fn new(
+        authentication_token: NodeId,
+        timestamp: DateTime,
+        request_handle: u32,
+    ) -> RequestHeader
+        ensures { result ≡ request_header_of authentication_token timestamp request_handle }
+    {
+        RequestHeader {
+            authentication_token,
+            timestamp,
+            request_handle,
+            return_diagnostics: 0,
+            audit_entry_id: UaString::null(),
+            timeout_hint: 0,
+            additional_header: null_object(),
+        }
+    }
 }
 
 impl Wire for RequestHeader {
@@ -97,6 +134,35 @@ pub struct ResponseHeader {
     pub additional_header: ExtensionObject,
 }
 
+impl ResponseHeader {
+    /// The header of a response sent at this moment to the request with this handle, with this
+    /// result: without diagnostics and texts, it adds nothing.
+    pub fn new(
+        timestamp: DateTime,
+        request_handle: u32,
+        service_result: StatusCode,
+    ) -> ResponseHeader
+        ensures { result ≡ response_header_of timestamp request_handle service_result }
+    {
+        ResponseHeader {
+            timestamp,
+            request_handle,
+            service_result,
+            service_diagnostics: DiagnosticInfo {
+                symbolic_id: None,
+                namespace_uri: None,
+                locale: None,
+                localized_text: None,
+                additional_info: UaString::null(),
+                inner_status_code: None,
+                inner: None,
+            },
+            string_table: UaArray::null(),
+            additional_header: null_object(),
+        }
+    }
+}
+
 impl Wire for ResponseHeader {
     ghost use Rattle.ua_structures.specs.Header.{response_header, response_header_starts};
 
@@ -153,6 +219,17 @@ impl Wire for ResponseHeader {
 #[derive(Drop)]
 pub struct ServiceFault {
     pub response_header: ResponseHeader,
+}
+
+impl ServiceFault {
+    /// The fault with this code, sent at this moment to the request with this handle.
+    pub fn new(timestamp: DateTime, request_handle: u32, code: StatusCode) -> ServiceFault
+        ensures { result ≡ service_fault_of timestamp request_handle code }
+    {
+        ServiceFault {
+            response_header: ResponseHeader::new(timestamp, request_handle, code),
+        }
+    }
 }
 
 impl Wire for ServiceFault {
