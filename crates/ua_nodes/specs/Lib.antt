@@ -1,0 +1,10 @@
+pub mod Attribute
+pub mod LineFault
+pub mod NodeFile
+pub mod Parsed
+pub mod Read
+pub mod Status
+pub mod Table
+pub mod TypeName
+pub mod ValueText
+pub mod Write

@@ -1,0 +1,75 @@
+-- The answer to an item of a Read (OPC 10000-4, 5.10.2).
+use Rattle.std.specs.Prelude.{ℕ, Bool, true, false, not, ◌&&◌, ◌||◌, cond, nat_eq, nat_lt, List, [], ◌∷◌, length, Option, None, Some, codes}
+use Rattle.std.specs.Str.{bytes_eq}
+use Rattle.ua_builtin.specs.declared.date_time.DateTime.{DateTime}
+use Rattle.ua_builtin.specs.declared.status_code.StatusCode.{StatusCode}
+use Rattle.ua_builtin.specs.declared.qualified_name.QualifiedName.{QualifiedName}
+use Rattle.ua_variant.specs.Data.{DataFields, DataValueData, bare, valued}
+use Rattle.ua_structures.specs.declared.attribute.ReadValueId.{ReadValueId}
+use Rattle.ua_nodes.specs.declared.node.Variable.{Variable}
+use Rattle.ua_nodes.specs.declared.stamps.Stamps.{Stamps}
+use Rattle.ua_nodes.specs.declared.stamps.Stamps.TheVariants.{Source, Server, Both, Neither}
+use Rattle.ua_nodes.specs.Attribute.{is_attribute, attribute_value}
+use Rattle.ua_nodes.specs.Status.{first_reason, bad_node_id_unknown, bad_attribute_id_invalid, bad_index_range_invalid, bad_data_encoding_invalid, bad_not_readable}
+
+-- a text that is neither null nor empty
+abbrev pub is_filled : Option (List ℕ) → Bool
+is_filled None = false
+is_filled (Some text) = nat_lt 0 (length text)
+
+-- a text that is this one
+abbrev pub is_text : Option (List ℕ) → List ℕ → Bool
+is_text None name = false
+is_text (Some text) name = bytes_eq text name
+
+-- no name, or the name of the binary encoding
+abbrev pub is_default_encoding : QualifiedName → Bool
+is_default_encoding q = not (is_filled q.name) || (nat_eq q.namespace 0 && is_text q.name (codes "Default Binary"))
+
+-- why an item for this node is refused, in the order in which it is judged
+abbrev pub read_reasons : Variable → ReadValueId → List (Bool × StatusCode)
+read_reasons v item =
+    (not (is_attribute item.attribute_id), bad_attribute_id_invalid)
+    ∷ (is_filled item.index_range, bad_index_range_invalid)
+    ∷ (not (is_default_encoding item.data_encoding), bad_data_encoding_invalid)
+    ∷ (nat_eq item.attribute_id 13 && not v.access.readable, bad_not_readable)
+    ∷ []
+
+abbrev pub gives_source : Stamps → Bool
+gives_source Source = true
+gives_source Server = false
+gives_source Both = true
+gives_source Neither = false
+
+abbrev pub gives_server : Stamps → Bool
+gives_server Source = false
+gives_server Server = true
+gives_server Both = true
+gives_server Neither = false
+
+-- a status alone
+abbrev pub refused : StatusCode → DataValueData
+refused code = bare (record { status = Some code; source_timestamp = None; source_picoseconds = None; server_timestamp = None; server_picoseconds = None })
+
+abbrev pub where_so : {A : Type 0} → Bool → Option A → Option A
+where_so test o = cond test o None
+
+-- the status and times beside a value: the Value attribute has the stored status and, if asked for, the stored source
+-- time; the moment is the server time, if asked for
+abbrev pub stamps_of : Variable → Bool → Stamps → DateTime → DataFields
+stamps_of v is_value stamps moment = record {
+  status = where_so is_value v.status;
+  source_timestamp = where_so (is_value && gives_source stamps) v.source_time;
+  source_picoseconds = where_so (is_value && gives_source stamps) v.source_picoseconds;
+  server_timestamp = where_so (gives_server stamps) (Some moment);
+  server_picoseconds = None;
+}
+
+abbrev pub read_by : Option StatusCode → Variable → ReadValueId → Stamps → DateTime → DataValueData
+read_by (Some code) v item stamps moment = refused code
+read_by None v item stamps moment = valued (attribute_value item.node_id v item.attribute_id) (stamps_of v (nat_eq item.attribute_id 13) stamps moment)
+
+-- the answer to an item, by the node that it names
+abbrev pub read_answer : Option Variable → ReadValueId → Stamps → DateTime → DataValueData
+read_answer None item stamps moment = refused bad_node_id_unknown
+read_answer (Some v) item stamps moment = read_by (first_reason (read_reasons v item)) v item stamps moment

@@ -1,0 +1,35 @@
+-- The StatusCodes of items (OPC 10000-4, 7.39; OPC 10000-6, A.2).
+use Rattle.std.specs.Prelude.{Bool, cond, List, [], ◌∷◌, Option, None, Some}
+use Rattle.ua_builtin.specs.declared.status_code.StatusCode.{StatusCode}
+
+abbrev pub good : StatusCode
+good = record { code = 0 }
+
+abbrev pub bad_node_id_unknown : StatusCode
+bad_node_id_unknown = record { code = 0x8034_0000 }
+
+abbrev pub bad_attribute_id_invalid : StatusCode
+bad_attribute_id_invalid = record { code = 0x8035_0000 }
+
+abbrev pub bad_index_range_invalid : StatusCode
+bad_index_range_invalid = record { code = 0x8036_0000 }
+
+abbrev pub bad_data_encoding_invalid : StatusCode
+bad_data_encoding_invalid = record { code = 0x8038_0000 }
+
+abbrev pub bad_not_readable : StatusCode
+bad_not_readable = record { code = 0x803A_0000 }
+
+abbrev pub bad_not_writable : StatusCode
+bad_not_writable = record { code = 0x803B_0000 }
+
+abbrev pub bad_write_not_supported : StatusCode
+bad_write_not_supported = record { code = 0x8073_0000 }
+
+abbrev pub bad_type_mismatch : StatusCode
+bad_type_mismatch = record { code = 0x8074_0000 }
+
+-- the code of the first reason that holds
+abbrev pub first_reason : List (Bool × StatusCode) → Option StatusCode
+first_reason [] = None
+first_reason (reason ∷ reasons) = cond reason.0 (Some reason.1) (first_reason reasons)

@@ -1,0 +1,106 @@
+-- The answers to the items of a Write, and what they leave (OPC 10000-4, 5.10.4).
+use Rattle.std.specs.Prelude.{ℕ, Bool, true, false, not, ◌&&◌, ◌||◌, cond, nat_eq, map, List, [], ◌∷◌, Option, None, Some, is_none}
+use Rattle.ua_builtin.specs.declared.date_time.DateTime.{DateTime}
+use Rattle.ua_builtin.specs.declared.node_id.NodeId.{NodeId}
+use Rattle.ua_builtin.specs.declared.status_code.StatusCode.{StatusCode}
+use Rattle.ua_variant.specs.Data.{VariantData, null, one, absent, many}
+use Rattle.ua_variant.specs.Encodable.{kind_of, data_value_encodable}
+use Rattle.ua_variant.specs.View.{data_value_of}
+use Rattle.ua_variant.specs.declared.values.DataValue.{DataValue}
+use Rattle.ua_structures.specs.declared.attribute.WriteValue.{WriteValue}
+use Rattle.ua_nodes.specs.declared.node.Variable.{Variable}
+use Rattle.ua_nodes.specs.Attribute.{is_attribute}
+use Rattle.ua_nodes.specs.Read.{is_filled}
+use Rattle.ua_nodes.specs.Status.{good, first_reason, bad_node_id_unknown, bad_attribute_id_invalid, bad_not_writable, bad_write_not_supported, bad_type_mismatch}
+use Rattle.ua_nodes.specs.Table.{Nodes, node_at, same_id}
+
+abbrev pub has_none : {A : Type 0} → List A → Bool
+has_none [] = true
+has_none (x ∷ xs) = false
+
+-- the value is one of the type, or an array of it without dimensions
+abbrev pub is_of_type : ℕ → Bool → VariantData → Bool
+is_of_type kind array null = false
+is_of_type kind array (one s) = not array && nat_eq (kind_of s) kind
+is_of_type kind array (absent k ds) = array && (nat_eq k kind && has_none ds)
+is_of_type kind array (many k ss ds) = array && (nat_eq k kind && has_none ds)
+
+abbrev pub holds_type : ℕ → Bool → Option VariantData → Bool
+holds_type kind array None = false
+holds_type kind array (Some v) = is_of_type kind array v
+
+-- why an item for this node is refused, in the order in which it is judged
+abbrev pub write_reasons : Variable → WriteValue → List (Bool × StatusCode)
+write_reasons v item =
+    (not (is_attribute item.attribute_id), bad_attribute_id_invalid)
+    ∷ (not (nat_eq item.attribute_id 13 && v.access.writable), bad_not_writable)
+    ∷ (is_filled item.index_range || is_none item.value.value, bad_write_not_supported)
+    ∷ (not (holds_type v.kind v.array item.value.value && data_value_encodable (data_value_of item.value)), bad_type_mismatch)
+    ∷ []
+
+abbrev pub good_or : Option StatusCode → StatusCode
+good_or None = good
+good_or (Some code) = code
+
+-- the answer to an item, by the node that it names
+abbrev pub write_answer : Option Variable → WriteValue → StatusCode
+write_answer None item = bad_node_id_unknown
+write_answer (Some v) item = good_or (first_reason (write_reasons v item))
+
+abbrev pub or_else : {A : Type 0} → Option A → A → A
+or_else None x = x
+or_else (Some y) x = y
+
+abbrev pub time_of : Option DateTime → DateTime → DateTime
+time_of t moment = or_else t moment
+
+abbrev pub picoseconds_of : Option DateTime → Option ℕ → Option ℕ
+picoseconds_of None p = None
+picoseconds_of (Some t) p = p
+
+-- the node with this value and status, and with its source time and picoseconds, or without one the moment
+abbrev pub stored : Variable → DataValue → DateTime → Variable
+stored v given moment = record {
+  name = v.name;
+  kind = v.kind;
+  array = v.array;
+  access = v.access;
+  value = or_else given.value null;
+  status = given.status;
+  source_time = Some (time_of given.source_timestamp moment);
+  source_picoseconds = picoseconds_of given.source_timestamp given.source_picoseconds;
+}
+
+abbrev pub written : Variable → WriteValue → DateTime → Variable
+written v item moment = stored v item.value moment
+
+-- the item names the node and is not refused
+abbrev pub is_good_for : NodeId × Variable → WriteValue → Bool
+is_good_for node item = same_id item.node_id node.0 && is_none (first_reason (write_reasons node.1 item))
+
+-- the later one, if there is one
+abbrev pub later : {A : Type 0} → Option A → Option A → Option A
+later earlier None = earlier
+later earlier (Some x) = Some x
+
+-- the last item that is good for the node
+abbrev pub last_good : NodeId × Variable → List WriteValue → Option WriteValue
+last_good node [] = None
+last_good node (item ∷ items) = later (cond (is_good_for node item) (Some item) None) (last_good node items)
+
+abbrev pub written_by : Variable → Option WriteValue → DateTime → Variable
+written_by v None moment = v
+written_by v (Some item) moment = written v item moment
+
+-- what one item leaves
+unfoldable pub after_item : WriteValue → DateTime → Nodes → Nodes
+after_item item moment nodes = map (λ node. (node.0, written_by node.1 (cond (is_good_for node item) (Some item) None) moment)) nodes
+
+-- what the items leave: each node has the value, status and source time of the last item that is good for it, else
+-- those from before
+unfoldable pub after_write : List WriteValue → DateTime → Nodes → Nodes
+after_write items moment nodes = map (λ node. (node.0, written_by node.1 (last_good node items) moment)) nodes
+
+-- the answers to the items: each is its own function of the nodes before
+abbrev pub write_answers : Nodes → List WriteValue → List StatusCode
+write_answers nodes items = map (λ item. write_answer (node_at nodes item.node_id) item) items

@@ -1,0 +1,176 @@
+//! Why texts are refused.
+
+ghost use Rattle.std.specs.Prelude.{◌≡◌};
+
+use std::alloc::{AllocError, AllocFailed};
+use thiserror::Error;
+use ua_builtin::TextFault;
+
+/// Why a text gave no value.
+#[derive(Clone, Copy, PartialEq, Eq, Debug, Error)]
+pub enum ValueFault {
+    /// The text denotes no value of the type.
+    #[error("the text is no value of the type")]
+    NotValue,
+    /// Memory was refused.
+    #[error("out of memory")]
+    OutOfMemory,
+}
+
+impl From<AllocError> for ValueFault {
+    ghost use Rattle.ua_nodes.specs.declared.fault.ValueFault.TheVariants.{OutOfMemory};
+
+    ghost from_gives = { λ _ e. e ≡ OutOfMemory };
+
+    fn from(_: AllocError) -> ValueFault {
+        ValueFault::OutOfMemory
+    }
+}
+
+impl<T: Drop> From<AllocFailed<T>> for ValueFault {
+    ghost use Rattle.ua_nodes.specs.declared.fault.ValueFault.TheVariants.{OutOfMemory};
+
+    ghost from_gives = { λ _ e. e ≡ OutOfMemory };
+
+    fn from(_: AllocFailed<T>) -> ValueFault {
+        ValueFault::OutOfMemory
+    }
+}
+
+/// Why a node was not inserted. The table is as it was.
+#[derive(Clone, Copy, PartialEq, Eq, Debug, Error)]
+pub enum InsertFault {
+    /// There is a node of that NodeId.
+    #[error("there is a node of that id")]
+    Duplicate,
+    /// Memory was refused.
+    #[error("out of memory")]
+    OutOfMemory,
+}
+
+impl<T: Drop> From<AllocFailed<T>> for InsertFault {
+    ghost use Rattle.ua_nodes.specs.declared.fault.InsertFault.TheVariants.{OutOfMemory};
+
+    ghost from_gives = { λ _ e. e ≡ OutOfMemory };
+
+    fn from(_: AllocFailed<T>) -> InsertFault {
+        InsertFault::OutOfMemory
+    }
+}
+
+/// Why a line of a node file is no node. A line is refused for the first of these that holds.
+#[derive(Clone, Copy, PartialEq, Eq, Debug, Error)]
+pub enum LineReason {
+    /// There are not just five fields.
+    #[error("Fields")]
+    Fields,
+    /// The first field names no NodeId.
+    #[error("Node")]
+    Node,
+    /// The second field is none of `r`, `w`, `rw` and `-`.
+    #[error("Access")]
+    Access,
+    /// The third field is empty.
+    #[error("Name")]
+    Name,
+    /// The fourth field names no type.
+    #[error("Kind")]
+    Kind,
+    /// The fifth field denotes no value of the type.
+    #[error("Value")]
+    Value,
+    /// There is a node of that NodeId on a line before.
+    #[error("Duplicate")]
+    Duplicate,
+}
+
+/// Why a node file was not loaded.
+#[derive(Clone, Copy, PartialEq, Eq, Debug, Error)]
+pub enum LoadFault {
+    /// The first bad line, counted from 1, and the first reason against it.
+    #[error("line {line}: {reason}")]
+    Line { line: usize, reason: LineReason },
+    /// Memory was refused.
+    #[error("out of memory")]
+    OutOfMemory,
+}
+
+/// Why a line gave no node.
+#[derive(Clone, Copy, PartialEq, Eq, Debug)]
+pub(crate) enum LineFault {
+    Bad(LineReason),
+    NoMemory,
+}
+
+impl LineFault {
+    ghost use Rattle.ua_nodes.specs.LineFault.{load_fault};
+
+    /// The same of the line of a number.
+    pub(crate) fn at(self, line: usize) -> LoadFault
+        ensures { result ≡ load_fault line self }
+    {
+        match self {
+            LineFault::Bad(reason) => LoadFault::Line { line, reason },
+            LineFault::NoMemory => LoadFault::OutOfMemory,
+        }
+    }
+}
+
+impl From<LineReason> for LineFault {
+    ghost use Rattle.ua_nodes.specs.declared.fault.LineFault.TheVariants.{Bad};
+
+    ghost from_gives = { λ r e. e ≡ Bad r };
+
+    fn from(reason: LineReason) -> LineFault {
+        LineFault::Bad(reason)
+    }
+}
+
+impl From<TextFault> for LineFault {
+    ghost use Rattle.ua_nodes.specs.LineFault.{id_fault};
+
+    ghost from_gives = { λ t e. e ≡ id_fault t };
+
+    fn from(fault: TextFault) -> LineFault {
+        match fault {
+            TextFault::NotNodeId => LineFault::Bad(LineReason::Node),
+            TextFault::OutOfMemory => LineFault::NoMemory,
+        }
+    }
+}
+
+impl From<ValueFault> for LineFault {
+    ghost use Rattle.ua_nodes.specs.LineFault.{value_fault};
+
+    ghost from_gives = { λ v e. e ≡ value_fault v };
+
+    fn from(fault: ValueFault) -> LineFault {
+        match fault {
+            ValueFault::NotValue => LineFault::Bad(LineReason::Value),
+            ValueFault::OutOfMemory => LineFault::NoMemory,
+        }
+    }
+}
+
+impl From<InsertFault> for LineFault {
+    ghost use Rattle.ua_nodes.specs.LineFault.{insert_fault};
+
+    ghost from_gives = { λ i e. e ≡ insert_fault i };
+
+    fn from(fault: InsertFault) -> LineFault {
+        match fault {
+            InsertFault::Duplicate => LineFault::Bad(LineReason::Duplicate),
+            InsertFault::OutOfMemory => LineFault::NoMemory,
+        }
+    }
+}
+
+impl From<AllocError> for LineFault {
+    ghost use Rattle.ua_nodes.specs.declared.fault.LineFault.TheVariants.{NoMemory};
+
+    ghost from_gives = { λ _ e. e ≡ NoMemory };
+
+    fn from(_: AllocError) -> LineFault {
+        LineFault::NoMemory
+    }
+}

@@ -1,0 +1,26 @@
+//! The node table of a server: nodes with their values, node files, and the items of Read and Write
+//! (OPC 10000-4, 5.10).
+#![tactic(auto)]
+
+mod fault;
+mod laws;
+mod node;
+mod node_file;
+mod number;
+mod read;
+mod stamps;
+mod table;
+mod type_name;
+mod value;
+mod write;
+
+pub use fault::{InsertFault, LineReason, LoadFault, ValueFault};
+pub use laws::{
+    a_file_has_one_first_bad_line, a_file_loads_in_one_way, a_file_that_loads_has_no_bad_line,
+    a_node_keeps_the_last_good_item,
+};
+pub use node::{Access, Node, NodeValue, Variable};
+pub use stamps::Stamps;
+pub use table::NodeTable;
+pub use type_name::parse_type;
+pub use value::parse_value;

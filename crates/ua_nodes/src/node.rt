@@ -1,0 +1,136 @@
+//! Nodes.
+
+use std::alloc::{AllocError, Global};
+use std::marker::Model;
+use ua_builtin::{DateTime, NodeId, StatusCode, UaString};
+use ua_variant::Variant;
+
+/// What may be done with the value of a node (OPC 10000-3, 8.57).
+#[derive(Clone, Copy, PartialEq, Eq, Debug)]
+pub struct Access {
+    pub readable: bool,
+    pub writable: bool,
+}
+
+impl Access {
+    ghost use Rattle.std.specs.Prelude.{◌≡◌};
+    ghost use Rattle.ua_nodes.specs.Attribute.{access_level};
+
+    /// The AccessLevel: bit 0 is set where the value may be read, bit 1 where it may be written.
+    #[inline]
+    pub fn level(self) -> u8
+        ensures { result ≡ access_level self }
+    {
+        match (self.readable, self.writable) {
+            (false, false) => 0,
+            (true, false) => 1,
+            (false, true) => 2,
+            (true, true) => 3,
+        }
+    }
+}
+
+/// A node of the class Variable, with its value (OPC 10000-3, 5.6.2).
+#[derive(Drop)]
+pub struct Node {
+    pub id: NodeId,
+    pub name: UaString,
+    /// The type id of the value, or of its elements.
+    pub kind: u8,
+    /// Whether the value is an array.
+    pub array: bool,
+    pub access: Access,
+    pub value: Variant,
+    pub status: Option<StatusCode>,
+    /// When the value came about.
+    pub source_time: Option<DateTime>,
+    /// What is to be added to the source time, in units of 10 picoseconds.
+    pub source_picoseconds: Option<u16>,
+}
+
+impl Node {
+    ghost use Rattle.std.specs.Prelude.{◌≡◌};
+    ghost use Rattle.ua_nodes.specs.Table.{variable_of};
+
+    /// The NodeId, and what it names.
+    #[inline]
+    pub fn into_parts(self) -> (NodeId, Variable)
+        ensures { result ≡ (self.id, variable_of self) }
+    {
+        let variable = Variable {
+            name: self.name,
+            kind: self.kind,
+            array: self.array,
+            access: self.access,
+            value: NodeValue::new(self.value),
+            status: self.status,
+            source_time: self.source_time,
+            source_picoseconds: self.source_picoseconds,
+        };
+        (self.id, variable)
+    }
+}
+
+/// A node in a table, which knows it by its NodeId.
+#[derive(Drop)]
+pub struct Variable {
+    pub name: UaString,
+    /// The type id of the value, or of its elements.
+    pub kind: u8,
+    /// Whether the value is an array.
+    pub array: bool,
+    pub access: Access,
+    pub value: NodeValue,
+    pub status: Option<StatusCode>,
+    /// When the value came about.
+    pub source_time: Option<DateTime>,
+    /// What is to be added to the source time, in units of 10 picoseconds.
+    pub source_picoseconds: Option<u16>,
+}
+
+/// The value of a node in a table.
+#[derive(Drop)]
+pub struct NodeValue {
+    inner: Variant,
+}
+
+impl Model for NodeValue {
+    ghost use Rattle.std.specs.Coded.{codes};
+    ghost use Rattle.ua_variant.specs.Data.{VariantData};
+    ghost use Rattle.ua_variant.specs.Codes.{coded_variant, coded_diagnostic};
+
+    ghost Value = { VariantData };
+
+    ghost coded = { coded_variant (Prim.hlevel (codes, coded_diagnostic (Prim.hlevel codes))) };
+
+    ghost use Rattle.ua_variant.specs.View.{variant_of};
+
+    ghost view = { λ v. variant_of v.inner };
+}
+
+impl NodeValue {
+    ghost use Rattle.std.specs.Prelude.{◌≡◌, IfOk};
+    ghost use Rattle.ua_variant.specs.View.{variant_of};
+
+    /// This value.
+    #[inline]
+    pub fn new(value: Variant) -> NodeValue
+        ensures { result ≡ variant_of value }
+    {
+        NodeValue { inner: value }
+    }
+
+    #[inline]
+    pub fn get(&self) -> &Variant
+        ensures { variant_of result.now ≡ self.now }
+    {
+        &self.inner
+    }
+
+    /// A value of its own, equal to this one.
+    pub fn try_clone(&self, alloc: Global) -> Result<Variant, AllocError>
+        ensures { IfOk result (λ v. variant_of v ≡ self.now) }
+    {
+        self.inner.try_clone(alloc)
+    }
+}

@@ -1,0 +1,179 @@
+//! Items of Read.
+
+ghost use Rattle.std.specs.Prelude.{◌≡◌, IfOk};
+ghost use Rattle.ua_variant.specs.View.{variant_of, data_value_of};
+ghost use Rattle.ua_variant.specs.Data.{valued};
+ghost use Rattle.ua_nodes.specs.Attribute.{is_attribute, attribute_value};
+ghost use Rattle.ua_nodes.specs.Read.{is_filled, is_default_encoding, read_reasons, refused as refused_data, stamps_of, read_by, read_answer};
+ghost use Rattle.ua_nodes.specs.Status.{first_reason};
+ghost use Rattle.ua_nodes.specs.Table.{node_at};
+
+use crate::node::Variable;
+use crate::stamps::Stamps;
+use crate::table::NodeTable;
+use std::alloc::{AllocError, Global};
+use ua_builtin::{
+    DateTime, Identifier, LocalizedText, NodeId, QualifiedName, StatusCode, UaString,
+};
+use ua_structures::ReadValueId;
+use ua_variant::{BoxedVariant, DataValue, Scalar, Variant};
+
+/// The id of the attribute Value.
+pub(crate) const VALUE: u32 = 13;
+
+impl NodeTable {
+    /// The answer to an item of a Read, at a moment: the value of the attribute with the times that
+    /// are asked for, or a status alone (OPC 10000-4, 5.10.2).
+    pub fn read_item(
+        &self,
+        alloc: Global,
+        item: &ReadValueId,
+        stamps: Stamps,
+        moment: DateTime,
+    ) -> Result<DataValue, AllocError>
+        ensures { IfOk result (λ d. data_value_of d ≡ read_answer (node_at self.now item.now.node_id) item.now stamps moment) }
+    {
+        match self.get(&item.node_id) {
+            Some(variable) => variable.read(alloc, item, stamps, moment),
+            None => Ok(refused(StatusCode::BAD_NODE_ID_UNKNOWN)),
+        }
+    }
+}
+
+impl Variable {
+    fn read(
+        &self,
+        alloc: Global,
+        item: &ReadValueId,
+        stamps: Stamps,
+        moment: DateTime,
+    ) -> Result<DataValue, AllocError>
+        ensures { IfOk result (λ d. data_value_of d ≡ read_by (first_reason (read_reasons self.now item.now)) self.now item.now stamps moment) }
+    {
+        if let Some(code) = self.read_refusal(item) {
+            return Ok(refused(code));
+        }
+        let value = self.attribute(alloc, &item.node_id, item.attribute_id)?;
+        let value = BoxedVariant::new(alloc, value)?;
+        Ok(self.stamped(value, item.attribute_id == VALUE, stamps, moment))
+    }
+
+    /// Why an item for this node is refused.
+    fn read_refusal(&self, item: &ReadValueId) -> Option<StatusCode>
+        ensures { result ≡ first_reason (read_reasons self.now item.now) }
+    {
+        if !is_known(item.attribute_id) {
+            return Some(StatusCode::BAD_ATTRIBUTE_ID_INVALID);
+        }
+        // Ranges of arrays would be read here.
+        if has_text(&item.index_range) {
+            return Some(StatusCode::BAD_INDEX_RANGE_INVALID);
+        }
+        if !is_binary(&item.data_encoding) {
+            return Some(StatusCode::BAD_DATA_ENCODING_INVALID);
+        }
+        if item.attribute_id == VALUE && !self.access.readable {
+            return Some(StatusCode::BAD_NOT_READABLE);
+        }
+        None
+    }
+
+    /// The value of an attribute of this node, which the NodeId names.
+    fn attribute(
+        &self,
+        alloc: Global,
+        id: &NodeId,
+        attribute_id: u32,
+    ) -> Result<Variant, AllocError>
+        ensures { IfOk result (λ v. variant_of v ≡ attribute_value id.now self.now attribute_id) }
+    {
+        match attribute_id {
+            1 => Ok(Variant::One(Scalar::NodeId(id.try_clone()?))),
+            2 => Ok(Variant::One(Scalar::Int32(2))),
+            3 => Ok(Variant::One(Scalar::QualifiedName(QualifiedName {
+                namespace: id.namespace,
+                name: self.name.try_clone()?,
+            }))),
+            4 => Ok(Variant::One(Scalar::LocalizedText(LocalizedText {
+                locale: UaString::null(),
+                text: self.name.try_clone()?,
+            }))),
+            13 => self.value.try_clone(alloc),
+            14 => Ok(Variant::One(Scalar::NodeId(NodeId {
+                namespace: 0,
+                identifier: Identifier::Numeric(u32::from(self.kind)),
+            }))),
+            _ => Ok(Variant::One(Scalar::Byte(self.access.level()))),
+        }
+    }
+
+    /// A value with the status and times that go with it.
+    fn stamped(
+        &self,
+        value: BoxedVariant,
+        is_value: bool,
+        stamps: Stamps,
+        moment: DateTime,
+    ) -> DataValue
+        ensures { data_value_of result ≡ valued value (stamps_of self.now is_value stamps moment) }
+    {
+        let gives_source = is_value && stamps.gives_source();
+        DataValue {
+            value: Some(value),
+            status: if is_value { self.status } else { None },
+            source_timestamp: if gives_source { self.source_time } else { None },
+            source_picoseconds: if gives_source {
+                self.source_picoseconds
+            } else {
+                None
+            },
+            server_timestamp: if stamps.gives_server() {
+                Some(moment)
+            } else {
+                None
+            },
+            server_picoseconds: None,
+        }
+    }
+}
+
+/// A status alone.
+fn refused(code: StatusCode) -> DataValue
+    ensures { data_value_of result ≡ refused_data code }
+{
+    DataValue {
+        value: None,
+        status: Some(code),
+        source_timestamp: None,
+        source_picoseconds: None,
+        server_timestamp: None,
+        server_picoseconds: None,
+    }
+}
+
+/// Whether nodes have the attribute.
+pub(crate) fn is_known(attribute_id: u32) -> bool
+    ensures { result ≡ is_attribute attribute_id }
+{
+    matches!(attribute_id, 1 | 2 | 3 | 4 | 13 | 14 | 17 | 18)
+}
+
+/// Whether a text is neither null nor empty.
+pub(crate) fn has_text(text: &UaString) -> bool
+    ensures { result ≡ is_filled text.now }
+{
+    match text.as_str() {
+        Some(text) => !text.is_empty(),
+        None => false,
+    }
+}
+
+/// Whether an encoding is the binary one, which is also that without a name.
+fn is_binary(encoding: &QualifiedName) -> bool
+    ensures { result ≡ is_default_encoding encoding.now }
+{
+    match encoding.name.as_str() {
+        Some(name) => name.is_empty() || (encoding.namespace == 0 && name == "Default Binary"),
+        None => true,
+    }
+}

@@ -1,0 +1,122 @@
+//! Items of Write.
+
+ghost use Rattle.std.specs.Prelude.{◌≡◌, ◌+◌, ◌≤◌, ◌++◌, vec_len, vec_capacity, IsSome, Some, None, cond, is_none};
+ghost use Rattle.ua_variant.specs.View.{variant_of};
+ghost use Rattle.ua_nodes.specs.Status.{first_reason};
+ghost use Rattle.ua_nodes.specs.Table.{node_at};
+ghost use Rattle.ua_nodes.specs.Write.{is_of_type, write_reasons, write_answer, good_or, stored, written_by, after_item, after_write, write_answers};
+
+use crate::node::{NodeValue, Variable};
+use crate::read::{VALUE, has_text, is_known};
+use crate::table::NodeTable;
+use ua_builtin::{DateTime, StatusCode};
+use ua_structures::WriteValue;
+use ua_variant::{DataValue, Variant};
+
+impl NodeTable {
+    /// Writes items in order, at a moment, and adds the answer to each. Takes no memory.
+    pub fn write_items(
+        &mut self,
+        items: Vec<WriteValue>,
+        moment: DateTime,
+        statuses: &mut Vec<StatusCode>,
+    )
+        requires { vec_len statuses.old + vec_len items ≤ vec_capacity statuses.old }
+        ensures nodes { self.new ≡ after_write items.items moment self.old }
+        ensures answers { statuses.new.items ≡ statuses.old.items ++ write_answers self.old items.items }
+    {
+        for item in items {
+            let status = self.write_item(item, moment);
+            let Ok(()) = statuses.push(status) else {
+                unreachable!();
+            };
+        }
+    }
+
+    fn write_item(&mut self, item: WriteValue, moment: DateTime) -> StatusCode
+        ensures answer { result ≡ write_answer (node_at self.old item.node_id) item }
+        ensures nodes { self.new ≡ after_item item moment self.old }
+    {
+        match self.nodes.get_mut(&item.node_id) {
+            Some(variable) => variable.write(item, moment),
+            None => {
+                drop(item);
+                StatusCode::BAD_NODE_ID_UNKNOWN
+            }
+        }
+    }
+}
+
+impl Variable {
+    /// Takes the value of an item, unless it is refused.
+    fn write(&mut self, item: WriteValue, moment: DateTime) -> StatusCode
+        ensures answer { result ≡ good_or (first_reason (write_reasons self.old item)) }
+        ensures node { self.new ≡ written_by self.old (cond (is_none (first_reason (write_reasons self.old item))) (Some item) None) moment }
+    {
+        if let Some(code) = self.write_refusal(&item) {
+            drop(item);
+            return code;
+        }
+        self.store(item.value, moment);
+        StatusCode::GOOD
+    }
+
+    /// Why an item for this node is refused.
+    fn write_refusal(&self, item: &WriteValue) -> Option<StatusCode>
+        ensures { result ≡ first_reason (write_reasons self.now item.now) }
+    {
+        if !is_known(item.attribute_id) {
+            return Some(StatusCode::BAD_ATTRIBUTE_ID_INVALID);
+        }
+        if !(item.attribute_id == VALUE && self.access.writable) {
+            return Some(StatusCode::BAD_NOT_WRITABLE);
+        }
+        // Ranges of arrays would be taken here.
+        if has_text(&item.index_range) {
+            return Some(StatusCode::BAD_WRITE_NOT_SUPPORTED);
+        }
+        let Some(value) = &item.value.value else {
+            return Some(StatusCode::BAD_WRITE_NOT_SUPPORTED);
+        };
+        if !(is_value_of(self.kind, self.array, value.get()) && item.value.writable()) {
+            return Some(StatusCode::BAD_TYPE_MISMATCH);
+        }
+        None
+    }
+
+    /// Keeps a value, its status and when it came about.
+    fn store(&mut self, given: DataValue, moment: DateTime)
+        requires { IsSome given.value }
+        ensures { self.new ≡ stored self.old given moment }
+    {
+        let DataValue {
+            value,
+            status,
+            source_timestamp,
+            source_picoseconds,
+            ..
+        } = given;
+        let Some(value) = value else {
+            unreachable!();
+        };
+        self.value = NodeValue::new(value.into_inner());
+        self.status = status;
+        self.source_time = Some(source_timestamp.unwrap_or(moment));
+        self.source_picoseconds = if source_timestamp.is_some() {
+            source_picoseconds
+        } else {
+            None
+        };
+    }
+}
+
+/// Whether a value is one of the type, or an array of it without dimensions.
+fn is_value_of(kind: u8, array: bool, value: &Variant) -> bool
+    ensures { result ≡ is_of_type kind array (variant_of value.now) }
+{
+    match value {
+        Variant::Null => false,
+        Variant::One(scalar) => !array && scalar.kind() == kind,
+        Variant::Many { kind: of, dims, .. } => array && *of == kind && dims.as_slice().is_empty(),
+    }
+}

@@ -1,0 +1,5 @@
+pub mod BodyLaws
+pub mod BodyRead
+pub mod MessageRead
+pub mod RequestRead
+pub mod ResponseRead

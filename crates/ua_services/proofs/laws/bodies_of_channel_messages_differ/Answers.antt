@@ -1,0 +1,17 @@
+use Rattle.ua_structures.specs.Header.{service_fault}
+use Rattle.ua_structures.specs.SecureChannel.{open_request, open_response, close_request}
+use Rattle.ua_services.specs.Message.{message}
+use Rattle.ua_services.proofs.BodyLaws.{one_message}
+use Rattle.ua_services.proofs.laws.bodies_of_channel_messages_differ.Goals as goal
+
+pub returns-clause-request : goal.returns-clause-request
+returns-clause-request c = one_message (message 446 open_request)
+
+pub returns-clause-response : goal.returns-clause-response
+returns-clause-response c = one_message (message 449 open_response)
+
+pub returns-clause-fault : goal.returns-clause-fault
+returns-clause-fault c = one_message (message 397 service_fault)
+
+pub returns-clause-close : goal.returns-clause-close
+returns-clause-close c = one_message (message 452 close_request)

@@ -1,0 +1,17 @@
+use Rattle.ua_structures.specs.Header.{service_fault}
+use Rattle.ua_structures.specs.SecureChannel.{open_request, open_response, close_request}
+use Rattle.ua_services.specs.Message.{message}
+use Rattle.ua_services.proofs.BodyLaws.{body_reads_back}
+use Rattle.ua_services.proofs.laws.channel_messages_read_back.Goals as goal
+
+pub returns-clause-request : goal.returns-clause-request
+returns-clause-request c = body_reads_back (message 446 open_request)
+
+pub returns-clause-response : goal.returns-clause-response
+returns-clause-response c = body_reads_back (message 449 open_response)
+
+pub returns-clause-fault : goal.returns-clause-fault
+returns-clause-fault c = body_reads_back (message 397 service_fault)
+
+pub returns-clause-close : goal.returns-clause-close
+returns-clause-close c = body_reads_back (message 452 close_request)

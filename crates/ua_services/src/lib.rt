@@ -1,0 +1,32 @@
+//! The messages of OPC UA Binary: requests and responses by the NodeId of their encoding
+//! (OPC 10000-6, 5.2.9; OPC 10000-4, 5).
+//!
+//! The contract of the readers: Ok only for a body that is the encoding of one message, of at most
+//! 100 levels, with nothing behind it; every other body is refused by the fault that names why.
+//! Writers add the one canonical encoding, and `laws` says that reading gives back what was written.
+#![tactic(auto)]
+
+mod fault;
+mod identity;
+pub mod laws;
+mod message;
+mod open;
+mod request;
+mod response;
+
+pub use fault::{RequestFault, ResponseFault};
+pub use identity::{read_identity, write_identity};
+pub use open::{
+    OpenAnswer, read_open_request, read_open_response, write_close_request, write_open_request,
+    write_open_response,
+};
+pub use request::{Request, RequestKind, read_request, write_request};
+pub use response::{Response, ResponseKind, read_response, write_response};
+pub use ua_structures::{
+    ActivateSessionRequest, ActivateSessionResponse, AnonymousIdentityToken,
+    ApplicationDescription, CloseRequest, CloseSessionRequest, CloseSessionResponse,
+    CreateSessionRequest, CreateSessionResponse, EndpointDescription, GetEndpointsRequest,
+    GetEndpointsResponse, OpenRequest, OpenResponse, ReadRequest, ReadResponse, ReadValueId,
+    RequestHeader, ResponseHeader, ServiceFault, SignatureData, SignedSoftwareCertificate, UaArray,
+    UserTokenPolicy, WriteRequest, WriteResponse, WriteValue, read_array,
+};

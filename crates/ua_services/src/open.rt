@@ -1,0 +1,79 @@
+//! The messages of the secure channel.
+
+ghost use Rattle.std.specs.Prelude.{◌≡◌, ◌++◌, ◌↔◌, IfOk, IsErrOf, OnOk, OnErr, IsFalse};
+ghost use Rattle.ua_octets.specs.declared.fault.ReadFault.TheVariants.{NoValue};
+ghost use Rattle.ua_octets.specs.declared.fault.WriteFault.TheVariants.{NotWritable};
+ghost use Rattle.ua_structures.specs.SecureChannel.{open_request, open_response, close_request};
+ghost use Rattle.ua_services.specs.Message.{IsBody, IsNoBody, message};
+ghost use Rattle.ua_services.specs.Open.{IsAnswer, IsNoAnswer};
+
+use crate::message::{read_message, read_whole, standard_number, write_message};
+use std::alloc::Global;
+use ua_builtin::{NodeId, ReadFault, Source, Wire, WriteFault};
+use ua_structures::{CloseRequest, OpenRequest, OpenResponse, ServiceFault};
+
+/// The levels that a message may have.
+const LEVELS: u32 = 100;
+
+/// The answer to an OpenSecureChannel request.
+#[derive(Drop)]
+pub enum OpenAnswer {
+    Open(OpenResponse),
+    Fault(ServiceFault),
+}
+
+/// Reads a body that is one OpenSecureChannel request and nothing behind it. After a fault the
+/// source is to be given up.
+pub fn read_open_request<S: Source>(alloc: Global, src: &mut S) -> Result<OpenRequest, ReadFault>
+    ensures found { IfOk result (λ m. IsBody (message 446 open_request) m (S.octets src.old)) }
+    ensures none { IsErrOf result NoValue → IsNoBody (message 446 open_request) (S.octets src.old) }
+{
+    read_message(alloc, src, 446)
+}
+
+/// Adds the canonical body of an OpenSecureChannel request at the end. An error leaves what was
+/// there.
+#[tactic(auto, unfolding(ua_builtin::specs::NodeId::node_id))]
+pub fn write_open_request(request: &OpenRequest, out: &mut Vec<u8>) -> Result<(), WriteFault>
+    ensures ok { OnOk result (out.new.items ≡ out.old.items ++ (message 446 open_request).canonical request.now) }
+    ensures err { OnErr result (out.new.items ≡ out.old.items) }
+    ensures refused { IsErrOf result NotWritable ↔ IsFalse ((message 446 open_request).encodable request.now) }
+{
+    write_message(446, request, out)
+}
+
+/// Reads a body that is one OpenSecureChannel response, or one ServiceFault, and nothing behind it.
+/// After a fault the source is to be given up.
+pub fn read_open_response<S: Source>(alloc: Global, src: &mut S) -> Result<OpenAnswer, ReadFault>
+    ensures found { IfOk result (λ answer. IsAnswer answer (S.octets src.old)) }
+    ensures none { IsErrOf result NoValue → IsNoAnswer (S.octets src.old) }
+{
+    let id = NodeId::read_value(alloc, src, LEVELS)?;
+    match standard_number(&id) {
+        Some(449) => Ok(OpenAnswer::Open(read_whole(alloc, src)?)),
+        Some(397) => Ok(OpenAnswer::Fault(read_whole(alloc, src)?)),
+        _ => Err(ReadFault::NoValue),
+    }
+}
+
+/// Adds the canonical body of an OpenSecureChannel response at the end. An error leaves what was
+/// there.
+#[tactic(auto, unfolding(ua_builtin::specs::NodeId::node_id))]
+pub fn write_open_response(response: &OpenResponse, out: &mut Vec<u8>) -> Result<(), WriteFault>
+    ensures ok { OnOk result (out.new.items ≡ out.old.items ++ (message 449 open_response).canonical response.now) }
+    ensures err { OnErr result (out.new.items ≡ out.old.items) }
+    ensures refused { IsErrOf result NotWritable ↔ IsFalse ((message 449 open_response).encodable response.now) }
+{
+    write_message(449, response, out)
+}
+
+/// Adds the canonical body of a CloseSecureChannel request at the end. An error leaves what was
+/// there.
+#[tactic(auto, unfolding(ua_builtin::specs::NodeId::node_id))]
+pub fn write_close_request(request: &CloseRequest, out: &mut Vec<u8>) -> Result<(), WriteFault>
+    ensures ok { OnOk result (out.new.items ≡ out.old.items ++ (message 452 close_request).canonical request.now) }
+    ensures err { OnErr result (out.new.items ≡ out.old.items) }
+    ensures refused { IsErrOf result NotWritable ↔ IsFalse ((message 452 close_request).encodable request.now) }
+{
+    write_message(452, request, out)
+}

@@ -1,0 +1,88 @@
+-- The loop that reads so many values, against the list of them all.
+use Rattle.std.specs.Prelude.{◌≡◌, ℕ, zero, suc, ◌+◌, ◌-◌, ◌<◌, ◌≤◌, ◌^◌, List, [], ◌∷◌, ◌++◌, length, IsTrue, Option, Some, None, Result, Ok, Err, nat_lt, cond, true, false, Bool, is_none}
+use Rattle.std.proofs.Common.{refl, sym, ◌∙◌, ap, subst, arith, append_assoc, length-append, ◌≢◌}
+use Rattle.std.proofs.lemmas.List.{append-nil}
+use Rattle.ua_octets.specs.declared.fault.ReadFault.{ReadFault}
+use Rattle.ua_octets.specs.declared.fault.ReadFault.TheVariants.{NoValue, OutOfMemory}
+use Rattle.std.proofs.lemmas.Bool.{lt-ltb}
+use Rattle.ua_builtin.specs.Exact.{Exact, ◌>>=◌}
+use Rattle.ua_builtin.specs.Number.{number_at}
+use Rattle.ua_builtin.specs.Format.{Format, flat, Within, Gives, GivesBy}
+use Rattle.ua_builtin.specs.Join.{only, TakesSome}
+use Rattle.ua_structures.specs.Kinds.{kind}
+use Rattle.ua_structures.specs.Array.{EachEncoded, AreItems, items_at, items, items_exact, array, behind_array_count, none_is}
+
+-- what was read stands in front of what is still to be read
+abbrev pub with_front : {A : Type 0} → List A → Option (List A × List ℕ) → Option (List A × List ℕ)
+with_front xs o = o >>= λ y. Some (xs ++ y.0, y.1)
+
+moves_over : {A : Type 0} (xs : List A) (x : A) (o : Option (List A × List ℕ)) → with_front xs (o >>= λ ys. Some (x ∷ ys.0, ys.1)) ≡ with_front (xs ++ x ∷ []) o
+moves_over xs x None = refl
+moves_over xs x (Some y) = ap (λ t. Some (t, y.1)) (sym (append_assoc xs (x ∷ []) y.0))
+
+next_count : (count counter : ℕ) → counter < count → count - counter ≡ suc (count - (counter + 1))
+next_count count counter h = omega arith
+
+step : {A : Type 0} (r : List ℕ → Option (A × List ℕ)) (n : ℕ) (octets : List ℕ) → items_at r (suc n) octets ≡ (r octets >>= λ x. items_at r n x.1 >>= λ xs. Some (x.0 ∷ xs.0, xs.1))
+unfolding items_at
+step r n octets = refl
+
+pub goes_on : {A : Type 0} (r : List ℕ → Option (A × List ℕ)) (xs : List A) (count counter : ℕ) (old : List ℕ) (x : A) (new : List ℕ) (all : Option (List A × List ℕ)) → counter < count → r old ≡ Some (x, new)
+    → with_front xs (items_at r (count - counter) old) ≡ all → with_front (xs ++ x ∷ []) (items_at r (count - (counter + 1)) new) ≡ all
+goes_on r xs count counter old x new all lt e h =
+    sym (moves_over xs x (items_at r (count - (counter + 1)) new))
+    ∙ sym (ap (λ o. with_front xs (o >>= λ y. items_at r (count - (counter + 1)) y.1 >>= λ ys. Some (y.0 ∷ ys.0, ys.1))) e)
+    ∙ sym (ap (with_front xs) (step r (count - (counter + 1)) old))
+    ∙ sym (ap (λ (n : ℕ). with_front xs (items_at r n old)) (next_count count counter lt))
+    ∙ h
+
+none_done : {A : Type 0} (r : List ℕ → Option (A × List ℕ)) (octets : List ℕ) → items_at r 0 octets ≡ Some ([], octets)
+unfolding items_at
+none_done r octets = refl
+
+pub is_done : {A : Type 0} (r : List ℕ → Option (A × List ℕ)) (xs : List A) (count counter : ℕ) (old : List ℕ) (all : Option (List A × List ℕ)) → count ≤ counter
+    → with_front xs (items_at r (count - counter) old) ≡ all → all ≡ Some (xs, old)
+is_done r xs count counter old all le h =
+    let zero_left : count - counter ≡ 0 = omega arith in
+    sym h ∙ ap (λ (n : ℕ). with_front xs (items_at r n old)) zero_left ∙ ap (with_front xs) (none_done r old) ∙ ap (λ t. Some (t, old)) (append-nil xs)
+
+fails : {A : Type 0} (r : List ℕ → Option (A × List ℕ)) (xs : List A) (count counter : ℕ) (old : List ℕ) (all : Option (List A × List ℕ)) → counter < count → r old ≡ None
+    → with_front xs (items_at r (count - counter) old) ≡ all → all ≡ None
+fails r xs count counter old all lt e h =
+    sym h ∙ ap (λ (n : ℕ). with_front xs (items_at r n old)) (next_count count counter lt) ∙ ap (with_front xs) (step r (count - (counter + 1)) old)
+    ∙ ap (λ o. with_front xs (o >>= λ y. items_at r (count - (counter + 1)) y.1 >>= λ ys. Some (y.0 ∷ ys.0, ys.1))) e
+
+pub fault_ends : {X A : Type 0} (view : X → List A) (r : List ℕ → Option (A × List ℕ)) (e : ReadFault) (xs : List A) (count counter : ℕ) (first old new : List ℕ) → counter < count → Gives r old new (Err e)
+    → with_front xs (items_at r (count - counter) old) ≡ items_at r count first → GivesBy view (items_at r count) first new (Err e)
+fault_ends view r NoValue xs count counter first old new lt h all = fails r xs count counter old (items_at r count first) lt h all
+fault_ends view r OutOfMemory xs count counter first old new lt h all = tt
+
+-- ---- a count above the octets behind it
+
+not_empty : {A : Type 0} (p : A → List ℕ → Type 0) → TakesSome p → (x : A) (b : List ℕ) → p x b → 0 < length b
+not_empty p starts x [] h = absurd (starts x h)
+not_empty p starts x (y ∷ b) h = omega arith
+
+octet_each : {A : Type 0} (p : A → List ℕ → Type 0) → TakesSome p → (v : List A) (b : List ℕ) → EachEncoded p v b → length v ≤ length b
+octet_each p starts [] b h = omega arith
+octet_each p starts (x ∷ v) b h =
+    let here = not_empty p starts x h.0 h.3 in
+    let more = octet_each p starts v h.1 h.4 in
+    let len : length b ≡ length (h.0 ++ h.1) = ap length h.2 in
+    omega (arith, here, more, len, length-append h.0 h.1)
+
+too_few : {A : Type 0} (f : Format A) → TakesSome f.encodes → (levels n : ℕ) (octets : List ℕ) → length octets < n → (found : Option (List A × List ℕ)) → items_at (f.decode levels) n octets ≡ found → found ≡ None
+too_few f starts levels n octets short None e = refl
+too_few f starts levels n octets short (Some found) e =
+    let s = (items_exact n f levels).sound octets found.0 found.1 e in
+    let count = s.encoded.0.0 in
+    let most = octet_each f.encodes starts found.0 s.front s.encoded.0.1 in
+    let len : length octets ≡ length (s.front ++ found.1) = ap length s.parts in
+    absurd (omega (arith, count, most, len, length-append s.front found.1))
+
+pub claims_more : {A : Type 0} (f : Format A) → TakesSome f.encodes → (levels count : ℕ) (octets rest : List ℕ) → number_at 4 octets ≡ Some (count, rest) → count < 2 ^ 31 → length rest < count → (array f).decode levels octets ≡ None
+unfolding array
+claims_more f starts levels count octets rest e small short =
+    ap (λ o. o >>= λ x. (behind_array_count f x.0).decode levels x.1) e
+    ∙ ap (λ (test : Bool). (cond test (kind Some (λ v. v) (λ v x same. same) (λ x. refl) (items count f)) (flat (only None is_none none_is))).decode levels rest) (lt-ltb count (2 ^ 31) small)
+    ∙ ap (λ o. o >>= λ x. Some (Some x.0, x.1)) (too_few f starts levels count rest short (items_at (f.decode levels) count rest) refl)

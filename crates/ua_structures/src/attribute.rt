@@ -1,0 +1,425 @@
+//! Reading and writing attributes.
+
+ghost use Rattle.std.specs.Prelude.{◌≡◌, ◌∷◌, [], IfOk};
+ghost use Rattle.ua_structures.specs.Plain.{value_of_node, value_for_node, read_of, write_of};
+
+use crate::array::UaArray;
+use crate::header::{RequestHeader, ResponseHeader};
+use std::alloc::{AllocError, Global};
+use ua_builtin::{
+    DoubleBits, NodeId, QualifiedName, ReadFault, Source, StatusCode, UaString, Wire,
+};
+use ua_variant::{DataValue, DiagnosticInfo};
+
+/// What is to be read: an attribute of a node, or a part of it (OPC 10000-4, 7.29).
+#[derive(Drop)]
+pub struct ReadValueId {
+    pub node_id: NodeId,
+    /// 13 is the Value.
+    pub attribute_id: u32,
+    /// Which elements of an array; null is all.
+    pub index_range: UaString,
+    /// The encoding of a structure; a null name is the default.
+    pub data_encoding: QualifiedName,
+}
+
+/// The attribute of a node's value (OPC 10000-6, A.1).
+const VALUE: u32 = 13;
+
+/// The times of source and server (OPC 10000-4, 7.40).
+const BOTH_TIMES: i32 = 2;
+
+impl ReadValueId {
+    /// The whole value of a node, in its default encoding.
+    pub fn of_value(node_id: NodeId) -> ReadValueId
+        ensures { result ≡ value_of_node node_id }
+    {
+        ReadValueId {
+            node_id,
+            attribute_id: VALUE,
+            index_range: UaString::null(),
+            data_encoding: QualifiedName {
+                namespace: 0,
+                name: UaString::null(),
+            },
+        }
+    }
+}
+
+impl Wire for ReadValueId {
+    ghost use Rattle.ua_structures.specs.Attribute.{read_value_id, read_value_id_starts};
+
+    ghost format = { read_value_id };
+
+    ghost starts = { read_value_id_starts };
+
+    #[tactic(auto, unfolding(crate::specs::Attribute::read_value_id))]
+    fn read_value<S: Source>(
+        alloc: Global,
+        src: &mut S,
+        depth: u32,
+    ) -> Result<ReadValueId, ReadFault> {
+        let (node_id, (attribute_id, (index_range, data_encoding))) = Wire::read_value(
+            alloc, src, depth,
+        )?;
+        Ok(ReadValueId {
+            node_id,
+            attribute_id,
+            index_range,
+            data_encoding,
+        })
+    }
+
+    #[tactic(auto, unfolding(crate::specs::Attribute::read_value_id))]
+    fn is_encodable(&self) -> bool {
+        self.node_id.is_encodable()
+            && self.attribute_id.is_encodable()
+            && self.index_range.is_encodable()
+            && self.data_encoding.is_encodable()
+    }
+
+    #[tactic(auto, unfolding(crate::specs::Attribute::read_value_id))]
+    fn append(&self, out: &mut Vec<u8>) -> Result<(), AllocError> {
+        self.node_id.append(out)?;
+        self.attribute_id.append(out)?;
+        self.index_range.append(out)?;
+        self.data_encoding.append(out)?;
+        Ok(())
+    }
+}
+
+/// Read: asks for attributes of nodes (OPC 10000-4, 5.11.2).
+#[derive(Drop)]
+pub struct ReadRequest {
+    pub request_header: RequestHeader,
+    /// How old a value may be, in milliseconds.
+    pub max_age: DoubleBits,
+    /// 0 for the source's, 1 for the server's, 2 for both, 3 for neither; every number is kept.
+    pub timestamps_to_return: i32,
+    pub nodes_to_read: UaArray<ReadValueId>,
+}
+
+impl ReadRequest {
+    ghost use Rattle.ua_builtin.specs.Exact.{image_read};
+    ghost use Rattle.ua_builtin.specs.Format.{Gives, StaysBehind};
+    ghost use Rattle.ua_structures.specs.Attribute.{read_request_fields, read_request_of};
+
+    /// A Read of these items, however old their values, with the times of source and server.
+    pub fn of_items(request_header: RequestHeader, items: Vec<ReadValueId>) -> ReadRequest
+        ensures { result ≡ read_of request_header items.items }
+    {
+        ReadRequest {
+            request_header,
+            max_age: DoubleBits { bits: 0 },
+            timestamps_to_return: BOTH_TIMES,
+            nodes_to_read: UaArray::new(Some(items)),
+        }
+    }
+
+    /// A Read of this one item, as [`of_items`](ReadRequest::of_items) makes it.
+    pub fn of_item(
+        alloc: Global,
+        request_header: RequestHeader,
+        item: ReadValueId,
+    ) -> Result<ReadRequest, AllocError>
+        ensures { IfOk result (λ request. request ≡ read_of request_header (item ∷ [])) }
+    {
+        let mut items = Vec::new(alloc);
+        items.push(item)?;
+        Ok(ReadRequest::of_items(request_header, items))
+    }
+
+    /// Reads the fields behind a header that was read already.
+    pub fn read_behind<S: Source>(
+        alloc: Global,
+        src: &mut S,
+        depth: u32,
+        request_header: RequestHeader,
+    ) -> Result<ReadRequest, ReadFault>
+        ensures exact { Gives (image_read (λ fields. read_request_of (request_header, fields)) (read_request_fields.decode depth)) (S.octets src.old) (S.octets src.new) result }
+        ensures behind { StaysBehind (S.octets src.old) (S.octets src.new) }
+    {
+        let (max_age, (timestamps_to_return, nodes_to_read)) = Wire::read_value(alloc, src, depth)?;
+        Ok(ReadRequest {
+            request_header,
+            max_age,
+            timestamps_to_return,
+            nodes_to_read,
+        })
+    }
+}
+
+impl Wire for ReadRequest {
+    ghost use Rattle.ua_structures.specs.Attribute.{read_request, read_request_starts};
+
+    ghost format = { read_request };
+
+    ghost starts = { read_request_starts };
+
+    #[tactic(auto, unfolding(crate::specs::Attribute::read_request))]
+    fn read_value<S: Source>(
+        alloc: Global,
+        src: &mut S,
+        depth: u32,
+    ) -> Result<ReadRequest, ReadFault> {
+        let request_header = RequestHeader::read_value(alloc, src, depth)?;
+        ReadRequest::read_behind(alloc, src, depth, request_header)
+    }
+
+    #[tactic(auto, unfolding(crate::specs::Attribute::read_request))]
+    fn is_encodable(&self) -> bool {
+        self.request_header.is_encodable()
+            && self.max_age.is_encodable()
+            && self.timestamps_to_return.is_encodable()
+            && self.nodes_to_read.is_encodable()
+    }
+
+    #[tactic(auto, unfolding(crate::specs::Attribute::read_request))]
+    fn append(&self, out: &mut Vec<u8>) -> Result<(), AllocError> {
+        self.request_header.append(out)?;
+        self.max_age.append(out)?;
+        self.timestamps_to_return.append(out)?;
+        self.nodes_to_read.append(out)?;
+        Ok(())
+    }
+}
+
+/// The answer to a [`ReadRequest`] (OPC 10000-4, 5.11.2).
+#[derive(Drop)]
+pub struct ReadResponse {
+    pub response_header: ResponseHeader,
+    /// One for each item of the request, in its order.
+    pub results: UaArray<DataValue>,
+    pub diagnostic_infos: UaArray<DiagnosticInfo>,
+}
+
+impl Wire for ReadResponse {
+    ghost use Rattle.ua_structures.specs.Attribute.{read_response, read_response_starts};
+
+    ghost format = { read_response };
+
+    ghost starts = { read_response_starts };
+
+    #[tactic(auto, unfolding(crate::specs::Attribute::read_response))]
+    fn read_value<S: Source>(
+        alloc: Global,
+        src: &mut S,
+        depth: u32,
+    ) -> Result<ReadResponse, ReadFault> {
+        let (response_header, (results, diagnostic_infos)) = Wire::read_value(alloc, src, depth)?;
+        Ok(ReadResponse {
+            response_header,
+            results,
+            diagnostic_infos,
+        })
+    }
+
+    #[tactic(auto, unfolding(crate::specs::Attribute::read_response))]
+    fn is_encodable(&self) -> bool {
+        self.response_header.is_encodable()
+            && self.results.is_encodable()
+            && self.diagnostic_infos.is_encodable()
+    }
+
+    #[tactic(auto, unfolding(crate::specs::Attribute::read_response))]
+    fn append(&self, out: &mut Vec<u8>) -> Result<(), AllocError> {
+        self.response_header.append(out)?;
+        self.results.append(out)?;
+        self.diagnostic_infos.append(out)?;
+        Ok(())
+    }
+}
+
+/// What is to be written: a value for an attribute of a node (OPC 10000-4, 5.11.4).
+#[derive(Drop)]
+pub struct WriteValue {
+    pub node_id: NodeId,
+    /// 13 is the Value.
+    pub attribute_id: u32,
+    /// Which elements of an array; null is all.
+    pub index_range: UaString,
+    pub value: DataValue,
+}
+
+impl WriteValue {
+    /// The whole value of a node, set to this.
+    pub fn of_value(node_id: NodeId, value: DataValue) -> WriteValue
+        ensures { result ≡ value_for_node node_id value }
+    {
+        WriteValue {
+            node_id,
+            attribute_id: VALUE,
+            index_range: UaString::null(),
+            value,
+        }
+    }
+}
+
+impl Wire for WriteValue {
+    ghost use Rattle.ua_structures.specs.Attribute.{write_value, write_value_starts};
+
+    ghost format = { write_value };
+
+    ghost starts = { write_value_starts };
+
+    #[tactic(auto, unfolding(crate::specs::Attribute::write_value))]
+    fn read_value<S: Source>(
+        alloc: Global,
+        src: &mut S,
+        depth: u32,
+    ) -> Result<WriteValue, ReadFault> {
+        let (node_id, (attribute_id, (index_range, value))) = Wire::read_value(alloc, src, depth)?;
+        Ok(WriteValue {
+            node_id,
+            attribute_id,
+            index_range,
+            value,
+        })
+    }
+
+    #[tactic(auto, unfolding(crate::specs::Attribute::write_value))]
+    fn is_encodable(&self) -> bool {
+        self.node_id.is_encodable()
+            && self.attribute_id.is_encodable()
+            && self.index_range.is_encodable()
+            && self.value.is_encodable()
+    }
+
+    #[tactic(auto, unfolding(crate::specs::Attribute::write_value))]
+    fn append(&self, out: &mut Vec<u8>) -> Result<(), AllocError> {
+        self.node_id.append(out)?;
+        self.attribute_id.append(out)?;
+        self.index_range.append(out)?;
+        self.value.append(out)?;
+        Ok(())
+    }
+}
+
+/// Write: sets attributes of nodes (OPC 10000-4, 5.11.4).
+#[derive(Drop)]
+pub struct WriteRequest {
+    pub request_header: RequestHeader,
+    pub nodes_to_write: UaArray<WriteValue>,
+}
+
+impl WriteRequest {
+    ghost use Rattle.ua_builtin.specs.Exact.{image_read};
+    ghost use Rattle.ua_builtin.specs.Format.{Gives, StaysBehind};
+    ghost use Rattle.ua_structures.specs.Attribute.{write_request_fields, write_request_of};
+
+    /// A Write of these items.
+    pub fn of_items(request_header: RequestHeader, items: Vec<WriteValue>) -> WriteRequest
+        ensures { result ≡ write_of request_header items.items }
+    {
+        WriteRequest {
+            request_header,
+            nodes_to_write: UaArray::new(Some(items)),
+        }
+    }
+
+    /// A Write of this one item.
+    pub fn of_item(
+        alloc: Global,
+        request_header: RequestHeader,
+        item: WriteValue,
+    ) -> Result<WriteRequest, AllocError>
+        ensures { IfOk result (λ request. request ≡ write_of request_header (item ∷ [])) }
+    {
+        let mut items = Vec::new(alloc);
+        items.push(item)?;
+        Ok(WriteRequest::of_items(request_header, items))
+    }
+
+    /// Reads the fields behind a header that was read already.
+    pub fn read_behind<S: Source>(
+        alloc: Global,
+        src: &mut S,
+        depth: u32,
+        request_header: RequestHeader,
+    ) -> Result<WriteRequest, ReadFault>
+        ensures exact { Gives (image_read (λ fields. write_request_of (request_header, fields)) (write_request_fields.decode depth)) (S.octets src.old) (S.octets src.new) result }
+        ensures behind { StaysBehind (S.octets src.old) (S.octets src.new) }
+    {
+        let nodes_to_write = Wire::read_value(alloc, src, depth)?;
+        Ok(WriteRequest {
+            request_header,
+            nodes_to_write,
+        })
+    }
+}
+
+impl Wire for WriteRequest {
+    ghost use Rattle.ua_structures.specs.Attribute.{write_request, write_request_starts};
+
+    ghost format = { write_request };
+
+    ghost starts = { write_request_starts };
+
+    #[tactic(auto, unfolding(crate::specs::Attribute::write_request))]
+    fn read_value<S: Source>(
+        alloc: Global,
+        src: &mut S,
+        depth: u32,
+    ) -> Result<WriteRequest, ReadFault> {
+        let request_header = RequestHeader::read_value(alloc, src, depth)?;
+        WriteRequest::read_behind(alloc, src, depth, request_header)
+    }
+
+    #[tactic(auto, unfolding(crate::specs::Attribute::write_request))]
+    fn is_encodable(&self) -> bool {
+        self.request_header.is_encodable() && self.nodes_to_write.is_encodable()
+    }
+
+    #[tactic(auto, unfolding(crate::specs::Attribute::write_request))]
+    fn append(&self, out: &mut Vec<u8>) -> Result<(), AllocError> {
+        self.request_header.append(out)?;
+        self.nodes_to_write.append(out)?;
+        Ok(())
+    }
+}
+
+/// The answer to a [`WriteRequest`] (OPC 10000-4, 5.11.4).
+#[derive(Drop)]
+pub struct WriteResponse {
+    pub response_header: ResponseHeader,
+    /// One for each item of the request, in its order.
+    pub results: UaArray<StatusCode>,
+    pub diagnostic_infos: UaArray<DiagnosticInfo>,
+}
+
+impl Wire for WriteResponse {
+    ghost use Rattle.ua_structures.specs.Attribute.{write_response, write_response_starts};
+
+    ghost format = { write_response };
+
+    ghost starts = { write_response_starts };
+
+    #[tactic(auto, unfolding(crate::specs::Attribute::write_response))]
+    fn read_value<S: Source>(
+        alloc: Global,
+        src: &mut S,
+        depth: u32,
+    ) -> Result<WriteResponse, ReadFault> {
+        let (response_header, (results, diagnostic_infos)) = Wire::read_value(alloc, src, depth)?;
+        Ok(WriteResponse {
+            response_header,
+            results,
+            diagnostic_infos,
+        })
+    }
+
+    #[tactic(auto, unfolding(crate::specs::Attribute::write_response))]
+    fn is_encodable(&self) -> bool {
+        self.response_header.is_encodable()
+            && self.results.is_encodable()
+            && self.diagnostic_infos.is_encodable()
+    }
+
+    #[tactic(auto, unfolding(crate::specs::Attribute::write_response))]
+    fn append(&self, out: &mut Vec<u8>) -> Result<(), AllocError> {
+        self.response_header.append(out)?;
+        self.results.append(out)?;
+        self.diagnostic_infos.append(out)?;
+        Ok(())
+    }
+}

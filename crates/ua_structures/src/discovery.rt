@@ -1,0 +1,349 @@
+//! Discovery: endpoints, and who serves them.
+
+use crate::array::UaArray;
+use crate::header::{RequestHeader, ResponseHeader};
+use std::alloc::{AllocError, Global};
+use ua_builtin::{LocalizedText, ReadFault, Source, UaBytes, UaString, Wire};
+
+/// A server or a client (OPC 10000-4, 7.2).
+#[derive(Drop)]
+pub struct ApplicationDescription {
+    /// The name of this installation, unique in the world.
+    pub application_uri: UaString,
+    pub product_uri: UaString,
+    pub application_name: LocalizedText,
+    /// 0 for a server, 1 for a client; every number is kept.
+    pub application_type: i32,
+    pub gateway_server_uri: UaString,
+    pub discovery_profile_uri: UaString,
+    pub discovery_urls: UaArray<UaString>,
+}
+
+impl Wire for ApplicationDescription {
+    ghost use Rattle.ua_structures.specs.Discovery.{application_description, application_description_starts};
+
+    ghost format = { application_description };
+
+    ghost starts = { application_description_starts };
+
+    #[tactic(auto, unfolding(crate::specs::Discovery::application_description))]
+    fn read_value<S: Source>(
+        alloc: Global,
+        src: &mut S,
+        depth: u32,
+    ) -> Result<ApplicationDescription, ReadFault> {
+        let (
+            application_uri,
+            (
+                product_uri,
+                (
+                    application_name,
+                    (
+                        application_type,
+                        (gateway_server_uri, (discovery_profile_uri, discovery_urls)),
+                    ),
+                ),
+            ),
+        ) = Wire::read_value(alloc, src, depth)?;
+        Ok(ApplicationDescription {
+            application_uri,
+            product_uri,
+            application_name,
+            application_type,
+            gateway_server_uri,
+            discovery_profile_uri,
+            discovery_urls,
+        })
+    }
+
+    #[tactic(auto, unfolding(crate::specs::Discovery::application_description))]
+    fn is_encodable(&self) -> bool {
+        self.application_uri.is_encodable()
+            && self.product_uri.is_encodable()
+            && self.application_name.is_encodable()
+            && self.application_type.is_encodable()
+            && self.gateway_server_uri.is_encodable()
+            && self.discovery_profile_uri.is_encodable()
+            && self.discovery_urls.is_encodable()
+    }
+
+    #[tactic(auto, unfolding(crate::specs::Discovery::application_description))]
+    fn append(&self, out: &mut Vec<u8>) -> Result<(), AllocError> {
+        self.application_uri.append(out)?;
+        self.product_uri.append(out)?;
+        self.application_name.append(out)?;
+        self.application_type.append(out)?;
+        self.gateway_server_uri.append(out)?;
+        self.discovery_profile_uri.append(out)?;
+        self.discovery_urls.append(out)?;
+        Ok(())
+    }
+}
+
+/// A kind of user token that an endpoint takes (OPC 10000-4, 7.42).
+#[derive(Drop)]
+pub struct UserTokenPolicy {
+    /// The name by which an identity token refers to this policy.
+    pub policy_id: UaString,
+    /// 0 for Anonymous; every number is kept.
+    pub token_type: i32,
+    pub issued_token_type: UaString,
+    pub issuer_endpoint_url: UaString,
+    pub security_policy_uri: UaString,
+}
+
+impl Wire for UserTokenPolicy {
+    ghost use Rattle.ua_structures.specs.Discovery.{user_token_policy, user_token_policy_starts};
+
+    ghost format = { user_token_policy };
+
+    ghost starts = { user_token_policy_starts };
+
+    #[tactic(auto, unfolding(crate::specs::Discovery::user_token_policy))]
+    fn read_value<S: Source>(
+        alloc: Global,
+        src: &mut S,
+        depth: u32,
+    ) -> Result<UserTokenPolicy, ReadFault> {
+        let (
+            policy_id,
+            (token_type, (issued_token_type, (issuer_endpoint_url, security_policy_uri))),
+        ) = Wire::read_value(alloc, src, depth)?;
+        Ok(UserTokenPolicy {
+            policy_id,
+            token_type,
+            issued_token_type,
+            issuer_endpoint_url,
+            security_policy_uri,
+        })
+    }
+
+    #[tactic(auto, unfolding(crate::specs::Discovery::user_token_policy))]
+    fn is_encodable(&self) -> bool {
+        self.policy_id.is_encodable()
+            && self.token_type.is_encodable()
+            && self.issued_token_type.is_encodable()
+            && self.issuer_endpoint_url.is_encodable()
+            && self.security_policy_uri.is_encodable()
+    }
+
+    #[tactic(auto, unfolding(crate::specs::Discovery::user_token_policy))]
+    fn append(&self, out: &mut Vec<u8>) -> Result<(), AllocError> {
+        self.policy_id.append(out)?;
+        self.token_type.append(out)?;
+        self.issued_token_type.append(out)?;
+        self.issuer_endpoint_url.append(out)?;
+        self.security_policy_uri.append(out)?;
+        Ok(())
+    }
+}
+
+/// A way to reach a server: where, and under which security (OPC 10000-4, 7.14).
+#[derive(Drop)]
+pub struct EndpointDescription {
+    pub endpoint_url: UaString,
+    pub server: ApplicationDescription,
+    pub server_certificate: UaBytes,
+    /// 1 for None, 2 for Sign, 3 for SignAndEncrypt; every number is kept.
+    pub security_mode: i32,
+    pub security_policy_uri: UaString,
+    pub user_identity_tokens: UaArray<UserTokenPolicy>,
+    pub transport_profile_uri: UaString,
+    /// The greater, the more secure.
+    pub security_level: u8,
+}
+
+impl EndpointDescription {
+    ghost use Rattle.std.specs.Prelude.{◌≡◌, ◌++◌, IsTrue, OnOk, OnErr};
+    ghost use Rattle.ua_builtin.specs.Format.{Extends};
+    ghost use Rattle.ua_structures.specs.Discovery.{endpoint_description_tail, endpoint_description_tail_of};
+
+    // The fields from security_policy_uri on.
+    #[tactic(auto, unfolding(crate::specs::Discovery::endpoint_description_tail))]
+    fn append_tail(&self, out: &mut Vec<u8>) -> Result<(), AllocError>
+        requires { IsTrue (endpoint_description_tail.encodable (endpoint_description_tail_of self.now)) }
+        ensures ok { OnOk result (out.new.items ≡ out.old.items ++ endpoint_description_tail.canonical (endpoint_description_tail_of self.now)) }
+        ensures err { OnErr result (Extends out.old.items out.new.items) }
+    {
+        self.security_policy_uri.append(out)?;
+        self.user_identity_tokens.append(out)?;
+        self.transport_profile_uri.append(out)?;
+        self.security_level.append(out)?;
+        Ok(())
+    }
+}
+
+impl Wire for EndpointDescription {
+    ghost use Rattle.ua_structures.specs.Discovery.{endpoint_description, endpoint_description_starts};
+
+    ghost format = { endpoint_description };
+
+    ghost starts = { endpoint_description_starts };
+
+    #[tactic(auto, unfolding(crate::specs::Discovery::endpoint_description, crate::specs::Discovery::endpoint_description_tail))]
+    fn read_value<S: Source>(
+        alloc: Global,
+        src: &mut S,
+        depth: u32,
+    ) -> Result<EndpointDescription, ReadFault> {
+        let (
+            endpoint_url,
+            (
+                server,
+                (
+                    server_certificate,
+                    (
+                        security_mode,
+                        (
+                            security_policy_uri,
+                            (user_identity_tokens, (transport_profile_uri, security_level)),
+                        ),
+                    ),
+                ),
+            ),
+        ) = Wire::read_value(alloc, src, depth)?;
+        Ok(EndpointDescription {
+            endpoint_url,
+            server,
+            server_certificate,
+            security_mode,
+            security_policy_uri,
+            user_identity_tokens,
+            transport_profile_uri,
+            security_level,
+        })
+    }
+
+    #[tactic(auto, unfolding(crate::specs::Discovery::endpoint_description, crate::specs::Discovery::endpoint_description_tail))]
+    fn is_encodable(&self) -> bool {
+        self.endpoint_url.is_encodable()
+            && self.server.is_encodable()
+            && self.server_certificate.is_encodable()
+            && self.security_mode.is_encodable()
+            && self.security_policy_uri.is_encodable()
+            && self.user_identity_tokens.is_encodable()
+            && self.transport_profile_uri.is_encodable()
+            && self.security_level.is_encodable()
+    }
+
+    #[tactic(auto, unfolding(crate::specs::Discovery::endpoint_description))]
+    fn append(&self, out: &mut Vec<u8>) -> Result<(), AllocError> {
+        self.endpoint_url.append(out)?;
+        self.server.append(out)?;
+        self.server_certificate.append(out)?;
+        self.security_mode.append(out)?;
+        self.append_tail(out)?;
+        Ok(())
+    }
+}
+
+/// GetEndpoints: asks for the endpoints of a server (OPC 10000-4, 5.5.4).
+#[derive(Drop)]
+pub struct GetEndpointsRequest {
+    pub request_header: RequestHeader,
+    /// The address by which the client reached the server.
+    pub endpoint_url: UaString,
+    pub locale_ids: UaArray<UaString>,
+    /// The transport profiles that are asked for; none is all.
+    pub profile_uris: UaArray<UaString>,
+}
+
+impl GetEndpointsRequest {
+    ghost use Rattle.ua_builtin.specs.Exact.{image_read};
+    ghost use Rattle.ua_builtin.specs.Format.{Gives, StaysBehind};
+    ghost use Rattle.ua_structures.specs.Discovery.{get_endpoints_request_fields, get_endpoints_request_of};
+
+    /// Reads the fields behind a header that was read already.
+    pub fn read_behind<S: Source>(
+        alloc: Global,
+        src: &mut S,
+        depth: u32,
+        request_header: RequestHeader,
+    ) -> Result<GetEndpointsRequest, ReadFault>
+        ensures exact { Gives (image_read (λ fields. get_endpoints_request_of (request_header, fields)) (get_endpoints_request_fields.decode depth)) (S.octets src.old) (S.octets src.new) result }
+        ensures behind { StaysBehind (S.octets src.old) (S.octets src.new) }
+    {
+        let (endpoint_url, (locale_ids, profile_uris)) = Wire::read_value(alloc, src, depth)?;
+        Ok(GetEndpointsRequest {
+            request_header,
+            endpoint_url,
+            locale_ids,
+            profile_uris,
+        })
+    }
+}
+
+impl Wire for GetEndpointsRequest {
+    ghost use Rattle.ua_structures.specs.Discovery.{get_endpoints_request, get_endpoints_request_starts};
+
+    ghost format = { get_endpoints_request };
+
+    ghost starts = { get_endpoints_request_starts };
+
+    #[tactic(auto, unfolding(crate::specs::Discovery::get_endpoints_request))]
+    fn read_value<S: Source>(
+        alloc: Global,
+        src: &mut S,
+        depth: u32,
+    ) -> Result<GetEndpointsRequest, ReadFault> {
+        let request_header = RequestHeader::read_value(alloc, src, depth)?;
+        GetEndpointsRequest::read_behind(alloc, src, depth, request_header)
+    }
+
+    #[tactic(auto, unfolding(crate::specs::Discovery::get_endpoints_request))]
+    fn is_encodable(&self) -> bool {
+        self.request_header.is_encodable()
+            && self.endpoint_url.is_encodable()
+            && self.locale_ids.is_encodable()
+            && self.profile_uris.is_encodable()
+    }
+
+    #[tactic(auto, unfolding(crate::specs::Discovery::get_endpoints_request))]
+    fn append(&self, out: &mut Vec<u8>) -> Result<(), AllocError> {
+        self.request_header.append(out)?;
+        self.endpoint_url.append(out)?;
+        self.locale_ids.append(out)?;
+        self.profile_uris.append(out)?;
+        Ok(())
+    }
+}
+
+/// The answer to a [`GetEndpointsRequest`] (OPC 10000-4, 5.5.4).
+#[derive(Drop)]
+pub struct GetEndpointsResponse {
+    pub response_header: ResponseHeader,
+    pub endpoints: UaArray<EndpointDescription>,
+}
+
+impl Wire for GetEndpointsResponse {
+    ghost use Rattle.ua_structures.specs.Discovery.{get_endpoints_response, get_endpoints_response_starts};
+
+    ghost format = { get_endpoints_response };
+
+    ghost starts = { get_endpoints_response_starts };
+
+    #[tactic(auto, unfolding(crate::specs::Discovery::get_endpoints_response))]
+    fn read_value<S: Source>(
+        alloc: Global,
+        src: &mut S,
+        depth: u32,
+    ) -> Result<GetEndpointsResponse, ReadFault> {
+        let (response_header, endpoints) = Wire::read_value(alloc, src, depth)?;
+        Ok(GetEndpointsResponse {
+            response_header,
+            endpoints,
+        })
+    }
+
+    #[tactic(auto, unfolding(crate::specs::Discovery::get_endpoints_response))]
+    fn is_encodable(&self) -> bool {
+        self.response_header.is_encodable() && self.endpoints.is_encodable()
+    }
+
+    #[tactic(auto, unfolding(crate::specs::Discovery::get_endpoints_response))]
+    fn append(&self, out: &mut Vec<u8>) -> Result<(), AllocError> {
+        self.response_header.append(out)?;
+        self.endpoints.append(out)?;
+        Ok(())
+    }
+}

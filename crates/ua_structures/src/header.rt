@@ -1,0 +1,262 @@
+//! Headers of requests and responses, and the fault.
+
+ghost use Rattle.std.specs.Prelude.{◌≡◌};
+ghost use Rattle.ua_structures.specs.Plain.{null_object as nothing_held, request_header_of, response_header_of, service_fault_of};
+
+use crate::array::UaArray;
+use std::alloc::{AllocError, Global};
+use ua_builtin::{
+    DateTime, ExtensionBody, ExtensionObject, Identifier, NodeId, ReadFault, Source, StatusCode,
+    UaString, Wire,
+};
+use ua_variant::DiagnosticInfo;
+
+// The object that holds nothing.
+fn null_object() -> ExtensionObject
+    ensures { result ≡ nothing_held }
+{
+    ExtensionObject {
+        type_id: NodeId::new(0, Identifier::Numeric(0)),
+        body: ExtensionBody::Absent,
+    }
+}
+
+/// What stands at the head of each request (OPC 10000-4, 7.33).
+#[derive(Drop)]
+pub struct RequestHeader {
+    /// The token that CreateSession gave; null where there is no session.
+    pub authentication_token: NodeId,
+    /// When the client sent the request.
+    pub timestamp: DateTime,
+    /// A number of the client's own, which comes back in the response.
+    pub request_handle: u32,
+    /// Which diagnostics the client asks for, as bits.
+    pub return_diagnostics: u32,
+    pub audit_entry_id: UaString,
+    /// How long the client waits, in milliseconds; 0 is no limit.
+    pub timeout_hint: u32,
+    pub additional_header: ExtensionObject,
+}
+
+impl RequestHeader {
+    /// The header of a request under this token (that of CreateSession, null without a session),
+    /// sent at this moment, with this handle: it asks for no diagnostics, names no audit entry and
+    /// no timeout, and adds nothing.
+    pub fn new(
+        authentication_token: NodeId,
+        timestamp: DateTime,
+        request_handle: u32,
+    ) -> RequestHeader
+        ensures { result ≡ request_header_of authentication_token timestamp request_handle }
+    {
+        RequestHeader {
+            authentication_token,
+            timestamp,
+            request_handle,
+            return_diagnostics: 0,
+            audit_entry_id: UaString::null(),
+            timeout_hint: 0,
+            additional_header: null_object(),
+        }
+    }
+}
+
+impl Wire for RequestHeader {
+    ghost use Rattle.ua_structures.specs.Header.{request_header, request_header_starts};
+
+    ghost format = { request_header };
+
+    ghost starts = { request_header_starts };
+
+    #[tactic(auto, unfolding(crate::specs::Header::request_header))]
+    fn read_value<S: Source>(
+        alloc: Global,
+        src: &mut S,
+        depth: u32,
+    ) -> Result<RequestHeader, ReadFault> {
+        let (
+            authentication_token,
+            (
+                timestamp,
+                (
+                    request_handle,
+                    (return_diagnostics, (audit_entry_id, (timeout_hint, additional_header))),
+                ),
+            ),
+        ) = Wire::read_value(alloc, src, depth)?;
+        Ok(RequestHeader {
+            authentication_token,
+            timestamp,
+            request_handle,
+            return_diagnostics,
+            audit_entry_id,
+            timeout_hint,
+            additional_header,
+        })
+    }
+
+    #[tactic(auto, unfolding(crate::specs::Header::request_header))]
+    fn is_encodable(&self) -> bool {
+        self.authentication_token.is_encodable()
+            && self.timestamp.is_encodable()
+            && self.request_handle.is_encodable()
+            && self.return_diagnostics.is_encodable()
+            && self.audit_entry_id.is_encodable()
+            && self.timeout_hint.is_encodable()
+            && self.additional_header.is_encodable()
+    }
+
+    #[tactic(auto, unfolding(crate::specs::Header::request_header))]
+    fn append(&self, out: &mut Vec<u8>) -> Result<(), AllocError> {
+        self.authentication_token.append(out)?;
+        self.timestamp.append(out)?;
+        self.request_handle.append(out)?;
+        self.return_diagnostics.append(out)?;
+        self.audit_entry_id.append(out)?;
+        self.timeout_hint.append(out)?;
+        self.additional_header.append(out)?;
+        Ok(())
+    }
+}
+
+/// What stands at the head of each response (OPC 10000-4, 7.34).
+#[derive(Drop)]
+pub struct ResponseHeader {
+    /// When the server sent the response.
+    pub timestamp: DateTime,
+    /// The handle of the request.
+    pub request_handle: u32,
+    /// The result of the whole service.
+    pub service_result: StatusCode,
+    pub service_diagnostics: DiagnosticInfo,
+    /// The texts that diagnostics name by their index.
+    pub string_table: UaArray<UaString>,
+    pub additional_header: ExtensionObject,
+}
+
+impl ResponseHeader {
+    /// The header of a response sent at this moment to the request with this handle, with this
+    /// result: without diagnostics and texts, it adds nothing.
+    pub fn new(
+        timestamp: DateTime,
+        request_handle: u32,
+        service_result: StatusCode,
+    ) -> ResponseHeader
+        ensures { result ≡ response_header_of timestamp request_handle service_result }
+    {
+        ResponseHeader {
+            timestamp,
+            request_handle,
+            service_result,
+            service_diagnostics: DiagnosticInfo {
+                symbolic_id: None,
+                namespace_uri: None,
+                locale: None,
+                localized_text: None,
+                additional_info: UaString::null(),
+                inner_status_code: None,
+                inner: None,
+            },
+            string_table: UaArray::null(),
+            additional_header: null_object(),
+        }
+    }
+}
+
+impl Wire for ResponseHeader {
+    ghost use Rattle.ua_structures.specs.Header.{response_header, response_header_starts};
+
+    ghost format = { response_header };
+
+    ghost starts = { response_header_starts };
+
+    #[tactic(auto, unfolding(crate::specs::Header::response_header))]
+    fn read_value<S: Source>(
+        alloc: Global,
+        src: &mut S,
+        depth: u32,
+    ) -> Result<ResponseHeader, ReadFault> {
+        let (
+            timestamp,
+            (
+                request_handle,
+                (service_result, (service_diagnostics, (string_table, additional_header))),
+            ),
+        ) = Wire::read_value(alloc, src, depth)?;
+        Ok(ResponseHeader {
+            timestamp,
+            request_handle,
+            service_result,
+            service_diagnostics,
+            string_table,
+            additional_header,
+        })
+    }
+
+    #[tactic(auto, unfolding(crate::specs::Header::response_header))]
+    fn is_encodable(&self) -> bool {
+        self.timestamp.is_encodable()
+            && self.request_handle.is_encodable()
+            && self.service_result.is_encodable()
+            && self.service_diagnostics.is_encodable()
+            && self.string_table.is_encodable()
+            && self.additional_header.is_encodable()
+    }
+
+    #[tactic(auto, unfolding(crate::specs::Header::response_header))]
+    fn append(&self, out: &mut Vec<u8>) -> Result<(), AllocError> {
+        self.timestamp.append(out)?;
+        self.request_handle.append(out)?;
+        self.service_result.append(out)?;
+        self.service_diagnostics.append(out)?;
+        self.string_table.append(out)?;
+        self.additional_header.append(out)?;
+        Ok(())
+    }
+}
+
+/// The answer to a request whose service failed (OPC 10000-4, 7.35).
+#[derive(Drop)]
+pub struct ServiceFault {
+    pub response_header: ResponseHeader,
+}
+
+impl ServiceFault {
+    /// The fault with this code, sent at this moment to the request with this handle.
+    pub fn new(timestamp: DateTime, request_handle: u32, code: StatusCode) -> ServiceFault
+        ensures { result ≡ service_fault_of timestamp request_handle code }
+    {
+        ServiceFault {
+            response_header: ResponseHeader::new(timestamp, request_handle, code),
+        }
+    }
+}
+
+impl Wire for ServiceFault {
+    ghost use Rattle.ua_structures.specs.Header.{service_fault, service_fault_starts};
+
+    ghost format = { service_fault };
+
+    ghost starts = { service_fault_starts };
+
+    #[tactic(auto, unfolding(crate::specs::Header::service_fault))]
+    fn read_value<S: Source>(
+        alloc: Global,
+        src: &mut S,
+        depth: u32,
+    ) -> Result<ServiceFault, ReadFault> {
+        let response_header = Wire::read_value(alloc, src, depth)?;
+        Ok(ServiceFault { response_header })
+    }
+
+    #[tactic(auto, unfolding(crate::specs::Header::service_fault))]
+    fn is_encodable(&self) -> bool {
+        self.response_header.is_encodable()
+    }
+
+    #[tactic(auto, unfolding(crate::specs::Header::service_fault))]
+    fn append(&self, out: &mut Vec<u8>) -> Result<(), AllocError> {
+        self.response_header.append(out)?;
+        Ok(())
+    }
+}

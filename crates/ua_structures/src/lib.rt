@@ -1,0 +1,28 @@
+//! The structures of the services of OPC UA Binary: how octets encode them, both ways
+//! (OPC 10000-6, 5.2.5 and 5.2.6; OPC 10000-4, 5 and 7).
+//!
+//! A structure is its fields in order, and its contract is that of [`ua_builtin::Wire`].
+#![tactic(auto)]
+
+mod array;
+mod attribute;
+mod discovery;
+mod header;
+mod secure_channel;
+mod session;
+
+pub use array::{UaArray, read_array};
+pub use attribute::{
+    ReadRequest, ReadResponse, ReadValueId, WriteRequest, WriteResponse, WriteValue,
+};
+pub use discovery::{
+    ApplicationDescription, EndpointDescription, GetEndpointsRequest, GetEndpointsResponse,
+    UserTokenPolicy,
+};
+pub use header::{RequestHeader, ResponseHeader, ServiceFault};
+pub use secure_channel::{CloseRequest, OpenRequest, OpenResponse};
+pub use session::{
+    ActivateSessionRequest, ActivateSessionResponse, AnonymousIdentityToken, CloseSessionRequest,
+    CloseSessionResponse, CreateSessionRequest, CreateSessionResponse, SignatureData,
+    SignedSoftwareCertificate,
+};
