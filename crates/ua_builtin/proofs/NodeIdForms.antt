@@ -1,12 +1,11 @@
 -- The format of NodeIds encodes them in the six forms of the standard's table, and in no other.
-use Rattle.std.proofs.Common.{◌≡◌, ◌<◌, ◌^◌, ◌⊎◌, inl, inr, ◌↔◌, ℕ, Bool, true, false, cond, nat_eq, List, [], ◌∷◌, ◌++◌, refl, sym, ap, subst, ◌∙◌, arith, lit<}
+use Rattle.std.proofs.Common.{◌≡◌, ◌<◌, ◌⊎◌, inl, inr, ◌↔◌, ℕ, Bool, true, false, cond, nat_eq, List, [], ◌∷◌, ◌++◌, refl, sym, ap, subst, ◌∙◌, arith, lit<}
 use Rattle.std.proofs.lemmas.Bool.{eqb-true}
 use Rattle.ua_octets.specs.Number.{number_octets, one_octet}
 use Rattle.ua_octets.specs.Format.{Flat}
-use Rattle.ua_builtin.specs.NodeId.{node, node_id, in_form, two_octets, numeric, textual, by_guid, opaque}
+use Rattle.ua_builtin.specs.NodeId.{node_id, in_form, two_octets, numeric, textual, by_guid, opaque}
 use Rattle.ua_builtin.specs.NodeIdForms.{TwoOctet, FourOctet, NumericForm, StringForm, GuidForm, OpaqueForm, EncodesNodeId, two_octet, four_octet, numeric_form, string_form, guid_form, opaque_form}
 use Rattle.ua_builtin.specs.declared.node_id.NodeId.{NodeId}
-use Rattle.ua_builtin.specs.declared.node_id.Identifier.TheVariants.{Numeric, Text, Guid as Global, Opaque}
 
 -- ---- from the format to the forms
 

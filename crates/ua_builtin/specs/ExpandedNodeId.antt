@@ -1,5 +1,5 @@
 -- ExpandedNodeIds: NodeIds with the URI of their namespace, or the index of another server.
-use Rattle.std.specs.Prelude.{◌≡◌, ◌+◌, ◌<◌, ◌≤◌, ◌^◌, ◌&&◌, ℕ, zero, suc, List, ◌++◌, Bool, true, false, not, Option, Some, None, cond, IsTrue, nat_eq, nat_lt, bit_and, is_some}
+use Rattle.std.specs.Prelude.{◌≡◌, ◌+◌, ◌<◌, ◌^◌, ◌&&◌, ℕ, zero, suc, List, ◌++◌, Bool, true, false, not, Option, cond, IsTrue, nat_eq, nat_lt, bit_and, is_some}
 use Rattle.std.proofs.Common.{refl, sym, ◌∙◌, ap, append_assoc, arith}
 use Rattle.std.proofs.lemmas.Bool.{eqb-true}
 use Rattle.ua_octets.specs.Number.{IsNumber, number_octets}

@@ -1,5 +1,5 @@
 -- LocalizedTexts.
-use Rattle.std.specs.Prelude.{◌≡◌, ◌+◌, ◌^◌, ℕ, List, Bool, true, false, Option, Some, None, cond, nat_lt, is_some}
+use Rattle.std.specs.Prelude.{◌≡◌, ◌+◌, ◌^◌, ℕ, List, Bool, true, false, Option, cond, nat_lt, is_some}
 use Rattle.std.proofs.Common.{refl}
 use Rattle.ua_octets.specs.Number.{IsNumber}
 use Rattle.ua_octets.specs.Format.{Flat}

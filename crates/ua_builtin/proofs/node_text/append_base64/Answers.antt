@@ -1,4 +1,4 @@
-use Rattle.std.proofs.Common.{◌<◌, arith}
+use Rattle.std.proofs.Common.{arith}
 use Rattle.ua_builtin.proofs.node_text.append_base64.Goals as goal
 
 pub returns-clause-octets : goal.returns-clause-octets

@@ -1,4 +1,3 @@
-use Rattle.std.proofs.Common.{refl}
 use Rattle.ua_builtin.proofs.node_text.parse_guid.Goals as goal
 
 pub returns-in-Err : goal.returns-in-Err

@@ -1,4 +1,4 @@
-use Rattle.std.proofs.Common.{subst, refl}
+use Rattle.std.proofs.Common.{subst}
 use Rattle.ua_builtin.specs.NodeText.{IsRest}
 use Rattle.ua_builtin.proofs.Texts.{no_cut, no_decimal, no_namespace_number, numbered_rest, no_fit, fit_is}
 use Rattle.ua_builtin.proofs.node_text.split_namespace.Goals as goal

@@ -1,4 +1,4 @@
-use Rattle.std.proofs.Common.{◌≡◌, ◌++◌, List, ℕ, ap, ◌∙◌}
+use Rattle.std.proofs.Common.{◌++◌, ℕ, ap, ◌∙◌}
 use Rattle.ua_octets.specs.Number.{number_octets}
 use Rattle.ua_builtin.specs.ExpandedNodeId.{canonical_parts}
 use Rattle.ua_builtin.proofs.expanded_node_id.ExpandedNodeIdWire.append.Goals as goal

@@ -1,5 +1,5 @@
-use Rattle.std.proofs.Common.{◌≡◌, ◌<◌, ◌^◌, ap, sym, ◌∙◌, arith}
-use Rattle.ua_builtin.proofs.Texts.{numeric_names, guid_names, opaque_names}
+use Rattle.std.proofs.Common.{arith}
+use Rattle.ua_builtin.proofs.Texts.{numeric_names, guid_names}
 use Rattle.ua_builtin.proofs.node_id.Identifier.append_text.Goals as goal
 
 pub returns-in_ok-push_str-in-Numeric-clause-names :

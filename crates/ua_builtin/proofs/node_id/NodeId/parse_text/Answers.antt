@@ -1,4 +1,4 @@
-use Rattle.std.proofs.Common.{◌≡◌, refl}
+use Rattle.std.proofs.Common.{refl}
 use Rattle.std.proofs.lemmas.Result.{err_from_is_err_and}
 use Rattle.ua_builtin.specs.declared.fault.TextFault.TheVariants.{NotNodeId}
 use Rattle.ua_builtin.proofs.Texts.{same_fault}

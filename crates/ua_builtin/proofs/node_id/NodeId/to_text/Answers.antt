@@ -1,4 +1,4 @@
-use Rattle.std.proofs.Common.{◌≡◌, ◌++◌, List, ℕ, ap, ◌∙◌, arith}
+use Rattle.std.proofs.Common.{◌++◌, List, ℕ, ap, ◌∙◌, arith}
 use Rattle.ua_builtin.specs.NodeText.{identifier_text}
 use Rattle.ua_builtin.proofs.Texts.{node_names}
 use Rattle.ua_builtin.proofs.node_id.NodeId.to_text.Goals as goal
