@@ -1,11 +1,8 @@
 //! Node files.
 
-ghost use Rattle.std.specs.Prelude.{◌≡◌, ◌∷◌, [], ◌≢◌, IfOk, IfErr, OnOk, OnErr, length, MatchOption, Ok};
+ghost use Rattle.std.specs.Prelude.{◌≡◌, ◌≢◌, ◌∷◌, [], length, MatchOption, IfOk, IfErr, OnOk};
 ghost use Rattle.std.specs.Str.Lines.{strip_carriage_return};
-ghost use Rattle.std.specs.List.{IsDistinct};
-ghost use Rattle.std.specs.Map.{keys_of};
 ghost use Rattle.ua_nodes.specs.NodeFile.{node_lines, WriteNodes, Refuses, Adds, RefusesLine, GivesNode, GivesId, GivesName, access_denoted, fields};
-ghost use Rattle.ua_nodes.specs.Table.{same_id};
 
 use crate::fault::{LineFault, LineReason, LoadFault};
 use crate::node::{Access, Node};
