@@ -1,4 +1,4 @@
--- The answer to an item of a Read (OPC 10000-4, 5.10.2).
+-- The answer to an item of a Read (OPC 10000-4, 5.11.2).
 use Rattle.std.specs.Prelude.{ℕ, Bool, true, false, not, ◌&&◌, ◌||◌, cond, nat_eq, nat_lt, List, [], ◌∷◌, length, Option, None, Some, codes}
 use Rattle.std.specs.Str.{bytes_eq}
 use Rattle.ua_builtin.specs.declared.date_time.DateTime.{DateTime}

@@ -1,4 +1,4 @@
--- The answers to the items of a Write, and what they leave (OPC 10000-4, 5.10.4).
+-- The answers to the items of a Write, and what they leave (OPC 10000-4, 5.11.4).
 use Rattle.std.specs.Prelude.{ℕ, Bool, true, false, not, ◌&&◌, ◌||◌, cond, nat_eq, map, List, [], ◌∷◌, Option, None, Some, is_none}
 use Rattle.ua_builtin.specs.declared.date_time.DateTime.{DateTime}
 use Rattle.ua_builtin.specs.declared.node_id.NodeId.{NodeId}

@@ -1,5 +1,5 @@
 //! The node table of a server: nodes with their values, node files, and the items of Read and Write
-//! (OPC 10000-4, 5.10).
+//! (OPC 10000-4, 5.11).
 #![tactic(auto)]
 
 mod fault;

@@ -23,7 +23,7 @@ pub(crate) const VALUE: u32 = 13;
 
 impl NodeTable {
     /// The answer to an item of a Read, at a moment: the value of the attribute with the times that
-    /// are asked for, or a status alone (OPC 10000-4, 5.10.2).
+    /// are asked for, or a status alone (OPC 10000-4, 5.11.2).
     pub fn read_item(
         &self,
         alloc: Global,
