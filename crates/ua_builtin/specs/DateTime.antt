@@ -7,6 +7,7 @@ use Rattle.ua_octets.specs.Join.{made, image_starts, TakesSome}
 use Rattle.ua_octets.specs.Signed.{signed, signed_starts}
 use Rattle.ua_builtin.specs.declared.date_time.DateTime.{DateTime}
 
+-- the DateTime of this number of ticks, each 100 nanoseconds
 abbrev pub of_ticks : ℤ → DateTime
 of_ticks n = record { ticks = n }
 

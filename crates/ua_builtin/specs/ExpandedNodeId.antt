@@ -12,9 +12,11 @@ use Rattle.ua_builtin.specs.declared.node_id.Identifier.{Identifier}
 use Rattle.ua_builtin.specs.declared.node_id.Identifier.TheVariants.{Numeric, Text, Guid, Opaque}
 use Rattle.ua_builtin.specs.declared.expanded_node_id.ExpandedNodeId.{ExpandedNodeId}
 
+-- the ExpandedNodeId of a NodeId, the URI of its namespace and the index of its server
 abbrev pub expanded : NodeId × (Option (List ℕ) × ℕ) → ExpandedNodeId
 expanded p = record { node_id = p.0; namespace_uri = p.1.0; server_index = p.1.1 }
 
+-- the index is that of the server itself, 0
 abbrev pub is_here : ℕ → Bool
 is_here index = nat_eq index 0
 

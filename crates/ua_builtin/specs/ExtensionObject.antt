@@ -13,26 +13,31 @@ use Rattle.ua_builtin.specs.declared.extension_object.ExtensionObject.{Extension
 use Rattle.ua_builtin.specs.declared.extension_object.ExtensionBody.{ExtensionBody}
 use Rattle.ua_builtin.specs.declared.extension_object.ExtensionBody.TheVariants.{Absent, ByteString, Xml}
 
+-- there is no body
 abbrev pub is_absent : ExtensionBody → Bool
 is_absent Absent = true
 is_absent (ByteString b) = false
 is_absent (Xml x) = false
 
+-- the body is a ByteString
 abbrev pub is_byte_string : ExtensionBody → Bool
 is_byte_string Absent = false
 is_byte_string (ByteString b) = true
 is_byte_string (Xml x) = false
 
+-- the body is an XmlElement
 abbrev pub is_xml : ExtensionBody → Bool
 is_xml Absent = false
 is_xml (ByteString b) = false
 is_xml (Xml x) = true
 
+-- the ByteString that is the body, and null for any other body
 abbrev pub octets_of : ExtensionBody → Option (List ℕ)
 octets_of Absent = None
 octets_of (ByteString b) = b
 octets_of (Xml x) = None
 
+-- the XmlElement that is the body, and a null one for any other body
 abbrev pub xml_of : ExtensionBody → XmlElement
 xml_of Absent = record { octets = None }
 xml_of (ByteString b) = record { octets = None }
@@ -60,14 +65,17 @@ behind_kind kind =
     (cond (nat_eq kind 1) (image ByteString octets_of is_byte_string byte_string_is counted)
     (cond (nat_eq kind 2) (image Xml xml_of is_xml xml_is xml_element) nothing))
 
+-- the octet for the kind of body: 0x00 for none, 0x01 for a ByteString, 0x02 for an XmlElement (OPC 10000-6, 5.2.2.15)
 abbrev pub kind_of : ExtensionBody → ℕ
 kind_of Absent = 0
 kind_of (ByteString b) = 1
 kind_of (Xml x) = 2
 
+-- an octet for the kind of body, and the body
 abbrev pub body : Flat ExtensionBody
 body = bind (number 1) behind_kind kind_of
 
+-- the ExtensionObject of the NodeId of its type's encoding and its body
 abbrev pub extension : NodeId × ExtensionBody → ExtensionObject
 extension p = record { type_id = p.0; body = p.1 }
 

@@ -13,6 +13,7 @@ use Rattle.ua_builtin.specs.declared.guid.Guid.{Guid}
 abbrev pub swapped : List ℕ → Guid
 swapped b = record { uuid = swap_fields b }
 
+-- the Guid has 16 octets
 abbrev pub has_16 : Guid → Bool
 has_16 g = nat_eq (length g.uuid) 16
 

@@ -7,6 +7,7 @@ use Rattle.ua_octets.specs.Join.{number, nothing, bind, both, made, bind_starts,
 use Rattle.ua_builtin.specs.Flags.{has, flag_bit, flagged_text}
 use Rattle.ua_builtin.specs.declared.localized_text.LocalizedText.{LocalizedText}
 
+-- the LocalizedText of a locale and a text
 abbrev pub localized : Option (List ℕ) × Option (List ℕ) → LocalizedText
 localized p = record { locale = p.0; text = p.1 }
 

@@ -15,48 +15,56 @@ use Rattle.ua_builtin.specs.declared.node_id.Identifier.TheVariants.{Numeric, Te
 
 -- ---- kinds of identifier, and what each holds
 
+-- the identifier is a number
 abbrev pub is_numeric : Identifier → Bool
 is_numeric (Numeric n) = true
 is_numeric (Text t) = false
 is_numeric (Global g) = false
 is_numeric (Opaque b) = false
 
+-- the identifier is a String
 abbrev pub is_textual : Identifier → Bool
 is_textual (Numeric n) = false
 is_textual (Text t) = true
 is_textual (Global g) = false
 is_textual (Opaque b) = false
 
+-- the identifier is a Guid
 abbrev pub is_guid : Identifier → Bool
 is_guid (Numeric n) = false
 is_guid (Text t) = false
 is_guid (Global g) = true
 is_guid (Opaque b) = false
 
+-- the identifier is opaque, a ByteString
 abbrev pub is_opaque : Identifier → Bool
 is_opaque (Numeric n) = false
 is_opaque (Text t) = false
 is_opaque (Global g) = false
 is_opaque (Opaque b) = true
 
+-- the number that is the identifier, and 0 for any other identifier
 abbrev pub number_of : Identifier → ℕ
 number_of (Numeric n) = n
 number_of (Text t) = 0
 number_of (Global g) = 0
 number_of (Opaque b) = 0
 
+-- the String that is the identifier, and null for any other identifier
 abbrev pub text_of : Identifier → Option (List ℕ)
 text_of (Numeric n) = None
 text_of (Text t) = t
 text_of (Global g) = None
 text_of (Opaque b) = None
 
+-- the Guid that is the identifier, and one without octets for any other identifier
 abbrev pub guid_of : Identifier → Guid
 guid_of (Numeric n) = record { uuid = [] }
 guid_of (Text t) = record { uuid = [] }
 guid_of (Global g) = g
 guid_of (Opaque b) = record { uuid = [] }
 
+-- the ByteString that is the identifier, and null for any other identifier
 abbrev pub octets_of : Identifier → Option (List ℕ)
 octets_of (Numeric n) = None
 octets_of (Text t) = None
@@ -87,6 +95,7 @@ opaque_is (Text t) h = not_false h
 opaque_is (Global g) h = not_false h
 opaque_is (Opaque b) h = refl
 
+-- the NodeId of a namespace and an identifier
 abbrev pub node : ℕ → Identifier → NodeId
 node n i = record { namespace = n; identifier = i }
 
@@ -101,6 +110,7 @@ short_back v h =
     let w = both_true (nat_eq v.namespace 0) (is_numeric v.identifier) h in
     ap (node v.namespace) (numeric_is v.identifier w.1) ∙ ap (λ (n : ℕ). node n (Numeric (number_of v.identifier))) (eqb-true v.namespace 0 w.0)
 
+-- form 0x00: the id as Byte, in the namespace 0
 abbrev pub two_octets : Flat NodeId
 two_octets = image (λ n. node 0 (Numeric n)) (λ v. number_of v.identifier) is_short short_back (number 1)
 
@@ -132,6 +142,7 @@ opaque_back v h = ap (node v.namespace) (opaque_is v.identifier h)
 abbrev pub opaque : Flat NodeId
 opaque = image (λ p. node p.0 (Opaque p.1)) (λ v. (v.namespace, octets_of v.identifier)) (λ v. is_opaque v.identifier) opaque_back (both (number 2) counted)
 
+-- what stands behind the form octet, for each form from 0x00 to 0x05; there is no other (OPC 10000-6, 5.2.2.9)
 abbrev pub in_form : ℕ → Flat NodeId
 in_form form =
     cond (nat_eq form 0) two_octets
@@ -147,6 +158,7 @@ numeric_form namespace number =
     cond (nat_eq namespace 0 && nat_lt number 256) 0
     (cond (nat_lt namespace 256 && nat_lt number 65536) 1 2)
 
+-- the form that is written: for a number the first that fits, else the one of the identifier's kind
 abbrev pub form_of : NodeId → ℕ
 form_of v =
     cond (is_numeric v.identifier) (numeric_form v.namespace (number_of v.identifier))

@@ -14,6 +14,7 @@ use Rattle.ua_builtin.specs.declared.node_id.Identifier.TheVariants.{Numeric, Te
 
 -- ---- the text of a NodeId (OPC 10000-6, 5.3.1.10)
 
+-- the octet of `;`
 abbrev pub semicolon : ℕ
 semicolon = 59
 
@@ -28,6 +29,7 @@ identifier_text (Text t) = codes "s=" ++ list_of t
 identifier_text (Global g) = codes "g=" ++ hyphenated_text lower g.uuid
 identifier_text (Opaque b) = codes "b=" ++ encode_of standard (list_of b)
 
+-- the text of a NodeId: that of its namespace, and behind it that of its identifier (OPC 10000-6, 5.3.1.10)
 abbrev pub node_text : NodeId → List ℕ
 node_text v = namespace_text v.namespace ++ identifier_text v.identifier
 
@@ -75,6 +77,7 @@ filled_identifier (Text t) = Text (Some (list_of t))
 filled_identifier (Global g) = Global g
 filled_identifier (Opaque b) = Opaque (Some (list_of b))
 
+-- the same NodeId, with an empty identifier in place of a null one
 abbrev pub filled : NodeId → NodeId
 filled v = record { namespace = v.namespace; identifier = filled_identifier v.identifier }
 

@@ -7,6 +7,7 @@ use Rattle.ua_octets.specs.Join.{number, both, made, pair_starts, image_starts, 
 use Rattle.ua_octets.specs.Counted.{text}
 use Rattle.ua_builtin.specs.declared.qualified_name.QualifiedName.{QualifiedName}
 
+-- the QualifiedName of a namespace and a name
 abbrev pub qualified : ℕ × Option (List ℕ) → QualifiedName
 qualified p = record { namespace = p.0; name = p.1 }
 

@@ -6,6 +6,7 @@ use Rattle.ua_octets.specs.Format.{Flat}
 use Rattle.ua_octets.specs.Join.{number, made, image_starts, number_starts, TakesSome}
 use Rattle.ua_builtin.specs.declared.status_code.StatusCode.{StatusCode}
 
+-- the StatusCode of this number
 abbrev pub of_code : ℕ → StatusCode
 of_code n = record { code = n }
 

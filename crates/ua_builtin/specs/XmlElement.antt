@@ -6,6 +6,7 @@ use Rattle.ua_octets.specs.Join.{made, image_starts, TakesSome}
 use Rattle.ua_octets.specs.Counted.{counted, counted_starts}
 use Rattle.ua_builtin.specs.declared.xml_element.XmlElement.{XmlElement}
 
+-- the XmlElement of these octets, or the null one
 abbrev pub of_octets : Option (List ℕ) → XmlElement
 of_octets b = record { octets = b }
 

@@ -62,6 +62,7 @@ refusal_kept a m c = first_reason (
 abbrev pub added : Pending → Chunk → Pending
 added m c = record { request = m.request; chunks = min (m.chunks + 1) 4294967295; message = m.message ++ c.body }
 
+-- what it delivers, by its flag: an F the message with its body, a C nothing, an A its code and reason if it reads
 abbrev pub given_kept_by : Flag → Pending → Chunk → List Item
 given_kept_by F m c = Whole c.request (m.message ++ c.body) ∷ []
 given_kept_by C m c = []
@@ -71,6 +72,7 @@ given_kept_by A m c = aborted c.request (abort_of c.body)
 abbrev pub given_kept : Pending → Chunk → List Item
 given_kept m c = given_kept_by c.flag m c
 
+-- what of its message stays unfinished, by its flag: a C leaves the message with its body, an F or an A nothing
 abbrev pub put_back_by : Flag → Pending → Chunk → List Pending
 put_back_by F m c = []
 put_back_by C m c = added m c ∷ []

@@ -37,6 +37,7 @@ abbrev pub flag_before : List (List ℕ) → Flag
 flag_before [] = F
 flag_before (p ∷ ps) = C
 
+-- the chunk of a lane that has this flag, sequence number, request id and body
 abbrev pub chunk_of : Lane → Flag → ℕ → ℕ → List ℕ → Chunk
 chunk_of lane f s id b = record { channel = lane.channel; token = lane.token; flag = f; sequence = s; request = id; body = b }
 

@@ -15,6 +15,7 @@ abbrev pub aborted : ℕ → Option (StatusCode × Option (List ℕ)) → List I
 aborted id None = []
 aborted id (Some a) = Aborted id a.0 a.1 ∷ []
 
+-- what a chunk delivers, by its flag: an F the joined bodies of its message, a C nothing, an A its code and reason
 abbrev pub given_by : Flag → List Chunk → Chunk → List Item
 given_by F before c = Whole c.request (joined (gathered before c)) ∷ []
 given_by C before c = []

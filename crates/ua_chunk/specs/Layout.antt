@@ -72,6 +72,7 @@ sequence_fault false found = Some Policy
 sequence_fault true None = Some Unreadable
 sequence_fault true (Some found) = None
 
+-- what is wrong with the headers of an OPN: its policy header does not read, else what is wrong behind that one
 abbrev pub headers_fault : Option ((ℕ × (Option (List ℕ) × (Option (List ℕ) × Option (List ℕ)))) × List ℕ) → Option OpenFault
 headers_fault None = Some Unreadable
 headers_fault (Some found) = sequence_fault (is_none_policy found.0.1.0) (sequence_header.decode found.1)

@@ -18,6 +18,7 @@ pub record Part : Type 0 where
   pub request : ℕ
   pub body : List ℕ
 
+-- the part of its message that a chunk brings
 abbrev pub part_of : Chunk → Part
 part_of c = record { flag = c.flag; request = c.request; body = c.body }
 
@@ -28,9 +29,11 @@ pub record Sent : Type 0 where
   pub end : Flag
   pub last : List ℕ
 
+-- the part that a C chunk of this request id brings
 abbrev pub more_part : ℕ → List ℕ → Part
 more_part id b = record { flag = C; request = id; body = b }
 
+-- the part that the last chunk of a message brings
 abbrev pub last_part : Sent → Part
 last_part m = record { flag = m.end; request = m.request; body = m.last }
 
@@ -38,6 +41,7 @@ last_part m = record { flag = m.end; request = m.request; body = m.last }
 abbrev pub parts_of : Sent → List Part
 parts_of m = map (more_part m.request) m.pieces ++ last_part m ∷ []
 
+-- what a message is to deliver, by the flag of its last chunk: F the whole of it, A the code and the reason
 abbrev pub outcome_by : Flag → Sent → List Item
 outcome_by F m = Whole m.request (flat_map (λ p. p) m.pieces ++ m.last) ∷ []
 outcome_by C m = []
@@ -52,10 +56,12 @@ abbrev pub sent_under : ℕ → List Sent → Option Sent
 sent_under id [] = None
 sent_under id (m ∷ ms) = if m.request == id then Some m else sent_under id ms
 
+-- the parts of the message that was found under a request id; none where none was found
 abbrev pub parts_under : Option Sent → List Part
 parts_under None = []
 parts_under (Some m) = parts_of m
 
+-- the outcome of the message that was found under a request id; nothing where none was found
 abbrev pub outcome_under : Option Sent → List Item
 outcome_under None = []
 outcome_under (Some m) = outcome m
@@ -77,6 +83,7 @@ pub record IsWithin (octets chunks : ℕ) (m : Sent) : Type 0 where
   pub octets_fit : passes octets (length (flat_map (λ p. p) (bodies_by m.end m))) ≡ false
   pub chunks_fit : passes chunks (length (bodies_by m.end m)) ≡ false
 
+-- each message that stands under a request id is within the limits of octets and of chunks
 abbrev pub AllWithin : ℕ → ℕ → List Sent → Type 0
 AllWithin octets chunks ms = (id : ℕ) (m : Sent) → sent_under id ms ≡ Some m → IsWithin octets chunks m
 
@@ -104,6 +111,7 @@ IsMerge ms cs = (id : ℕ) → map part_of (filter (is_of id) cs) ≡ parts_unde
 
 -- ---- under one request id
 
+-- the request id of an item
 abbrev pub id_of : Item → ℕ
 id_of (Whole id octets) = id
 id_of (Aborted id code reason) = id

@@ -34,6 +34,7 @@ ack_to h limits = record {
   max_chunk_count = limits.max_chunk_count;
 }
 
+-- the Acknowledge, or the status code by which the Hello is refused, if there is one
 abbrev pub unless_refused : Option ℕ → Ack → Result Ack StatusCode
 unless_refused None a = Ok a
 unless_refused (Some code) a = Err (of_code code)

@@ -9,6 +9,7 @@ use Rattle.ua_frame.specs.After.{AllFrom}
 use Rattle.ua_frame.specs.Frames.{kind_of, flag_of, header_fault, header_code}
 use Rattle.ua_frame.specs.Run.{Rules, refusal}
 
+-- the frame of the kind that octets name, with their flag and what follows the header; none where they name no kind
 abbrev pub frame_named : Option Kind → List ℕ → Option Frame
 frame_named None octets = None
 frame_named (Some k) octets = Some (record { kind = k; flag = flag_of octets; body = drop 8 octets })
@@ -17,6 +18,7 @@ frame_named (Some k) octets = Some (record { kind = k; flag = flag_of octets; bo
 abbrev pub frame_in : List ℕ → Option Frame
 frame_in octets = frame_named (kind_of octets) octets
 
+-- the frame, if there is one
 abbrev pub listed : Option Frame → List Frame
 listed None = []
 listed (Some f) = f ∷ []
@@ -29,6 +31,7 @@ frames_in raws = flat_map (λ raw. listed (frame_in raw)) raws
 abbrev pub header_refusal : Gate → List ℕ → Option ℕ
 header_refusal gate octets = option_and_then header_code (header_fault gate octets)
 
+-- the first code, or the other where there is no first
 abbrev pub or_else : Option ℕ → Option ℕ → Option ℕ
 or_else None other = other
 or_else (Some code) other = Some code

@@ -46,6 +46,7 @@ names octets k =
     && nat_eq (slice_index octets 1) (slice_index (kind_octets k) 1)
     && nat_eq (slice_index octets 2) (slice_index (kind_octets k) 2)
 
+-- all the kinds of frames (OPC 10000-6, 7.1.2.2 and 6.7.2.2)
 abbrev pub all_kinds : List Kind
 all_kinds = Hel ∷ Ack ∷ kind.Err ∷ Msg ∷ Opn ∷ Clo ∷ []
 
@@ -57,6 +58,7 @@ kind_of octets = find (names octets) all_kinds
 abbrev pub flag_of : List ℕ → ℕ
 flag_of octets = slice_index octets 3
 
+-- the number that was read, or 0 where none was
 abbrev pub number_in : Option (ℕ × List ℕ) → ℕ
 number_in None = 0
 number_in (Some found) = found.0

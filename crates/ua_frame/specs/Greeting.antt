@@ -29,6 +29,7 @@ abbrev pub is_so : (Hello → Bool) → Option Hello → Bool
 is_so test None = false
 is_so test (Some h) = test h
 
+-- why a HEL is refused, by the Hello that its body is, if it is one, in the order in which it is judged
 abbrev pub greeting_reasons_of : Option Hello → List (ℕ × Bool)
 greeting_reasons_of h = (0x8007_0000, is_none h) ∷ (0x8083_0000, is_so is_url_long h) ∷ (0x8081_0000, is_so is_buffer_small h) ∷ []
 
@@ -36,6 +37,7 @@ greeting_reasons_of h = (0x8007_0000, is_none h) ∷ (0x8083_0000, is_so is_url_
 abbrev pub greeting_reasons : List ℕ → List (ℕ × Bool)
 greeting_reasons body = greeting_reasons_of (hello_in body)
 
+-- the Hello, if there is one
 abbrev pub those_in : Option Hello → List Hello
 those_in None = []
 those_in (Some h) = h ∷ []
@@ -44,6 +46,7 @@ those_in (Some h) = h ∷ []
 abbrev pub hello_gate : Gate
 hello_gate = gate_with (closed_gate 8192) Hel
 
+-- there is a frame
 abbrev pub has_some : List Frame → Bool
 has_some [] = false
 has_some (f ∷ fs) = true

@@ -15,12 +15,15 @@ use Rattle.ua_frame.specs.declared.error.ErrorFrame.{ErrorFrame}
 
 -- ---- Hello: five UInt32s and a String
 
+-- a Hello's fields in order: five numbers, and the endpoint's URL or null (OPC 10000-6, 7.1.2.3)
 abbrev pub HelloFields : Type 0
 HelloFields = ℕ × (ℕ × (ℕ × (ℕ × (ℕ × Option (List ℕ)))))
 
+-- the encoding of a Hello's fields, one behind the other: five UInt32s and a String (OPC 10000-6, 7.1.2.3)
 abbrev pub hello_fields : Flat HelloFields
 hello_fields = both (number 4) (both (number 4) (both (number 4) (both (number 4) (both (number 4) text))))
 
+-- the Hello that has these fields
 abbrev pub hello_of : HelloFields → Hello
 hello_of p = record {
   protocol_version = p.0;
@@ -31,6 +34,7 @@ hello_of p = record {
   endpoint_url = p.1.1.1.1.1;
 }
 
+-- the fields of a Hello
 abbrev pub fields_of_hello : Hello → HelloFields
 fields_of_hello h = (h.protocol_version, (h.receive_buffer_size, (h.send_buffer_size, (h.max_message_size, (h.max_chunk_count, h.endpoint_url)))))
 
@@ -44,12 +48,15 @@ hello_starts v h = image_starts hello_of hello_fields.encodes (pair_starts (IsNu
 
 -- ---- Acknowledge: five UInt32s
 
+-- an Acknowledge's fields in order: five numbers (OPC 10000-6, 7.1.2.4)
 abbrev pub AckFields : Type 0
 AckFields = ℕ × (ℕ × (ℕ × (ℕ × ℕ)))
 
+-- the encoding of an Acknowledge's fields, one behind the other: five UInt32s (OPC 10000-6, 7.1.2.4)
 abbrev pub ack_fields : Flat AckFields
 ack_fields = both (number 4) (both (number 4) (both (number 4) (both (number 4) (number 4))))
 
+-- the Acknowledge that has these fields
 abbrev pub ack_of : AckFields → Ack
 ack_of p = record {
   protocol_version = p.0;
@@ -59,6 +66,7 @@ ack_of p = record {
   max_chunk_count = p.1.1.1.1;
 }
 
+-- the fields of an Acknowledge
 abbrev pub fields_of_ack : Ack → AckFields
 fields_of_ack a = (a.protocol_version, (a.receive_buffer_size, (a.send_buffer_size, (a.max_message_size, a.max_chunk_count))))
 
@@ -72,9 +80,11 @@ ack_starts v h = image_starts ack_of ack_fields.encodes (pair_starts (IsNumber 4
 
 -- ---- Error: a StatusCode and a String
 
+-- the Error of a status code and a reason (OPC 10000-6, 7.1.2.5)
 abbrev pub error_of : StatusCode × Option (List ℕ) → ErrorFrame
 error_of p = record { error = p.0; reason = p.1 }
 
+-- the fields of an Error: its status code and its reason
 abbrev pub fields_of_error : ErrorFrame → StatusCode × Option (List ℕ)
 fields_of_error e = (e.error, e.reason)
 

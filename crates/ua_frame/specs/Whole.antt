@@ -7,6 +7,7 @@ abbrev pub IsWhole : {A : Type 0} → Format A → List ℕ → Option A → Typ
 IsWhole f octets (Some v) = f.encodes v octets
 IsWhole {A = A} f octets None = (v : A) → f.depth v ≤ most_levels → ¬ (f.encodes v octets)
 
+-- the value that was read, if no octets are left behind it
 abbrev pub if_nothing_left : {A : Type 0} → Option (A × List ℕ) → Option A
 if_nothing_left None = None
 if_nothing_left (Some (v, [])) = Some v

@@ -10,6 +10,7 @@ use Rattle.ua_nodes.specs.declared.node.Variable.{Variable}
 abbrev pub is_attribute : ℕ → Bool
 is_attribute n = nat_eq n 1 || nat_eq n 2 || nat_eq n 3 || nat_eq n 4 || nat_eq n 13 || nat_eq n 14 || nat_eq n 17 || nat_eq n 18
 
+-- 1 where the value may be read and 2 where it may be written, added up (OPC 10000-3, 8.57)
 abbrev pub level : Bool → Bool → ℕ
 level false false = 0
 level true false = 1
@@ -20,6 +21,7 @@ level true true = 3
 abbrev pub access_level : Access → ℕ
 access_level a = level a.readable a.writable
 
+-- the Variant of one scalar
 abbrev pub single : LeafData → VariantData
 single l = one (leaf l)
 

@@ -12,14 +12,17 @@ use Rattle.ua_nodes.specs.declared.fault.LoadFault.TheVariants.{Line, OutOfMemor
 use Rattle.ua_nodes.specs.declared.fault.ValueFault.{ValueFault}
 use Rattle.ua_nodes.specs.declared.fault.ValueFault.TheVariants.{NotValue, OutOfMemory as NoValueMemory}
 
+-- the fault of a line whose NodeId was not read: the field names none, or memory ran out
 abbrev pub id_fault : TextFault → LineFault
 id_fault NotNodeId = Bad Node
 id_fault NoTextMemory = NoMemory
 
+-- the fault of a line whose value was not read: the field denotes none, or memory ran out
 abbrev pub value_fault : ValueFault → LineFault
 value_fault NotValue = Bad Value
 value_fault NoValueMemory = NoMemory
 
+-- the fault of a line whose node was not inserted: there is one of its NodeId, or memory ran out
 abbrev pub insert_fault : InsertFault → LineFault
 insert_fault Doubled = Bad Duplicate
 insert_fault NoNodeMemory = NoMemory

@@ -63,6 +63,7 @@ is_short text = nat_lt (length text) (suc most_octets)
 abbrev pub NamesId : List ℕ → NodeId → Type 0
 NamesId text id = (is_short text ≡ true) × NamesNode id text
 
+-- the access to a value: whether it may be read, and whether it may be written
 abbrev pub rights : Bool → Bool → Rights
 rights readable writable = record { readable = readable; writable = writable }
 

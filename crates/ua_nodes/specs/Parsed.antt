@@ -90,6 +90,7 @@ signed_plus bits text e =
     ap (λ (t : Bool). cond t (option_map negative (number_below 10 (2 ^ bits + 1) (drop 1 text))) (option_map pos (number_below 10 (2 ^ bits) text))) plain
     ∙ none_of pos (number_below 10 (2 ^ bits) text) (number_plus 10 (2 ^ bits) text (omega arith) e)
 
+-- decimal numerals in std's own words: each octet is a digit, and the number is the digits' value
 abbrev decimal_digits : IsNumeralModel (AllDigits 10) (digits_value 10)
 decimal_digits = numerals_by_value (AllDigits 10) tells_digits
 

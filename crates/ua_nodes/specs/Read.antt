@@ -35,12 +35,14 @@ read_reasons v item =
     ∷ (nat_eq item.attribute_id 13 && not v.access.readable, bad_not_readable)
     ∷ []
 
+-- the source time is asked for: by Source and by Both (OPC 10000-4, 7.40)
 abbrev pub gives_source : Stamps → Bool
 gives_source Source = true
 gives_source Server = false
 gives_source Both = true
 gives_source Neither = false
 
+-- the server time is asked for: by Server and by Both (OPC 10000-4, 7.40)
 abbrev pub gives_server : Stamps → Bool
 gives_server Source = false
 gives_server Server = true
@@ -51,6 +53,7 @@ gives_server Neither = false
 abbrev pub refused : StatusCode → DataValueData
 refused code = bare (record { status = Some code; source_timestamp = None; source_picoseconds = None; server_timestamp = None; server_picoseconds = None })
 
+-- what is there, if the test holds; else nothing
 abbrev pub where_so : {A : Type 0} → Bool → Option A → Option A
 where_so test o = cond test o None
 
@@ -65,6 +68,7 @@ stamps_of v is_value stamps moment = record {
   server_picoseconds = None;
 }
 
+-- the answer for a node: the refusal where there is a reason, else the attribute's value with its status and times
 abbrev pub read_by : Option StatusCode → Variable → ReadValueId → Stamps → DateTime → DataValueData
 read_by (Some code) v item stamps moment = refused code
 read_by None v item stamps moment = valued (attribute_value item.node_id v item.attribute_id) (stamps_of v (nat_eq item.attribute_id 13) stamps moment)

@@ -30,6 +30,7 @@ array_mark false = []
 abbrev pub unmarked : List ℕ → List ℕ
 unmarked text = take (length text - 2) text
 
+-- the type, with whether an array of it is meant
 abbrev pub typed : Bool → ℕ → ℕ × Bool
 typed array kind = (kind, array)
 

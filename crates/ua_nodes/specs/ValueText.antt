@@ -105,6 +105,7 @@ has_text_form kind = (nat_lt 0 kind && nat_lt kind 16) || nat_eq kind 19
 abbrev pub most_octets : ℕ
 most_octets = 1073741824
 
+-- a scalar: the one value that the text denotes
 abbrev pub scalar_denoted : ℕ → List ℕ → Option VariantData
 scalar_denoted kind text = option_map one (option_map leaf (leaf_denoted kind text))
 

@@ -14,6 +14,7 @@ use Rattle.ua_nodes.specs.Read.{is_filled}
 use Rattle.ua_nodes.specs.Status.{good, first_reason, bad_node_id_unknown, bad_attribute_id_invalid, bad_not_writable, bad_write_not_supported, bad_type_mismatch}
 use Rattle.ua_nodes.specs.Table.{Nodes, node_at, same_id}
 
+-- the list is empty
 abbrev pub has_none : {A : Type 0} → List A → Bool
 has_none [] = true
 has_none (x ∷ xs) = false
@@ -25,6 +26,7 @@ is_of_type kind array (one s) = not array && nat_eq (kind_of s) kind
 is_of_type kind array (absent k ds) = array && (nat_eq k kind && has_none ds)
 is_of_type kind array (many k ss ds) = array && (nat_eq k kind && has_none ds)
 
+-- there is a value, and it is one of the type, or an array of it without dimensions
 abbrev pub holds_type : ℕ → Bool → Option VariantData → Bool
 holds_type kind array None = false
 holds_type kind array (Some v) = is_of_type kind array v
@@ -38,6 +40,7 @@ write_reasons v item =
     ∷ (not (holds_type v.kind v.array item.value.value && data_value_encodable (data_value_of item.value)), bad_type_mismatch)
     ∷ []
 
+-- the code of the reason that holds, or Good where none does
 abbrev pub good_or : Option StatusCode → StatusCode
 good_or None = good
 good_or (Some code) = code
@@ -47,13 +50,16 @@ abbrev pub write_answer : Option Variable → WriteValue → StatusCode
 write_answer None item = bad_node_id_unknown
 write_answer (Some v) item = good_or (first_reason (write_reasons v item))
 
+-- what is there, or else the other
 abbrev pub or_else : {A : Type 0} → Option A → A → A
 or_else None x = x
 or_else (Some y) x = y
 
+-- the source time given, or without one the moment
 abbrev pub time_of : Option DateTime → DateTime → DateTime
 time_of t moment = or_else t moment
 
+-- the picoseconds given, but none where no source time is given
 abbrev pub picoseconds_of : Option DateTime → Option ℕ → Option ℕ
 picoseconds_of None p = None
 picoseconds_of (Some t) p = p
@@ -71,6 +77,7 @@ stored v given moment = record {
   source_picoseconds = picoseconds_of given.source_timestamp given.source_picoseconds;
 }
 
+-- the node with what the item gives: its value, status and source time
 abbrev pub written : Variable → WriteValue → DateTime → Variable
 written v item moment = stored v item.value moment
 
@@ -88,6 +95,7 @@ abbrev pub last_good : NodeId × Variable → List WriteValue → Option WriteVa
 last_good node [] = None
 last_good node (item ∷ items) = later (cond (is_good_for node item) (Some item) None) (last_good node items)
 
+-- the node with what the item gives, or as it was where there is no item
 abbrev pub written_by : Variable → Option WriteValue → DateTime → Variable
 written_by v None moment = v
 written_by v (Some item) moment = written v item moment

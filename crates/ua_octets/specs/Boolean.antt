@@ -5,6 +5,7 @@ use Rattle.ua_octets.specs.Number.{IsNumber}
 use Rattle.ua_octets.specs.Format.{Flat}
 use Rattle.ua_octets.specs.Join.{number, made, image_starts, number_starts, TakesSome}
 
+-- the truth value of an octet: 0 is false, any other is true (OPC 10000-6, 5.2.2.1)
 abbrev pub is_set : ℕ → Bool
 is_set n = not (nat_eq n 0)
 

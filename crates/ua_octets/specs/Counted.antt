@@ -57,6 +57,7 @@ octets_at-short n octets h = ap (λ (t : Bool). cond t None (Some (take n octets
 pub octets_canonical : (n : ℕ) (v : List ℕ) → IsTrue (nat_eq (length v) n) → AreOctets n v v
 octets_canonical n v h = (eqb-true (length v) n h, refl)
 
+-- the format of n octets, which stand as they are
 abbrev pub octets : ℕ → Flat (List ℕ)
 octets n = record {
   encodes = AreOctets n;
@@ -69,14 +70,17 @@ octets n = record {
 
 -- ---- octets, or null, behind a count
 
+-- the octets, and none for null
 abbrev pub list_of : Option (List ℕ) → List ℕ
 list_of None = []
 list_of (Some v) = v
 
+-- the octets are not null
 abbrev pub is_there : Option (List ℕ) → Bool
 is_there None = false
 is_there (Some v) = true
 
+-- the octets are null
 abbrev pub is_null : Option (List ℕ) → Bool
 is_null None = true
 is_null (Some v) = false

@@ -6,6 +6,7 @@ use Rattle.ua_octets.specs.Format.{Flat}
 use Rattle.ua_octets.specs.Join.{number, made, image_starts, number_starts, TakesSome}
 use Rattle.ua_octets.specs.declared.double_bits.DoubleBits.{DoubleBits}
 
+-- the Double of this pattern of bits
 abbrev pub of_bits : ℕ → DoubleBits
 of_bits n = record { bits = n }
 

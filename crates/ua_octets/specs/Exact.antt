@@ -16,6 +16,7 @@ pub record Exact {A : Type 0} (encodes : A → List ℕ → Type 0) (decode : Li
 -- ---- options and tests
 
 infixl 10 ◌>>=◌
+-- what a second step finds by what a first one found; nothing where either finds nothing
 abbrev pub ◌>>=◌ : {A B : Type 0} → Option A → (A → Option B) → Option B
 None >>= f = None
 (Some x) >>= f = f x
@@ -48,12 +49,14 @@ append_empty (x ∷ a) b e = absurd cc
 
 -- ---- nothing, and one value without octets
 
+-- no octets encode any value
 abbrev pub Never : {A : Type 0} → A → List ℕ → Type 0
 Never v b = ⊥
 
 pub exact_never : {A : Type 0} → Exact {A = A} Never (λ octets. None)
 exact_never = record { sound = λ octets v rest e. absurd cc; complete = λ v front rest h. absurd h }
 
+-- the value is x, and it has no octets
 abbrev pub IsOnly : {A : Type 0} → A → A → List ℕ → Type 0
 IsOnly x v b = (v ≡ x) × (b ≡ [])
 
@@ -78,6 +81,7 @@ exact_same p q read there back e = record {
 
 -- ---- one behind the other, the second by what the first is
 
+-- an encoding of a head, and behind it one of the value, by what the head is
 pub record Follows {A B : Type 0} (first : A → List ℕ → Type 0) (second : A → B → List ℕ → Type 0) (v : B) (b : List ℕ) : Type 0 where
   pub head : A
   pub front : List ℕ
@@ -86,6 +90,7 @@ pub record Follows {A B : Type 0} (first : A → List ℕ → Type 0) (second : 
   pub head_encoded : first head front
   pub rest_encoded : second head v back
 
+-- reads a head and then, by what the head is, the value behind it
 abbrev pub then_read : {A B : Type 0} → (List ℕ → Option (A × List ℕ)) → (A → List ℕ → Option (B × List ℕ)) → List ℕ → Option (B × List ℕ)
 then_read first second octets = first octets >>= λ x. second x.0 x.1
 
@@ -112,6 +117,7 @@ exact_bind p r q s f g = record { sound = bind_sound p r q s f g; complete = bin
 
 -- ---- one behind the other
 
+-- an encoding of the first of two values, and behind it one of the second
 pub record Joined {A B : Type 0} (first : A → List ℕ → Type 0) (second : B → List ℕ → Type 0) (v : A × B) (b : List ℕ) : Type 0 where
   pub front : List ℕ
   pub back : List ℕ
@@ -119,6 +125,7 @@ pub record Joined {A B : Type 0} (first : A → List ℕ → Type 0) (second : B
   pub first_encoded : first v.0 front
   pub second_encoded : second v.1 back
 
+-- reads two values, one behind the other
 abbrev pub pair_read : {A B : Type 0} → (List ℕ → Option (A × List ℕ)) → (List ℕ → Option (B × List ℕ)) → List ℕ → Option ((A × B) × List ℕ)
 pair_read first second octets = first octets >>= λ x. second x.1 >>= λ y. Some ((x.0, y.0), y.1)
 
@@ -150,11 +157,13 @@ exact_pair p r q s f g = record { sound = pair_sound p r q s f g; complete = pai
 
 -- ---- the same encodings for other values
 
+-- the value is made of another one, which the octets encode
 pub record Image {A B : Type 0} (make : A → B) (encodes : A → List ℕ → Type 0) (v : B) (b : List ℕ) : Type 0 where
   pub of : A
   pub is : v ≡ make of
   pub encoded : encodes of b
 
+-- reads a value and makes another one of it
 abbrev pub image_read : {A B : Type 0} → (A → B) → (List ℕ → Option (A × List ℕ)) → List ℕ → Option (B × List ℕ)
 image_read make read octets = read octets >>= λ x. Some (make x.0, x.1)
 
@@ -175,9 +184,11 @@ exact_image make p r f = record { sound = image_sound make p r f; complete = ima
 
 -- ---- those values alone that pass a test
 
+-- the value passes the test, and the octets encode it
 abbrev pub Passing : {A : Type 0} → (A → Bool) → (A → List ℕ → Type 0) → A → List ℕ → Type 0
 Passing test encodes v b = IsTrue (test v) × encodes v b
 
+-- reads a value, and finds nothing where it fails the test
 abbrev pub such_read : {A : Type 0} → (A → Bool) → (List ℕ → Option (A × List ℕ)) → List ℕ → Option (A × List ℕ)
 such_read test read octets = read octets >>= λ x. cond (test x.0) (Some x) None
 

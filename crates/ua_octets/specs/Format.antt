@@ -45,6 +45,7 @@ exact_flat f levels = exact_same f.encodes (Within f.encodes (λ v. 0) levels) f
 pub no_levels : {A : Type 0} (f : Flat A) (v : A) → IsTrue (f.encodable v) → 0 ≤ most_levels
 no_levels f v h = omega arith
 
+-- a flat format as a format: each value has 0 levels
 abbrev pub flat : {A : Type 0} → Flat A → Format A
 flat f = record {
   encodes = f.encodes;

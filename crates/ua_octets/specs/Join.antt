@@ -12,6 +12,7 @@ use Rattle.ua_octets.specs.Format.{Flat, Format, Within, most_levels}
 pub number_canonical : (k n : ℕ) → IsTrue (nat_lt n (256 ^ k)) → IsNumber k n (number_octets k n)
 number_canonical k n h = (ltb-true n (256 ^ k) h, refl)
 
+-- a whole number of k octets, the least first (OPC 10000-6, 5.2.2.2)
 abbrev pub number : ℕ → Flat ℕ
 number k = record {
   encodes = IsNumber k;
@@ -26,6 +27,7 @@ number k = record {
 pub never_canonical : {A : Type 0} (v : A) → IsTrue false → ⊥
 never_canonical v h = not_false h
 
+-- the format of no value: nothing is read, and nothing can be written
 abbrev pub nothing : {A : Type 0} → Flat A
 nothing {A = A} = record {
   encodes = Never;
@@ -40,6 +42,7 @@ nothing {A = A} = record {
 pub only_canonical : {A : Type 0} (x : A) (is : A → Bool) → ((v : A) → IsTrue (is v) → v ≡ x) → (v : A) → IsTrue (is v) → IsOnly x v []
 only_canonical x is same v h = (same v h, refl)
 
+-- one value alone, without octets
 abbrev pub only : {A : Type 0} (x : A) (is : A → Bool) → ((v : A) → IsTrue (is v) → v ≡ x) → Flat A
 only x is same = record {
   encodes = IsOnly x;
@@ -60,6 +63,7 @@ bind_canonical f g head v h =
 pub bind_exact : {A B : Type 0} (f : Flat A) (g : A → Flat B) → Exact (Follows f.encodes (λ x. (g x).encodes)) (then_read f.decode (λ x. (g x).decode))
 bind_exact f g = exact_bind f.encodes f.decode (λ x. (g x).encodes) (λ x. (g x).decode) f.exact (λ x. (g x).exact)
 
+-- a head by f, and behind it the value in the format that the head chooses; a writer takes the head from the value
 abbrev pub bind : {A B : Type 0} → Flat A → (A → Flat B) → (B → A) → Flat B
 bind f g head = record {
   encodes = Follows f.encodes (λ x. (g x).encodes);
@@ -79,6 +83,7 @@ joined_canonical f g v h =
 pub joined_exact : {A B : Type 0} (f : Flat A) (g : Flat B) → Exact (Joined f.encodes g.encodes) (pair_read f.decode g.decode)
 joined_exact f g = exact_pair f.encodes f.decode g.encodes g.decode f.exact g.exact
 
+-- two values, one behind the other
 abbrev pub both : {A B : Type 0} → Flat A → Flat B → Flat (A × B)
 both f g = record {
   encodes = Joined f.encodes g.encodes;
@@ -99,6 +104,7 @@ image_canonical make parts is back f v h =
 pub image_exact : {A B : Type 0} (make : A → B) (f : Flat A) → Exact (Image make f.encodes) (image_read make f.decode)
 image_exact make f = exact_image make f.encodes f.decode f.exact
 
+-- the values made of those of f; one that passes the test can be written, as the value of f that it is made of
 abbrev pub image : {A B : Type 0} (make : A → B) (parts : B → A) (is : B → Bool) → ((v : B) → IsTrue (is v) → v ≡ make (parts v)) → Flat A → Flat B
 image make parts is back f = record {
   encodes = Image make f.encodes;
@@ -113,6 +119,7 @@ image make parts is back f = record {
 pub made_canonical : {A B : Type 0} (make : A → B) (parts : B → A) → ((v : B) → v ≡ make (parts v)) → (f : Flat A) (v : B) → IsTrue (f.encodable (parts v)) → Image make f.encodes v (f.canonical (parts v))
 made_canonical make parts back f v h = record { of = parts v; is = back v; encoded = f.canonical_encodes (parts v) h }
 
+-- the values made of those of f, where each has its parts: a structure, as the tuple of its fields
 abbrev pub made : {A B : Type 0} (make : A → B) (parts : B → A) → ((v : B) → v ≡ make (parts v)) → Flat A → Flat B
 made make parts back f = record {
   encodes = Image make f.encodes;
@@ -132,6 +139,7 @@ such_canonical test f v h =
 pub such_exact : {A : Type 0} (test : A → Bool) (f : Flat A) → Exact (Passing test f.encodes) (such_read test f.decode)
 such_exact test f = exact_such test f.encodes f.decode f.exact
 
+-- those values of f alone that pass a test
 abbrev pub such : {A : Type 0} → (A → Bool) → Flat A → Flat A
 such test f = record {
   encodes = Passing test f.encodes;
@@ -144,6 +152,7 @@ such test f = record {
 
 -- ---- formats with levels
 
+-- how many levels a pair has: as many as the deeper of the two
 abbrev pub pair_depth : {A B : Type 0} → (A → ℕ) → (B → ℕ) → A × B → ℕ
 pair_depth first second v = max (first v.0) (second v.1)
 
@@ -214,6 +223,7 @@ struct_canonical make parts back f v h = record { of = parts v; is = back v; enc
 pub struct_depth : {A B : Type 0} (parts : B → A) (f : Format A) (v : B) → IsTrue (f.encodable (parts v)) → f.depth (parts v) ≤ most_levels
 struct_depth parts f v h = f.encodable_depth (parts v) h
 
+-- a structure with levels, as the tuple of its fields in order
 abbrev pub struct : {A B : Type 0} (make : A → B) (parts : B → A) → ((v : B) → v ≡ make (parts v)) → ((x : A) → parts (make x) ≡ x) → Format A → Format B
 struct make parts back forth f = record {
   encodes = Image make f.encodes;

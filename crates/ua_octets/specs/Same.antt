@@ -28,6 +28,7 @@ is_same_decides (Some x) (Some y) =
 abbrev pub octets_hashed : Option (List ℕ) → HashWrites
 octets_hashed = option (slice u8)
 
+-- what is written to a hasher for a text, or for null
 abbrev pub text_hashed : Option (List ℕ) → HashWrites
 text_hashed = option str
 

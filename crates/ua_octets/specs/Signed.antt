@@ -15,6 +15,7 @@ abbrev pub in_range : Width → ℤ → Bool
 in_range w (pos n) = nat_lt n (2 ^ hbits w)
 in_range w (negsuc n) = nat_lt n (2 ^ hbits w)
 
+-- how many octets a number of the signed type takes
 abbrev pub octets_of : Width → ℕ
 octets_of w = bits w / 8
 

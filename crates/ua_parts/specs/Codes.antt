@@ -9,6 +9,7 @@ abbrev pub diagnostic_levels : DiagnosticData → List DiagnosticFields
 diagnostic_levels (innermost f) = f ∷ []
 diagnostic_levels (around f d) = f ∷ diagnostic_levels d
 
+-- the fields of a DiagnosticInfo where none of them is there
 abbrev pub no_fields : DiagnosticFields
 no_fields = record { symbolic_id = None; namespace_uri = None; locale = None; localized_text = None; additional_info = None; inner_status_code = None }
 
@@ -26,5 +27,6 @@ pub diagnostic_back : (d : DiagnosticData) → diagnostic_from (diagnostic_level
 diagnostic_back (innermost f) = refl
 diagnostic_back (around f d) = diagnostic_back_around f d ∙ ap (around f) (diagnostic_back d)
 
+-- a DiagnosticInfo is coded as the list of the fields of its levels
 abbrev pub coded_diagnostic : Coded DiagnosticFields → Coded DiagnosticData
 coded_diagnostic fields = code_by (List DiagnosticFields) (coded_list fields) diagnostic_levels diagnostic_from diagnostic_back

@@ -27,6 +27,7 @@ pub data DiagnosticData : Type 0 where
   innermost : DiagnosticFields → DiagnosticData
   around : DiagnosticFields → DiagnosticData → DiagnosticData
 
+-- the DiagnosticInfo of these fields, around an inner one where there is one
 abbrev pub diagnostic_within : Option DiagnosticData → DiagnosticFields → DiagnosticData
 diagnostic_within None f = innermost f
 diagnostic_within (Some d) f = around f d
@@ -38,6 +39,7 @@ abbrev pub diagnostic_depth : DiagnosticData → ℕ
 diagnostic_depth (innermost f) = 1
 diagnostic_depth (around f d) = 1 + diagnostic_depth d
 
+-- how many of the fields are there
 abbrev pub diagnostic_fields_count : DiagnosticFields → ℕ
 diagnostic_fields_count f = there f.symbolic_id + there f.namespace_uri + there f.locale + there f.localized_text + there f.additional_info + there f.inner_status_code
 
@@ -62,6 +64,7 @@ EncodesDiagnostic (around f d) b = Masked 127 (λ m c. (flag 64 m ≡ true) × J
 
 -- ---- which can be written, and how
 
+-- the flags of the fields that are there (OPC 10000-6, 5.2.2.12)
 abbrev pub diagnostic_flags : DiagnosticFields → ℕ
 diagnostic_flags f = flag_bit 1 f.symbolic_id + flag_bit 2 f.namespace_uri + flag_bit 4 f.localized_text + flag_bit 8 f.locale + flag_bit 16 f.additional_info + flag_bit 32 f.inner_status_code
 
@@ -69,22 +72,27 @@ diagnostic_flags f = flag_bit 1 f.symbolic_id + flag_bit 2 f.namespace_uri + fla
 abbrev pub diagnostic_fields_encodable : DiagnosticFields → Bool
 diagnostic_fields_encodable f = optional_fits (signed w32).encodable f.symbolic_id && (optional_fits (signed w32).encodable f.namespace_uri && (optional_fits (signed w32).encodable f.locale && (optional_fits (signed w32).encodable f.localized_text && (flagged_fits text.encodable f.additional_info && optional_fits status_code_format.encodable f.inner_status_code))))
 
+-- each field that is there can be written, at every level
 abbrev pub diagnostic_fits : DiagnosticData → Bool
 diagnostic_fits (innermost f) = diagnostic_fields_encodable f
 diagnostic_fits (around f d) = diagnostic_fields_encodable f && diagnostic_fits d
 
+-- at most 100 levels, and each field that is there can be written
 abbrev pub diagnostic_encodable : DiagnosticData → Bool
 diagnostic_encodable d = leb (diagnostic_depth d) 100 && diagnostic_fits d
 
+-- the octets that are written for the fields, behind the mask
 abbrev pub diagnostic_fields_canonical : DiagnosticFields → List ℕ
 diagnostic_fields_canonical f = (diagnostic_fields (diagnostic_flags f)).canonical f
 
+-- the octets that are written: the mask, the fields that are there, and the inner one where there is one
 abbrev pub diagnostic_canonical : DiagnosticData → List ℕ
 diagnostic_canonical (innermost f) = diagnostic_flags f ∷ diagnostic_fields_canonical f
 diagnostic_canonical (around f d) = (diagnostic_flags f + 64) ∷ (diagnostic_fields_canonical f ++ diagnostic_canonical d)
 
 -- ---- reading on lists
 
+-- a mask of at most 0x7F, the fields that it announces, and where 0x40 is set an inner one, which inner reads
 unfoldable pub diagnostic_step : Reader DiagnosticData → Reader DiagnosticData
 diagnostic_step inner octets = number_at 1 octets >>= λ m. when (leb m.0 127) (
     (diagnostic_fields m.0).decode m.1 >>= λ f. optional_read (flag 64 m.0) inner f.1 >>= λ i. Some (diagnostic_within i.0 f.0, i.1))

@@ -26,6 +26,7 @@ not_negative n h = Prim.grind (arith, common_steps)
 pub not_negative_at : (n : ℕ) → n < 2147483648 → is_negative n ≡ false
 not_negative_at n h = Prim.grind (arith, common_steps)
 
+-- a dimension, as a number that is not negative and nothing behind it
 abbrev SizeParts : ℤ → List ℕ → Type 0
 SizeParts y b = (n : ℕ) × Joins (IsNumber 4 n) (λ c. IsTrue (is_count n) × ((y ≡ pos n) × Nothing c)) b
 
@@ -42,9 +43,11 @@ pub exact_size : Exact IsSize size_at
 unfolding size_at
 exact_size = exact_as IsSize (exact_then (exact_number 4) (λ n. exact_when (is_count n) (exact_only (pos n)))) size_to size_from
 
+-- m dimensions, one behind the other
 abbrev SizesOf : ℕ → List ℤ → List ℕ → Type 0
 SizesOf m ds b = (length ds ≡ m) × EncodesSizes ds b
 
+-- a dimension, and m dimensions behind it
 abbrev SizesParts : ℕ → List ℤ → List ℕ → Type 0
 SizesParts m y b = (d : ℤ) × Joins (IsSize d) (λ c. (ds : List ℤ) × (y ≡ d ∷ ds) × SizesOf m ds c) b
 
@@ -99,6 +102,7 @@ dims_body n m =
     exact_if (is_none_count m) (λ h. exact_as (DimsBody n m) (exact_only []) (λ y c r. inl (h, r)) (none_count_from n m h))
     (λ h. exact_as (DimsBody n m) (sizes_passed n m) (λ y c r. inr (h, r)) (some_count_from n m h))
 
+-- a count of dimensions, and what stands behind it for an array of n elements
 abbrev DimsParts : ℕ → List ℤ → List ℕ → Type 0
 DimsParts n y b = (m : ℕ) × Joins (IsNumber 4 m) (DimsBody n m y) b
 

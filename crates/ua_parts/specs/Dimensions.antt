@@ -18,6 +18,7 @@ abbrev pub IsSize : ℤ → List ℕ → Type 0
 IsSize (pos n) b = IsCount n b
 IsSize (negsuc n) b = ⊥
 
+-- dimensions, one behind the other
 abbrev pub EncodesSizes : List ℤ → List ℕ → Type 0
 EncodesSizes [] b = Nothing b
 EncodesSizes (d ∷ ds) b = Joins (IsSize d) (EncodesSizes ds) b
@@ -39,6 +40,7 @@ abbrev pub is_size : ℤ → Bool
 is_size (pos n) = is_count n
 is_size (negsuc n) = false
 
+-- each is an Int32 that is not negative
 abbrev pub are_sizes : List ℤ → Bool
 are_sizes [] = true
 are_sizes (d ∷ ds) = is_size d && are_sizes ds
@@ -52,23 +54,28 @@ dims_encodable (d ∷ ds) n = is_count (length (d ∷ ds)) && are_sizes (d ∷ d
 abbrev pub null_count : List ℕ
 null_count = number_octets 4 4294967295
 
+-- the octets that are written for dimensions, one behind the other
 abbrev pub sizes_canonical : List ℤ → List ℕ
 sizes_canonical [] = []
 sizes_canonical (d ∷ ds) = number_octets 4 (unsigned_abs d) ++ sizes_canonical ds
 
+-- there are dimensions
 abbrev pub has_dims : List ℤ → Bool
 has_dims [] = false
 has_dims (d ∷ ds) = true
 
+-- the octets that are written: the count and the dimensions, or nothing where there are none
 abbrev pub dims_canonical : List ℤ → List ℕ
 dims_canonical [] = []
 dims_canonical (d ∷ ds) = number_octets 4 (length (d ∷ ds)) ++ sizes_canonical (d ∷ ds)
 
 -- ---- reading on lists
 
+-- a number that is negative as an Int32: 2 ^ 31 or more
 abbrev pub is_negative : ℕ → Bool
 is_negative n = leb 2147483648 n
 
+-- a dimension, which is not negative
 unfoldable pub size_at : Reader ℤ
 size_at octets = number_at 4 octets >>= λ n. when (is_count n.0) (Some (pos n.0, n.1))
 
@@ -81,13 +88,16 @@ sizes_at (suc n) octets = size_at octets >>= λ d. sizes_at n d.1 >>= λ ds. Som
 abbrev pub is_none_count : ℕ → Bool
 is_none_count m = is_negative m || eqb m 0
 
+-- the dimensions of n elements: none unless flagged, none at a count of at most 0, else those whose product is n
 unfoldable pub dims_at : Bool → ℕ → Reader (List ℤ)
 dims_at f n octets = cond f (
     number_at 4 octets >>= λ m. cond (is_none_count m.0) (Some ([], m.1)) (sizes_at m.0 m.1 >>= λ ds. when (eqb (product ds.0) n) (Some ds)))
     (Some ([], octets))
 
+-- the dimensions of a null array, which are none: nothing unless flagged, else a count of at most 0
 unfoldable pub no_dims_at : Bool → Reader (List ℤ)
 no_dims_at f octets = cond f (number_at 4 octets >>= λ m. when (is_none_count m.0) (Some ([], m.1))) (Some ([], octets))
 
+-- what was read, with these dimensions in front of it
 abbrev pub with_sizes : List ℤ → Option (List ℤ × List ℕ) → Option (List ℤ × List ℕ)
 with_sizes ds r = r >>= λ x. Some (ds ++ x.0, x.1)

@@ -29,6 +29,7 @@ diagnostic_written v h = diagnostic_canonical_encodes (diagnostic_of v) h
 pub diagnostic_levels : (v : DiagnosticInfo) → IsTrue (diagnostic_encodable (diagnostic_of v)) → diagnostic_depth (diagnostic_of v) ≤ 100
 diagnostic_levels v h = diagnostic_encodable_depth (diagnostic_of v) h
 
+-- DiagnosticInfos, encoded as the data that they stand for (OPC 10000-6, 5.2.2.12)
 unfoldable pub diagnostic_format : Format DiagnosticInfo
 diagnostic_format = record {
   encodes = λ v. EncodesDiagnostic (diagnostic_of v);

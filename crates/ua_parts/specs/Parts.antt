@@ -14,6 +14,7 @@ Reader A = List ℕ → Option (A × List ℕ)
 abbrev pub Joins : (List ℕ → Type 0) → (List ℕ → Type 0) → List ℕ → Type 0
 Joins P Q b = (front : List ℕ) × (back : List ℕ) × (b ≡ front ++ back) × P front × Q back
 
+-- no octets
 abbrev pub Nothing : List ℕ → Type 0
 Nothing b = b ≡ []
 
@@ -25,6 +26,7 @@ IsOctet n b = (n < 256) × (b ≡ n ∷ [])
 abbrev pub IsCount : ℕ → List ℕ → Type 0
 IsCount n b = IsNumber 4 n b × (n < 2147483648)
 
+-- an Int32 count that is negative
 abbrev pub IsNegative : List ℕ → Type 0
 IsNegative b = (n : ℕ) × IsNumber 4 n b × (2147483648 ≤ n)
 
@@ -60,12 +62,15 @@ Flagged p false v b = (v ≡ None) × Nothing b
 
 -- ---- readers
 
+-- the answer where the test passes, else nothing
 abbrev pub when : {A : Type 0} → Bool → Option A → Option A
 when b r = cond b r None
 
+-- reads a value where it is announced; else there is none, and no octet is taken
 abbrev pub optional_read : {A : Type 0} → Bool → Reader A → Reader (Option A)
 optional_read b r octets = cond b (r octets >>= λ x. Some (Some x.0, x.1)) (Some (None, octets))
 
+-- reads a text where it is announced; else it is null, and no octet is taken
 abbrev pub flagged_read : {A : Type 0} → Bool → Reader (Option A) → Reader (Option A)
 flagged_read b r octets = cond b (r octets) (Some (None, octets))
 
@@ -138,16 +143,19 @@ abbrev pub optional_fits : {A : Type 0} → (A → Bool) → Option A → Bool
 optional_fits t None = true
 optional_fits t (Some x) = t x
 
+-- a text that is null or passes the test
 abbrev pub flagged_fits : {A : Type 0} → (Option A → Bool) → Option A → Bool
 flagged_fits t None = true
 flagged_fits t (Some x) = t (Some x)
 
+-- a value that passes the test where it is announced, and none where it is not
 abbrev pub optional_encodable : {A : Type 0} → (A → Bool) → Bool → Option A → Bool
 optional_encodable t true None = false
 optional_encodable t true (Some x) = t x
 optional_encodable t false None = true
 optional_encodable t false (Some x) = false
 
+-- the octets that are written for a value where there is one, else none
 abbrev pub optional_canonical : {A : Type 0} → (A → List ℕ) → Option A → List ℕ
 optional_canonical c None = []
 optional_canonical c (Some x) = c x
@@ -172,12 +180,14 @@ optional b f = record {
   canonical_encodes = optional_canonical_encodes f b;
 }
 
+-- a text other than null that passes the test where it is announced, and null where it is not
 abbrev pub flagged_encodable : {A : Type 0} → (Option A → Bool) → Bool → Option A → Bool
 flagged_encodable t true None = false
 flagged_encodable t true (Some x) = t (Some x)
 flagged_encodable t false None = true
 flagged_encodable t false (Some x) = false
 
+-- the octets that are written for a text, and none for null
 abbrev pub flagged_canonical : {A : Type 0} → (Option A → List ℕ) → Option A → List ℕ
 flagged_canonical c None = []
 flagged_canonical c (Some x) = c (Some x)
@@ -206,6 +216,7 @@ flagged b f = record {
 pub unwritten_canonical : {A : Type 0} (f : Flat A) (v : A) → IsTrue false → f.encodes v []
 unwritten_canonical f v h = not_false h
 
+-- what is read in a format and never written
 abbrev pub unwritten : {A : Type 0} → Flat A → Flat A
 unwritten f = record {
   encodes = f.encodes;

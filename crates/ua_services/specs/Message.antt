@@ -14,6 +14,7 @@ use Rattle.ua_structures.specs.Kinds.{headed}
 
 -- ---- the NodeIds of encodings
 
+-- the number that an identifier is, if it is a numeric one
 abbrev pub number_in : Identifier → Option ℕ
 number_in (Numeric n) = Some n
 number_in (Text t) = None
@@ -42,6 +43,7 @@ IsNoBody {A = A} format octets = (m : A) → IsBody format m octets → ⊥
 abbrev pub id_of : List ℕ → Option NodeId
 id_of octets = node_id.decode octets >>= λ x. Some x.0
 
+-- the RequestHandle of the RequestHeader that was read, or 0 where none was (OPC 10000-4, 7.33)
 abbrev pub header_handle : Option (RequestHeader × List ℕ) → ℕ
 header_handle None = 0
 header_handle (Some x) = x.0.request_handle
@@ -50,6 +52,7 @@ header_handle (Some x) = x.0.request_handle
 abbrev pub handle_behind : List ℕ → ℕ
 handle_behind octets = header_handle (request_header.decode most_levels octets)
 
+-- the RequestHandle in the octets behind the NodeId that was read, or 0 where none was
 abbrev pub id_handle : Option (NodeId × List ℕ) → ℕ
 id_handle None = 0
 id_handle (Some x) = handle_behind x.1
@@ -60,6 +63,7 @@ handle_of octets = id_handle (node_id.decode octets)
 
 -- ---- one kind of message
 
+-- the structure, behind a NodeId whose number is that of its encoding; behind any other NodeId no message stands
 abbrev pub behind_number : {A : Type 0} → ℕ → Format A → Option ℕ → Format A
 behind_number number f None = flat nothing
 behind_number number f (Some n) = cond (nat_eq n number) f (flat nothing)

@@ -35,6 +35,7 @@ request_number CloseSession = 473
 request_number Read = 631
 request_number Write = 673
 
+-- the kind of request whose binary encoding has this number, if there is one (OPC 10000-6, A.3)
 abbrev pub numbered : ℕ → Option RequestKind
 numbered n =
     cond (nat_eq n 428) (Some GetEndpoints)
@@ -48,6 +49,7 @@ numbered n =
 abbrev pub request_kind : NodeId → Option RequestKind
 request_kind id = standard_number id >>= numbered
 
+-- the kind of a request
 abbrev pub kind_of : Request → RequestKind
 kind_of (GetEndpointsMessage m) = GetEndpoints
 kind_of (CreateSessionMessage m) = CreateSession
@@ -67,6 +69,7 @@ header_of (WriteMessage m) = m.request_header
 
 -- ---- what each kind holds
 
+-- the GetEndpoints request that a request is, if it is one
 abbrev pub get_endpoints_in : Request → Option GetEndpointsRequest
 get_endpoints_in (GetEndpointsMessage m) = Some m
 get_endpoints_in (CreateSessionMessage m) = None
@@ -83,6 +86,7 @@ get_endpoints_is (CloseSessionMessage w) m e = absurd cc
 get_endpoints_is (ReadMessage w) m e = absurd cc
 get_endpoints_is (WriteMessage w) m e = absurd cc
 
+-- the CreateSession request that a request is, if it is one
 abbrev pub create_session_in : Request → Option CreateSessionRequest
 create_session_in (GetEndpointsMessage m) = None
 create_session_in (CreateSessionMessage m) = Some m
@@ -99,6 +103,7 @@ create_session_is (CloseSessionMessage w) m e = absurd cc
 create_session_is (ReadMessage w) m e = absurd cc
 create_session_is (WriteMessage w) m e = absurd cc
 
+-- the ActivateSession request that a request is, if it is one
 abbrev pub activate_session_in : Request → Option ActivateSessionRequest
 activate_session_in (GetEndpointsMessage m) = None
 activate_session_in (CreateSessionMessage m) = None
@@ -115,6 +120,7 @@ activate_session_is (CloseSessionMessage w) m e = absurd cc
 activate_session_is (ReadMessage w) m e = absurd cc
 activate_session_is (WriteMessage w) m e = absurd cc
 
+-- the CloseSession request that a request is, if it is one
 abbrev pub close_session_in : Request → Option CloseSessionRequest
 close_session_in (GetEndpointsMessage m) = None
 close_session_in (CreateSessionMessage m) = None
@@ -131,6 +137,7 @@ close_session_is (CloseSessionMessage w) m e = ap CloseSessionMessage (some_is w
 close_session_is (ReadMessage w) m e = absurd cc
 close_session_is (WriteMessage w) m e = absurd cc
 
+-- the Read request that a request is, if it is one
 abbrev pub read_in : Request → Option ReadRequest
 read_in (GetEndpointsMessage m) = None
 read_in (CreateSessionMessage m) = None
@@ -147,6 +154,7 @@ read_is (CloseSessionMessage w) m e = absurd cc
 read_is (ReadMessage w) m e = ap ReadMessage (some_is w m e)
 read_is (WriteMessage w) m e = absurd cc
 
+-- the Write request that a request is, if it is one
 abbrev pub write_in : Request → Option WriteRequest
 write_in (GetEndpointsMessage m) = None
 write_in (CreateSessionMessage m) = None
@@ -172,10 +180,12 @@ of_kind CloseSession = kind CloseSessionMessage close_session_in close_session_i
 of_kind Read = kind ReadMessage read_in read_is (λ m. refl) read_request
 of_kind Write = kind WriteMessage write_in write_is (λ m. refl) write_request
 
+-- the structure of the kind that was announced; where none was, no request stands there
 abbrev pub announced : Option RequestKind → Format Request
 announced None = flat nothing
 announced (Some k) = of_kind k
 
+-- the depth of a request: that of its structure
 abbrev pub request_depth : Request → ℕ
 request_depth (GetEndpointsMessage m) = get_endpoints_request.depth m
 request_depth (CreateSessionMessage m) = create_session_request.depth m
@@ -233,6 +243,7 @@ IsUnsupported known OutOfMemory = Unit {0}
 
 -- ---- a structure behind its header
 
+-- the request of this kind that octets give behind its header, if they give one, and the octets left behind it
 abbrev pub behind_header : RequestKind → RequestHeader → ℕ → List ℕ → Option (Request × List ℕ)
 behind_header GetEndpoints header levels = image_read GetEndpointsMessage (image_read (λ fields. get_endpoints_request_of (header, fields)) (get_endpoints_request_fields.decode levels))
 behind_header CreateSession header levels = image_read CreateSessionMessage (image_read (λ fields. create_session_request_of (header, fields)) (create_session_request_fields.decode levels))

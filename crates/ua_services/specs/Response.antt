@@ -38,6 +38,7 @@ response_number Read = 634
 response_number Write = 676
 response_number Fault = 397
 
+-- the kind of response whose binary encoding has this number, if there is one (OPC 10000-6, A.3)
 abbrev pub numbered : ℕ → Option ResponseKind
 numbered n =
     cond (nat_eq n 431) (Some GetEndpoints)
@@ -52,6 +53,7 @@ numbered n =
 abbrev pub response_kind : NodeId → Option ResponseKind
 response_kind id = standard_number id >>= numbered
 
+-- the kind of a response
 abbrev pub kind_of : Response → ResponseKind
 kind_of (GetEndpointsMessage m) = GetEndpoints
 kind_of (CreateSessionMessage m) = CreateSession
@@ -86,6 +88,7 @@ Answers response request = (response ≡ own_answer request) ⊎ (response ≡ F
 
 -- ---- what each kind holds
 
+-- the GetEndpoints response that a response is, if it is one
 abbrev pub get_endpoints_in : Response → Option GetEndpointsResponse
 get_endpoints_in (GetEndpointsMessage m) = Some m
 get_endpoints_in (CreateSessionMessage m) = None
@@ -104,6 +107,7 @@ get_endpoints_is (ReadMessage w) m e = absurd cc
 get_endpoints_is (WriteMessage w) m e = absurd cc
 get_endpoints_is (ServiceFaultMessage w) m e = absurd cc
 
+-- the CreateSession response that a response is, if it is one
 abbrev pub create_session_in : Response → Option CreateSessionResponse
 create_session_in (GetEndpointsMessage m) = None
 create_session_in (CreateSessionMessage m) = Some m
@@ -122,6 +126,7 @@ create_session_is (ReadMessage w) m e = absurd cc
 create_session_is (WriteMessage w) m e = absurd cc
 create_session_is (ServiceFaultMessage w) m e = absurd cc
 
+-- the ActivateSession response that a response is, if it is one
 abbrev pub activate_session_in : Response → Option ActivateSessionResponse
 activate_session_in (GetEndpointsMessage m) = None
 activate_session_in (CreateSessionMessage m) = None
@@ -140,6 +145,7 @@ activate_session_is (ReadMessage w) m e = absurd cc
 activate_session_is (WriteMessage w) m e = absurd cc
 activate_session_is (ServiceFaultMessage w) m e = absurd cc
 
+-- the CloseSession response that a response is, if it is one
 abbrev pub close_session_in : Response → Option CloseSessionResponse
 close_session_in (GetEndpointsMessage m) = None
 close_session_in (CreateSessionMessage m) = None
@@ -158,6 +164,7 @@ close_session_is (ReadMessage w) m e = absurd cc
 close_session_is (WriteMessage w) m e = absurd cc
 close_session_is (ServiceFaultMessage w) m e = absurd cc
 
+-- the Read response that a response is, if it is one
 abbrev pub read_in : Response → Option ReadResponse
 read_in (GetEndpointsMessage m) = None
 read_in (CreateSessionMessage m) = None
@@ -176,6 +183,7 @@ read_is (ReadMessage w) m e = ap ReadMessage (some_is w m e)
 read_is (WriteMessage w) m e = absurd cc
 read_is (ServiceFaultMessage w) m e = absurd cc
 
+-- the Write response that a response is, if it is one
 abbrev pub write_in : Response → Option WriteResponse
 write_in (GetEndpointsMessage m) = None
 write_in (CreateSessionMessage m) = None
@@ -194,6 +202,7 @@ write_is (ReadMessage w) m e = absurd cc
 write_is (WriteMessage w) m e = ap WriteMessage (some_is w m e)
 write_is (ServiceFaultMessage w) m e = absurd cc
 
+-- the ServiceFault that a response is, if it is one (OPC 10000-4, 7.35)
 abbrev pub service_fault_in : Response → Option ServiceFault
 service_fault_in (GetEndpointsMessage m) = None
 service_fault_in (CreateSessionMessage m) = None
@@ -222,10 +231,12 @@ of_kind Read = kind ReadMessage read_in read_is (λ m. refl) read_response
 of_kind Write = kind WriteMessage write_in write_is (λ m. refl) write_response
 of_kind Fault = kind ServiceFaultMessage service_fault_in service_fault_is (λ m. refl) service_fault
 
+-- the structure of the kind that was announced; where none was, no response stands there
 abbrev pub announced : Option ResponseKind → Format Response
 announced None = flat nothing
 announced (Some k) = of_kind k
 
+-- the depth of a response: that of its structure
 abbrev pub response_depth : Response → ℕ
 response_depth (GetEndpointsMessage m) = get_endpoints_response.depth m
 response_depth (CreateSessionMessage m) = create_session_response.depth m

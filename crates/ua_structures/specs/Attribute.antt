@@ -37,6 +37,7 @@ read_value_id_starts v h = pair_starts _ _ node_id_starts h.of h.encoded
 abbrev pub read_request_fields : Format (DoubleBits × (ℤ × Option (List ReadValueId)))
 read_request_fields = pair (flat double_bits) (pair int32 (array read_value_id))
 
+-- the Read request that a header and the fields behind it make
 abbrev pub read_request_of : RequestHeader × (DoubleBits × (ℤ × Option (List ReadValueId))) → ReadRequest
 read_request_of p = record { request_header = p.0; max_age = p.1.0; timestamps_to_return = p.1.1.0; nodes_to_read = p.1.1.1 }
 
@@ -77,6 +78,7 @@ write_value_starts v h = pair_starts _ _ node_id_starts h.of h.encoded
 abbrev pub write_request_fields : Format (Option (List WriteValue))
 write_request_fields = array write_value
 
+-- the Write request that a header and the fields behind it make
 abbrev pub write_request_of : RequestHeader × Option (List WriteValue) → WriteRequest
 write_request_of p = record { request_header = p.0; nodes_to_write = p.1 }
 

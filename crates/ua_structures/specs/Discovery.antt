@@ -43,6 +43,7 @@ user_token_policy_starts v h = pair_starts _ _ text_starts h.of h.encoded
 unfoldable pub endpoint_description_tail : Format (Option (List ℕ) × (Option (List UserTokenPolicy) × (Option (List ℕ) × ℕ)))
 endpoint_description_tail = pair string (pair (array user_token_policy) (pair string byte))
 
+-- what an EndpointDescription has in its fields from security_policy_uri on
 abbrev pub endpoint_description_tail_of : EndpointDescription → Option (List ℕ) × (Option (List UserTokenPolicy) × (Option (List ℕ) × ℕ))
 endpoint_description_tail_of s = (s.security_policy_uri, (s.user_identity_tokens, (s.transport_profile_uri, s.security_level)))
 
@@ -61,6 +62,7 @@ endpoint_description_starts v h = pair_starts _ _ text_starts h.of h.encoded
 abbrev pub get_endpoints_request_fields : Format (Option (List ℕ) × (Option (List (Option (List ℕ))) × Option (List (Option (List ℕ)))))
 get_endpoints_request_fields = pair string (pair (array string) (array string))
 
+-- the GetEndpoints request that a header and the fields behind it make
 abbrev pub get_endpoints_request_of : RequestHeader × (Option (List ℕ) × (Option (List (Option (List ℕ))) × Option (List (Option (List ℕ))))) → GetEndpointsRequest
 get_endpoints_request_of p = record { request_header = p.0; endpoint_url = p.1.0; locale_ids = p.1.1.0; profile_uris = p.1.1.1 }
 

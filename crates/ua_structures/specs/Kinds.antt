@@ -6,14 +6,17 @@ use Rattle.ua_builtin.specs.Format.{Flat, Format, Within, most_levels}
 
 -- ---- one kind of values: those that are made of a part
 
+-- there is a part, and it can be encoded
 abbrev pub part_encodable : {A : Type 0} → (A → Bool) → Option A → Bool
 part_encodable test None = false
 part_encodable test (Some x) = test x
 
+-- the octets that a writer gives the part; none where there is no part
 abbrev pub part_canonical : {A : Type 0} → (A → List ℕ) → Option A → List ℕ
 part_canonical canonical None = []
 part_canonical canonical (Some x) = canonical x
 
+-- the depth of the part; 0 where there is none
 abbrev pub part_depth : {A : Type 0} → (A → ℕ) → Option A → ℕ
 part_depth depth None = 0
 part_depth depth (Some x) = depth x

@@ -67,6 +67,7 @@ anonymous_identity_token_starts v h = text_starts h.of h.encoded
 unfoldable pub create_session_request_tail : Format (Option (List ℕ) × (Option (List ℕ) × (DoubleBits × ℕ)))
 create_session_request_tail = pair byte_string (pair byte_string (pair (flat double_bits) uint32))
 
+-- what a CreateSession request has in its fields from client_nonce on
 abbrev pub create_session_request_tail_of : CreateSessionRequest → Option (List ℕ) × (Option (List ℕ) × (DoubleBits × ℕ))
 create_session_request_tail_of s = (s.client_nonce, (s.client_certificate, (s.requested_session_timeout, s.max_response_message_size)))
 
@@ -74,6 +75,7 @@ create_session_request_tail_of s = (s.client_nonce, (s.client_certificate, (s.re
 abbrev pub create_session_request_fields : Format (ApplicationDescription × (Option (List ℕ) × (Option (List ℕ) × (Option (List ℕ) × (Option (List ℕ) × (Option (List ℕ) × (DoubleBits × ℕ)))))))
 create_session_request_fields = pair application_description (pair string (pair string (pair string create_session_request_tail)))
 
+-- the CreateSession request that a header and the fields behind it make
 abbrev pub create_session_request_of : RequestHeader × (ApplicationDescription × (Option (List ℕ) × (Option (List ℕ) × (Option (List ℕ) × (Option (List ℕ) × (Option (List ℕ) × (DoubleBits × ℕ))))))) → CreateSessionRequest
 create_session_request_of p = record { request_header = p.0; client_description = p.1.0; server_uri = p.1.1.0; endpoint_url = p.1.1.1.0; session_name = p.1.1.1.1.0; client_nonce = p.1.1.1.1.1.0; client_certificate = p.1.1.1.1.1.1.0; requested_session_timeout = p.1.1.1.1.1.1.1.0; max_response_message_size = p.1.1.1.1.1.1.1.1 }
 
@@ -92,6 +94,7 @@ create_session_request_starts v h = pair_starts _ _ request_header_starts h.of h
 unfoldable pub create_session_response_tail : Format (Option (List ℕ) × (Option (List EndpointDescription) × (Option (List SignedSoftwareCertificate) × (SignatureData × ℕ))))
 create_session_response_tail = pair byte_string (pair (array endpoint_description) (pair (array signed_software_certificate) (pair signature_data uint32)))
 
+-- what a CreateSession response has in its fields from server_certificate on
 abbrev pub create_session_response_tail_of : CreateSessionResponse → Option (List ℕ) × (Option (List EndpointDescription) × (Option (List SignedSoftwareCertificate) × (SignatureData × ℕ)))
 create_session_response_tail_of s = (s.server_certificate, (s.server_endpoints, (s.server_software_certificates, (s.server_signature, s.max_request_message_size))))
 
@@ -110,6 +113,7 @@ create_session_response_starts v h = pair_starts _ _ response_header_starts h.of
 abbrev pub activate_session_request_fields : Format (SignatureData × (Option (List SignedSoftwareCertificate) × (Option (List (Option (List ℕ))) × (ExtensionObject × SignatureData))))
 activate_session_request_fields = pair signature_data (pair (array signed_software_certificate) (pair (array string) (pair (flat extension_object) signature_data)))
 
+-- the ActivateSession request that a header and the fields behind it make
 abbrev pub activate_session_request_of : RequestHeader × (SignatureData × (Option (List SignedSoftwareCertificate) × (Option (List (Option (List ℕ))) × (ExtensionObject × SignatureData)))) → ActivateSessionRequest
 activate_session_request_of p = record { request_header = p.0; client_signature = p.1.0; client_software_certificates = p.1.1.0; locale_ids = p.1.1.1.0; user_identity_token = p.1.1.1.1.0; user_token_signature = p.1.1.1.1.1 }
 
@@ -139,6 +143,7 @@ activate_session_response_starts v h = pair_starts _ _ response_header_starts h.
 abbrev pub close_session_request_fields : Format (Bool)
 close_session_request_fields = flat boolean
 
+-- the CloseSession request that a header and the field behind it make
 abbrev pub close_session_request_of : RequestHeader × Bool → CloseSessionRequest
 close_session_request_of p = record { request_header = p.0; delete_subscriptions = p.1 }
 

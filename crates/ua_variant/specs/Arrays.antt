@@ -20,6 +20,7 @@ use Rattle.ua_parts.specs.DimensionReaders.{NoDims, exact_no_dims, exact_dims, n
 abbrev pub RowOf : ℕ → ℕ → ℕ → ScalarsData → List ℕ → Type 0
 RowOf n k m ss b = (row_length ss ≡ m) × EncodesRow k ss b × (scalars_depth ss ≤ n)
 
+-- a value of the type id k and m values behind it, each of the depth n at most
 abbrev RowParts : ℕ → ℕ → ℕ → ScalarsData → List ℕ → Type 0
 RowParts n k m y b = (s : ScalarData) × Joins (ShallowS n k s) (λ c. (ss : ScalarsData) × (y ≡ scalar s ss) × RowOf n k m ss c) b
 
@@ -55,9 +56,11 @@ exact_row n k (suc m) p e = exact_as (RowOf n k (suc m)) (exact_then e (λ s. ex
 
 -- ---- arrays
 
+-- a null array of the type id k: a negative count, and dimensions that are none
 abbrev NullArray : ℕ → Bool → VariantData → List ℕ → Type 0
 NullArray k f y b = (ds : List ℤ) × (y ≡ absent k ds) × Joins IsNegative (NoDims f ds) b
 
+-- an array of the type id k: the count of its elements, the elements, of the depth n at most, and its dimensions
 abbrev WholeArray : ℕ → ℕ → Bool → VariantData → List ℕ → Type 0
 WholeArray n k f y b = (ss : ScalarsData) × (ds : List ℤ) × (y ≡ many k ss ds) × (scalars_depth ss ≤ n) × Joins (IsCount (row_length ss)) (Joins (EncodesRow k ss) (EncodesDims f (row_length ss) ds)) b
 
@@ -65,9 +68,11 @@ WholeArray n k f y b = (ss : ScalarsData) × (ds : List ℤ) × (y ≡ many k ss
 abbrev pub ArrayOf : ℕ → ℕ → Bool → VariantData → List ℕ → Type 0
 ArrayOf n k f y b = NullArray k f y b ⊎ WholeArray n k f y b
 
+-- what stands behind a negative count: the dimensions of a null array
 abbrev NullBody : ℕ → Bool → VariantData → List ℕ → Type 0
 NullBody k f y c = (ds : List ℤ) × (y ≡ absent k ds) × NoDims f ds c
 
+-- what stands behind the count m: m elements of the type id k, of the depth n at most, and their dimensions
 abbrev WholeBody : ℕ → ℕ → Bool → ℕ → VariantData → List ℕ → Type 0
 WholeBody n k f m y c = (ss : ScalarsData) × Joins (RowOf n k m ss) (λ e. (ds : List ℤ) × (y ≡ many k ss ds) × EncodesDims f m ds e) c
 

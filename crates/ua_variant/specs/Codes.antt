@@ -16,6 +16,7 @@ pub data Mark : Type 0 where
   diagnostic_mark : DiagnosticData → Mark
   fields_mark : DataFields → Mark
 
+-- a Variant, a scalar, the elements of an array, and a DataValue as trees, one tree for each value
 abbrev mutual
   pub variant_tree : VariantData → Tree Mark
   variant_tree null = tip empty_mark
@@ -37,9 +38,11 @@ abbrev mutual
   data_value_tree (bare f) = tip (fields_mark f)
   data_value_tree (valued v f) = fork (tip (fields_mark f)) (variant_tree v)
 
+-- the DataValue without a value and without any field
 abbrev pub no_data : DataValueData
 no_data = bare (record { status = None; source_timestamp = None; source_picoseconds = None; server_timestamp = None; server_picoseconds = None })
 
+-- the value that has this tree; some value where none has it
 abbrev mutual
   pub variant_from : Tree Mark → VariantData
   variant_from (tip (array_mark k ds)) = absent k ds
@@ -84,11 +87,14 @@ mutual
   data_value_back (bare f) = refl
   data_value_back (valued v f) = ap (λ w. valued w f) (variant_back v)
 
+-- a Variant is coded as its tree
 abbrev pub coded_variant : Coded Mark → Coded VariantData
 coded_variant mark = code_by (Tree Mark) (coded_tree empty_mark mark) variant_tree variant_from variant_back
 
+-- a scalar is coded as its tree
 abbrev pub coded_scalar : Coded Mark → Coded ScalarData
 coded_scalar mark = code_by (Tree Mark) (coded_tree empty_mark mark) scalar_tree scalar_from scalar_back
 
+-- a list of scalars is coded by the codes of the scalars
 abbrev pub coded_scalars : Coded Mark → Coded (List ScalarData)
 coded_scalars mark = coded_list (coded_scalar mark)

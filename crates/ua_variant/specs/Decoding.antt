@@ -12,6 +12,7 @@ use Rattle.ua_variant.specs.Encodable.{is_read_kind}
 use Rattle.ua_parts.specs.Dimensions.{is_negative, dims_at, no_dims_at}
 use Rattle.ua_parts.specs.Diagnostic.{diagnostic_at}
 
+-- a mask of at most 0x3F, where 0x01 is set a value, which inner reads, and the other fields that the mask announces
 unfoldable pub data_value_step : Reader VariantData → Reader DataValueData
 data_value_step inner octets = number_at 1 octets >>= λ m. when (leb m.0 63) (
     optional_read (flag 1 m.0) inner m.1 >>= λ v. (data_fields m.0).decode v.1 >>= λ f. Some (value_within v.0 f.0, f.1))
@@ -34,6 +35,7 @@ row_at (suc n) p octets = p octets >>= λ s. row_at n p s.1 >>= λ ss. Some (sca
 abbrev pub elements_at : (ℕ → Reader ScalarData) → ℕ → Bool → ℕ → Reader VariantData
 elements_at p k f n octets = row_at n (p k) octets >>= λ ss. dims_at f n ss.1 >>= λ ds. Some (many k ss.0 ds.0, ds.1)
 
+-- behind the first octet of an array: a count, its elements and dimensions; a negative count is a null array
 unfoldable pub array_at : (ℕ → Reader ScalarData) → ℕ → Bool → Reader VariantData
 array_at p k f octets = number_at 4 octets >>= λ n. cond (is_negative n.0)
     (no_dims_at f n.1 >>= λ ds. Some (absent k ds.0, ds.1))
@@ -46,9 +48,11 @@ variant_after p t octets =
     cond (leb 128 t) (when (is_read_kind (t % 64) && leb t 255) (array_at p (t % 64) (flag 64 t) octets))
     (when (not (eqb t 24)) (p t octets >>= λ s. Some (one s.0, s.1))))
 
+-- the first octet and what it announces, where p reads the scalars of each type id
 unfoldable pub variant_step : (ℕ → Reader ScalarData) → Reader VariantData
 variant_step p octets = number_at 1 octets >>= λ t. variant_after p t.0 t.1
 
+-- a Variant, and a DataValue, with so many levels left
 unfoldable mutual
   pub variant_at : ℕ → Reader VariantData
   variant_at zero octets = None
@@ -67,5 +71,6 @@ abbrev pub before : List ScalarData → ScalarsData → ScalarsData
 before [] r = r
 before (s ∷ ss) r = scalar s (before ss r)
 
+-- what was read of a row, with these scalars in front of it
 abbrev pub with_front : List ScalarData → Option (ScalarsData × List ℕ) → Option (ScalarsData × List ℕ)
 with_front ss r = r >>= λ x. Some (before ss x.0, x.1)

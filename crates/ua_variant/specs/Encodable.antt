@@ -23,6 +23,7 @@ kind_of (diagnostic d) = 25
 abbrev pub is_kind : ℕ → Bool
 is_kind k = leb 1 k && leb k 25
 
+-- the type ids that are read: those that are written, and the reserved ones
 abbrev pub is_read_kind : ℕ → Bool
 is_read_kind k = leb 1 k && leb k 31
 
@@ -30,12 +31,14 @@ is_read_kind k = leb 1 k && leb k 31
 abbrev pub data_fields_encodable : DataFields → Bool
 data_fields_encodable f = optional_fits status_code_format.encodable f.status && (optional_fits (date_time_format).encodable f.source_timestamp && (optional_fits (number 2).encodable f.source_picoseconds && (optional_fits (date_time_format).encodable f.server_timestamp && optional_fits (number 2).encodable f.server_picoseconds)))
 
+-- the scalar is a Variant
 abbrev pub is_variant : ScalarData → Bool
 is_variant (leaf l) = false
 is_variant (data_value d) = false
 is_variant (variant v) = true
 is_variant (diagnostic d) = false
 
+-- how many elements there are
 abbrev pub row_length : ScalarsData → ℕ
 row_length no_scalars = 0
 row_length (scalar s ss) = 1 + row_length ss
@@ -68,5 +71,6 @@ abbrev mutual
 abbrev pub variant_encodable : VariantData → Bool
 variant_encodable v = leb (variant_depth v) 100 && variant_fits v
 
+-- a DataValue that can be written with all that it holds, with at most 100 levels
 abbrev pub data_value_encodable : DataValueData → Bool
 data_value_encodable d = leb (data_value_depth d) 100 && data_value_fits d

@@ -38,6 +38,7 @@ data_value_written v h = data_value_canonical_encodes (data_value_of v) h
 pub data_value_levels : (v : DataValue) → IsTrue (data_value_encodable (data_value_of v)) → data_value_depth (data_value_of v) ≤ 100
 data_value_levels v h = data_value_encodable_depth (data_value_of v) h
 
+-- Variants, encoded as the data that they stand for (OPC 10000-6, 5.2.2.16)
 unfoldable pub variant_format : Format Variant
 variant_format = record {
   encodes = λ v. EncodesVariant (variant_of v);
@@ -50,6 +51,7 @@ variant_format = record {
   encodable_depth = variant_levels;
 }
 
+-- DataValues, encoded as the data that they stand for (OPC 10000-6, 5.2.2.17)
 unfoldable pub data_value_format : Format DataValue
 data_value_format = record {
   encodes = λ v. EncodesDataValue (data_value_of v);

@@ -67,6 +67,7 @@ pub record Typed : Type 1 where
   pub starts : TakesSome format.encodes
   pub value : Of
 
+-- a value with its format, in which no encoding is empty
 abbrev pub typed : {A : Type 0} (format : Flat A) → TakesSome format.encodes → A → Typed
 typed {A} format starts value = record { Of = A; format = format; starts = starts; value = value }
 
@@ -96,12 +97,15 @@ leaf_typed (localized_text x) = typed (localized_text_format) (localized_text_st
 leaf_typed (extension_object x) = typed (extension_object_format) (extension_object_starts) x
 leaf_typed (reserved k x) = typed (reserved_octets k) (reserved_starts k) x
 
+-- the octets encode the scalar in the format of its type
 abbrev pub EncodesLeaf : LeafData → List ℕ → Type 0
 EncodesLeaf l b = (leaf_typed l).format.encodes (leaf_typed l).value b
 
+-- the scalar can be written
 abbrev pub leaf_encodable : LeafData → Bool
 leaf_encodable l = (leaf_typed l).format.encodable (leaf_typed l).value
 
+-- the octets that are written for the scalar
 abbrev pub leaf_canonical : LeafData → List ℕ
 leaf_canonical l = (leaf_typed l).format.canonical (leaf_typed l).value
 
@@ -113,6 +117,7 @@ leaf_starts l h = (leaf_typed l).starts (leaf_typed l).value h
 
 -- ---- reading, by the type id
 
+-- a scalar of the type id k, in the format of its type; nothing where k is not the id of such a scalar
 unfoldable pub leaf_at : ℕ → Reader LeafData
 leaf_at k octets =
     cond (is_reserved k) (image_read (reserved k) counted.decode octets) (
@@ -144,6 +149,7 @@ leaf_at k octets =
 abbrev pub IsLeaf : ℕ → LeafData → List ℕ → Type 0
 IsLeaf k l b = (leaf_kind l ≡ k) × EncodesLeaf l b
 
+-- where the reader finds a value, the octets begin with an encoding of it, and what the reader leaves stands behind
 abbrev pub Sound : {A : Type 0} → (A → List ℕ → Type 0) → Reader A → Type 0
 Sound {A} p r = (octets : List ℕ) (v : A) (rest : List ℕ) → r octets ≡ Some (v, rest) → Begins p octets v rest
 

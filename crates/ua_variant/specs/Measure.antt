@@ -26,9 +26,11 @@ abbrev mutual
   data_value_depth (bare f) = 1
   data_value_depth (valued v f) = 1 + variant_depth v
 
+-- how many of the fields of a DataValue but its value are there
 abbrev pub data_fields_count : DataFields → ℕ
 data_fields_count f = there f.status + there f.source_timestamp + there f.source_picoseconds + there f.server_timestamp + there f.server_picoseconds
 
+-- a Variant, DataValue or DiagnosticInfo counts 1 beside what it holds; each other scalar, field and dimension counts 1
 abbrev mutual
   pub variant_count : VariantData → ℕ
   variant_count null = 1

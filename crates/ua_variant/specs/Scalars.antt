@@ -20,6 +20,7 @@ use Rattle.ua_parts.specs.Diagnostics.{Shallow}
 abbrev pub ShallowV : ℕ → VariantData → List ℕ → Type 0
 ShallowV n = Within EncodesVariant variant_depth n
 
+-- a DataValue, of the depth n at most
 abbrev pub ShallowD : ℕ → DataValueData → List ℕ → Type 0
 ShallowD n = Within EncodesDataValue data_value_depth n
 

@@ -9,9 +9,11 @@ use Rattle.ua_variant.specs.declared.values.DataValue.{DataValue}
 use Rattle.ua_parts.specs.declared.diagnostic_info.DiagnosticInfo.{DiagnosticInfo}
 use Rattle.ua_parts.specs.View.{diagnostic_value, diagnostic_forth, diagnostic_value_of}
 
+-- the DataValue of the code with these fields, and with a value where there is one
 abbrev pub made_data_value : Option VariantData → DataFields → DataValue
 made_data_value v f = record { value = v; status = f.status; source_timestamp = f.source_timestamp; source_picoseconds = f.source_picoseconds; server_timestamp = f.server_timestamp; server_picoseconds = f.server_picoseconds }
 
+-- the DataValue of the code that stands for the data
 abbrev pub data_value_value : DataValueData → DataValue
 data_value_value (bare f) = made_data_value None f
 data_value_value (valued v f) = made_data_value (Some v) f
@@ -27,6 +29,7 @@ data_back (Some v) f = refl
 pub data_value_value_of : (d : DataValue) → data_value_value (data_value_of d) ≡ d
 data_value_value_of d = data_back d.value (data_fields_of d)
 
+-- the scalar of the code that stands for one that holds no further value
 abbrev pub leaf_value : LeafData → Scalar
 leaf_value (boolean x) = Scalar.Boolean x
 leaf_value (sbyte x) = Scalar.SByte x
@@ -52,6 +55,7 @@ leaf_value (localized_text x) = Scalar.LocalizedText x
 leaf_value (extension_object x) = Scalar.ExtensionObject x
 leaf_value (reserved k x) = Scalar.Reserved k x
 
+-- the scalar of the code that stands for the data
 abbrev pub scalar_value : ScalarData → Scalar
 scalar_value (leaf l) = leaf_value l
 scalar_value (data_value d) = Scalar.DataValue (data_value_value d)
@@ -125,6 +129,7 @@ pub row_forth : (ss : List ScalarData) → row_list (row ss) ≡ ss
 row_forth [] = refl
 row_forth (s ∷ ss) = ap (λ (xs : List ScalarData). s ∷ xs) (row_forth ss)
 
+-- the Variant of the code that stands for the data
 abbrev pub variant_value : VariantData → Variant
 variant_value null = Variant.Null
 variant_value (one s) = Variant.One (scalar_value s)

@@ -97,6 +97,7 @@ array_after n t y b k low e (inr r) =
     let d : scalars_depth r.0 ≤ n = r.3 in
     subst (λ x. ShallowV (suc n) x (t ∷ b)) (sym r.2) ((k, flag 64 t, (t ∷ [], b, refl, (omega (arith, e), ap (λ (x : ℕ). x ∷ []) e), r.4)), omega arith)
 
+-- what stands behind the first octet t of an array: an array of the type id that t has, which is one that is read
 abbrev Wanted : ℕ → ℕ → VariantData → List ℕ → Type 0
 Wanted n t y b = IsTrue (is_read_kind (t % 64) && leb t 255) × ArrayOf n (t % 64) (flag 64 t) y b
 

@@ -12,20 +12,25 @@ abbrev pub row : List ScalarData → ScalarsData
 row [] = no_scalars
 row (s ∷ ss) = scalar s (row ss)
 
+-- the elements of an array, as a list
 abbrev pub row_list : ScalarsData → List ScalarData
 row_list no_scalars = []
 row_list (scalar s ss) = s ∷ row_list ss
 
+-- the DataValue of these fields, with a value where there is one
 abbrev pub value_within : Option VariantData → DataFields → DataValueData
 value_within None f = bare f
 value_within (Some v) f = valued v f
 
+-- the fields of a DataValue of the code but its value
 abbrev pub data_fields_of : DataValue → DataFields
 data_fields_of d = record { status = d.status; source_timestamp = d.source_timestamp; source_picoseconds = d.source_picoseconds; server_timestamp = d.server_timestamp; server_picoseconds = d.server_picoseconds }
 
+-- the data that a DataValue of the code stands for
 abbrev pub data_value_of : DataValue → DataValueData
 data_value_of d = value_within d.value (data_fields_of d)
 
+-- the data that a scalar of the code stands for
 abbrev pub scalar_of : Scalar → ScalarData
 scalar_of (Scalar.Boolean x) = leaf (boolean x)
 scalar_of (Scalar.SByte x) = leaf (sbyte x)
@@ -54,10 +59,12 @@ scalar_of (Scalar.Variant v) = variant v
 scalar_of (Scalar.DiagnosticInfo d) = diagnostic (diagnostic_of d)
 scalar_of (Scalar.Reserved k x) = leaf (reserved k x)
 
+-- the array of the type id k with these elements and dimensions; a null one where the elements are null
 abbrev pub many_of : ℕ → Option (List ScalarData) → List ℤ → VariantData
 many_of k None ds = absent k ds
 many_of k (Some ss) ds = many k (row ss) ds
 
+-- the data that a Variant of the code stands for
 abbrev pub variant_of : Variant → VariantData
 variant_of Variant.Null = null
 variant_of (Variant.One s) = one (scalar_of s)
