@@ -1,6 +1,6 @@
 pub mod Assembles
 pub mod CutLaws
-pub mod FieldsRead
+pub mod AbortsRead
 pub mod Fresh
 pub mod Interleaved
 pub mod KeptMessages

@@ -4,9 +4,9 @@ ghost use Rattle.std.specs.Prelude.{◌≡◌, IfOk};
 ghost use Rattle.ua_builtin.specs.Format.{Gives};
 ghost use Rattle.ua_chunk.specs.Abort.{abort_body, abort_of, is_readable_abort};
 
-use crate::fields::{is_text, split_counted, split_number};
 use std::alloc::{AllocError, Global};
 use ua_builtin::{Octets, ReadFault, Source, StatusCode, UaString, Wire};
+use ua_octets::{is_text, split_counted, split_number};
 
 /// Reads a status code and a reason.
 #[tactic(auto, unfolding(crate::specs::Abort::abort_body))]

@@ -5,9 +5,10 @@ ghost use Rattle.ua_frame.specs.Kinds.{has_flag};
 ghost use Rattle.ua_frame.specs.declared.kind.Kind.TheVariants.{Msg};
 ghost use Rattle.ua_chunk.specs.Layout.{IsChunkOf};
 
-use crate::fields::{drop_front, front_number};
+use crate::fields::drop_front;
 use crate::flag::Flag;
 use ua_frame::{Body, Frame};
+use ua_octets::front_number;
 
 /// A chunk of a message: a MSG or a CLO frame under the security policy None (OPC 10000-6, 6.7.2).
 #[derive(Drop)]

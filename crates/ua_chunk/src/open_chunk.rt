@@ -4,8 +4,9 @@ ghost use Rattle.std.specs.Prelude.{◌≡◌, ◌++◌, Some, None, MatchOption
 ghost use Rattle.ua_chunk.specs.Layout.{policy_header, is_none_policy, HeadersAt, IsOpenChunkOf, open_refusal};
 
 use crate::fault::OpenFault;
-use crate::fields::{drop_front, split_counted, split_number, split_sequence};
+use crate::fields::{drop_front, split_sequence};
 use ua_frame::{Body, Frame};
+use ua_octets::{split_counted, split_number};
 
 /// The URI of the security policy None.
 pub const NONE_POLICY: &str = "http://opcfoundation.org/UA/SecurityPolicy#None";

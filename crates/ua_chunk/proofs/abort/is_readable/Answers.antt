@@ -1,5 +1,5 @@
 use Rattle.std.proofs.Common.{◌≡◌, Bool, true, false, ◌&&◌, ◌∙◌, ap}
-use Rattle.ua_chunk.proofs.FieldsRead.{unreadable_code, unreadable_reason, readable_whole}
+use Rattle.ua_chunk.proofs.AbortsRead.{unreadable_code, unreadable_reason, readable_whole}
 use Rattle.ua_chunk.proofs.abort.is_readable.Goals as goal
 
 both : (r e t : Bool) → true ≡ e → r ≡ t → r ≡ (e && t)
