@@ -1,11 +1,10 @@
 -- What the first octets of a frame say, and frames made of a header and what follows it.
-use Rattle.std.proofs.Common.{◌≡◌, ℕ, ◌+◌, ◌<◌, ◌≤◌, ◌^◌, ◌⊎◌, inl, inr, List, [], ◌∷◌, ◌++◌, Bool, true, false, ◌&&◌, not, nat_eq, nat_lt, IsTrue, Option, Some, None, length, take, drop, refl, sym, ◌∙◌, ap, subst, arith, append-nil, length-append}
+use Rattle.std.proofs.Common.{◌≡◌, ℕ, ◌+◌, ◌<◌, ◌≤◌, ◌^◌, List, [], ◌∷◌, ◌++◌, Bool, true, false, ◌&&◌, not, nat_eq, nat_lt, IsTrue, Option, Some, None, length, take, drop, refl, sym, ◌∙◌, ap, subst, arith, append-nil, length-append}
 use Rattle.std.specs.Prelude.{slice_index, find, if◌then◌else◌}
-use Rattle.std.proofs.lemmas.Bool.{eqb-true, ltb-false, le-ltb, cases_lt}
-use Rattle.std.proofs.lemmas.List.{take_at, nil_from_length, length-take-le, length-drop, length-take, get_or-take, get_or-drop, get_or_past}
+use Rattle.std.proofs.lemmas.Bool.{eqb-true, ltb-false, le-ltb}
+use Rattle.std.proofs.lemmas.List.{take_at, nil_from_length}
 use Rattle.ua_builtin.specs.Exact.{both_true, some_is}
-use Rattle.ua_builtin.specs.Number.{number_octets, number_at, exact_number, length-number_octets, number_at-octets}
-use Rattle.byteorder.specs.Endian.{little_number}
+use Rattle.ua_builtin.specs.Number.{number_octets, number_at, exact_number, length-number_octets}
 use Rattle.ua_frame.specs.declared.fault.FrameFault.{FrameFault}
 use Rattle.ua_frame.specs.declared.fault.FrameFault.TheVariants.{UnknownType, OutOfPlace, TooLarge, TooSmall}
 use Rattle.ua_frame.specs.declared.frame.Frame.{Frame}
@@ -211,17 +210,3 @@ header_frame (a ∷ (b ∷ (c ∷ (d ∷ (e ∷ []))))) body k l named size = ab
 header_frame (a ∷ (b ∷ (c ∷ (d ∷ (e ∷ (f ∷ [])))))) body k l named size = absurd (omega arith)
 header_frame (a ∷ (b ∷ (c ∷ (d ∷ (e ∷ (f ∷ (g ∷ []))))))) body k l named size = absurd (omega arith)
 header_frame (a ∷ (b ∷ (c ∷ (d ∷ (e ∷ (f ∷ (g ∷ (i ∷ (j ∷ h))))))))) body k l named size = absurd (omega arith)
-
--- a part of octets is octets
-below_part : (h : List ℕ) (i : ℕ) → ((j : ℕ) → slice_index h j < 256) → ((i < 4) ⊎ (4 ≤ i)) → slice_index (take 4 (drop 4 h)) i < 256
-below_part h i below (inl l) = rw (get_or-take 4 (drop 4 h) i 0 l, get_or-drop 4 h i 0) (below (4 + i))
-below_part h i below (inr l) = rw (get_or_past (take 4 (drop 4 h)) i 0 (omega (arith, length-take 4 (drop 4 h)))) (omega arith)
-
--- the size, as a number is read
-pub size_of-read : (h buf : List ℕ) → length h ≡ 8 → buf ≡ take 4 (drop 4 h) → ((i : ℕ) → slice_index h i < 256) → little_number 4 buf ≡ size_of h
-unfolding size_of
-size_of-read h buf len is below =
-    let part : List ℕ = take 4 (drop 4 h) in
-    let part_len : length part ≡ 4 = length-take-le 4 (drop 4 h) (omega (arith, length-drop 4 h)) in
-    let part_below : (i : ℕ) → slice_index part i < 256 = λ i. below_part h i below (cases_lt i 4) in
-    sym (ap (λ (x : List ℕ). number_in (number_at 4 x)) (sym (append-nil part)) ∙ (ap number_in (number_at-octets 4 part [] part_len part_below) ∙ ap (little_number 4) (sym is)))

@@ -10,7 +10,7 @@ use crate::fault::FrameFault;
 use crate::frame::Frame;
 use crate::gate::Gate;
 use crate::kind::Kind;
-use byteorder::{ByteOrder, LittleEndian};
+use ua_octets::front_number;
 
 /// The number of octets of a header.
 pub const HEADER_LEN: usize = 8;
@@ -47,11 +47,13 @@ fn read_kind(header: &[u8]) -> Option<Kind>
 
 /// The size that a header names.
 #[inline]
+#[tactic(auto, unfolding(crate::specs::Frames::size_of))]
 pub fn read_size(header: &[u8]) -> u32
     requires { length header.now ≡ 8 }
     ensures { result ≡ size_of header.now }
 {
-    LittleEndian::read_u32(&header[4..])
+    let (size, _) = front_number(&header[4..]);
+    size
 }
 
 /// What is wrong with a header where this gate stands.
