@@ -1,5 +1,6 @@
 mod Bodies
 mod Codes
+mod FirstReadings
 mod Firsts
 mod LastLines
 mod Shows

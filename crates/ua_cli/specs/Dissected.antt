@@ -16,6 +16,11 @@ pub data Dissected (octets lines : List ℕ) : Type 0 where
   Refused : (fault : FrameFault) (code : ℕ) → 8 ≤ length octets → header_fault open_gate octets ≡ Some fault → header_code fault ≡ Some code → lines ≡ refused_line code → Dissected octets lines
   Framed : (f : Frame) (more : List ℕ) → octets ≡ frame_octets f ++ more → LetsIn open_gate f → lines ≡ first_lines f.kind f.body (frame_size f) (length more) → Dissected octets lines
 
+-- these octets have lines
+pub record HasLines (octets : List ℕ) : Type 0 where
+  pub lines : List ℕ
+  pub dissected : Dissected octets lines
+
 -- the lines of these octets were added to a text
 pub record PrintsLines (octets old new : List ℕ) : Type 0 where
   pub lines : List ℕ

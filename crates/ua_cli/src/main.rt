@@ -6,6 +6,7 @@ mod arguments;
 mod dissect;
 mod fault;
 mod input;
+pub mod laws;
 mod run;
 #[cfg(test)]
 mod tests;
