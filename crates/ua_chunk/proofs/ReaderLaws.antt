@@ -1,14 +1,15 @@
 -- The definitions in other words, for readers.
-use Rattle.std.proofs.Common.{◌≡◌, ℕ, ◌<◌, ◌^◌, Bool, true, false, cond, not, ◌&&◌, ◌||◌, ◌↔◌, eqb, ltb, Option, Some, None, List, [], ◌∷◌, ◌++◌, refl, sym, ◌∙◌, ap, subst, arith, append-nil}
+use Rattle.std.proofs.Common.{◌≡◌, ℕ, ◌<◌, ◌^◌, Bool, true, false, cond, not, ◌&&◌, ◌||◌, ◌↔◌, eqb, ltb, Option, Some, List, [], ◌∷◌, ◌++◌, refl, sym, ◌∙◌, ap, subst, arith}
 use Rattle.std.proofs.lemmas.Bool.{or_parts, and_from, eqb-true, lt-ltb, false_from_ne_true}
 use Rattle.std.specs.List.{list_any, filter}
 use Rattle.ua_builtin.specs.Exact.{some_is}
 use Rattle.ua_builtin.specs.declared.status_code.StatusCode.{StatusCode}
 use Rattle.ua_frame.specs.declared.frame.Frame.{Frame}
+use Rattle.ua_frame.proofs.Wholes.{encodes_whole, whole_encodes}
 use Rattle.ua_chunk.specs.declared.chunk.Chunk.{Chunk}
 use Rattle.ua_chunk.specs.declared.flag.Flag.{Flag}
 use Rattle.ua_chunk.specs.declared.flag.Flag.TheVariants.{F, C, A}
-use Rattle.ua_chunk.specs.Abort.{abort_body, abort_of, whole}
+use Rattle.ua_chunk.specs.Abort.{abort_body, abort_of}
 use Rattle.ua_chunk.specs.Flag.{flag_octet}
 use Rattle.ua_chunk.specs.Gathered.{is_of, is_more, ends, after_last, unfinished}
 use Rattle.ua_chunk.specs.Layout.{IsChunkOf, token_header, sequence_header, frame_of}
@@ -99,20 +100,5 @@ frame_of_chunk c channel token sequence request = record {
 
 -- ---- aborts
 
-whole_some : (o : Option ((StatusCode × Option (List ℕ)) × List ℕ)) (a : StatusCode × Option (List ℕ)) → whole o ≡ Some a → o ≡ Some (a, [])
-whole_some None a e = absurd cc
-whole_some (Some (v, [])) a e = ap (λ (w : StatusCode × Option (List ℕ)). Some (w, [])) (some_is v a e)
-whole_some (Some (v, x ∷ rest)) a e = absurd cc
-
-abort_encoded : (b : List ℕ) (a : StatusCode × Option (List ℕ)) → abort_of b ≡ Some a → abort_body.encodes a b
-unfolding abort_of
-abort_encoded b a e =
-    let found = abort_body.exact.sound b a [] (whole_some (abort_body.decode b) a e) in
-    subst (abort_body.encodes a) (sym (found.parts ∙ append-nil found.front)) found.encoded
-
-abort_found : (b : List ℕ) (a : StatusCode × Option (List ℕ)) → abort_body.encodes a b → abort_of b ≡ Some a
-unfolding abort_of
-abort_found b a h = ap whole (ap abort_body.decode (sym (append-nil b)) ∙ abort_body.exact.complete a b [] h)
-
 pub abort_is_encoded : (b : List ℕ) (a : StatusCode × Option (List ℕ)) → (abort_of b ≡ Some a) ↔ abort_body.encodes a b
-abort_is_encoded b a = (abort_encoded b a, abort_found b a)
+abort_is_encoded b a = (encodes_whole abort_body b a, whole_encodes abort_body b a)

@@ -1,24 +1,19 @@
 -- The bodies of aborts (OPC 10000-6, 6.7.3).
-use Rattle.std.specs.Prelude.{ℕ, Bool, List, [], ◌∷◌, Option, Some, None, is_some}
+use Rattle.std.specs.Prelude.{ℕ, Bool, List, Option, is_some}
 use Rattle.ua_builtin.specs.Counted.{text}
 use Rattle.ua_builtin.specs.Format.{Flat}
 use Rattle.ua_builtin.specs.Join.{both}
 use Rattle.ua_builtin.specs.Status.{status_code}
 use Rattle.ua_builtin.specs.declared.status_code.StatusCode.{StatusCode}
+use Rattle.ua_frame.specs.Whole.{whole_of}
 
 -- a status code, and a reason behind it
 unfoldable pub abort_body : Flat (StatusCode × Option (List ℕ))
 abort_body = both status_code text
 
--- the value, where nothing was left behind it
-abbrev pub whole : {A : Type 0} → Option (A × List ℕ) → Option A
-whole None = None
-whole (Some (v, [])) = Some v
-whole (Some (v, x ∷ rest)) = None
-
 -- the status code and the reason that the body of an abort encodes, with nothing after
-unfoldable pub abort_of : List ℕ → Option (StatusCode × Option (List ℕ))
-abort_of b = whole (abort_body.decode b)
+abbrev pub abort_of : List ℕ → Option (StatusCode × Option (List ℕ))
+abort_of b = whole_of abort_body b
 
 -- whether the body of an abort reads
 abbrev pub is_readable_abort : List ℕ → Bool

@@ -1,6 +1,6 @@
 -- A greeting: what it makes of a HEL, and where it then stands.
 use Rattle.std.proofs.Common.{◌≡◌, ℕ, List, [], ◌++◌, false, Option, Some, None, Ok, Err, length, take, drop, refl, sym, ◌∙◌, ap, subst, arith, append_assoc, take-append-drop}
-use Rattle.ua_builtin.specs.Format.{Flat, flat}
+use Rattle.ua_builtin.specs.Format.{flat}
 use Rattle.ua_builtin.specs.Status.{of_code}
 use Rattle.ua_builtin.specs.declared.status_code.StatusCode.{StatusCode}
 use Rattle.ua_frame.specs.declared.ack.Ack.{Ack}
@@ -14,21 +14,17 @@ use Rattle.ua_frame.specs.declared.limits.Limits.{Limits}
 use Rattle.ua_frame.specs.Agreement.{hello_reasons, unless_refused, ack_to, agreed}
 use Rattle.ua_frame.specs.Faults.{refused_with}
 use Rattle.ua_frame.specs.Frames.{frame_octets, LetsIn, header_fault}
-use Rattle.ua_frame.specs.Greeting.{hello_in, greeting_reasons, greeting_reasons_of, hello_gate, greeting_rules, IsAgreed, limits_of, IsDone, Waits, Greets, IsJudged}
+use Rattle.ua_frame.specs.Greeting.{greeting_reasons, greeting_reasons_of, hello_gate, greeting_rules, IsAgreed, limits_of, IsDone, Waits, Greets, IsJudged}
 use Rattle.ua_frame.specs.Messages.{hello}
 use Rattle.ua_frame.specs.Reader.{Reader, open_reader, TakesFrame}
 use Rattle.ua_frame.specs.Reasons.{first_reason}
 use Rattle.ua_frame.specs.Run.{refusal, Over}
-use Rattle.ua_frame.specs.Whole.{IsWhole, whole_of}
-use Rattle.ua_frame.proofs.Wholes.{whole_encodes, encodes_whole}
+use Rattle.ua_frame.specs.Whole.{IsWhole}
+use Rattle.ua_frame.proofs.Wholes.{whole_encodes, whole_read}
 use Rattle.ua_frame.proofs.Streams.{run_nil, run_frame, run_refused}
 use Rattle.ua_frame.proofs.Unique.{frame_more_fault, frame_more_length}
 
 -- ---- the Hello in a body
-
-no_whole : {A : Type 0} (f : Flat A) (octets : List ℕ) → IsWhole (flat f) octets None → (o : Option A) → whole_of f octets ≡ o → o ≡ None
-no_whole f octets h None e = refl
-no_whole f octets h (Some v) e = absurd (h v (omega arith) (encodes_whole f octets v e))
 
 unless_err : (o : Option ℕ) (a : Ack) (code : StatusCode) → unless_refused o a ≡ Err code → o ≡ Some code.code
 unless_err None a code e = absurd cc
@@ -49,7 +45,7 @@ judged_as limits body e code first is = subst (λ (x : GreetFault). IsJudged lim
 -- a body that is no Hello
 pub judged_unreadable : (limits : Limits) (body : List ℕ) (e : GreetFault) → IsWhole (flat hello) body None → e ≡ refused_with (of_code 0x8007_0000) → IsJudged limits body (Err e)
 judged_unreadable limits body e none is =
-    judged_as limits body e (of_code 0x8007_0000) (ap (λ (o : Option Hello). first_reason (greeting_reasons_of o)) (no_whole hello body none (hello_in body) refl)) is
+    judged_as limits body e (of_code 0x8007_0000) (ap (λ (o : Option Hello). first_reason (greeting_reasons_of o)) (whole_read hello body None none)) is
 
 -- a Hello that is refused
 pub judged_refused : (limits : Limits) (body : List ℕ) (h : Hello) (e : GreetFault) (code : StatusCode) → hello.encodes h body → agreed h limits ≡ Err code → e ≡ refused_with code → IsJudged limits body (Err e)

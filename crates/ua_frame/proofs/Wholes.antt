@@ -1,7 +1,7 @@
 -- Values whose encoding is the whole of some octets.
-use Rattle.std.proofs.Common.{◌≡◌, ℕ, ◌≤◌, List, [], ◌∷◌, Option, Some, None, refl, sym, ◌∙◌, ap, subst, append-nil}
+use Rattle.std.proofs.Common.{◌≡◌, ℕ, ◌≤◌, List, [], ◌∷◌, Option, Some, None, refl, sym, ◌∙◌, ap, subst, arith, append-nil}
 use Rattle.ua_builtin.specs.Exact.{Begins, some_is}
-use Rattle.ua_builtin.specs.Format.{Flat, Format, most_levels}
+use Rattle.ua_builtin.specs.Format.{Flat, Format, flat, most_levels}
 use Rattle.ua_frame.specs.Whole.{IsWhole, if_nothing_left, whole_of}
 
 -- a value with octets behind it isn't the whole of them, and then no value is
@@ -28,3 +28,12 @@ found_encodes f octets v (Some (w, x ∷ rest)) e is = absurd cc
 pub encodes_whole : {A : Type 0} (f : Flat A) (octets : List ℕ) (v : A) → whole_of f octets ≡ Some v → f.encodes v octets
 unfolding whole_of
 encodes_whole f octets v h = found_encodes f octets v (f.decode octets) refl h
+
+no_value : {A : Type 0} (f : Flat A) (octets : List ℕ) → IsWhole (flat f) octets None → (o : Option A) → whole_of f octets ≡ o → whole_of f octets ≡ None
+no_value f octets h None e = e
+no_value f octets h (Some v) e = absurd (h v (omega arith) (encodes_whole f octets v e))
+
+-- what was read as the whole of the octets is so by the definition
+pub whole_read : {A : Type 0} (f : Flat A) (octets : List ℕ) (read : Option A) → IsWhole (flat f) octets read → whole_of f octets ≡ read
+whole_read f octets None h = no_value f octets h (whole_of f octets) refl
+whole_read f octets (Some v) h = whole_encodes f octets v h
