@@ -1,5 +1,5 @@
 -- What is printed of the first frame that a reader finds.
-use Rattle.std.proofs.Common.{◌≡◌, ℕ, ◌-◌, ◌≤◌, List, [], ◌++◌, Result, Ok, Err, OnOk, Some, length, take, drop, refl, sym, ap, ap₂, subst, ◌∙◌, arith, length-take, length-drop, take-append-drop}
+use Rattle.std.proofs.Common.{◌≡◌, ℕ, ◌-◌, ◌≤◌, List, [], ◌++◌, Err, Some, length, take, drop, refl, sym, ap, ap₂, subst, ◌∙◌, arith, length-take, length-drop, take-append-drop}
 use Rattle.ua_frame.specs.declared.fault.FrameFault.{FrameFault}
 use Rattle.ua_frame.specs.declared.fault.FrameFault.TheVariants.{UnknownType, OutOfPlace, TooLarge, TooSmall, OutOfMemory, Closed}
 use Rattle.ua_frame.specs.declared.frame.Frame.{Frame}
@@ -10,10 +10,6 @@ use Rattle.ua_cli.specs.Dissected.{open_gate, Dissected, PrintsLines}
 use Rattle.ua_cli.specs.Dissected.Dissected.{Refused, Framed}
 use Rattle.ua_cli.specs.Lines.{first_lines, refused_line}
 use Rattle.ua_cli.specs.Printed.{AreLines}
-
-pub on_ok : {A E P Q : Type 0} (r : Result A E) → (P → Q) → OnOk r P → OnOk r Q
-on_ok (Ok x) f h = f h
-on_ok (Err e) f h = tt
 
 -- the reader that has no octet yet
 abbrev pub first_reader : Reader

@@ -1,4 +1,3 @@
-mod Bodies
 mod Codes
 mod FirstReadings
 mod Firsts

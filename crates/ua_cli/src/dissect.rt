@@ -1,12 +1,11 @@
 //! The first frame of a stream, as a line.
 
-ghost use Rattle.std.specs.Prelude.{◌≡◌, ◌+◌, ◌<◌, ◌^◌, ◌++◌, codes, string_bytes, OnOk};
+ghost use Rattle.std.specs.Prelude.{◌≡◌, ◌+◌, ◌<◌, ◌^◌, ◌++◌, option_map, string_bytes, OnOk};
+ghost use Rattle.ua_frame.specs.Whole.{whole_of};
 ghost use Rattle.ua_cli.specs.Dissected.{PrintsLines, open_gate};
-ghost use Rattle.ua_frame.specs.declared.kind.Kind.TheVariants.{Hel};
-ghost use Rattle.ua_frame.specs.declared.kind.Kind.TheVariants as kind;
-ghost use Rattle.ua_cli.specs.Lines.{ack_line, error_line, first_lines, hello_line, last_line, numbers_text, refused_line};
+ghost use Rattle.ua_cli.specs.Lines.{first_lines, last_line, line_and_rest, refused_line};
 
-use crate::text::push_string;
+use crate::line::Line;
 use std::alloc::{AllocError, Global};
 use std::fmt::Write;
 use ua_builtin::StatusCode;
@@ -59,122 +58,29 @@ fn push_frame(
     ensures { OnOk result (string_bytes out.new ≡ string_bytes out.old ++ first_lines frame.now.kind frame.now.body size left) }
 {
     match frame.kind {
-        Kind::Hel => push_hello_frame(alloc, out, &frame.body, size, left),
-        Kind::Ack => push_ack_frame(alloc, out, &frame.body, size, left),
-        Kind::Err => push_error_frame(alloc, out, &frame.body, size, left),
+        Kind::Hel => push_message::<Hello>(alloc, out, &frame.body, size, left),
+        Kind::Ack => push_message::<Ack>(alloc, out, &frame.body, size, left),
+        Kind::Err => push_message::<ErrorFrame>(alloc, out, &frame.body, size, left),
         Kind::Msg | Kind::Opn | Kind::Clo => push_last(out, 0, size + left),
     }
 }
 
-fn push_hello_frame(
+/// Adds the lines of a stream that begins with a frame of this body: those of the message that it is,
+/// else a refusal.
+fn push_message<T: Line>(
     alloc: Global,
     out: &mut String,
     body: &Body,
     size: usize,
     left: usize,
 ) -> Result<(), AllocError>
-    ensures { OnOk result (string_bytes out.new ≡ string_bytes out.old ++ first_lines Hel body.now size left) }
+    ensures { OnOk result (string_bytes out.new ≡ string_bytes out.old ++ line_and_rest (option_map (T.line size) (whole_of T.message body.now)) size left) }
 {
-    let Some(hello) = read_whole::<Hello>(alloc, body.as_slice())? else {
+    let Some(message) = read_whole::<T>(alloc, body.as_slice())? else {
         return push_refusal(out, StatusCode::BAD_DECODING_ERROR);
     };
-    push_hello(out, size, &hello)?;
+    message.push_line(out, size)?;
     push_last(out, size, left)
-}
-
-fn push_ack_frame(
-    alloc: Global,
-    out: &mut String,
-    body: &Body,
-    size: usize,
-    left: usize,
-) -> Result<(), AllocError>
-    ensures { OnOk result (string_bytes out.new ≡ string_bytes out.old ++ first_lines kind.Ack body.now size left) }
-{
-    let Some(ack) = read_whole::<Ack>(alloc, body.as_slice())? else {
-        return push_refusal(out, StatusCode::BAD_DECODING_ERROR);
-    };
-    push_ack(out, size, &ack)?;
-    push_last(out, size, left)
-}
-
-fn push_error_frame(
-    alloc: Global,
-    out: &mut String,
-    body: &Body,
-    size: usize,
-    left: usize,
-) -> Result<(), AllocError>
-    ensures { OnOk result (string_bytes out.new ≡ string_bytes out.old ++ first_lines kind.Err body.now size left) }
-{
-    let Some(error) = read_whole::<ErrorFrame>(alloc, body.as_slice())? else {
-        return push_refusal(out, StatusCode::BAD_DECODING_ERROR);
-    };
-    push_error(out, size, &error)?;
-    push_last(out, size, left)
-}
-
-fn push_hello(out: &mut String, size: usize, hello: &Hello) -> Result<(), AllocError>
-    ensures { OnOk result (string_bytes out.new ≡ string_bytes out.old ++ hello_line size hello.now) }
-{
-    write!(out, "0 HEL {size}")?;
-    push_numbers(
-        out,
-        hello.protocol_version,
-        hello.receive_buffer_size,
-        hello.send_buffer_size,
-        hello.max_message_size,
-        hello.max_chunk_count,
-    )?;
-    out.push_str(" url ")?;
-    push_string(out, &hello.endpoint_url)?;
-    push_newline(out)
-}
-
-fn push_ack(out: &mut String, size: usize, ack: &Ack) -> Result<(), AllocError>
-    ensures { OnOk result (string_bytes out.new ≡ string_bytes out.old ++ ack_line size ack.now) }
-{
-    write!(out, "0 ACK {size}")?;
-    push_numbers(
-        out,
-        ack.protocol_version,
-        ack.receive_buffer_size,
-        ack.send_buffer_size,
-        ack.max_message_size,
-        ack.max_chunk_count,
-    )?;
-    push_newline(out)
-}
-
-/// Adds the numbers that a HEL and an ACK have.
-fn push_numbers(
-    out: &mut String,
-    version: u32,
-    receive: u32,
-    send: u32,
-    message: u32,
-    chunks: u32,
-) -> Result<(), AllocError>
-    ensures { OnOk result (string_bytes out.new ≡ string_bytes out.old ++ numbers_text version receive send message chunks) }
-{
-    write!(
-        out,
-        " version {version} receive {receive} send {send} message {message} chunks {chunks}"
-    )
-}
-
-fn push_error(out: &mut String, size: usize, frame: &ErrorFrame) -> Result<(), AllocError>
-    ensures { OnOk result (string_bytes out.new ≡ string_bytes out.old ++ error_line size frame.now) }
-{
-    write!(out, "0 ERR {size} code {:08X} reason ", frame.error.code)?;
-    push_string(out, &frame.reason)?;
-    push_newline(out)
-}
-
-fn push_newline(out: &mut String) -> Result<(), AllocError>
-    ensures { OnOk result (string_bytes out.new ≡ string_bytes out.old ++ codes "\n") }
-{
-    out.push_str("\n")
 }
 
 fn push_refusal(out: &mut String, code: StatusCode) -> Result<(), AllocError>

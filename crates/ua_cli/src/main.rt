@@ -7,6 +7,7 @@ mod dissect;
 mod fault;
 mod input;
 pub mod laws;
+mod line;
 mod run;
 #[cfg(test)]
 mod tests;

@@ -1,6 +1,6 @@
 use Rattle.std.proofs.Common.{append_assoc}
 use Rattle.ua_cli.specs.Lines.{numbers_text}
-use Rattle.ua_cli.proofs.dissect.push_numbers.Goals as goal
+use Rattle.ua_cli.proofs.line.push_numbers.Goals as goal
 
 pub returns : goal.returns
 unfolding numbers_text
