@@ -1,5 +1,5 @@
 -- What is kept of the unfinished messages, after one more chunk.
-use Rattle.std.proofs.Common.{◌≡◌, ℕ, suc, Bool, true, false, cond, eqb, List, [], ◌∷◌, ◌++◌, ◌||◌, refl, sym, ◌∙◌, ap, map, length, append-nil}
+use Rattle.std.proofs.Common.{◌≡◌, ℕ, suc, Bool, true, false, cond, eqb, List, [], ◌∷◌, ◌++◌, refl, sym, ◌∙◌, ap, map, length, append-nil}
 use Rattle.std.proofs.lemmas.Bool.{or_parts, cond-false, eqb-true, eq-eqb}
 use Rattle.std.proofs.lemmas.List.Concat.{flat_map-append}
 use Rattle.std.specs.List.{list_any}
@@ -9,7 +9,7 @@ use Rattle.ua_chunk.specs.Gathered.{is_more, unfinished, joined}
 use Rattle.ua_chunk.specs.Kept.{kept, kept_messages}
 use Rattle.ua_chunk.specs.Open.{open_ids}
 use Rattle.ua_chunk.specs.Pending.{without, is_under, message_of, nothing_of}
-use Rattle.ua_chunk.proofs.Lists.{map_push, map_same}
+use Rattle.ua_chunk.proofs.Lists.{map_push, map_same, left_any}
 use Rattle.ua_chunk.proofs.OneMore.{open_push, open_gone, not_open, unfinished_other, unfinished_more, eqb_comm}
 
 -- ---- taking one out
@@ -17,10 +17,6 @@ use Rattle.ua_chunk.proofs.OneMore.{open_push, open_gone, not_open, unfinished_o
 found_here : (b : Bool) (id j : ℕ) (f : ℕ → List Chunk) (rest : Pending) → eqb j id ≡ b → (b ≡ false → rest ≡ kept id (f id)) → cond b (kept j (f j)) rest ≡ kept id (f id)
 found_here true id j f rest e h = ap (λ (k : ℕ). kept k (f k)) (eqb-true j id e)
 found_here false id j f rest e h = h refl
-
-left_any : (a b : Bool) → (a || b) ≡ true → a ≡ false → b ≡ true
-left_any true b h e = absurd cc
-left_any false b h e = h
 
 found : (id : ℕ) (f : ℕ → List Chunk) (ids : List ℕ) → list_any (λ j. eqb j id) ids ≡ true → message_of id (map (λ j. kept j (f j)) ids) ≡ kept id (f id)
 found id f [] h = absurd cc

@@ -6,6 +6,11 @@ use Rattle.std.specs.List.{list_any, filter}
 use Rattle.ua_chunk.specs.Gathered.{after_last}
 use Rattle.ua_chunk.specs.Pending.{without}
 
+-- one of two holds, and not the first
+pub left_any : (a b : Bool) → (a || b) ≡ true → a ≡ false → b ≡ true
+left_any true b h e = absurd cc
+left_any false b h e = h
+
 pub any_push : {X : Type 0} (p : X → Bool) (xs : List X) (y : X) → list_any p (xs ++ y ∷ []) ≡ (list_any p xs || (p y || false))
 any_push p xs y = list_any-append p xs (y ∷ [])
 

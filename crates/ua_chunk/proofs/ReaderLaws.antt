@@ -14,6 +14,7 @@ use Rattle.ua_chunk.specs.Flag.{flag_octet}
 use Rattle.ua_chunk.specs.Gathered.{is_of, is_more, ends, after_last, unfinished}
 use Rattle.ua_chunk.specs.Layout.{IsChunkOf, token_header, sequence_header, frame_of}
 use Rattle.ua_chunk.specs.Open.{open_ids}
+use Rattle.ua_chunk.proofs.Lists.{left_any}
 use Rattle.ua_chunk.proofs.OneMore.{not_open}
 
 -- ---- open ids
@@ -28,10 +29,6 @@ rest_empty : {X : Type 0} (b : Bool) (x : X) (al xs : List X) → cond b al (x �
 rest_empty true x al xs e = e
 rest_empty false x al xs e = absurd cc
 
-left_out : (a b : Bool) → (a || b) ≡ true → a ≡ false → b ≡ true
-left_out true b h e = absurd cc
-left_out false b h e = h
-
 last_alone : (c : Chunk) (f : List Chunk) → is_more c ≡ true → f ≡ [] → after_last ends (c ∷ f) ≡ [] → ⊥
 last_alone c f more none e =
     let alone : after_last ends (c ∷ []) ≡ [] = subst (λ (t : List Chunk). after_last ends (c ∷ t) ≡ []) none e in
@@ -43,7 +40,7 @@ open_some_step : (own more later : Bool) (id : ℕ) (c : Chunk) (f : List Chunk)
     → after_last ends (cond own (c ∷ f) f) ≡ [] → (own ≡ true → later ≡ false → f ≡ []) → (list_any (λ j. eqb j id) o ≡ true → after_last ends f ≡ [] → ⊥) → ⊥
 open_some_step false false later id c f o s m h e none ih = ih h e
 open_some_step false true true id c f o s m h e none ih = ih h e
-open_some_step false true false id c f o s m h e none ih = ih (left_out (eqb c.request id) (list_any (λ j. eqb j id) o) h s) e
+open_some_step false true false id c f o s m h e none ih = ih (left_any (eqb c.request id) (list_any (λ j. eqb j id) o) h s) e
 open_some_step true false later id c f o s m h e none ih = ih h (rest_empty (ends c || list_any ends f) c (after_last ends f) f e)
 open_some_step true true true id c f o s m h e none ih = ih h (rest_empty (ends c || list_any ends f) c (after_last ends f) f e)
 open_some_step true true false id c f o s m h e none ih = last_alone c f m (none refl refl) e
