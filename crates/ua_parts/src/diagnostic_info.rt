@@ -4,9 +4,10 @@ ghost use Rattle.std.specs.Prelude.{◌≡◌, ◌≤◌, min, IfOk};
 ghost use Rattle.ua_parts.specs.Diagnostic.{diagnostic_depth, diagnostic_count, diagnostic_fields_count, diagnostic_encodable, diagnostic_fits, diagnostic_fields_encodable};
 ghost use Rattle.ua_parts.specs.View.{diagnostic_of, diagnostic_fields_of};
 
-use crate::field::{count_of, count_of_text, field_fits, text_fits};
+use crate::field::{count_of, count_of_text, field_fits};
 use std::alloc::{AllocError, Global};
 use std::marker::Model;
+use ua_builtin::flags::is_flagged_encodable;
 use ua_builtin::{StatusCode, UaString, Wire};
 
 /// The most levels of a value that is written.
@@ -167,7 +168,7 @@ fn fields_fit(value: &DiagnosticInfo) -> bool
         && field_fits(&value.namespace_uri)
         && field_fits(&value.locale)
         && field_fits(&value.localized_text)
-        && text_fits(&value.additional_info)
+        && is_flagged_encodable(&value.additional_info)
         && field_fits(&value.inner_status_code)
 }
 
