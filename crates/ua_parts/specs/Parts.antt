@@ -1,5 +1,5 @@
 -- Parts of encodings: one behind another, single octets, counts, and what flags announce.
-use Rattle.std.specs.Prelude.{◌≡◌, ℕ, ◌<◌, ◌≤◌, ◌/◌, ◌%◌, Bool, true, false, cond, ◌&&◌, IsTrue, leb, eqb, List, [], ◌∷◌, ◌++◌, Option, Some, None}
+use Rattle.std.specs.Prelude.{◌≡◌, ℕ, ◌<◌, ◌≤◌, Bool, true, false, cond, ◌&&◌, IsTrue, leb, List, [], ◌∷◌, ◌++◌, Option, Some, None}
 use Rattle.std.proofs.Common.{refl, sym, subst, ap, ◌∙◌, append-nil, arith}
 use Rattle.std.proofs.lemmas.Grind.{common_steps}
 use Rattle.ua_builtin.specs.Exact.{Exact, ◌>>=◌, exact_same, exact_bind, Follows, then_read, exact_image, Image, exact_only, IsOnly, not_false, both_true}
