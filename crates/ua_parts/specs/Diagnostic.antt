@@ -22,6 +22,10 @@ pub record DiagnosticFields : Type 0 where
   pub additional_info : Option (List ℕ)
   pub inner_status_code : Option StatusCode
 
+-- the fields of a DiagnosticInfo where none of them is there
+abbrev pub no_fields : DiagnosticFields
+no_fields = record { symbolic_id = None; namespace_uri = None; locale = None; localized_text = None; additional_info = None; inner_status_code = None }
+
 -- a DiagnosticInfo with its inner ones
 pub data DiagnosticData : Type 0 where
   innermost : DiagnosticFields → DiagnosticData

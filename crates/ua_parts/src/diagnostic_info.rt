@@ -2,7 +2,7 @@
 
 ghost use Rattle.std.specs.Prelude.{◌≡◌, ◌≤◌, min, IfOk};
 ghost use Rattle.ua_parts.specs.Diagnostic.{diagnostic_depth, diagnostic_count, diagnostic_fields_count, diagnostic_encodable, diagnostic_fits, diagnostic_fields_encodable};
-ghost use Rattle.ua_parts.specs.View.{diagnostic_of, diagnostic_fields_of};
+ghost use Rattle.ua_parts.specs.View.{diagnostic_of, diagnostic_fields_of, no_diagnostics};
 
 use crate::field::{count_of, count_of_text, field_fits};
 use std::alloc::{AllocError, Global};
@@ -84,6 +84,22 @@ impl BoxedDiagnostic {
 }
 
 impl DiagnosticInfo {
+    /// Nothing is said: no field is there. Takes no memory.
+    #[inline]
+    pub fn empty() -> DiagnosticInfo
+        ensures { result ≡ no_diagnostics }
+    {
+        DiagnosticInfo {
+            symbolic_id: None,
+            namespace_uri: None,
+            locale: None,
+            localized_text: None,
+            additional_info: UaString::null(),
+            inner_status_code: None,
+            inner: None,
+        }
+    }
+
     /// How many levels the value has, or the greatest number.
     pub fn depth(&self) -> u32
         ensures { result ≡ min (diagnostic_depth (diagnostic_of self.now)) u32.MAX }
