@@ -1,12 +1,11 @@
 -- The formats of values with flagged parts encode them as the standard's tables have it.
-use Rattle.std.proofs.Common.{◌≡◌, ◌<◌, ◌≤◌, ◌+◌, ◌*◌, ◌/◌, ◌%◌, inl, inr, ℕ, zero, suc, Bool, true, false, cond, not, nat_eq, nat_lt, List, [], ◌∷◌, ◌++◌, Option, refl, sym, ap, subst, ◌∙◌, arith, lit<, bit_and}
+use Rattle.std.proofs.Common.{◌≡◌, ◌<◌, ◌≤◌, ◌+◌, ◌*◌, ◌/◌, ◌%◌, inl, inr, ℕ, zero, suc, Bool, true, false, cond, nat_eq, nat_lt, List, [], ◌∷◌, ◌++◌, Option, refl, sym, ap, subst, ◌∙◌, arith, lit<, bit_and}
 use Rattle.std.proofs.lemmas.Bool.{eqb-true, ltb-true, ltb-false}
 use Rattle.std.proofs.lemmas.Nat.{and_mask}
-use Rattle.std.proofs.lemmas.Nat.Bits.{and_pow}
 use Rattle.ua_octets.specs.Number.{number_octets, one_octet}
 use Rattle.ua_octets.specs.Format.{Flat}
 use Rattle.ua_octets.specs.Join.{nothing, only, image, made, both}
-use Rattle.ua_builtin.specs.Flags.{has, flag_bit, flagged_text}
+use Rattle.ua_builtin.specs.Flags.{has, flag_bit, flag_has, flagged_text}
 use Rattle.ua_builtin.specs.LocalizedText.{localized, localized_text, behind_mask, mask_flags}
 use Rattle.ua_octets.specs.Counted.{counted}
 use Rattle.ua_builtin.specs.XmlElement.{xml_element}
@@ -87,22 +86,12 @@ localized_texts v b = (localized_there v b, localized_back v b)
 
 -- ---- ExpandedNodeIds
 
-flag_128 : (t : ℕ) → t < 2 → flag_bit 128 (not (nat_eq (t * 128) 0)) ≡ t * 128
-flag_128 zero h = refl
-flag_128 (suc zero) h = refl
-flag_128 (suc (suc t)) h = absurd (omega arith)
-
-flag_64 : (t : ℕ) → t < 2 → flag_bit 64 (not (nat_eq (t * 64) 0)) ≡ t * 64
-flag_64 zero h = refl
-flag_64 (suc zero) h = refl
-flag_64 (suc (suc t)) h = absurd (omega arith)
-
 -- an octet is its lower six bits and its two flags
 octet_sum : (o : ℕ) → o < 256 → o ≡ bit_and o 63 + flag_bit 128 (has o 128) + flag_bit 64 (has o 64)
 octet_sum o small =
     let low : bit_and o 63 ≡ o % 64 = and_mask o 6 in
-    let uri : flag_bit 128 (has o 128) ≡ (o / 128 % 2) * 128 = ap (λ (x : ℕ). flag_bit 128 (not (nat_eq x 0))) (and_pow o 7) ∙ flag_128 (o / 128 % 2) (omega arith) in
-    let index : flag_bit 64 (has o 64) ≡ (o / 64 % 2) * 64 = ap (λ (x : ℕ). flag_bit 64 (not (nat_eq x 0))) (and_pow o 6) ∙ flag_64 (o / 64 % 2) (omega arith) in
+    let uri : flag_bit 128 (has o 128) ≡ (o / 128 % 2) * 128 = flag_has o 7 in
+    let index : flag_bit 64 (has o 64) ≡ (o / 64 % 2) * 64 = flag_has o 6 in
     omega (arith, low, uri, index)
 
 -- what stands behind the octet, by its form and flags

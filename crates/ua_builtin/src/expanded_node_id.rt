@@ -42,14 +42,9 @@ impl ExpandedNodeId {
     fn octet(&self) -> u8
         ensures { result ≡ octet_of self.now }
     {
-        let mut octet = self.node_id.form();
-        if self.namespace_uri.is_some() {
-            octet += HAS_NAMESPACE_URI;
-        }
-        if self.server_index != 0 {
-            octet += HAS_SERVER_INDEX;
-        }
-        octet
+        self.node_id.form()
+            + flags::flag_of(HAS_NAMESPACE_URI, self.namespace_uri.is_some())
+            + flags::flag_of(HAS_SERVER_INDEX, self.server_index != 0)
     }
 
     // Adds the index unless it is 0.

@@ -1,11 +1,20 @@
-//! Texts that are there where a mask flags them.
+//! What a mask flags: the bit of a part that is there, and texts that are there where it is set.
 
-ghost use Rattle.std.specs.Prelude.{◌≡◌, ◌++◌, IsTrue, OnOk, OnErr, is_some};
+ghost use Rattle.std.specs.Prelude.{◌≡◌, ◌≤◌, ◌++◌, IsTrue, OnOk, OnErr, is_some};
 ghost use Rattle.ua_octets.specs.Format.{Gives, StaysBehind, Extends};
-ghost use Rattle.ua_builtin.specs.Flags.{flagged_text};
+ghost use Rattle.ua_builtin.specs.Flags.{flag_bit, flagged_text};
 
 use std::alloc::{AllocError, Global};
 use ua_octets::{ReadFault, Source, UaString, Wire};
+
+/// The bit of a part that is there, else 0.
+#[inline]
+pub fn flag_of(bit: u8, is_there: bool) -> u8
+    ensures value { result ≡ flag_bit bit is_there }
+    ensures within { result ≤ bit }
+{
+    if is_there { bit } else { 0 }
+}
 
 /// Reads a text where it is flagged; else it is null.
 pub fn read_flagged<S: Source>(

@@ -8,7 +8,7 @@ mod date_time;
 mod expanded_node_id;
 mod extension_object;
 mod fault;
-mod flags;
+pub mod flags;
 mod guid;
 pub mod laws;
 mod localized_text;

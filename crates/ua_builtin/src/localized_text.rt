@@ -60,8 +60,8 @@ impl Wire for LocalizedText {
 
     #[tactic(auto, using(crate::specs::LocalizedText::mask_flags), unfolding(crate::specs::LocalizedText::localized_text))]
     fn append(&self, out: &mut Vec<u8>) -> Result<(), AllocError> {
-        let locale = if self.locale.is_some() { LOCALE } else { 0 };
-        let text = if self.text.is_some() { TEXT } else { 0 };
+        let locale = flags::flag_of(LOCALE, self.locale.is_some());
+        let text = flags::flag_of(TEXT, self.text.is_some());
         (locale + text).append(out)?;
         flags::append_flagged(&self.locale, out)?;
         flags::append_flagged(&self.text, out)?;

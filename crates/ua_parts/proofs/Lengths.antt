@@ -7,8 +7,9 @@ use Rattle.ua_builtin.specs.Number.{IsNumber, length-number_octets}
 use Rattle.ua_builtin.specs.Join.{TakesSome}
 use Rattle.ua_builtin.specs.Signed.{signed, signed_starts}
 use Rattle.ua_builtin.specs.Counted.{text, text_starts}
+use Rattle.ua_builtin.specs.Flags.{has, flagged_text}
 use Rattle.ua_builtin.specs.Status.{status_code as status_code_format, status_code_starts}
-use Rattle.ua_parts.specs.Parts.{IsOctet, there, Optional, Flagged, flag}
+use Rattle.ua_parts.specs.Parts.{IsOctet, there, Optional}
 use Rattle.ua_parts.specs.Dimensions.{IsSize, EncodesSizes, EncodesDims}
 use Rattle.ua_parts.specs.Diagnostic.{DiagnosticFields, DiagnosticData, innermost, around, diagnostic_fields, diagnostic_fields_count, diagnostic_count, EncodesDiagnostic}
 
@@ -22,11 +23,11 @@ optional_takes p some true (Some x) b h = takes_some p some x b h
 optional_takes p some false None b h = omega arith
 optional_takes p some false (Some x) b h = absurd h
 
-pub flagged_takes : {A : Type 0} (p : Option A → List ℕ → Type 0) → TakesSome p → (t : Bool) (v : Option A) (b : List ℕ) → Flagged p t v b → there v ≤ length b
-flagged_takes p some true None b h = omega arith
-flagged_takes p some true (Some x) b h = takes_some p some (Some x) b h
-flagged_takes p some false None b h = omega arith
-flagged_takes p some false (Some x) b h = let e = h.0 in absurd cc
+flagged_takes : (t : Bool) (v : Option (List ℕ)) (b : List ℕ) → (flagged_text t).encodes v b → there v ≤ length b
+flagged_takes true None b h = omega arith
+flagged_takes true (Some x) b h = takes_some text.encodes text_starts (Some x) b h
+flagged_takes false None b h = omega arith
+flagged_takes false (Some x) b h = let e = h.0 in absurd cc
 
 pub both_take : (b front back : List ℕ) (m n : ℕ) → b ≡ front ++ back → m ≤ length front → n ≤ length back → m + n ≤ length b
 both_take b front back m n e h k = omega (arith, ap length e, length-append front back)
@@ -42,11 +43,11 @@ diagnostic_fields_take m f b h =
     let l = k.second_encoded in
     let n = l.second_encoded in
     let o = n.second_encoded in
-    let r5 = both_take n.back o.front o.back _ _ o.parts (flagged_takes text.encodes text_starts (flag 16 m) _ o.front o.first_encoded) (optional_takes status_code_format.encodes status_code_starts (flag 32 m) _ o.back o.second_encoded) in
-    let r4 = both_take l.back n.front n.back _ _ n.parts (optional_takes (signed w32).encodes signed_some (flag 4 m) _ n.front n.first_encoded) r5 in
-    let r3 = both_take k.back l.front l.back _ _ l.parts (optional_takes (signed w32).encodes signed_some (flag 8 m) _ l.front l.first_encoded) r4 in
-    let r2 = both_take j.back k.front k.back _ _ k.parts (optional_takes (signed w32).encodes signed_some (flag 2 m) _ k.front k.first_encoded) r3 in
-    let r1 = both_take b j.front j.back _ _ j.parts (optional_takes (signed w32).encodes signed_some (flag 1 m) _ j.front j.first_encoded) r2 in
+    let r5 = both_take n.back o.front o.back _ _ o.parts (flagged_takes (has m 16) _ o.front o.first_encoded) (optional_takes status_code_format.encodes status_code_starts (has m 32) _ o.back o.second_encoded) in
+    let r4 = both_take l.back n.front n.back _ _ n.parts (optional_takes (signed w32).encodes signed_some (has m 4) _ n.front n.first_encoded) r5 in
+    let r3 = both_take k.back l.front l.back _ _ l.parts (optional_takes (signed w32).encodes signed_some (has m 8) _ l.front l.first_encoded) r4 in
+    let r2 = both_take j.back k.front k.back _ _ k.parts (optional_takes (signed w32).encodes signed_some (has m 2) _ k.front k.first_encoded) r3 in
+    let r1 = both_take b j.front j.back _ _ j.parts (optional_takes (signed w32).encodes signed_some (has m 1) _ j.front j.first_encoded) r2 in
     subst (λ g. diagnostic_fields_count g ≤ length b) (sym h.is) (omega arith)
 
 pub octet_takes : (m n : ℕ) (b a c : List ℕ) → b ≡ a ++ c → IsOctet m a → n ≤ length c → 1 + n ≤ length b

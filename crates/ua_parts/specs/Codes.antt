@@ -1,17 +1,13 @@
 -- The codes of the data, which a model of it needs.
-use Rattle.std.specs.Prelude.{◌≡◌, List, [], ◌∷◌, None, refl}
+use Rattle.std.specs.Prelude.{◌≡◌, List, [], ◌∷◌, refl}
 use Rattle.std.proofs.Common.{ap, ◌∙◌}
 use Rattle.std.specs.Coded.{Coded, code_by, coded_list}
-use Rattle.ua_parts.specs.Diagnostic.{DiagnosticFields, DiagnosticData, innermost, around}
+use Rattle.ua_parts.specs.Diagnostic.{DiagnosticFields, no_fields, DiagnosticData, innermost, around}
 
 -- the fields of each level, the outermost first
 abbrev pub diagnostic_levels : DiagnosticData → List DiagnosticFields
 diagnostic_levels (innermost f) = f ∷ []
 diagnostic_levels (around f d) = f ∷ diagnostic_levels d
-
--- the fields of a DiagnosticInfo where none of them is there
-abbrev pub no_fields : DiagnosticFields
-no_fields = record { symbolic_id = None; namespace_uri = None; locale = None; localized_text = None; additional_info = None; inner_status_code = None }
 
 -- the levels with these fields
 abbrev pub diagnostic_from : List DiagnosticFields → DiagnosticData

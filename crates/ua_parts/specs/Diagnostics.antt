@@ -1,15 +1,15 @@
 -- The reader of DiagnosticInfo is exact, at each depth, and what is written encodes.
-use Rattle.std.specs.Prelude.{◌≡◌, ℕ, zero, suc, ◌+◌, ◌*◌, ◌/◌, ◌%◌, ◌-◌, ◌<◌, ◌≤◌, Bool, true, false, ◌&&◌, IsTrue, leb, eqb, List, [], ◌∷◌, ◌++◌, Option, Some, None}
+use Rattle.std.specs.Prelude.{◌≡◌, ℕ, zero, suc, ◌+◌, ◌*◌, ◌/◌, ◌%◌, ◌-◌, ◌<◌, ◌≤◌, Bool, true, false, ◌&&◌, IsTrue, leb, eqb, List, [], ◌∷◌, ◌++◌, Option, Some, None, is_some}
 use Rattle.std.proofs.Common.{refl, sym, subst, ap, ap₂, ◌∙◌, append-nil, arith}
 use Rattle.std.proofs.lemmas.Grind.{common_steps}
 use Rattle.std.specs.Int.{w32}
 use Rattle.ua_builtin.specs.Exact.{Exact, ◌>>=◌, both_true}
 use Rattle.ua_builtin.specs.Format.{Within}
 use Rattle.ua_builtin.specs.Signed.{signed}
-use Rattle.ua_builtin.specs.Counted.{text}
+use Rattle.ua_builtin.specs.Flags.{has, has_bit, flagged_text}
 use Rattle.ua_builtin.specs.Status.{status_code as status_code_format}
-use Rattle.ua_parts.specs.Parts.{when, Joins, IsOctet, flag, there, Optional, optional_read, exact_octet, exact_then, exact_map, exact_as, exact_when, exact_optional, nil_behind, exact_none, fits_second, depth_first}
-use Rattle.ua_parts.specs.Flags.{bit_is, there_within, flag_there, optional_at, flagged_at, bits_of}
+use Rattle.ua_parts.specs.Parts.{when, Joins, IsOctet, there, Optional, optional_read, optional_canonical, exact_octet, exact_then, exact_map, exact_as, exact_when, exact_optional, nil_behind, exact_none, fits_second, depth_first}
+use Rattle.ua_parts.specs.Flags.{bit_is, there_within, flag_there, optional_at, bits_of}
 use Rattle.ua_parts.specs.Diagnostic.{DiagnosticFields, DiagnosticData, innermost, around, diagnostic_within, diagnostic_depth, diagnostic_fields, diagnostic_flags, EncodesDiagnostic, diagnostic_fields_encodable, diagnostic_fits, diagnostic_encodable, diagnostic_fields_canonical, diagnostic_canonical, diagnostic_step, diagnostic_at}
 
 -- of the depth n at most
@@ -18,15 +18,15 @@ Shallow n = Within EncodesDiagnostic diagnostic_depth n
 
 -- behind the mask m
 abbrev Body : ℕ → ℕ → DiagnosticData → List ℕ → Type 0
-Body n m y b = IsTrue (leb m 127) × ((f : DiagnosticFields) × Joins ((diagnostic_fields m).encodes f) (λ c. (i : Option DiagnosticData) × (y ≡ diagnostic_within i f) × Optional (Shallow n) (flag 64 m) i c) b)
+Body n m y b = IsTrue (leb m 127) × ((f : DiagnosticFields) × Joins ((diagnostic_fields m).encodes f) (λ c. (i : Option DiagnosticData) × (y ≡ diagnostic_within i f) × Optional (Shallow n) (has m 64) i c) b)
 
 body : (n m : ℕ) → Exact (Shallow n) (diagnostic_at n)
-    → Exact (Body n m) (λ octets. when (leb m 127) ((diagnostic_fields m).decode octets >>= λ f. optional_read (flag 64 m) (diagnostic_at n) f.1 >>= λ i. Some (diagnostic_within i.0 f.0, i.1)))
+    → Exact (Body n m) (λ octets. when (leb m 127) ((diagnostic_fields m).decode octets >>= λ f. optional_read (has m 64) (diagnostic_at n) f.1 >>= λ i. Some (diagnostic_within i.0 f.0, i.1)))
 body n m e =
-    exact_when (leb m 127) (exact_then (diagnostic_fields m).exact (λ f. exact_map (λ (i : Option DiagnosticData). diagnostic_within i f) (exact_optional (Shallow n) (diagnostic_at n) (flag 64 m) e)))
+    exact_when (leb m 127) (exact_then (diagnostic_fields m).exact (λ f. exact_map (λ (i : Option DiagnosticData). diagnostic_within i f) (exact_optional (Shallow n) (diagnostic_at n) (has m 64) e)))
 
 to_at : (n m : ℕ) (y : DiagnosticData) (b a c c1 c2 : List ℕ) (f : DiagnosticFields) (i : Option DiagnosticData) (t : Bool)
-    → flag 64 m ≡ t → IsTrue (leb m 127) → b ≡ a ++ c → IsOctet m a → c ≡ c1 ++ c2 → (diagnostic_fields m).encodes f c1 → y ≡ diagnostic_within i f → Optional (Shallow n) t i c2 → Shallow (suc n) y b
+    → has m 64 ≡ t → IsTrue (leb m 127) → b ≡ a ++ c → IsOctet m a → c ≡ c1 ++ c2 → (diagnostic_fields m).encodes f c1 → y ≡ diagnostic_within i f → Optional (Shallow n) t i c2 → Shallow (suc n) y b
 to_at n m y b a c c1 c2 f None true is low e o e1 r1 iy r2 = absurd r2
 to_at n m y b a c c1 c2 f None false is low e o e1 r1 iy r2 =
     subst (λ x. Shallow (suc n) x b) (sym iy) ((m, (a, c, e, o, (low, (is, subst ((diagnostic_fields m).encodes f) (sym (nil_behind c c1 c2 e1 r2)) r1)))), omega arith)
@@ -40,7 +40,7 @@ diagnostic_to n y b r =
     let j = r.1 in
     let w = j.4 in
     let g = w.1.1 in
-    to_at n r.0 y b j.0 j.1 g.0 g.1 w.1.0 g.4.0 (flag 64 r.0) refl w.0 j.2 j.3 g.2 g.3 g.4.1 g.4.2
+    to_at n r.0 y b j.0 j.1 g.0 g.1 w.1.0 g.4.0 (has r.0 64) refl w.0 j.2 j.3 g.2 g.3 g.4.1 g.4.2
 
 diagnostic_back : (n : ℕ) (y : DiagnosticData) (b : List ℕ) → Shallow (suc n) y b → (m : ℕ) × Joins (IsOctet m) (Body n m y) b
 diagnostic_back n (innermost f) b r =
@@ -95,8 +95,8 @@ low_bits f =
 pub diagnostic_mask_low : (f : DiagnosticFields) (v : ℕ) → v ≤ 1 → diagnostic_mask f v ≤ 127
 diagnostic_mask_low f v h = (seventh (diagnostic_mask f v) (diagnostic_flags f) v (low_bits f).6 h refl).7
 
-pub diagnostic_mask_inner : (f : DiagnosticFields) (v : ℕ) → v ≤ 1 → flag 64 (diagnostic_mask f v) ≡ eqb v 1
-diagnostic_mask_inner f v h = ap (λ (r : ℕ). eqb r 1) (seventh (diagnostic_mask f v) (diagnostic_flags f) v (low_bits f).6 h refl).6
+pub diagnostic_mask_inner : (f : DiagnosticFields) (v : ℕ) → v ≤ 1 → has (diagnostic_mask f v) 64 ≡ eqb v 1
+diagnostic_mask_inner f v h = has_bit (diagnostic_mask f v) 6 ∙ ap (λ (r : ℕ). eqb r 1) (seventh (diagnostic_mask f v) (diagnostic_flags f) v (low_bits f).6 h refl).6
 
 pub diagnostic_fields_encodable_as : (f : DiagnosticFields) (v : ℕ) → v ≤ 1 → (diagnostic_fields (diagnostic_mask f v)).encodable f ≡ diagnostic_fields_encodable f
 unfolding diagnostic_fields
@@ -104,22 +104,29 @@ diagnostic_fields_encodable_as f v h =
     let m = diagnostic_mask f v in
     let b = low_bits f in
     let s = seventh m (diagnostic_flags f) v b.6 h refl in
-    ap₂ (λ (x y : Bool). x && y) (optional_at (signed w32).encodable (flag 1 m) f.symbolic_id (flag_there 1 m f.symbolic_id (s.0 ∙ b.0)))
-    (ap₂ (λ (x y : Bool). x && y) (optional_at (signed w32).encodable (flag 2 m) f.namespace_uri (flag_there 2 m f.namespace_uri (s.1 ∙ b.1)))
-    (ap₂ (λ (x y : Bool). x && y) (optional_at (signed w32).encodable (flag 8 m) f.locale (flag_there 8 m f.locale (s.3 ∙ b.3)))
-    (ap₂ (λ (x y : Bool). x && y) (optional_at (signed w32).encodable (flag 4 m) f.localized_text (flag_there 4 m f.localized_text (s.2 ∙ b.2)))
-    (ap₂ (λ (x y : Bool). x && y) (flagged_at text.encodable (flag 16 m) f.additional_info (flag_there 16 m f.additional_info (s.4 ∙ b.4)))
-    (optional_at status_code_format.encodable (flag 32 m) f.inner_status_code (flag_there 32 m f.inner_status_code (s.5 ∙ b.5)))))))
+    ap₂ (λ (x y : Bool). x && y) (optional_at (signed w32).encodable (has m 1) f.symbolic_id (flag_there 0 m f.symbolic_id (s.0 ∙ b.0)))
+    (ap₂ (λ (x y : Bool). x && y) (optional_at (signed w32).encodable (has m 2) f.namespace_uri (flag_there 1 m f.namespace_uri (s.1 ∙ b.1)))
+    (ap₂ (λ (x y : Bool). x && y) (optional_at (signed w32).encodable (has m 8) f.locale (flag_there 3 m f.locale (s.3 ∙ b.3)))
+    (ap₂ (λ (x y : Bool). x && y) (optional_at (signed w32).encodable (has m 4) f.localized_text (flag_there 2 m f.localized_text (s.2 ∙ b.2)))
+    (ap₂ (λ (x y : Bool). x && y) (ap (λ (t : Bool). (flagged_text t).encodable f.additional_info) (flag_there 4 m f.additional_info (s.4 ∙ b.4)))
+    (optional_at status_code_format.encodable (has m 32) f.inner_status_code (flag_there 5 m f.inner_status_code (s.5 ∙ b.5)))))))
 
 -- ---- what is written
 
-diagnostic_canonical_same : (m n : ℕ) (f : DiagnosticFields) → (diagnostic_fields m).canonical f ≡ (diagnostic_fields n).canonical f
+-- a writer flags the text just where it is not null
+mask_text : (f : DiagnosticFields) (v : ℕ) → v ≤ 1 → has (diagnostic_mask f v) 16 ≡ is_some f.additional_info
+mask_text f v h = flag_there 4 (diagnostic_mask f v) f.additional_info ((seventh (diagnostic_mask f v) (diagnostic_flags f) v (low_bits f).6 h refl).4 ∙ (low_bits f).4)
+
+-- the flag of the text alone decides what is written for the fields
+canonical_by : (m : ℕ) (f : DiagnosticFields) → has m 16 ≡ is_some f.additional_info → (diagnostic_fields m).canonical f ≡ diagnostic_fields_canonical f
 unfolding diagnostic_fields
-diagnostic_canonical_same m n f = refl
+canonical_by m f e =
+    let number = optional_canonical (signed w32).canonical in
+    ap (λ (t : Bool). number f.symbolic_id ++ (number f.namespace_uri ++ (number f.locale ++ (number f.localized_text ++ ((flagged_text t).canonical f.additional_info ++ optional_canonical status_code_format.canonical f.inner_status_code))))) e
 
 diagnostic_fields_encoded : (f : DiagnosticFields) (v : ℕ) → v ≤ 1 → diagnostic_fields_encodable f ≡ true → (diagnostic_fields (diagnostic_mask f v)).encodes f (diagnostic_fields_canonical f)
 diagnostic_fields_encoded f v h fits =
-    subst ((diagnostic_fields (diagnostic_mask f v)).encodes f) (diagnostic_canonical_same (diagnostic_mask f v) (diagnostic_flags f) f)
+    subst ((diagnostic_fields (diagnostic_mask f v)).encodes f) (canonical_by (diagnostic_mask f v) f (mask_text f v h))
     ((diagnostic_fields (diagnostic_mask f v)).canonical_encodes f (diagnostic_fields_encodable_as f v h ∙ fits))
 
 low_127 : (m : ℕ) → m ≤ 127 → IsTrue (leb m 127)
@@ -128,7 +135,7 @@ low_127 m h = Prim.grind (arith, common_steps)
 innermost_at : (f : DiagnosticFields) (m : ℕ) → m ≡ diagnostic_mask f 0 → diagnostic_fields_encodable f ≡ true → EncodesDiagnostic (innermost f) (m ∷ diagnostic_fields_canonical f)
 innermost_at f m e fits =
     let low : m ≤ 127 = omega (arith, e, diagnostic_mask_low f 0 (omega arith)) in
-    (m, (m ∷ [], diagnostic_fields_canonical f, refl, (omega arith, refl), (low_127 m low, (ap (flag 64) e ∙ diagnostic_mask_inner f 0 (omega arith), subst (λ k. (diagnostic_fields k).encodes f (diagnostic_fields_canonical f)) (sym e) (diagnostic_fields_encoded f 0 (omega arith) fits)))))
+    (m, (m ∷ [], diagnostic_fields_canonical f, refl, (omega arith, refl), (low_127 m low, (ap (λ (k : ℕ). has k 64) e ∙ diagnostic_mask_inner f 0 (omega arith), subst (λ k. (diagnostic_fields k).encodes f (diagnostic_fields_canonical f)) (sym e) (diagnostic_fields_encoded f 0 (omega arith) fits)))))
 
 pub diagnostic_encodes : (d : DiagnosticData) → diagnostic_fits d ≡ true → EncodesDiagnostic d (diagnostic_canonical d)
 diagnostic_encodes (innermost f) h = innermost_at f (diagnostic_flags f) (omega arith) h

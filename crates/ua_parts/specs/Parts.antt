@@ -1,5 +1,5 @@
 -- Parts of encodings: one behind another, single octets, counts, and what flags announce.
-use Rattle.std.specs.Prelude.{◌≡◌, ℕ, ◌<◌, ◌≤◌, ◌/◌, ◌%◌, Bool, true, false, cond, ◌&&◌, IsTrue, leb, eqb, List, [], ◌∷◌, ◌++◌, Option, Some, None}
+use Rattle.std.specs.Prelude.{◌≡◌, ℕ, ◌<◌, ◌≤◌, Bool, true, false, cond, ◌&&◌, IsTrue, leb, List, [], ◌∷◌, ◌++◌, Option, Some, None}
 use Rattle.std.proofs.Common.{refl, sym, subst, ap, ◌∙◌, append-nil, arith}
 use Rattle.std.proofs.lemmas.Grind.{common_steps}
 use Rattle.ua_builtin.specs.Exact.{Exact, ◌>>=◌, exact_same, exact_bind, Follows, then_read, exact_image, Image, exact_only, IsOnly, not_false, both_true}
@@ -30,15 +30,6 @@ IsCount n b = IsNumber 4 n b × (n < 2147483648)
 abbrev pub IsNegative : List ℕ → Type 0
 IsNegative b = (n : ℕ) × IsNumber 4 n b × (2147483648 ≤ n)
 
--- whether the mask m has the flag k, a power of two
-abbrev pub flag : ℕ → ℕ → Bool
-flag k m = eqb (m / k % 2) 1
-
--- the flag k where there is a value
-abbrev pub flag_bit : {A : Type 0} → ℕ → Option A → ℕ
-flag_bit k None = 0
-flag_bit k (Some x) = k
-
 -- 1 where there is a field
 abbrev pub there : {A : Type 0} → Option A → ℕ
 there None = 0
@@ -55,11 +46,6 @@ Optional p true (Some x) b = p x b
 Optional p false None b = Nothing b
 Optional p false (Some x) b = ⊥
 
--- a text where it is announced, a null one too; else null
-abbrev pub Flagged : {A : Type 0} → (Option A → List ℕ → Type 0) → Bool → Option A → List ℕ → Type 0
-Flagged p true v b = p v b
-Flagged p false v b = (v ≡ None) × Nothing b
-
 -- ---- readers
 
 -- the answer where the test passes, else nothing
@@ -69,10 +55,6 @@ when b r = cond b r None
 -- reads a value where it is announced; else there is none, and no octet is taken
 abbrev pub optional_read : {A : Type 0} → Bool → Reader A → Reader (Option A)
 optional_read b r octets = cond b (r octets >>= λ x. Some (Some x.0, x.1)) (Some (None, octets))
-
--- reads a text where it is announced; else it is null, and no octet is taken
-abbrev pub flagged_read : {A : Type 0} → Bool → Reader (Option A) → Reader (Option A)
-flagged_read b r octets = cond b (r octets) (Some (None, octets))
 
 -- ---- and that they are exact
 
@@ -132,21 +114,12 @@ pub exact_optional : {A : Type 0} (p : A → List ℕ → Type 0) (r : List ℕ 
 exact_optional p r true e = exact_same (Image Some p) (Optional p true) (λ octets. r octets >>= λ x. Some (Some x.0, x.1)) (some_there p) (some_back p) (exact_image Some p r e)
 exact_optional {A} p r false e = exact_same (IsOnly None) (Optional p false) (λ octets. Some (None, octets)) (none_there p) (none_back p) (exact_only None)
 
-pub exact_flagged : {A : Type 0} (p : Option A → List ℕ → Type 0) (r : List ℕ → Option (Option A × List ℕ)) (b : Bool) → Exact p r → Exact (Flagged p b) (flagged_read b r)
-exact_flagged p r true e = e
-exact_flagged p r false e = exact_only None
-
 -- ---- as formats
 
 -- what is there passes the test
 abbrev pub optional_fits : {A : Type 0} → (A → Bool) → Option A → Bool
 optional_fits t None = true
 optional_fits t (Some x) = t x
-
--- a text that is null or passes the test
-abbrev pub flagged_fits : {A : Type 0} → (Option A → Bool) → Option A → Bool
-flagged_fits t None = true
-flagged_fits t (Some x) = t (Some x)
 
 -- a value that passes the test where it is announced, and none where it is not
 abbrev pub optional_encodable : {A : Type 0} → (A → Bool) → Bool → Option A → Bool
@@ -178,38 +151,6 @@ optional b f = record {
   decode = optional_read b f.decode;
   exact = optional_exact b f;
   canonical_encodes = optional_canonical_encodes f b;
-}
-
--- a text other than null that passes the test where it is announced, and null where it is not
-abbrev pub flagged_encodable : {A : Type 0} → (Option A → Bool) → Bool → Option A → Bool
-flagged_encodable t true None = false
-flagged_encodable t true (Some x) = t (Some x)
-flagged_encodable t false None = true
-flagged_encodable t false (Some x) = false
-
--- the octets that are written for a text, and none for null
-abbrev pub flagged_canonical : {A : Type 0} → (Option A → List ℕ) → Option A → List ℕ
-flagged_canonical c None = []
-flagged_canonical c (Some x) = c (Some x)
-
-pub flagged_canonical_encodes : {A : Type 0} (f : Flat (Option A)) (b : Bool) (v : Option A) → IsTrue (flagged_encodable f.encodable b v) → Flagged f.encodes b v (flagged_canonical f.canonical v)
-flagged_canonical_encodes f true None h = not_false h
-flagged_canonical_encodes f true (Some x) h = f.canonical_encodes (Some x) h
-flagged_canonical_encodes f false None h = (refl, refl)
-flagged_canonical_encodes f false (Some x) h = not_false h
-
-pub flagged_exact : {A : Type 0} (b : Bool) (f : Flat (Option A)) → Exact (Flagged f.encodes b) (flagged_read b f.decode)
-flagged_exact b f = exact_flagged f.encodes f.decode b f.exact
-
--- a text that is there where the flag is set; the flag of a null one is not set
-abbrev pub flagged : {A : Type 0} → Bool → Flat (Option A) → Flat (Option A)
-flagged b f = record {
-  encodes = Flagged f.encodes b;
-  encodable = flagged_encodable f.encodable b;
-  canonical = flagged_canonical f.canonical;
-  decode = flagged_read b f.decode;
-  exact = flagged_exact b f;
-  canonical_encodes = flagged_canonical_encodes f b;
 }
 
 -- what is read and never written

@@ -1,6 +1,6 @@
 -- The data that a DiagnosticInfo of the code stands for, and the one that stands for data.
 use Rattle.std.specs.Prelude.{◌≡◌, Option, Some, None, refl}
-use Rattle.ua_parts.specs.Diagnostic.{DiagnosticFields, DiagnosticData, innermost, around, diagnostic_within}
+use Rattle.ua_parts.specs.Diagnostic.{DiagnosticFields, no_fields, DiagnosticData, innermost, around, diagnostic_within}
 use Rattle.ua_parts.specs.declared.diagnostic_info.DiagnosticInfo.{DiagnosticInfo}
 
 -- the fields of a DiagnosticInfo of the code but its inner one
@@ -19,6 +19,10 @@ made_diagnostic i f = record { symbolic_id = f.symbolic_id; namespace_uri = f.na
 abbrev pub diagnostic_value : DiagnosticData → DiagnosticInfo
 diagnostic_value (innermost f) = made_diagnostic None f
 diagnostic_value (around f d) = made_diagnostic (Some d) f
+
+-- the DiagnosticInfo of the code that says nothing: no field is there
+abbrev pub no_diagnostics : DiagnosticInfo
+no_diagnostics = made_diagnostic None no_fields
 
 pub diagnostic_forth : (d : DiagnosticData) → diagnostic_of (diagnostic_value d) ≡ d
 diagnostic_forth (innermost f) = refl

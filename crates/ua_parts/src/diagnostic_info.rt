@@ -2,11 +2,12 @@
 
 ghost use Rattle.std.specs.Prelude.{◌≡◌, ◌≤◌, min, IfOk};
 ghost use Rattle.ua_parts.specs.Diagnostic.{diagnostic_depth, diagnostic_count, diagnostic_fields_count, diagnostic_encodable, diagnostic_fits, diagnostic_fields_encodable};
-ghost use Rattle.ua_parts.specs.View.{diagnostic_of, diagnostic_fields_of};
+ghost use Rattle.ua_parts.specs.View.{diagnostic_of, diagnostic_fields_of, no_diagnostics};
 
-use crate::field::{count_of, count_of_text, field_fits, text_fits};
+use crate::field::{count_of, count_of_text, field_fits};
 use std::alloc::{AllocError, Global};
 use std::marker::Model;
+use ua_builtin::flags::is_flagged_encodable;
 use ua_builtin::{StatusCode, UaString, Wire};
 
 /// The most levels of a value that is written.
@@ -83,6 +84,22 @@ impl BoxedDiagnostic {
 }
 
 impl DiagnosticInfo {
+    /// Nothing is said: no field is there. Takes no memory.
+    #[inline]
+    pub fn empty() -> DiagnosticInfo
+        ensures { result ≡ no_diagnostics }
+    {
+        DiagnosticInfo {
+            symbolic_id: None,
+            namespace_uri: None,
+            locale: None,
+            localized_text: None,
+            additional_info: UaString::null(),
+            inner_status_code: None,
+            inner: None,
+        }
+    }
+
     /// How many levels the value has, or the greatest number.
     pub fn depth(&self) -> u32
         ensures { result ≡ min (diagnostic_depth (diagnostic_of self.now)) u32.MAX }
@@ -167,7 +184,7 @@ fn fields_fit(value: &DiagnosticInfo) -> bool
         && field_fits(&value.namespace_uri)
         && field_fits(&value.locale)
         && field_fits(&value.localized_text)
-        && text_fits(&value.additional_info)
+        && is_flagged_encodable(&value.additional_info)
         && field_fits(&value.inner_status_code)
 }
 

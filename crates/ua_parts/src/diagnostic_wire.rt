@@ -1,21 +1,37 @@
 //! How octets encode a DiagnosticInfo (OPC 10000-6, 5.2.2.12).
 
-ghost use Rattle.std.specs.Prelude.{◌≡◌, ◌≤◌, ◌++◌, true, IsTrue, OnOk, OnErr};
+ghost use Rattle.std.specs.Prelude.{◌≡◌, ◌≤◌, ◌++◌, true, IsTrue, OnOk, OnErr, is_some};
 ghost use Rattle.std.specs.Int.{w32};
-ghost use Rattle.ua_builtin.specs.Counted.{text};
+ghost use Rattle.ua_builtin.specs.Flags.{flagged_text};
 ghost use Rattle.ua_builtin.specs.Format.{Gives, GivesBy, StaysBehind, Extends};
 ghost use Rattle.ua_builtin.specs.Signed.{signed};
 ghost use Rattle.ua_builtin.specs.Status.{status_code};
-ghost use Rattle.ua_parts.specs.Parts.{optional_read, optional_fits, flagged_fits};
+ghost use Rattle.ua_parts.specs.Parts.{optional_read, optional_fits};
 ghost use Rattle.ua_parts.specs.Diagnostic.{diagnostic_at, diagnostic_step, diagnostic_flags, diagnostic_fits, diagnostic_fields_canonical, diagnostic_canonical};
 ghost use Rattle.ua_parts.specs.View.{diagnostic_of, diagnostic_fields_of};
 
 use crate::diagnostic_info::{BoxedDiagnostic, DiagnosticInfo};
-use crate::field::{
-    append_field, append_text, flag_of, flag_of_text, has_flag, read_field, read_text,
-};
+use crate::field::{append_field, read_field};
 use std::alloc::{AllocError, Global};
+use ua_builtin::flags::{append_flagged, flag_of, read_flagged};
 use ua_builtin::{ReadFault, Source, Wire};
+
+const SYMBOLIC_ID: u8 = 0x01;
+
+const NAMESPACE_URI: u8 = 0x02;
+
+const LOCALIZED_TEXT: u8 = 0x04;
+
+const LOCALE: u8 = 0x08;
+
+const ADDITIONAL_INFO: u8 = 0x10;
+
+const INNER_STATUS_CODE: u8 = 0x20;
+
+const INNER: u8 = 0x40;
+
+/// The flags that a mask may have.
+const KNOWN_FLAGS: u8 = 0x7F;
 
 /// DiagnosticInfo (OPC 10000-6, 5.2.2.12).
 impl Wire for DiagnosticInfo {
@@ -73,16 +89,16 @@ fn read_level<S: Source>(
     ensures behind { StaysBehind (S.octets src.old) (S.octets src.new) }
 {
     let mask = u8::read_value(alloc, src, 0)?;
-    if mask > 0x7F {
+    if mask > KNOWN_FLAGS {
         return Err(ReadFault::NoValue);
     }
-    let symbolic_id = read_field(alloc, src, 0, has_flag(mask, 0x01))?;
-    let namespace_uri = read_field(alloc, src, 0, has_flag(mask, 0x02))?;
-    let locale = read_field(alloc, src, 0, has_flag(mask, 0x08))?;
-    let localized_text = read_field(alloc, src, 0, has_flag(mask, 0x04))?;
-    let additional_info = read_text(alloc, src, 0, has_flag(mask, 0x10))?;
-    let inner_status_code = read_field(alloc, src, 0, has_flag(mask, 0x20))?;
-    let inner = read_inner(alloc, src, depth, has_flag(mask, 0x40))?;
+    let symbolic_id = read_field(alloc, src, 0, mask & SYMBOLIC_ID != 0)?;
+    let namespace_uri = read_field(alloc, src, 0, mask & NAMESPACE_URI != 0)?;
+    let locale = read_field(alloc, src, 0, mask & LOCALE != 0)?;
+    let localized_text = read_field(alloc, src, 0, mask & LOCALIZED_TEXT != 0)?;
+    let additional_info = read_flagged(alloc, src, 0, mask & ADDITIONAL_INFO != 0)?;
+    let inner_status_code = read_field(alloc, src, 0, mask & INNER_STATUS_CODE != 0)?;
+    let inner = read_inner(alloc, src, depth, mask & INNER != 0)?;
     Ok(DiagnosticInfo {
         symbolic_id,
         namespace_uri,
@@ -116,21 +132,20 @@ fn mask_of(value: &DiagnosticInfo) -> u8
     ensures value { result ≡ diagnostic_flags (diagnostic_fields_of value.now) }
     ensures within { result ≤ 63 }
 {
-    flag_of(0x01, &value.symbolic_id)
-        + flag_of(0x02, &value.namespace_uri)
-        + flag_of(0x04, &value.localized_text)
-        + flag_of(0x08, &value.locale)
-        + flag_of_text(0x10, &value.additional_info)
-        + flag_of(0x20, &value.inner_status_code)
+    flag_of(SYMBOLIC_ID, value.symbolic_id.is_some())
+        + flag_of(NAMESPACE_URI, value.namespace_uri.is_some())
+        + flag_of(LOCALIZED_TEXT, value.localized_text.is_some())
+        + flag_of(LOCALE, value.locale.is_some())
+        + flag_of(ADDITIONAL_INFO, value.additional_info.is_some())
+        + flag_of(INNER_STATUS_CODE, value.inner_status_code.is_some())
 }
 
-#[tactic(auto, unfolding(crate::specs::Diagnostic::diagnostic_fields))]
 fn append_fields(value: &DiagnosticInfo, out: &mut Vec<u8>) -> Result<(), AllocError>
     requires symbolic_id { IsTrue (optional_fits (signed w32).encodable value.now.symbolic_id) }
     requires namespace_uri { IsTrue (optional_fits (signed w32).encodable value.now.namespace_uri) }
     requires locale { IsTrue (optional_fits (signed w32).encodable value.now.locale) }
     requires localized_text { IsTrue (optional_fits (signed w32).encodable value.now.localized_text) }
-    requires additional_info { IsTrue (flagged_fits text.encodable value.now.additional_info) }
+    requires additional_info { IsTrue ((flagged_text (is_some value.now.additional_info)).encodable value.now.additional_info) }
     requires inner_status_code { IsTrue (optional_fits status_code.encodable value.now.inner_status_code) }
     ensures ok { OnOk result (out.new.items ≡ out.old.items ++ diagnostic_fields_canonical (diagnostic_fields_of value.now)) }
     ensures err { OnErr result (Extends out.old.items out.new.items) }
@@ -139,7 +154,7 @@ fn append_fields(value: &DiagnosticInfo, out: &mut Vec<u8>) -> Result<(), AllocE
     append_field(&value.namespace_uri, out)?;
     append_field(&value.locale, out)?;
     append_field(&value.localized_text, out)?;
-    append_text(&value.additional_info, out)?;
+    append_flagged(&value.additional_info, out)?;
     append_field(&value.inner_status_code, out)?;
     Ok(())
 }
@@ -157,7 +172,7 @@ pub fn append_diagnostic(value: &DiagnosticInfo, out: &mut Vec<u8>) -> Result<()
             append_fields(value, out)?;
         }
         Some(inner) => {
-            out.push(mask + 0x40)?;
+            out.push(mask + INNER)?;
             append_fields(value, out)?;
             append_diagnostic(inner.get(), out)?;
         }

@@ -10,7 +10,7 @@ use Rattle.ua_builtin.specs.declared.node_id.Identifier.TheVariants.{Numeric}
 use Rattle.ua_builtin.specs.declared.qualified_name.QualifiedName.{QualifiedName}
 use Rattle.ua_builtin.specs.declared.status_code.StatusCode.{StatusCode}
 use Rattle.ua_variant.specs.declared.values.DataValue.{DataValue}
-use Rattle.ua_parts.specs.declared.diagnostic_info.DiagnosticInfo.{DiagnosticInfo}
+use Rattle.ua_parts.specs.View.{no_diagnostics}
 use Rattle.ua_structures.specs.declared.attribute.ReadRequest.{ReadRequest}
 use Rattle.ua_structures.specs.declared.attribute.ReadValueId.{ReadValueId}
 use Rattle.ua_structures.specs.declared.attribute.WriteRequest.{WriteRequest}
@@ -22,10 +22,6 @@ use Rattle.ua_structures.specs.declared.header.ServiceFault.{ServiceFault}
 -- the object that holds nothing: the NodeId i=0, and no body (OPC 10000-6, 5.2.2.15)
 abbrev pub null_object : ExtensionObject
 null_object = record { type_id = node 0 (Numeric 0); body = Absent }
-
--- a diagnostic that says nothing
-abbrev pub no_diagnostics : DiagnosticInfo
-no_diagnostics = record { symbolic_id = None; namespace_uri = None; locale = None; localized_text = None; additional_info = None; inner_status_code = None; inner = None }
 
 -- a header of a request that asks for no diagnostics, names no audit entry and no timeout, and adds nothing
 abbrev pub request_header_of : NodeId → DateTime → ℕ → RequestHeader

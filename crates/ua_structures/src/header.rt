@@ -148,15 +148,7 @@ impl ResponseHeader {
             timestamp,
             request_handle,
             service_result,
-            service_diagnostics: DiagnosticInfo {
-                symbolic_id: None,
-                namespace_uri: None,
-                locale: None,
-                localized_text: None,
-                additional_info: UaString::null(),
-                inner_status_code: None,
-                inner: None,
-            },
+            service_diagnostics: DiagnosticInfo::empty(),
             string_table: UaArray::null(),
             additional_header: null_object(),
         }

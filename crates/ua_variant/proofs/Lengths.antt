@@ -6,7 +6,7 @@ use Rattle.ua_builtin.specs.DateTime.{date_time as date_time_format, date_time_s
 use Rattle.ua_builtin.specs.Status.{status_code as status_code_format, status_code_starts}
 use Rattle.ua_variant.specs.Data.{LeafData, DataFields, VariantData, null, one, absent, many, ScalarData, leaf, data_value, variant, diagnostic, ScalarsData, no_scalars, scalar, DataValueData, bare, valued}
 use Rattle.ua_parts.specs.Diagnostic.{innermost, around}
-use Rattle.ua_parts.specs.Parts.{flag}
+use Rattle.ua_builtin.specs.Flags.{has}
 use Rattle.ua_variant.specs.Measure.{data_fields_count, variant_count, scalar_count, scalars_count, data_value_count}
 use Rattle.ua_variant.specs.Leaf.{EncodesLeaf, leaf_starts}
 use Rattle.ua_variant.specs.Fields.{data_fields}
@@ -21,10 +21,10 @@ data_fields_take m f b h =
     let k = j.second_encoded in
     let l = k.second_encoded in
     let n = l.second_encoded in
-    let d = both_take l.back n.front n.back _ _ n.parts (optional_takes (date_time_format).encodes date_time_starts (flag 8 m) _ n.front n.first_encoded) (optional_takes (number 2).encodes (number_starts 1) (flag 32 m) _ n.back n.second_encoded) in
-    let c = both_take k.back l.front l.back _ _ l.parts (optional_takes (number 2).encodes (number_starts 1) (flag 16 m) _ l.front l.first_encoded) d in
-    let e = both_take j.back k.front k.back _ _ k.parts (optional_takes (date_time_format).encodes date_time_starts (flag 4 m) _ k.front k.first_encoded) c in
-    let a = both_take b j.front j.back _ _ j.parts (optional_takes status_code_format.encodes status_code_starts (flag 2 m) _ j.front j.first_encoded) e in
+    let d = both_take l.back n.front n.back _ _ n.parts (optional_takes (date_time_format).encodes date_time_starts (has m 8) _ n.front n.first_encoded) (optional_takes (number 2).encodes (number_starts 1) (has m 32) _ n.back n.second_encoded) in
+    let c = both_take k.back l.front l.back _ _ l.parts (optional_takes (number 2).encodes (number_starts 1) (has m 16) _ l.front l.first_encoded) d in
+    let e = both_take j.back k.front k.back _ _ k.parts (optional_takes (date_time_format).encodes date_time_starts (has m 4) _ k.front k.first_encoded) c in
+    let a = both_take b j.front j.back _ _ j.parts (optional_takes status_code_format.encodes status_code_starts (has m 2) _ j.front j.first_encoded) e in
     subst (λ g. data_fields_count g ≤ length b) (sym h.is) (omega arith)
 
 leaf_takes : (l : LeafData) (b : List ℕ) → EncodesLeaf l b → 1 ≤ length b

@@ -5,7 +5,8 @@ use Rattle.ua_builtin.specs.Number.{number_at}
 use Rattle.ua_variant.specs.Data.{VariantData, null, one, absent, many, ScalarData, leaf, data_value, variant, diagnostic, ScalarsData, no_scalars, scalar, DataValueData}
 use Rattle.ua_parts.specs.Diagnostic.{DiagnosticData}
 use Rattle.ua_variant.specs.View.{value_within}
-use Rattle.ua_parts.specs.Parts.{Reader, when, optional_read, flag}
+use Rattle.ua_builtin.specs.Flags.{has}
+use Rattle.ua_parts.specs.Parts.{Reader, when, optional_read}
 use Rattle.ua_variant.specs.Leaf.{leaf_at, holds_values}
 use Rattle.ua_variant.specs.Fields.{data_fields}
 use Rattle.ua_variant.specs.Encodable.{is_read_kind}
@@ -15,7 +16,7 @@ use Rattle.ua_parts.specs.Diagnostic.{diagnostic_at}
 -- a mask of at most 0x3F, where 0x01 is set a value, which inner reads, and the other fields that the mask announces
 unfoldable pub data_value_step : Reader VariantData → Reader DataValueData
 data_value_step inner octets = number_at 1 octets >>= λ m. when (leb m.0 63) (
-    optional_read (flag 1 m.0) inner m.1 >>= λ v. (data_fields m.0).decode v.1 >>= λ f. Some (value_within v.0 f.0, f.1))
+    optional_read (has m.0 1) inner m.1 >>= λ v. (data_fields m.0).decode v.1 >>= λ f. Some (value_within v.0 f.0, f.1))
 
 -- a scalar of the type id
 unfoldable pub scalar_at : Reader DataValueData → Reader VariantData → Reader DiagnosticData → ℕ → Reader ScalarData
@@ -45,7 +46,7 @@ array_at p k f octets = number_at 4 octets >>= λ n. cond (is_negative n.0)
 unfoldable pub variant_after : (ℕ → Reader ScalarData) → ℕ → Reader VariantData
 variant_after p t octets =
     cond (eqb t 0) (Some (null, octets)) (
-    cond (leb 128 t) (when (is_read_kind (t % 64) && leb t 255) (array_at p (t % 64) (flag 64 t) octets))
+    cond (leb 128 t) (when (is_read_kind (t % 64) && leb t 255) (array_at p (t % 64) (has t 64) octets))
     (when (not (eqb t 24)) (p t octets >>= λ s. Some (one s.0, s.1))))
 
 -- the first octet and what it announces, where p reads the scalars of each type id

@@ -1,16 +1,17 @@
 -- Which octets encode which values.
 pub use Rattle.ua_parts.specs.Diagnostic.{EncodesDiagnostic}
 pub use Rattle.ua_parts.specs.Dimensions.{EncodesDims}
-use Rattle.std.specs.Prelude.{◌≡◌, ℕ, ◌+◌, Bool, true, false, cond, IsTrue, List, []}
+use Rattle.std.specs.Prelude.{◌≡◌, ℕ, ◌+◌, Bool, true, false, IsTrue, List, []}
 use Rattle.ua_variant.specs.Data.{VariantData, null, one, absent, many, ScalarData, leaf, data_value, variant, diagnostic, ScalarsData, no_scalars, scalar, DataValueData, bare, valued}
-use Rattle.ua_parts.specs.Parts.{Joins, Nothing, IsOctet, IsCount, IsNegative, Masked, flag}
+use Rattle.ua_parts.specs.Parts.{Joins, Nothing, IsOctet, IsCount, IsNegative, Masked}
+use Rattle.ua_builtin.specs.Flags.{has, flag_bit}
 use Rattle.ua_variant.specs.Leaf.{EncodesLeaf}
 use Rattle.ua_variant.specs.Fields.{data_fields}
 use Rattle.ua_variant.specs.Encodable.{kind_of, row_length, is_read_kind}
 
 -- the first octet of an array: 0x80, 0x40 where dimensions follow, and the type id
 abbrev pub array_octet : Bool → ℕ → ℕ
-array_octet f k = 128 + cond f 64 0 + k
+array_octet f k = 128 + flag_bit 64 f + k
 
 -- a Variant (OPC 10000-6, 5.2.2.16): the octet of the type id, and behind it a value, or for an array a count, the elements and the dimensions
 abbrev mutual
@@ -33,5 +34,5 @@ abbrev mutual
 
   -- a mask of at most 0x3F, where 0x01 is set the value, and the other fields that it announces (OPC 10000-6, 5.2.2.17)
   pub EncodesDataValue : DataValueData → List ℕ → Type 0
-  EncodesDataValue (bare f) b = Masked 63 (λ m c. (flag 1 m ≡ false) × (data_fields m).encodes f c) b
-  EncodesDataValue (valued v f) b = Masked 63 (λ m c. (flag 1 m ≡ true) × Joins (EncodesVariant v) ((data_fields m).encodes f) c) b
+  EncodesDataValue (bare f) b = Masked 63 (λ m c. (has m 1 ≡ false) × (data_fields m).encodes f c) b
+  EncodesDataValue (valued v f) b = Masked 63 (λ m c. (has m 1 ≡ true) × Joins (EncodesVariant v) ((data_fields m).encodes f) c) b

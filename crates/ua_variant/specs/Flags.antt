@@ -1,11 +1,12 @@
 -- The mask that a writer sets announces just the fields that are there, flag by flag.
 use Rattle.std.specs.Prelude.{◌≡◌, ℕ, ◌+◌, ◌*◌, ◌/◌, ◌%◌, ◌≤◌, Bool, ◌&&◌, eqb}
-use Rattle.std.proofs.Common.{ap, ap₂, arith}
+use Rattle.std.proofs.Common.{ap, ap₂, ◌∙◌, arith}
 use Rattle.ua_builtin.specs.Join.{number}
 use Rattle.ua_builtin.specs.DateTime.{date_time as date_time_format}
 use Rattle.ua_builtin.specs.Status.{status_code as status_code_format}
 use Rattle.ua_variant.specs.Data.{DataFields}
-use Rattle.ua_parts.specs.Parts.{there, flag}
+use Rattle.ua_builtin.specs.Flags.{has, has_bit}
+use Rattle.ua_parts.specs.Parts.{there}
 use Rattle.ua_variant.specs.Fields.{data_fields, data_flags}
 use Rattle.ua_parts.specs.Flags.{bit_is, there_within, flag_there, optional_at, bits_of}
 use Rattle.ua_variant.specs.Encodable.{data_fields_encodable}
@@ -25,16 +26,16 @@ data_bits f v h =
 pub data_mask_low : (f : DataFields) (v : ℕ) → v ≤ 1 → data_mask f v ≤ 63
 data_mask_low f v h = (data_bits f v h).6
 
-pub data_mask_value : (f : DataFields) (v : ℕ) → v ≤ 1 → flag 1 (data_mask f v) ≡ eqb v 1
-data_mask_value f v h = ap (λ (r : ℕ). eqb r 1) (data_bits f v h).0
+pub data_mask_value : (f : DataFields) (v : ℕ) → v ≤ 1 → has (data_mask f v) 1 ≡ eqb v 1
+data_mask_value f v h = has_bit (data_mask f v) 0 ∙ ap (λ (r : ℕ). eqb r 1) (data_bits f v h).0
 
 pub data_fields_encodable_as : (f : DataFields) (v : ℕ) → v ≤ 1 → (data_fields (data_mask f v)).encodable f ≡ data_fields_encodable f
 unfolding data_fields
 data_fields_encodable_as f v h =
     let m = data_mask f v in
     let b = data_bits f v h in
-    ap₂ (λ (x y : Bool). x && y) (optional_at status_code_format.encodable (flag 2 m) f.status (flag_there 2 m f.status b.1))
-    (ap₂ (λ (x y : Bool). x && y) (optional_at (date_time_format).encodable (flag 4 m) f.source_timestamp (flag_there 4 m f.source_timestamp b.2))
-    (ap₂ (λ (x y : Bool). x && y) (optional_at (number 2).encodable (flag 16 m) f.source_picoseconds (flag_there 16 m f.source_picoseconds b.4))
-    (ap₂ (λ (x y : Bool). x && y) (optional_at (date_time_format).encodable (flag 8 m) f.server_timestamp (flag_there 8 m f.server_timestamp b.3))
-    (optional_at (number 2).encodable (flag 32 m) f.server_picoseconds (flag_there 32 m f.server_picoseconds b.5)))))
+    ap₂ (λ (x y : Bool). x && y) (optional_at status_code_format.encodable (has m 2) f.status (flag_there 1 m f.status b.1))
+    (ap₂ (λ (x y : Bool). x && y) (optional_at (date_time_format).encodable (has m 4) f.source_timestamp (flag_there 2 m f.source_timestamp b.2))
+    (ap₂ (λ (x y : Bool). x && y) (optional_at (number 2).encodable (has m 16) f.source_picoseconds (flag_there 4 m f.source_picoseconds b.4))
+    (ap₂ (λ (x y : Bool). x && y) (optional_at (date_time_format).encodable (has m 8) f.server_timestamp (flag_there 3 m f.server_timestamp b.3))
+    (optional_at (number 2).encodable (has m 32) f.server_picoseconds (flag_there 5 m f.server_picoseconds b.5)))))

@@ -8,7 +8,8 @@ use Rattle.ua_variant.specs.Data.{DataFields, VariantData, ScalarData, leaf, dat
 use Rattle.ua_parts.specs.Diagnostic.{DiagnosticData}
 use Rattle.ua_variant.specs.Measure.{variant_depth, scalar_depth, data_value_depth}
 use Rattle.ua_variant.specs.View.{value_within}
-use Rattle.ua_parts.specs.Parts.{Reader, when, Joins, Nothing, IsOctet, flag, Optional, optional_read, exact_octet, exact_then, exact_map, exact_as, exact_when, exact_optional}
+use Rattle.ua_builtin.specs.Flags.{has}
+use Rattle.ua_parts.specs.Parts.{Reader, when, Joins, Nothing, IsOctet, Optional, optional_read, exact_octet, exact_then, exact_map, exact_as, exact_when, exact_optional}
 use Rattle.ua_variant.specs.Leaf.{leaf_kind, leaf_at, exact_leaf, leaf_apart, holds_values, Sound, sound_if, eqb_is}
 use Rattle.ua_variant.specs.Fields.{data_fields}
 use Rattle.ua_variant.specs.Encodable.{kind_of}
@@ -32,18 +33,18 @@ ShallowS n k s b = (kind_of s ≡ k) × EncodesScalar s b × (scalar_depth s ≤
 
 -- behind the mask m
 abbrev Body : ℕ → ℕ → DataValueData → List ℕ → Type 0
-Body n m y b = IsTrue (leb m 63) × ((v : Option VariantData) × Joins (Optional (ShallowV n) (flag 1 m) v) (λ c. (f : DataFields) × (y ≡ value_within v f) × (data_fields m).encodes f c) b)
+Body n m y b = IsTrue (leb m 63) × ((v : Option VariantData) × Joins (Optional (ShallowV n) (has m 1) v) (λ c. (f : DataFields) × (y ≡ value_within v f) × (data_fields m).encodes f c) b)
 
 body : (n m : ℕ) (r : Reader VariantData) → Exact (ShallowV n) r
-    → Exact (Body n m) (λ octets. when (leb m 63) (optional_read (flag 1 m) r octets >>= λ v. (data_fields m).decode v.1 >>= λ f. Some (value_within v.0 f.0, f.1)))
+    → Exact (Body n m) (λ octets. when (leb m 63) (optional_read (has m 1) r octets >>= λ v. (data_fields m).decode v.1 >>= λ f. Some (value_within v.0 f.0, f.1)))
 body n m r e =
-    exact_when (leb m 63) (exact_then (exact_optional (ShallowV n) r (flag 1 m) e) (λ v. exact_map (λ (f : DataFields). value_within v f) (data_fields m).exact))
+    exact_when (leb m 63) (exact_then (exact_optional (ShallowV n) r (has m 1) e) (λ v. exact_map (λ (f : DataFields). value_within v f) (data_fields m).exact))
 
 nil_before : (b front back : List ℕ) → b ≡ front ++ back → Nothing front → b ≡ back
 nil_before b front back e none = e ∙ ap (λ (c : List ℕ). c ++ back) none
 
 to_at : (n m : ℕ) (y : DataValueData) (b a c c1 c2 : List ℕ) (f : DataFields) (v : Option VariantData) (t : Bool)
-    → flag 1 m ≡ t → IsTrue (leb m 63) → b ≡ a ++ c → IsOctet m a → c ≡ c1 ++ c2 → Optional (ShallowV n) t v c1 → y ≡ value_within v f → (data_fields m).encodes f c2 → ShallowD (suc n) y b
+    → has m 1 ≡ t → IsTrue (leb m 63) → b ≡ a ++ c → IsOctet m a → c ≡ c1 ++ c2 → Optional (ShallowV n) t v c1 → y ≡ value_within v f → (data_fields m).encodes f c2 → ShallowD (suc n) y b
 to_at n m y b a c c1 c2 f None true is low e o e1 r1 iy r2 = absurd r1
 to_at n m y b a c c1 c2 f None false is low e o e1 r1 iy r2 =
     subst (λ x. ShallowD (suc n) x b) (sym iy) ((m, (a, c, e, o, (low, (is, subst ((data_fields m).encodes f) (sym (nil_before c c1 c2 e1 r1)) r2)))), omega arith)
@@ -57,7 +58,7 @@ data_value_to n y b r =
     let j = r.1 in
     let w = j.4 in
     let g = w.1.1 in
-    to_at n r.0 y b j.0 j.1 g.0 g.1 g.4.0 w.1.0 (flag 1 r.0) refl w.0 j.2 j.3 g.2 g.3 g.4.1 g.4.2
+    to_at n r.0 y b j.0 j.1 g.0 g.1 g.4.0 w.1.0 (has r.0 1) refl w.0 j.2 j.3 g.2 g.3 g.4.1 g.4.2
 
 data_value_back : (n : ℕ) (y : DataValueData) (b : List ℕ) → ShallowD (suc n) y b → (m : ℕ) × Joins (IsOctet m) (Body n m y) b
 data_value_back n (bare f) b r =

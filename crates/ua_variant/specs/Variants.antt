@@ -1,12 +1,13 @@
 -- The readers of Variant and DataValue are exact, at each depth.
-use Rattle.std.specs.Prelude.{◌≡◌, ℕ, zero, suc, ◌+◌, ◌-◌, ◌*◌, ◌/◌, ◌%◌, ◌<◌, ◌≤◌, Bool, true, false, cond, ◌&&◌, not, IsTrue, leb, eqb, List, [], ◌∷◌, ◌++◌, None}
+use Rattle.std.specs.Prelude.{◌≡◌, ℕ, zero, suc, ◌+◌, ◌-◌, ◌/◌, ◌%◌, ◌<◌, ◌≤◌, Bool, true, false, ◌&&◌, not, IsTrue, leb, eqb, List, [], ◌∷◌, ◌++◌, None}
 use Rattle.std.proofs.Common.{inl, inr, refl, sym, subst, ap, ap₂, ◌∙◌, arith}
 use Rattle.std.proofs.lemmas.Grind.{common_steps}
 use Rattle.ua_builtin.specs.Exact.{Exact, exact_only}
 use Rattle.ua_parts.specs.Diagnostic.{diagnostic_at}
 use Rattle.ua_variant.specs.Data.{VariantData, null, one, absent, many, ScalarData, leaf, data_value, variant, diagnostic, DataValueData, bare, valued}
 use Rattle.ua_variant.specs.Measure.{variant_depth, scalar_depth, scalars_depth}
-use Rattle.ua_parts.specs.Parts.{Reader, Joins, Nothing, IsOctet, flag, exact_octet, exact_then, exact_map, exact_as, exact_if, exact_when, exact_none}
+use Rattle.ua_builtin.specs.Flags.{has, has_bit, flag_has}
+use Rattle.ua_parts.specs.Parts.{Reader, Joins, Nothing, IsOctet, exact_octet, exact_then, exact_map, exact_as, exact_if, exact_when, exact_none}
 use Rattle.ua_variant.specs.Leaf.{leaf_kind_within, eqb_is}
 use Rattle.ua_variant.specs.Encodable.{kind_of, is_read_kind}
 use Rattle.ua_variant.specs.Encoding.{EncodesVariant, EncodesScalar, array_octet}
@@ -66,21 +67,16 @@ one_from n t h z (one s) b r =
 one_from n t h z (absent k ds) b r = let f = r.0.2 in let j = r.0.3 in let e = head_of t (array_octet f k) b j.0 j.1 j.2 j.3 in absurd (omega (arith, e.0, octet_high f k))
 one_from n t h z (many k ss ds) b r = let f = r.0.1 in let j = r.0.2 in let e = head_of t (array_octet f k) b j.0 j.1 j.2 j.3 in absurd (omega (arith, e.0, octet_high f k))
 
-flag_at : (r : ℕ) → r < 2 → cond (eqb r 1) 64 0 ≡ 64 * r
-flag_at zero h = refl
-flag_at (suc zero) h = refl
-flag_at (suc (suc r)) h = absurd (omega arith)
-
-tag_is : (t : ℕ) → 128 ≤ t → t ≤ 255 → t ≡ array_octet (flag 64 t) (t % 64)
-tag_is t h k = omega (arith, flag_at (t / 64 % 2) (omega arith))
+tag_is : (t : ℕ) → 128 ≤ t → t ≤ 255 → t ≡ array_octet (has t 64) (t % 64)
+tag_is t h k = omega (arith, flag_has t 6)
 
 pub tag_kind : (f : Bool) (k : ℕ) → k < 32 → array_octet f k % 64 ≡ k
 tag_kind true k h = omega arith
 tag_kind false k h = omega arith
 
-pub tag_flag : (f : Bool) (k : ℕ) → k < 32 → flag 64 (array_octet f k) ≡ f
-tag_flag true k h = let e : array_octet true k / 64 % 2 ≡ 1 = omega arith in ap (λ (r : ℕ). eqb r 1) e
-tag_flag false k h = let e : array_octet false k / 64 % 2 ≡ 0 = omega arith in ap (λ (r : ℕ). eqb r 1) e
+pub tag_flag : (f : Bool) (k : ℕ) → k < 32 → has (array_octet f k) 64 ≡ f
+tag_flag true k h = let e : array_octet true k / 64 % 2 ≡ 1 = omega arith in has_bit (array_octet true k) 6 ∙ ap (λ (r : ℕ). eqb r 1) e
+tag_flag false k h = let e : array_octet false k / 64 % 2 ≡ 0 = omega arith in has_bit (array_octet false k) 6 ∙ ap (λ (r : ℕ). eqb r 1) e
 
 pub read_kind_low : (k : ℕ) → IsTrue (is_read_kind k) → k < 32
 read_kind_low k h = Prim.grind (arith, common_steps)
@@ -88,18 +84,18 @@ read_kind_low k h = Prim.grind (arith, common_steps)
 test_is : (t : ℕ) → (is_read_kind (t % 64) && leb t 255) ≡ true → (is_read_kind (t % 64) ≡ true) × (t ≤ 255)
 test_is t h = (Prim.grind (arith, common_steps), Prim.grind (arith, common_steps))
 
-array_after : (n t : ℕ) (y : VariantData) (b : List ℕ) → IsTrue (is_read_kind (t % 64)) → t ≤ 255 → t ≡ array_octet (flag 64 t) (t % 64) → ArrayOf n (t % 64) (flag 64 t) y b → After n t y b
+array_after : (n t : ℕ) (y : VariantData) (b : List ℕ) → IsTrue (is_read_kind (t % 64)) → t ≤ 255 → t ≡ array_octet (has t 64) (t % 64) → ArrayOf n (t % 64) (has t 64) y b → After n t y b
 array_after n t y b k low e (inl r) =
     let j = r.2 in
     let none = j.4 in
-    subst (λ x. ShallowV (suc n) x (t ∷ b)) (sym r.1) ((k, none.0, flag 64 t, (t ∷ [], b, refl, (omega (arith, e), ap (λ (x : ℕ). x ∷ []) e), (j.0, j.1, j.2, j.3, none.1))), omega arith)
+    subst (λ x. ShallowV (suc n) x (t ∷ b)) (sym r.1) ((k, none.0, has t 64, (t ∷ [], b, refl, (omega (arith, e), ap (λ (x : ℕ). x ∷ []) e), (j.0, j.1, j.2, j.3, none.1))), omega arith)
 array_after n t y b k low e (inr r) =
     let d : scalars_depth r.0 ≤ n = r.3 in
-    subst (λ x. ShallowV (suc n) x (t ∷ b)) (sym r.2) ((k, flag 64 t, (t ∷ [], b, refl, (omega (arith, e), ap (λ (x : ℕ). x ∷ []) e), r.4)), omega arith)
+    subst (λ x. ShallowV (suc n) x (t ∷ b)) (sym r.2) ((k, has t 64, (t ∷ [], b, refl, (omega (arith, e), ap (λ (x : ℕ). x ∷ []) e), r.4)), omega arith)
 
 -- what stands behind the first octet t of an array: an array of the type id that t has, which is one that is read
 abbrev Wanted : ℕ → ℕ → VariantData → List ℕ → Type 0
-Wanted n t y b = IsTrue (is_read_kind (t % 64) && leb t 255) × ArrayOf n (t % 64) (flag 64 t) y b
+Wanted n t y b = IsTrue (is_read_kind (t % 64) && leb t 255) × ArrayOf n (t % 64) (has t 64) y b
 
 octet_low : (f : Bool) (k : ℕ) → k < 32 → leb (array_octet f k) 255 ≡ true
 octet_low true k h = Prim.grind (arith, common_steps)
@@ -146,7 +142,7 @@ exact_after : (n t : ℕ) (p : ℕ → Reader ScalarData) → ((k : ℕ) → Exa
 unfolding variant_after
 exact_after n t p e =
     exact_if (eqb t 0) (λ h. exact_as (After n t) (exact_only null) (null_to n t (eqb_is t 0 h)) (null_from n t (eqb_is t 0 h)))
-    (λ z. exact_if (leb 128 t) (λ h. exact_as (After n t) (exact_when (is_read_kind (t % 64) && leb t 255) (exact_array n (t % 64) (flag 64 t) p (e (t % 64)))) (array_there n t (leb_is t h)) (array_back n t (leb_is t h)))
+    (λ z. exact_if (leb 128 t) (λ h. exact_as (After n t) (exact_when (is_read_kind (t % 64) && leb t 255) (exact_array n (t % 64) (has t 64) p (e (t % 64)))) (array_there n t (leb_is t h)) (array_back n t (leb_is t h)))
     (λ h. exact_as (After n t) (exact_when (not (eqb t 24)) (exact_map one (e t))) (one_to n t (leb_no t h)) (one_from n t (leb_no t h) (eqb_no t 0 z))))
 
 tagged_to : (n : ℕ) (y : VariantData) (b : List ℕ) → (t : ℕ) × Joins (IsOctet t) (After n t y) b → ShallowV (suc n) y b

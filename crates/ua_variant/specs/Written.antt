@@ -6,7 +6,8 @@ use Rattle.ua_builtin.specs.Exact.{both_true, not_false}
 use Rattle.ua_builtin.specs.Number.{number_octets}
 use Rattle.ua_variant.specs.Data.{DataFields, VariantData, null, one, absent, many, ScalarData, leaf, data_value, variant, diagnostic, ScalarsData, no_scalars, scalar, DataValueData, bare, valued}
 use Rattle.ua_variant.specs.Measure.{variant_depth, data_value_depth}
-use Rattle.ua_parts.specs.Parts.{IsOctet, flag, fits_second, depth_first}
+use Rattle.ua_builtin.specs.Flags.{has}
+use Rattle.ua_parts.specs.Parts.{IsOctet, fits_second, depth_first}
 use Rattle.ua_variant.specs.Leaf.{leaf_canonical_encodes, leaf_apart, holds_values}
 use Rattle.ua_variant.specs.Fields.{data_fields, data_flags}
 use Rattle.ua_variant.specs.Flags.{data_mask, data_mask_low, data_mask_value, data_fields_encodable_as}
@@ -35,7 +36,7 @@ low_63 m h = Prim.grind (arith, common_steps)
 bare_at : (f : DataFields) (m : ℕ) → m ≡ data_mask f 0 → data_fields_encodable f ≡ true → EncodesDataValue (bare f) (m ∷ data_fields_canonical f)
 bare_at f m e fits =
     let low : m ≤ 63 = omega (arith, e, data_mask_low f 0 (omega arith)) in
-    (m, (m ∷ [], data_fields_canonical f, refl, (omega arith, refl), (low_63 m low, (ap (flag 1) e ∙ data_mask_value f 0 (omega arith), subst (λ k. (data_fields k).encodes f (data_fields_canonical f)) (sym e) (data_fields_encoded f 0 (omega arith) fits)))))
+    (m, (m ∷ [], data_fields_canonical f, refl, (omega arith, refl), (low_63 m low, (ap (λ (k : ℕ). has k 1) e ∙ data_mask_value f 0 (omega arith), subst (λ k. (data_fields k).encodes f (data_fields_canonical f)) (sym e) (data_fields_encoded f 0 (omega arith) fits)))))
 
 bare_encodes : (f : DataFields) → data_fields_encodable f ≡ true → EncodesDataValue (bare f) (data_value_canonical (bare f))
 bare_encodes f h = bare_at f (data_flags f) (omega arith) h

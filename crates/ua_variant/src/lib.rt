@@ -9,6 +9,7 @@
 mod clone;
 mod encodable;
 pub mod laws;
+mod masks;
 mod measure;
 mod read;
 #[cfg(test)]

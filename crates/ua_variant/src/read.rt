@@ -13,13 +13,14 @@ ghost use Rattle.ua_variant.specs.Encodable.{is_read_kind as read_kind};
 ghost use Rattle.ua_variant.specs.Decoding.{variant_at, variant_step, variant_after, data_value_at, data_value_step, scalars_at, scalar_at, array_at, elements_at, row_at};
 ghost use Rattle.ua_variant.specs.View.{row, variant_of, scalar_of, data_value_of};
 
+use crate::masks;
 use crate::values::{BoxedVariant, DataValue, Scalar, Scalars, Variant};
 use std::alloc::Global;
 use ua_builtin::{
     DateTime, DoubleBits, ExpandedNodeId, ExtensionObject, FloatBits, Guid, LocalizedText, NodeId,
     QualifiedName, ReadFault, Source, StatusCode, UaBytes, UaString, Wire, XmlElement,
 };
-use ua_parts::field::{has_flag, read_field};
+use ua_parts::field::read_field;
 use ua_parts::{read_diagnostic, read_dims, read_no_dims};
 
 /// Counts from here on are negative as an Int32, and mean null.
@@ -101,11 +102,12 @@ fn read_variant_level<S: Source>(
     if tag == 0 {
         return Ok(Variant::Null);
     }
-    if tag >= 0x80 {
-        if !is_read_kind(tag % 0x40) {
+    if tag >= masks::ARRAY {
+        let kind = tag & masks::TYPE_ID;
+        if !is_read_kind(kind) {
             return Err(ReadFault::NoValue);
         }
-        return read_array(alloc, src, depth, tag % 0x40, has_flag(tag, 0x40));
+        return read_array(alloc, src, depth, kind, tag & masks::DIMENSIONS != 0);
     }
     if tag == 24 {
         return Err(ReadFault::NoValue);
@@ -232,15 +234,15 @@ fn read_data_value_level<S: Source>(
     ensures behind { StaysBehind (S.octets src.old) (S.octets src.new) }
 {
     let mask = u8::read_value(alloc, src, 0)?;
-    if mask > 0x3F {
+    if mask > masks::KNOWN_FLAGS {
         return Err(ReadFault::NoValue);
     }
-    let value = read_boxed(alloc, src, depth, has_flag(mask, 0x01))?;
-    let status = read_field(alloc, src, 0, has_flag(mask, 0x02))?;
-    let source_timestamp = read_field(alloc, src, 0, has_flag(mask, 0x04))?;
-    let source_picoseconds = read_field(alloc, src, 0, has_flag(mask, 0x10))?;
-    let server_timestamp = read_field(alloc, src, 0, has_flag(mask, 0x08))?;
-    let server_picoseconds = read_field(alloc, src, 0, has_flag(mask, 0x20))?;
+    let value = read_boxed(alloc, src, depth, mask & masks::VALUE != 0)?;
+    let status = read_field(alloc, src, 0, mask & masks::STATUS != 0)?;
+    let source_timestamp = read_field(alloc, src, 0, mask & masks::SOURCE_TIMESTAMP != 0)?;
+    let source_picoseconds = read_field(alloc, src, 0, mask & masks::SOURCE_PICOSECONDS != 0)?;
+    let server_timestamp = read_field(alloc, src, 0, mask & masks::SERVER_TIMESTAMP != 0)?;
+    let server_picoseconds = read_field(alloc, src, 0, mask & masks::SERVER_PICOSECONDS != 0)?;
     Ok(DataValue {
         value,
         status,

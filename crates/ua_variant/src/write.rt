@@ -15,10 +15,12 @@ ghost use Rattle.ua_variant.specs.Encodable.{row_length, variant_fits, scalar_fi
 ghost use Rattle.ua_variant.specs.View.{row, variant_of, scalar_of, data_value_of, data_fields_of};
 
 use crate::encodable::element_count;
+use crate::masks;
 use crate::values::{DataValue, Scalar, Scalars, Variant};
 use std::alloc::AllocError;
 use ua_builtin::Wire;
-use ua_parts::field::{append_field, flag_of};
+use ua_builtin::flags::flag_of;
+use ua_parts::field::append_field;
 use ua_parts::{Dimensions, append_diagnostic, append_dims};
 
 /// The count of a null array.
@@ -29,11 +31,17 @@ fn data_mask(value: &DataValue) -> u8
     ensures value { result ≡ data_flags (data_fields_of value.now) }
     ensures within { result ≤ 62 }
 {
-    flag_of(0x02, &value.status)
-        + flag_of(0x04, &value.source_timestamp)
-        + flag_of(0x08, &value.server_timestamp)
-        + flag_of(0x10, &value.source_picoseconds)
-        + flag_of(0x20, &value.server_picoseconds)
+    flag_of(masks::STATUS, value.status.is_some())
+        + flag_of(masks::SOURCE_TIMESTAMP, value.source_timestamp.is_some())
+        + flag_of(masks::SERVER_TIMESTAMP, value.server_timestamp.is_some())
+        + flag_of(
+            masks::SOURCE_PICOSECONDS,
+            value.source_picoseconds.is_some(),
+        )
+        + flag_of(
+            masks::SERVER_PICOSECONDS,
+            value.server_picoseconds.is_some(),
+        )
 }
 
 #[tactic(auto, unfolding(crate::specs::Fields::data_fields))]
@@ -60,9 +68,9 @@ fn array_tag(kind: u8, dims: &Dimensions) -> u8
     ensures { result ≡ array_octet (has_dims dims.now) kind }
 {
     if dims.as_slice().is_empty() {
-        0x80 + kind
+        masks::ARRAY + kind
     } else {
-        0xC0 + kind
+        masks::ARRAY + masks::DIMENSIONS + kind
     }
 }
 
@@ -86,7 +94,7 @@ pub fn append_variant(value: &Variant, out: &mut Vec<u8>) -> Result<(), AllocErr
             items: None,
             ..
         } => {
-            out.push(0x80 + *kind)?;
+            out.push(masks::ARRAY + *kind)?;
             NULL_COUNT.append(out)?;
         }
         Variant::Many {
@@ -183,7 +191,7 @@ pub fn append_data_value(value: &DataValue, out: &mut Vec<u8>) -> Result<(), All
             append_data_fields(value, out)?;
         }
         Some(v) => {
-            out.push(mask + 0x01)?;
+            out.push(mask + masks::VALUE)?;
             append_variant(v.get(), out)?;
             append_data_fields(value, out)?;
         }
