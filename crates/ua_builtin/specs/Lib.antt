@@ -4,6 +4,7 @@ pub mod ExtensionObject
 pub mod Flagged
 pub mod Flags
 pub mod Guid
+pub mod Least
 pub mod LocalizedText
 pub mod NodeId
 pub mod NodeIdForms

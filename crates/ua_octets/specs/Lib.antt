@@ -6,6 +6,7 @@ pub mod FloatBits
 pub mod Format
 pub mod Join
 pub mod Laws
+pub mod Least
 pub mod Number
 pub mod Same
 pub mod Signed

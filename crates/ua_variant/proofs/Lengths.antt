@@ -1,16 +1,20 @@
 -- How many octets an encoding takes at least.
-use Rattle.std.specs.Prelude.{ℕ, ◌≤◌, List, [], ◌∷◌, length}
+use Rattle.std.specs.Prelude.{ℕ, ◌*◌, ◌≤◌, List, [], ◌∷◌, length}
+use Rattle.std.specs.Int.{w16, w32, w64}
 use Rattle.std.proofs.Common.{sym, subst, ap, arith}
 use Rattle.ua_builtin.specs.Join.{number, number_starts}
 use Rattle.ua_builtin.specs.DateTime.{date_time as date_time_format, date_time_starts}
 use Rattle.ua_builtin.specs.Status.{status_code as status_code_format, status_code_starts}
-use Rattle.ua_variant.specs.Data.{LeafData, DataFields, VariantData, null, one, absent, many, ScalarData, leaf, data_value, variant, diagnostic, ScalarsData, no_scalars, scalar, DataValueData, bare, valued}
+use Rattle.ua_octets.specs.Least.{number_least, signed_least, float_bits_least, double_bits_least, counted_least, text_least}
+use Rattle.ua_builtin.specs.Least.{date_time_least, guid_least, xml_element_least, node_id_least, expanded_node_id_least, status_code_least, qualified_name_least, extension_object_least}
+use Rattle.ua_variant.specs.Data.{LeafData, boolean, sbyte, byte, int16, uint16, int32, uint32, int64, uint64, float, double, string, date_time, guid, byte_string, xml_element, node_id, expanded_node_id, status_code, qualified_name, localized_text, extension_object, reserved, DataFields, VariantData, null, one, absent, many, ScalarData, leaf, data_value, variant, diagnostic, ScalarsData, no_scalars, scalar, DataValueData, bare, valued}
 use Rattle.ua_parts.specs.Diagnostic.{innermost, around}
 use Rattle.ua_builtin.specs.Flags.{has}
 use Rattle.ua_variant.specs.Measure.{data_fields_count, variant_count, scalar_count, scalars_count, data_value_count}
-use Rattle.ua_variant.specs.Leaf.{EncodesLeaf, leaf_starts}
+use Rattle.ua_variant.specs.Leaf.{EncodesLeaf, leaf_kind, leaf_starts, is_reserved, if_true}
+use Rattle.ua_variant.specs.Least.{least_octets}
 use Rattle.ua_variant.specs.Fields.{data_fields}
-use Rattle.ua_variant.specs.Encodable.{row_length}
+use Rattle.ua_variant.specs.Encodable.{kind_of, row_length}
 use Rattle.ua_variant.specs.Encoding.{EncodesVariant, EncodesScalar, EncodesRow, EncodesDataValue}
 use Rattle.ua_parts.proofs.Lengths.{optional_takes, both_take, octet_takes, diagnostic_takes, dims_take}
 
@@ -66,18 +70,51 @@ mutual
       let r = octet_takes h.0 _ b j.0 j.1 j.2 j.3 (both_take j.1 g.0 g.1 _ _ g.2 (variant_takes v g.0 g.3) (data_fields_take h.0 f g.1 g.4)) in
       omega arith
 
--- an element takes an octet at least
-scalar_some : (s : ScalarData) (b : List ℕ) → EncodesScalar s b → 1 ≤ length b
-scalar_some (leaf l) b h = leaf_takes l b h
-scalar_some (data_value (bare f)) b h = let j = h.1 in octet_takes h.0 0 b j.0 j.1 j.2 j.3 (omega arith)
-scalar_some (data_value (valued v f)) b h = let j = h.1 in octet_takes h.0 0 b j.0 j.1 j.2 j.3 (omega arith)
-scalar_some (variant null) b h = omega (arith, ap length h.1)
-scalar_some (variant (one s)) b h = let j = h.1 in octet_takes _ 0 b j.0 j.1 j.2 j.3 (omega arith)
-scalar_some (variant (absent k ds)) b h = let j = h.3 in octet_takes _ 0 b j.0 j.1 j.2 j.3 (omega arith)
-scalar_some (variant (many k ss ds)) b h = let j = h.2 in octet_takes _ 0 b j.0 j.1 j.2 j.3 (omega arith)
-scalar_some (diagnostic (innermost f)) b h = let j = h.1 in octet_takes h.0 0 b j.0 j.1 j.2 j.3 (omega arith)
-scalar_some (diagnostic (around f d)) b h = let j = h.1 in octet_takes h.0 0 b j.0 j.1 j.2 j.3 (omega arith)
+-- a scalar that holds no further value takes the least octets of its type id
+leaf_least : (l : LeafData) (b : List ℕ) → EncodesLeaf l b → least_octets (leaf_kind l) ≤ length b
+unfolding least_octets
+leaf_least (boolean x) b h = leaf_takes (boolean x) b h
+leaf_least (sbyte x) b h = leaf_takes (sbyte x) b h
+leaf_least (byte x) b h = leaf_takes (byte x) b h
+leaf_least (int16 x) b h = signed_least w16 x b h
+leaf_least (uint16 x) b h = number_least 2 x b h
+leaf_least (int32 x) b h = signed_least w32 x b h
+leaf_least (uint32 x) b h = number_least 4 x b h
+leaf_least (int64 x) b h = signed_least w64 x b h
+leaf_least (uint64 x) b h = number_least 8 x b h
+leaf_least (float x) b h = float_bits_least x b h
+leaf_least (double x) b h = double_bits_least x b h
+leaf_least (string x) b h = text_least x b h
+leaf_least (date_time x) b h = date_time_least x b h
+leaf_least (guid x) b h = guid_least x b h
+leaf_least (byte_string x) b h = counted_least x b h
+leaf_least (xml_element x) b h = xml_element_least x b h
+leaf_least (node_id x) b h = node_id_least x b h
+leaf_least (expanded_node_id x) b h = expanded_node_id_least x b h
+leaf_least (status_code x) b h = status_code_least x b h
+leaf_least (qualified_name x) b h = qualified_name_least x b h
+leaf_least (localized_text x) b h = leaf_takes (localized_text x) b h
+leaf_least (extension_object x) b h = extension_object_least x b h
+leaf_least (reserved k x) b h = subst (λ n. n ≤ length b) (sym (if_true (is_reserved k) 4 _ h.0)) (counted_least x b h.1)
 
-pub row_takes : (k : ℕ) (ss : ScalarsData) (b : List ℕ) → EncodesRow k ss b → row_length ss ≤ length b
+-- an element takes the least octets of its type id
+scalar_least : (s : ScalarData) (b : List ℕ) → EncodesScalar s b → least_octets (kind_of s) ≤ length b
+unfolding least_octets
+scalar_least (leaf l) b h = leaf_least l b h
+scalar_least (data_value (bare f)) b h = let j = h.1 in octet_takes h.0 0 b j.0 j.1 j.2 j.3 (omega arith)
+scalar_least (data_value (valued v f)) b h = let j = h.1 in octet_takes h.0 0 b j.0 j.1 j.2 j.3 (omega arith)
+scalar_least (variant null) b h = omega (arith, ap length h.1)
+scalar_least (variant (one s)) b h = let j = h.1 in octet_takes _ 0 b j.0 j.1 j.2 j.3 (omega arith)
+scalar_least (variant (absent k ds)) b h = let j = h.3 in octet_takes _ 0 b j.0 j.1 j.2 j.3 (omega arith)
+scalar_least (variant (many k ss ds)) b h = let j = h.2 in octet_takes _ 0 b j.0 j.1 j.2 j.3 (omega arith)
+scalar_least (diagnostic (innermost f)) b h = let j = h.1 in octet_takes h.0 0 b j.0 j.1 j.2 j.3 (omega arith)
+scalar_least (diagnostic (around f d)) b h = let j = h.1 in octet_takes h.0 0 b j.0 j.1 j.2 j.3 (omega arith)
+
+-- m elements take m times the least octets of their type id
+pub row_takes : (k : ℕ) (ss : ScalarsData) (b : List ℕ) → EncodesRow k ss b → row_length ss * least_octets k ≤ length b
 row_takes k no_scalars b h = omega arith
-row_takes k (scalar s ss) b h = let j = h.1 in both_take b j.0 j.1 1 _ j.2 (scalar_some s j.0 j.3) (row_takes k ss j.1 j.4)
+row_takes k (scalar s ss) b h =
+    let j = h.1 in
+    let one : least_octets k ≤ length j.0 = subst (λ i. least_octets i ≤ length j.0) h.0 (scalar_least s j.0 j.3) in
+    let whole = both_take b j.0 j.1 _ _ j.2 one (row_takes k ss j.1 j.4) in
+    omega arith

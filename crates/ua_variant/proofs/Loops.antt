@@ -1,12 +1,13 @@
 -- One more element in a loop that reads a row.
-use Rattle.std.proofs.Common.{Bool, ◌≡◌, ℕ, suc, ◌<◌, List, [], ◌∷◌, ◌++◌, length, Option, Some, None, refl, sym, ap, ◌∙◌, arith, length-append}
+use Rattle.std.proofs.Common.{Bool, ◌≡◌, ℕ, suc, ◌<◌, ◌*◌, ◌/◌, List, [], ◌∷◌, ◌++◌, length, Option, Some, None, refl, ap, ◌∙◌, arith, length-append}
+use Rattle.std.proofs.Math.Nat.{div-lt_iff_lt-mul}
 use Rattle.ua_builtin.specs.Exact.{◌>>=◌}
 use Rattle.ua_builtin.specs.Number.{number_at}
-use Rattle.ua_builtin.specs.Counted.{IsOverlong}
 use Rattle.ua_variant.specs.Data.{ScalarData, ScalarsData, no_scalars, scalar}
 use Rattle.ua_variant.specs.View.{row}
 use Rattle.ua_parts.specs.Parts.{Reader}
 use Rattle.ua_variant.specs.Encodable.{row_length}
+use Rattle.ua_variant.specs.Least.{least_octets}
 use Rattle.ua_parts.specs.DimensionReaders.{not_negative_at}
 use Rattle.ua_variant.specs.Decoding.{array_at, row_at, scalars_at, before, with_front}
 use Rattle.ua_variant.specs.Arrays.{exact_row}
@@ -40,26 +41,19 @@ row_stops p ss m n old e h = ap (λ k. with_front ss (row_at k p old)) e ∙ ap 
 pub row_ends : (p : Reader ScalarData) (ss : List ScalarData) (m : ℕ) (b : List ℕ) → m ≡ 0 → with_front ss (row_at m p b) ≡ Some (row ss, b)
 row_ends p ss m b e = ap (λ k. with_front ss (row_at k p b)) e ∙ ap (λ r. Some (r, b)) (before_row ss)
 
--- ---- fewer octets than elements
+-- ---- fewer octets than the elements take
 
--- as each element takes an octet
-pub row_short : (n k m : ℕ) (octets : List ℕ) → length octets < m → row_at m (scalars_at n k) octets ≡ None
+-- as each element takes the least octets of the type id k
+row_short : (n k m : ℕ) (octets : List ℕ) → length octets < m * least_octets k → row_at m (scalars_at n k) octets ≡ None
 row_short n k m octets h =
     never_some (row_at m (scalars_at n k) octets)
     (λ x e. let s = (exact_row n k m (scalars_at n k) (exact_scalars n k)).sound octets x.0 x.1 e in
-    let l : row_length x.0 ≡ m = s.encoded.0 in
-    absurd (omega (arith, ap length s.parts, length-append s.front x.1, row_takes k x.0 s.front s.encoded.1)))
+    let l : row_length x.0 * least_octets k ≡ m * least_octets k = ap (λ i. i * least_octets k) s.encoded.0 in
+    absurd (omega (arith, l, ap length s.parts, length-append s.front x.1, row_takes k x.0 s.front s.encoded.1)))
 
--- an array whose count is above the number of octets behind it
-pub array_short : (n k : ℕ) (f : Bool) (count : ℕ) (old new : List ℕ) → number_at 4 old ≡ Some (count, new) → count < 2147483648 → length new < count → array_at (scalars_at n) k f old ≡ None
+-- an array of more elements than there is room for
+pub array_short : (n k : ℕ) (f : Bool) (count : ℕ) (old new : List ℕ) (left least : ℕ) → number_at 4 old ≡ Some (count, new) → count < 2147483648 → left ≡ length new → least ≡ least_octets k → 0 < least → left / least < count → array_at (scalars_at n) k f old ≡ None
 unfolding array_at
-array_short n k f count old new e low h = rw (e, not_negative_at count low, row_short n k count new h) refl
-
-pair_is : {A B : Type 0} (a c : A) (b d : B) → ◌≡◌ {A = Option (A × B)} (Some (a, b)) (Some (c, d)) → (a ≡ c) × (b ≡ d)
-pair_is {A} {B} a c b d e = let f : ◌≡◌ {A = A × B} (a, b) (c, d) = cc in (ap (λ p. p.0) f, ap (λ p. p.1) f)
-
--- octets that are overlong begin with the count that is read, which is above the number of octets behind it
-pub overlong_is : (count : ℕ) (old new : List ℕ) → number_at 4 old ≡ Some (count, new) → IsOverlong old → (count < 2147483648) × (length new < count)
-overlong_is count old new e o =
-    let same = pair_is count o.count new o.rest (sym e ∙ o.begins) in
-    (omega (arith, same.0, o.positive), omega (arith, same.0, ap length same.1, o.beyond))
+array_short n k f count old new left least e low left_is least_is some h =
+    let beyond : left < count * least = (div-lt_iff_lt-mul some).0 h in
+    rw (e, not_negative_at count low, row_short n k count new (omega (arith, beyond, left_is, ap (λ i. count * i) least_is))) refl

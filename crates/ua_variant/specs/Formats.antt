@@ -1,9 +1,8 @@
 -- The formats of Variant and DataValue, over the values of the code.
 pub use Rattle.ua_parts.specs.Formats.{diagnostic_format, diagnostic_starts}
-use Rattle.std.specs.Prelude.{◌≡◌, ℕ, ◌≤◌, ◌%◌, true, IsTrue, List, [], Some}
+use Rattle.std.specs.Prelude.{◌≡◌, ℕ, ◌<◌, ◌≤◌, ◌*◌, ◌%◌, ◌^◌, true, IsTrue, List, [], length, Some}
 use Rattle.ua_builtin.specs.Exact.{Exact}
 use Rattle.ua_builtin.specs.Number.{number_at}
-use Rattle.ua_builtin.specs.Counted.{IsOverlong}
 use Rattle.ua_builtin.specs.Format.{Format, Within}
 use Rattle.ua_variant.specs.Data.{DataValueData, bare, valued}
 use Rattle.ua_variant.specs.declared.values.Variant.{Variant}
@@ -12,6 +11,7 @@ use Rattle.ua_variant.specs.View.{variant_of, data_value_of}
 use Rattle.ua_variant.specs.Values.{variant_value, variant_forth, variant_value_of, data_value_value, data_value_forth, data_value_value_of}
 use Rattle.ua_variant.specs.Measure.{variant_depth, data_value_depth}
 use Rattle.ua_variant.specs.Encodable.{variant_encodable, data_value_encodable, is_read_kind}
+use Rattle.ua_variant.specs.Least.{least_octets}
 use Rattle.ua_variant.specs.Encoding.{EncodesVariant, EncodesDataValue}
 use Rattle.ua_variant.specs.Canonical.{variant_canonical, data_value_canonical}
 use Rattle.ua_variant.specs.Decoding.{variant_at, data_value_at}
@@ -78,11 +78,19 @@ pub data_value_starts : (v : DataValue) → data_value_format.encodes v [] → �
 unfolding data_value_format
 data_value_starts v h = data_value_some (data_value_of v) h
 
--- the octet of an array, and a count above the number of octets behind it
+-- a count that is not negative, and behind it fewer octets than so many elements of the type id take at least
+pub record IsOverlongRow (kind : ℕ) (octets : List ℕ) : Type 0 where
+  pub count : ℕ
+  pub rest : List ℕ
+  pub begins : number_at 4 octets ≡ Some (count, rest)
+  pub positive : count < 2 ^ 31
+  pub beyond : length rest < count * least_octets kind
+
+-- the octet of an array of a type id from 1 to 31, and behind it such a count
 pub record IsOverlongArray (octets : List ℕ) : Type 0 where
   pub tag : ℕ
   pub rest : List ℕ
   pub begins : number_at 1 octets ≡ Some (tag, rest)
   pub array : 128 ≤ tag
   pub kind : is_read_kind (tag % 64) ≡ true
-  pub overlong : IsOverlong rest
+  pub overlong : IsOverlongRow (tag % 64) rest

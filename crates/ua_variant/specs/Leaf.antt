@@ -202,7 +202,7 @@ leaf_sound k =
     sound_if (eqb k 22) (λ h. of_kind k 22 (image_read extension_object (extension_object_format).decode) h (leaf_part extension_object (extension_object_format) 22 (λ x b e. (refl, e)))) (λ _.
     sound_none k)))))))))))))))))))))))
 
-if_true : {A : Type 0} (b : Bool) (x y : A) → IsTrue b → cond b x y ≡ x
+pub if_true : {A : Type 0} (b : Bool) (x y : A) → IsTrue b → cond b x y ≡ x
 if_true true x y h = refl
 if_true false x y h = not_false h
 

@@ -9,6 +9,7 @@ pub mod Fields
 pub mod Flags
 pub mod Formats
 pub mod Leaf
+pub mod Least
 pub mod Measure
 pub mod Scalars
 pub mod Sizes

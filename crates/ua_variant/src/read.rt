@@ -2,13 +2,13 @@
 
 ghost use Rattle.std.specs.Prelude.{◌≡◌, ◌<◌, IsErrOf};
 ghost use Rattle.ua_builtin.specs.Format.{Gives, GivesBy, StaysBehind};
-ghost use Rattle.ua_builtin.specs.Counted.{IsOverlong};
 ghost use Rattle.ua_octets.specs.declared.fault.ReadFault.TheVariants.{NoValue};
 ghost use Rattle.ua_parts.specs.Formats.{made_read};
 ghost use Rattle.ua_parts.specs.Parts.{optional_read};
 ghost use Rattle.ua_variant.specs.Data.{leaf};
-ghost use Rattle.ua_variant.specs.Formats.{IsOverlongArray};
+ghost use Rattle.ua_variant.specs.Formats.{IsOverlongArray, IsOverlongRow};
 ghost use Rattle.ua_variant.specs.Leaf.{leaf_at};
+ghost use Rattle.ua_variant.specs.Least.{least_octets as least_of};
 ghost use Rattle.ua_variant.specs.Encodable.{is_read_kind as read_kind};
 ghost use Rattle.ua_variant.specs.Decoding.{variant_at, variant_step, variant_after, data_value_at, data_value_step, scalars_at, scalar_at, array_at, elements_at, row_at};
 ghost use Rattle.ua_variant.specs.View.{row, variant_of, scalar_of, data_value_of};
@@ -86,6 +86,24 @@ fn is_read_kind(kind: u8) -> bool
     1 <= kind && kind <= 31
 }
 
+/// The least octets that a value of the type id takes.
+#[inline]
+#[tactic(auto, unfolding(crate::specs::Least::least_octets))]
+fn least_octets(kind: u8) -> usize
+    ensures octets { result ≡ least_of kind }
+    ensures some { 0 < result }
+{
+    match kind {
+        4 | 5 | 17 | 18 => 2,
+        6 | 7 | 10 | 12 | 15 | 16 | 19 | 26..=31 => 4,
+        8 | 9 | 11 | 13 => 8,
+        14 => 16,
+        20 => 6,
+        22 => 3,
+        _ => 1,
+    }
+}
+
 /// Reads a Variant, with so many levels left within.
 #[cycle(variants)]
 #[tactic(auto, unfolding(crate::specs::Decoding::variant_step, crate::specs::Decoding::variant_after))]
@@ -115,8 +133,8 @@ fn read_variant_level<S: Source>(
     Ok(Variant::One(read_scalar(alloc, src, depth, tag)?))
 }
 
-/// Reads an array behind its first octet; no memory is asked for where fewer octets than elements
-/// are left.
+/// Reads an array behind its first octet; no memory is asked for where the octets left cannot hold
+/// so many elements.
 #[cycle(variants)]
 #[tactic(auto, unfolding(crate::specs::Decoding::array_at))]
 fn read_array<S: Source>(
@@ -128,7 +146,7 @@ fn read_array<S: Source>(
 ) -> Result<Variant, ReadFault>
     ensures exact { GivesBy variant_of (array_at (scalars_at depth) kind flagged) (S.octets src.old) (S.octets src.new) result }
     ensures behind { StaysBehind (S.octets src.old) (S.octets src.new) }
-    ensures long { IsOverlong (S.octets src.old) → IsErrOf result NoValue }
+    ensures long { IsOverlongRow kind (S.octets src.old) → IsErrOf result NoValue }
 {
     let count = u32::read_value(alloc, src, 0)?;
     if count >= FIRST_NEGATIVE {
@@ -139,7 +157,8 @@ fn read_array<S: Source>(
             dims,
         });
     }
-    if src.left() < count as usize {
+    let room = src.left() / least_octets(kind);
+    if room < count as usize {
         return Err(ReadFault::NoValue);
     }
     read_elements(alloc, src, depth, kind, flagged, count)

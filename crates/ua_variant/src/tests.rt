@@ -5,6 +5,49 @@ use std::alloc::Global;
 use std::process::Abort;
 use ua_builtin::{Octets, ReadFault, Source, Wire, WriteFault};
 
+// The type ids, and how many octets the shortest encoding of a value of each takes: all are zeros.
+const SHORTEST: [(u8, u8); 31] = [
+    (1, 1),
+    (2, 1),
+    (3, 1),
+    (4, 2),
+    (5, 2),
+    (6, 4),
+    (7, 4),
+    (8, 8),
+    (9, 8),
+    (10, 4),
+    (11, 8),
+    (12, 4),
+    (13, 8),
+    (14, 16),
+    (15, 4),
+    (16, 4),
+    (17, 2),
+    (18, 2),
+    (19, 4),
+    (20, 6),
+    (21, 1),
+    (22, 3),
+    (23, 1),
+    (24, 1),
+    (25, 1),
+    (26, 4),
+    (27, 4),
+    (28, 4),
+    (29, 4),
+    (30, 4),
+    (31, 4),
+];
+
+// An array of two values of the type id, of zeros, and more zeros where those take less than 16.
+fn pair_of_zeros(kind: u8) -> [u8; 37] {
+    let mut octets = [0; 37];
+    octets[0] = 0x80 | kind;
+    octets[1] = 2;
+    octets
+}
+
 // Reads a Variant, looks at its depth and count, and writes a clone of it.
 fn reads(rt: &impl Abort, alloc: Global, octets: &[u8], depth: u32, count: u64, written: &[u8]) {
     let mut src = Octets::new(octets);
@@ -136,7 +179,8 @@ fn refuses_what_encodes_no_variant(rt: HostRuntime) {
 #[test]
 fn refuses_counts_past_the_octets_without_memory(rt: HostRuntime) {
     let alloc = rt.alloc();
-    let overlong: [&[u8]; 9] = [
+    let overlong: [&[u8]; 10] = [
+        &[0x86, 3, 0, 0, 0, 1, 0, 0, 0, 2, 0, 0, 0, 3, 0, 0],
         &[0x86, 0xFF, 0xFF, 0xFF, 0x7F],
         &[0x98, 0xFF, 0xFF, 0xFF, 0x7F],
         &[0x9A, 0xFF, 0xFF, 0xFF, 0x7F],
@@ -150,9 +194,29 @@ fn refuses_counts_past_the_octets_without_memory(rt: HostRuntime) {
     for octets in overlong {
         is_refused::<Variant>(&rt, alloc, octets);
     }
+    for (kind, least) in SHORTEST {
+        let octets = pair_of_zeros(kind);
+        let end = 5 + 2 * usize::from(least);
+        assert!(rt; end <= octets.len());
+        is_refused::<Variant>(&rt, alloc, &octets[..end - 1]);
+    }
     is_refused::<DataValue>(&rt, alloc, &[0x01, 0x86, 0xFF, 0xFF, 0xFF, 0x7F]);
     is_refused::<DataValue>(&rt, alloc, &[0x40]);
     is_refused::<DataValue>(&rt, alloc, &[0x80]);
+}
+
+#[test]
+fn reads_arrays_of_the_shortest_encodings(rt: HostRuntime) {
+    let alloc = rt.alloc();
+    for (kind, least) in SHORTEST {
+        let octets = pair_of_zeros(kind);
+        let end = 5 + 2 * usize::from(least);
+        assert!(rt; end <= octets.len());
+        let mut src = Octets::new(&octets[..end]);
+        let value = Variant::read(alloc, &mut src, 100).expect(&rt, "a value");
+        assert_eq!(rt; src.left(), 0);
+        assert_eq!(rt; value.count(), 3, "{kind}");
+    }
 }
 
 #[test]

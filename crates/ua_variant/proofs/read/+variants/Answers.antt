@@ -37,6 +37,6 @@ read_row-returns-clause-exact g t c =
     ∙ row_ends (scalars_at c.args.depth c.args.kind) (map scalar_of c.loop.items.items) (c.args.count - c.loop.counter) (g.S.Source.octets c.loop.src) (omega arith)
     ∙ ap (λ ss. Some (row ss, g.S.Source.octets c.loop.src)) (sym c.new.ensures)
 
-pub read_array-returns-then-left-count-clause-exact : goal.read_array-returns-then-left-count-clause-exact
-read_array-returns-then-left-count-clause-exact g t c =
-    array_short c.args.depth c.args.kind c.args.flagged c.in_ok-count.count (g.S.Source.octets c.args.src.now) (g.S.Source.octets c.read_value.new.src) c.in_ok-count.ensures.exact (omega arith) (omega arith)
+pub read_array-returns-then-room-count-clause-exact : goal.read_array-returns-then-room-count-clause-exact
+read_array-returns-then-room-count-clause-exact g t c =
+    array_short c.args.depth c.args.kind c.args.flagged c.in_ok-count.count (g.S.Source.octets c.args.src.now) (g.S.Source.octets c.read_value.new.src) c.left.result c.least_octets.result c.in_ok-count.ensures.exact (omega arith) c.left.ensures c.least_octets.ensures.octets c.least_octets.ensures.some c.if-room-count.true
