@@ -1,8 +1,8 @@
 //! Node files.
 
-ghost use Rattle.std.specs.Prelude.{◌≡◌, ◌≢◌, ◌∷◌, [], length, MatchOption, IfOk, IfErr, OnOk};
+ghost use Rattle.std.specs.Prelude.{◌≡◌, ◌≢◌, ◌+◌, ◌*◌, ◌≤◌, ◌∷◌, [], length, MatchOption, IfOk, IfErr, OnOk};
 ghost use Rattle.std.specs.Str.Lines.{strip_carriage_return};
-ghost use Rattle.ua_nodes.specs.NodeFile.{node_lines, WriteNodes, Refuses, Adds, RefusesLine, GivesNode, GivesId, GivesName, access_denoted, fields};
+ghost use Rattle.ua_nodes.specs.NodeFile.{node_lines, WriteNodes, Refuses, Adds, RefusesLine, GivesNode, GivesId, GivesName, access_denoted, fields, is_read as is_read_line};
 
 use crate::fault::{LineFault, LineReason, LoadFault};
 use crate::node::{Access, Node};
@@ -22,6 +22,7 @@ impl NodeTable {
         ensures fault { IfErr result (λ e. Refuses (node_lines text.now) e) }
     {
         let mut table = NodeTable::new(alloc);
+        table.make_room(most_nodes(text));
         let mut number = 0;
         for line in text.split('\n') {
             number += 1;
@@ -37,12 +38,30 @@ impl NodeTable {
         ensures adds { OnOk result (Adds line.now self.old self.new) }
         ensures refuses { IfErr result (λ e. RefusesLine line.now self.old e) }
     {
-        if line.is_empty() || line.starts_with('#') {
+        if !is_read(line) {
             return Ok(());
         }
         self.insert(parse_node(alloc, line)?)?;
         Ok(())
     }
+}
+
+/// The octets of the shortest line that writes a node, with its LF.
+const LEAST_OCTETS: usize = 14;
+
+/// How many nodes a file may write, at most: no more than its octets have room for.
+fn most_nodes(text: &str) -> usize
+    ensures { 14 * result ≤ length text.now + 14 }
+{
+    let lines = text.split('\n').filter(|line| is_read(line)).count();
+    lines.min(text.len() / LEAST_OCTETS + 1)
+}
+
+/// Whether a line is neither empty nor a comment.
+fn is_read(line: &str) -> bool
+    ensures { result ≡ is_read_line line.now }
+{
+    !line.is_empty() && !line.starts_with('#')
 }
 
 /// A line without one CR at its end.

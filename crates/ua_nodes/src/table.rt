@@ -82,6 +82,13 @@ impl NodeTable {
         self.nodes.get(id)
     }
 
+    /// Asks for room for so many nodes more. Where it is refused, the table grows as nodes come.
+    pub(crate) fn make_room(&mut self, nodes: usize)
+        ensures { self.new ≡ self.old }
+    {
+        let _room = self.nodes.reserve(nodes);
+    }
+
     /// Adds a node at the end.
     pub fn insert(&mut self, node: Node) -> Result<(), InsertFault>
         ensures ok { OnOk result (self.new ≡ self.old ++ (node.id, variable_of node) ∷ []) }

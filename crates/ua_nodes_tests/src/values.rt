@@ -14,10 +14,8 @@ fn is_value(rt: &impl Abort, alloc: Global, kind: u8, array: bool, text: &str, o
 }
 
 fn is_no_value(rt: &impl Abort, alloc: Global, kind: u8, array: bool, text: &str) {
-    match parse_value(alloc, kind, array, text) {
-        Ok(_) => assert!(rt; false, "{kind} {text} is a value"),
-        Err(fault) => assert_eq!(rt; fault, ValueFault::NotValue, "at {kind} {text}"),
-    }
+    let fault = parse_value(alloc, kind, array, text).err();
+    assert_eq!(rt; fault, Some(ValueFault::NotValue), "at {kind} {text}");
 }
 
 #[test]
