@@ -11,7 +11,7 @@ use std::alloc::{AllocError, Global};
 use ua_builtin::{Identifier, NodeId, ReadFault, Source, Wire, WriteFault};
 
 /// The levels that a message may have.
-const LEVELS: u32 = 100;
+pub const LEVELS: u32 = 100;
 
 /// The number of a NodeId of the standard's namespace.
 pub fn standard_number(id: &NodeId) -> Option<u32>
