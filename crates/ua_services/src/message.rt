@@ -11,7 +11,7 @@ use std::alloc::{AllocError, Global};
 use ua_builtin::{Identifier, NodeId, ReadFault, Source, Wire, WriteFault};
 
 /// The levels that a message may have.
-const LEVELS: u32 = 100;
+pub const LEVELS: u32 = 100;
 
 /// The number of a NodeId of the standard's namespace.
 pub fn standard_number(id: &NodeId) -> Option<u32>
@@ -41,6 +41,9 @@ pub fn append_message<T: Wire>(number: u32, value: &T, out: &mut Vec<u8>) -> Res
     value.append(out)?;
     Ok(())
 }
+
+/// Drops a value. Readers call it, so that their proofs need not take a message to pieces.
+pub fn discard<T: Drop>(_value: T) {}
 
 /// Reads the value that is the whole source, with nothing behind it.
 pub fn read_whole<T: Wire + Drop, S: Source>(alloc: Global, src: &mut S) -> Result<T, ReadFault>

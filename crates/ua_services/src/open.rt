@@ -7,13 +7,10 @@ ghost use Rattle.ua_structures.specs.SecureChannel.{open_request, open_response,
 ghost use Rattle.ua_services.specs.Message.{IsBody, IsNoBody, message};
 ghost use Rattle.ua_services.specs.Open.{IsAnswer, IsNoAnswer};
 
-use crate::message::{read_message, read_whole, standard_number, write_message};
+use crate::message::{LEVELS, read_message, read_whole, standard_number, write_message};
 use std::alloc::Global;
 use ua_builtin::{NodeId, ReadFault, Source, Wire, WriteFault};
 use ua_structures::{CloseRequest, OpenRequest, OpenResponse, ServiceFault};
-
-/// The levels that a message may have.
-const LEVELS: u32 = 100;
 
 /// The answer to an OpenSecureChannel request.
 #[derive(Drop)]

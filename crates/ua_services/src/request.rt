@@ -9,16 +9,13 @@ ghost use Rattle.ua_octets.specs.declared.fault.ReadFault.TheVariants.{NoValue};
 ghost use Rattle.ua_services.specs.declared.fault.RequestFault.TheVariants.{Unreadable};
 
 use crate::fault::RequestFault;
-use crate::message::{append_message, standard_number};
+use crate::message::{LEVELS, append_message, discard, standard_number};
 use std::alloc::{AllocError, Global};
 use ua_builtin::{NodeId, ReadFault, Source, Wire, WriteFault};
 use ua_structures::{
     ActivateSessionRequest, CloseSessionRequest, CreateSessionRequest, GetEndpointsRequest,
     ReadRequest, RequestHeader, WriteRequest,
 };
-
-/// The levels that a message may have.
-const LEVELS: u32 = 100;
 
 /// The kinds of request, each with its own encoding (OPC 10000-6, A.3).
 #[derive(Clone, Copy, PartialEq, Eq, Debug)]
@@ -90,6 +87,90 @@ fn announced_kind(id: &NodeId) -> Option<RequestKind>
     }
 }
 
+// Reads the fields of a GetEndpoints request behind its header.
+fn read_get_endpoints<S: Source>(
+    alloc: Global,
+    src: &mut S,
+    depth: u32,
+    header: RequestHeader,
+) -> Result<Request, ReadFault>
+    ensures exact { Gives (behind_header RequestKind.GetEndpoints header depth) (S.octets src.old) (S.octets src.new) result }
+    ensures behind { StaysBehind (S.octets src.old) (S.octets src.new) }
+{
+    let message = GetEndpointsRequest::read_behind(alloc, src, depth, header)?;
+    Ok(Request::GetEndpoints(message))
+}
+
+// Reads the fields of a CreateSession request behind its header.
+fn read_create_session<S: Source>(
+    alloc: Global,
+    src: &mut S,
+    depth: u32,
+    header: RequestHeader,
+) -> Result<Request, ReadFault>
+    ensures exact { Gives (behind_header RequestKind.CreateSession header depth) (S.octets src.old) (S.octets src.new) result }
+    ensures behind { StaysBehind (S.octets src.old) (S.octets src.new) }
+{
+    let message = CreateSessionRequest::read_behind(alloc, src, depth, header)?;
+    Ok(Request::CreateSession(message))
+}
+
+// Reads the fields of an ActivateSession request behind its header.
+fn read_activate_session<S: Source>(
+    alloc: Global,
+    src: &mut S,
+    depth: u32,
+    header: RequestHeader,
+) -> Result<Request, ReadFault>
+    ensures exact { Gives (behind_header RequestKind.ActivateSession header depth) (S.octets src.old) (S.octets src.new) result }
+    ensures behind { StaysBehind (S.octets src.old) (S.octets src.new) }
+{
+    let message = ActivateSessionRequest::read_behind(alloc, src, depth, header)?;
+    Ok(Request::ActivateSession(message))
+}
+
+// Reads the fields of a CloseSession request behind its header.
+fn read_close_session<S: Source>(
+    alloc: Global,
+    src: &mut S,
+    depth: u32,
+    header: RequestHeader,
+) -> Result<Request, ReadFault>
+    ensures exact { Gives (behind_header RequestKind.CloseSession header depth) (S.octets src.old) (S.octets src.new) result }
+    ensures behind { StaysBehind (S.octets src.old) (S.octets src.new) }
+{
+    let message = CloseSessionRequest::read_behind(alloc, src, depth, header)?;
+    Ok(Request::CloseSession(message))
+}
+
+// Reads the fields of a Read request behind its header.
+fn read_read<S: Source>(
+    alloc: Global,
+    src: &mut S,
+    depth: u32,
+    header: RequestHeader,
+) -> Result<Request, ReadFault>
+    ensures exact { Gives (behind_header RequestKind.Read header depth) (S.octets src.old) (S.octets src.new) result }
+    ensures behind { StaysBehind (S.octets src.old) (S.octets src.new) }
+{
+    let message = ReadRequest::read_behind(alloc, src, depth, header)?;
+    Ok(Request::Read(message))
+}
+
+// Reads the fields of a Write request behind its header.
+fn read_write<S: Source>(
+    alloc: Global,
+    src: &mut S,
+    depth: u32,
+    header: RequestHeader,
+) -> Result<Request, ReadFault>
+    ensures exact { Gives (behind_header RequestKind.Write header depth) (S.octets src.old) (S.octets src.new) result }
+    ensures behind { StaysBehind (S.octets src.old) (S.octets src.new) }
+{
+    let message = WriteRequest::read_behind(alloc, src, depth, header)?;
+    Ok(Request::Write(message))
+}
+
 // Reads the fields of a request behind its header.
 fn read_behind<S: Source>(
     alloc: Global,
@@ -102,24 +183,12 @@ fn read_behind<S: Source>(
     ensures behind { StaysBehind (S.octets src.old) (S.octets src.new) }
 {
     match kind {
-        RequestKind::GetEndpoints => Ok(Request::GetEndpoints(GetEndpointsRequest::read_behind(
-            alloc, src, depth, header,
-        )?)),
-        RequestKind::CreateSession => Ok(Request::CreateSession(CreateSessionRequest::read_behind(
-            alloc, src, depth, header,
-        )?)),
-        RequestKind::ActivateSession => Ok(Request::ActivateSession(
-            ActivateSessionRequest::read_behind(alloc, src, depth, header)?,
-        )),
-        RequestKind::CloseSession => Ok(Request::CloseSession(CloseSessionRequest::read_behind(
-            alloc, src, depth, header,
-        )?)),
-        RequestKind::Read => Ok(Request::Read(ReadRequest::read_behind(
-            alloc, src, depth, header,
-        )?)),
-        RequestKind::Write => Ok(Request::Write(WriteRequest::read_behind(
-            alloc, src, depth, header,
-        )?)),
+        RequestKind::GetEndpoints => read_get_endpoints(alloc, src, depth, header),
+        RequestKind::CreateSession => read_create_session(alloc, src, depth, header),
+        RequestKind::ActivateSession => read_activate_session(alloc, src, depth, header),
+        RequestKind::CloseSession => read_close_session(alloc, src, depth, header),
+        RequestKind::Read => read_read(alloc, src, depth, header),
+        RequestKind::Write => read_write(alloc, src, depth, header),
     }
 }
 
@@ -206,6 +275,7 @@ fn read_announced<S: Source>(
         Err(fault) => return Err(unreadable(fault, handle)),
     };
     if src.left() > 0 {
+        discard(request);
         return Err(RequestFault::Unreadable(handle));
     }
     Ok(request)

@@ -9,7 +9,7 @@ ghost use Rattle.ua_octets.specs.declared.fault.ReadFault.TheVariants.{NoValue};
 ghost use Rattle.ua_services.specs.declared.fault.ResponseFault.TheVariants.{Unreadable};
 
 use crate::fault::ResponseFault;
-use crate::message::{append_message, standard_number};
+use crate::message::{LEVELS, append_message, discard, standard_number};
 use crate::request::RequestKind;
 use std::alloc::{AllocError, Global};
 use ua_builtin::{NodeId, ReadFault, Source, Wire, WriteFault};
@@ -17,9 +17,6 @@ use ua_structures::{
     ActivateSessionResponse, CloseSessionResponse, CreateSessionResponse, GetEndpointsResponse,
     ReadResponse, ResponseHeader, ServiceFault, WriteResponse,
 };
-
-/// The levels that a message may have.
-const LEVELS: u32 = 100;
 
 /// The kinds of response, each with its own encoding (OPC 10000-6, A.3).
 #[derive(Clone, Copy, PartialEq, Eq, Debug)]
@@ -112,6 +109,82 @@ fn announced_kind(id: &NodeId) -> Option<ResponseKind>
     }
 }
 
+// Reads the structure of a GetEndpoints response.
+fn read_get_endpoints<S: Source>(
+    alloc: Global,
+    src: &mut S,
+    depth: u32,
+) -> Result<Response, ReadFault>
+    ensures exact { Gives ((of_kind ResponseKind.GetEndpoints).decode depth) (S.octets src.old) (S.octets src.new) result }
+    ensures behind { StaysBehind (S.octets src.old) (S.octets src.new) }
+{
+    Ok(Response::GetEndpoints(Wire::read_value(alloc, src, depth)?))
+}
+
+// Reads the structure of a CreateSession response.
+fn read_create_session<S: Source>(
+    alloc: Global,
+    src: &mut S,
+    depth: u32,
+) -> Result<Response, ReadFault>
+    ensures exact { Gives ((of_kind ResponseKind.CreateSession).decode depth) (S.octets src.old) (S.octets src.new) result }
+    ensures behind { StaysBehind (S.octets src.old) (S.octets src.new) }
+{
+    Ok(Response::CreateSession(Wire::read_value(alloc, src, depth)?))
+}
+
+// Reads the structure of an ActivateSession response.
+fn read_activate_session<S: Source>(
+    alloc: Global,
+    src: &mut S,
+    depth: u32,
+) -> Result<Response, ReadFault>
+    ensures exact { Gives ((of_kind ResponseKind.ActivateSession).decode depth) (S.octets src.old) (S.octets src.new) result }
+    ensures behind { StaysBehind (S.octets src.old) (S.octets src.new) }
+{
+    Ok(Response::ActivateSession(Wire::read_value(alloc, src, depth)?))
+}
+
+// Reads the structure of a CloseSession response.
+fn read_close_session<S: Source>(
+    alloc: Global,
+    src: &mut S,
+    depth: u32,
+) -> Result<Response, ReadFault>
+    ensures exact { Gives ((of_kind ResponseKind.CloseSession).decode depth) (S.octets src.old) (S.octets src.new) result }
+    ensures behind { StaysBehind (S.octets src.old) (S.octets src.new) }
+{
+    Ok(Response::CloseSession(Wire::read_value(alloc, src, depth)?))
+}
+
+// Reads the structure of a Read response.
+fn read_read<S: Source>(alloc: Global, src: &mut S, depth: u32) -> Result<Response, ReadFault>
+    ensures exact { Gives ((of_kind ResponseKind.Read).decode depth) (S.octets src.old) (S.octets src.new) result }
+    ensures behind { StaysBehind (S.octets src.old) (S.octets src.new) }
+{
+    Ok(Response::Read(Wire::read_value(alloc, src, depth)?))
+}
+
+// Reads the structure of a Write response.
+fn read_write<S: Source>(alloc: Global, src: &mut S, depth: u32) -> Result<Response, ReadFault>
+    ensures exact { Gives ((of_kind ResponseKind.Write).decode depth) (S.octets src.old) (S.octets src.new) result }
+    ensures behind { StaysBehind (S.octets src.old) (S.octets src.new) }
+{
+    Ok(Response::Write(Wire::read_value(alloc, src, depth)?))
+}
+
+// Reads the structure of a ServiceFault.
+fn read_service_fault<S: Source>(
+    alloc: Global,
+    src: &mut S,
+    depth: u32,
+) -> Result<Response, ReadFault>
+    ensures exact { Gives ((of_kind ResponseKind.ServiceFault).decode depth) (S.octets src.old) (S.octets src.new) result }
+    ensures behind { StaysBehind (S.octets src.old) (S.octets src.new) }
+{
+    Ok(Response::ServiceFault(Wire::read_value(alloc, src, depth)?))
+}
+
 // Reads the structure of a response of that kind.
 fn read_kind<S: Source>(
     alloc: Global,
@@ -123,23 +196,13 @@ fn read_kind<S: Source>(
     ensures behind { StaysBehind (S.octets src.old) (S.octets src.new) }
 {
     match kind {
-        ResponseKind::GetEndpoints => Ok(Response::GetEndpoints(Wire::read_value(
-            alloc, src, depth,
-        )?)),
-        ResponseKind::CreateSession => Ok(Response::CreateSession(Wire::read_value(
-            alloc, src, depth,
-        )?)),
-        ResponseKind::ActivateSession => Ok(Response::ActivateSession(Wire::read_value(
-            alloc, src, depth,
-        )?)),
-        ResponseKind::CloseSession => Ok(Response::CloseSession(Wire::read_value(
-            alloc, src, depth,
-        )?)),
-        ResponseKind::Read => Ok(Response::Read(Wire::read_value(alloc, src, depth)?)),
-        ResponseKind::Write => Ok(Response::Write(Wire::read_value(alloc, src, depth)?)),
-        ResponseKind::ServiceFault => Ok(Response::ServiceFault(Wire::read_value(
-            alloc, src, depth,
-        )?)),
+        ResponseKind::GetEndpoints => read_get_endpoints(alloc, src, depth),
+        ResponseKind::CreateSession => read_create_session(alloc, src, depth),
+        ResponseKind::ActivateSession => read_activate_session(alloc, src, depth),
+        ResponseKind::CloseSession => read_close_session(alloc, src, depth),
+        ResponseKind::Read => read_read(alloc, src, depth),
+        ResponseKind::Write => read_write(alloc, src, depth),
+        ResponseKind::ServiceFault => read_service_fault(alloc, src, depth),
     }
 }
 
@@ -219,6 +282,7 @@ pub fn read_response<S: Source>(alloc: Global, src: &mut S) -> Result<Response, 
         Err(fault) => return Err(unreadable(fault)),
     };
     if src.left() > 0 {
+        discard(response);
         return Err(ResponseFault::Unreadable);
     }
     Ok(response)

@@ -1,0 +1,60 @@
+//! Arrays of values.
+
+use crate::octets::octets;
+use std::alloc::Global;
+use std::process::Abort;
+use ua_builtin::{Octets, ReadFault, StatusCode};
+use ua_services::{UaArray, read_array};
+
+// What octets are read as: codes, or nothing for null.
+fn read_codes(alloc: Global, body: &[u8]) -> Result<Option<Vec<StatusCode>>, ReadFault> {
+    read_array(alloc, &mut Octets::new(body), 100)
+}
+
+// The codes that the octets of a line begin with; none for null.
+fn codes(rt: &impl Abort, alloc: Global, line: &str) -> Option<Vec<StatusCode>> {
+    read_codes(alloc, &octets(rt, alloc, &[line])).expect(rt, "an array")
+}
+
+// The fault of the octets of a line; none where an array stands there.
+fn fault_of(rt: &impl Abort, alloc: Global, line: &str) -> Option<ReadFault> {
+    read_codes(alloc, &octets(rt, alloc, &[line])).err()
+}
+
+#[test]
+fn arrays_are_read(rt: HostRuntime) {
+    let alloc = rt.alloc();
+    let wanted = [StatusCode::GOOD, StatusCode { code: 0x8033_0000 }];
+    let two = codes(&rt, alloc, "02 00 00 00  00 00 00 00  00 00 33 80  FF").expect(&rt, "two");
+    let none = codes(&rt, alloc, "00 00 00 00").expect(&rt, "no values");
+    assert_eq!(rt; two.as_slice(), wanted.as_slice());
+    assert!(rt; none.is_empty());
+    assert!(rt; codes(&rt, alloc, "FF FF FF FF").is_none());
+    assert!(rt; codes(&rt, alloc, "00 00 00 80").is_none());
+}
+
+#[test]
+fn a_count_past_the_octets_is_no_array(rt: HostRuntime) {
+    for line in [
+        "FF FF FF 7F",
+        "05 00 00 00 00 00 00 00",
+        "01 00 00 00 00 00 00",
+        "00",
+    ] {
+        assert_eq!(rt;
+            fault_of(&rt, rt.alloc(), line),
+            Some(ReadFault::NoValue),
+            "of {line}"
+        );
+    }
+}
+
+#[test]
+fn an_array_hands_its_values_back(rt: HostRuntime) {
+    let two = octets(&rt, rt.alloc(), &["01 02"]);
+    let array = UaArray::new(Some(two));
+    assert_eq!(rt; array.as_items(), Some([1, 2].as_slice()));
+    let items = array.into_items().expect(&rt, "two");
+    assert_eq!(rt; items.as_slice(), [1, 2].as_slice());
+    assert!(rt; UaArray::<u8>::null().as_items().is_none());
+}

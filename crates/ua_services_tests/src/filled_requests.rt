@@ -1,0 +1,262 @@
+//! A request of each kind with every field filled and every array of two.
+
+use crate::bodies::{assert_octets, let_go, request_octets, request_of};
+use crate::octets::octets;
+use crate::parts::{
+    are_filled_certificates, are_texts, is_filled_application, is_filled_request_header,
+    is_filled_value, is_named, is_number, is_object, is_octets, is_signature, is_text,
+};
+use std::alloc::Global;
+use std::process::Abort;
+use ua_services::{
+    ActivateSessionRequest, CreateSessionRequest, GetEndpointsRequest, ReadRequest, Request,
+    WriteRequest,
+};
+
+// Every field filled, and every array of two.
+const GET_ENDPOINTS: &[&str] = &[
+    "01 00 AC 01", // i=428
+    "03 02 00 05 00 00 00 'token'", // authentication token
+    "01 77 66 55 44 33 22 11", // timestamp
+    "A1 00 00 00", // request handle
+    "A2 00 00 00", // return diagnostics
+    "05 00 00 00 'audit'", // audit entry
+    "A3 00 00 00", // timeout hint
+    "01 00 2C 01 01 02 00 00 00 AB CD", // additional header
+    "03 00 00 00 'url'", // endpoint url
+    "02 00 00 00 02 00 00 00 'en' 02 00 00 00 'de'", // locale ids
+    "02 00 00 00 03 00 00 00 'one' 03 00 00 00 'two'", // profile uris
+];
+
+// Every field filled, and every array of two.
+const CREATE_SESSION: &[&str] = &[
+    "01 00 CD 01", // i=461
+    "03 02 00 05 00 00 00 'token'", // authentication token
+    "01 77 66 55 44 33 22 11", // timestamp
+    "A1 00 00 00", // request handle
+    "A2 00 00 00", // return diagnostics
+    "05 00 00 00 'audit'", // audit entry
+    "A3 00 00 00", // timeout hint
+    "01 00 2C 01 01 02 00 00 00 AB CD", // additional header
+    "04 00 00 00 'curi'", // application uri
+    "08 00 00 00 'cproduct'", // product uri
+    "03 02 00 00 00 'en' 05 00 00 00 'cname'", // application name
+    "FE FF FF FF", // application type
+    "08 00 00 00 'cgateway'", // gateway server uri
+    "08 00 00 00 'cprofile'", // discovery profile uri
+    "02 00 00 00 02 00 00 00 'ca' 02 00 00 00 'cb'", // discovery urls
+    "06 00 00 00 'server'", // server uri
+    "08 00 00 00 'endpoint'", // endpoint url
+    "07 00 00 00 'session'", // session name
+    "01 00 00 00 0A", // client nonce
+    "01 00 00 00 0B", // client certificate
+    "00 00 00 00 00 00 59 40", // requested session timeout
+    "C5 00 00 00", // max response message size
+];
+
+// Every field filled, and every array of two.
+const ACTIVATE_SESSION: &[&str] = &[
+    "01 00 D3 01", // i=467
+    "03 02 00 05 00 00 00 'token'", // authentication token
+    "01 77 66 55 44 33 22 11", // timestamp
+    "A1 00 00 00", // request handle
+    "A2 00 00 00", // return diagnostics
+    "05 00 00 00 'audit'", // audit entry
+    "A3 00 00 00", // timeout hint
+    "01 00 2C 01 01 02 00 00 00 AB CD", // additional header
+    "05 00 00 00 'alpha'", // algorithm
+    "01 00 00 00 0A", // signature
+    "02 00 00 00", // two software certificates
+    "01 00 00 00 01", // certificate data
+    "01 00 00 00 02", // signature
+    "01 00 00 00 03", // certificate data
+    "01 00 00 00 04", // signature
+    "02 00 00 00 02 00 00 00 'en' 02 00 00 00 'de'", // locale ids
+    "01 03 09 00 01 01 00 00 00 0C", // user identity token
+    "04 00 00 00 'beta'", // algorithm
+    "01 00 00 00 0B", // signature
+];
+
+// Every field filled, and every array of two.
+const CLOSE_SESSION: &[&str] = &[
+    "01 00 D9 01", // i=473
+    "03 02 00 05 00 00 00 'token'", // authentication token
+    "01 77 66 55 44 33 22 11", // timestamp
+    "A1 00 00 00", // request handle
+    "A2 00 00 00", // return diagnostics
+    "05 00 00 00 'audit'", // audit entry
+    "A3 00 00 00", // timeout hint
+    "01 00 2C 01 01 02 00 00 00 AB CD", // additional header
+    "01", // delete subscriptions
+];
+
+// Every field filled, and every array of two.
+const READ: &[&str] = &[
+    "01 00 77 02", // i=631
+    "03 02 00 05 00 00 00 'token'", // authentication token
+    "01 77 66 55 44 33 22 11", // timestamp
+    "A1 00 00 00", // request handle
+    "A2 00 00 00", // return diagnostics
+    "05 00 00 00 'audit'", // audit entry
+    "A3 00 00 00", // timeout hint
+    "01 00 2C 01 01 02 00 00 00 AB CD", // additional header
+    "00 00 00 00 00 00 59 40", // max age
+    "FF FF FF FF", // timestamps to return
+    "02 00 00 00", // two items
+    "03 01 00 01 00 00 00 'a'", // node id
+    "0D 00 00 00", // attribute
+    "03 00 00 00 '0:1'", // index range
+    "02 00 03 00 00 00 'XML'", // data encoding
+    "01 00 D1 07", // node id
+    "04 00 00 00", // attribute
+    "01 00 00 00 '2'", // index range
+    "03 00 04 00 00 00 'JSON'", // data encoding
+];
+
+// Every field filled, and every array of two.
+const WRITE: &[&str] = &[
+    "01 00 A1 02", // i=673
+    "03 02 00 05 00 00 00 'token'", // authentication token
+    "01 77 66 55 44 33 22 11", // timestamp
+    "A1 00 00 00", // request handle
+    "A2 00 00 00", // return diagnostics
+    "05 00 00 00 'audit'", // audit entry
+    "A3 00 00 00", // timeout hint
+    "01 00 2C 01 01 02 00 00 00 AB CD", // additional header
+    "02 00 00 00", // two items
+    "03 01 00 01 00 00 00 'a'", // node id
+    "0D 00 00 00", // attribute
+    "03 00 00 00 '0:1'", // index range
+    "3F 06 07 00 00 00 00 00 01 40 03 77 66 55 44 33 22 11 08 00 04 77 66 55 44 33 22 11 09 00", // value, status, source time, server time
+    "01 00 D1 07", // node id
+    "04 00 00 00", // attribute
+    "01 00 00 00 '2'", // index range
+    "3F 06 08 00 00 00 00 00 01 40 03 77 66 55 44 33 22 11 09 00 04 77 66 55 44 33 22 11 0A 00", // value, status, source time, server time
+];
+
+// The request of these lines; it has the filled header, and is written as it was read.
+fn filled(rt: &impl Abort, alloc: Global, lines: &[&str]) -> Request {
+    let body = octets(rt, alloc, lines);
+    let written = request_octets(rt, alloc, request_of(rt, alloc, &body));
+    assert_octets(rt, alloc, &written, lines);
+    let request = request_of(rt, alloc, &body);
+    assert!(rt; is_filled_request_header(request.header()));
+    request
+}
+
+fn assert_get_endpoints(rt: &impl Abort, request: &GetEndpointsRequest) {
+    assert!(rt; is_text(&request.endpoint_url, "url"));
+    assert!(rt; are_texts(&request.locale_ids, "en", "de"));
+    assert!(rt; are_texts(&request.profile_uris, "one", "two"));
+}
+
+#[test]
+fn every_field_of_get_endpoints_is_read(rt: HostRuntime) {
+    let request = filled(&rt, rt.alloc(), GET_ENDPOINTS);
+    let Request::GetEndpoints(message) = &request else {
+        panic!(rt; "another request");
+    };
+    assert_get_endpoints(&rt, message);
+    let_go(request);
+}
+
+fn assert_create_session(rt: &impl Abort, request: &CreateSessionRequest) {
+    let texts = [
+        "curi", "cproduct", "cname", "cgateway", "cprofile", "ca", "cb", "en",
+    ];
+    assert!(rt; is_filled_application(&request.client_description, texts));
+    assert!(rt; is_text(&request.server_uri, "server"));
+    assert!(rt; is_text(&request.endpoint_url, "endpoint"));
+    assert!(rt; is_text(&request.session_name, "session"));
+    assert!(rt; is_octets(&request.client_nonce, &[0x0A]));
+    assert!(rt; is_octets(&request.client_certificate, &[0x0B]));
+    assert_eq!(rt; request.requested_session_timeout.bits, 0x4059000000000000);
+    assert_eq!(rt; request.max_response_message_size, 0xC5);
+}
+
+#[test]
+fn every_field_of_create_session_is_read(rt: HostRuntime) {
+    let request = filled(&rt, rt.alloc(), CREATE_SESSION);
+    let Request::CreateSession(message) = &request else {
+        panic!(rt; "another request");
+    };
+    assert_create_session(&rt, message);
+    let_go(request);
+}
+
+fn assert_activate_session(rt: &impl Abort, request: &ActivateSessionRequest) {
+    assert!(rt; is_signature(&request.client_signature, "alpha", 0x0A));
+    assert!(rt; are_filled_certificates(&request.client_software_certificates));
+    assert!(rt; are_texts(&request.locale_ids, "en", "de"));
+    assert!(rt; is_object(&request.user_identity_token, 3, 9, &[0x0C]));
+    assert!(rt; is_signature(&request.user_token_signature, "beta", 0x0B));
+}
+
+#[test]
+fn every_field_of_activate_session_is_read(rt: HostRuntime) {
+    let request = filled(&rt, rt.alloc(), ACTIVATE_SESSION);
+    let Request::ActivateSession(message) = &request else {
+        panic!(rt; "another request");
+    };
+    assert_activate_session(&rt, message);
+    let_go(request);
+}
+
+#[test]
+fn every_field_of_close_session_is_read(rt: HostRuntime) {
+    let request = filled(&rt, rt.alloc(), CLOSE_SESSION);
+    let Request::CloseSession(message) = &request else {
+        panic!(rt; "another request");
+    };
+    assert!(rt; message.delete_subscriptions);
+    let_go(request);
+}
+
+fn assert_read(rt: &impl Abort, request: &ReadRequest) {
+    assert_eq!(rt; request.max_age.bits, 0x4059000000000000);
+    assert_eq!(rt; request.timestamps_to_return, -1);
+    let Some([first, second]) = request.nodes_to_read.as_items() else {
+        panic!(rt; "another count");
+    };
+    assert!(rt; is_named(&first.node_id, 1, "a"));
+    assert_eq!(rt; first.attribute_id, 13);
+    assert!(rt; is_text(&first.index_range, "0:1"));
+    assert_eq!(rt; first.data_encoding.namespace, 2);
+    assert!(rt; is_text(&first.data_encoding.name, "XML"));
+    assert!(rt; is_number(&second.node_id, 0, 2001));
+    assert_eq!(rt; second.attribute_id, 4);
+    assert!(rt; is_text(&second.data_encoding.name, "JSON"));
+}
+
+#[test]
+fn every_field_of_read_is_read(rt: HostRuntime) {
+    let request = filled(&rt, rt.alloc(), READ);
+    let Request::Read(message) = &request else {
+        panic!(rt; "another request");
+    };
+    assert_read(&rt, message);
+    let_go(request);
+}
+
+fn assert_write(rt: &impl Abort, request: &WriteRequest) {
+    let Some([first, second]) = request.nodes_to_write.as_items() else {
+        panic!(rt; "another count");
+    };
+    assert!(rt; is_named(&first.node_id, 1, "a"));
+    assert_eq!(rt; first.attribute_id, 13);
+    assert!(rt; is_text(&first.index_range, "0:1"));
+    assert!(rt; is_filled_value(&first.value, 7, 8));
+    assert!(rt; is_number(&second.node_id, 0, 2001));
+    assert_eq!(rt; second.attribute_id, 4);
+    assert!(rt; is_filled_value(&second.value, 8, 9));
+}
+
+#[test]
+fn every_field_of_write_is_read(rt: HostRuntime) {
+    let request = filled(&rt, rt.alloc(), WRITE);
+    let Request::Write(message) = &request else {
+        panic!(rt; "another request");
+    };
+    assert_write(&rt, message);
+    let_go(request);
+}

@@ -1,0 +1,160 @@
+//! Bodies that are no messages, and what each is refused by.
+
+use crate::bodies::{assert_octets, request_octets, request_of};
+use crate::octets::octets;
+use crate::parts::{EPOCH, is_number};
+use std::alloc::Global;
+use std::process::Abort;
+use ua_builtin::Octets;
+use ua_services::{
+    CloseSessionRequest, Request, RequestFault, ResponseFault, read_request, read_response,
+};
+
+// CloseSession under the token ns=2;i=1, with the handle 9.
+const CLOSE_SESSION: &[&str] = &[
+    "01 00 D9 01", // i=473
+    "01 02 01 00", // authentication token
+    "00 80 3E D5 DE B1 9D 01", // timestamp
+    "09 00 00 00", // request handle
+    "00 00 00 00 FF FF FF FF 00 00 00 00 00 00 00", // diagnostics, audit entry, timeout hint, additional header
+    "00", // delete subscriptions
+];
+
+// The answer to it.
+const CLOSED: &[&str] = &[
+    "01 00 DC 01", // i=476
+    "00 80 3E D5 DE B1 9D 01", // timestamp
+    "09 00 00 00", // request handle
+    "00 00 00 00", // service result
+    "00 FF FF FF FF 00 00 00", // diagnostics, string table, additional header
+];
+
+// The octets of the CloseSession.
+fn close_session(rt: &impl Abort, alloc: Global) -> Vec<u8> {
+    let body = octets(rt, alloc, CLOSE_SESSION);
+    assert_eq!(rt; body.len(), 36);
+    body
+}
+
+// The CloseSession whose last octet is this one.
+fn ending_in(rt: &impl Abort, alloc: Global, last: u8) -> Vec<u8> {
+    let mut body = close_session(rt, alloc);
+    body.truncate(35);
+    body.push(last).expect(rt, "memory");
+    body
+}
+
+// That it is the CloseSession of the lines, with that flag.
+fn assert_close_session(rt: &impl Abort, request: &CloseSessionRequest, flag: bool) {
+    let header = &request.request_header;
+    assert!(rt; is_number(&header.authentication_token, 2, 1));
+    assert_eq!(rt; header.timestamp.ticks, EPOCH.ticks);
+    assert_eq!(rt; header.request_handle, 9);
+    assert_eq!(rt; request.delete_subscriptions, flag);
+}
+
+// That the CloseSession with this last octet has that flag; what it is written as.
+fn rewritten(rt: &impl Abort, alloc: Global, last: u8, flag: bool) -> Vec<u8> {
+    let request = request_of(rt, alloc, &ending_in(rt, alloc, last));
+    let Request::CloseSession(message) = &request else {
+        panic!(rt; "another request");
+    };
+    assert_close_session(rt, message, flag);
+    request_octets(rt, alloc, request)
+}
+
+#[test]
+fn every_octet_but_0_is_true(rt: HostRuntime) {
+    let alloc = rt.alloc();
+    let kept = rewritten(&rt, alloc, 0, false);
+    let turned = rewritten(&rt, alloc, 5, true);
+    assert_octets(&rt, alloc, &kept, CLOSE_SESSION);
+    assert_eq!(rt; turned.as_slice(), ending_in(&rt, alloc, 1).as_slice());
+}
+
+// The fault of a body; none where it is a request.
+fn fault_of(alloc: Global, body: &[u8]) -> Option<RequestFault> {
+    read_request(alloc, &mut Octets::new(body)).err()
+}
+
+// The fault of a body; none where it is a response.
+fn response_fault_of(alloc: Global, body: &[u8]) -> Option<ResponseFault> {
+    read_response(alloc, &mut Octets::new(body)).err()
+}
+
+#[test]
+fn a_body_that_is_cut_says_why(rt: HostRuntime) {
+    let alloc = rt.alloc();
+    let body = close_session(&rt, alloc);
+    for (len, fault) in [
+        (36, None),
+        (35, Some(RequestFault::Unreadable(9))),
+        (4, Some(RequestFault::Unreadable(0))),
+        (0, Some(RequestFault::Unreadable(0))),
+    ] {
+        let front = body.get(..len).expect(&rt, "a front");
+        assert_eq!(rt; fault_of(alloc, front), fault, "of {len}");
+    }
+}
+
+#[test]
+fn a_body_with_an_octet_behind_it_says_why(rt: HostRuntime) {
+    let alloc = rt.alloc();
+    let mut body = close_session(&rt, alloc);
+    body.push(0).expect(&rt, "memory");
+    assert_eq!(rt; fault_of(alloc, &body), Some(RequestFault::Unreadable(9)));
+}
+
+// The CloseSession under another NodeId, whose four octets these are.
+fn renamed(rt: &impl Abort, alloc: Global, id: &str) -> Vec<u8> {
+    let mut body = octets(rt, alloc, &[id]);
+    let rest = close_session(rt, alloc);
+    let rest = rest.get(4..).expect(rt, "the rest");
+    body.extend_from_slice(rest).expect(rt, "memory");
+    body
+}
+
+#[test]
+fn another_node_id_is_not_supported(rt: HostRuntime) {
+    let alloc = rt.alloc();
+    assert_eq!(rt;
+        fault_of(alloc, &[0x00, 0x48]),
+        Some(RequestFault::Unsupported(0))
+    );
+    for id in ["01 00 BE 01", "01 00 0F 02"] {
+        assert_eq!(rt;
+            fault_of(alloc, &renamed(&rt, alloc, id)),
+            Some(RequestFault::Unsupported(9)),
+            "of {id}"
+        );
+    }
+}
+
+#[test]
+fn a_request_is_no_response_and_a_response_no_request(rt: HostRuntime) {
+    let alloc = rt.alloc();
+    let request = response_fault_of(alloc, &close_session(&rt, alloc));
+    let response = fault_of(alloc, &octets(&rt, alloc, CLOSED));
+    assert_eq!(rt; request, Some(ResponseFault::Unknown));
+    assert!(rt; matches!(response, Some(RequestFault::Unsupported(_))));
+}
+
+#[test]
+fn a_body_that_is_no_response_says_why(rt: HostRuntime) {
+    let alloc = rt.alloc();
+    let mut body = octets(&rt, alloc, CLOSED);
+    body.push(0).expect(&rt, "memory");
+    for (len, fault) in [
+        (28, None),
+        (27, Some(ResponseFault::Unreadable)),
+        (29, Some(ResponseFault::Unreadable)),
+        (0, Some(ResponseFault::Unreadable)),
+    ] {
+        let front = body.get(..len).expect(&rt, "a front");
+        assert_eq!(rt; response_fault_of(alloc, front), fault, "of {len}");
+    }
+    assert_eq!(rt;
+        response_fault_of(alloc, &[0x00, 0x48]),
+        Some(ResponseFault::Unknown)
+    );
+}
