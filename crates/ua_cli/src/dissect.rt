@@ -5,7 +5,7 @@ ghost use Rattle.ua_frame.specs.Whole.{whole_of};
 ghost use Rattle.ua_cli.specs.Dissected.{PrintsLines, open_gate};
 ghost use Rattle.ua_cli.specs.Lines.{first_lines, last_line, line_and_rest, refused_line};
 
-use crate::line::Line;
+use crate::line::MessageLine;
 use std::alloc::{AllocError, Global};
 use std::fmt::Write;
 use ua_builtin::StatusCode;
@@ -67,7 +67,7 @@ fn push_frame(
 
 /// Adds the lines of a stream that begins with a frame of this body: those of the message that it is,
 /// else a refusal.
-fn push_message<T: Line>(
+fn push_message<T: MessageLine>(
     alloc: Global,
     out: &mut String,
     body: &Body,

@@ -10,7 +10,7 @@ use ua_builtin::Wire;
 use ua_frame::{Ack, ErrorFrame, Hello};
 
 /// A message that is printed as a line, where it is the body of a frame.
-pub trait Line: Wire + Drop {
+pub trait MessageLine: Wire + Drop {
     ghost use Rattle.std.specs.Prelude.{◌≡◌, ◌++◌, ℕ, List, Option, string_bytes, OnOk};
     ghost use Rattle.ua_builtin.specs.Format.{Flat};
     ghost use Rattle.ua_frame.specs.Whole.{IsWhole, whole_of};
@@ -29,7 +29,7 @@ pub trait Line: Wire + Drop {
     ghost reads: { (octets : List ℕ) (read : Option Self) → IsWhole Self.format octets read → whole_of message octets ≡ read };
 }
 
-impl Line for Hello {
+impl MessageLine for Hello {
     ghost use Rattle.ua_frame.specs.Messages.{hello};
     ghost use Rattle.ua_frame.proofs.Wholes.{whole_read};
     ghost use Rattle.ua_cli.specs.Lines.{hello_line};
@@ -56,7 +56,7 @@ impl Line for Hello {
     }
 }
 
-impl Line for Ack {
+impl MessageLine for Ack {
     ghost use Rattle.ua_frame.specs.Messages.{ack};
     ghost use Rattle.ua_frame.proofs.Wholes.{whole_read};
     ghost use Rattle.ua_cli.specs.Lines.{ack_line};
@@ -81,7 +81,7 @@ impl Line for Ack {
     }
 }
 
-impl Line for ErrorFrame {
+impl MessageLine for ErrorFrame {
     ghost use Rattle.ua_frame.specs.Messages.{error};
     ghost use Rattle.ua_frame.proofs.Wholes.{whole_read};
     ghost use Rattle.ua_cli.specs.Lines.{error_line};

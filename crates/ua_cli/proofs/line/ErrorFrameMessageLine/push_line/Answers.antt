@@ -1,7 +1,7 @@
 use Rattle.std.proofs.Common.{append_assoc}
 use Rattle.ua_cli.proofs.Codes.{code_output}
 use Rattle.ua_cli.specs.Lines.{error_line}
-use Rattle.ua_cli.proofs.line.ErrorFrameLine.push_line.Goals as goal
+use Rattle.ua_cli.proofs.line.ErrorFrameMessageLine.push_line.Goals as goal
 
 pub returns : goal.returns
 unfolding error_line

@@ -1,7 +1,7 @@
 use Rattle.std.proofs.Common.{◌≡◌, ◌++◌, codes, string_bytes, append_assoc}
 use Rattle.std.specs.Fmt.{decimal}
 use Rattle.ua_cli.specs.Lines.{ack_line}
-use Rattle.ua_cli.proofs.line.AckLine.push_line.Goals as goal
+use Rattle.ua_cli.proofs.line.AckMessageLine.push_line.Goals as goal
 
 pub returns : goal.returns
 unfolding ack_line

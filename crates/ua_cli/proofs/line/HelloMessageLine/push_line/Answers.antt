@@ -1,7 +1,7 @@
 use Rattle.std.proofs.Common.{◌≡◌, ◌++◌, codes, string_bytes, append_assoc}
 use Rattle.std.specs.Fmt.{decimal}
 use Rattle.ua_cli.specs.Lines.{hello_line}
-use Rattle.ua_cli.proofs.line.HelloLine.push_line.Goals as goal
+use Rattle.ua_cli.proofs.line.HelloMessageLine.push_line.Goals as goal
 
 pub returns : goal.returns
 unfolding hello_line
