@@ -136,6 +136,7 @@ impl DiagnosticInfo {
     }
 }
 
+/// How many levels there are.
 fn levels(value: &DiagnosticInfo) -> u32
     ensures { result ≡ min (diagnostic_depth (diagnostic_of value.now)) u32.MAX }
 {
@@ -145,6 +146,7 @@ fn levels(value: &DiagnosticInfo) -> u32
     }
 }
 
+/// How many values there are.
 fn count(value: &DiagnosticInfo) -> u64
     ensures { result ≡ min (diagnostic_count (diagnostic_of value.now)) u64.MAX }
 {
@@ -155,6 +157,7 @@ fn count(value: &DiagnosticInfo) -> u64
     }
 }
 
+/// How many fields are there, but the inner info.
 fn count_fields(value: &DiagnosticInfo) -> u64
     ensures value { result ≡ diagnostic_fields_count (diagnostic_fields_of value.now) }
     ensures within { result ≤ 6 }
@@ -167,6 +170,7 @@ fn count_fields(value: &DiagnosticInfo) -> u64
         + count_of(&value.inner_status_code)
 }
 
+/// Whether the fields can be written, at every level.
 fn diagnostic_fits_in(value: &DiagnosticInfo) -> bool
     ensures { result ≡ diagnostic_fits (diagnostic_of value.now) }
 {
@@ -177,6 +181,7 @@ fn diagnostic_fits_in(value: &DiagnosticInfo) -> bool
         }
 }
 
+/// Whether the fields can be written, but the inner info.
 fn fields_fit(value: &DiagnosticInfo) -> bool
     ensures { result ≡ diagnostic_fields_encodable (diagnostic_fields_of value.now) }
 {
@@ -188,6 +193,7 @@ fn fields_fit(value: &DiagnosticInfo) -> bool
         && field_fits(&value.inner_status_code)
 }
 
+/// A copy, at every level.
 fn copy(alloc: Global, value: &DiagnosticInfo) -> Result<DiagnosticInfo, AllocError>
     ensures { IfOk result (λ d. d ≡ value.now) }
 {

@@ -110,6 +110,7 @@ fn read_level<S: Source>(
     })
 }
 
+/// Reads an inner info where it is announced.
 #[cycle(diagnostics)]
 fn read_inner<S: Source>(
     alloc: Global,
@@ -140,6 +141,7 @@ fn mask_of(value: &DiagnosticInfo) -> u8
         + flag_of(INNER_STATUS_CODE, value.inner_status_code.is_some())
 }
 
+/// Adds the fields that are there, but the inner info.
 fn append_fields(value: &DiagnosticInfo, out: &mut Vec<u8>) -> Result<(), AllocError>
     requires symbolic_id { IsTrue (optional_fits (signed w32).encodable value.now.symbolic_id) }
     requires namespace_uri { IsTrue (optional_fits (signed w32).encodable value.now.namespace_uri) }

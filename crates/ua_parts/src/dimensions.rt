@@ -202,6 +202,7 @@ pub fn append_dims(dims: &Dimensions, n: usize, out: &mut Vec<u8>) -> Result<(),
     Ok(())
 }
 
+/// Adds the dimensions without their count.
 fn append_sizes(dims: &[i32], out: &mut Vec<u8>) -> Result<(), AllocError>
     requires { are_sizes dims.now ≡ true }
     ensures ok { OnOk result (out.new.items ≡ out.old.items ++ sizes_canonical dims.now) }

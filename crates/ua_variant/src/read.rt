@@ -187,6 +187,7 @@ fn read_elements<S: Source>(
     })
 }
 
+/// Reads so many elements of the type id.
 #[cycle(variants)]
 fn read_row<S: Source>(
     alloc: Global,
@@ -206,6 +207,7 @@ fn read_row<S: Source>(
     Ok(Scalars::new(items))
 }
 
+/// Reads a value of the type id, with so many levels left within.
 #[cycle(variants)]
 #[tactic(auto, unfolding(crate::specs::Decoding::scalar_at))]
 fn read_scalar<S: Source>(
@@ -272,6 +274,7 @@ fn read_data_value_level<S: Source>(
     })
 }
 
+/// Reads a Variant within a DataValue, where it is announced.
 #[cycle(variants)]
 fn read_boxed<S: Source>(
     alloc: Global,

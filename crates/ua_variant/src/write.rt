@@ -44,6 +44,7 @@ fn data_mask(value: &DataValue) -> u8
         )
 }
 
+/// Adds the fields that are there, but the value.
 #[tactic(auto, unfolding(crate::specs::Fields::data_fields))]
 fn append_data_fields(value: &DataValue, out: &mut Vec<u8>) -> Result<(), AllocError>
     requires status { IsTrue (optional_fits status_code.encodable value.now.status) }
@@ -74,6 +75,7 @@ fn array_tag(kind: u8, dims: &Dimensions) -> u8
     }
 }
 
+/// Adds the canonical encoding of a Variant that can be written, its depth apart.
 #[cycle(appends)]
 #[tactic(auto, using(crate::proofs::Written::many_parts))]
 pub fn append_variant(value: &Variant, out: &mut Vec<u8>) -> Result<(), AllocError>
@@ -108,6 +110,7 @@ pub fn append_variant(value: &Variant, out: &mut Vec<u8>) -> Result<(), AllocErr
     Ok(())
 }
 
+/// Adds the canonical encoding of an array that is not null.
 #[cycle(appends)]
 fn append_array(
     kind: u8,
@@ -130,6 +133,7 @@ fn append_array(
     Ok(())
 }
 
+/// Adds the canonical encoding of a value, without its type id.
 #[cycle(appends)]
 fn append_scalar(value: &Scalar, out: &mut Vec<u8>) -> Result<(), AllocError>
     requires { scalar_fits (scalar_of value.now) ≡ true }
@@ -166,6 +170,7 @@ fn append_scalar(value: &Scalar, out: &mut Vec<u8>) -> Result<(), AllocError>
     }
 }
 
+/// Adds the elements, one behind the other.
 #[cycle(appends)]
 fn append_row(kind: u8, items: &Scalars, out: &mut Vec<u8>) -> Result<(), AllocError>
     requires { scalars_fit kind (row items.now) ≡ true }
@@ -178,6 +183,7 @@ fn append_row(kind: u8, items: &Scalars, out: &mut Vec<u8>) -> Result<(), AllocE
     Ok(())
 }
 
+/// Adds the canonical encoding of a DataValue that can be written, its depth apart.
 #[cycle(appends)]
 pub fn append_data_value(value: &DataValue, out: &mut Vec<u8>) -> Result<(), AllocError>
     requires { data_value_fits (data_value_of value.now) ≡ true }
