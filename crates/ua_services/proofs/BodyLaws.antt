@@ -1,8 +1,8 @@
 -- The laws of bodies.
-use Rattle.std.specs.Prelude.{◌≡◌, ℕ, List, [], IsTrue, Option, Some}
+use Rattle.std.specs.Prelude.{◌≡◌, ℕ, List, []}
 use Rattle.std.proofs.Common.{sym, ◌∙◌, ap}
 use Rattle.ua_builtin.specs.Exact.{some_is}
-use Rattle.ua_builtin.specs.Format.{Format, most_levels}
+use Rattle.ua_builtin.specs.Format.{Format}
 use Rattle.ua_services.specs.Message.{IsBody}
 use Rattle.ua_services.specs.Laws.{BodyReadsBack, OneMessage}
 use Rattle.ua_services.proofs.BodyRead.{body_reads}

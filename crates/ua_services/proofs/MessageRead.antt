@@ -1,5 +1,5 @@
 -- A message of one kind, against the reader on lists.
-use Rattle.std.specs.Prelude.{◌≡◌, ◌≢◌, ℕ, List, [], Bool, true, false, cond, length, nat_eq, Option, Some, None, Result, Ok, Err, IfOk}
+use Rattle.std.specs.Prelude.{◌≡◌, ℕ, List, [], Bool, cond, nat_eq, Option, Some, None, Result, Ok, Err, IfOk}
 use Rattle.std.proofs.Common.{refl, sym, ◌∙◌, ap, arith, eq-eqb}
 use Rattle.std.proofs.lemmas.Bool.{ne_eqb}
 use Rattle.ua_builtin.specs.Exact.{◌>>=◌, some_is}
@@ -15,7 +15,7 @@ use Rattle.ua_structures.specs.declared.header.ServiceFault.{ServiceFault}
 use Rattle.ua_structures.specs.declared.secure_channel.OpenResponse.{OpenResponse}
 use Rattle.ua_services.specs.declared.open.OpenAnswer.{OpenAnswer}
 use Rattle.ua_services.specs.declared.open.OpenAnswer.TheVariants.{Open, Fault}
-use Rattle.ua_services.specs.Open.{IsAnswer, IsNoAnswer}
+use Rattle.ua_services.specs.Open.{IsNoAnswer}
 use Rattle.ua_services.specs.Message.{IsBody, IsNoBody, message, standard_number, behind_number}
 use Rattle.ua_services.proofs.BodyRead.{whole, unread, body_reads, no_fault}
 

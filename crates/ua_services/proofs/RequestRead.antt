@@ -1,7 +1,7 @@
 -- A request whose header is read first, against the reader on lists.
-use Rattle.std.specs.Prelude.{◌≡◌, ℕ, ◌<◌, ◌≤◌, List, [], ◌∷◌, length, Option, Some, None, Result, Ok, Err, IfOk, IfErr}
+use Rattle.std.specs.Prelude.{◌≡◌, ℕ, ◌<◌, ◌≤◌, List, [], length, Option, Some, None, Result, Ok, Err, IfOk, IfErr}
 use Rattle.std.proofs.Common.{refl, sym, ◌∙◌, ap, subst, arith}
-use Rattle.ua_builtin.specs.Exact.{◌>>=◌, image_read, some_is}
+use Rattle.ua_builtin.specs.Exact.{◌>>=◌, some_is}
 use Rattle.ua_builtin.specs.Format.{Gives, most_levels}
 use Rattle.ua_builtin.specs.NodeId.{node_id}
 use Rattle.ua_builtin.specs.declared.node_id.NodeId.{NodeId}
@@ -12,7 +12,7 @@ use Rattle.ua_structures.specs.Attribute.{read_request, read_request_fields, rea
 use Rattle.ua_structures.specs.Discovery.{get_endpoints_request, get_endpoints_request_fields, get_endpoints_request_of}
 use Rattle.ua_structures.specs.Session.{create_session_request, create_session_request_fields, create_session_request_of, activate_session_request, activate_session_request_fields, activate_session_request_of, close_session_request, close_session_request_fields, close_session_request_of}
 use Rattle.ua_structures.specs.declared.header.RequestHeader.{RequestHeader}
-use Rattle.ua_services.specs.Message.{IsBody, IsNoBody, id_of, handle_of, handle_behind, header_handle, id_handle}
+use Rattle.ua_services.specs.Message.{IsBody, IsNoBody, handle_behind, header_handle, id_handle}
 use Rattle.ua_services.specs.Request.{request, request_kind, of_kind, announced, behind_header, AnnouncesNone, Misread, MisreadKind, IsUnsupported}
 use Rattle.ua_services.specs.declared.request.Request.{Request}
 use Rattle.ua_services.specs.declared.fault.RequestFault.{RequestFault}

@@ -1,8 +1,8 @@
 -- Messages: a structure behind the NodeId of its encoding.
-use Rattle.std.specs.Prelude.{◌≡◌, ℕ, ◌≤◌, List, [], ◌++◌, Bool, true, false, cond, IsTrue, nat_eq, Option, Some, None}
-use Rattle.std.proofs.Common.{refl, sym, ◌∙◌, ap, subst}
+use Rattle.std.specs.Prelude.{◌≡◌, ℕ, List, Bool, true, false, cond, nat_eq, Option, Some, None}
+use Rattle.std.proofs.Common.{refl}
 use Rattle.ua_builtin.specs.Exact.{◌>>=◌}
-use Rattle.ua_builtin.specs.Format.{Flat, Format, Within, most_levels, flat}
+use Rattle.ua_builtin.specs.Format.{Format, Within, most_levels, flat}
 use Rattle.ua_builtin.specs.Join.{nothing}
 use Rattle.ua_builtin.specs.NodeId.{node_id}
 use Rattle.ua_builtin.specs.declared.node_id.NodeId.{NodeId}

@@ -1,6 +1,5 @@
 -- The answer to an OpenSecureChannel request.
-use Rattle.std.specs.Prelude.{◌≡◌, ℕ, List, IsTrue}
-use Rattle.ua_builtin.specs.Format.{Format}
+use Rattle.std.specs.Prelude.{ℕ, List}
 use Rattle.ua_structures.specs.Header.{service_fault}
 use Rattle.ua_structures.specs.SecureChannel.{open_response}
 use Rattle.ua_services.specs.Message.{IsBody, message}

@@ -1,12 +1,12 @@
 -- Requests: the kinds by the number of their encoding.
-use Rattle.std.specs.Prelude.{◌≡◌, ℕ, List, ◌++◌, Bool, true, false, cond, IsTrue, nat_eq, Option, Some, None, Result, Ok, Err}
-use Rattle.std.proofs.Common.{refl, sym, ◌∙◌, ap, subst}
-use Rattle.ua_builtin.specs.Exact.{◌>>=◌, some_is, image_read, Image}
-use Rattle.ua_builtin.specs.Format.{Flat, Format, flat, most_levels}
+use Rattle.std.specs.Prelude.{◌≡◌, ℕ, List, cond, nat_eq, Option, Some, None}
+use Rattle.std.proofs.Common.{refl, sym, ◌∙◌, ap}
+use Rattle.ua_builtin.specs.Exact.{◌>>=◌, some_is, image_read}
+use Rattle.ua_builtin.specs.Format.{Format, flat}
 use Rattle.ua_builtin.specs.Join.{nothing, bind_starts, TakesSome}
 use Rattle.ua_builtin.specs.NodeId.{node_id, node_id_starts}
 use Rattle.ua_builtin.specs.declared.node_id.NodeId.{NodeId}
-use Rattle.ua_structures.specs.Kinds.{kind, headed, part_depth, part_encodable, part_canonical}
+use Rattle.ua_structures.specs.Kinds.{kind, headed, part_depth}
 use Rattle.ua_structures.specs.Attribute.{read_request, read_request_fields, read_request_of, write_request, write_request_fields, write_request_of}
 use Rattle.ua_structures.specs.Discovery.{get_endpoints_request, get_endpoints_request_fields, get_endpoints_request_of}
 use Rattle.ua_structures.specs.Session.{create_session_request, create_session_request_fields, create_session_request_of, activate_session_request, activate_session_request_fields, activate_session_request_of, close_session_request, close_session_request_fields, close_session_request_of}
@@ -16,7 +16,6 @@ use Rattle.ua_structures.specs.declared.session.ActivateSessionRequest.{Activate
 use Rattle.ua_structures.specs.declared.session.CloseSessionRequest.{CloseSessionRequest}
 use Rattle.ua_structures.specs.declared.attribute.ReadRequest.{ReadRequest}
 use Rattle.ua_structures.specs.declared.attribute.WriteRequest.{WriteRequest}
-use Rattle.ua_structures.specs.Header.{request_header}
 use Rattle.ua_structures.specs.declared.header.RequestHeader.{RequestHeader}
 use Rattle.ua_services.specs.Message.{standard, standard_number, IsNoBody, id_of, handle_of, handle_behind}
 use Rattle.ua_services.specs.declared.request.Request.{Request}

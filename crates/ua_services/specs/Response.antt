@@ -1,12 +1,12 @@
 -- Responses: the kinds by the number of their encoding.
-use Rattle.std.specs.Prelude.{◌≡◌, ℕ, List, ◌++◌, Bool, true, false, cond, IsTrue, nat_eq, Option, Some, None, Result, Ok, Err, ◌⊎◌}
-use Rattle.std.proofs.Common.{refl, sym, ◌∙◌, ap, subst}
-use Rattle.ua_builtin.specs.Exact.{◌>>=◌, some_is, image_read, Image}
-use Rattle.ua_builtin.specs.Format.{Flat, Format, flat, most_levels}
+use Rattle.std.specs.Prelude.{◌≡◌, ℕ, List, cond, nat_eq, Option, Some, None, ◌⊎◌}
+use Rattle.std.proofs.Common.{refl, sym, ◌∙◌, ap}
+use Rattle.ua_builtin.specs.Exact.{◌>>=◌, some_is}
+use Rattle.ua_builtin.specs.Format.{Format, flat}
 use Rattle.ua_builtin.specs.Join.{nothing, bind_starts, TakesSome}
 use Rattle.ua_builtin.specs.NodeId.{node_id, node_id_starts}
 use Rattle.ua_builtin.specs.declared.node_id.NodeId.{NodeId}
-use Rattle.ua_structures.specs.Kinds.{kind, headed, part_depth, part_encodable, part_canonical}
+use Rattle.ua_structures.specs.Kinds.{kind, headed, part_depth}
 use Rattle.ua_structures.specs.Attribute.{read_response, write_response}
 use Rattle.ua_structures.specs.Discovery.{get_endpoints_response}
 use Rattle.ua_structures.specs.Header.{service_fault}

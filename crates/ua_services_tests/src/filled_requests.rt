@@ -9,8 +9,8 @@ use crate::parts::{
 use std::alloc::Global;
 use std::process::Abort;
 use ua_services::{
-    ActivateSessionRequest, CreateSessionRequest, GetEndpointsRequest, ReadRequest, Request,
-    WriteRequest,
+    ActivateSessionRequest, CreateSessionRequest, GetEndpointsRequest, ReadRequest, ReadValueId,
+    Request, WriteRequest, WriteValue,
 };
 
 // Every field filled, and every array of two.
@@ -144,10 +144,11 @@ fn filled(rt: &impl Abort, alloc: Global, lines: &[&str]) -> Request {
     request
 }
 
-fn assert_get_endpoints(rt: &impl Abort, request: &GetEndpointsRequest) {
-    assert!(rt; is_text(&request.endpoint_url, "url"));
-    assert!(rt; are_texts(&request.locale_ids, "en", "de"));
-    assert!(rt; are_texts(&request.profile_uris, "one", "two"));
+// Whether every field is that of the lines.
+fn is_get_endpoints(request: &GetEndpointsRequest) -> bool {
+    is_text(&request.endpoint_url, "url")
+        && are_texts(&request.locale_ids, "en", "de")
+        && are_texts(&request.profile_uris, "one", "two")
 }
 
 #[test]
@@ -156,22 +157,23 @@ fn every_field_of_get_endpoints_is_read(rt: HostRuntime) {
     let Request::GetEndpoints(message) = &request else {
         panic!(rt; "another request");
     };
-    assert_get_endpoints(&rt, message);
+    assert!(rt; is_get_endpoints(message));
     let_go(request);
 }
 
-fn assert_create_session(rt: &impl Abort, request: &CreateSessionRequest) {
+// Whether every field is that of the lines.
+fn is_create_session(request: &CreateSessionRequest) -> bool {
     let texts = [
         "curi", "cproduct", "cname", "cgateway", "cprofile", "ca", "cb", "en",
     ];
-    assert!(rt; is_filled_application(&request.client_description, texts));
-    assert!(rt; is_text(&request.server_uri, "server"));
-    assert!(rt; is_text(&request.endpoint_url, "endpoint"));
-    assert!(rt; is_text(&request.session_name, "session"));
-    assert!(rt; is_octets(&request.client_nonce, &[0x0A]));
-    assert!(rt; is_octets(&request.client_certificate, &[0x0B]));
-    assert_eq!(rt; request.requested_session_timeout.bits, 0x4059000000000000);
-    assert_eq!(rt; request.max_response_message_size, 0xC5);
+    is_filled_application(&request.client_description, texts)
+        && is_text(&request.server_uri, "server")
+        && is_text(&request.endpoint_url, "endpoint")
+        && is_text(&request.session_name, "session")
+        && is_octets(&request.client_nonce, &[0x0A])
+        && is_octets(&request.client_certificate, &[0x0B])
+        && request.requested_session_timeout.bits == 0x4059000000000000
+        && request.max_response_message_size == 0xC5
 }
 
 #[test]
@@ -180,16 +182,17 @@ fn every_field_of_create_session_is_read(rt: HostRuntime) {
     let Request::CreateSession(message) = &request else {
         panic!(rt; "another request");
     };
-    assert_create_session(&rt, message);
+    assert!(rt; is_create_session(message));
     let_go(request);
 }
 
-fn assert_activate_session(rt: &impl Abort, request: &ActivateSessionRequest) {
-    assert!(rt; is_signature(&request.client_signature, "alpha", 0x0A));
-    assert!(rt; are_filled_certificates(&request.client_software_certificates));
-    assert!(rt; are_texts(&request.locale_ids, "en", "de"));
-    assert!(rt; is_object(&request.user_identity_token, 3, 9, &[0x0C]));
-    assert!(rt; is_signature(&request.user_token_signature, "beta", 0x0B));
+// Whether every field is that of the lines.
+fn is_activate_session(request: &ActivateSessionRequest) -> bool {
+    is_signature(&request.client_signature, "alpha", 0x0A)
+        && are_filled_certificates(&request.client_software_certificates)
+        && are_texts(&request.locale_ids, "en", "de")
+        && is_object(&request.user_identity_token, 3, 9, &[0x0C])
+        && is_signature(&request.user_token_signature, "beta", 0x0B)
 }
 
 #[test]
@@ -198,7 +201,7 @@ fn every_field_of_activate_session_is_read(rt: HostRuntime) {
     let Request::ActivateSession(message) = &request else {
         panic!(rt; "another request");
     };
-    assert_activate_session(&rt, message);
+    assert!(rt; is_activate_session(message));
     let_go(request);
 }
 
@@ -212,20 +215,32 @@ fn every_field_of_close_session_is_read(rt: HostRuntime) {
     let_go(request);
 }
 
-fn assert_read(rt: &impl Abort, request: &ReadRequest) {
-    assert_eq!(rt; request.max_age.bits, 0x4059000000000000);
-    assert_eq!(rt; request.timestamps_to_return, -1);
-    let Some([first, second]) = request.nodes_to_read.as_items() else {
-        panic!(rt; "another count");
-    };
-    assert!(rt; is_named(&first.node_id, 1, "a"));
-    assert_eq!(rt; first.attribute_id, 13);
-    assert!(rt; is_text(&first.index_range, "0:1"));
-    assert_eq!(rt; first.data_encoding.namespace, 2);
-    assert!(rt; is_text(&first.data_encoding.name, "XML"));
-    assert!(rt; is_number(&second.node_id, 0, 2001));
-    assert_eq!(rt; second.attribute_id, 4);
-    assert!(rt; is_text(&second.data_encoding.name, "JSON"));
+// Whether it is the first item of the lines.
+fn is_first_read(item: &ReadValueId) -> bool {
+    is_named(&item.node_id, 1, "a")
+        && item.attribute_id == 13
+        && is_text(&item.index_range, "0:1")
+        && item.data_encoding.namespace == 2
+        && is_text(&item.data_encoding.name, "XML")
+}
+
+// Whether it is the second item of the lines.
+fn is_second_read(item: &ReadValueId) -> bool {
+    is_number(&item.node_id, 0, 2001)
+        && item.attribute_id == 4
+        && is_text(&item.index_range, "2")
+        && item.data_encoding.namespace == 3
+        && is_text(&item.data_encoding.name, "JSON")
+}
+
+// Whether every field is that of the lines.
+fn is_read(request: &ReadRequest) -> bool {
+    request.max_age.bits == 0x4059000000000000
+        && request.timestamps_to_return == -1
+        && match request.nodes_to_read.as_items() {
+            Some([first, second]) => is_first_read(first) && is_second_read(second),
+            _ => false,
+        }
 }
 
 #[test]
@@ -234,21 +249,32 @@ fn every_field_of_read_is_read(rt: HostRuntime) {
     let Request::Read(message) = &request else {
         panic!(rt; "another request");
     };
-    assert_read(&rt, message);
+    assert!(rt; is_read(message));
     let_go(request);
 }
 
-fn assert_write(rt: &impl Abort, request: &WriteRequest) {
-    let Some([first, second]) = request.nodes_to_write.as_items() else {
-        panic!(rt; "another count");
-    };
-    assert!(rt; is_named(&first.node_id, 1, "a"));
-    assert_eq!(rt; first.attribute_id, 13);
-    assert!(rt; is_text(&first.index_range, "0:1"));
-    assert!(rt; is_filled_value(&first.value, 7, 8));
-    assert!(rt; is_number(&second.node_id, 0, 2001));
-    assert_eq!(rt; second.attribute_id, 4);
-    assert!(rt; is_filled_value(&second.value, 8, 9));
+// Whether it is the first item of the lines.
+fn is_first_write(item: &WriteValue) -> bool {
+    is_named(&item.node_id, 1, "a")
+        && item.attribute_id == 13
+        && is_text(&item.index_range, "0:1")
+        && is_filled_value(&item.value, 7, 8)
+}
+
+// Whether it is the second item of the lines.
+fn is_second_write(item: &WriteValue) -> bool {
+    is_number(&item.node_id, 0, 2001)
+        && item.attribute_id == 4
+        && is_text(&item.index_range, "2")
+        && is_filled_value(&item.value, 8, 9)
+}
+
+// Whether every field is that of the lines.
+fn is_write(request: &WriteRequest) -> bool {
+    match request.nodes_to_write.as_items() {
+        Some([first, second]) => is_first_write(first) && is_second_write(second),
+        _ => false,
+    }
 }
 
 #[test]
@@ -257,6 +283,6 @@ fn every_field_of_write_is_read(rt: HostRuntime) {
     let Request::Write(message) = &request else {
         panic!(rt; "another request");
     };
-    assert_write(&rt, message);
+    assert!(rt; is_write(message));
     let_go(request);
 }

@@ -44,13 +44,13 @@ fn ending_in(rt: &impl Abort, alloc: Global, last: u8) -> Vec<u8> {
     body
 }
 
-// That it is the CloseSession of the lines, with that flag.
-fn assert_close_session(rt: &impl Abort, request: &CloseSessionRequest, flag: bool) {
+// Whether it is the CloseSession of the lines, with that flag.
+fn is_close_session(request: &CloseSessionRequest, flag: bool) -> bool {
     let header = &request.request_header;
-    assert!(rt; is_number(&header.authentication_token, 2, 1));
-    assert_eq!(rt; header.timestamp.ticks, EPOCH.ticks);
-    assert_eq!(rt; header.request_handle, 9);
-    assert_eq!(rt; request.delete_subscriptions, flag);
+    is_number(&header.authentication_token, 2, 1)
+        && header.timestamp.ticks == EPOCH.ticks
+        && header.request_handle == 9
+        && request.delete_subscriptions == flag
 }
 
 // That the CloseSession with this last octet has that flag; what it is written as.
@@ -59,7 +59,7 @@ fn rewritten(rt: &impl Abort, alloc: Global, last: u8, flag: bool) -> Vec<u8> {
     let Request::CloseSession(message) = &request else {
         panic!(rt; "another request");
     };
-    assert_close_session(rt, message, flag);
+    assert!(rt; is_close_session(message, flag));
     request_octets(rt, alloc, request)
 }
 

@@ -1,16 +1,16 @@
 -- The loop that reads so many values, against the list of them all.
-use Rattle.std.specs.Prelude.{◌≡◌, ℕ, zero, suc, ◌+◌, ◌-◌, ◌<◌, ◌≤◌, ◌^◌, List, [], ◌∷◌, ◌++◌, length, IsTrue, Option, Some, None, Result, Ok, Err, nat_lt, cond, true, false, Bool, is_none}
-use Rattle.std.proofs.Common.{refl, sym, ◌∙◌, ap, subst, arith, append_assoc, length-append, ◌≢◌}
+use Rattle.std.specs.Prelude.{◌≡◌, ℕ, suc, ◌+◌, ◌-◌, ◌<◌, ◌≤◌, ◌^◌, List, [], ◌∷◌, ◌++◌, length, Option, Some, None, Err, cond, Bool, is_none}
+use Rattle.std.proofs.Common.{refl, sym, ◌∙◌, ap, arith, append_assoc, length-append}
 use Rattle.std.proofs.lemmas.List.{append-nil}
 use Rattle.ua_octets.specs.declared.fault.ReadFault.{ReadFault}
 use Rattle.ua_octets.specs.declared.fault.ReadFault.TheVariants.{NoValue, OutOfMemory}
 use Rattle.std.proofs.lemmas.Bool.{lt-ltb}
-use Rattle.ua_builtin.specs.Exact.{Exact, ◌>>=◌}
+use Rattle.ua_builtin.specs.Exact.{◌>>=◌}
 use Rattle.ua_builtin.specs.Number.{number_at}
-use Rattle.ua_builtin.specs.Format.{Format, flat, Within, Gives, GivesBy}
+use Rattle.ua_builtin.specs.Format.{Format, flat, Gives, GivesBy}
 use Rattle.ua_builtin.specs.Join.{only, TakesSome}
 use Rattle.ua_structures.specs.Kinds.{kind}
-use Rattle.ua_structures.specs.Array.{EachEncoded, AreItems, items_at, items, items_exact, array, behind_array_count, none_is}
+use Rattle.ua_structures.specs.Array.{EachEncoded, items_at, items, items_exact, array, behind_array_count, none_is}
 
 -- what was read stands in front of what is still to be read
 abbrev pub with_front : {A : Type 0} → List A → Option (List A × List ℕ) → Option (List A × List ℕ)

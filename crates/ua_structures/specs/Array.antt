@@ -1,11 +1,11 @@
 -- Arrays: a count, and that many values.
-use Rattle.std.specs.Prelude.{◌≡◌, ℕ, zero, suc, ◌+◌, ◌-◌, ◌<◌, ◌≤◌, ◌^◌, max, List, [], ◌∷◌, ◌++◌, Bool, true, false, ◌&&◌, cond, IsTrue, length, nat_eq, nat_lt, Option, Some, None, is_none}
+use Rattle.std.specs.Prelude.{◌≡◌, ℕ, zero, suc, ◌-◌, ◌≤◌, ◌^◌, max, List, [], ◌∷◌, ◌++◌, Bool, true, false, ◌&&◌, cond, IsTrue, length, nat_eq, nat_lt, Option, Some, None, is_none}
 use Rattle.std.specs.List.{flat_map, list_all}
-use Rattle.std.proofs.Common.{refl, sym, ◌∙◌, ap, subst, arith, append_assoc, length-append}
+use Rattle.std.proofs.Common.{refl, sym, ◌∙◌, ap, subst, arith, append_assoc}
 use Rattle.std.proofs.lemmas.Bool.{eqb-true}
 use Rattle.ua_builtin.specs.Exact.{Begins, Exact, ◌>>=◌, bind_some, some_is, both_true, not_false, exact_same}
 use Rattle.ua_builtin.specs.Number.{IsNumber}
-use Rattle.ua_builtin.specs.Format.{Flat, Format, Within, most_levels, flat}
+use Rattle.ua_builtin.specs.Format.{Format, Within, most_levels, flat}
 use Rattle.ua_builtin.specs.Join.{number, only, bind_starts, number_starts, TakesSome}
 use Rattle.ua_structures.specs.Kinds.{kind, headed, part_depth}
 

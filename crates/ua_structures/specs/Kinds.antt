@@ -1,6 +1,6 @@
 -- Formats, with levels, of values that come in several kinds.
-use Rattle.std.specs.Prelude.{◌≡◌, ℕ, ◌≤◌, List, [], ◌++◌, Bool, true, false, ◌&&◌, IsTrue, Option, Some, None}
-use Rattle.std.proofs.Common.{refl, sym, ◌∙◌, ap, subst, arith}
+use Rattle.std.specs.Prelude.{◌≡◌, ℕ, ◌≤◌, List, [], ◌++◌, Bool, false, ◌&&◌, IsTrue, Option, Some, None}
+use Rattle.std.proofs.Common.{refl, ◌∙◌, ap, arith}
 use Rattle.ua_builtin.specs.Exact.{Exact, both_true, not_false, Follows, then_read, exact_bind, Image, image_read, exact_image, exact_same}
 use Rattle.ua_builtin.specs.Format.{Flat, Format, Within, most_levels}
 

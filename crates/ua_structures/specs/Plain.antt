@@ -1,5 +1,5 @@
 -- Structures with nothing in them but what they are made for.
-use Rattle.std.specs.Prelude.{ℕ, List, [], ◌∷◌, Option, Some, None}
+use Rattle.std.specs.Prelude.{ℕ, List, Some, None}
 use lib.IntN.{pos}
 use Rattle.ua_builtin.specs.NodeId.{node}
 use Rattle.ua_builtin.specs.declared.date_time.DateTime.{DateTime}
@@ -7,7 +7,6 @@ use Rattle.ua_builtin.specs.declared.extension_object.ExtensionObject.{Extension
 use Rattle.ua_builtin.specs.declared.extension_object.ExtensionBody.TheVariants.{Absent}
 use Rattle.ua_builtin.specs.declared.node_id.NodeId.{NodeId}
 use Rattle.ua_builtin.specs.declared.node_id.Identifier.TheVariants.{Numeric}
-use Rattle.ua_builtin.specs.declared.qualified_name.QualifiedName.{QualifiedName}
 use Rattle.ua_builtin.specs.declared.status_code.StatusCode.{StatusCode}
 use Rattle.ua_variant.specs.declared.values.DataValue.{DataValue}
 use Rattle.ua_parts.specs.View.{no_diagnostics}

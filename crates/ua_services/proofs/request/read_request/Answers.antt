@@ -1,4 +1,4 @@
-use Rattle.std.proofs.Common.{◌≡◌, sym, None}
+use Rattle.std.proofs.Common.{sym}
 use Rattle.ua_services.proofs.RequestRead.{id_fails, not_supported, found_kind, refused_kind}
 use Rattle.ua_services.proofs.request.read_request.Goals as goal
 

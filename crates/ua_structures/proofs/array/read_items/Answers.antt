@@ -1,4 +1,4 @@
-use Rattle.std.proofs.Common.{◌≡◌, Vec, Global}
+use Rattle.std.proofs.Common.{Vec, Global}
 use Rattle.std.proofs.lemmas.Result.{err_from_is_err_and}
 use Rattle.ua_structures.proofs.ItemsRead.{goes_on, is_done, fault_ends}
 use Rattle.ua_structures.proofs.array.read_items.Goals as goal

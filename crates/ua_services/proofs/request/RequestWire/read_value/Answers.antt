@@ -1,4 +1,4 @@
-use Rattle.std.proofs.Common.{◌≡◌, sym, Some}
+use Rattle.std.proofs.Common.{sym}
 use Rattle.std.proofs.lemmas.Result.{err_from_is_err_and}
 use Rattle.ua_services.proofs.RequestRead.{value_header_fails, value_behind}
 use Rattle.ua_services.proofs.request.RequestWire.read_value.Goals as goal
