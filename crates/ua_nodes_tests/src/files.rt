@@ -6,8 +6,10 @@ use std::process::Abort;
 use ua_nodes::{LineReason, LoadFault, NodeTable, Stamps};
 
 fn is_refused(rt: &impl Abort, alloc: Global, text: &str, line: usize, reason: LineReason) {
-    let fault = NodeTable::load(alloc, text).err();
-    assert_eq!(rt; fault, Some(LoadFault::Line { line, reason }), "at {text}");
+    match NodeTable::load(alloc, text) {
+        Ok(_) => assert!(rt; false, "{text} was loaded"),
+        Err(fault) => assert_eq!(rt; fault, LoadFault::Line { line, reason }, "at {text}"),
+    }
 }
 
 #[test]
