@@ -222,8 +222,17 @@ fn a_fault_answers_an_open_request(rt: HostRuntime) {
 fn refuse(rt: &impl Abort, alloc: Global, body: &[u8]) {
     let request = read_open_request(alloc, &mut Octets::new(body)).err();
     let answer = read_open_response(alloc, &mut Octets::new(body)).err();
-    assert_eq!(rt; request, Some(ReadFault::NoValue));
-    assert_eq!(rt; answer, Some(ReadFault::NoValue));
+    assert!(rt; matches!(request, Some(ReadFault::NoValue)));
+    assert!(rt; matches!(answer, Some(ReadFault::NoValue)));
+}
+
+// That neither takes the octets of these lines with one more or one less.
+fn refuse_others(rt: &impl Abort, alloc: Global, lines: &[&str]) {
+    let mut body = octets(rt, alloc, lines);
+    body.push(0).expect(rt, "memory");
+    refuse(rt, alloc, &body);
+    body.truncate(body.len().saturating_sub(2));
+    refuse(rt, alloc, &body);
 }
 
 #[test]
@@ -231,11 +240,7 @@ fn other_octets_are_no_messages_of_the_channel(rt: HostRuntime) {
     let alloc = rt.alloc();
     refuse(&rt, alloc, &[]);
     refuse(&rt, alloc, &octets(&rt, alloc, CLOSE_REQUEST));
-    for lines in [OPEN_REQUEST, OPEN_RESPONSE, FAULT] {
-        let mut body = octets(&rt, alloc, lines);
-        body.push(0).expect(&rt, "memory");
-        refuse(&rt, alloc, &body);
-        body.truncate(body.len().saturating_sub(2));
-        refuse(&rt, alloc, &body);
-    }
+    refuse_others(&rt, alloc, OPEN_REQUEST);
+    refuse_others(&rt, alloc, OPEN_RESPONSE);
+    refuse_others(&rt, alloc, FAULT);
 }

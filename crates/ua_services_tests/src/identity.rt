@@ -29,8 +29,10 @@ fn object(rt: &impl Abort, alloc: Global, number: u32, line: &str) -> ExtensionO
 }
 
 // The identity in an object.
-fn identity(rt: &impl Abort, alloc: Global, object: &ExtensionObject) -> AnonymousIdentityToken {
-    read_identity(alloc, object).expect(rt, "an identity")
+fn identity(rt: &impl Abort, alloc: Global, object: ExtensionObject) -> AnonymousIdentityToken {
+    let token = read_identity(alloc, &object).expect(rt, "an identity");
+    let_go(object);
+    token
 }
 
 #[test]
@@ -39,35 +41,42 @@ fn an_identity_is_read_from_its_object(rt: HostRuntime) {
     let token = identity(
         &rt,
         alloc,
-        &object(&rt, alloc, 321, "09 00 00 00 'anonymous'"),
+        object(&rt, alloc, 321, "09 00 00 00 'anonymous'"),
     );
-    let null = identity(&rt, alloc, &object(&rt, alloc, 321, "FF FF FF FF"));
+    let null = identity(&rt, alloc, object(&rt, alloc, 321, "FF FF FF FF"));
     assert!(rt; is_text(&token.policy_id, "anonymous"));
     assert!(rt; !null.policy_id.is_some());
 }
 
 // That an object carries no identity.
-fn refuse(rt: &impl Abort, alloc: Global, object: &ExtensionObject) {
-    assert_eq!(rt;
-        read_identity(alloc, object).err(),
-        Some(ReadFault::NoValue)
-    );
+fn refuse(rt: &impl Abort, alloc: Global, object: ExtensionObject) {
+    let read = read_identity(alloc, &object).err();
+    assert!(rt; matches!(read, Some(ReadFault::NoValue)));
+    let_go(object);
 }
 
 #[test]
 fn other_objects_carry_no_identity(rt: HostRuntime) {
     let alloc = rt.alloc();
     let null = ExtensionBody::ByteString(UaBytes::null());
-    refuse(&rt, alloc, &object_of(321, null));
-    refuse(&rt, alloc, &object_of(321, ExtensionBody::Absent));
-    for (number, line) in [
-        (322, "09 00 00 00 'anonymous'"),
-        (321, "09 00 00 00 'anonymous' 00"),
-        (321, "09 00 00 00 'anonymou'"),
-        (321, ""),
-    ] {
-        refuse(&rt, alloc, &object(&rt, alloc, number, line));
-    }
+    refuse(&rt, alloc, object_of(321, null));
+    refuse(&rt, alloc, object_of(321, ExtensionBody::Absent));
+    refuse(&rt, alloc, object(&rt, alloc, 321, ""));
+    refuse(
+        &rt,
+        alloc,
+        object(&rt, alloc, 322, "09 00 00 00 'anonymous'"),
+    );
+    refuse(
+        &rt,
+        alloc,
+        object(&rt, alloc, 321, "09 00 00 00 'anonymous' 00"),
+    );
+    refuse(
+        &rt,
+        alloc,
+        object(&rt, alloc, 321, "09 00 00 00 'anonymou'"),
+    );
 }
 
 // That the object of an identity has the type i=321, and the octets of a line as its body.
