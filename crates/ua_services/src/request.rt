@@ -87,90 +87,6 @@ fn announced_kind(id: &NodeId) -> Option<RequestKind>
     }
 }
 
-// Reads the fields of a GetEndpoints request behind its header.
-fn read_get_endpoints<S: Source>(
-    alloc: Global,
-    src: &mut S,
-    depth: u32,
-    header: RequestHeader,
-) -> Result<Request, ReadFault>
-    ensures exact { Gives (behind_header RequestKind.GetEndpoints header depth) (S.octets src.old) (S.octets src.new) result }
-    ensures behind { StaysBehind (S.octets src.old) (S.octets src.new) }
-{
-    let message = GetEndpointsRequest::read_behind(alloc, src, depth, header)?;
-    Ok(Request::GetEndpoints(message))
-}
-
-// Reads the fields of a CreateSession request behind its header.
-fn read_create_session<S: Source>(
-    alloc: Global,
-    src: &mut S,
-    depth: u32,
-    header: RequestHeader,
-) -> Result<Request, ReadFault>
-    ensures exact { Gives (behind_header RequestKind.CreateSession header depth) (S.octets src.old) (S.octets src.new) result }
-    ensures behind { StaysBehind (S.octets src.old) (S.octets src.new) }
-{
-    let message = CreateSessionRequest::read_behind(alloc, src, depth, header)?;
-    Ok(Request::CreateSession(message))
-}
-
-// Reads the fields of an ActivateSession request behind its header.
-fn read_activate_session<S: Source>(
-    alloc: Global,
-    src: &mut S,
-    depth: u32,
-    header: RequestHeader,
-) -> Result<Request, ReadFault>
-    ensures exact { Gives (behind_header RequestKind.ActivateSession header depth) (S.octets src.old) (S.octets src.new) result }
-    ensures behind { StaysBehind (S.octets src.old) (S.octets src.new) }
-{
-    let message = ActivateSessionRequest::read_behind(alloc, src, depth, header)?;
-    Ok(Request::ActivateSession(message))
-}
-
-// Reads the fields of a CloseSession request behind its header.
-fn read_close_session<S: Source>(
-    alloc: Global,
-    src: &mut S,
-    depth: u32,
-    header: RequestHeader,
-) -> Result<Request, ReadFault>
-    ensures exact { Gives (behind_header RequestKind.CloseSession header depth) (S.octets src.old) (S.octets src.new) result }
-    ensures behind { StaysBehind (S.octets src.old) (S.octets src.new) }
-{
-    let message = CloseSessionRequest::read_behind(alloc, src, depth, header)?;
-    Ok(Request::CloseSession(message))
-}
-
-// Reads the fields of a Read request behind its header.
-fn read_read<S: Source>(
-    alloc: Global,
-    src: &mut S,
-    depth: u32,
-    header: RequestHeader,
-) -> Result<Request, ReadFault>
-    ensures exact { Gives (behind_header RequestKind.Read header depth) (S.octets src.old) (S.octets src.new) result }
-    ensures behind { StaysBehind (S.octets src.old) (S.octets src.new) }
-{
-    let message = ReadRequest::read_behind(alloc, src, depth, header)?;
-    Ok(Request::Read(message))
-}
-
-// Reads the fields of a Write request behind its header.
-fn read_write<S: Source>(
-    alloc: Global,
-    src: &mut S,
-    depth: u32,
-    header: RequestHeader,
-) -> Result<Request, ReadFault>
-    ensures exact { Gives (behind_header RequestKind.Write header depth) (S.octets src.old) (S.octets src.new) result }
-    ensures behind { StaysBehind (S.octets src.old) (S.octets src.new) }
-{
-    let message = WriteRequest::read_behind(alloc, src, depth, header)?;
-    Ok(Request::Write(message))
-}
-
 // Reads the fields of a request behind its header.
 fn read_behind<S: Source>(
     alloc: Global,
@@ -183,12 +99,22 @@ fn read_behind<S: Source>(
     ensures behind { StaysBehind (S.octets src.old) (S.octets src.new) }
 {
     match kind {
-        RequestKind::GetEndpoints => read_get_endpoints(alloc, src, depth, header),
-        RequestKind::CreateSession => read_create_session(alloc, src, depth, header),
-        RequestKind::ActivateSession => read_activate_session(alloc, src, depth, header),
-        RequestKind::CloseSession => read_close_session(alloc, src, depth, header),
-        RequestKind::Read => read_read(alloc, src, depth, header),
-        RequestKind::Write => read_write(alloc, src, depth, header),
+        RequestKind::GetEndpoints => GetEndpointsRequest::read_behind(
+            alloc, src, depth, header,
+        ).map(Request::GetEndpoints),
+        RequestKind::CreateSession => CreateSessionRequest::read_behind(
+            alloc, src, depth, header,
+        ).map(Request::CreateSession),
+        RequestKind::ActivateSession => ActivateSessionRequest::read_behind(
+            alloc, src, depth, header,
+        ).map(Request::ActivateSession),
+        RequestKind::CloseSession => CloseSessionRequest::read_behind(
+            alloc, src, depth, header,
+        ).map(Request::CloseSession),
+        RequestKind::Read => ReadRequest::read_behind(alloc, src, depth, header).map(Request::Read),
+        RequestKind::Write => WriteRequest::read_behind(alloc, src, depth, header).map(
+            Request::Write,
+        ),
     }
 }
 

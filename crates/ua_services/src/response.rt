@@ -109,82 +109,6 @@ fn announced_kind(id: &NodeId) -> Option<ResponseKind>
     }
 }
 
-// Reads the structure of a GetEndpoints response.
-fn read_get_endpoints<S: Source>(
-    alloc: Global,
-    src: &mut S,
-    depth: u32,
-) -> Result<Response, ReadFault>
-    ensures exact { Gives ((of_kind ResponseKind.GetEndpoints).decode depth) (S.octets src.old) (S.octets src.new) result }
-    ensures behind { StaysBehind (S.octets src.old) (S.octets src.new) }
-{
-    Ok(Response::GetEndpoints(Wire::read_value(alloc, src, depth)?))
-}
-
-// Reads the structure of a CreateSession response.
-fn read_create_session<S: Source>(
-    alloc: Global,
-    src: &mut S,
-    depth: u32,
-) -> Result<Response, ReadFault>
-    ensures exact { Gives ((of_kind ResponseKind.CreateSession).decode depth) (S.octets src.old) (S.octets src.new) result }
-    ensures behind { StaysBehind (S.octets src.old) (S.octets src.new) }
-{
-    Ok(Response::CreateSession(Wire::read_value(alloc, src, depth)?))
-}
-
-// Reads the structure of an ActivateSession response.
-fn read_activate_session<S: Source>(
-    alloc: Global,
-    src: &mut S,
-    depth: u32,
-) -> Result<Response, ReadFault>
-    ensures exact { Gives ((of_kind ResponseKind.ActivateSession).decode depth) (S.octets src.old) (S.octets src.new) result }
-    ensures behind { StaysBehind (S.octets src.old) (S.octets src.new) }
-{
-    Ok(Response::ActivateSession(Wire::read_value(alloc, src, depth)?))
-}
-
-// Reads the structure of a CloseSession response.
-fn read_close_session<S: Source>(
-    alloc: Global,
-    src: &mut S,
-    depth: u32,
-) -> Result<Response, ReadFault>
-    ensures exact { Gives ((of_kind ResponseKind.CloseSession).decode depth) (S.octets src.old) (S.octets src.new) result }
-    ensures behind { StaysBehind (S.octets src.old) (S.octets src.new) }
-{
-    Ok(Response::CloseSession(Wire::read_value(alloc, src, depth)?))
-}
-
-// Reads the structure of a Read response.
-fn read_read<S: Source>(alloc: Global, src: &mut S, depth: u32) -> Result<Response, ReadFault>
-    ensures exact { Gives ((of_kind ResponseKind.Read).decode depth) (S.octets src.old) (S.octets src.new) result }
-    ensures behind { StaysBehind (S.octets src.old) (S.octets src.new) }
-{
-    Ok(Response::Read(Wire::read_value(alloc, src, depth)?))
-}
-
-// Reads the structure of a Write response.
-fn read_write<S: Source>(alloc: Global, src: &mut S, depth: u32) -> Result<Response, ReadFault>
-    ensures exact { Gives ((of_kind ResponseKind.Write).decode depth) (S.octets src.old) (S.octets src.new) result }
-    ensures behind { StaysBehind (S.octets src.old) (S.octets src.new) }
-{
-    Ok(Response::Write(Wire::read_value(alloc, src, depth)?))
-}
-
-// Reads the structure of a ServiceFault.
-fn read_service_fault<S: Source>(
-    alloc: Global,
-    src: &mut S,
-    depth: u32,
-) -> Result<Response, ReadFault>
-    ensures exact { Gives ((of_kind ResponseKind.ServiceFault).decode depth) (S.octets src.old) (S.octets src.new) result }
-    ensures behind { StaysBehind (S.octets src.old) (S.octets src.new) }
-{
-    Ok(Response::ServiceFault(Wire::read_value(alloc, src, depth)?))
-}
-
 // Reads the structure of a response of that kind.
 fn read_kind<S: Source>(
     alloc: Global,
@@ -196,13 +120,23 @@ fn read_kind<S: Source>(
     ensures behind { StaysBehind (S.octets src.old) (S.octets src.new) }
 {
     match kind {
-        ResponseKind::GetEndpoints => read_get_endpoints(alloc, src, depth),
-        ResponseKind::CreateSession => read_create_session(alloc, src, depth),
-        ResponseKind::ActivateSession => read_activate_session(alloc, src, depth),
-        ResponseKind::CloseSession => read_close_session(alloc, src, depth),
-        ResponseKind::Read => read_read(alloc, src, depth),
-        ResponseKind::Write => read_write(alloc, src, depth),
-        ResponseKind::ServiceFault => read_service_fault(alloc, src, depth),
+        ResponseKind::GetEndpoints => Wire::read_value(alloc, src, depth).map(
+            Response::GetEndpoints,
+        ),
+        ResponseKind::CreateSession => Wire::read_value(alloc, src, depth).map(
+            Response::CreateSession,
+        ),
+        ResponseKind::ActivateSession => Wire::read_value(alloc, src, depth).map(
+            Response::ActivateSession,
+        ),
+        ResponseKind::CloseSession => Wire::read_value(alloc, src, depth).map(
+            Response::CloseSession,
+        ),
+        ResponseKind::Read => Wire::read_value(alloc, src, depth).map(Response::Read),
+        ResponseKind::Write => Wire::read_value(alloc, src, depth).map(Response::Write),
+        ResponseKind::ServiceFault => Wire::read_value(alloc, src, depth).map(
+            Response::ServiceFault,
+        ),
     }
 }
 
