@@ -42,9 +42,6 @@ pub fn append_message<T: Wire>(number: u32, value: &T, out: &mut Vec<u8>) -> Res
     Ok(())
 }
 
-/// Drops a value. Readers call it, so that their proofs need not take a message to pieces.
-pub fn discard<T: Drop>(_value: T) {}
-
 /// Reads the value that is the whole source, with nothing behind it.
 pub fn read_whole<T: Wire + Drop, S: Source>(alloc: Global, src: &mut S) -> Result<T, ReadFault>
     ensures found { IfOk result (λ m. IsBody T.format m (S.octets src.old)) }

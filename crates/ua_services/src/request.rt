@@ -9,7 +9,7 @@ ghost use Rattle.ua_octets.specs.declared.fault.ReadFault.TheVariants.{NoValue};
 ghost use Rattle.ua_services.specs.declared.fault.RequestFault.TheVariants.{Unreadable};
 
 use crate::fault::RequestFault;
-use crate::message::{LEVELS, append_message, discard, standard_number};
+use crate::message::{LEVELS, append_message, standard_number};
 use std::alloc::{AllocError, Global};
 use ua_builtin::{NodeId, ReadFault, Source, Wire, WriteFault};
 use ua_structures::{
@@ -201,7 +201,7 @@ fn read_announced<S: Source>(
         Err(fault) => return Err(unreadable(fault, handle)),
     };
     if src.left() > 0 {
-        discard(request);
+        drop(request);
         return Err(RequestFault::Unreadable(handle));
     }
     Ok(request)

@@ -9,7 +9,7 @@ ghost use Rattle.ua_octets.specs.declared.fault.ReadFault.TheVariants.{NoValue};
 ghost use Rattle.ua_services.specs.declared.fault.ResponseFault.TheVariants.{Unreadable};
 
 use crate::fault::ResponseFault;
-use crate::message::{LEVELS, append_message, discard, standard_number};
+use crate::message::{LEVELS, append_message, standard_number};
 use crate::request::RequestKind;
 use std::alloc::{AllocError, Global};
 use ua_builtin::{NodeId, ReadFault, Source, Wire, WriteFault};
@@ -216,7 +216,7 @@ pub fn read_response<S: Source>(alloc: Global, src: &mut S) -> Result<Response, 
         Err(fault) => return Err(unreadable(fault)),
     };
     if src.left() > 0 {
-        discard(response);
+        drop(response);
         return Err(ResponseFault::Unreadable);
     }
     Ok(response)

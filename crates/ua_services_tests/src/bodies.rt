@@ -13,9 +13,6 @@ use ua_services::{
     write_open_response, write_request, write_response,
 };
 
-/// Lets a value go.
-pub fn let_go<T: Drop>(_value: T) {}
-
 /// That octets are those of these lines.
 pub fn assert_octets(rt: &impl Abort, alloc: Global, found: &[u8], lines: &[&str]) {
     assert_eq!(rt; found, octets(rt, alloc, lines).as_slice());
@@ -28,7 +25,7 @@ pub fn request_of(rt: &impl Abort, alloc: Global, body: &[u8]) -> Request {
 pub fn request_octets(rt: &impl Abort, alloc: Global, request: Request) -> Vec<u8> {
     let mut out = Vec::new(alloc);
     write_request(&request, &mut out).expect(rt, "a body");
-    let_go(request);
+    drop(request);
     out
 }
 
@@ -39,7 +36,7 @@ pub fn response_of(rt: &impl Abort, alloc: Global, body: &[u8]) -> Response {
 pub fn response_octets(rt: &impl Abort, alloc: Global, response: Response) -> Vec<u8> {
     let mut out = Vec::new(alloc);
     write_response(&response, &mut out).expect(rt, "a body");
-    let_go(response);
+    drop(response);
     out
 }
 
@@ -50,7 +47,7 @@ pub fn open_request_of(rt: &impl Abort, alloc: Global, body: &[u8]) -> OpenReque
 pub fn open_request_octets(rt: &impl Abort, alloc: Global, request: OpenRequest) -> Vec<u8> {
     let mut out = Vec::new(alloc);
     write_open_request(&request, &mut out).expect(rt, "a body");
-    let_go(request);
+    drop(request);
     out
 }
 
@@ -61,7 +58,7 @@ pub fn open_answer_of(rt: &impl Abort, alloc: Global, body: &[u8]) -> OpenAnswer
 pub fn open_response_octets(rt: &impl Abort, alloc: Global, response: OpenResponse) -> Vec<u8> {
     let mut out = Vec::new(alloc);
     write_open_response(&response, &mut out).expect(rt, "a body");
-    let_go(response);
+    drop(response);
     out
 }
 
@@ -74,6 +71,6 @@ pub fn close_request_of(rt: &impl Abort, alloc: Global, body: &[u8]) -> CloseReq
 pub fn close_request_octets(rt: &impl Abort, alloc: Global, request: CloseRequest) -> Vec<u8> {
     let mut out = Vec::new(alloc);
     write_close_request(&request, &mut out).expect(rt, "a body");
-    let_go(request);
+    drop(request);
     out
 }

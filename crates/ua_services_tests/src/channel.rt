@@ -1,8 +1,8 @@
 //! The messages of the secure channel, octet by octet.
 
 use crate::bodies::{
-    assert_octets, close_request_octets, close_request_of, let_go, open_answer_of,
-    open_request_octets, open_request_of, open_response_octets,
+    assert_octets, close_request_octets, close_request_of, open_answer_of, open_request_octets,
+    open_request_of, open_response_octets,
 };
 use crate::octets::octets;
 use crate::parts::{
@@ -215,7 +215,7 @@ fn a_fault_answers_an_open_request(rt: HostRuntime) {
         panic!(rt; "no fault");
     };
     assert!(rt; is_unsupported(fault));
-    let_go(answer);
+    drop(answer);
 }
 
 // That neither reader of the channel takes these octets.

@@ -1,6 +1,6 @@
 //! A request of each kind with every field filled and every array of two.
 
-use crate::bodies::{assert_octets, let_go, request_octets, request_of};
+use crate::bodies::{assert_octets, request_octets, request_of};
 use crate::octets::octets;
 use crate::parts::{
     are_filled_certificates, are_texts, is_filled_application, is_filled_request_header,
@@ -158,7 +158,7 @@ fn every_field_of_get_endpoints_is_read(rt: HostRuntime) {
         panic!(rt; "another request");
     };
     assert!(rt; is_get_endpoints(message));
-    let_go(request);
+    drop(request);
 }
 
 // Whether every field is that of the lines.
@@ -183,7 +183,7 @@ fn every_field_of_create_session_is_read(rt: HostRuntime) {
         panic!(rt; "another request");
     };
     assert!(rt; is_create_session(message));
-    let_go(request);
+    drop(request);
 }
 
 // Whether every field is that of the lines.
@@ -202,7 +202,7 @@ fn every_field_of_activate_session_is_read(rt: HostRuntime) {
         panic!(rt; "another request");
     };
     assert!(rt; is_activate_session(message));
-    let_go(request);
+    drop(request);
 }
 
 #[test]
@@ -212,7 +212,7 @@ fn every_field_of_close_session_is_read(rt: HostRuntime) {
         panic!(rt; "another request");
     };
     assert!(rt; message.delete_subscriptions);
-    let_go(request);
+    drop(request);
 }
 
 // Whether it is the first item of the lines.
@@ -250,7 +250,7 @@ fn every_field_of_read_is_read(rt: HostRuntime) {
         panic!(rt; "another request");
     };
     assert!(rt; is_read(message));
-    let_go(request);
+    drop(request);
 }
 
 // Whether it is the first item of the lines.
@@ -284,5 +284,5 @@ fn every_field_of_write_is_read(rt: HostRuntime) {
         panic!(rt; "another request");
     };
     assert!(rt; is_write(message));
-    let_go(request);
+    drop(request);
 }

@@ -1,6 +1,6 @@
 //! A response of each kind with every field filled and every array of two.
 
-use crate::bodies::{assert_octets, let_go, response_octets, response_of};
+use crate::bodies::{assert_octets, response_octets, response_of};
 use crate::octets::octets;
 use crate::parts::{
     are_filled_certificates, is_filled_endpoint, is_filled_response_header, is_filled_value,
@@ -258,7 +258,7 @@ fn every_field_of_get_endpoints_is_read(rt: HostRuntime) {
         panic!(rt; "another response");
     };
     assert!(rt; are_filled_endpoints(&message.endpoints));
-    let_go(response);
+    drop(response);
 }
 
 // Whether every field is that of the lines.
@@ -281,7 +281,7 @@ fn every_field_of_create_session_is_read(rt: HostRuntime) {
         panic!(rt; "another response");
     };
     assert!(rt; is_create_session(message));
-    let_go(response);
+    drop(response);
 }
 
 #[test]
@@ -293,7 +293,7 @@ fn every_field_of_activate_session_is_read(rt: HostRuntime) {
     assert!(rt; is_octets(&message.server_nonce, &[0x0A]));
     assert!(rt; are_filled_codes(&message.results));
     assert!(rt; are_filled_diagnostics(&message.diagnostic_infos));
-    let_go(response);
+    drop(response);
 }
 
 // Whether every field is that of the lines.
@@ -312,7 +312,7 @@ fn every_field_of_read_is_read(rt: HostRuntime) {
         panic!(rt; "another response");
     };
     assert!(rt; is_read(message));
-    let_go(response);
+    drop(response);
 }
 
 #[test]
@@ -323,7 +323,7 @@ fn every_field_of_write_is_read(rt: HostRuntime) {
     };
     assert!(rt; are_filled_codes(&message.results));
     assert!(rt; are_filled_diagnostics(&message.diagnostic_infos));
-    let_go(response);
+    drop(response);
 }
 
 #[test]
@@ -332,6 +332,6 @@ fn responses_of_a_header_alone_are_read(rt: HostRuntime) {
     let fault = filled(&rt, rt.alloc(), SERVICE_FAULT);
     assert!(rt; matches!(&close, Response::CloseSession(_)));
     assert!(rt; matches!(&fault, Response::ServiceFault(_)));
-    let_go(close);
-    let_go(fault);
+    drop(close);
+    drop(fault);
 }

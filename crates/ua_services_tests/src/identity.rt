@@ -1,6 +1,6 @@
 //! The identity of a user, and which response answers which request.
 
-use crate::bodies::{assert_octets, let_go};
+use crate::bodies::assert_octets;
 use crate::octets::octets;
 use crate::parts::{EPOCH, is_number, is_text, null_node_id, text};
 use std::alloc::Global;
@@ -31,7 +31,7 @@ fn object(rt: &impl Abort, alloc: Global, number: u32, line: &str) -> ExtensionO
 // The identity in an object.
 fn identity(rt: &impl Abort, alloc: Global, object: ExtensionObject) -> AnonymousIdentityToken {
     let token = read_identity(alloc, &object).expect(rt, "an identity");
-    let_go(object);
+    drop(object);
     token
 }
 
@@ -52,7 +52,7 @@ fn an_identity_is_read_from_its_object(rt: HostRuntime) {
 fn refuse(rt: &impl Abort, alloc: Global, object: ExtensionObject) {
     let read = read_identity(alloc, &object).err();
     assert!(rt; matches!(read, Some(ReadFault::NoValue)));
-    let_go(object);
+    drop(object);
 }
 
 #[test]
@@ -129,7 +129,7 @@ fn a_request_is_answered_by_its_own_kind_or_a_fault(rt: HostRuntime) {
     assert!(rt; response.answers(RequestKind::CloseSession));
     assert!(rt; fault.answers(RequestKind::CloseSession));
     assert!(rt; !response.answers(RequestKind::Read));
-    let_go(request);
-    let_go(response);
-    let_go(fault);
+    drop(request);
+    drop(response);
+    drop(fault);
 }
