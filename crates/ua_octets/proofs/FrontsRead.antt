@@ -1,16 +1,18 @@
 -- Fields at the front of octets.
-use Rattle.std.proofs.Common.{◌≡◌, ℕ, ◌<◌, ◌≤◌, ◌^◌, Bool, true, false, cond, Option, Some, None, List, refl, sym, ◌∙◌, ap, subst, arith, length, take, drop, take-append-drop, ◌↔◌, inl, inr}
-use Rattle.std.specs.Prelude.{slice_index}
+use Rattle.std.proofs.Common.{◌≡◌, ℕ, ◌<◌, ◌≤◌, Bool, true, false, cond, Option, Some, None, List, refl, sym, ◌∙◌, ap, subst, arith, length, take, drop, take-append-drop, ◌↔◌, inl, inr}
+use Rattle.std.specs.Prelude.{slice_index, String, string_bytes}
 use Rattle.std.specs.Str.{is_utf8, IsUtf8}
+use Rattle.std.specs.declared.alloc.Global.{Global}
 use Rattle.std.proofs.lemmas.Bool.{lt-ltb, cases_lt}
 use Rattle.std.proofs.lemmas.List.{length-take, length-take-le, get_or-take, get_or_past}
-use Rattle.std.proofs.lemmas.Str.{is_utf8-from_IsUtf8}
+use Rattle.std.proofs.lemmas.Str.{is_utf8-from_IsUtf8, IsUtf8-from_is_utf8, IsUtf8-string_bytes}
 use Rattle.byteorder.specs.Endian.{little_number}
-use Rattle.ua_octets.specs.Counted.{counted, not_utf8, octets_at, octets_at-short, octets_taken, behind_count, octets as octets_of, list_of, is_there, there_is, is_null, null_is}
-use Rattle.ua_octets.specs.Format.{Flat}
-use Rattle.ua_octets.specs.Join.{image, only}
-use Rattle.ua_octets.specs.Exact.{◌>>=◌, not_false, image_read}
-use Rattle.ua_octets.specs.Number.{number_at, number_at-octets}
+use Rattle.ua_octets.specs.Exact.{◌>>=◌, image_read}
+use Rattle.ua_octets.specs.Number.{number_at}
+use Rattle.ua_octets.specs.Counted.{counted, octets_at, behind_count, first_negative}
+use Rattle.ua_octets.proofs.Readers.{not_false}
+use Rattle.ua_octets.proofs.NumbersRead.{number_at-octets}
+use Rattle.ua_octets.proofs.CountedRead.{octets_at-short, octets_taken}
 
 taken_below : (n : ℕ) (octets : List ℕ) → ((i : ℕ) → slice_index octets i < 256) → (i : ℕ) → slice_index (take n octets) i < 256
 taken_below n octets h i =
@@ -27,24 +29,35 @@ number_front octets h below =
 
 -- ---- octets behind their count
 
-counted_positive : (octets rest : List ℕ) (n : ℕ) → number_at 4 octets ≡ Some (n, rest) → n < 2 ^ 31 → counted.decode octets ≡ image_read Some (octets_at n) rest
+counted_positive : (octets rest : List ℕ) (n : ℕ) → number_at 4 octets ≡ Some (n, rest) → n < first_negative → counted.decode octets ≡ image_read Some (octets_at n) rest
 unfolding counted
 counted_positive octets rest n e small =
-    ap (λ (o : Option (ℕ × List ℕ)). o >>= λ x. (behind_count x.0).decode x.1) e
-    ∙ ap (λ (t : Bool). (cond {A = Flat (Option (List ℕ))} t (image Some list_of is_there there_is (octets_of n)) (only None is_null null_is)).decode rest) (lt-ltb n (2 ^ 31) small)
+    ap (λ (o : Option (ℕ × List ℕ)). o >>= λ x. behind_count x.0 x.1) e
+    ∙ ap (λ (t : Bool). cond t (image_read Some (octets_at n) rest) (Some (None, rest))) (lt-ltb n first_negative small)
 
-pub counted_short : (octets rest : List ℕ) (n : ℕ) → number_at 4 octets ≡ Some (n, rest) → n < 2 ^ 31 → length rest < n → counted.decode octets ≡ None
+pub counted_short : (octets rest : List ℕ) (n : ℕ) → number_at 4 octets ≡ Some (n, rest) → n < first_negative → length rest < n → counted.decode octets ≡ None
 counted_short octets rest n e small short =
     counted_positive octets rest n e small ∙ ap (λ (o : Option (List ℕ × List ℕ)). o >>= λ x. Some (Some x.0, x.1)) (octets_at-short n rest short)
 
 octets_there : (n : ℕ) (rest : List ℕ) → n ≤ length rest → octets_at n rest ≡ Some (take n rest, drop n rest)
 octets_there n rest h = ap (octets_at n) (sym (take-append-drop n rest)) ∙ octets_taken n (take n rest) (drop n rest) (length-take-le n rest h)
 
-pub counted_there : (octets rest : List ℕ) (n : ℕ) → number_at 4 octets ≡ Some (n, rest) → n < 2 ^ 31 → n ≤ length rest → counted.decode octets ≡ Some (Some (take n rest), drop n rest)
+pub counted_there : (octets rest : List ℕ) (n : ℕ) → number_at 4 octets ≡ Some (n, rest) → n < first_negative → n ≤ length rest → counted.decode octets ≡ Some (Some (take n rest), drop n rest)
 counted_there octets rest n e small there =
     counted_positive octets rest n e small ∙ ap (λ (o : Option (List ℕ × List ℕ)). o >>= λ x. Some (Some x.0, x.1)) (octets_there n rest there)
 
 -- ---- texts
+
+-- the octets of a text of std are UTF-8
+pub is_utf8_string : (s : String Global) → is_utf8 (string_bytes s) ≡ true
+is_utf8_string s = is_utf8-from_IsUtf8 (string_bytes s) (IsUtf8-string_bytes s)
+
+no_text : (octets : List ℕ) (test : Bool) → is_utf8 octets ≡ test → (IsUtf8 octets → ⊥) → is_utf8 octets ≡ false
+no_text octets true e h = absurd (h (IsUtf8-from_is_utf8 octets e))
+no_text octets false e h = e
+
+pub not_utf8 : (octets : List ℕ) → (IsUtf8 octets → ⊥) → is_utf8 octets ≡ false
+not_utf8 octets h = no_text octets (is_utf8 octets) refl h
 
 pub utf8_test : (b : Bool) (octets : List ℕ) → ((b ≡ true) ↔ IsUtf8 octets) → b ≡ is_utf8 octets
 utf8_test true octets h = sym (is_utf8-from_IsUtf8 octets (h.0 refl))

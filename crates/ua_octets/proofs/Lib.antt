@@ -1,2 +1,12 @@
+pub mod Readers
+pub mod NumbersRead
+pub mod CountedRead
+pub mod Lawfulness
+pub mod ScalarsLawful
+pub mod CountedLawful
+pub mod Leasts
+pub mod FormatLaws
+pub mod Behind
 pub mod FrontsRead
 pub mod ReadAnswers
+pub mod Seen

@@ -1,9 +1,10 @@
--- How octets encode the values of a type: the relation, the canonical encoding, and the reader on lists with its laws.
-use Rattle.std.specs.Prelude.{◌≡◌, ℕ, ◌≤◌, List, [], ◌++◌, Bool, IsTrue, Option, Some, None, Result, Ok, Err}
-use Rattle.std.proofs.Common.{refl, sym, ◌∙◌, ap, append_assoc, arith}
+-- How octets encode the values of a type: the relation, the canonical encoding, the reader on lists, and the laws that they keep.
+use Rattle.std.specs.Prelude.{◌≡◌, ℕ, ◌≤◌, List, [], ◌++◌, length, Bool, IsTrue, Option, Some, None, Result, Ok, Err}
 use Rattle.ua_octets.specs.declared.fault.ReadFault.{ReadFault}
 use Rattle.ua_octets.specs.declared.fault.ReadFault.TheVariants.{NoValue, OutOfMemory}
-use Rattle.ua_octets.specs.Exact.{Exact, exact_same}
+use Rattle.ua_octets.specs.Exact.{Exact}
+
+-- ---- formats
 
 -- the format of values that hold no values of levels of their own
 pub record Flat (A : Type 0) : Type 1 where
@@ -14,8 +15,37 @@ pub record Flat (A : Type 0) : Type 1 where
   pub canonical : A → List ℕ
   -- the value that octets begin with, and the octets behind it
   pub decode : List ℕ → Option (A × List ℕ)
-  pub exact : Exact encodes decode
-  pub canonical_encodes : (v : A) → IsTrue (encodable v) → encodes v (canonical v)
+
+-- the format of values that may hold values of their own kind, level below level
+pub record Format (A : Type 0) : Type 1 where
+  -- these octets encode the value; a value may have several encodings
+  pub encodes : A → List ℕ → Type 0
+  -- how many levels the value has
+  pub depth : A → ℕ
+  -- how many values it is: a Variant, DataValue or DiagnosticInfo is 1 and what it holds; of a structure or a list it is the sum; each other value is 1
+  pub count : A → ℕ
+  -- the value has a canonical encoding
+  pub encodable : A → Bool
+  pub canonical : A → List ℕ
+  -- the value of at most so many levels that octets begin with, and the octets behind it
+  pub decode : ℕ → List ℕ → Option (A × List ℕ)
+
+-- a flat format as a format: each value has 0 levels, and is one
+abbrev pub flat : {A : Type 0} → Flat A → Format A
+flat f = record {
+  encodes = f.encodes;
+  depth = λ v. 0;
+  count = λ v. 1;
+  encodable = f.encodable;
+  canonical = f.canonical;
+  decode = λ levels. f.decode;
+}
+
+-- ---- laws
+
+-- no value is encoded by no octets
+abbrev pub TakesSome : {A : Type 0} → (A → List ℕ → Type 0) → Type 0
+TakesSome {A = A} encodes = (v : A) → encodes v [] → ⊥
 
 -- the octets encode the value, which has at most so many levels
 abbrev pub Within : {A : Type 0} → (A → List ℕ → Type 0) → (A → ℕ) → ℕ → A → List ℕ → Type 0
@@ -25,38 +55,25 @@ Within encodes depth levels v b = encodes v b × (depth v ≤ levels)
 abbrev pub most_levels : ℕ
 most_levels = 100
 
--- the format of values that may hold values of their own kind, level below level
-pub record Format (A : Type 0) : Type 1 where
-  pub encodes : A → List ℕ → Type 0
-  -- how many levels the value has
-  pub depth : A → ℕ
-  pub encodable : A → Bool
-  pub canonical : A → List ℕ
-  -- the value of at most so many levels that octets begin with, and the octets behind it
-  pub decode : ℕ → List ℕ → Option (A × List ℕ)
-  pub exact : (levels : ℕ) → Exact (Within encodes depth levels) (decode levels)
-  pub canonical_encodes : (v : A) → IsTrue (encodable v) → encodes v (canonical v)
-  pub encodable_depth : (v : A) → IsTrue (encodable v) → depth v ≤ most_levels
+-- what a flat format owes
+pub record IsSound {A : Type 0} (f : Flat A) : Type 0 where
+  -- reading finds just what is encoded
+  pub exact : Exact f.encodes f.decode
+  -- what is written is an encoding of the value
+  pub canonical_encodes : (v : A) → IsTrue (f.encodable v) → f.encodes v (f.canonical v)
 
--- a flat format as a format: no value has levels
-pub exact_flat : {A : Type 0} (f : Flat A) (levels : ℕ) → Exact (Within f.encodes (λ v. 0) levels) f.decode
-exact_flat f levels = exact_same f.encodes (Within f.encodes (λ v. 0) levels) f.decode (λ v b h. (h, omega arith)) (λ v b h. h.0) f.exact
-
-pub no_levels : {A : Type 0} (f : Flat A) (v : A) → IsTrue (f.encodable v) → 0 ≤ most_levels
-no_levels f v h = omega arith
-
--- a flat format as a format: each value has 0 levels
-abbrev pub flat : {A : Type 0} → Flat A → Format A
-flat f = record {
-  encodes = f.encodes;
-  depth = λ v. 0;
-  encodable = f.encodable;
-  canonical = f.canonical;
-  decode = λ levels. f.decode;
-  exact = exact_flat f;
-  canonical_encodes = f.canonical_encodes;
-  encodable_depth = no_levels f;
-}
+-- what a format owes
+pub record IsLawful {A : Type 0} (f : Format A) : Type 0 where
+  -- reading finds just what is encoded and has at most the levels allowed
+  pub exact : (levels : ℕ) → Exact (Within f.encodes f.depth levels) (f.decode levels)
+  -- what is written is an encoding of the value
+  pub canonical_encodes : (v : A) → IsTrue (f.encodable v) → f.encodes v (f.canonical v)
+  -- what is written can be read again
+  pub encodable_depth : (v : A) → IsTrue (f.encodable v) → f.depth v ≤ most_levels
+  -- a value is at most as many values as its encoding has octets
+  pub counted : (v : A) (b : List ℕ) → f.encodes v b → f.count v ≤ length b
+  -- no encoding is empty
+  pub starts : TakesSome f.encodes
 
 -- ---- what readers and writers leave
 
@@ -65,18 +82,14 @@ pub record Behind (old new : List ℕ) : Type 0 where
   pub taken : List ℕ
   pub parts : old ≡ taken ++ new
 
-pub behind_then : (a b c : List ℕ) → Behind a b → Behind b c → Behind a c
-behind_then a b c p q = record { taken = p.taken ++ q.taken; parts = p.parts ∙ ap (λ (t : List ℕ). p.taken ++ t) q.parts ∙ sym (append_assoc p.taken q.taken c) }
-
 -- whatever what stood there was an end of, what is left is an end of it too
 abbrev pub StaysBehind : List ℕ → List ℕ → Type 0
 StaysBehind old new = (start : List ℕ) → Behind start old → Behind start new
 
-pub behind_is : (old new : List ℕ) → StaysBehind old new → Behind old new
-behind_is old new h = h old (record { taken = []; parts = refl })
-
-pub stays_behind : (old new : List ℕ) → Behind old new → StaysBehind old new
-stays_behind old new h start s = behind_then start old new s h
+-- these octets encode the value, or, where there is none, no value that may be read
+abbrev pub IsWhole : {A : Type 0} → Format A → List ℕ → Option A → Type 0
+IsWhole f octets (Some v) = f.encodes v octets
+IsWhole {A = A} f octets None = (v : A) → f.depth v ≤ most_levels → ¬ (f.encodes v octets)
 
 -- new begins with old
 pub record Extends (old new : List ℕ) : Type 0 where

@@ -7,14 +7,16 @@ use std::alloc::{AllocError, Global};
 
 /// Boolean, 1 octet (OPC 10000-6, 5.2.2.1).
 impl Wire for bool {
-    ghost use Rattle.ua_octets.specs.Boolean.{boolean, boolean_starts};
+    ghost use Rattle.ua_octets.specs.Boolean.{boolean};
     ghost use Rattle.ua_octets.specs.Format.{flat};
 
     ghost format = { flat boolean };
 
     ghost memoryless = { Unit {0} };
 
-    ghost starts = { boolean_starts };
+    #[inline]
+    #[tactic(auto, using(crate::proofs::ScalarsLawful::lawful_boolean))]
+    fn lawful() {}
 
     #[inline]
     #[tactic(auto, unfolding(crate::specs::Boolean::boolean))]

@@ -77,46 +77,50 @@ impl UaBytes {
 
 impl PartialEq for UaBytes {
     ghost use Rattle.std.specs.Cmp.{partial_equiv_from_equiv};
-    ghost use Rattle.ua_octets.specs.Same.{is_same, is_same_equivalence};
+    ghost use Rattle.ua_octets.specs.Same.{is_same};
+    ghost use Rattle.ua_octets.specs.SameLaws.{is_same_equivalence};
 
     ghost eq = { is_same };
 
     ghost laws = { partial_equiv_from_equiv is_same_equivalence };
 
-    #[tactic(auto, using(crate::specs::Same::seen))]
+    #[tactic(auto, using(crate::proofs::Seen::seen))]
     fn eq(&self, other: &UaBytes) -> bool {
         self.octets == other.octets
     }
 }
 
 impl Eq for UaBytes {
-    ghost use Rattle.ua_octets.specs.Same.{is_same_equivalence};
+    ghost use Rattle.ua_octets.specs.SameLaws.{is_same_equivalence};
 
     ghost laws = { is_same_equivalence };
 }
 
 impl Hash for UaBytes {
-    ghost use Rattle.ua_octets.specs.Same.{octets_hashed, octets_alike};
+    ghost use Rattle.ua_octets.specs.Same.{octets_hashed};
+    ghost use Rattle.ua_octets.specs.SameLaws.{octets_alike};
 
     ghost hash_input = { octets_hashed };
 
     ghost respects_eq = { octets_alike };
 
-    #[tactic(auto, using(crate::specs::Same::seen))]
+    #[tactic(auto, using(crate::proofs::Seen::seen))]
     fn hash<H: Hasher>(&self, state: &mut H) {
         self.octets.hash(state);
     }
 }
 
 impl Wire for UaBytes {
-    ghost use Rattle.ua_octets.specs.Counted.{counted, counted_starts, IsOverlong};
+    ghost use Rattle.ua_octets.specs.Counted.{counted, IsOverlong};
     ghost use Rattle.ua_octets.specs.Format.{flat};
 
     ghost format = { flat counted };
 
     ghost overlong = { IsOverlong };
 
-    ghost starts = { counted_starts };
+    #[inline]
+    #[tactic(auto, using(crate::proofs::CountedLawful::lawful_counted))]
+    fn lawful() {}
 
     #[inline]
     #[tactic(auto, unfolding(crate::specs::Counted::counted))]

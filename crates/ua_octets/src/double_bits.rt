@@ -13,13 +13,15 @@ pub struct DoubleBits {
 
 impl Wire for DoubleBits {
     ghost use Rattle.ua_octets.specs.Format.{flat};
-    ghost use Rattle.ua_octets.specs.DoubleBits.{double_bits, double_bits_starts};
+    ghost use Rattle.ua_octets.specs.DoubleBits.{double_bits};
 
     ghost format = { flat double_bits };
 
     ghost memoryless = { Unit {0} };
 
-    ghost starts = { double_bits_starts };
+    #[inline]
+    #[tactic(auto, using(crate::proofs::ScalarsLawful::lawful_double_bits))]
+    fn lawful() {}
 
     #[inline]
     #[tactic(auto, unfolding(crate::specs::DoubleBits::double_bits))]

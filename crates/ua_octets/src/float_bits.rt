@@ -13,13 +13,15 @@ pub struct FloatBits {
 
 impl Wire for FloatBits {
     ghost use Rattle.ua_octets.specs.Format.{flat};
-    ghost use Rattle.ua_octets.specs.FloatBits.{float_bits, float_bits_starts};
+    ghost use Rattle.ua_octets.specs.FloatBits.{float_bits};
 
     ghost format = { flat float_bits };
 
     ghost memoryless = { Unit {0} };
 
-    ghost starts = { float_bits_starts };
+    #[inline]
+    #[tactic(auto, using(crate::proofs::ScalarsLawful::lawful_float_bits))]
+    fn lawful() {}
 
     #[inline]
     #[tactic(auto, unfolding(crate::specs::FloatBits::float_bits))]

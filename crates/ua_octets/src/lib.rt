@@ -24,11 +24,11 @@ mod text;
 mod wire;
 
 pub use bytes::UaBytes;
-pub use counted::fill_octets;
+pub use counted::{FIRST_NEGATIVE, NULL_COUNT, fill_octets};
 pub use double_bits::DoubleBits;
 pub use fault::{ReadFault, WriteFault};
 pub use float_bits::FloatBits;
 pub use fronts::{front_number, is_text, split_counted, split_number};
 pub use source::{Octets, Source};
 pub use text::UaString;
-pub use wire::Wire;
+pub use wire::{MOST_LEVELS, Wire};

@@ -4,7 +4,7 @@ ghost use Rattle.std.specs.Prelude.{◌≡◌, length, Some, None, MatchResult};
 ghost use Rattle.byteorder.specs.Endian.{little_number};
 ghost use Rattle.ua_octets.specs.Format.{StaysBehind, flat};
 ghost use Rattle.ua_octets.specs.Number.{number_at};
-ghost use Rattle.ua_octets.specs.Join.{number, number_starts};
+ghost use Rattle.ua_octets.specs.Join.{number};
 ghost use Rattle.ua_octets.specs.declared.fault.ReadFault.TheVariants.{NoValue};
 
 use crate::fault::ReadFault;
@@ -15,7 +15,7 @@ use std::alloc::{AllocError, Global};
 
 /// Takes the octets of a number.
 #[inline]
-#[tactic(auto, using(crate::specs::Format::stays_behind))]
+#[tactic(auto, using(crate::proofs::Behind::stays_behind))]
 fn take_number<S: Source>(src: &mut S, octets: &mut [u8]) -> Result<(), ReadFault>
     ensures exact { MatchResult result (λ _. number_at (length octets.old) (S.octets src.old) ≡ Some (little_number (length octets.old) octets.new, S.octets src.new))
         (λ e. (e ≡ NoValue) × (number_at (length octets.old) (S.octets src.old) ≡ None)) }
@@ -33,7 +33,9 @@ impl Wire for u8 {
 
     ghost memoryless = { Unit {0} };
 
-    ghost starts = { number_starts 0 };
+    #[inline]
+    #[tactic(auto, using(crate::proofs::Lawfulness::lawful_8))]
+    fn lawful() {}
 
     #[inline]
     fn read_value<S: Source>(_alloc: Global, src: &mut S, _depth: u32) -> Result<u8, ReadFault> {
@@ -61,7 +63,9 @@ impl Wire for u16 {
 
     ghost memoryless = { Unit {0} };
 
-    ghost starts = { number_starts 1 };
+    #[inline]
+    #[tactic(auto, using(crate::proofs::Lawfulness::lawful_16))]
+    fn lawful() {}
 
     #[inline]
     fn read_value<S: Source>(_alloc: Global, src: &mut S, _depth: u32) -> Result<u16, ReadFault> {
@@ -91,7 +95,9 @@ impl Wire for u32 {
 
     ghost memoryless = { Unit {0} };
 
-    ghost starts = { number_starts 3 };
+    #[inline]
+    #[tactic(auto, using(crate::proofs::Lawfulness::lawful_32))]
+    fn lawful() {}
 
     #[inline]
     fn read_value<S: Source>(_alloc: Global, src: &mut S, _depth: u32) -> Result<u32, ReadFault> {
@@ -121,7 +127,9 @@ impl Wire for u64 {
 
     ghost memoryless = { Unit {0} };
 
-    ghost starts = { number_starts 7 };
+    #[inline]
+    #[tactic(auto, using(crate::proofs::Lawfulness::lawful_64))]
+    fn lawful() {}
 
     #[inline]
     fn read_value<S: Source>(_alloc: Global, src: &mut S, _depth: u32) -> Result<u64, ReadFault> {

@@ -7,13 +7,17 @@ use std::alloc::{AllocError, Global};
 
 /// Two values, one behind the other. A structure of many fields is read as nested pairs.
 impl<A: Wire + Drop, B: Wire + Drop> Wire for (A, B) {
-    ghost use Rattle.ua_octets.specs.Join.{pair, pair_starts};
+    ghost use Rattle.ua_octets.specs.Join.{pair};
 
     ghost format = { pair A.format B.format };
 
     ghost memoryless = { A.memoryless × B.memoryless };
 
-    ghost starts = { pair_starts A.format.encodes B.format.encodes A.starts };
+    #[inline]
+    fn lawful() {
+        A::lawful();
+        B::lawful();
+    }
 
     fn read_value<S: Source>(alloc: Global, src: &mut S, depth: u32) -> Result<(A, B), ReadFault> {
         let first = A::read_value(alloc, src, depth)?;

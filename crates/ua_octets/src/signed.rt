@@ -1,9 +1,8 @@
 //! Signed whole numbers, in two's complement.
 
-ghost use Rattle.std.specs.Prelude.{refl};
 ghost use Rattle.std.specs.Int.{w8, w16, w32, w64};
 ghost use Rattle.ua_octets.specs.Format.{flat};
-ghost use Rattle.ua_octets.specs.Signed.{signed, signed_starts};
+ghost use Rattle.ua_octets.specs.Signed.{signed};
 
 use crate::fault::ReadFault;
 use crate::source::Source;
@@ -16,7 +15,9 @@ impl Wire for i8 {
 
     ghost memoryless = { Unit {0} };
 
-    ghost starts = { signed_starts w8 0 refl };
+    #[inline]
+    #[tactic(auto, using(crate::proofs::ScalarsLawful::lawful_signed_8))]
+    fn lawful() {}
 
     #[inline]
     fn read_value<S: Source>(alloc: Global, src: &mut S, depth: u32) -> Result<i8, ReadFault> {
@@ -44,7 +45,9 @@ impl Wire for i16 {
 
     ghost memoryless = { Unit {0} };
 
-    ghost starts = { signed_starts w16 1 refl };
+    #[inline]
+    #[tactic(auto, using(crate::proofs::ScalarsLawful::lawful_signed_16))]
+    fn lawful() {}
 
     #[inline]
     fn read_value<S: Source>(alloc: Global, src: &mut S, depth: u32) -> Result<i16, ReadFault> {
@@ -72,7 +75,9 @@ impl Wire for i32 {
 
     ghost memoryless = { Unit {0} };
 
-    ghost starts = { signed_starts w32 3 refl };
+    #[inline]
+    #[tactic(auto, using(crate::proofs::ScalarsLawful::lawful_signed_32))]
+    fn lawful() {}
 
     #[inline]
     fn read_value<S: Source>(alloc: Global, src: &mut S, depth: u32) -> Result<i32, ReadFault> {
@@ -100,7 +105,9 @@ impl Wire for i64 {
 
     ghost memoryless = { Unit {0} };
 
-    ghost starts = { signed_starts w64 7 refl };
+    #[inline]
+    #[tactic(auto, using(crate::proofs::ScalarsLawful::lawful_signed_64))]
+    fn lawful() {}
 
     #[inline]
     fn read_value<S: Source>(alloc: Global, src: &mut S, depth: u32) -> Result<i64, ReadFault> {

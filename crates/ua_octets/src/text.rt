@@ -94,46 +94,50 @@ impl UaString {
 
 impl PartialEq for UaString {
     ghost use Rattle.std.specs.Cmp.{partial_equiv_from_equiv};
-    ghost use Rattle.ua_octets.specs.Same.{is_same, is_same_equivalence};
+    ghost use Rattle.ua_octets.specs.Same.{is_same};
+    ghost use Rattle.ua_octets.specs.SameLaws.{is_same_equivalence};
 
     ghost eq = { is_same };
 
     ghost laws = { partial_equiv_from_equiv is_same_equivalence };
 
-    #[tactic(auto, using(crate::specs::Same::seen))]
+    #[tactic(auto, using(crate::proofs::Seen::seen))]
     fn eq(&self, other: &UaString) -> bool {
         self.text == other.text
     }
 }
 
 impl Eq for UaString {
-    ghost use Rattle.ua_octets.specs.Same.{is_same_equivalence};
+    ghost use Rattle.ua_octets.specs.SameLaws.{is_same_equivalence};
 
     ghost laws = { is_same_equivalence };
 }
 
 impl Hash for UaString {
-    ghost use Rattle.ua_octets.specs.Same.{text_hashed, text_alike};
+    ghost use Rattle.ua_octets.specs.Same.{text_hashed};
+    ghost use Rattle.ua_octets.specs.SameLaws.{text_alike};
 
     ghost hash_input = { text_hashed };
 
     ghost respects_eq = { text_alike };
 
-    #[tactic(auto, using(crate::specs::Same::seen))]
+    #[tactic(auto, using(crate::proofs::Seen::seen))]
     fn hash<H: Hasher>(&self, state: &mut H) {
         self.text.hash(state);
     }
 }
 
 impl Wire for UaString {
-    ghost use Rattle.ua_octets.specs.Counted.{text, text_starts, IsOverlong};
+    ghost use Rattle.ua_octets.specs.Counted.{text, IsOverlong};
     ghost use Rattle.ua_octets.specs.Format.{flat};
 
     ghost format = { flat text };
 
     ghost overlong = { IsOverlong };
 
-    ghost starts = { text_starts };
+    #[inline]
+    #[tactic(auto, using(crate::proofs::CountedLawful::lawful_text))]
+    fn lawful() {}
 
     #[tactic(auto, unfolding(crate::specs::Counted::text))]
     fn read_value<S: Source>(
@@ -151,7 +155,7 @@ impl Wire for UaString {
         }
     }
 
-    #[tactic(auto, using(crate::specs::Counted::is_utf8_string), unfolding(crate::specs::Counted::text, crate::specs::Counted::counted))]
+    #[tactic(auto, using(crate::proofs::FrontsRead::is_utf8_string), unfolding(crate::specs::Counted::text, crate::specs::Counted::counted))]
     fn is_encodable(&self) -> bool {
         match &self.text {
             None => true,
@@ -159,7 +163,7 @@ impl Wire for UaString {
         }
     }
 
-    #[tactic(auto, using(crate::specs::Counted::is_utf8_string), unfolding(crate::specs::Counted::text, crate::specs::Counted::counted))]
+    #[tactic(auto, using(crate::proofs::FrontsRead::is_utf8_string), unfolding(crate::specs::Counted::text, crate::specs::Counted::counted))]
     fn append(&self, out: &mut Vec<u8>) -> Result<(), AllocError> {
         match &self.text {
             None => NULL_COUNT.append(out)?,

@@ -1,17 +1,21 @@
 //! Values that octets encode.
 
-ghost use Rattle.std.specs.Prelude.{◌≡◌, ◌≤◌, ◌++◌, ℕ, List, [], IsTrue, IsFalse, OnOk, OnErr, IfOk, IfErr, IsErrOf, ◌↔◌};
+ghost use Rattle.std.specs.Prelude.{◌≡◌, ◌≤◌, ◌+◌, ◌++◌, ℕ, List, length, IsTrue, IsFalse, OnOk, OnErr, IfOk, IfErr, IsErrOf, ◌↔◌};
 ghost use Rattle.ua_octets.specs.Exact.{Begins};
-ghost use Rattle.ua_octets.specs.Format.{Format, Gives, Behind, StaysBehind, Extends};
+ghost use Rattle.ua_octets.specs.Format.{Format, IsLawful, most_levels, Gives, Behind, StaysBehind, Extends, IsWhole};
 ghost use Rattle.ua_octets.specs.declared.fault.ReadFault.TheVariants.{NoValue};
 ghost use Rattle.ua_octets.specs.declared.fault.WriteFault.TheVariants.{NotWritable};
 
 use crate::fault::{ReadFault, WriteFault};
-use crate::source::Source;
+use crate::source::{Octets, Source};
 use std::alloc::{AllocError, Global};
 
+/// The most levels of a value that is read or written: each Variant, DataValue or DiagnosticInfo
+/// within another is one more (OPC 10000-6, 5.2.2.12 and 5.2.2.16).
+pub const MOST_LEVELS: u32 = 100;
+
 /// A value that octets encode (OPC 10000-6, 5.2). `read` and `write` are for callers; a type
-/// gives `read_value`, `is_encodable` and `append`.
+/// gives `lawful`, `read_value`, `is_encodable` and `append`.
 pub trait Wire: Sized {
     /// Which octets encode which value, how many levels it has, and its canonical encoding.
     ghost format: { Format Self };
@@ -22,8 +26,13 @@ pub trait Wire: Sized {
     /// Reading takes no memory.
     ghost memoryless: { Type 0 } = { ⊥ };
 
+    /// Shows that reading finds just what is encoded, and that what is written is read.
+    fn lawful()
+        ensures { IsLawful format };
+
     /// Reads the value that the source begins with, as reading on lists does.
     fn read_value<S: Source>(alloc: Global, src: &mut S, depth: u32) -> Result<Self, ReadFault>
+        requires levels { depth ≤ most_levels }
         ensures exact { Gives (format.decode depth) (S.octets src.old) (S.octets src.new) result }
         ensures behind { StaysBehind (S.octets src.old) (S.octets src.new) }
         ensures long { overlong (S.octets src.old) → IsErrOf result NoValue }
@@ -39,23 +48,40 @@ pub trait Wire: Sized {
         ensures ok { OnOk result (out.new.items ≡ out.old.items ++ format.canonical self.now) }
         ensures err { OnErr result (Extends out.old.items out.new.items) };
 
-    /// No encoding is empty.
-    ghost starts: { (v : Self) → ¬ (format.encodes v []) };
-
     /// Reads the value that the source begins with, of at most `depth` levels, and takes just its
     /// octets. After a fault the source is to be given up.
     #[inline]
-    #[tactic(auto, using(crate::specs::Format::behind_is))]
+    #[tactic(auto, using(crate::proofs::Behind::behind_is))]
     final fn read<S: Source>(alloc: Global, src: &mut S, depth: u32) -> Result<Self, ReadFault>
+        requires levels { depth ≤ most_levels }
         ensures found { IfOk result (λ v. Begins format.encodes (S.octets src.old) v (S.octets src.new)) }
         ensures levels { IfOk result (λ v. format.depth v ≤ depth) }
+        ensures counted { IfOk result (λ v. format.count v + length (S.octets src.new) ≤ length (S.octets src.old)) }
         ensures none { IsErrOf result NoValue → (v : Self) (front rest : List ℕ) → S.octets src.old ≡ front ++ rest
             → format.depth v ≤ depth → ¬ (format.encodes v front) }
         ensures behind { Behind (S.octets src.old) (S.octets src.new) }
         ensures long { overlong (S.octets src.old) → IsErrOf result NoValue }
         ensures memory { memoryless → IfErr result (λ e. e ≡ NoValue) }
     {
+        Self::lawful();
         Self::read_value(alloc, src, depth)
+    }
+
+    /// The value that the octets encode, with nothing behind it, if they encode one of at most
+    /// [`MOST_LEVELS`] levels.
+    final fn read_whole(alloc: Global, octets: &[u8]) -> Result<Option<Self>, AllocError>
+    where
+        Self: Drop,
+        ensures { IfOk result (λ read. IsWhole format octets.now read) }
+    {
+        Self::lawful();
+        let mut src = Octets::new(octets);
+        match Self::read(alloc, &mut src, MOST_LEVELS) {
+            Ok(value) if src.left() == 0 => Ok(Some(value)),
+            Ok(_) => Ok(None),
+            Err(ReadFault::NoValue) => Ok(None),
+            Err(ReadFault::OutOfMemory) => Err(AllocError),
+        }
     }
 
     /// Adds the canonical encoding at the end. An error leaves what was there.

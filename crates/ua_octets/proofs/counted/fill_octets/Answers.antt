@@ -1,6 +1,7 @@
 use Rattle.std.proofs.Common.{◌≡◌, length, refl, ap, ◌∙◌, arith}
-use Rattle.ua_octets.specs.Format.{stays_behind}
-use Rattle.ua_octets.specs.Counted.{octets_at, octets_taken, octets_at-short}
+use Rattle.ua_octets.proofs.Behind.{stays_behind}
+use Rattle.ua_octets.specs.Counted.{octets_at}
+use Rattle.ua_octets.proofs.CountedRead.{octets_taken, octets_at-short}
 use Rattle.ua_octets.proofs.counted.fill_octets.Goals as goal
 
 pub returns-then-not-take_into-clause-exact : goal.returns-then-not-take_into-clause-exact

@@ -1,5 +1,5 @@
 use Rattle.std.proofs.Common.{arith}
-use Rattle.ua_octets.specs.Counted.{octets_at-short}
+use Rattle.ua_octets.proofs.CountedRead.{octets_at-short}
 use Rattle.ua_octets.proofs.counted.take_octets.Goals as goal
 
 pub returns-then-left-count-clause-exact : goal.returns-then-left-count-clause-exact

@@ -1,7 +1,7 @@
 use Rattle.std.proofs.Common.{refl, ap}
 use Rattle.std.proofs.lemmas.Str.{is_utf8-from_IsUtf8}
-use Rattle.ua_octets.specs.Exact.{not_false}
-use Rattle.ua_octets.specs.Counted.{not_utf8}
+use Rattle.ua_octets.proofs.Readers.{not_false}
+use Rattle.ua_octets.proofs.FrontsRead.{not_utf8}
 use Rattle.ua_octets.proofs.counted.text_of.Goals as goal
 
 pub returns-then-not-is_utf8 : goal.returns-then-not-is_utf8

@@ -1,5 +1,5 @@
 use Rattle.std.proofs.Common.{arith}
-use Rattle.ua_octets.specs.Number.{number_at-short}
+use Rattle.ua_octets.proofs.NumbersRead.{number_at-short}
 use Rattle.ua_octets.proofs.fronts.split_number.Goals as goal
 
 pub returns-then-octets-lt4 : goal.returns-then-octets-lt4

@@ -1,6 +1,7 @@
 use Rattle.std.proofs.Common.{◌≡◌, length, refl, ap, ◌∙◌, arith}
-use Rattle.ua_octets.specs.Format.{stays_behind}
-use Rattle.ua_octets.specs.Number.{number_at, number_at-octets, number_at-short}
+use Rattle.ua_octets.proofs.Behind.{stays_behind}
+use Rattle.ua_octets.specs.Number.{number_at}
+use Rattle.ua_octets.proofs.NumbersRead.{number_at-octets, number_at-short}
 use Rattle.ua_octets.proofs.numbers.take_number.Goals as goal
 
 pub returns-then-not-take_into-clause-exact : goal.returns-then-not-take_into-clause-exact

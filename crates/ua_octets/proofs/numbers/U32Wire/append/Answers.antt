@@ -1,4 +1,4 @@
-use Rattle.ua_octets.specs.Number.{little_bytes-is}
+use Rattle.ua_octets.proofs.NumbersRead.{little_bytes-is}
 use Rattle.ua_octets.proofs.numbers.U32Wire.append.Goals as goal
 
 pub returns-clause-ok : goal.returns-clause-ok

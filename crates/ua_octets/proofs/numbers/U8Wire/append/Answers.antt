@@ -1,5 +1,5 @@
 use Rattle.std.proofs.Common.{◌<◌, arith}
-use Rattle.ua_octets.specs.Number.{one_octet}
+use Rattle.ua_octets.proofs.NumbersRead.{one_octet}
 use Rattle.ua_octets.proofs.numbers.U8Wire.append.Goals as goal
 
 pub returns-clause-ok : goal.returns-clause-ok
