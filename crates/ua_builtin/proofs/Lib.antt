@@ -1,4 +1,9 @@
-pub mod Flagged
-pub mod NamesOnce
-pub mod NodeIdForms
+pub mod FlagBits
+pub mod Leasts
+pub mod PlainLawful
+pub mod NodeIdLawful
+pub mod LocalizedTextLawful
+pub mod ExpandedNodeIdLawful
+pub mod ExtensionObjectLawful
 pub mod Texts
+pub mod NamesOnce

@@ -7,13 +7,12 @@ use Rattle.uuid.specs.Text.{hyphenated_text, lower, parsed}
 use Rattle.uuid.proofs.TextLemmas.{by_index_length}
 use Rattle.base64.specs.Engines.{standard}
 use Rattle.base64.specs.GeneralPurpose.{encode_of, IsBytes}
-use Rattle.ua_octets.specs.Counted.{list_of}
 use Rattle.std.specs.Prelude.{codes}
 use Rattle.std.specs.Fmt.{decimal}
 use Rattle.std.proofs.lemmas.Str.Parse.{digit_at}
 use Rattle.std.proofs.lemmas.Fmt.{decimal_is_IsNumeral}
-use Rattle.ua_octets.specs.Exact.{some_is}
-use Rattle.ua_builtin.specs.NodeText.{semicolon, namespace_text, identifier_text, node_text, IsDecimal, IsGuidText, NamesIdentifier, NamesNamespace, NamesNode, filled, filled_identifier, HasNoSemicolon, IsCutAtSemicolon, IsRest}
+use Rattle.ua_octets.proofs.Readers.{some_is}
+use Rattle.ua_builtin.specs.NodeText.{list_of, semicolon, namespace_text, identifier_text, node_text, IsDecimal, IsGuidText, NamesIdentifier, NamesNamespace, NamesNode, filled, filled_identifier, HasNoSemicolon, IsCutAtSemicolon, IsRest}
 use Rattle.ua_builtin.specs.declared.guid.Guid.{Guid}
 use Rattle.ua_builtin.specs.declared.node_id.NodeId.{NodeId}
 use Rattle.ua_builtin.specs.declared.node_id.Identifier.{Identifier}

@@ -1,17 +1,86 @@
--- NodeIds: what names a node, and the forms in which it is encoded.
-use Rattle.std.specs.Prelude.{◌≡◌, ℕ, List, [], Bool, true, false, ◌&&◌, cond, IsTrue, Option, None, nat_eq, nat_lt}
-use Rattle.std.proofs.Common.{refl, ap, ◌∙◌}
-use Rattle.std.proofs.lemmas.Bool.{eqb-true}
-use Rattle.ua_octets.specs.Exact.{both_true, not_false}
-use Rattle.ua_octets.specs.Number.{IsNumber}
+-- NodeIds (OPC 10000-6, 5.2.2.9): what names a node, and the forms in which it is encoded.
+-- The node 72 of the namespace 0 is 00 48; "Hot" of the namespace 1 is 03 01 00 03 00 00 00 48 6F 74.
+use Rattle.std.specs.Prelude.{◌≡◌, ◌<◌, ◌^◌, ℕ, List, [], ◌∷◌, ◌++◌, Bool, true, false, ◌&&◌, cond, Option, None, nat_eq, nat_lt}
+use Rattle.ua_octets.specs.Exact.{then_read}
+use Rattle.ua_octets.specs.Number.{number_at, number_octets}
 use Rattle.ua_octets.specs.Format.{Flat}
-use Rattle.ua_octets.specs.Join.{number, nothing, bind, both, image, bind_starts, number_starts, TakesSome}
+use Rattle.ua_octets.specs.Join.{number, nothing, both, image}
 use Rattle.ua_octets.specs.Counted.{text, counted}
 use Rattle.ua_builtin.specs.Guid.{guid}
 use Rattle.ua_builtin.specs.declared.guid.Guid.{Guid}
 use Rattle.ua_builtin.specs.declared.node_id.NodeId.{NodeId}
 use Rattle.ua_builtin.specs.declared.node_id.Identifier.{Identifier}
 use Rattle.ua_builtin.specs.declared.node_id.Identifier.TheVariants.{Numeric, Text, Guid as Global, Opaque}
+
+-- the NodeId of a namespace and an identifier
+abbrev pub node : ℕ → Identifier → NodeId
+node n i = record { namespace = n; identifier = i }
+
+-- ---- which octets encode it
+
+-- 0x00, and the id as Byte; the namespace is 0
+pub record TwoOctet (v : NodeId) (b : List ℕ) : Type 0 where
+  pub id : ℕ
+  pub is : v ≡ node 0 (Numeric id)
+  pub id_fits : id < 256
+  pub octets : b ≡ 0x00 ∷ id ∷ []
+
+-- 0x01, the namespace as Byte, and the id as UInt16
+pub record FourOctet (v : NodeId) (b : List ℕ) : Type 0 where
+  pub namespace : ℕ
+  pub id : ℕ
+  pub is : v ≡ node namespace (Numeric id)
+  pub namespace_fits : namespace < 256
+  pub id_fits : id < 2 ^ 16
+  pub octets : b ≡ 0x01 ∷ namespace ∷ number_octets 2 id
+
+-- 0x02, the namespace as UInt16, and the id as UInt32
+pub record NumericForm (v : NodeId) (b : List ℕ) : Type 0 where
+  pub namespace : ℕ
+  pub id : ℕ
+  pub is : v ≡ node namespace (Numeric id)
+  pub namespace_fits : namespace < 2 ^ 16
+  pub id_fits : id < 2 ^ 32
+  pub octets : b ≡ 0x02 ∷ (number_octets 2 namespace ++ number_octets 4 id)
+
+-- 0x03, the namespace as UInt16, and the id as String
+pub record StringForm (v : NodeId) (b : List ℕ) : Type 0 where
+  pub namespace : ℕ
+  pub id : Option (List ℕ)
+  pub back : List ℕ
+  pub is : v ≡ node namespace (Text id)
+  pub namespace_fits : namespace < 2 ^ 16
+  pub id_encoded : text.encodes id back
+  pub octets : b ≡ 0x03 ∷ (number_octets 2 namespace ++ back)
+
+-- 0x04, the namespace as UInt16, and the id as Guid
+pub record GuidForm (v : NodeId) (b : List ℕ) : Type 0 where
+  pub namespace : ℕ
+  pub id : Guid
+  pub back : List ℕ
+  pub is : v ≡ node namespace (Global id)
+  pub namespace_fits : namespace < 2 ^ 16
+  pub id_encoded : guid.encodes id back
+  pub octets : b ≡ 0x04 ∷ (number_octets 2 namespace ++ back)
+
+-- 0x05, the namespace as UInt16, and the id as ByteString
+pub record OpaqueForm (v : NodeId) (b : List ℕ) : Type 0 where
+  pub namespace : ℕ
+  pub id : Option (List ℕ)
+  pub back : List ℕ
+  pub is : v ≡ node namespace (Opaque id)
+  pub namespace_fits : namespace < 2 ^ 16
+  pub id_encoded : counted.encodes id back
+  pub octets : b ≡ 0x05 ∷ (number_octets 2 namespace ++ back)
+
+-- the octets encode the NodeId in one of the six forms
+pub data EncodesNodeId (v : NodeId) (b : List ℕ) : Type 0 where
+  two_octet : TwoOctet v b → EncodesNodeId v b
+  four_octet : FourOctet v b → EncodesNodeId v b
+  numeric_form : NumericForm v b → EncodesNodeId v b
+  string_form : StringForm v b → EncodesNodeId v b
+  guid_form : GuidForm v b → EncodesNodeId v b
+  opaque_form : OpaqueForm v b → EncodesNodeId v b
 
 -- ---- kinds of identifier, and what each holds
 
@@ -71,103 +140,59 @@ octets_of (Text t) = None
 octets_of (Global g) = None
 octets_of (Opaque b) = b
 
-numeric_is : (i : Identifier) → IsTrue (is_numeric i) → i ≡ Numeric (number_of i)
-numeric_is (Numeric n) h = refl
-numeric_is (Text t) h = not_false h
-numeric_is (Global g) h = not_false h
-numeric_is (Opaque b) h = not_false h
-
-textual_is : (i : Identifier) → IsTrue (is_textual i) → i ≡ Text (text_of i)
-textual_is (Numeric n) h = not_false h
-textual_is (Text t) h = refl
-textual_is (Global g) h = not_false h
-textual_is (Opaque b) h = not_false h
-
-guid_is : (i : Identifier) → IsTrue (is_guid i) → i ≡ Global (guid_of i)
-guid_is (Numeric n) h = not_false h
-guid_is (Text t) h = not_false h
-guid_is (Global g) h = refl
-guid_is (Opaque b) h = not_false h
-
-opaque_is : (i : Identifier) → IsTrue (is_opaque i) → i ≡ Opaque (octets_of i)
-opaque_is (Numeric n) h = not_false h
-opaque_is (Text t) h = not_false h
-opaque_is (Global g) h = not_false h
-opaque_is (Opaque b) h = refl
-
--- the NodeId of a namespace and an identifier
-abbrev pub node : ℕ → Identifier → NodeId
-node n i = record { namespace = n; identifier = i }
-
--- ---- the forms
+-- ---- the forms, as they are read and written
 
 -- form 0x00: the namespace is 0, and the id is a Byte
 abbrev pub is_short : NodeId → Bool
 is_short v = nat_eq v.namespace 0 && is_numeric v.identifier
 
-pub short_back : (v : NodeId) → IsTrue (is_short v) → v ≡ node 0 (Numeric (number_of v.identifier))
-short_back v h =
-    let w = both_true (nat_eq v.namespace 0) (is_numeric v.identifier) h in
-    ap (node v.namespace) (numeric_is v.identifier w.1) ∙ ap (λ (n : ℕ). node n (Numeric (number_of v.identifier))) (eqb-true v.namespace 0 w.0)
-
 -- form 0x00: the id as Byte, in the namespace 0
 abbrev pub two_octets : Flat NodeId
-two_octets = image (λ n. node 0 (Numeric n)) (λ v. number_of v.identifier) is_short short_back (number 1)
-
-pub numeric_back : (v : NodeId) → IsTrue (is_numeric v.identifier) → v ≡ node v.namespace (Numeric (number_of v.identifier))
-numeric_back v h = ap (node v.namespace) (numeric_is v.identifier h)
+two_octets = image (λ n. node 0 (Numeric n)) (λ v. number_of v.identifier) is_short (number 1)
 
 -- forms 0x01 and 0x02: namespace and id, of so many octets
 abbrev pub numeric : ℕ → ℕ → Flat NodeId
-numeric m n = image (λ p. node p.0 (Numeric p.1)) (λ v. (v.namespace, number_of v.identifier)) (λ v. is_numeric v.identifier) numeric_back (both (number m) (number n))
-
-pub textual_back : (v : NodeId) → IsTrue (is_textual v.identifier) → v ≡ node v.namespace (Text (text_of v.identifier))
-textual_back v h = ap (node v.namespace) (textual_is v.identifier h)
+numeric m n = image (λ p. node p.0 (Numeric p.1)) (λ v. (v.namespace, number_of v.identifier)) (λ v. is_numeric v.identifier) (both (number m) (number n))
 
 -- form 0x03: namespace UInt16 and a String
 abbrev pub textual : Flat NodeId
-textual = image (λ p. node p.0 (Text p.1)) (λ v. (v.namespace, text_of v.identifier)) (λ v. is_textual v.identifier) textual_back (both (number 2) text)
-
-pub guid_back : (v : NodeId) → IsTrue (is_guid v.identifier) → v ≡ node v.namespace (Global (guid_of v.identifier))
-guid_back v h = ap (node v.namespace) (guid_is v.identifier h)
+textual = image (λ p. node p.0 (Text p.1)) (λ v. (v.namespace, text_of v.identifier)) (λ v. is_textual v.identifier) (both (number 2) text)
 
 -- form 0x04: namespace UInt16 and a Guid
 abbrev pub by_guid : Flat NodeId
-by_guid = image (λ p. node p.0 (Global p.1)) (λ v. (v.namespace, guid_of v.identifier)) (λ v. is_guid v.identifier) guid_back (both (number 2) guid)
-
-pub opaque_back : (v : NodeId) → IsTrue (is_opaque v.identifier) → v ≡ node v.namespace (Opaque (octets_of v.identifier))
-opaque_back v h = ap (node v.namespace) (opaque_is v.identifier h)
+by_guid = image (λ p. node p.0 (Global p.1)) (λ v. (v.namespace, guid_of v.identifier)) (λ v. is_guid v.identifier) (both (number 2) guid)
 
 -- form 0x05: namespace UInt16 and a ByteString
 abbrev pub opaque : Flat NodeId
-opaque = image (λ p. node p.0 (Opaque p.1)) (λ v. (v.namespace, octets_of v.identifier)) (λ v. is_opaque v.identifier) opaque_back (both (number 2) counted)
+opaque = image (λ p. node p.0 (Opaque p.1)) (λ v. (v.namespace, octets_of v.identifier)) (λ v. is_opaque v.identifier) (both (number 2) counted)
 
--- what stands behind the form octet, for each form from 0x00 to 0x05; there is no other (OPC 10000-6, 5.2.2.9)
+-- what stands behind the form octet, for each form from 0x00 to 0x05; there is no other
 abbrev pub in_form : ℕ → Flat NodeId
 in_form form =
-    cond (nat_eq form 0) two_octets
-    (cond (nat_eq form 1) (numeric 1 2)
-    (cond (nat_eq form 2) (numeric 2 4)
-    (cond (nat_eq form 3) textual
-    (cond (nat_eq form 4) by_guid
-    (cond (nat_eq form 5) opaque nothing)))))
+    cond (nat_eq form 0x00) two_octets
+    (cond (nat_eq form 0x01) (numeric 1 2)
+    (cond (nat_eq form 0x02) (numeric 2 4)
+    (cond (nat_eq form 0x03) textual
+    (cond (nat_eq form 0x04) by_guid
+    (cond (nat_eq form 0x05) opaque nothing)))))
 
--- the first form that fits
-abbrev pub numeric_form : ℕ → ℕ → ℕ
-numeric_form namespace number =
-    cond (nat_eq namespace 0 && nat_lt number 256) 0
-    (cond (nat_lt namespace 256 && nat_lt number 65536) 1 2)
+-- for a number the first form that fits
+abbrev pub shortest_form : ℕ → ℕ → ℕ
+shortest_form namespace number =
+    cond (nat_eq namespace 0 && nat_lt number 256) 0x00
+    (cond (nat_lt namespace 256 && nat_lt number 65536) 0x01 0x02)
 
 -- the form that is written: for a number the first that fits, else the one of the identifier's kind
 abbrev pub form_of : NodeId → ℕ
 form_of v =
-    cond (is_numeric v.identifier) (numeric_form v.namespace (number_of v.identifier))
-    (cond (is_textual v.identifier) 3 (cond (is_guid v.identifier) 4 5))
+    cond (is_numeric v.identifier) (shortest_form v.namespace (number_of v.identifier))
+    (cond (is_textual v.identifier) 0x03 (cond (is_guid v.identifier) 0x04 0x05))
 
--- the form octet, and what it says (OPC 10000-6, 5.2.2.9)
+-- the form octet, and what it says
 unfoldable pub node_id : Flat NodeId
-node_id = bind (number 1) in_form form_of
-
-pub node_id_starts : TakesSome node_id.encodes
-unfolding node_id
-node_id_starts = bind_starts (IsNumber 1) (λ form. (in_form form).encodes) (number_starts 0)
+node_id = record {
+  encodes = EncodesNodeId;
+  encodable = λ v. (in_form (form_of v)).encodable v;
+  canonical = λ v. number_octets 1 (form_of v) ++ (in_form (form_of v)).canonical v;
+  decode = then_read (number_at 1) (λ form. (in_form form).decode);
+}

@@ -5,7 +5,6 @@ use Rattle.std.specs.Str.Parse.{IsNumeral, digits_value}
 use Rattle.uuid.specs.Text.{hyphenated_text, lower, parsed}
 use Rattle.base64.specs.Engines.{standard}
 use Rattle.base64.specs.GeneralPurpose.{encode_of, IsBytes}
-use Rattle.ua_octets.specs.Counted.{list_of}
 use Rattle.ua_builtin.specs.NodeId.{node}
 use Rattle.ua_builtin.specs.declared.guid.Guid.{Guid}
 use Rattle.ua_builtin.specs.declared.node_id.NodeId.{NodeId}
@@ -13,6 +12,11 @@ use Rattle.ua_builtin.specs.declared.node_id.Identifier.{Identifier}
 use Rattle.ua_builtin.specs.declared.node_id.Identifier.TheVariants.{Numeric, Text, Guid as Global, Opaque}
 
 -- ---- the text of a NodeId (OPC 10000-6, 5.3.1.10)
+
+-- the octets, and none for null
+abbrev pub list_of : Option (List ℕ) → List ℕ
+list_of None = []
+list_of (Some v) = v
 
 -- the octet of `;`
 abbrev pub semicolon : ℕ

@@ -12,13 +12,15 @@ pub struct DateTime {
 
 impl Wire for DateTime {
     ghost use Rattle.ua_octets.specs.Format.{flat};
-    ghost use Rattle.ua_builtin.specs.DateTime.{date_time, date_time_starts};
+    ghost use Rattle.ua_builtin.specs.DateTime.{date_time};
 
     ghost format = { flat date_time };
 
     ghost memoryless = { Unit {0} };
 
-    ghost starts = { date_time_starts };
+    #[inline]
+    #[tactic(auto, using(crate::proofs::PlainLawful::lawful_date_time))]
+    fn lawful() {}
 
     #[inline]
     #[tactic(auto, unfolding(crate::specs::DateTime::date_time))]

@@ -61,11 +61,13 @@ impl ExpandedNodeId {
 
 impl Wire for ExpandedNodeId {
     ghost use Rattle.ua_octets.specs.Format.{flat};
-    ghost use Rattle.ua_builtin.specs.ExpandedNodeId.{expanded_node_id, expanded_node_id_starts};
+    ghost use Rattle.ua_builtin.specs.ExpandedNodeId.{expanded_node_id};
 
     ghost format = { flat expanded_node_id };
 
-    ghost starts = { expanded_node_id_starts };
+    #[inline]
+    #[tactic(auto, using(crate::proofs::ExpandedNodeIdLawful::lawful_expanded_node_id))]
+    fn lawful() {}
 
     #[tactic(auto, unfolding(crate::specs::ExpandedNodeId::expanded_node_id))]
     fn read_value<S: Source>(
@@ -89,13 +91,13 @@ impl Wire for ExpandedNodeId {
         })
     }
 
-    #[tactic(auto, using(crate::specs::ExpandedNodeId::octet_says), unfolding(crate::specs::ExpandedNodeId::expanded_node_id))]
+    #[tactic(auto, unfolding(crate::specs::ExpandedNodeId::expanded_node_id))]
     fn is_encodable(&self) -> bool {
         let _index = self.server_index;
         self.node_id.is_form_encodable() && flags::is_flagged_encodable(&self.namespace_uri)
     }
 
-    #[tactic(auto, using(crate::specs::ExpandedNodeId::octet_says), unfolding(crate::specs::ExpandedNodeId::expanded_node_id))]
+    #[tactic(auto, unfolding(crate::specs::ExpandedNodeId::expanded_node_id))]
     fn append(&self, out: &mut Vec<u8>) -> Result<(), AllocError> {
         self.octet().append(out)?;
         self.node_id.append_form(out)?;

@@ -53,11 +53,13 @@ impl ExtensionObject {
 
 impl Wire for ExtensionObject {
     ghost use Rattle.ua_octets.specs.Format.{flat};
-    ghost use Rattle.ua_builtin.specs.ExtensionObject.{extension_object, extension_object_starts};
+    ghost use Rattle.ua_builtin.specs.ExtensionObject.{extension_object};
 
     ghost format = { flat extension_object };
 
-    ghost starts = { extension_object_starts };
+    #[inline]
+    #[tactic(auto, using(crate::proofs::ExtensionObjectLawful::lawful_extension_object))]
+    fn lawful() {}
 
     #[tactic(auto, unfolding(crate::specs::ExtensionObject::extension_object))]
     fn read_value<S: Source>(

@@ -1,7 +1,7 @@
 //! What a mask flags: the bit of a part that is there, and texts that are there where it is set.
 
 ghost use Rattle.std.specs.Prelude.{◌≡◌, ◌≤◌, ◌++◌, IsTrue, OnOk, OnErr, is_some};
-ghost use Rattle.ua_octets.specs.Format.{Gives, StaysBehind, Extends};
+ghost use Rattle.ua_octets.specs.Format.{most_levels, Gives, StaysBehind, Extends};
 ghost use Rattle.ua_builtin.specs.Flags.{flag_bit, flagged_text};
 
 use std::alloc::{AllocError, Global};
@@ -23,6 +23,7 @@ pub fn read_flagged<S: Source>(
     depth: u32,
     set: bool,
 ) -> Result<UaString, ReadFault>
+    requires levels { depth ≤ most_levels }
     ensures exact { Gives ((flagged_text set).decode) (S.octets src.old) (S.octets src.new) result }
     ensures behind { StaysBehind (S.octets src.old) (S.octets src.new) }
 {

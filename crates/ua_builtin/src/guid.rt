@@ -13,13 +13,15 @@ pub struct Guid {
 
 impl Wire for Guid {
     ghost use Rattle.ua_octets.specs.Format.{flat};
-    ghost use Rattle.ua_builtin.specs.Guid.{guid, guid_starts};
+    ghost use Rattle.ua_builtin.specs.Guid.{guid};
 
     ghost format = { flat guid };
 
     ghost memoryless = { Unit {0} };
 
-    ghost starts = { guid_starts };
+    #[inline]
+    #[tactic(auto, using(crate::proofs::PlainLawful::lawful_guid))]
+    fn lawful() {}
 
     #[inline]
     #[tactic(auto, unfolding(crate::specs::Guid::guid))]

@@ -32,11 +32,13 @@ impl LocalizedText {
 
 impl Wire for LocalizedText {
     ghost use Rattle.ua_octets.specs.Format.{flat};
-    ghost use Rattle.ua_builtin.specs.LocalizedText.{localized_text, localized_text_starts};
+    ghost use Rattle.ua_builtin.specs.LocalizedText.{localized_text};
 
     ghost format = { flat localized_text };
 
-    ghost starts = { localized_text_starts };
+    #[inline]
+    #[tactic(auto, using(crate::proofs::LocalizedTextLawful::lawful_localized_text))]
+    fn lawful() {}
 
     #[tactic(auto, unfolding(crate::specs::LocalizedText::localized_text))]
     fn read_value<S: Source>(
@@ -53,12 +55,12 @@ impl Wire for LocalizedText {
         Ok(LocalizedText { locale, text })
     }
 
-    #[tactic(auto, using(crate::specs::LocalizedText::mask_flags), unfolding(crate::specs::LocalizedText::localized_text))]
+    #[tactic(auto, unfolding(crate::specs::LocalizedText::localized_text))]
     fn is_encodable(&self) -> bool {
         flags::is_flagged_encodable(&self.locale) && flags::is_flagged_encodable(&self.text)
     }
 
-    #[tactic(auto, using(crate::specs::LocalizedText::mask_flags), unfolding(crate::specs::LocalizedText::localized_text))]
+    #[tactic(auto, unfolding(crate::specs::LocalizedText::localized_text))]
     fn append(&self, out: &mut Vec<u8>) -> Result<(), AllocError> {
         let locale = flags::flag_of(LOCALE, self.locale.is_some());
         let text = flags::flag_of(TEXT, self.text.is_some());

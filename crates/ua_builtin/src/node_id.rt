@@ -50,8 +50,8 @@ impl Identifier {
 }
 
 impl NodeId {
-    ghost use Rattle.std.specs.Prelude.{◌≡◌, ◌++◌, IsTrue, IfOk, OnOk, OnErr};
-    ghost use Rattle.ua_octets.specs.Format.{Gives, StaysBehind, Extends};
+    ghost use Rattle.std.specs.Prelude.{◌≡◌, ◌≤◌, ◌++◌, IsTrue, IfOk, OnOk, OnErr};
+    ghost use Rattle.ua_octets.specs.Format.{most_levels, Gives, StaysBehind, Extends};
     ghost use Rattle.ua_builtin.specs.NodeId.{node, in_form, form_of};
 
     /// A node's name of these parts.
@@ -79,6 +79,7 @@ impl NodeId {
         depth: u32,
         form: u8,
     ) -> Result<NodeId, ReadFault>
+        requires levels { depth ≤ most_levels }
         ensures exact { Gives ((in_form form).decode) (S.octets src.old) (S.octets src.new) result }
         ensures behind { StaysBehind (S.octets src.old) (S.octets src.new) }
     {
@@ -184,11 +185,13 @@ impl NodeId {
 
 impl Wire for NodeId {
     ghost use Rattle.ua_octets.specs.Format.{flat};
-    ghost use Rattle.ua_builtin.specs.NodeId.{node_id, node_id_starts};
+    ghost use Rattle.ua_builtin.specs.NodeId.{node_id};
 
     ghost format = { flat node_id };
 
-    ghost starts = { node_id_starts };
+    #[inline]
+    #[tactic(auto, using(crate::proofs::NodeIdLawful::lawful_node_id))]
+    fn lawful() {}
 
     #[tactic(auto, unfolding(crate::specs::NodeId::node_id))]
     fn read_value<S: Source>(alloc: Global, src: &mut S, depth: u32) -> Result<NodeId, ReadFault> {

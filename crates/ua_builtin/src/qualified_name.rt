@@ -27,11 +27,13 @@ impl QualifiedName {
 
 impl Wire for QualifiedName {
     ghost use Rattle.ua_octets.specs.Format.{flat};
-    ghost use Rattle.ua_builtin.specs.QualifiedName.{qualified_name, qualified_name_starts};
+    ghost use Rattle.ua_builtin.specs.QualifiedName.{qualified_name};
 
     ghost format = { flat qualified_name };
 
-    ghost starts = { qualified_name_starts };
+    #[inline]
+    #[tactic(auto, using(crate::proofs::PlainLawful::lawful_qualified_name))]
+    fn lawful() {}
 
     #[tactic(auto, unfolding(crate::specs::QualifiedName::qualified_name))]
     fn read_value<S: Source>(

@@ -118,13 +118,15 @@ impl StatusCode {
 
 impl Wire for StatusCode {
     ghost use Rattle.ua_octets.specs.Format.{flat};
-    ghost use Rattle.ua_builtin.specs.Status.{status_code, status_code_starts};
+    ghost use Rattle.ua_builtin.specs.Status.{status_code};
 
     ghost format = { flat status_code };
 
     ghost memoryless = { Unit {0} };
 
-    ghost starts = { status_code_starts };
+    #[inline]
+    #[tactic(auto, using(crate::proofs::PlainLawful::lawful_status_code))]
+    fn lawful() {}
 
     #[inline]
     #[tactic(auto, unfolding(crate::specs::Status::status_code))]

@@ -24,11 +24,13 @@ impl XmlElement {
 
 impl Wire for XmlElement {
     ghost use Rattle.ua_octets.specs.Format.{flat};
-    ghost use Rattle.ua_builtin.specs.XmlElement.{xml_element, xml_element_starts};
+    ghost use Rattle.ua_builtin.specs.XmlElement.{xml_element};
 
     ghost format = { flat xml_element };
 
-    ghost starts = { xml_element_starts };
+    #[inline]
+    #[tactic(auto, using(crate::proofs::PlainLawful::lawful_xml_element))]
+    fn lawful() {}
 
     #[inline]
     #[tactic(auto, unfolding(crate::specs::XmlElement::xml_element))]

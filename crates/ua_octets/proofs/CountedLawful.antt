@@ -1,12 +1,12 @@
 -- The formats of octets, and of octets and texts behind their count, are sound and lawful.
-use Rattle.std.specs.Prelude.{ℕ, ◌≤◌, List, [], IsTrue, length, Option, Some, None}
+use Rattle.std.specs.Prelude.{ℕ, List, IsTrue, length, Option, Some, None}
 use Rattle.std.proofs.Common.{refl, arith}
 use Rattle.std.proofs.lemmas.Bool.{eqb-true, ltb-true}
 use Rattle.ua_octets.specs.Format.{flat, IsSound, IsLawful, TakesSome}
 use Rattle.ua_octets.specs.Counted.{octets, counted, text, is_text, first_negative, null_count, EncodesCounted, counted_fits, counted_octets}
 use Rattle.ua_octets.proofs.CountedRead.{exact_octets, exact_counted}
 use Rattle.ua_octets.proofs.Lawfulness.{sound_such, lawful_flat}
-use Rattle.ua_octets.proofs.Leasts.{counted_least, text_least}
+use Rattle.ua_octets.proofs.Leasts.{least_starts, counted_least, text_least}
 
 pub sound_octets : (n : ℕ) → IsSound (octets n)
 sound_octets n = record { exact = exact_octets n; canonical_encodes = λ v h. (eqb-true (length v) n h, refl) }
@@ -24,10 +24,10 @@ unfolding text
 sound_text = sound_such is_text sound_counted
 
 pub counted_starts : TakesSome counted.encodes
-counted_starts v h = absurd (let some : 4 ≤ length {A = ℕ} [] = counted_least v [] h in omega arith)
+counted_starts = least_starts 3 counted.encodes counted_least
 
 pub text_starts : TakesSome text.encodes
-text_starts v h = absurd (let some : 4 ≤ length {A = ℕ} [] = text_least v [] h in omega arith)
+text_starts = least_starts 3 text.encodes text_least
 
 pub lawful_counted : IsLawful (flat counted)
 lawful_counted = lawful_flat sound_counted counted_starts

@@ -1,10 +1,10 @@
 -- How many octets the encodings of each format take at least.
-use Rattle.std.specs.Prelude.{◌≡◌, ℕ, ◌+◌, ◌≤◌, List, ◌++◌, Bool, true, false, cond, length, Option, Some, None}
+use Rattle.std.specs.Prelude.{◌≡◌, ℕ, suc, ◌+◌, ◌≤◌, List, [], ◌++◌, Bool, true, false, cond, length, Option, Some, None}
 use Rattle.std.proofs.Common.{ap, ◌∙◌, arith, length-append}
 use Rattle.std.specs.Int.{Width}
 use Rattle.ua_octets.specs.Exact.{Follows, Joined, Image}
 use Rattle.ua_octets.specs.Number.{IsNumber, number_octets}
-use Rattle.ua_octets.specs.Format.{Flat}
+use Rattle.ua_octets.specs.Format.{Flat, TakesSome}
 use Rattle.ua_octets.specs.Least.{TakesLeast}
 use Rattle.ua_octets.specs.Signed.{signed, octets_of}
 use Rattle.ua_octets.specs.FloatBits.{float_bits}
@@ -14,6 +14,10 @@ use Rattle.ua_octets.proofs.NumbersRead.{length-number_octets}
 
 pub fewer_least : {A : Type 0} (m n : ℕ) (p : A → List ℕ → Type 0) → m ≤ n → TakesLeast n p → TakesLeast m p
 fewer_least m n p h least v b e = let enough : n ≤ length b = least v b e in omega arith
+
+-- an encoding of one octet or more is not empty
+pub least_starts : {A : Type 0} (n : ℕ) (p : A → List ℕ → Type 0) → TakesLeast (suc n) p → TakesSome p
+least_starts n p least v h = absurd (let some : suc n ≤ length {A = ℕ} [] = least v [] h in omega arith)
 
 pub number_least : (k : ℕ) → TakesLeast k (IsNumber k)
 number_least k v b h = let len : length b ≡ k = ap length h.1 ∙ length-number_octets k v in omega arith

@@ -107,3 +107,10 @@ number_at-short (suc k) (x ∷ octets) h = short_guard (nat_lt x 256) (ap (λ o.
 pub one_octet : (n : ℕ) → n < 256 → number_octets 1 n ≡ n ∷ []
 unfolding number_octets
 one_octet n h = let e : n % 256 ≡ n = omega arith in ap (λ (x : ℕ). x ∷ []) e
+
+-- a number of one octet, and what stands behind it
+pub octet_front : (n : ℕ) (b front back : List ℕ) → b ≡ front ++ back → IsNumber 1 n front → b ≡ n ∷ back
+octet_front n b front back e h = e ∙ ap (λ (t : List ℕ). t ++ back) (h.1 ∙ one_octet n h.0)
+
+pub front_octet : (n : ℕ) (b back : List ℕ) → n < 256 → b ≡ n ∷ back → b ≡ number_octets 1 n ++ back
+front_octet n b back h e = e ∙ ap (λ (t : List ℕ). t ++ back) (sym (one_octet n h))

@@ -55,6 +55,12 @@ exact_same p q read there back e = record {
   complete = λ v front rest h. e.complete v front rest (back v front h);
 }
 
+-- ---- of two readers, the one that a test chooses
+
+pub exact_chosen : {A : Type 0} (test : Bool) (p : A → List ℕ → Type 0) (r s : List ℕ → Option (A × List ℕ)) → (test ≡ true → Exact p r) → (test ≡ false → Exact p s) → Exact p (λ octets. cond test (r octets) (s octets))
+exact_chosen true p r s one other = one refl
+exact_chosen false p r s one other = other refl
+
 -- ---- one behind the other, the second by what the first is
 
 two_fronts : (octets front middle back rest : List ℕ) → octets ≡ front ++ middle → middle ≡ back ++ rest → octets ≡ (front ++ back) ++ rest

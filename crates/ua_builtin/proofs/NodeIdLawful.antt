@@ -1,11 +1,75 @@
--- The format of NodeIds encodes them in the six forms of the standard's table, and in no other.
-use Rattle.std.proofs.Common.{◌≡◌, ◌<◌, ◌⊎◌, inl, inr, ◌↔◌, ℕ, Bool, true, false, cond, nat_eq, List, [], ◌∷◌, ◌++◌, refl, sym, ap, subst, ◌∙◌, arith, lit<}
+-- The format of NodeIds is sound and lawful: the forms, as they are read and written, are those of the standard's table.
+use Rattle.std.specs.Prelude.{IsTrue, nat_lt, ◌&&◌, List, [], ◌∷◌, ◌++◌}
+use Rattle.std.proofs.Common.{◌≡◌, ◌<◌, ◌⊎◌, inl, inr, ℕ, Bool, true, false, cond, nat_eq, refl, sym, ap, subst, ◌∙◌, arith, lit<}
 use Rattle.std.proofs.lemmas.Bool.{eqb-true}
-use Rattle.ua_octets.specs.Number.{number_octets, one_octet}
-use Rattle.ua_octets.specs.Format.{Flat}
-use Rattle.ua_builtin.specs.NodeId.{node_id, in_form, two_octets, numeric, textual, by_guid, opaque}
-use Rattle.ua_builtin.specs.NodeIdForms.{TwoOctet, FourOctet, NumericForm, StringForm, GuidForm, OpaqueForm, EncodesNodeId, two_octet, four_octet, numeric_form, string_form, guid_form, opaque_form}
+use Rattle.ua_octets.specs.Exact.{Follows}
+use Rattle.ua_octets.specs.Number.{number_octets, number_at, IsNumber}
+use Rattle.ua_octets.specs.Format.{Flat, flat, IsSound, IsLawful}
+use Rattle.ua_octets.specs.Join.{nothing}
+use Rattle.ua_octets.proofs.Readers.{both_true, not_false, exact_same, exact_bind}
+use Rattle.ua_octets.proofs.NumbersRead.{one_octet, octet_front, front_octet, exact_number}
+use Rattle.ua_octets.proofs.Lawfulness.{sound_number, sound_nothing, sound_image, sound_both, sound_chosen, lawful_flat}
+use Rattle.ua_octets.proofs.CountedLawful.{sound_text, sound_counted}
+use Rattle.ua_octets.proofs.Leasts.{least_starts}
+use Rattle.ua_builtin.specs.NodeId.{node, node_id, in_form, form_of, is_short, two_octets, numeric, textual, by_guid, opaque, is_numeric, is_textual, is_guid, is_opaque, number_of, text_of, guid_of, octets_of, TwoOctet, FourOctet, NumericForm, StringForm, GuidForm, OpaqueForm, EncodesNodeId, two_octet, four_octet, numeric_form, string_form, guid_form, opaque_form}
 use Rattle.ua_builtin.specs.declared.node_id.NodeId.{NodeId}
+use Rattle.ua_builtin.specs.declared.node_id.Identifier.{Identifier}
+use Rattle.ua_builtin.specs.declared.node_id.Identifier.TheVariants.{Numeric, Text, Guid as Global, Opaque}
+use Rattle.ua_builtin.proofs.PlainLawful.{sound_guid}
+use Rattle.ua_builtin.proofs.Leasts.{node_id_least}
+
+-- ---- each form is sound
+
+of_numeric_is : (i : Identifier) → IsTrue (is_numeric i) → i ≡ Numeric (number_of i)
+of_numeric_is (Numeric n) h = refl
+of_numeric_is (Text t) h = not_false h
+of_numeric_is (Global g) h = not_false h
+of_numeric_is (Opaque b) h = not_false h
+
+of_textual_is : (i : Identifier) → IsTrue (is_textual i) → i ≡ Text (text_of i)
+of_textual_is (Numeric n) h = not_false h
+of_textual_is (Text t) h = refl
+of_textual_is (Global g) h = not_false h
+of_textual_is (Opaque b) h = not_false h
+
+of_guid_is : (i : Identifier) → IsTrue (is_guid i) → i ≡ Global (guid_of i)
+of_guid_is (Numeric n) h = not_false h
+of_guid_is (Text t) h = not_false h
+of_guid_is (Global g) h = refl
+of_guid_is (Opaque b) h = not_false h
+
+of_opaque_is : (i : Identifier) → IsTrue (is_opaque i) → i ≡ Opaque (octets_of i)
+of_opaque_is (Numeric n) h = not_false h
+of_opaque_is (Text t) h = not_false h
+of_opaque_is (Global g) h = not_false h
+of_opaque_is (Opaque b) h = refl
+
+short_back : (v : NodeId) → IsTrue (is_short v) → v ≡ node 0 (Numeric (number_of v.identifier))
+short_back v h =
+    let w = both_true (nat_eq v.namespace 0) (is_numeric v.identifier) h in
+    ap (node v.namespace) (of_numeric_is v.identifier w.1) ∙ ap (λ (n : ℕ). node n (Numeric (number_of v.identifier))) (eqb-true v.namespace 0 w.0)
+
+numeric_back : (v : NodeId) → IsTrue (is_numeric v.identifier) → v ≡ node v.namespace (Numeric (number_of v.identifier))
+numeric_back v h = ap (node v.namespace) (of_numeric_is v.identifier h)
+
+textual_back : (v : NodeId) → IsTrue (is_textual v.identifier) → v ≡ node v.namespace (Text (text_of v.identifier))
+textual_back v h = ap (node v.namespace) (of_textual_is v.identifier h)
+
+guid_back : (v : NodeId) → IsTrue (is_guid v.identifier) → v ≡ node v.namespace (Global (guid_of v.identifier))
+guid_back v h = ap (node v.namespace) (of_guid_is v.identifier h)
+
+opaque_back : (v : NodeId) → IsTrue (is_opaque v.identifier) → v ≡ node v.namespace (Opaque (octets_of v.identifier))
+opaque_back v h = ap (node v.namespace) (of_opaque_is v.identifier h)
+
+pub sound_in_form : (form : ℕ) → IsSound (in_form form)
+sound_in_form form =
+    sound_chosen (nat_eq form 0) two_octets _ (sound_image _ _ _ short_back (sound_number 1))
+    (sound_chosen (nat_eq form 1) (numeric 1 2) _ (sound_image _ _ _ numeric_back (sound_both (sound_number 1) (sound_number 2)))
+    (sound_chosen (nat_eq form 2) (numeric 2 4) _ (sound_image _ _ _ numeric_back (sound_both (sound_number 2) (sound_number 4)))
+    (sound_chosen (nat_eq form 3) textual _ (sound_image _ _ _ textual_back (sound_both (sound_number 2) sound_text))
+    (sound_chosen (nat_eq form 4) by_guid _ (sound_image _ _ _ guid_back (sound_both (sound_number 2) sound_guid))
+    (sound_chosen (nat_eq form 5) opaque nothing (sound_image _ _ _ opaque_back (sound_both (sound_number 2) sound_counted))
+    sound_nothing)))))
 
 -- ---- from the format to the forms
 
@@ -148,17 +212,46 @@ in_form_of v b (opaque_form h) = record {
   encoded = record { of = (h.namespace, h.id); is = h.is; encoded = record { front = number_octets 2 h.namespace; back = h.back; parts = refl; first_encoded = (h.namespace_fits, refl); second_encoded = h.id_encoded } };
 }
 
-to_format : (v : NodeId) (b : List ℕ) → EncodesNodeId v b → node_id.encodes v b
-unfolding node_id
-to_format v b h =
+form_there : (v : NodeId) (b : List ℕ) → Follows (IsNumber 1) (λ form. (in_form form).encodes) v b → EncodesNodeId v b
+form_there v b h = subst (EncodesNodeId v) (sym (octet_front h.head b h.front h.back h.parts h.head_encoded)) (form_is h.head v h.back h.rest_encoded)
+
+form_back : (v : NodeId) (b : List ℕ) → EncodesNodeId v b → Follows (IsNumber 1) (λ form. (in_form form).encodes) v b
+form_back v b h =
     let f = in_form_of v b h in
-    record { head = f.form; front = number_octets 1 f.form; back = f.back; parts = f.octets ∙ ap (λ (t : List ℕ). t ++ f.back) (sym (one_octet f.form (omega (arith, f.small)))); head_encoded = (omega (arith, f.small), refl); rest_encoded = f.encoded }
+    let fits : f.form < 256 = omega (arith, f.small) in
+    record { head = f.form; front = number_octets 1 f.form; back = f.back; parts = front_octet f.form b f.back fits f.octets; head_encoded = (fits, refl); rest_encoded = f.encoded }
 
-to_forms : (v : NodeId) (b : List ℕ) → node_id.encodes v b → EncodesNodeId v b
+-- ---- the whole
+
+short_below : (a b : Bool) → cond a 0 (cond b 1 2) < 6
+short_below true b = omega arith
+short_below false true = omega arith
+short_below false false = omega arith
+
+form_small : (n : ℕ) (i : Identifier) → form_of (node n i) < 6
+form_small n (Numeric k) = short_below (nat_eq n 0 && nat_lt k 256) (nat_lt n 256 && nat_lt k 65536)
+form_small n (Text t) = omega arith
+form_small n (Global g) = omega arith
+form_small n (Opaque b) = omega arith
+
+-- the form octet that a writer sets is one of the six
+pub form_below : (v : NodeId) → form_of v < 6
+form_below v = form_small v.namespace v.identifier
+
+written_form : (v : NodeId) → IsTrue ((in_form (form_of v)).encodable v) → EncodesNodeId v (number_octets 1 (form_of v) ++ (in_form (form_of v)).canonical v)
+written_form v h =
+    let small : form_of v < 6 = form_below v in
+    let fits : form_of v < 256 = omega arith in
+    subst (EncodesNodeId v) (ap (λ (t : List ℕ). t ++ (in_form (form_of v)).canonical v) (sym (one_octet (form_of v) fits))) (form_is (form_of v) v ((in_form (form_of v)).canonical v) ((sound_in_form (form_of v)).canonical_encodes v h))
+
+pub sound_node_id : IsSound node_id
 unfolding node_id
-to_forms v b h =
-    let octets : b ≡ h.head ∷ h.back = h.parts ∙ ap (λ (t : List ℕ). t ++ h.back) (h.head_encoded.1 ∙ one_octet h.head h.head_encoded.0) in
-    subst (EncodesNodeId v) (sym octets) (form_is h.head v h.back h.rest_encoded)
+sound_node_id = record {
+  exact =
+      exact_same (Follows (IsNumber 1) (λ form. (in_form form).encodes)) EncodesNodeId node_id.decode form_there form_back
+      (exact_bind (IsNumber 1) (number_at 1) (λ form. (in_form form).encodes) (λ form. (in_form form).decode) (exact_number 1) (λ form. (sound_in_form form).exact));
+  canonical_encodes = written_form;
+}
 
-pub node_id_in_forms : (v : NodeId) (b : List ℕ) → EncodesNodeId v b ↔ node_id.encodes v b
-node_id_in_forms v b = (to_format v b, to_forms v b)
+pub lawful_node_id : IsLawful (flat node_id)
+lawful_node_id = lawful_flat sound_node_id (least_starts 1 node_id.encodes node_id_least)
