@@ -30,7 +30,7 @@ pub use node_id::{Identifier, NodeId};
 pub use qualified_name::QualifiedName;
 pub use status_code::StatusCode;
 pub use ua_octets::{
-    DoubleBits, FIRST_NEGATIVE, FloatBits, MOST_LEVELS, NULL_COUNT, Octets, ReadFault, Source,
-    UaBytes, UaString, Wire, WriteFault,
+    DoubleBits, FIRST_NEGATIVE, FloatBits, MOST_LEVELS, NULL_COUNT, Octets, Parts, ReadFault,
+    Source, UaBytes, UaString, Wire, WriteFault,
 };
 pub use xml_element::XmlElement;

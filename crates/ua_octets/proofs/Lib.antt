@@ -8,5 +8,6 @@ pub mod Leasts
 pub mod FormatLaws
 pub mod Behind
 pub mod FrontsRead
+mod PartsRead
 pub mod ReadAnswers
 pub mod Seen

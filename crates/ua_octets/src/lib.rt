@@ -7,7 +7,7 @@
 #![tactic(auto)]
 
 mod boolean;
-mod bytes;
+mod byte_string;
 mod counted;
 mod double_bits;
 mod fault;
@@ -16,6 +16,7 @@ mod fronts;
 pub mod laws;
 mod numbers;
 mod pairs;
+mod parts;
 mod signed;
 mod source;
 #[cfg(test)]
@@ -23,12 +24,13 @@ mod tests;
 mod text;
 mod wire;
 
-pub use bytes::UaBytes;
+pub use byte_string::UaBytes;
 pub use counted::{FIRST_NEGATIVE, NULL_COUNT, fill_octets};
 pub use double_bits::DoubleBits;
 pub use fault::{ReadFault, WriteFault};
 pub use float_bits::FloatBits;
 pub use fronts::{front_number, is_text, split_counted, split_number};
+pub use parts::Parts;
 pub use source::{Octets, Source};
 pub use text::UaString;
 pub use wire::{MOST_LEVELS, Wire};

@@ -1,6 +1,6 @@
 //! String.
 
-use crate::bytes::UaBytes;
+use crate::byte_string::UaBytes;
 use crate::counted::{FIRST_NEGATIVE, NULL_COUNT, text_of};
 use crate::fault::ReadFault;
 use crate::source::Source;

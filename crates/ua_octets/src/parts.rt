@@ -1,0 +1,115 @@
+//! Octets that lie in several parts.
+
+ghost use Rattle.std.specs.Prelude.{◌≡◌, ◌≤◌, ◌<◌, ◌^◌, ◌++◌, ℕ, List, [], length};
+ghost use Rattle.std.specs.List.{concat};
+
+use crate::source::Source;
+use bytes::Bytes;
+use std::marker::Model;
+
+/// A source over parts that follow one another, as if they were joined. Empty parts are passed
+/// over. It takes no memory, and an octet costs the same however many parts there are.
+#[derive(Drop)]
+pub struct Parts<'a> {
+    /// What is left of the part that is being read.
+    front: &'a [u8],
+    /// The parts behind it.
+    behind: &'a [Bytes],
+    /// How many octets they have together.
+    left: usize,
+}
+
+impl<'a> Model for Parts<'a> {
+    ghost Value = { List ℕ };
+
+    ghost view = { λ p. p.front.now ++ concat p.behind.now };
+
+    ghost invariant = { λ p. p.left ≡ length (p.front.now ++ concat p.behind.now) };
+}
+
+/// The first part that is not empty, if there is one, and the parts behind it.
+#[inline]
+fn first_filled(parts: &[Bytes]) -> (&[u8], &[Bytes])
+    ensures octets { result.0.now ++ concat result.1.now ≡ concat parts.now }
+    ensures none { result.0.now ≡ [] → concat parts.now ≡ [] }
+{
+    let mut rest = parts;
+    while let Some((part, behind)) = rest.split_first() {
+        if !part.is_empty() {
+            return (part.as_slice(), behind);
+        }
+        rest = behind;
+    }
+    (&[], &[])
+}
+
+impl<'a> Parts<'a> {
+    /// The octets of the parts, joined, from the first on.
+    pub fn new(parts: &'a [Bytes]) -> Parts<'a>
+        requires { length (concat parts.now) < 2 ^ 64 }
+        ensures { result ≡ concat parts.now }
+    {
+        let mut left = 0;
+        for part in parts {
+            left += part.len();
+        }
+        Parts {
+            front: &[],
+            behind: parts,
+            left,
+        }
+    }
+
+    /// Takes the next octets that lie in one part, `most` of them where there are so many.
+    #[inline]
+    fn take_run(&mut self, most: usize) -> &'a [u8]
+        requires some { 0 < most }
+        requires left { most ≤ length self.old }
+        ensures octets { self.old ≡ result.now ++ self.new }
+        ensures some { 0 < length result.now }
+        ensures within { length result.now ≤ most }
+    {
+        if self.front.is_empty() {
+            (self.front, self.behind) = first_filled(self.behind);
+        }
+        let (run, front) = self.front.split_at(most.min(self.front.len()));
+        self.front = front;
+        self.left -= run.len();
+        run
+    }
+}
+
+impl Source for Parts<'_> {
+    ghost octets = { λ p. p };
+
+    #[inline]
+    fn left(&self) -> usize {
+        self.left
+    }
+
+    #[inline]
+    fn take_into(&mut self, out: &mut [u8]) -> bool {
+        if self.left < out.len() {
+            return false;
+        }
+        let mut filled = 0;
+        while filled < out.len() {
+            let run = self.take_run(out.len() - filled);
+            out[filled..filled + run.len()].copy_from_slice(run);
+            filled += run.len();
+        }
+        true
+    }
+
+    #[inline]
+    fn skip(&mut self, n: usize) -> bool {
+        if self.left < n {
+            return false;
+        }
+        let mut passed = 0;
+        while passed < n {
+            passed += self.take_run(n - passed).len();
+        }
+        true
+    }
+}
