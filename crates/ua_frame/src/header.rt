@@ -5,11 +5,11 @@ ghost use Rattle.ua_builtin.specs.Number.{number_octets};
 ghost use Rattle.ua_frame.specs.Kinds.{kind_octets};
 ghost use Rattle.ua_frame.specs.Frames.{kind_of, size_of, header_fault, frame_octets, IsSized};
 
-use crate::body::Body;
 use crate::fault::FrameFault;
 use crate::frame::Frame;
 use crate::gate::Gate;
 use crate::kind::Kind;
+use bytes::Bytes;
 use ua_octets::front_number;
 
 /// The number of octets of a header.
@@ -83,17 +83,17 @@ pub fn judge(gate: &Gate, header: &[u8]) -> Option<FrameFault>
 
 /// The frame of a header and all that follows it.
 #[tactic(auto, using(crate::proofs::Fronts::header_frame))]
-pub fn make_frame(header: &[u8], body: Vec<u8>) -> Frame
+pub fn make_frame(header: &[u8], body: Bytes) -> Frame
     requires head { length header.now ≡ 8 }
-    requires sized { size_of header.now ≡ 8 + length body.items }
+    requires sized { size_of header.now ≡ 8 + length body }
     requires known { IsSome (kind_of header.now) }
-    ensures octets { header.now ++ body.items ≡ frame_octets result }
+    ensures octets { header.now ++ body ≡ frame_octets result }
     ensures sized { IsSized result }
 {
     let kind = read_kind(header).unwrap();
     Frame {
         kind,
         flag: header[3],
-        body: Body::new(body),
+        body,
     }
 }

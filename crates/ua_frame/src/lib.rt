@@ -7,7 +7,6 @@
 
 mod ack;
 mod agreement;
-mod body;
 mod error;
 mod fault;
 mod frame;
@@ -24,7 +23,6 @@ mod whole;
 
 pub use ack::{Ack, ack_octets};
 pub use agreement::agree;
-pub use body::Body;
 pub use error::{ErrorFrame, error_frame};
 pub use fault::{FrameFault, GreetFault};
 pub use frame::Frame;

@@ -8,17 +8,18 @@ use crate::frame::Frame;
 use crate::gate::Gate;
 use crate::header;
 use crate::header::HEADER_LEN;
+use bytes::BytesMut;
 use std::alloc::{AllocError, Global};
 use std::mem;
 
 /// The octets of a frame that is not whole yet. Its header stands apart from its body, so that it
-/// is judged before any memory is taken, and the body is handed over as it is.
+/// is judged before any memory is taken, and the body is handed over as it is, in memory of its own.
 #[derive(Drop)]
 pub struct Unfinished {
     pub gate: Gate,
     header: [u8; HEADER_LEN],
     have: usize,
-    body: Vec<u8>,
+    body: BytesMut,
 }
 
 /// Puts the front of a piece where the header goes on.
@@ -33,13 +34,18 @@ fn fill(header: &mut [u8], have: usize, piece: &[u8]) -> usize
 }
 
 /// Adds the front of a piece to a body, up to the length that it is to have.
-fn extend(body: &mut Vec<u8>, len: usize, piece: &[u8]) -> Result<usize, AllocError>
+fn extend(alloc: Global, body: &mut BytesMut, len: usize, piece: &[u8]) -> Result<usize, AllocError>
     requires { length body.old.items ≤ len }
     ensures count { IfOk result (λ n. n ≡ min (len - length body.old.items) (length piece.now)) }
     ensures added { IfOk result (λ n. body.new.items ≡ body.old.items ++ take n piece.now) }
 {
     let n = (len - body.len()).min(piece.len());
-    body.extend_from_slice(&piece[..n])?;
+    if body.is_empty() {
+        // Copied as it is, where an added octet is first a zero.
+        *body = BytesMut::copy_from_slice(alloc, &piece[..n])?;
+    } else {
+        body.extend_from_slice(&piece[..n])?;
+    }
     Ok(n)
 }
 
@@ -54,7 +60,7 @@ impl Unfinished {
             gate,
             header: [0; HEADER_LEN],
             have: 0,
-            body: Vec::new(alloc),
+            body: BytesMut::new(alloc),
         }
     }
 
@@ -76,15 +82,18 @@ impl Unfinished {
         ensures gate { self.new.gate ≡ self.old.gate }
     {
         let len = header::read_size(&self.header) as usize - HEADER_LEN;
-        let Ok(n) = extend(&mut self.body, len, piece) else {
+        let Ok(n) = extend(alloc, &mut self.body, len, piece) else {
             *self = Unfinished::new(alloc, self.gate);
             return Err(FrameFault::OutOfMemory);
         };
         if self.body.len() < len {
             return Ok((n, None));
         }
-        let body = mem::replace(&mut self.body, Vec::new(alloc));
         self.have = 0;
+        let whole = mem::replace(&mut self.body, BytesMut::new(alloc));
+        let Ok(body) = whole.freeze() else {
+            return Err(FrameFault::OutOfMemory);
+        };
         Ok((n, Some(header::make_frame(&self.header, body))))
     }
 

@@ -1,4 +1,5 @@
-use Rattle.std.proofs.Common.{◌≡◌, ◌-◌, length, min, arith}
+use Rattle.std.proofs.Common.{◌≡◌, ◌-◌, ◌++◌, ◌∙◌, List, ℕ, length, min, sym, ap, arith}
+use Rattle.bytes.specs.Filled.{Filled}
 use Rattle.ua_frame.specs.Frames.{size_of}
 use Rattle.ua_frame.proofs.Parts.{good_header, starved, goes_on, completes}
 use Rattle.ua_frame.proofs.unfinished.Unfinished.go_on.Goals as goal
@@ -8,6 +9,12 @@ returns-in_default-clause-makes c =
     let u = c.args.self.now in
     let kept = c.requires.kept in
     (starved u.gate u.header u.body.items c.args.piece.now u.have kept.eight c.requires.header (kept.good c.requires.header), c.new.ensures.none)
+
+pub returns-in_default-freeze-clause-makes : goal.returns-in_default-freeze-clause-makes
+returns-in_default-freeze-clause-makes c =
+    let u = c.args.self.now in
+    let kept = c.requires.kept in
+    (starved u.gate u.header u.body.items c.args.piece.now u.have kept.eight c.requires.header (kept.good c.requires.header), ap (λ (b : Filled). b.items) c.replace-whole.ensures.after ∙ c.new-2.ensures.items)
 
 pub make_frame-requires-clause-known : goal.make_frame-requires-clause-known
 make_frame-requires-clause-known c = (good_header c.args.self.now.gate c.args.self.now.header (c.requires.kept.good c.requires.header)).0
@@ -24,4 +31,6 @@ returns-clause-makes c =
     let u = c.args.self.now in
     let kept = c.requires.kept in
     let count : c.in-Ok.n ≡ min (size_of u.header - 8 - length u.body.items) (length c.args.piece.now) = omega (arith, c.in-Ok.ensures.count, c.read_size.ensures) in
-    (completes u.gate u.header u.body.items c.args.piece.now u.have kept.eight c.requires.header (kept.good c.requires.header) c.in-Ok.n count (kept.part c.requires.header) c.extend.new.body.items c.in-Ok.ensures.added c.make_frame.result (omega (arith, c.if-len.false, c.read_size.ensures)) (cc) c.make_frame.ensures.sized, cc)
+    let body : c.in-Ok-freeze.body ≡ c.extend.new.body.items = c.in-Ok-freeze.ensures.ok ∙ ap (λ (b : Filled). b.items) c.replace-whole.ensures.value in
+    let octets = ap (λ (t : List ℕ). u.header ++ t) (sym body) ∙ c.make_frame.ensures.octets in
+    (completes u.gate u.header u.body.items c.args.piece.now u.have kept.eight c.requires.header (kept.good c.requires.header) c.in-Ok.n count (kept.part c.requires.header) c.extend.new.body.items c.in-Ok.ensures.added c.make_frame.result (omega (arith, c.if-len.false, c.read_size.ensures)) octets c.make_frame.ensures.sized, ap (λ (b : Filled). b.items) c.replace-whole.ensures.after ∙ c.new-2.ensures.items)
