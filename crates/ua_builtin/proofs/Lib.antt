@@ -1,3 +1,4 @@
+pub mod FirstReasons
 pub mod FlagBits
 pub mod Leasts
 pub mod PlainLawful

@@ -1,6 +1,7 @@
 pub mod Flags
 pub mod Guid
 pub mod Status
+pub mod Reasons
 pub mod DateTime
 pub mod XmlElement
 pub mod NodeId

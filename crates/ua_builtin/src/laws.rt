@@ -1,9 +1,10 @@
 //! Laws of the built-in types, each carried by a function without a body.
 
-ghost use Rattle.std.specs.Prelude.{◌≡◌, List, ℕ};
+ghost use Rattle.std.specs.Prelude.{◌≡◌, ◌++◌, List, ℕ, Bool, map, option_map};
 ghost use Rattle.std.specs.Bool.{Decides};
 ghost use Rattle.ua_builtin.specs.declared.node_id.NodeId.{NodeId};
 ghost use Rattle.ua_builtin.specs.NodeText.{NamesNode};
+ghost use Rattle.ua_builtin.specs.Reasons.{first_reason, or_else, renamed_reason};
 
 use crate::node_id::NodeId;
 pub use ua_octets::laws::{
@@ -20,4 +21,11 @@ pub fn equal_node_ids_are_the_same()
 /// empty identifier in place of a null one.
 pub fn texts_name_one_node_id()
     ensures { (v w : NodeId) (text : List ℕ) → NamesNode v text → NamesNode w text → v ≡ w }
+{}
+
+/// The first reason of two tables, one behind the other, is that of the first one, or else of the
+/// second; and by other names it is the same one.
+pub fn first_reasons<A, B>()
+    ensures joined { (reasons more : List (A × Bool)) → first_reason (reasons ++ more) ≡ or_else (first_reason reasons) (first_reason more) }
+    ensures renamed { (name : A → B) (reasons : List (A × Bool)) → first_reason (map (renamed_reason name) reasons) ≡ option_map name (first_reason reasons) }
 {}
