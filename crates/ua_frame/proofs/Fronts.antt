@@ -3,8 +3,9 @@ use Rattle.std.proofs.Common.{◌≡◌, ℕ, ◌+◌, ◌<◌, ◌≤◌, ◌^�
 use Rattle.std.specs.Prelude.{slice_index, find, if◌then◌else◌}
 use Rattle.std.proofs.lemmas.Bool.{eqb-true, ltb-false, le-ltb}
 use Rattle.std.proofs.lemmas.List.{take_at, nil_from_length}
-use Rattle.ua_builtin.specs.Exact.{both_true, some_is}
-use Rattle.ua_builtin.specs.Number.{number_octets, number_at, exact_number, length-number_octets}
+use Rattle.ua_octets.proofs.Readers.{both_true, some_is}
+use Rattle.ua_octets.specs.Number.{number_octets, number_at}
+use Rattle.ua_octets.proofs.NumbersRead.{exact_number, length-number_octets}
 use Rattle.ua_frame.specs.declared.fault.FrameFault.{FrameFault}
 use Rattle.ua_frame.specs.declared.fault.FrameFault.TheVariants.{UnknownType, OutOfPlace, TooLarge, TooSmall}
 use Rattle.ua_frame.specs.declared.frame.Frame.{Frame}
@@ -13,7 +14,7 @@ use Rattle.ua_frame.specs.declared.kind.Kind.{Kind}
 use Rattle.ua_frame.specs.declared.kind.Kind.TheVariants.{Hel, Ack, Msg, Opn, Clo}
 use Rattle.ua_frame.specs.declared.kind.Kind.TheVariants as kind
 use Rattle.ua_frame.specs.Kinds.{kind_octets, least_size, has_flag, lets_in}
-use Rattle.ua_frame.specs.Reasons.{first_reason}
+use Rattle.ua_builtin.specs.Reasons.{first_reason}
 use Rattle.ua_frame.specs.Frames.{frame_size, frame_octets, IsSized, LetsIn, names, all_kinds, kind_of, flag_of, number_in, size_of, header_reasons, header_fault}
 
 -- ---- more octets behind a header change nothing of it

@@ -1,6 +1,6 @@
 -- A greeting: what it makes of a HEL, and where it then stands.
 use Rattle.std.proofs.Common.{◌≡◌, ℕ, List, [], ◌++◌, false, Option, Some, None, Ok, Err, length, take, drop, refl, sym, ◌∙◌, ap, subst, arith, append_assoc, take-append-drop}
-use Rattle.ua_builtin.specs.Format.{flat}
+use Rattle.ua_builtin.specs.Format.{flat, IsWhole}
 use Rattle.ua_builtin.specs.Status.{of_code}
 use Rattle.ua_builtin.specs.declared.status_code.StatusCode.{StatusCode}
 use Rattle.ua_frame.specs.declared.ack.Ack.{Ack}
@@ -14,12 +14,13 @@ use Rattle.ua_frame.specs.declared.limits.Limits.{Limits}
 use Rattle.ua_frame.specs.Agreement.{hello_reasons, unless_refused, ack_to, agreed}
 use Rattle.ua_frame.specs.Faults.{refused_with}
 use Rattle.ua_frame.specs.Frames.{frame_octets, LetsIn, header_fault}
-use Rattle.ua_frame.specs.Greeting.{greeting_reasons, greeting_reasons_of, hello_gate, greeting_rules, IsAgreed, limits_of, IsDone, Waits, Greets, IsJudged}
+use Rattle.ua_frame.specs.Hello.{greeting_reasons, greeting_reasons_of, hello_gate}
+use Rattle.ua_frame.specs.Greeting.{greeting_rules, IsAgreed, limits_of, IsDone, Waits, Greets, IsJudged}
 use Rattle.ua_frame.specs.Messages.{hello}
 use Rattle.ua_frame.specs.Reader.{Reader, open_reader, TakesFrame}
-use Rattle.ua_frame.specs.Reasons.{first_reason}
+use Rattle.ua_builtin.specs.Reasons.{first_reason}
 use Rattle.ua_frame.specs.Run.{refusal, Over}
-use Rattle.ua_frame.specs.Whole.{IsWhole}
+use Rattle.ua_frame.proofs.MessagesLawful.{sound_hello}
 use Rattle.ua_frame.proofs.Wholes.{whole_encodes, whole_read}
 use Rattle.ua_frame.proofs.Streams.{run_nil, run_frame, run_refused}
 use Rattle.ua_frame.proofs.Unique.{frame_more_fault, frame_more_length}
@@ -37,7 +38,7 @@ unless_ok None a b e = refl
 unless_ok (Some n) a b e = absurd cc
 
 reasons_at : (body : List ℕ) (h : Hello) → hello.encodes h body → first_reason (greeting_reasons body) ≡ first_reason (hello_reasons h)
-reasons_at body h e = ap (λ (o : Option Hello). first_reason (greeting_reasons_of o)) (whole_encodes hello body h e)
+reasons_at body h e = ap (λ (o : Option Hello). first_reason (greeting_reasons_of o)) (whole_encodes hello sound_hello body h e)
 
 judged_as : (limits : Limits) (body : List ℕ) (e : GreetFault) (code : StatusCode) → first_reason (greeting_reasons body) ≡ Some code.code → e ≡ refused_with code → IsJudged limits body (Err e)
 judged_as limits body e code first is = subst (λ (x : GreetFault). IsJudged limits body (Err x)) (sym is) (first, refl)
@@ -45,7 +46,7 @@ judged_as limits body e code first is = subst (λ (x : GreetFault). IsJudged lim
 -- a body that is no Hello
 pub judged_unreadable : (limits : Limits) (body : List ℕ) (e : GreetFault) → IsWhole (flat hello) body None → e ≡ refused_with (of_code 0x8007_0000) → IsJudged limits body (Err e)
 judged_unreadable limits body e none is =
-    judged_as limits body e (of_code 0x8007_0000) (ap (λ (o : Option Hello). first_reason (greeting_reasons_of o)) (whole_read hello body None none)) is
+    judged_as limits body e (of_code 0x8007_0000) (ap (λ (o : Option Hello). first_reason (greeting_reasons_of o)) (whole_read hello sound_hello body None none)) is
 
 -- a Hello that is refused
 pub judged_refused : (limits : Limits) (body : List ℕ) (h : Hello) (e : GreetFault) (code : StatusCode) → hello.encodes h body → agreed h limits ≡ Err code → e ≡ refused_with code → IsJudged limits body (Err e)

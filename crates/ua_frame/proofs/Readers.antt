@@ -6,7 +6,7 @@ use Rattle.ua_frame.specs.declared.fault.FrameFault.TheVariants.{UnknownType, Ou
 use Rattle.ua_frame.specs.declared.frame.Frame.{Frame}
 use Rattle.ua_frame.specs.declared.gate.Gate.{Gate}
 use Rattle.ua_frame.specs.declared.unfinished.Unfinished.{Unfinished}
-use Rattle.ua_frame.specs.Reasons.{first_reason}
+use Rattle.ua_builtin.specs.Reasons.{first_reason}
 use Rattle.ua_frame.specs.Frames.{kind_of, flag_of, size_of, header_fault, header_code, is_unknown, is_out_of_place, is_too_small}
 use Rattle.std.specs.Prelude.{nat_lt}
 use Rattle.ua_frame.specs.Run.{Run, Going}
@@ -96,7 +96,7 @@ refused_at old new piece octets frames fault code s r code_is = record {
   code = code;
   code_is = code_is;
   fault_is = r.fault_is;
-  run = run_header (gate_rules old.gate) octets old.held piece frames fault code s.run r.header r.fault_is code_is;
+  run = run_header (gate_rules old.gate) octets old.held piece frames fault code code s.run r.header r.fault_is code_is refl;
 }
 
 pub answers_by : (old new : Reader) (piece : List ℕ) (answer : Result (ℕ × Option Frame) FrameFault) (octets : List ℕ) (frames : List Frame) → Takes old piece answer new → StandsAfter old octets frames → Answers old piece answer new octets frames

@@ -29,15 +29,15 @@ parts_of o = sym (take-append-drop (size_of o) o)
 -- ---- by rules
 
 -- how octets go on behind those frames
-pub record ReadFrom {E : Type 0} (R : Rules E) (start : List Frame) (o : List ℕ) : Type 0 where
+pub record ReadFrom {E X : Type 0} (R : Rules E X) (start : List Frame) (o : List ℕ) : Type 0 where
   pub frames : List Frame
   pub rest : List ℕ
-  pub end : End
+  pub end : End X
   pub whole : o ≡ frames_octets frames ++ rest
   pub good : AllFrom (Fits R) start frames
   pub ends : EndsIn R (start ++ frames) rest end
 
-ends_here : {E : Type 0} (R : Rules E) (start : List Frame) (o : List ℕ) (end : End) → EndsIn R start o end → ReadFrom R start o
+ends_here : {E X : Type 0} (R : Rules E X) (start : List Frame) (o : List ℕ) (end : End X) → EndsIn R start o end → ReadFrom R start o
 ends_here R start o end e = record {
   frames = [];
   rest = o;
@@ -47,9 +47,9 @@ ends_here R start o end e = record {
   ends = subst (λ (t : List Frame). EndsIn R t o end) (sym (append-nil start)) e;
 }
 
-module _ {E : Type 0} (R : Rules E) (bound : ℕ) (rec : (start : List Frame) (o : List ℕ) → length o < bound → ReadFrom R start o) (start : List Frame) (o : List ℕ) (below : length o < suc bound) where
-  by_frame : R.over start ≡ false → (f : Frame) (rest : List ℕ) → o ≡ frame_octets f ++ rest → IsSized f → LetsIn (R.gate start) f → (r : Option ℕ) → refusal R start f ≡ r → ReadFrom R start o
-  by_frame goes_on f rest parts sized let_in (Some code) e = ends_here R start o (Stopped code) (goes_on, inr (record { frame = f; more = rest; parts = parts; sized = sized; let_in = let_in; refused = e }))
+module _ {E X : Type 0} (R : Rules E X) (bound : ℕ) (rec : (start : List Frame) (o : List ℕ) → length o < bound → ReadFrom R start o) (start : List Frame) (o : List ℕ) (below : length o < suc bound) where
+  by_frame : R.over start ≡ false → (f : Frame) (rest : List ℕ) → o ≡ frame_octets f ++ rest → IsSized f → LetsIn (R.gate start) f → (r : Option X) → refusal R start f ≡ r → ReadFrom R start o
+  by_frame goes_on f rest parts sized let_in (Some why) e = ends_here R start o (Stopped why) (goes_on, inr (record { frame = f; more = rest; parts = parts; sized = sized; let_in = let_in; refused = e }))
   by_frame goes_on f rest parts sized let_in None e =
       let s = rec (start ++ f ∷ []) rest (omega (arith, below, ap length parts, length-append (frame_octets f) rest, length-frame_octets f)) in
       record {
@@ -73,7 +73,7 @@ module _ {E : Type 0} (R : Rules E) (bound : ℕ) (rec : (start : List Frame) (o
 
   by_header : R.over start ≡ false → 8 ≤ length o → IsJudged (R.gate start) o → ReadFrom R start o
   by_header goes_on whole (Good good) = by_size goes_on good (cases_lt (length o) (size_of o))
-  by_header goes_on whole (Bad fault code is code_is) = ends_here R start o (Stopped code) (goes_on, inl (record { fault = fault; whole = whole; fault_is = is; code_is = code_is }))
+  by_header goes_on whole (Bad fault code is code_is) = ends_here R start o (Stopped (R.of_header code)) (goes_on, inl (record { fault = fault; code = code; whole = whole; fault_is = is; code_is = code_is; why_is = refl }))
 
   by_length : R.over start ≡ false → ((length o < 8) ⊎ (8 ≤ length o)) → ReadFrom R start o
   by_length goes_on (inl short) = ends_here R start o Going (goes_on, inl short)
@@ -83,12 +83,12 @@ module _ {E : Type 0} (R : Rules E) (bound : ℕ) (rec : (start : List Frame) (o
   by_over true e = ends_here R start o Over e
   by_over false e = by_length e (cases_lt (length o) 8)
 
-read_from : {E : Type 0} (R : Rules E) (bound : ℕ) (start : List Frame) (o : List ℕ) → length o < bound → ReadFrom R start o
+read_from : {E X : Type 0} (R : Rules E X) (bound : ℕ) (start : List Frame) (o : List ℕ) → length o < bound → ReadFrom R start o
 read_from R zero start o below = absurd (omega arith)
 read_from R (suc bound) start o below = by_over R bound (read_from R bound) start o below (R.over start) refl
 
 -- each stream has a reading
-pub reading : {E : Type 0} (R : Rules E) (o : List ℕ) → Reading R o
+pub reading : {E X : Type 0} (R : Rules E X) (o : List ℕ) → Reading R o
 unfolding AllAfter
 reading R o =
     let s = read_from R (suc (length o)) [] o (omega arith) in

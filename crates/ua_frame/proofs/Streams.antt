@@ -3,7 +3,7 @@ use Rattle.std.proofs.Common.{◌≡◌, ℕ, ◌≤◌, inl, inr, List, [], ◌
 use Rattle.std.proofs.lemmas.List.{flat_map_more}
 use Rattle.ua_frame.specs.declared.fault.FrameFault.{FrameFault}
 use Rattle.ua_frame.specs.declared.frame.Frame.{Frame}
-use Rattle.ua_frame.specs.After.{AllAfter-push, AllAfter-nil, each_after-push}
+use Rattle.ua_frame.proofs.Afters.{AllAfter-push, AllAfter-nil, each_after-push}
 use Rattle.ua_frame.specs.Frames.{frame_octets, frames_octets, IsSized, LetsIn, header_fault, header_code, IsPartial}
 use Rattle.ua_frame.specs.Run.{Rules, refusal, Fits, events, End, Going, Stopped, EndsIn, Run}
 
@@ -16,7 +16,7 @@ unfolding frames_octets
 frames_octets-nil = refl
 
 -- nothing yet
-pub run_nil : {E : Type 0} (R : Rules E) → R.over [] ≡ false → Run R [] [] [] Going
+pub run_nil : {E X : Type 0} (R : Rules E X) → R.over [] ≡ false → Run R [] [] [] Going
 run_nil R goes_on = record {
   whole = ap (λ (t : List ℕ). t ++ []) (sym frames_octets-nil);
   good = AllAfter-nil (Fits R);
@@ -24,7 +24,7 @@ run_nil R goes_on = record {
 }
 
 -- one frame more
-pub run_frame : {E : Type 0} (R : Rules E) (o held t : List ℕ) (fs : List Frame) (f : Frame) (end : End) → Run R o fs held Going → held ++ t ≡ frame_octets f → IsSized f → LetsIn (R.gate fs) f → refusal R fs f ≡ None → EndsIn R (fs ++ f ∷ []) [] end → Run R (o ++ t) (fs ++ f ∷ []) [] end
+pub run_frame : {E X : Type 0} (R : Rules E X) (o held t : List ℕ) (fs : List Frame) (f : Frame) (end : End X) → Run R o fs held Going → held ++ t ≡ frame_octets f → IsSized f → LetsIn (R.gate fs) f → refusal R fs f ≡ None → EndsIn R (fs ++ f ∷ []) [] end → Run R (o ++ t) (fs ++ f ∷ []) [] end
 run_frame R o held t fs f end r octets sized let_in accepted ends = record {
   whole =
       ap (λ (z : List ℕ). z ++ t) r.whole
@@ -36,11 +36,11 @@ run_frame R o held t fs f end r octets sized let_in accepted ends = record {
 }
 
 -- what is told, with one frame more
-pub events-push : {E : Type 0} (R : Rules E) (fs : List Frame) (f : Frame) → events R (fs ++ f ∷ []) ≡ events R fs ++ R.tells fs f
+pub events-push : {E X : Type 0} (R : Rules E X) (fs : List Frame) (f : Frame) → events R (fs ++ f ∷ []) ≡ events R fs ++ R.tells fs f
 events-push R fs f = each_after-push R.tells fs f
 
 -- octets that end no frame
-pub run_part : {E : Type 0} (R : Rules E) (o held piece : List ℕ) (fs : List Frame) → Run R o fs held Going → IsPartial (R.gate fs) (held ++ piece) → Run R (o ++ piece) fs (held ++ piece) Going
+pub run_part : {E X : Type 0} (R : Rules E X) (o held piece : List ℕ) (fs : List Frame) → Run R o fs held Going → IsPartial (R.gate fs) (held ++ piece) → Run R (o ++ piece) fs (held ++ piece) Going
 run_part R o held piece fs r partial = record {
   whole = ap (λ (z : List ℕ). z ++ piece) r.whole ∙ append_assoc (frames_octets fs) held piece;
   good = r.good;
@@ -48,16 +48,16 @@ run_part R o held piece fs r partial = record {
 }
 
 -- a header that is refused
-pub run_header : {E : Type 0} (R : Rules E) (o held piece : List ℕ) (fs : List Frame) (fault : FrameFault) (code : ℕ) → Run R o fs held Going → 8 ≤ length (held ++ piece) → header_fault (R.gate fs) (held ++ piece) ≡ Some fault → header_code fault ≡ Some code → Run R (o ++ piece) fs (held ++ piece) (Stopped code)
-run_header R o held piece fs fault code r whole fault_is code_is = record {
+pub run_header : {E X : Type 0} (R : Rules E X) (o held piece : List ℕ) (fs : List Frame) (fault : FrameFault) (code : ℕ) (why : X) → Run R o fs held Going → 8 ≤ length (held ++ piece) → header_fault (R.gate fs) (held ++ piece) ≡ Some fault → header_code fault ≡ Some code → R.of_header code ≡ why → Run R (o ++ piece) fs (held ++ piece) (Stopped why)
+run_header R o held piece fs fault code why r whole fault_is code_is why_is = record {
   whole = ap (λ (z : List ℕ). z ++ piece) r.whole ∙ append_assoc (frames_octets fs) held piece;
   good = r.good;
-  ends = (r.ends.0, inl (record { fault = fault; whole = whole; fault_is = fault_is; code_is = code_is }));
+  ends = (r.ends.0, inl (record { fault = fault; code = code; whole = whole; fault_is = fault_is; code_is = code_is; why_is = why_is }));
 }
 
 -- a frame that is refused
-pub run_refused : {E : Type 0} (R : Rules E) (o held piece : List ℕ) (n : ℕ) (fs : List Frame) (f : Frame) (code : ℕ) → Run R o fs held Going → held ++ take n piece ≡ frame_octets f → IsSized f → LetsIn (R.gate fs) f → refusal R fs f ≡ Some code → Run R (o ++ piece) fs (held ++ piece) (Stopped code)
-run_refused R o held piece n fs f code r octets sized let_in refused = record {
+pub run_refused : {E X : Type 0} (R : Rules E X) (o held piece : List ℕ) (n : ℕ) (fs : List Frame) (f : Frame) (why : X) → Run R o fs held Going → held ++ take n piece ≡ frame_octets f → IsSized f → LetsIn (R.gate fs) f → refusal R fs f ≡ Some why → Run R (o ++ piece) fs (held ++ piece) (Stopped why)
+run_refused R o held piece n fs f why r octets sized let_in refused = record {
   whole = ap (λ (z : List ℕ). z ++ piece) r.whole ∙ append_assoc (frames_octets fs) held piece;
   good = r.good;
   ends = (

@@ -1,8 +1,9 @@
 -- A stream has one reading.
 use Rattle.std.proofs.Common.{◌≡◌, ℕ, ◌+◌, ◌⊎◌, inl, inr, List, [], ◌∷◌, ◌++◌, Bool, false, true, Option, Some, None, length, take, drop, refl, sym, ◌∙◌, ap, subst, arith, append_assoc, append-nil, length-append}
 use Rattle.std.proofs.lemmas.List.{take_at, drop_at, drop-drop, append_cancel_left}
-use Rattle.ua_builtin.specs.Exact.{some_is}
-use Rattle.ua_builtin.specs.Number.{number_octets, length-number_octets}
+use Rattle.ua_octets.specs.Number.{number_octets}
+use Rattle.ua_octets.proofs.Readers.{some_is}
+use Rattle.ua_octets.proofs.NumbersRead.{length-number_octets}
 use Rattle.ua_frame.specs.declared.fault.FrameFault.{FrameFault}
 use Rattle.ua_frame.specs.declared.frame.Frame.{Frame}
 use Rattle.ua_frame.specs.declared.gate.Gate.{Gate}
@@ -60,36 +61,37 @@ some_not_none o a e n = let c : Some a ≡ None = sym e ∙ n in cc
 not_both : (b : Bool) → b ≡ false → b ≡ true → ⊥
 not_both b f t = let c : false ≡ true = sym f ∙ t in cc
 
-no_end : {E : Type 0} (R : Rules E) (before : List Frame) (x : List ℕ) (end : End) (g : Frame) (more : List ℕ) → Fits R before g → x ≡ frame_octets g ++ more → EndsIn R before x end → ⊥
+no_end : {E X : Type 0} (R : Rules E X) (before : List Frame) (x : List ℕ) (end : End X) (g : Frame) (more : List ℕ) → Fits R before g → x ≡ frame_octets g ++ more → EndsIn R before x end → ⊥
 no_end R before x Going g more fits e ends = no_part (R.gate before) g more fits.sized (subst (λ (t : List ℕ). IsPartial (R.gate before) t) e ends.1)
 no_end R before x Over g more fits e ends = not_both (R.over before) fits.goes_on ends
-no_end R before x (Stopped code) g more fits e (goes_on, inl w) =
+no_end R before x (Stopped why) g more fits e (goes_on, inl w) =
     some_not_none (header_fault (R.gate before) x) w.fault w.fault_is (ap (header_fault (R.gate before)) e ∙ frame_more_fault (R.gate before) g more fits.sized fits.let_in)
-no_end R before x (Stopped code) g more fits e (goes_on, inr w) =
+no_end R before x (Stopped why) g more fits e (goes_on, inr w) =
     let same = (one_frame w.frame g w.more more w.sized fits.sized (sym w.parts ∙ e)).0 in
-    some_not_none (refusal R before w.frame) code w.refused (ap (refusal R before) same ∙ fits.accepted)
+    some_not_none (refusal R before w.frame) why w.refused (ap (refusal R before) same ∙ fits.accepted)
 
 -- ---- how it goes on after the same frames
 
-no_part_wrong : {E : Type 0} (R : Rules E) (fs : List Frame) (x : List ℕ) (code : ℕ) → IsPartial (R.gate fs) x → (WrongHeader R fs x code ⊎ WrongFrame R fs x code) → ⊥
-no_part_wrong R fs x code (inl short) (inl w) = omega (arith, w.whole)
-no_part_wrong R fs x code (inr part) (inl w) = some_not_none (header_fault (R.gate fs) x) w.fault w.fault_is part.0
-no_part_wrong R fs x code part (inr w) = no_part (R.gate fs) w.frame w.more w.sized (subst (λ (t : List ℕ). IsPartial (R.gate fs) t) w.parts part)
+no_part_wrong : {E X : Type 0} (R : Rules E X) (fs : List Frame) (x : List ℕ) (why : X) → IsPartial (R.gate fs) x → (WrongHeader R fs x why ⊎ WrongFrame R fs x why) → ⊥
+no_part_wrong R fs x why (inl short) (inl w) = omega (arith, w.whole)
+no_part_wrong R fs x why (inr part) (inl w) = some_not_none (header_fault (R.gate fs) x) w.fault w.fault_is part.0
+no_part_wrong R fs x why part (inr w) = no_part (R.gate fs) w.frame w.more w.sized (subst (λ (t : List ℕ). IsPartial (R.gate fs) t) w.parts part)
 
-wrong_frame_good : {E : Type 0} (R : Rules E) (fs : List Frame) (x : List ℕ) (code : ℕ) (w : WrongFrame R fs x code) → header_fault (R.gate fs) x ≡ None
-wrong_frame_good R fs x code w = ap (header_fault (R.gate fs)) w.parts ∙ frame_more_fault (R.gate fs) w.frame w.more w.sized w.let_in
+wrong_frame_good : {E X : Type 0} (R : Rules E X) (fs : List Frame) (x : List ℕ) (why : X) (w : WrongFrame R fs x why) → header_fault (R.gate fs) x ≡ None
+wrong_frame_good R fs x why w = ap (header_fault (R.gate fs)) w.parts ∙ frame_more_fault (R.gate fs) w.frame w.more w.sized w.let_in
 
-one_wrong : {E : Type 0} (R : Rules E) (fs : List Frame) (x : List ℕ) (c d : ℕ) → (WrongHeader R fs x c ⊎ WrongFrame R fs x c) → (WrongHeader R fs x d ⊎ WrongFrame R fs x d) → c ≡ d
+one_wrong : {E X : Type 0} (R : Rules E X) (fs : List Frame) (x : List ℕ) (c d : X) → (WrongHeader R fs x c ⊎ WrongFrame R fs x c) → (WrongHeader R fs x d ⊎ WrongFrame R fs x d) → c ≡ d
 one_wrong R fs x c d (inl v) (inl w) =
     let same : v.fault ≡ w.fault = some_is v.fault w.fault (sym v.fault_is ∙ w.fault_is) in
-    some_is c d (sym v.code_is ∙ (ap header_code same ∙ w.code_is))
+    let code : v.code ≡ w.code = some_is v.code w.code (sym v.code_is ∙ (ap header_code same ∙ w.code_is)) in
+    sym v.why_is ∙ (ap R.of_header code ∙ w.why_is)
 one_wrong R fs x c d (inl v) (inr w) = absurd (some_not_none (header_fault (R.gate fs) x) v.fault v.fault_is (wrong_frame_good R fs x d w))
 one_wrong R fs x c d (inr v) (inl w) = absurd (some_not_none (header_fault (R.gate fs) x) w.fault w.fault_is (wrong_frame_good R fs x c v))
 one_wrong R fs x c d (inr v) (inr w) =
     let same = (one_frame v.frame w.frame v.more w.more v.sized w.sized (sym v.parts ∙ w.parts)).0 in
     some_is c d (sym v.refused ∙ (ap (refusal R fs) same ∙ w.refused))
 
-one_end : {E : Type 0} (R : Rules E) (fs : List Frame) (x : List ℕ) (e d : End) → EndsIn R fs x e → EndsIn R fs x d → e ≡ d
+one_end : {E X : Type 0} (R : Rules E X) (fs : List Frame) (x : List ℕ) (e d : End X) → EndsIn R fs x e → EndsIn R fs x d → e ≡ d
 one_end R fs x Going Going p q = refl
 one_end R fs x Going (Stopped c) p q = absurd (no_part_wrong R fs x c p.1 q.1)
 one_end R fs x Going Over p q = absurd (not_both (R.over fs) p.0 q)
@@ -113,10 +115,10 @@ pub front_none : (x : List ℕ) → frames_octets [] ++ x ≡ x
 unfolding frames_octets
 front_none x = refl
 
-same_more : (f g : Frame) (fs gs : List Frame) (x y : List ℕ) (e d : End) → f ≡ g → IsSame fs gs x y e d → IsSame (f ∷ fs) (g ∷ gs) x y e d
+same_more : {X : Type 0} (f g : Frame) (fs gs : List Frame) (x y : List ℕ) (e d : End X) → f ≡ g → IsSame fs gs x y e d → IsSame (f ∷ fs) (g ∷ gs) x y e d
 same_more f g fs gs x y e d p s = let frames = s.frames in record { frames = cc; rests = s.rests; ends = s.ends }
 
-unique_from : {E : Type 0} (R : Rules E) (start fs gs : List Frame) (x y : List ℕ) (e d : End) → frames_octets fs ++ x ≡ frames_octets gs ++ y → AllFrom (Fits R) start fs → AllFrom (Fits R) start gs → EndsIn R (start ++ fs) x e → EndsIn R (start ++ gs) y d → IsSame fs gs x y e d
+unique_from : {E X : Type 0} (R : Rules E X) (start fs gs : List Frame) (x y : List ℕ) (e d : End X) → frames_octets fs ++ x ≡ frames_octets gs ++ y → AllFrom (Fits R) start fs → AllFrom (Fits R) start gs → EndsIn R (start ++ fs) x e → EndsIn R (start ++ gs) y d → IsSame fs gs x y e d
 unique_from R start [] [] x y e d o p q r s =
     let same : x ≡ y = sym (front_none x) ∙ (o ∙ front_none y) in
     record { frames = refl; rests = same; ends = one_end R (start ++ []) y e d (subst (λ (t : List ℕ). EndsIn R (start ++ []) t e) same r) s }
@@ -132,6 +134,6 @@ unique_from R start (f ∷ fs) (g ∷ gs) x y e d o p q r s =
     same_more f g fs gs x y e d one.0 (unique_from R (start ++ f ∷ []) fs gs x y e d one.1 p.1 q' r' s')
 
 -- a stream has one reading
-pub unique : {E : Type 0} (R : Rules E) (o : List ℕ) (fs gs : List Frame) (x y : List ℕ) (e d : End) → Run R o fs x e → Run R o gs y d → IsSame fs gs x y e d
+pub unique : {E X : Type 0} (R : Rules E X) (o : List ℕ) (fs gs : List Frame) (x y : List ℕ) (e d : End X) → Run R o fs x e → Run R o gs y d → IsSame fs gs x y e d
 unfolding AllAfter
 unique R o fs gs x y e d r s = unique_from R [] fs gs x y e d (sym r.whole ∙ s.whole) r.good s.good r.ends s.ends

@@ -1,7 +1,8 @@
 -- The first wrong frame of a stream, by its sizes alone and the table of reasons.
-use Rattle.std.specs.Prelude.{◌≡◌, ℕ, ◌≤◌, List, [], ◌∷◌, ◌++◌, false, Option, Some, None, length, drop}
+use Rattle.std.specs.Prelude.{◌≡◌, ℕ, ◌≤◌, List, [], ◌∷◌, ◌++◌, false, Option, Some, None, option_map, length, drop}
 use Rattle.std.specs.List.{flat_map}
 use Rattle.std.specs.Option.{option_and_then}
+use Rattle.ua_builtin.specs.Reasons.{or_else}
 use Rattle.ua_frame.specs.declared.frame.Frame.{Frame}
 use Rattle.ua_frame.specs.declared.gate.Gate.{Gate}
 use Rattle.ua_frame.specs.declared.kind.Kind.{Kind}
@@ -31,34 +32,33 @@ frames_in raws = flat_map (λ raw. listed (frame_in raw)) raws
 abbrev pub header_refusal : Gate → List ℕ → Option ℕ
 header_refusal gate octets = option_and_then header_code (header_fault gate octets)
 
--- the first code, or the other where there is no first
-abbrev pub or_else : Option ℕ → Option ℕ → Option ℕ
-or_else None other = other
-or_else (Some code) other = Some code
+-- why a header is refused after these frames
+abbrev pub header_why : {E X : Type 0} → Rules E X → List Frame → List ℕ → Option X
+header_why R before octets = option_map R.of_header (header_refusal (R.gate before) octets)
 
 -- the first reason by which octets that are a frame are refused after these frames, in the order of the table: those of the header, then those of the rules
-abbrev pub first_refusal : {E : Type 0} → Rules E → List Frame → List ℕ → Option ℕ
-first_refusal R before octets = or_else (header_refusal (R.gate before) octets) (option_and_then (refusal R before) (frame_in octets))
+abbrev pub first_refusal : {E X : Type 0} → Rules E X → List Frame → List ℕ → Option X
+first_refusal R before octets = or_else (header_why R before octets) (option_and_then (refusal R before) (frame_in octets))
 
 -- octets that are a frame have no reason against them after those before, and those aren't the last
-pub record Passes {E : Type 0} (R : Rules E) (before : List (List ℕ)) (octets : List ℕ) : Type 0 where
+pub record Passes {E X : Type 0} (R : Rules E X) (before : List (List ℕ)) (octets : List ℕ) : Type 0 where
   pub goes_on : R.over (frames_in before) ≡ false
   pub accepted : first_refusal R (frames_in before) octets ≡ None
 
--- the next frame is refused with this code; behind the last one, the header of what is left
-abbrev pub WrongNext : {E : Type 0} → Rules E → List (List ℕ) → List (List ℕ) → List ℕ → ℕ → Type 0
-WrongNext R before [] rest code = (8 ≤ length rest) × (header_refusal (R.gate (frames_in before)) rest ≡ Some code)
-WrongNext R before (octets ∷ behind) rest code = first_refusal R (frames_in before) octets ≡ Some code
+-- the next frame is refused for this; behind the last one, the header of what is left
+abbrev pub WrongNext : {E X : Type 0} → Rules E X → List (List ℕ) → List (List ℕ) → List ℕ → X → Type 0
+WrongNext R before [] rest why = (8 ≤ length rest) × (header_why R (frames_in before) rest ≡ Some why)
+WrongNext R before (octets ∷ behind) rest why = first_refusal R (frames_in before) octets ≡ Some why
 
 -- behind those frames, some frames pass, and the next is the first that is wrong
-pub record FirstFrom {E : Type 0} (R : Rules E) (start frames : List (List ℕ)) (rest : List ℕ) (code : ℕ) : Type 0 where
+pub record FirstFrom {E X : Type 0} (R : Rules E X) (start frames : List (List ℕ)) (rest : List ℕ) (why : X) : Type 0 where
   pub before : List (List ℕ)
   pub behind : List (List ℕ)
   pub split : frames ≡ before ++ behind
   pub good : AllFrom (Passes R) start before
   pub goes_on : R.over (frames_in (start ++ before)) ≡ false
-  pub wrong : WrongNext R (start ++ before) behind rest code
+  pub wrong : WrongNext R (start ++ before) behind rest why
 
--- the first frame of these, or the header of what is left, that is wrong, is so with this code
-abbrev pub FirstWrong : {E : Type 0} → Rules E → List (List ℕ) → List ℕ → ℕ → Type 0
-FirstWrong R frames rest code = FirstFrom R [] frames rest code
+-- the first frame of these, or the header of what is left, that is wrong, is so for this
+abbrev pub FirstWrong : {E X : Type 0} → Rules E X → List (List ℕ) → List ℕ → X → Type 0
+FirstWrong R frames rest why = FirstFrom R [] frames rest why

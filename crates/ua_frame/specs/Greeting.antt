@@ -1,50 +1,26 @@
 -- The first frame that a server takes: a HEL, which it agrees to or refuses.
-use Rattle.std.specs.Prelude.{◌≡◌, ℕ, ◌≤◌, List, [], ◌∷◌, ◌++◌, Bool, true, false, is_none, Option, Some, None, Result, Ok, Err, length, take}
+use Rattle.std.specs.Prelude.{◌≡◌, ℕ, ◌≤◌, List, [], ◌∷◌, ◌++◌, Bool, true, false, Option, Some, None, Result, Ok, Err, length, take}
 use Rattle.ua_frame.specs.declared.ack.Ack.{Ack}
 use Rattle.ua_frame.specs.declared.fault.GreetFault.{GreetFault}
 use Rattle.ua_frame.specs.declared.fault.GreetFault.TheVariants.{Refused, Closed, OutOfMemory}
 use Rattle.ua_frame.specs.declared.frame.Frame.{Frame}
-use Rattle.ua_frame.specs.declared.gate.Gate.{Gate}
 use Rattle.ua_frame.specs.declared.greeting.Greeted.{Greeted}
 use Rattle.ua_frame.specs.declared.greeting.Greeted.TheVariants.{NeedMore, Agreed}
 use Rattle.ua_frame.specs.declared.greeting.Greeting.{Greeting}
 use Rattle.ua_frame.specs.declared.hello.Hello.{Hello}
-use Rattle.ua_frame.specs.declared.kind.Kind.TheVariants.{Hel}
 use Rattle.ua_frame.specs.declared.limits.Limits.{Limits}
-use Rattle.ua_frame.specs.Agreement.{is_url_long, is_buffer_small, agreed}
+use Rattle.ua_frame.specs.Agreement.{agreed}
 use Rattle.ua_frame.specs.Frames.{frame_octets, header_fault}
-use Rattle.ua_frame.specs.Kinds.{closed_gate, gate_with}
+use Rattle.ua_frame.specs.Hello.{hello_gate, hello_in, greeting_reasons}
 use Rattle.ua_frame.specs.Messages.{hello, err_frame}
 use Rattle.ua_frame.specs.Reader.{open_reader}
-use Rattle.ua_frame.specs.Reasons.{first_reason}
+use Rattle.ua_builtin.specs.Reasons.{first_reason}
 use Rattle.ua_frame.specs.Run.{Rules, Run, Going, Stopped, Over}
-use Rattle.ua_frame.specs.Whole.{whole_of}
-
--- the Hello that a body is, with nothing behind it, if it is one
-abbrev pub hello_in : List ℕ → Option Hello
-hello_in body = whole_of hello body
-
--- there is a Hello, and it is so
-abbrev pub is_so : (Hello → Bool) → Option Hello → Bool
-is_so test None = false
-is_so test (Some h) = test h
-
--- why a HEL is refused, by the Hello that its body is, if it is one, in the order in which it is judged
-abbrev pub greeting_reasons_of : Option Hello → List (ℕ × Bool)
-greeting_reasons_of h = (0x8007_0000, is_none h) ∷ (0x8083_0000, is_so is_url_long h) ∷ (0x8081_0000, is_so is_buffer_small h) ∷ []
-
--- why a HEL is refused whose header is good, in the order in which it is judged: BadDecodingError where its body is no Hello, BadTcpEndpointUrlInvalid, BadTcpNotEnoughResources
-abbrev pub greeting_reasons : List ℕ → List (ℕ × Bool)
-greeting_reasons body = greeting_reasons_of (hello_in body)
 
 -- the Hello, if there is one
 abbrev pub those_in : Option Hello → List Hello
 those_in None = []
 those_in (Some h) = h ∷ []
-
--- HEL frames of at most 8192 octets
-abbrev pub hello_gate : Gate
-hello_gate = gate_with (closed_gate 8192) Hel
 
 -- there is a frame
 abbrev pub has_some : List Frame → Bool
@@ -52,10 +28,11 @@ has_some [] = false
 has_some (f ∷ fs) = true
 
 -- a server takes one HEL, and nothing before it or behind it
-abbrev pub greeting_rules : Rules Hello
+abbrev pub greeting_rules : Rules Hello ℕ
 greeting_rules = record {
   gate = λ before. hello_gate;
   reasons = λ before f. greeting_reasons f.body;
+  of_header = λ code. code;
   tells = λ before f. those_in (hello_in f.body);
   over = has_some;
 }

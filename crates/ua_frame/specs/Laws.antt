@@ -4,40 +4,41 @@ use Rattle.ua_frame.specs.declared.frame.Frame.{Frame}
 use Rattle.ua_frame.specs.FirstWrong.{FirstWrong}
 use Rattle.ua_frame.specs.Frames.{Frames, frame_octets}
 use Rattle.ua_frame.specs.Run.{Rules, Run, End, Going, Stopped}
+use Rattle.ua_frame.specs.Same.{SameOn, SameBehind, renamed, end_renamed}
 
 -- two readings of a stream are one
-pub record IsSame (fs gs : List Frame) (x y : List ℕ) (e d : End) : Type 0 where
+pub record IsSame {X : Type 0} (fs gs : List Frame) (x y : List ℕ) (e d : End X) : Type 0 where
   pub frames : fs ≡ gs
   pub rests : x ≡ y
   pub ends : e ≡ d
 
 -- the octets of a stream have one reading by given rules
-abbrev pub HasOneReading : {E : Type 0} → Rules E → Type 0
-HasOneReading R = (octets : List ℕ) (fs gs : List Frame) (x y : List ℕ) (e d : End) → Run R octets fs x e → Run R octets gs y d → IsSame fs gs x y e d
+abbrev pub HasOneReading : {E X : Type 0} → Rules E X → Type 0
+HasOneReading {X = X} R = (octets : List ℕ) (fs gs : List Frame) (x y : List ℕ) (e d : End X) → Run R octets fs x e → Run R octets gs y d → IsSame fs gs x y e d
 
 -- octets are frames, by their sizes alone, in one way
 abbrev pub FramesAreOne : Type 0
 FramesAreOne = (octets : List ℕ) (fs gs : List (List ℕ)) (x y : List ℕ) → Frames octets fs x → Frames octets gs y → (fs ≡ gs) × (x ≡ y)
 
--- some reading of the octets stops with this code
-pub record Stops {E : Type 0} (R : Rules E) (octets : List ℕ) (code : ℕ) : Type 0 where
+-- some reading of the octets stops for this
+pub record Stops {E X : Type 0} (R : Rules E X) (octets : List ℕ) (why : X) : Type 0 where
   pub frames : List Frame
   pub rest : List ℕ
-  pub run : Run R octets frames rest (Stopped code)
+  pub run : Run R octets frames rest (Stopped why)
 
--- a stream stops with the code of its first wrong frame, by the first reason of the table that is against it
-abbrev pub StopsAtFirstWrong : {E : Type 0} → Rules E → Type 0
-StopsAtFirstWrong R = (octets : List ℕ) (frames : List (List ℕ)) (rest : List ℕ) (code : ℕ) → Frames octets frames rest → Stops R octets code ↔ FirstWrong R frames rest code
+-- a stream stops for what is against its first wrong frame, the first such reason of the table
+abbrev pub StopsAtFirstWrong : {E X : Type 0} → Rules E X → Type 0
+StopsAtFirstWrong {X = X} R = (octets : List ℕ) (frames : List (List ℕ)) (rest : List ℕ) (why : X) → Frames octets frames rest → Stops R octets why ↔ FirstWrong R frames rest why
 
 -- some reading of the octets by these rules
-pub record Reading {E : Type 0} (R : Rules E) (octets : List ℕ) : Type 0 where
+pub record Reading {E X : Type 0} (R : Rules E X) (octets : List ℕ) : Type 0 where
   pub frames : List Frame
   pub rest : List ℕ
-  pub end : End
+  pub end : End X
   pub run : Run R octets frames rest end
 
 -- any octets have a reading
-abbrev pub HasReadings : {E : Type 0} → Rules E → Type 0
+abbrev pub HasReadings : {E X : Type 0} → Rules E X → Type 0
 HasReadings R = (octets : List ℕ) → Reading R octets
 
 -- the octets as frames, by their sizes alone, and a rest
@@ -56,9 +57,25 @@ pub record BeginWith (frames : List Frame) (raws : List (List ℕ)) : Type 0 whe
   pub parts : raws ≡ map frame_octets frames ++ behind
 
 -- the frames of a reading are the first frames of the octets
-abbrev pub ReadsFirstFrames : {E : Type 0} → Rules E → Type 0
-ReadsFirstFrames R = (octets : List ℕ) (frames : List Frame) (rest : List ℕ) (end : End) (raws : List (List ℕ)) (r : List ℕ) → Run R octets frames rest end → Frames octets raws r → BeginWith frames raws
+abbrev pub ReadsFirstFrames : {E X : Type 0} → Rules E X → Type 0
+ReadsFirstFrames {X = X} R = (octets : List ℕ) (frames : List Frame) (rest : List ℕ) (end : End X) (raws : List (List ℕ)) (r : List ℕ) → Run R octets frames rest end → Frames octets raws r → BeginWith frames raws
 
 -- where a stream goes on, they are all its frames
-abbrev pub ReadsAllFrames : {E : Type 0} → Rules E → Type 0
+abbrev pub ReadsAllFrames : {E X : Type 0} → Rules E X → Type 0
 ReadsAllFrames R = (octets : List ℕ) (frames : List Frame) (rest : List ℕ) → Run R octets frames rest Going → Frames octets (map frame_octets frames) rest
+
+-- behind a refused or a last frame nothing counts
+abbrev pub EndsStay : {E X : Type 0} → Rules E X → Type 0
+EndsStay {X = X} R = (octets more : List ℕ) (frames : List Frame) (rest : List ℕ) (end : End X) → (end ≡ Going → ⊥) → Run R octets frames rest end → Run R (octets ++ more) frames (rest ++ more) end
+
+-- rules that agree on the frames of a stream that goes on read it alike
+abbrev pub ReadsAlike : {E F X : Type 0} → Rules E X → Rules F X → Type 0
+ReadsAlike R S = (octets : List ℕ) (frames : List Frame) (rest : List ℕ) → SameOn R S frames → Run R octets frames rest Going → Run S octets frames rest Going
+
+-- rules that agree also behind these frames see it end alike
+abbrev pub EndsAlike : {E F X : Type 0} → Rules E X → Rules F X → Type 0
+EndsAlike {X = X} R S = (octets : List ℕ) (frames : List Frame) (rest : List ℕ) (end : End X) → SameBehind R S frames → Run R octets frames rest end → Run S octets frames rest end
+
+-- by whatever names the reasons go, a stream is read alike
+abbrev pub ReadsByOtherNames : {E X Y : Type 0} → (X → Y) → Rules E X → Type 0
+ReadsByOtherNames {X = X} name R = (octets : List ℕ) (frames : List Frame) (rest : List ℕ) (end : End X) → Run R octets frames rest end → Run (renamed name R) octets frames rest (end_renamed name end)

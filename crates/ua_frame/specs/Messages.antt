@@ -1,11 +1,9 @@
--- Hello, Acknowledge and Error: how octets encode them (OPC 10000-6, 7.1.2.3 to 7.1.2.5).
+-- Hello, Acknowledge and Error: how octets encode them, and the frames of an ACK and of an ERR (OPC 10000-6, 7.1.2.3 to 7.1.2.5).
 use Rattle.std.specs.Prelude.{ℕ, List, Option, None}
-use Rattle.std.proofs.Common.{refl}
-use Rattle.ua_builtin.specs.Number.{IsNumber}
 use Rattle.ua_builtin.specs.Format.{Flat}
-use Rattle.ua_builtin.specs.Join.{number, both, made, pair_starts, image_starts, number_starts, TakesSome}
+use Rattle.ua_builtin.specs.Join.{number, both, made}
 use Rattle.ua_builtin.specs.Counted.{text}
-use Rattle.ua_builtin.specs.Status.{status_code, status_code_starts}
+use Rattle.ua_builtin.specs.Status.{status_code}
 use Rattle.ua_builtin.specs.declared.status_code.StatusCode.{StatusCode}
 use Rattle.ua_frame.specs.declared.frame.Frame.{Frame}
 use Rattle.ua_frame.specs.declared.kind.Kind.TheVariants as kind
@@ -13,7 +11,7 @@ use Rattle.ua_frame.specs.declared.hello.Hello.{Hello}
 use Rattle.ua_frame.specs.declared.ack.Ack.{Ack}
 use Rattle.ua_frame.specs.declared.error.ErrorFrame.{ErrorFrame}
 
--- ---- Hello: five UInt32s and a String
+-- ---- Hello: five UInt32s and a String, as 00 00 00 00 FF FF 00 00 FF FF 00 00 00 00 00 00 00 00 00 00 01 00 00 00 61 of version 0, sizes 65535, no limits, and the URL 'a'
 
 -- a Hello's fields in order: five numbers, and the endpoint's URL or null (OPC 10000-6, 7.1.2.3)
 abbrev pub HelloFields : Type 0
@@ -40,11 +38,7 @@ fields_of_hello h = (h.protocol_version, (h.receive_buffer_size, (h.send_buffer_
 
 -- its version, receive and send buffer size, greatest message size and chunk count, and the URL of the endpoint
 unfoldable pub hello : Flat Hello
-hello = made hello_of fields_of_hello (λ h. refl) hello_fields
-
-pub hello_starts : TakesSome hello.encodes
-unfolding hello
-hello_starts v h = image_starts hello_of hello_fields.encodes (pair_starts (IsNumber 4) (both (number 4) (both (number 4) (both (number 4) (both (number 4) text)))).encodes (number_starts 3)) v h
+hello = made hello_of fields_of_hello hello_fields
 
 -- ---- Acknowledge: five UInt32s
 
@@ -72,13 +66,9 @@ fields_of_ack a = (a.protocol_version, (a.receive_buffer_size, (a.send_buffer_si
 
 -- its version, receive and send buffer size, greatest message size and chunk count
 unfoldable pub ack : Flat Ack
-ack = made ack_of fields_of_ack (λ a. refl) ack_fields
+ack = made ack_of fields_of_ack ack_fields
 
-pub ack_starts : TakesSome ack.encodes
-unfolding ack
-ack_starts v h = image_starts ack_of ack_fields.encodes (pair_starts (IsNumber 4) (both (number 4) (both (number 4) (both (number 4) (number 4)))).encodes (number_starts 3)) v h
-
--- ---- Error: a StatusCode and a String
+-- ---- Error: a StatusCode and a String, as 00 00 7E 80 FF FF FF FF of Bad_TcpMessageTypeInvalid and null
 
 -- the Error of a status code and a reason (OPC 10000-6, 7.1.2.5)
 abbrev pub error_of : StatusCode × Option (List ℕ) → ErrorFrame
@@ -90,11 +80,7 @@ fields_of_error e = (e.error, e.reason)
 
 -- the status code of the error, and its reason
 unfoldable pub error : Flat ErrorFrame
-error = made error_of fields_of_error (λ e. refl) (both status_code text)
-
-pub error_starts : TakesSome error.encodes
-unfolding error
-error_starts v h = image_starts error_of (both status_code text).encodes (pair_starts status_code.encodes text.encodes status_code_starts) v h
+error = made error_of fields_of_error (both status_code text)
 
 -- ---- the frames of an ACK and of an ERR without a reason
 

@@ -66,8 +66,8 @@ Takes old piece (Err Closed) new = (old.failed ≡ true) × (new ≡ old)
 -- ---- a whole stream, at one gate
 
 -- the rules of a reader whose gate stays: what the gate lets in is taken, and tells of itself
-abbrev pub gate_rules : Gate → Rules Frame
-gate_rules gate = record { gate = λ before. gate; reasons = λ before f. []; tells = λ before f. f ∷ []; over = λ before. false }
+abbrev pub gate_rules : Gate → Rules Frame ℕ
+gate_rules gate = record { gate = λ before. gate; reasons = λ before f. []; of_header = λ code. code; tells = λ before f. f ∷ []; over = λ before. false }
 
 -- a reader stands after these octets, of which these are the frames
 pub record StandsAfter (reader : Reader) (octets : List ℕ) (frames : List Frame) : Type 0 where

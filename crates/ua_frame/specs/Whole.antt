@@ -1,11 +1,6 @@
 -- Values whose encoding is the whole of some octets.
-use Rattle.std.specs.Prelude.{ℕ, ◌≤◌, List, [], ◌∷◌, Option, Some, None}
+use Rattle.std.specs.Prelude.{ℕ, List, [], ◌∷◌, Option, Some, None}
 use Rattle.ua_builtin.specs.Format.{Flat, Format, most_levels}
-
--- these octets encode the value, or, where there is none, no value that may be read
-abbrev pub IsWhole : {A : Type 0} → Format A → List ℕ → Option A → Type 0
-IsWhole f octets (Some v) = f.encodes v octets
-IsWhole {A = A} f octets None = (v : A) → f.depth v ≤ most_levels → ¬ (f.encodes v octets)
 
 -- the value that was read, if no octets are left behind it
 abbrev pub if_nothing_left : {A : Type 0} → Option (A × List ℕ) → Option A
@@ -16,3 +11,7 @@ if_nothing_left (Some (v, x ∷ rest)) = None
 -- the value whose encoding is the whole of the octets, if there is one
 unfoldable pub whole_of : {A : Type 0} → Flat A → List ℕ → Option A
 whole_of f octets = if_nothing_left (f.decode octets)
+
+-- the value of at most the most levels whose encoding is the whole of the octets, if there is one: 01 alone is a Boolean, and 01 00 is none
+unfoldable pub body_of : {A : Type 0} → Format A → List ℕ → Option A
+body_of f octets = if_nothing_left (f.decode most_levels octets)

@@ -24,13 +24,15 @@ pub struct Ack {
 /// Over the body of a frame. Octets behind the last number are for the caller to refuse.
 impl Wire for Ack {
     ghost use Rattle.ua_builtin.specs.Format.{flat};
-    ghost use Rattle.ua_frame.specs.Messages.{ack, ack_starts};
+    ghost use Rattle.ua_frame.specs.Messages.{ack};
 
     ghost format = { flat ack };
 
     ghost memoryless = { Unit {0} };
 
-    ghost starts = { ack_starts };
+    #[inline]
+    #[tactic(auto, using(crate::proofs::MessagesLawful::lawful_ack))]
+    fn lawful() {}
 
     #[tactic(auto, unfolding(crate::specs::Messages::ack))]
     fn read_value<S: Source>(alloc: Global, src: &mut S, depth: u32) -> Result<Ack, ReadFault> {

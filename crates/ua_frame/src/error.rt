@@ -20,11 +20,13 @@ pub struct ErrorFrame {
 /// Over the body of a frame or of an abort. Octets behind the reason are for the caller to refuse.
 impl Wire for ErrorFrame {
     ghost use Rattle.ua_builtin.specs.Format.{flat};
-    ghost use Rattle.ua_frame.specs.Messages.{error, error_starts};
+    ghost use Rattle.ua_frame.specs.Messages.{error};
 
     ghost format = { flat error };
 
-    ghost starts = { error_starts };
+    #[inline]
+    #[tactic(auto, using(crate::proofs::MessagesLawful::lawful_error))]
+    fn lawful() {}
 
     #[tactic(auto, unfolding(crate::specs::Messages::error))]
     fn read_value<S: Source>(

@@ -11,9 +11,8 @@ use crate::hello::Hello;
 use crate::kind::Kind;
 use crate::limits::{LEAST_BUFFER_SIZE, Limits};
 use crate::reader::FrameReader;
-use crate::whole::read_whole;
 use std::alloc::Global;
-use ua_builtin::StatusCode;
+use ua_builtin::{StatusCode, Wire};
 
 /// What came of the octets so far.
 #[derive(Drop)]
@@ -38,7 +37,7 @@ pub struct Greeting {
 fn judge_hello(alloc: Global, limits: &Limits, body: &[u8]) -> Result<(Hello, Ack), GreetFault>
     ensures { IsJudged limits.now body.now result }
 {
-    let Some(hello) = read_whole::<Hello>(alloc, body)? else {
+    let Some(hello) = Hello::read_whole(alloc, body)? else {
         return Err(GreetFault::refused(StatusCode::BAD_DECODING_ERROR));
     };
     match agree(&hello, limits) {

@@ -18,11 +18,13 @@ pub struct Hello {
 /// Over the body of a frame. Octets behind the URL are for the caller to refuse.
 impl Wire for Hello {
     ghost use Rattle.ua_builtin.specs.Format.{flat};
-    ghost use Rattle.ua_frame.specs.Messages.{hello, hello_starts};
+    ghost use Rattle.ua_frame.specs.Messages.{hello};
 
     ghost format = { flat hello };
 
-    ghost starts = { hello_starts };
+    #[inline]
+    #[tactic(auto, using(crate::proofs::MessagesLawful::lawful_hello))]
+    fn lawful() {}
 
     #[tactic(auto, unfolding(crate::specs::Messages::hello))]
     fn read_value<S: Source>(alloc: Global, src: &mut S, depth: u32) -> Result<Hello, ReadFault> {

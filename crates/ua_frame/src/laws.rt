@@ -1,17 +1,21 @@
 //! Laws of streams. Each is the contract of a function that does nothing.
 
-ghost use Rattle.ua_frame.specs.Laws.{HasReadings, HasOneReading, HaveFrames, FramesAreOne, ReadsFirstFrames, ReadsAllFrames, StopsAtFirstWrong};
-ghost use Rattle.ua_frame.specs.Run.{Rules};
+ghost use Rattle.std.specs.Prelude.{List, ℕ, []};
+ghost use Rattle.ua_frame.specs.Greeting.{IsBegun};
+ghost use Rattle.ua_frame.specs.Hello.{hello_gate};
+ghost use Rattle.ua_frame.specs.Laws.{HasReadings, HasOneReading, HaveFrames, FramesAreOne, ReadsFirstFrames, ReadsAllFrames, StopsAtFirstWrong, EndsStay, ReadsAlike, EndsAlike, ReadsByOtherNames};
+ghost use Rattle.ua_frame.specs.Reader.{gate_rules};
+ghost use Rattle.ua_frame.specs.Run.{Rules, Run, Going};
 
 /// Any octets have a reading by given rules: good frames, and how they go on behind them.
-pub fn has_readings<E>()
-    ensures { (rules : Rules E) → HasReadings rules }
+pub fn has_readings<E, X>()
+    ensures { (rules : Rules E X) → HasReadings rules }
 {}
 
 /// A stream has one reading by given rules: its good frames, what is left behind them and how it
 /// goes on there are determined by its octets alone, however they were cut into pieces.
-pub fn one_reading<E>()
-    ensures { (rules : Rules E) → HasOneReading rules }
+pub fn one_reading<E, X>()
+    ensures { (rules : Rules E X) → HasOneReading rules }
 {}
 
 /// Any octets are frames and a rest, by the sizes that their headers name.
@@ -26,13 +30,36 @@ pub fn one_framing()
 
 /// The good frames of a reading are the first frames of the octets, in order; where the stream goes
 /// on, they are all of them.
-pub fn reads_frames<E>()
-    ensures first { (rules : Rules E) → ReadsFirstFrames rules }
-    ensures all { (rules : Rules E) → ReadsAllFrames rules }
+pub fn reads_frames<E, X>()
+    ensures first { (rules : Rules E X) → ReadsFirstFrames rules }
+    ensures all { (rules : Rules E X) → ReadsAllFrames rules }
 {}
 
-/// A stream is refused with the code of its first wrong frame, by the first reason in the order of
-/// the table that is against it, the header of an unfinished frame counting as one frame more.
-pub fn stops_at_first_wrong<E>()
-    ensures { (rules : Rules E) → StopsAtFirstWrong rules }
+/// A stream is refused for what is against its first wrong frame, the first reason in the order of
+/// the table, the header of an unfinished frame counting as one frame more.
+pub fn stops_at_first_wrong<E, X>()
+    ensures { (rules : Rules E X) → StopsAtFirstWrong rules }
+{}
+
+/// What follows a refused frame, or the last one that is looked at, counts for nothing.
+pub fn ends_stay<E, X>()
+    ensures { (rules : Rules E X) → EndsStay rules }
+{}
+
+/// Rules that agree on the frames of a stream read it alike: where it goes on, on its frames and the
+/// gate behind them; where it ends, also on what is wrong there.
+pub fn same_rules<E, F, X>()
+    ensures going { (rules : Rules E X) (others : Rules F X) → ReadsAlike rules others }
+    ensures ended { (rules : Rules E X) (others : Rules F X) → EndsAlike rules others }
+{}
+
+/// A stream is read alike by whatever names its reasons go: so a reading that tells whose reason it
+/// is gives the one by status codes alone.
+pub fn renamed_rules<E, X, Y>()
+    ensures { (name : X → Y) (rules : Rules E X) → ReadsByOtherNames name rules }
+{}
+
+/// Octets that are no frame yet at the gate of a HEL are the beginning of a greeting.
+pub fn begins_as_read()
+    ensures { (octets : List ℕ) → Run (gate_rules hello_gate) octets [] octets Going → IsBegun octets }
 {}

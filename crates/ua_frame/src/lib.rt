@@ -19,7 +19,6 @@ pub mod laws;
 mod limits;
 mod reader;
 mod unfinished;
-mod whole;
 
 pub use ack::{Ack, ack_octets};
 pub use agreement::agree;
@@ -33,7 +32,6 @@ pub use hello::Hello;
 pub use kind::Kind;
 pub use limits::Limits;
 pub use reader::FrameReader;
-pub use whole::read_whole;
 
 #[cfg(test)]
 mod tests;

@@ -2,7 +2,7 @@
 
 ghost use Rattle.std.specs.Prelude.{◌≡◌, ◌<◌, [], ℕ, List, length, max};
 ghost use Rattle.ua_frame.specs.declared.frame.Frame.{Frame};
-ghost use Rattle.ua_frame.specs.Reader.{Reader, open_reader, Takes, StandsAfter, Answers};
+ghost use Rattle.ua_frame.specs.Reader.{Reader, open_reader, failed_reader, Takes, StandsAfter, Answers};
 
 use crate::fault::FrameFault;
 use crate::frame::Frame;
@@ -59,6 +59,14 @@ impl FrameReader {
         ensures bound { result < max 8 self.now.gate.largest }
     {
         self.unfinished.len()
+    }
+
+    /// Lets go of what is held, and takes nothing from now on.
+    pub fn close(&mut self)
+        ensures { self.new ≡ failed_reader self.old.gate }
+    {
+        self.unfinished = Unfinished::new(self.alloc, self.unfinished.gate);
+        self.failed = true;
     }
 
     /// Takes octets, by what is held and the piece alone.

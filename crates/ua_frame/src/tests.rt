@@ -2,7 +2,7 @@
 
 use crate::{
     Ack, ErrorFrame, FrameFault, FrameReader, Gate, GreetFault, Greeted, Greeting, Hello, Kind,
-    Limits, ack_octets, error_frame, read_whole,
+    Limits, ack_octets, error_frame,
 };
 use std::alloc::Global;
 use std::process::Abort;
@@ -157,7 +157,7 @@ fn reads_frames_of_several_kinds(rt: HostRuntime) -> Result<(), Fail> {
     assert_eq!(rt; n, 16);
     let frame = frame.ok_or("no frame")?;
     assert_eq!(rt; frame.kind, Kind::Err);
-    let body = read_whole::<ErrorFrame>(rt.alloc(), frame.body.as_slice())?.ok_or("no error")?;
+    let body = ErrorFrame::read_whole(rt.alloc(), frame.body.as_slice())?.ok_or("no error")?;
     assert_eq!(rt; body.error, StatusCode::BAD_TCP_NOT_ENOUGH_RESOURCES);
     assert_eq!(rt; body.reason.as_str(), None);
     assert!(rt; reader.take(b"CLOF\x18\0\0\0behind")?.1.is_none());

@@ -1,7 +1,0 @@
--- Tables of reasons: the first that holds.
-use Rattle.std.specs.Prelude.{List, [], ◌∷◌, Bool, if◌then◌else◌, Option, Some, None}
-
--- the first reason of a table that holds
-abbrev pub first_reason : {A : Type 0} → List (A × Bool) → Option A
-first_reason [] = None
-first_reason (r ∷ rs) = if r.1 then Some r.0 else first_reason rs
