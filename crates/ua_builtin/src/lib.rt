@@ -16,8 +16,6 @@ mod node_id;
 mod node_text;
 mod qualified_name;
 mod status_code;
-#[cfg(test)]
-mod tests;
 mod xml_element;
 
 pub use date_time::DateTime;

@@ -19,8 +19,6 @@ mod pairs;
 mod parts;
 mod signed;
 mod source;
-#[cfg(test)]
-mod tests;
 mod text;
 mod wire;
 

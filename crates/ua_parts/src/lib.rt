@@ -10,8 +10,6 @@ mod diagnostic_info;
 mod diagnostic_wire;
 mod dimensions;
 pub mod field;
-#[cfg(test)]
-mod tests;
 
 pub use diagnostic_info::{BoxedDiagnostic, DiagnosticInfo};
 pub use diagnostic_wire::{append_diagnostic, read_diagnostic};

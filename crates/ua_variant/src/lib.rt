@@ -12,8 +12,6 @@ pub mod laws;
 mod masks;
 mod measure;
 mod read;
-#[cfg(test)]
-mod tests;
 mod values;
 mod wire;
 mod write;

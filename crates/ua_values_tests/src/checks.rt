@@ -1,0 +1,57 @@
+//! What the tests share. A fault ends the test.
+
+use std::alloc::Global;
+use std::process::Abort;
+use ua_builtin::{Octets, ReadFault, Source, UaBytes, UaString, Wire};
+
+/// The value that octets encode, with nothing behind it.
+pub fn value_of<T: Wire + Drop>(rt: &impl Abort, alloc: Global, octets: &[u8]) -> T {
+    let mut src = Octets::new(octets);
+    let value = T::read(alloc, &mut src, 100).expect(rt, "a value");
+    assert_eq!(rt; src.left(), 0);
+    value
+}
+
+/// That a value is written as these octets.
+pub fn assert_written<T: Wire>(rt: &impl Abort, alloc: Global, value: &T, octets: &[u8]) {
+    let mut out = Vec::new(alloc);
+    value.write(&mut out).expect(rt, "an encoding");
+    assert_eq!(rt; out.as_slice(), octets);
+}
+
+/// That octets are this value, and what is written for it.
+pub fn reads<T: Wire + PartialEq + Drop>(
+    rt: &impl Abort,
+    alloc: Global,
+    octets: &[u8],
+    want: &T,
+    written: &[u8],
+) {
+    let value = value_of::<T>(rt, alloc, octets);
+    assert!(rt; value == *want);
+    assert_written(rt, alloc, &value, written);
+}
+
+/// Whether no front of the octets is a value.
+pub fn is_refused<T: Wire + Drop>(alloc: Global, octets: &[u8]) -> bool {
+    let answer = T::read(alloc, &mut Octets::new(octets), 100);
+    matches!(answer, Err(ReadFault::NoValue))
+}
+
+pub fn text(rt: &impl Abort, alloc: Global, text: &str) -> UaString {
+    UaString::from_str(alloc, text).expect(rt, "memory")
+}
+
+pub fn bytes(rt: &impl Abort, alloc: Global, octets: &[u8]) -> UaBytes {
+    UaBytes::new(Some(octets.to_vec(alloc).expect(rt, "memory")))
+}
+
+/// The octets so many times, and then a 0.
+pub fn nested(rt: &impl Abort, alloc: Global, around: &[u8], times: u32) -> Vec<u8> {
+    let mut octets = Vec::new(alloc);
+    for _ in 0..times {
+        octets.extend_from_slice(around).expect(rt, "memory");
+    }
+    octets.push(0).expect(rt, "memory");
+    octets
+}
