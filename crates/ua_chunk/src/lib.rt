@@ -18,8 +18,6 @@ pub mod laws;
 mod message;
 mod open_chunk;
 mod pending;
-#[cfg(test)]
-mod tests;
 
 pub use assembler::Assembler;
 pub use chunk::{Chunk, read_chunk};

@@ -32,6 +32,4 @@ pub use hello::Hello;
 pub use kind::Kind;
 pub use limits::Limits;
 pub use reader::FrameReader;
-
-#[cfg(test)]
-mod tests;
+pub use whole::read_whole;
