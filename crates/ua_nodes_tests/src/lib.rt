@@ -1,4 +1,6 @@
 //! Tests of the node table: texts and octets written out by hand.
+//!
+//! It stands above `ua_nodes` so that the node table is proved once.
 #![tactic(auto)]
 
 #[cfg(test)]
@@ -8,6 +10,10 @@ mod fixture;
 #[cfg(test)]
 mod items;
 #[cfg(test)]
+mod stamps;
+#[cfg(test)]
 mod types;
 #[cfg(test)]
 mod values;
+#[cfg(test)]
+mod writes;

@@ -17,6 +17,10 @@ mod filled_responses;
 #[cfg(test)]
 mod identity;
 #[cfg(test)]
+mod levels;
+#[cfg(test)]
+mod long_arrays;
+#[cfg(test)]
 mod nulls;
 #[cfg(test)]
 mod octets;

@@ -1,6 +1,6 @@
 //! Bodies that are no messages, and what each is refused by.
 
-use crate::bodies::{assert_octets, request_octets, request_of};
+use crate::bodies::{assert_octets, request_octets, request_of, response_octets, response_of};
 use crate::octets::octets;
 use crate::parts::{EPOCH, is_number};
 use std::alloc::Global;
@@ -115,14 +115,49 @@ fn renamed(rt: &impl Abort, alloc: Global, id: &str) -> Vec<u8> {
     body
 }
 
+// NodeIds that announce no request: another message's, an unknown one, one of another namespace in
+// two forms, a text, a Guid and octets.
+const OTHERS: [&str; 7] = [
+    "01 00 BE 01",
+    "01 00 0F 02",
+    "01 01 D9 01",
+    "02 01 00 D9 01 00 00",
+    "03 00 00 01 00 00 00 'a'",
+    "04 00 00 D9 01 00 00 00 00 00 00 00 00 00 00 00 00 00 00",
+    "05 00 00 02 00 00 00 D9 01",
+];
+
 #[test]
 fn another_node_id_is_not_supported(rt: HostRuntime) {
     let alloc = rt.alloc();
-    let open = renamed(&rt, alloc, "01 00 BE 01");
-    let unknown = renamed(&rt, alloc, "01 00 0F 02");
     assert!(rt; is_unsupported(alloc, &[0x00, 0x48], 0));
-    assert!(rt; is_unsupported(alloc, &open, 9));
-    assert!(rt; is_unsupported(alloc, &unknown, 9));
+    for id in OTHERS {
+        let body = renamed(&rt, alloc, id);
+        assert!(rt; is_unsupported(alloc, &body, 9));
+    }
+}
+
+#[test]
+fn a_longer_form_announces_the_same_request(rt: HostRuntime) {
+    let alloc = rt.alloc();
+    let body = renamed(&rt, alloc, "02 00 00 D9 01 00 00");
+    let request = request_of(&rt, alloc, &body);
+    let written = request_octets(&rt, alloc, request);
+    assert_octets(&rt, alloc, &written, CLOSE_SESSION);
+}
+
+// The header ends with the octet before the flag, and its handle with the twentieth.
+#[test]
+fn a_header_that_is_cut_has_no_handle(rt: HostRuntime) {
+    let alloc = rt.alloc();
+    let body = close_session(&rt, alloc);
+    let other = renamed(&rt, alloc, "01 00 0F 02");
+    for len in [20, 27, 34] {
+        let cut = body.get(..len).expect(&rt, "a front");
+        assert!(rt; is_unreadable(alloc, cut, 0));
+        let cut = other.get(..len).expect(&rt, "a front");
+        assert!(rt; is_unsupported(alloc, cut, 0));
+    }
 }
 
 #[test]
@@ -140,6 +175,36 @@ fn is_unreadable_response(alloc: Global, body: &[u8]) -> bool {
         response_fault_of(alloc, body),
         Some(ResponseFault::Unreadable)
     )
+}
+
+// The answer under another NodeId.
+fn renamed_answer(rt: &impl Abort, alloc: Global, id: &str) -> Vec<u8> {
+    let mut body = octets(rt, alloc, &[id]);
+    let rest = octets(rt, alloc, &CLOSED[1..]);
+    body.extend_from_slice(&rest).expect(rt, "memory");
+    body
+}
+
+#[test]
+fn another_node_id_is_an_unknown_answer(rt: HostRuntime) {
+    let alloc = rt.alloc();
+    for id in [
+        "01 01 DC 01",
+        "02 01 00 DC 01 00 00",
+        "03 00 00 01 00 00 00 'a'",
+    ] {
+        let fault = response_fault_of(alloc, &renamed_answer(&rt, alloc, id));
+        assert!(rt; matches!(fault, Some(ResponseFault::Unknown)));
+    }
+}
+
+#[test]
+fn a_longer_form_announces_the_same_answer(rt: HostRuntime) {
+    let alloc = rt.alloc();
+    let body = renamed_answer(&rt, alloc, "02 00 00 DC 01 00 00");
+    let response = response_of(&rt, alloc, &body);
+    let written = response_octets(&rt, alloc, response);
+    assert_octets(&rt, alloc, &written, CLOSED);
 }
 
 #[test]
