@@ -81,29 +81,36 @@ fn is_refused(rt: &impl Abort, greeting: &mut Greeting, piece: &[u8], frame: &[u
     }
 }
 
-// Gives octets in pieces of a size, up to the last piece, which is left.
-fn waits_for_all_but_the_last<'a>(
+// Gives octets in pieces of a size. All but the last piece end nothing; the last one is refused by
+// this ERR frame, or ends the HEL where there is none.
+fn gives(
     rt: &impl Abort,
     greeting: &mut Greeting,
-    octets: &'a [u8],
+    octets: &[u8],
     size: usize,
-) -> &'a [u8] {
+    refusal: Option<&[u8; 16]>,
+) {
     assert!(rt; size > 0);
-    let mut rest = octets;
-    while rest.len() > size {
-        let (piece, behind) = rest.split_at(size);
-        waits(rt, greeting, piece);
-        rest = behind;
+    let mut taken = 0usize;
+    for piece in octets.chunks(size) {
+        taken = taken.saturating_add(piece.len());
+        if taken < octets.len() {
+            waits(rt, greeting, piece);
+        } else {
+            match refusal {
+                Some(frame) => is_refused(rt, greeting, piece, frame),
+                None => ends(rt, greeting, piece),
+            }
+        }
     }
-    rest
+    assert_eq!(rt; taken, octets.len());
 }
 
 #[test]
 fn agrees_to_a_hel_octet_by_octet(rt: HostRuntime) {
     let mut greeting = greeting(&rt, rt.alloc());
     assert_eq!(rt; HEL.len(), 56);
-    let last = waits_for_all_but_the_last(&rt, &mut greeting, HEL, 1);
-    ends(&rt, &mut greeting, last);
+    gives(&rt, &mut greeting, HEL, 1, None);
     assert!(rt; matches!(greeting.take(HEL), Err(GreetFault::Closed)));
 }
 
@@ -126,8 +133,7 @@ fn agrees_to_a_whole_hel(rt: HostRuntime) {
 fn refuses_at_the_first_octet_that_shows_a_reason(rt: HostRuntime) {
     for (octets, frame) in REFUSED {
         let mut greeting = greeting(&rt, rt.alloc());
-        let last = waits_for_all_but_the_last(&rt, &mut greeting, octets, 1);
-        is_refused(&rt, &mut greeting, last, frame);
+        gives(&rt, &mut greeting, octets, 1, Some(frame));
         assert!(rt; matches!(greeting.take(octets), Err(GreetFault::Closed)));
     }
 }
@@ -137,8 +143,7 @@ fn refuses_alike_in_all_pieces(rt: HostRuntime) {
     for (octets, frame) in REFUSED {
         for size in [3, 7, 20, 57] {
             let mut greeting = greeting(&rt, rt.alloc());
-            let last = waits_for_all_but_the_last(&rt, &mut greeting, octets, size);
-            is_refused(&rt, &mut greeting, last, frame);
+            gives(&rt, &mut greeting, octets, size, Some(frame));
         }
     }
 }
