@@ -32,4 +32,3 @@ pub use hello::Hello;
 pub use kind::Kind;
 pub use limits::Limits;
 pub use reader::FrameReader;
-pub use whole::read_whole;

@@ -1,10 +1,10 @@
 //! What the tests of chunks share. A fault ends the test.
 
+use bytes::Bytes;
 use std::alloc::Global;
 use std::process::Abort;
 use ua_builtin::Source;
 use ua_chunk::{AssembleFault, Assembler, Chunk, Delivered, Flag, Message};
-use ua_frame::Body;
 
 /// The abort body of BadResponseTooLarge with a null reason.
 pub const ABORT: &[u8] = &[0x00, 0x00, 0xB9, 0x80, 0xFF, 0xFF, 0xFF, 0xFF];
@@ -24,8 +24,8 @@ pub enum Answer {
 /// A chunk: its flag, sequence number, request id and body, and the answer to it.
 pub type Row = (Flag, u32, u32, &'static [u8], Answer);
 
-pub fn body_of(rt: &impl Abort, alloc: Global, octets: &[u8]) -> Body {
-    Body::new(octets.to_vec(alloc).expect(rt, "memory"))
+pub fn body_of(rt: &impl Abort, alloc: Global, octets: &[u8]) -> Bytes {
+    Bytes::copy_from_slice(alloc, octets).expect(rt, "memory")
 }
 
 // That a message has these octets.

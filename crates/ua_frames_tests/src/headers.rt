@@ -4,7 +4,7 @@ use crate::chunks::body_of;
 use std::alloc::Global;
 use std::process::Abort;
 use ua_chunk::{Flag, NONE_POLICY, OpenFault, read_chunk, read_open};
-use ua_frame::{Body, Frame, Kind};
+use ua_frame::{Frame, Kind};
 
 #[test]
 fn reads_the_headers_of_a_chunk(rt: HostRuntime) {
@@ -29,7 +29,7 @@ fn opening(rt: &impl Abort, alloc: Global, policy: &[u8], rest: &[u8]) -> Frame 
     Frame {
         kind: Kind::Opn,
         flag: b'F',
-        body: Body::new(octets),
+        body: body_of(rt, alloc, octets.as_slice()),
     }
 }
 

@@ -19,4 +19,6 @@ mod limits;
 #[cfg(test)]
 mod messages;
 #[cfg(test)]
+mod parts;
+#[cfg(test)]
 mod readers;

@@ -3,8 +3,8 @@
 use crate::messages::HEL;
 use std::alloc::Global;
 use std::process::Abort;
-use ua_builtin::StatusCode;
-use ua_frame::{ErrorFrame, Frame, FrameFault, FrameReader, Gate, Kind, error_frame, read_whole};
+use ua_builtin::{StatusCode, Wire};
+use ua_frame::{ErrorFrame, Frame, FrameFault, FrameReader, Gate, Kind, error_frame};
 
 // A reader of ERR and CLO frames.
 fn reader(alloc: Global) -> FrameReader {
@@ -23,7 +23,7 @@ fn reads_an_error(rt: HostRuntime) {
     let octets = error_frame(StatusCode::BAD_TCP_NOT_ENOUGH_RESOURCES);
     let (taken, frame) = frame_of(&rt, &mut reader(rt.alloc()), &octets);
     assert_eq!(rt; (taken, frame.kind), (16, Kind::Err));
-    let body = read_whole::<ErrorFrame>(rt.alloc(), frame.body.as_slice());
+    let body = ErrorFrame::read_whole(rt.alloc(), frame.body.as_slice());
     let error = body.expect(&rt, "memory").expect(&rt, "an error");
     assert_eq!(rt; error.error, StatusCode::BAD_TCP_NOT_ENOUGH_RESOURCES);
     assert_eq!(rt; error.reason.as_str(), None);
@@ -37,10 +37,7 @@ fn reads_a_frame_in_two_pieces(rt: HostRuntime) {
     assert_eq!(rt; (taken, reader.held()), (14, 14));
     let (taken, frame) = frame_of(&rt, &mut reader, b" the header");
     assert_eq!(rt; (taken, frame.kind), (10, Kind::Clo));
-    assert_eq!(rt;
-        frame.body.into_vec().as_slice(),
-        b"behind the heade".as_slice()
-    );
+    assert_eq!(rt; frame.body.as_slice(), b"behind the heade".as_slice());
 }
 
 #[test]

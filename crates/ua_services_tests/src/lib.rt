@@ -11,6 +11,8 @@ mod bodies;
 #[cfg(test)]
 mod channel;
 #[cfg(test)]
+mod cut_bodies;
+#[cfg(test)]
 mod filled_requests;
 #[cfg(test)]
 mod filled_responses;
