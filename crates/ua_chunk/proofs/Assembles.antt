@@ -10,7 +10,7 @@ use Rattle.ua_chunk.specs.declared.fault.AssembleFault.{AssembleFault}
 use Rattle.ua_chunk.specs.declared.fault.AssembleFault.TheVariants.{Sequence, Unreadable, TooManyOpen, MessageTooLarge, TooManyChunks}
 use Rattle.ua_chunk.specs.Abort.{is_readable_abort}
 use Rattle.ua_chunk.specs.Assembling.{Stands, refusal_kept, added, given_kept, given_kept_by, put_back, put_back_by}
-use Rattle.ua_chunk.specs.Delivered.{given_by, delivered}
+use Rattle.ua_chunk.specs.Delivered.{given, given_by, delivered}
 use Rattle.ua_chunk.specs.Flag.{is_more_flag, is_abort_flag}
 use Rattle.ua_chunk.specs.Gathered.{is_more, unfinished, gathered, joined}
 use Rattle.ua_chunk.specs.Item.{Item}
@@ -18,17 +18,20 @@ use Rattle.ua_chunk.specs.Item.Item.{Whole}
 use Rattle.ua_chunk.specs.Kept.{kept, kept_messages}
 use Rattle.ua_chunk.specs.Open.{open_ids}
 use Rattle.ua_chunk.specs.Pending.{without, is_under, message_of}
-use Rattle.ua_chunk.specs.Refusal.{refusal, passes, most_open, IsFor}
+use Rattle.ua_chunk.specs.Refusal.{refusal, passes, most_open, IsFor, OpenWithin}
 use Rattle.ua_chunk.specs.Sequence.{may_follow}
+use Rattle.ua_chunk.proofs.Bounds.{within_push}
 use Rattle.ua_chunk.proofs.OneMore.{delivered_push}
 use Rattle.ua_chunk.proofs.KeptMessages.{message_is, messages_push, joined_push, count_is}
 
 -- ---- what is handed out, and what is kept
 
+count_more : (us : List Chunk) (c : Chunk) → min (min (length us) 4294967295 + 1) 4294967295 ≡ min (length (us ++ c ∷ [])) 4294967295
+count_more us c = omega (arith, length-append us (c ∷ []))
+
 added_is : (id : ℕ) (us : List Chunk) (c : Chunk) → added (kept id us) c ≡ kept id (us ++ c ∷ [])
 added_is id us c =
-    let count : min (min (length us) 4294967295 + 1) 4294967295 ≡ min (length (us ++ c ∷ [])) 4294967295 = omega (arith, length-append us (c ∷ [])) in
-    ap (λ n. record { request = id; chunks = n; message = joined us ++ c.body }) count
+    ap (λ n. record { request = id; chunks = n; message = joined us ++ c.body }) (count_more us c)
     ∙ ap (λ o. record { request = id; chunks = min (length (us ++ c ∷ [])) 4294967295; message = o }) (sym (joined_push us c))
 
 given_flag : (f : Flag) (cs : List Chunk) (c : Chunk) → given_kept_by f (kept c.request (unfinished c.request cs)) c ≡ given_by f cs c
@@ -41,10 +44,11 @@ put_back_flag F cs c = refl
 put_back_flag C cs c = ap (λ m. m ∷ []) (added_is c.request (unfinished c.request cs) c)
 put_back_flag A cs c = refl
 
+pub given_is : (cs : List Chunk) (c : Chunk) (ms : List Pending) (ds : List Item) → ms ≡ kept_messages cs → ds ≡ given_kept (message_of c.request ms) c → given cs c ≡ ds
+given_is cs c ms ds e f = sym (given_flag c.flag cs c) ∙ ap (λ m. given_kept m c) (sym (ap (message_of c.request) e ∙ message_is c.request cs)) ∙ sym f
+
 pub delivered_is : (cs : List Chunk) (c : Chunk) (ms : List Pending) (ds : List Item) → ms ≡ kept_messages cs → ds ≡ given_kept (message_of c.request ms) c → delivered (cs ++ c ∷ []) ≡ delivered cs ++ ds
-delivered_is cs c ms ds e f =
-    delivered_push cs c
-    ∙ ap (λ t. delivered cs ++ t) (sym (given_flag c.flag cs c) ∙ ap (λ m. given_kept m c) (sym (ap (message_of c.request) e ∙ message_is c.request cs)) ∙ sym f)
+delivered_is cs c ms ds e f = delivered_push cs c ∙ ap (λ t. delivered cs ++ t) (given_is cs c ms ds e f)
 
 messages_are : (cs : List Chunk) (c : Chunk) (ms new : List Pending) → ms ≡ kept_messages cs → new ≡ without (is_under c.request) ms ++ put_back (message_of c.request ms) c → new ≡ kept_messages (cs ++ c ∷ [])
 messages_are cs c ms new e f =
@@ -130,18 +134,33 @@ fault_is_for octets chunks last cs c g e =
     chain_for (may_follow last c.sequence) (is_abort_flag c.flag && not (is_readable_abort c.body)) (ltb most_open (length (open_ids (cs ++ c ∷ []))))
     (not (is_abort_flag c.flag) && passes octets (length (joined (gathered cs c)))) (not (is_abort_flag c.flag) && passes chunks (length (gathered cs c))) g e
 
-few_after : (follows unreadable crowded octets chunks : Bool) → chain follows unreadable crowded octets chunks ≡ None → crowded ≡ false
+pub few_after : (follows unreadable crowded octets chunks : Bool) → chain follows unreadable crowded octets chunks ≡ None → crowded ≡ false
 few_after false unreadable crowded octets chunks e = absurd cc
 few_after true true crowded octets chunks e = absurd cc
 few_after true false true octets chunks e = absurd cc
 few_after true false false octets chunks e = refl
 
+pub large_after : (follows unreadable crowded octets chunks : Bool) → chain follows unreadable crowded octets chunks ≡ None → octets ≡ false
+large_after false unreadable crowded octets chunks e = absurd cc
+large_after true true crowded octets chunks e = absurd cc
+large_after true false true octets chunks e = absurd cc
+large_after true false false true chunks e = absurd cc
+large_after true false false false chunks e = refl
+
+pub unreadable_after : (follows unreadable crowded octets chunks : Bool) → chain follows unreadable crowded octets chunks ≡ None → unreadable ≡ false
+unreadable_after false unreadable crowded octets chunks e = absurd cc
+unreadable_after true true crowded octets chunks e = absurd cc
+unreadable_after true false crowded octets chunks e = refl
+
 -- an assembler that took a chunk stands after it
-pub stays : (a b : Assembler) (cs : List Chunk) (c : Chunk) → Stands a cs → refusal a.octets a.chunks a.last cs c ≡ None → b.closed ≡ false → b.pending ≡ without (is_under c.request) a.pending ++ put_back (message_of c.request a.pending) c → Stands b (cs ++ c ∷ [])
-stays a b cs c s none closed pending = record {
+pub stays : (a b : Assembler) (cs : List Chunk) (c : Chunk) → Stands a cs → refusal a.octets a.chunks a.last cs c ≡ None → b.closed ≡ false → b.octets ≡ a.octets → b.pending ≡ without (is_under c.request) a.pending ++ put_back (message_of c.request a.pending) c → Stands b (cs ++ c ∷ [])
+stays a b cs c s none closed octets pending = record {
   goes_on = closed;
   unfinished = messages_are cs c a.pending b.pending s.unfinished pending;
   few = ltb-false most_open (length (open_ids (cs ++ c ∷ [])))
       (few_after (may_follow a.last c.sequence) (is_abort_flag c.flag && not (is_readable_abort c.body)) (ltb most_open (length (open_ids (cs ++ c ∷ []))))
       (not (is_abort_flag c.flag) && passes a.octets (length (joined (gathered cs c)))) (not (is_abort_flag c.flag) && passes a.chunks (length (gathered cs c))) none);
+  within = subst (λ n. OpenWithin n (cs ++ c ∷ [])) (sym octets) (within_push a.octets cs c s.within
+      (large_after (may_follow a.last c.sequence) (is_abort_flag c.flag && not (is_readable_abort c.body)) (ltb most_open (length (open_ids (cs ++ c ∷ []))))
+      (not (is_abort_flag c.flag) && passes a.octets (length (joined (gathered cs c)))) (not (is_abort_flag c.flag) && passes a.chunks (length (gathered cs c))) none));
 }

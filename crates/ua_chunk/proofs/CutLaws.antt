@@ -12,11 +12,12 @@ use Rattle.ua_chunk.specs.Item.Item.{Whole}
 use Rattle.ua_chunk.specs.Merge.{Part, part_of, Sent, more_part, parts_of, IsWithin, AllWithin, Interleaves, Merges}
 use Rattle.ua_chunk.specs.Merge.Interleaves.{none, left}
 use Rattle.ua_chunk.specs.Open.{open_ids}
-use Rattle.ua_chunk.specs.Refusal.{passes, TakesAll, FewOpen}
+use Rattle.ua_chunk.specs.Refusal.{passes, TakesAll, TakesMessages, FewOpen}
 use Rattle.ua_chunk.specs.Sequence.{follows, may_follow, ordered, next_number}
 use Rattle.ua_chunk.proofs.Fresh.{cut_behind, some_pieces}
 use Rattle.ua_chunk.proofs.Interleaved.{merge_by_id}
-use Rattle.ua_chunk.proofs.Merged.{takes_behind}
+use Rattle.ua_chunk.proofs.Merged.{messages_behind}
+use Rattle.ua_chunk.proofs.Numbers.{takes_all}
 use Rattle.ua_chunk.proofs.OneMore.{delivered_from}
 use Rattle.ua_chunk.proofs.Pieces.{joined_pieces}
 
@@ -126,22 +127,31 @@ numbered_all lane s id (p ∷ ps) = and_from (eqb id id) (list_all (is_of id) (n
 
 -- ---- the laws
 
-taken_pieces : (octets chunks : ℕ) (last : Option ℕ) (lane : Lane) (s id : ℕ) (p : List ℕ) (ps : List (List ℕ)) → may_follow last s ≡ true → passes octets (length (flat_map (λ p. p) (p ∷ ps))) ≡ false → passes chunks (length (p ∷ ps)) ≡ false
-    → TakesAll octets chunks last [] (numbered lane s id (p ∷ ps))
-taken_pieces octets chunks last lane s id p ps h o c =
-    takes_behind octets chunks (sent_of id p ps ∷ []) last [] (numbered lane s id (p ∷ ps)) (within_one octets chunks (sent_of id p ps) (pieces_within octets chunks id p ps o c))
+messages_pieces : (octets chunks : ℕ) (lane : Lane) (s id : ℕ) (p : List ℕ) (ps : List (List ℕ)) → passes octets (length (flat_map (λ p. p) (p ∷ ps))) ≡ false → passes chunks (length (p ∷ ps)) ≡ false
+    → TakesMessages octets chunks [] (numbered lane s id (p ∷ ps))
+messages_pieces octets chunks lane s id p ps o c =
+    messages_behind octets chunks (sent_of id p ps ∷ []) [] (numbered lane s id (p ∷ ps)) (within_one octets chunks (sent_of id p ps) (pieces_within octets chunks id p ps o c))
     (merge_by_id (sent_of id p ps ∷ []) (numbered lane s id (p ∷ ps)) (refl, tt) (one_merge (sent_of id p ps) (map part_of (numbered lane s id (p ∷ ps))) (numbered_parts lane s id p ps)))
-    (numbered_ordered lane last s id p ps h)
     (few_all id [] (numbered lane s id (p ∷ ps)) (numbered_all lane s id (p ∷ ps)))
+
+pub cut_messages : (octets chunks : ℕ) (lane : Lane) (b : List ℕ) (s id : ℕ) → 0 < lane.room → 0 < length b → passes octets (length b) ≡ false → passes chunks (length (pieces lane.room b)) ≡ false
+    → TakesMessages octets chunks [] (chunks_of lane b s id)
+cut_messages octets chunks lane b s id pos some o c =
+    let ps = some_pieces lane.room b some in
+    subst (λ (t : List (List ℕ)). TakesMessages octets chunks [] (numbered lane s id t)) (sym ps.are)
+    (messages_pieces octets chunks lane s id ps.first ps.others
+    (ap (λ (t : List (List ℕ)). passes octets (length (flat_map (λ p. p) t))) (sym ps.are) ∙ ap (λ (t : List ℕ). passes octets (length t)) (joined_pieces lane.room b pos some) ∙ o)
+    (ap (λ (t : List (List ℕ)). passes chunks (length t)) (sym ps.are) ∙ c))
+
+cut_ordered : (lane : Lane) (last : Option ℕ) (b : List ℕ) (s id : ℕ) → 0 < length b → may_follow last s ≡ true → ordered last (chunks_of lane b s id) ≡ true
+cut_ordered lane last b s id some h =
+    let ps = some_pieces lane.room b some in
+    ap (λ (t : List (List ℕ)). ordered last (numbered lane s id t)) ps.are ∙ numbered_ordered lane last s id ps.first ps.others h
 
 pub cut_taken : (octets chunks : ℕ) (last : Option ℕ) (lane : Lane) (b : List ℕ) (s id : ℕ) → 0 < lane.room → 0 < length b → may_follow last s ≡ true → passes octets (length b) ≡ false → passes chunks (length (pieces lane.room b)) ≡ false
     → TakesAll octets chunks last [] (chunks_of lane b s id)
 cut_taken octets chunks last lane b s id pos some h o c =
-    let ps = some_pieces lane.room b some in
-    subst (λ (t : List (List ℕ)). TakesAll octets chunks last [] (numbered lane s id t)) (sym ps.are)
-    (taken_pieces octets chunks last lane s id ps.first ps.others h
-    (ap (λ (t : List (List ℕ)). passes octets (length (flat_map (λ p. p) t))) (sym ps.are) ∙ ap (λ (t : List ℕ). passes octets (length t)) (joined_pieces lane.room b pos some) ∙ o)
-    (ap (λ (t : List (List ℕ)). passes chunks (length t)) (sym ps.are) ∙ c))
+    takes_all octets chunks last [] (chunks_of lane b s id) (cut_ordered lane last b s id some h) (cut_messages octets chunks lane b s id pos some o c)
 
 pub cut_delivered : (lane : Lane) (b : List ℕ) (s id : ℕ) → 0 < lane.room → 0 < length b → delivered (chunks_of lane b s id) ≡ Whole id b ∷ []
 cut_delivered lane b s id pos some =

@@ -1,5 +1,5 @@
 -- Chunks behind chunks that leave nothing unfinished, and what a cut body delivers.
-use Rattle.std.proofs.Common.{◌≡◌, ℕ, ◌<◌, Bool, true, false, cond, ◌||◌, eqb, ltb, List, [], ◌∷◌, ◌++◌, refl, sym, ◌∙◌, ap, arith, length, map, append-nil, append_assoc, take, drop}
+use Rattle.std.proofs.Common.{◌≡◌, ℕ, ◌<◌, Bool, true, false, cond, not, ◌&&◌, ◌||◌, eqb, ltb, Option, Some, List, [], ◌∷◌, ◌++◌, refl, sym, ◌∙◌, ap, arith, length, map, append-nil, append_assoc, take, drop}
 use Rattle.std.proofs.lemmas.Bool.{cond-true, eq-eqb}
 use Rattle.std.specs.List.{list_any, filter, flat_map}
 use Rattle.ua_chunk.specs.declared.assembler.Assembler.{Assembler}
@@ -10,11 +10,18 @@ use Rattle.ua_chunk.specs.declared.lane.Lane.{Lane}
 use Rattle.ua_chunk.specs.Assembling.{Stands}
 use Rattle.ua_chunk.specs.Cutting.{pieces, pieces_in, numbered, chunk_of}
 use Rattle.ua_chunk.specs.Delivered.{given, given_by, delivered, delivered_behind}
-use Rattle.ua_chunk.specs.Gathered.{is_of, ends, after_last, unfinished, joined}
+use Rattle.ua_chunk.specs.declared.fault.AssembleFault.{AssembleFault}
+use Rattle.ua_chunk.specs.declared.fault.AssembleFault.TheVariants.{Sequence, Unreadable, TooManyOpen, MessageTooLarge, TooManyChunks}
+use Rattle.ua_chunk.specs.Abort.{is_readable_abort}
+use Rattle.ua_chunk.specs.Flag.{is_abort_flag}
+use Rattle.ua_chunk.specs.Gathered.{is_of, is_more, ends, after_last, unfinished, gathered, joined}
 use Rattle.ua_chunk.specs.Item.Item.{Whole}
 use Rattle.ua_chunk.specs.Kept.{kept}
 use Rattle.ua_chunk.specs.Open.{open_ids}
-use Rattle.ua_chunk.specs.Sequence.{next_number}
+use Rattle.ua_frame.specs.Reasons.{first_reason}
+use Rattle.ua_chunk.specs.Refusal.{passes, most_open, message_reasons, message_refusal, refusal}
+use Rattle.ua_chunk.specs.Sequence.{next_number, may_follow}
+use Rattle.ua_chunk.proofs.Bounds.{none_within}
 use Rattle.ua_chunk.proofs.Lists.{filter_append}
 use Rattle.ua_chunk.proofs.OneMore.{delivered_from, not_open, unfinished_more}
 use Rattle.ua_chunk.proofs.KeptMessages.{joined_push}
@@ -72,12 +79,44 @@ fresh cs ds none =
     ∙ ap (λ t. delivered_behind [] cs ++ t) (ap (λ t. delivered_behind t ds) (sym (append-nil cs)) ∙ fresh_behind cs [] ds (none_unfinished cs none) ∙ sym (delivered_from ds))
     ∙ ap (λ t. t ++ delivered ds) (sym (delivered_from cs))
 
+-- ---- why chunks are refused behind nothing unfinished
+
+open_step : (more later later' : Bool) (r : ℕ) (o o' end : List ℕ) → (later ≡ true → later' ≡ true) → (o ≡ [] → o' ≡ end) → cond (more && not later) (r ∷ o) o ≡ [] → cond (more && not later') (r ∷ o') o' ≡ end
+open_step false later later' r o o' end grows same e = same e
+open_step true true later' r o o' end grows same e = ap (λ b. cond (not b) (r ∷ o') o') (grows refl) ∙ same e
+open_step true false later' r o o' end grows same e = absurd cc
+
+open_behind : (cs us : List Chunk) → open_ids cs ≡ [] → open_ids (cs ++ us) ≡ open_ids us
+open_behind [] us e = refl
+open_behind (c ∷ cs) us e =
+    open_step (is_more c) (list_any (is_of c.request) cs) (list_any (is_of c.request) (cs ++ us)) c.request (open_ids cs) (open_ids (cs ++ us)) (open_ids us)
+    (any_grows (is_of c.request) cs us) (open_behind cs us) e
+
+-- what may be wrong with a message is what may be wrong with it alone
+same_reasons : (octets chunks : ℕ) (cs ds : List Chunk) (c : Chunk) → open_ids cs ≡ [] → message_reasons octets chunks (cs ++ ds) c ≡ message_reasons octets chunks ds c
+same_reasons octets chunks cs ds c none =
+    let table : List ℕ → List Chunk → List (AssembleFault × Bool) = λ ids us.
+    (Unreadable, is_abort_flag c.flag && not (is_readable_abort c.body))
+    ∷ (TooManyOpen, ltb most_open (length ids))
+    ∷ (MessageTooLarge, not (is_abort_flag c.flag) && passes octets (length (joined us)))
+    ∷ (TooManyChunks, not (is_abort_flag c.flag) && passes chunks (length us))
+    ∷ [] in
+    ap (λ ids. table ids (gathered (cs ++ ds) c)) (ap open_ids (append_assoc cs ds (c ∷ [])) ∙ open_behind cs (ds ++ c ∷ []) none)
+    ∙ ap (λ us. table (open_ids (ds ++ c ∷ [])) (us ++ c ∷ [])) (unfinished_behind c.request cs ds (none_unfinished cs none c.request))
+
+pub fresh_message : (octets chunks : ℕ) (cs ds : List Chunk) (c : Chunk) → open_ids cs ≡ [] → message_refusal octets chunks (cs ++ ds) c ≡ message_refusal octets chunks ds c
+fresh_message octets chunks cs ds c none = ap (first_reason) (same_reasons octets chunks cs ds c none)
+
+pub fresh_refusal : (octets chunks : ℕ) (last : Option ℕ) (cs ds : List Chunk) (c : Chunk) → open_ids cs ≡ [] → refusal octets chunks last (cs ++ ds) c ≡ refusal octets chunks last ds c
+fresh_refusal octets chunks last cs ds c none = ap (λ o. cond (not (may_follow last c.sequence)) (Some Sequence) o) (fresh_message octets chunks cs ds c none)
+
 -- an assembler without unfinished messages stands as after no chunks
 pub stands_fresh : (a : Assembler) (cs : List Chunk) → Stands a cs → open_ids cs ≡ [] → Stands a []
 stands_fresh a cs s none = record {
   goes_on = s.goes_on;
   unfinished = s.unfinished ∙ ap (map (λ id. kept id (unfinished id cs))) none;
   few = omega arith;
+  within = λ id. none_within a.octets;
 }
 
 -- ---- what a cut body delivers

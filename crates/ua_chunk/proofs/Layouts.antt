@@ -34,7 +34,7 @@ chunk_is f flag r1 r2 r3 r4 body channel token sequence request same e1 e2 e3 e4
 
 -- ---- OPN
 
-none_is : (policy : Option (List ℕ)) → true ≡ is_none_policy policy → policy ≡ Some none_policy
+pub none_is : (policy : Option (List ℕ)) → true ≡ is_none_policy policy → policy ≡ Some none_policy
 none_is None e = absurd cc
 none_is (Some p) e = ap (λ (t : List ℕ). Some t) ((bytes_eq-Decides p none_policy).0 (sym e))
 

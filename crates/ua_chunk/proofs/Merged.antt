@@ -1,6 +1,6 @@
 -- What merged messages deliver, and that none of their chunks is refused.
-use Rattle.std.proofs.Common.{◌≡◌, ℕ, suc, ◌+◌, ◌≤◌, Bool, true, false, cond, not, ◌&&◌, eqb, ltb, Option, Some, None, List, [], ◌∷◌, ◌++◌, refl, sym, ◌∙◌, ap, subst, arith, length, map, length-append, append_assoc}
-use Rattle.std.proofs.lemmas.Bool.{or_from, and_parts, cond-true, cond-false, eq-eqb, le-ltb, ltb-false}
+use Rattle.std.proofs.Common.{◌≡◌, ℕ, suc, ◌+◌, ◌≤◌, Bool, true, false, cond, not, ◌&&◌, ltb, Option, Some, None, List, [], ◌∷◌, ◌++◌, refl, sym, ◌∙◌, ap, subst, arith, length, map, length-append, append_assoc}
+use Rattle.std.proofs.lemmas.Bool.{or_from, cond-true, cond-false, eq-eqb, le-ltb}
 use Rattle.std.proofs.lemmas.List.Concat.{flat_map-append}
 use Rattle.std.specs.List.{list_any, filter, flat_map}
 use Rattle.ua_chunk.specs.declared.chunk.Chunk.{Chunk}
@@ -13,11 +13,13 @@ use Rattle.ua_chunk.specs.Gathered.{is_of, ends, after_last, unfinished, gathere
 use Rattle.ua_chunk.specs.Item.Item.{Whole}
 use Rattle.ua_chunk.specs.Merge.{Part, part_of, Sent, more_part, last_part, sent_under, parts_under, outcome_by, outcome_under, outcomes, bodies_by, IsWithin, AllWithin, IsMerge}
 use Rattle.ua_chunk.specs.Open.{open_ids}
-use Rattle.ua_chunk.specs.Refusal.{passes, most_open, TakesAll, FewOpen}
-use Rattle.ua_chunk.specs.Sequence.{may_follow, ordered}
+use Rattle.ua_chunk.specs.Refusal.{passes, most_open, TakesAll, TakesMessages, FewOpen}
+use Rattle.ua_chunk.specs.Sequence.{ordered}
 use Rattle.ua_chunk.proofs.Assembles.{chain}
+use Rattle.ua_chunk.proofs.Bounds.{fewer}
 use Rattle.ua_chunk.proofs.KeptMessages.{joined_push}
 use Rattle.ua_chunk.proofs.Lists.{map_push, filter_append}
+use Rattle.ua_chunk.proofs.Numbers.{takes_all}
 use Rattle.ua_chunk.proofs.OneMore.{delivered_from}
 
 -- ---- where a part stands in its message
@@ -136,14 +138,6 @@ merged ms cs merge = delivered_from cs ∙ merged_behind ms [] cs merge
 
 -- ---- none is refused
 
-fewer_by : (t : Bool) (limit m n : ℕ) → eqb limit 0 ≡ t → m ≤ n → (not t && ltb limit n) ≡ false → (not t && ltb limit m) ≡ false
-fewer_by true limit m n e h k = refl
-fewer_by false limit m n e h k = le-ltb limit m (omega (arith, ltb-false limit n k))
-
--- what is no more than what fits fits
-fewer : (limit m n : ℕ) → m ≤ n → passes limit n ≡ false → passes limit m ≡ false
-fewer limit m n h k = fewer_by (eqb limit 0) limit m n refl h k
-
 -- why a chunk that is no abort might be refused, but for its number and the others
 record Fits (octets chunks : ℕ) (before : List Chunk) (c : Chunk) : Type 0 where
   octets_fit : passes octets (length (joined (gathered before c))) ≡ false
@@ -228,13 +222,16 @@ chain_none true false true octets chunks a b c d e = absurd cc
 chain_none true false false true chunks a b c d e = absurd cc
 chain_none true false false false true a b c d e = absurd cc
 
-pub takes_behind : (octets chunks : ℕ) (ms : List Sent) (last : Option ℕ) (before cs : List Chunk) → AllWithin octets chunks ms → IsMerge ms (before ++ cs) → ordered last cs ≡ true → FewOpen before cs → TakesAll octets chunks last before cs
-takes_behind octets chunks ms last before [] within merge order few = tt
-takes_behind octets chunks ms last before (c ∷ cs) within merge order few =
-    let follow = and_parts (may_follow last c.sequence) (ordered (Some c.sequence) cs) order in
+-- the messages are taken
+pub messages_behind : (octets chunks : ℕ) (ms : List Sent) (before cs : List Chunk) → AllWithin octets chunks ms → IsMerge ms (before ++ cs) → FewOpen before cs → TakesMessages octets chunks before cs
+messages_behind octets chunks ms before [] within merge few = tt
+messages_behind octets chunks ms before (c ∷ cs) within merge few =
     let fine = fine_under octets chunks before c (map part_of (filter (is_of c.request) cs)) (sent_under c.request ms) (within c.request) (under_parts ms before c cs merge) in (
-      chain_none (may_follow last c.sequence) (is_abort_flag c.flag && not (is_readable_abort c.body)) (ltb most_open (length (open_ids (before ++ c ∷ []))))
+      chain_none true (is_abort_flag c.flag && not (is_readable_abort c.body)) (ltb most_open (length (open_ids (before ++ c ∷ []))))
           (not (is_abort_flag c.flag) && passes octets (length (joined (gathered before c)))) (not (is_abort_flag c.flag) && passes chunks (length (gathered before c)))
-          follow.0 fine.readable (le-ltb most_open (length (open_ids (before ++ c ∷ []))) few.0) fine.octets_fit fine.chunks_fit,
-      takes_behind octets chunks ms (Some c.sequence) (before ++ c ∷ []) cs within (subst (IsMerge ms) (sym (append_assoc before (c ∷ []) cs)) merge) follow.1 few.1,
+          refl fine.readable (le-ltb most_open (length (open_ids (before ++ c ∷ []))) few.0) fine.octets_fit fine.chunks_fit,
+      messages_behind octets chunks ms (before ++ c ∷ []) cs within (subst (IsMerge ms) (sym (append_assoc before (c ∷ []) cs)) merge) few.1,
     )
+
+pub takes_behind : (octets chunks : ℕ) (ms : List Sent) (last : Option ℕ) (before cs : List Chunk) → AllWithin octets chunks ms → IsMerge ms (before ++ cs) → ordered last cs ≡ true → FewOpen before cs → TakesAll octets chunks last before cs
+takes_behind octets chunks ms last before cs within merge order few = takes_all octets chunks last before cs order (messages_behind octets chunks ms before cs within merge few)

@@ -185,7 +185,7 @@ next_small_by : (t : Bool) (n : ℕ) → eqb n 4294966272 ≡ t → n ≤ 429496
 next_small_by true n e h = omega arith
 next_small_by false n e h = let other : n ≡ 4294966272 → ⊥ = eqb-false n 4294966272 e in omega arith
 
-next_small : (n : ℕ) → n ≤ 4294966272 → next_number n ≤ 4294966272
+pub next_small : (n : ℕ) → n ≤ 4294966272 → next_number n ≤ 4294966272
 next_small n h = next_small_by (eqb n 4294966272) n refl h
 
 pub cut_more : (lane : Lane) (id from number next : ℕ) (body before rest left out new : List ℕ) → CutSoFar lane id body from before rest number out → 0 < lane.room → lane.room < length rest

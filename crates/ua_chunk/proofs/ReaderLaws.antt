@@ -1,19 +1,19 @@
 -- The definitions in other words, for readers.
-use Rattle.std.proofs.Common.{◌≡◌, ℕ, ◌<◌, ◌^◌, Bool, true, false, cond, not, ◌&&◌, ◌||◌, ◌↔◌, eqb, ltb, Option, Some, List, [], ◌∷◌, ◌++◌, refl, sym, ◌∙◌, ap, subst, arith}
+use Rattle.std.proofs.Common.{◌≡◌, ℕ, ◌<◌, ◌^◌, Bool, true, false, cond, not, ◌&&◌, ◌||◌, ◌↔◌, eqb, ltb, Option, Some, None, List, [], ◌∷◌, refl, sym, ◌∙◌, ap, subst}
 use Rattle.std.proofs.lemmas.Bool.{or_parts, and_from, eqb-true, lt-ltb, false_from_ne_true}
 use Rattle.std.specs.List.{list_any, filter}
+use Rattle.ua_builtin.specs.Counted.{text, counted}
 use Rattle.ua_builtin.specs.Exact.{some_is}
+use Rattle.ua_builtin.specs.Status.{status_code}
 use Rattle.ua_builtin.specs.declared.status_code.StatusCode.{StatusCode}
 use Rattle.ua_frame.specs.declared.frame.Frame.{Frame}
 use Rattle.ua_frame.proofs.Wholes.{encodes_whole, whole_encodes}
 use Rattle.ua_chunk.specs.declared.chunk.Chunk.{Chunk}
-use Rattle.ua_chunk.specs.declared.flag.Flag.{Flag}
-use Rattle.ua_chunk.specs.declared.flag.Flag.TheVariants.{F, C, A}
 use Rattle.ua_chunk.specs.Abort.{abort_body, abort_of}
-use Rattle.ua_chunk.specs.Flag.{flag_octet}
 use Rattle.ua_chunk.specs.Gathered.{is_of, is_more, ends, after_last, unfinished}
 use Rattle.ua_chunk.specs.Layout.{IsChunkOf, token_header, sequence_header, frame_of}
 use Rattle.ua_chunk.specs.Open.{open_ids}
+use Rattle.ua_chunk.proofs.Carried.{chunk_found}
 use Rattle.ua_chunk.proofs.Lists.{left_any}
 use Rattle.ua_chunk.proofs.OneMore.{not_open}
 
@@ -57,33 +57,8 @@ open_is_unfinished id cs = (λ h. not_open id cs h, λ e. false_from_ne_true (li
 
 -- ---- chunks of frames
 
-same_flag : (f g : Flag) → flag_octet f ≡ flag_octet g → f ≡ g
-same_flag F F e = refl
-same_flag F C e = absurd (omega arith)
-same_flag F A e = absurd (omega arith)
-same_flag C F e = absurd (omega arith)
-same_flag C C e = refl
-same_flag C A e = absurd (omega arith)
-same_flag A F e = absurd (omega arith)
-same_flag A C e = absurd (omega arith)
-same_flag A A e = refl
-
-chunk_with : ℕ × ℕ → Flag → ℕ × ℕ → List ℕ → Chunk
-chunk_with security flag sequence body = record { channel = security.0; token = security.1; flag = flag; sequence = sequence.0; request = sequence.1; body = body }
-
 pub one_chunk : (f : Frame) (c d : Chunk) → IsChunkOf f c → IsChunkOf f d → c ≡ d
-unfolding chunk_with
-one_chunk f c d h k =
-    let first : ◌≡◌ {A = (ℕ × ℕ) × List ℕ} ((c.channel, c.token), h.sequence ++ c.body) ((d.channel, d.token), k.sequence ++ d.body) =
-    some_is ((c.channel, c.token), h.sequence ++ c.body) ((d.channel, d.token), k.sequence ++ d.body)
-    (sym (token_header.exact.complete (c.channel, c.token) h.security (h.sequence ++ c.body) h.security_encoded) ∙ ap token_header.decode (sym h.octets ∙ k.octets) ∙ token_header.exact.complete (d.channel, d.token) k.security (k.sequence ++ d.body) k.security_encoded) in
-    let rest : h.sequence ++ c.body ≡ k.sequence ++ d.body = ap (λ (u : (ℕ × ℕ) × List ℕ). u.1) first in
-    let second : ◌≡◌ {A = (ℕ × ℕ) × List ℕ} ((c.sequence, c.request), c.body) ((d.sequence, d.request), d.body) =
-    some_is ((c.sequence, c.request), c.body) ((d.sequence, d.request), d.body)
-    (sym (sequence_header.exact.complete (c.sequence, c.request) h.sequence c.body h.sequence_encoded) ∙ ap sequence_header.decode rest ∙ sequence_header.exact.complete (d.sequence, d.request) k.sequence d.body k.sequence_encoded) in
-    ap (λ (u : (ℕ × ℕ) × List ℕ). chunk_with u.0 c.flag (c.sequence, c.request) c.body) first
-    ∙ ap (λ (g : Flag). chunk_with (d.channel, d.token) g (c.sequence, c.request) c.body) (same_flag c.flag d.flag (sym h.flag ∙ k.flag))
-    ∙ ap (λ (u : (ℕ × ℕ) × List ℕ). chunk_with (d.channel, d.token) d.flag u.0 u.1) second
+one_chunk f c d h k = some_is c d (sym (chunk_found f c h) ∙ chunk_found f d k)
 
 pub frame_of_chunk : (c : Chunk) → c.channel < 2 ^ 32 → c.token < 2 ^ 32 → c.sequence < 2 ^ 32 → c.request < 2 ^ 32 → IsChunkOf (frame_of c) c
 frame_of_chunk c channel token sequence request = record {
@@ -99,3 +74,10 @@ frame_of_chunk c channel token sequence request = record {
 
 pub abort_is_encoded : (b : List ℕ) (a : StatusCode × Option (List ℕ)) → (abort_of b ≡ Some a) ↔ abort_body.encodes a b
 abort_is_encoded b a = (encodes_whole abort_body b a, whole_encodes abort_body b a)
+
+encodable_code : (code : StatusCode) → code.code < 2 ^ 32 → abort_body.encodable (code, None) ≡ true
+unfolding abort_body status_code text counted
+encodable_code code small = and_from (ltb code.code (256 ^ 4)) true (lt-ltb code.code (256 ^ 4) small) refl
+
+pub abort_written : (code : StatusCode) → code.code < 2 ^ 32 → abort_of (abort_body.canonical (code, None)) ≡ Some (code, None)
+abort_written code small = (abort_is_encoded (abort_body.canonical (code, None)) (code, None)).1 (abort_body.canonical_encodes (code, None) (encodable_code code small))

@@ -15,7 +15,7 @@ use Rattle.ua_chunk.specs.Item.{Item}
 use Rattle.ua_chunk.specs.Item.Item.{Whole}
 use Rattle.ua_chunk.specs.Kept.{kept_messages}
 use Rattle.ua_chunk.specs.Open.{open_ids}
-use Rattle.ua_chunk.specs.Refusal.{passes, most_open}
+use Rattle.ua_chunk.specs.Refusal.{passes, most_open, OpenWithin}
 use Rattle.ua_chunk.specs.Sequence.{may_follow}
 
 -- the assembler is where these chunks leave it, and goes on
@@ -23,6 +23,7 @@ pub record Stands (a : Assembler) (cs : List Chunk) : Type 0 where
   pub goes_on : a.closed ≡ false
   pub unfinished : a.pending ≡ kept_messages cs
   pub few : length (open_ids cs) ≤ most_open
+  pub within : OpenWithin a.octets cs
 
 -- the assembler takes nothing more, and holds nothing
 pub record IsClosed (a : Assembler) : Type 0 where

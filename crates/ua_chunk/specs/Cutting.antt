@@ -10,8 +10,10 @@ use Rattle.ua_chunk.specs.declared.chunk.Chunk.{Chunk}
 use Rattle.ua_chunk.specs.declared.fault.CutFault.{CutFault}
 use Rattle.ua_chunk.specs.declared.fault.CutFault.TheVariants.{TooManyOctets, TooManyChunks, OutOfMemory}
 use Rattle.ua_chunk.specs.declared.flag.Flag.{Flag}
-use Rattle.ua_chunk.specs.declared.flag.Flag.TheVariants.{F, C}
+use Rattle.ua_chunk.specs.declared.flag.Flag.TheVariants.{F, C, A}
 use Rattle.ua_chunk.specs.declared.lane.Lane.{Lane}
+use Rattle.ua_builtin.specs.declared.status_code.StatusCode.{StatusCode}
+use Rattle.ua_chunk.specs.Abort.{abort_body}
 use Rattle.ua_chunk.specs.Layout.{frame_of, token_header, sequence_header}
 use Rattle.ua_chunk.specs.Flag.{flag_octet}
 use Rattle.ua_chunk.specs.Refusal.{passes}
@@ -40,6 +42,10 @@ flag_before (p ∷ ps) = C
 -- the chunk of a lane that has this flag, sequence number, request id and body
 abbrev pub chunk_of : Lane → Flag → ℕ → ℕ → List ℕ → Chunk
 chunk_of lane f s id b = record { channel = lane.channel; token = lane.token; flag = f; sequence = s; request = id; body = b }
+
+-- the A chunk of a lane that gives up a message with this code and a null reason (OPC 10000-6, 6.7.3)
+abbrev pub abort_chunk : Lane → ℕ → ℕ → StatusCode → Chunk
+abort_chunk lane s id code = chunk_of lane A s id (abort_body.canonical (code, None))
 
 -- one chunk for each piece, all C but the last, which is F, numbered from s
 abbrev pub numbered : Lane → ℕ → ℕ → List (List ℕ) → List Chunk

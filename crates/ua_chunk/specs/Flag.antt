@@ -1,5 +1,5 @@
 -- The flags of chunks (OPC 10000-6, 6.7.2.2).
-use Rattle.std.specs.Prelude.{ℕ, Bool, true, false}
+use Rattle.std.specs.Prelude.{ℕ, ◌==◌, Bool, true, false, if◌then◌else◌, Option, Some, None}
 use Rattle.ua_chunk.specs.declared.flag.Flag.{Flag}
 use Rattle.ua_chunk.specs.declared.flag.Flag.TheVariants.{F, C, A}
 
@@ -20,3 +20,7 @@ abbrev pub flag_octet : Flag → ℕ
 flag_octet F = 70
 flag_octet C = 67
 flag_octet A = 65
+
+-- the flag of an octet, if it is one's
+abbrev pub flag_in : ℕ → Option Flag
+flag_in octet = if octet == 70 then Some F else if octet == 67 then Some C else if octet == 65 then Some A else None

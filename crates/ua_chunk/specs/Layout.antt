@@ -10,7 +10,8 @@ use Rattle.ua_chunk.specs.declared.chunk.Chunk.{Chunk}
 use Rattle.ua_chunk.specs.declared.open_chunk.OpenChunk.{OpenChunk}
 use Rattle.ua_chunk.specs.declared.fault.OpenFault.{OpenFault}
 use Rattle.ua_chunk.specs.declared.fault.OpenFault.TheVariants.{Unreadable, Policy}
-use Rattle.ua_chunk.specs.Flag.{flag_octet}
+use Rattle.ua_chunk.specs.declared.flag.Flag.{Flag}
+use Rattle.ua_chunk.specs.Flag.{flag_octet, flag_in}
 
 -- ---- headers
 
@@ -23,7 +24,11 @@ abbrev pub sequence_header : Flat (ℕ × ℕ)
 sequence_header = both (number 4) (number 4)
 
 -- of OPN: the secure channel's id; the policy's URI, the sender's certificate and the receiver's thumbprint, each octets or null (OPC 10000-6, 6.7.2.3)
-abbrev pub policy_header : Flat (ℕ × (Option (List ℕ) × (Option (List ℕ) × Option (List ℕ))))
+abbrev pub SecurityHeader : Type 0
+SecurityHeader = ℕ × (Option (List ℕ) × (Option (List ℕ) × Option (List ℕ)))
+
+-- the security header of OPN
+abbrev pub policy_header : Flat SecurityHeader
 policy_header = both (number 4) (both counted (both counted counted))
 
 -- ---- MSG and CLO
@@ -36,6 +41,21 @@ pub record IsChunkOf (f : Frame) (c : Chunk) : Type 0 where
   pub octets : f.body ≡ security ++ (sequence ++ c.body)
   pub security_encoded : token_header.encodes (c.channel, c.token) security
   pub sequence_encoded : sequence_header.encodes (c.sequence, c.request) sequence
+
+-- the chunk of this flag, of these ids of the channel and the token, and of what the octets behind these begin with, if it is a flag and they read
+abbrev pub chunk_behind : Option Flag → ℕ × ℕ → Option ((ℕ × ℕ) × List ℕ) → Option Chunk
+chunk_behind None ids found = None
+chunk_behind (Some flag) ids None = None
+chunk_behind (Some flag) ids (Some found) = Some (record { channel = ids.0; token = ids.1; flag = flag; sequence = found.0.0; request = found.0.1; body = found.1 })
+
+-- the chunk of this flag and of what octets begin with, if they begin with ids of the channel and the token
+abbrev pub chunk_with : Option Flag → Option ((ℕ × ℕ) × List ℕ) → Option Chunk
+chunk_with flag None = None
+chunk_with flag (Some found) = chunk_behind flag found.0 (sequence_header.decode found.1)
+
+-- the chunk that a MSG or CLO frame carries, if it carries one
+unfoldable pub chunk_in : Frame → Option Chunk
+chunk_in f = chunk_with (flag_in f.flag) (token_header.decode f.body)
 
 -- the frame of a chunk of a message
 abbrev pub frame_of : Chunk → Frame
@@ -66,6 +86,21 @@ pub record IsOpenChunkOf (f : Frame) (c : OpenChunk) : Type 0 where
   pub security_encoded : policy_header.encodes (c.channel, (Some none_policy, (certificate, thumbprint))) security
   pub sequence_encoded : sequence_header.encodes (c.sequence, c.request) sequence
 
+-- the chunk behind a policy header of this channel's id, by whether its policy is None and by what the octets behind it begin with
+abbrev pub opening_behind : Bool → ℕ → Option ((ℕ × ℕ) × List ℕ) → Option OpenChunk
+opening_behind false channel found = None
+opening_behind true channel None = None
+opening_behind true channel (Some found) = Some (record { channel = channel; sequence = found.0.0; request = found.0.1; body = found.1 })
+
+-- the chunk behind a policy header, if the octets begin with one
+abbrev pub opening_with : Option (SecurityHeader × List ℕ) → Option OpenChunk
+opening_with None = None
+opening_with (Some found) = opening_behind (is_none_policy found.0.1.0) found.0.0 (sequence_header.decode found.1)
+
+-- the chunk that an OPN frame carries under the policy None, if it carries one
+unfoldable pub opening_in : Frame → Option OpenChunk
+opening_in f = opening_with (policy_header.decode f.body)
+
 -- what is wrong behind a policy header, by whether its policy is None and by what the octets behind it begin with
 abbrev pub sequence_fault : Bool → Option ((ℕ × ℕ) × List ℕ) → Option OpenFault
 sequence_fault false found = Some Policy
@@ -73,7 +108,7 @@ sequence_fault true None = Some Unreadable
 sequence_fault true (Some found) = None
 
 -- what is wrong with the headers of an OPN: its policy header does not read, else what is wrong behind that one
-abbrev pub headers_fault : Option ((ℕ × (Option (List ℕ) × (Option (List ℕ) × Option (List ℕ)))) × List ℕ) → Option OpenFault
+abbrev pub headers_fault : Option (SecurityHeader × List ℕ) → Option OpenFault
 headers_fault None = Some Unreadable
 headers_fault (Some found) = sequence_fault (is_none_policy found.0.1.0) (sequence_header.decode found.1)
 

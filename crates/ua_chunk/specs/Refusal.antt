@@ -1,5 +1,5 @@
 -- Which chunks are refused.
-use Rattle.std.specs.Prelude.{◌≡◌, ◌≤◌, ℕ, ◌==◌, nat_lt, Bool, ◌&&◌, not, length, Option, Some, None, List, [], ◌∷◌, ◌++◌}
+use Rattle.std.specs.Prelude.{◌≡◌, ◌≤◌, ℕ, ◌==◌, nat_lt, Bool, false, ◌&&◌, not, length, Option, Some, None, List, [], ◌∷◌, ◌++◌}
 use Rattle.ua_frame.specs.After.{AllFrom}
 use Rattle.ua_frame.specs.Reasons.{first_reason}
 use Rattle.ua_chunk.specs.declared.chunk.Chunk.{Chunk}
@@ -7,7 +7,7 @@ use Rattle.ua_chunk.specs.declared.fault.AssembleFault.{AssembleFault}
 use Rattle.ua_chunk.specs.declared.fault.AssembleFault.TheVariants.{Sequence, Unreadable, TooManyOpen, MessageTooLarge, TooManyChunks, OutOfMemory, Closed}
 use Rattle.ua_chunk.specs.Abort.{is_readable_abort}
 use Rattle.ua_chunk.specs.Flag.{is_abort_flag}
-use Rattle.ua_chunk.specs.Gathered.{gathered, joined}
+use Rattle.ua_chunk.specs.Gathered.{unfinished, gathered, joined}
 use Rattle.ua_chunk.specs.Open.{open_ids}
 use Rattle.ua_chunk.specs.Sequence.{may_follow}
 
@@ -19,15 +19,22 @@ passes limit n = not (limit == 0) && nat_lt limit n
 abbrev pub most_open : ℕ
 most_open = 4
 
--- the reasons why a chunk may be refused that stands behind these chunks and this last number, in the order in which they are judged
-abbrev pub reasons : ℕ → ℕ → Option ℕ → List Chunk → Chunk → List (AssembleFault × Bool)
-reasons octets chunks last cs c =
-    (Sequence, not (may_follow last c.sequence))
-    ∷ (Unreadable, is_abort_flag c.flag && not (is_readable_abort c.body))
+-- what may be wrong with the message of a chunk that stands behind these chunks, in the order in which it is judged: an abort that does not read, too many unfinished messages, octets and chunks of the message above the limits
+abbrev pub message_reasons : ℕ → ℕ → List Chunk → Chunk → List (AssembleFault × Bool)
+message_reasons octets chunks cs c =
+    (Unreadable, is_abort_flag c.flag && not (is_readable_abort c.body))
     ∷ (TooManyOpen, nat_lt most_open (length (open_ids (cs ++ c ∷ []))))
     ∷ (MessageTooLarge, not (is_abort_flag c.flag) && passes octets (length (joined (gathered cs c))))
     ∷ (TooManyChunks, not (is_abort_flag c.flag) && passes chunks (length (gathered cs c)))
     ∷ []
+
+-- the reasons why a chunk may be refused that stands behind these chunks and this last number, in the order in which they are judged: its number, then its message
+abbrev pub reasons : ℕ → ℕ → Option ℕ → List Chunk → Chunk → List (AssembleFault × Bool)
+reasons octets chunks last cs c = (Sequence, not (may_follow last c.sequence)) ∷ message_reasons octets chunks cs c
+
+-- why the chunk is refused, whatever its number: the first of the reasons in its message that holds
+abbrev pub message_refusal : ℕ → ℕ → List Chunk → Chunk → Option AssembleFault
+message_refusal octets chunks cs c = first_reason (message_reasons octets chunks cs c)
 
 -- why the chunk is refused: the first reason that holds
 abbrev pub refusal : ℕ → ℕ → Option ℕ → List Chunk → Chunk → Option AssembleFault
@@ -48,6 +55,14 @@ abbrev pub TakesAll : ℕ → ℕ → Option ℕ → List Chunk → List Chunk �
 TakesAll octets chunks last before [] = Unit {0}
 TakesAll octets chunks last before (c ∷ cs) = (refusal octets chunks last before c ≡ None) × TakesAll octets chunks (Some c.sequence) (before ++ c ∷ []) cs
 
+-- none of the chunks is refused for its message behind those before it, whatever their numbers
+abbrev pub TakesMessages : ℕ → ℕ → List Chunk → List Chunk → Type 0
+TakesMessages octets chunks before cs = AllFrom (λ us c. message_refusal octets chunks us c ≡ None) before cs
+
 -- after each of the chunks, behind those before it, few messages are unfinished
 abbrev pub FewOpen : List Chunk → List Chunk → Type 0
 FewOpen before cs = AllFrom (λ us c. length (open_ids (us ++ c ∷ [])) ≤ most_open) before cs
+
+-- what has come of each unfinished message is within the limit of octets
+abbrev pub OpenWithin : ℕ → List Chunk → Type 0
+OpenWithin octets cs = (id : ℕ) → passes octets (length (joined (unfinished id cs))) ≡ false

@@ -1,12 +1,20 @@
 //! The bodies of aborts.
 
 ghost use Rattle.std.specs.Prelude.{◌≡◌, IfOk};
+ghost use Rattle.ua_frame.specs.Frames.{frame_octets};
 ghost use Rattle.ua_chunk.specs.Abort.{abort_of, is_readable_abort};
+ghost use Rattle.ua_chunk.specs.Cutting.{abort_chunk};
+ghost use Rattle.ua_chunk.specs.Layout.{frame_of};
 
+use crate::lane::Lane;
+use byteorder::{ByteOrder, LittleEndian};
 use std::alloc::{AllocError, Global};
 use ua_builtin::{StatusCode, UaString};
-use ua_frame::read_whole;
+use ua_frame::{HEADER_LEN, Kind, header_octets, read_whole};
 use ua_octets::{is_text, split_counted, split_number};
+
+/// The count of a null String, -1, as its octets stand for it.
+const NULL_LEN: u32 = u32::MAX;
 
 /// The status code and the reason that the body of an abort holds, if it is just these.
 pub fn read(alloc: Global, body: &[u8]) -> Result<Option<(StatusCode, UaString)>, AllocError>
@@ -26,4 +34,23 @@ pub fn is_readable(body: &[u8]) -> bool
         return false;
     };
     rest.is_empty() && is_text(reason)
+}
+
+/// The octets of an A chunk, the whole frame: it gives up the message of a request id with a status
+/// code and a null reason.
+pub fn abort_octets(lane: &Lane, sequence: u32, request: u32, code: StatusCode) -> [u8; 32]
+    ensures { result ≡ frame_octets (frame_of (abort_chunk lane.now sequence request code)) }
+{
+    let mut octets = [0; 32];
+    octets[..HEADER_LEN].copy_from_slice(&header_octets(Kind::Msg, b'A', 32));
+    let numbers = [
+        lane.channel,
+        lane.token,
+        sequence,
+        request,
+        code.code,
+        NULL_LEN,
+    ];
+    LittleEndian::write_u32_into(&numbers, &mut octets[HEADER_LEN..]);
+    octets
 }

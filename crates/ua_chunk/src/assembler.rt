@@ -55,10 +55,10 @@ fn sum_passes(limit: u32, a: usize, b: usize) -> bool
 }
 
 impl Assembler {
-    ghost use Rattle.std.specs.Prelude.{◌≡◌, ◌∷◌, ◌++◌, [], List, length, true, false, Some, None, IsTrue, IsFalse, OnOk, OnErr, IfOk, MatchResult};
+    ghost use Rattle.std.specs.Prelude.{◌≡◌, ◌≤◌, ◌<◌, ◌*◌, ◌∷◌, ◌++◌, [], List, length, true, false, Some, None, IsTrue, IsFalse, OnOk, OnErr, IfOk, MatchResult};
     ghost use Rattle.ua_chunk.specs.declared.chunk.Chunk.{Chunk};
     ghost use Rattle.ua_chunk.specs.Assembling.{Stands, IsClosed, SameLimits, octet_limit, chunk_limit, last_number, refusal_kept, given_kept, put_back};
-    ghost use Rattle.ua_chunk.specs.Delivered.{delivered};
+    ghost use Rattle.ua_chunk.specs.Delivered.{given, delivered};
     ghost use Rattle.ua_chunk.specs.Open.{open_ids, open_octets};
     ghost use Rattle.ua_chunk.specs.Refusal.{refusal, IsFor};
     ghost use Rattle.ua_chunk.specs.View.{items_of};
@@ -136,16 +136,18 @@ impl Assembler {
         // What is handed out is what the chunks deliver with this one, and did not without it.
         ensures given { (cs : List Chunk) → Stands self.old cs →
             IfOk result (λ d. delivered (cs ++ chunk ∷ []) ≡ delivered cs ++ items_of d) }
+        ensures items { (cs : List Chunk) → Stands self.old cs → IfOk result (λ d. given cs chunk ≡ items_of d) }
         ensures stands { (cs : List Chunk) → Stands self.old cs → OnOk result (Stands self.new (cs ++ chunk ∷ [])) }
         ensures last { OnOk result (last_number self.new ≡ Some chunk.sequence) }
         ensures limits { SameLimits self.old self.new }
 
-        // A fault is the first reason that holds.
+        // A fault is the first reason that holds. After one nothing is taken, and nothing changes.
         ensures faults { (cs : List Chunk) → Stands self.old cs →
             let reason = refusal (octet_limit self.old) (chunk_limit self.old) (last_number self.old) cs chunk in
             MatchResult result (λ _. reason ≡ None) (IsFor reason) }
         ensures failed { (cs : List Chunk) → Stands self.old cs → OnErr result (IsClosed self.new) }
         ensures closed { IsClosed self.old → (result ≡ Err AssembleFault.Closed) × IsClosed self.new }
+        ensures unchanged { IsClosed self.old → self.new ≡ self.old }
     {
         if self.closed {
             return Err(AssembleFault::Closed);
@@ -175,6 +177,7 @@ impl Assembler {
             (λ fault. (fault ≡ AssembleFault.Sequence) × IsFalse (may_follow (last_number self.old) sequence)) }
         ensures failed { (cs : List Chunk) → Stands self.old cs → OnErr result (IsClosed self.new) }
         ensures closed { IsClosed self.old → (result ≡ Err AssembleFault.Closed) × IsClosed self.new }
+        ensures unchanged { IsClosed self.old → self.new ≡ self.old }
     {
         if self.closed {
             return Err(AssembleFault::Closed);
@@ -199,6 +202,7 @@ impl Assembler {
     #[inline]
     pub fn held(&self) -> usize
         ensures held { (cs : List Chunk) → Stands self.now cs → result ≡ open_octets cs }
+        ensures bound { (cs : List Chunk) → Stands self.now cs → 0 < octet_limit self.now → result ≤ 4 * octet_limit self.now }
         ensures closed { IsClosed self.now → result ≡ 0 }
     {
         self.pending.held()

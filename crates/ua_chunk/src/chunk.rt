@@ -1,9 +1,9 @@
 //! Chunks of messages.
 
-ghost use Rattle.std.specs.Prelude.{◌≤◌, length, IsTrue};
+ghost use Rattle.std.specs.Prelude.{◌≡◌, ◌≤◌, length, IsTrue, Some};
 ghost use Rattle.ua_frame.specs.Kinds.{has_flag};
 ghost use Rattle.ua_frame.specs.declared.kind.Kind.TheVariants.{Msg};
-ghost use Rattle.ua_chunk.specs.Layout.{IsChunkOf};
+ghost use Rattle.ua_chunk.specs.Layout.{IsChunkOf, chunk_in};
 
 use crate::fields::drop_front;
 use crate::flag::Flag;
@@ -30,7 +30,8 @@ pub struct Chunk {
 pub fn read_chunk(frame: Frame) -> Chunk
     requires flag { IsTrue (has_flag Msg frame.flag) }
     requires body { 16 ≤ length frame.body }
-    ensures { IsChunkOf frame result }
+    ensures chunk { IsChunkOf frame result }
+    ensures found { chunk_in frame ≡ Some result }
 {
     let mut octets = frame.body.into_vec();
     let (channel, rest) = front_number(&octets);

@@ -23,7 +23,8 @@ const LAST_NUMBER: u32 = 4294966272;
 /// The number behind one that senders use.
 fn next_number(sequence: u32) -> u32
     requires { sequence ≤ 4294966272 }
-    ensures { result ≡ next_number sequence }
+    ensures next { result ≡ next_number sequence }
+    ensures range { (0 < result) × (result ≤ 4294966272) }
 {
     if sequence == LAST_NUMBER {
         1
@@ -106,6 +107,7 @@ fn append_chunks(
     requires sequence { sequence ≤ 4294966272 }
     ensures ok { IfOk result (λ n. (out.new.items ≡ out.old.items ++ chunks_octets (chunks_of lane.now body.now sequence request))
         × (n ≡ number_after sequence (pieces lane.now.room body.now))) }
+    ensures range { IfOk result (λ n. (0 < n) × (n ≤ 4294966272)) }
     ensures err { OnErr result (Extends out.old.items out.new.items) }
 {
     let mut number = sequence;
@@ -135,6 +137,7 @@ pub fn cut(
     requires sequence { sequence ≤ 4294966272 }
     ensures chunks { OnOk result (out.new.items ≡ out.old.items ++ chunks_octets (chunks_of lane.now body.now sequence request)) }
     ensures next { IfOk result (λ n. n ≡ number_after sequence (pieces lane.now.room body.now)) }
+    ensures range { IfOk result (λ n. (0 < n) × (n ≤ 4294966272)) }
     ensures faults { MatchResult result (λ _. cut_refusal lane.now body.now ≡ None) (IsCutFor (cut_refusal lane.now body.now)) }
     ensures err { OnErr result (out.new.items ≡ out.old.items) }
 {

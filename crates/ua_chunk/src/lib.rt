@@ -19,6 +19,7 @@ mod message;
 mod open_chunk;
 mod pending;
 
+pub use abort::abort_octets;
 pub use assembler::Assembler;
 pub use chunk::{Chunk, read_chunk};
 pub use cutting::cut;

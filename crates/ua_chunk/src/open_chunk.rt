@@ -1,7 +1,7 @@
 //! Chunks of OPN frames.
 
 ghost use Rattle.std.specs.Prelude.{◌≡◌, ◌++◌, Some, None, MatchOption, MatchResult, IfOk, option_map};
-ghost use Rattle.ua_chunk.specs.Layout.{policy_header, is_none_policy, HeadersAt, IsOpenChunkOf, open_refusal};
+ghost use Rattle.ua_chunk.specs.Layout.{policy_header, is_none_policy, HeadersAt, IsOpenChunkOf, opening_in, open_refusal};
 
 use crate::fault::OpenFault;
 use crate::fields::{drop_front, split_sequence};
@@ -97,6 +97,7 @@ fn read_headers(octets: &[u8]) -> Result<Headers, OpenFault>
 /// The chunk of an OPN frame. The certificate and the thumbprint are passed over. It takes no memory.
 pub fn read_open(frame: Frame) -> Result<OpenChunk, OpenFault>
     ensures chunk { IfOk result (IsOpenChunkOf frame) }
+    ensures found { MatchResult result (λ chunk. opening_in frame ≡ Some chunk) (λ _. opening_in frame ≡ None) }
     ensures faults { MatchResult result (λ _. open_refusal frame.body ≡ None)
         (λ fault. open_refusal frame.body ≡ Some fault) }
 {

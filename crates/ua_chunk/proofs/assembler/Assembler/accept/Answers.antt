@@ -1,5 +1,5 @@
 use Rattle.std.proofs.Common.{sym, ◌∙◌, refl, arith}
-use Rattle.ua_chunk.proofs.Assembles.{delivered_is, refusal_is, fault_is_for, stays}
+use Rattle.ua_chunk.proofs.Assembles.{delivered_is, given_is, refusal_is, fault_is_for, stays}
 use Rattle.ua_chunk.proofs.assembler.Assembler.accept.Goals as goal
 
 pub returns-in-Some-clause-faults : goal.returns-in-Some-clause-faults
@@ -12,12 +12,17 @@ pub returns-in-Ok-clause-given : goal.returns-in-Ok-clause-given
 returns-in-Ok-clause-given c = λ cs s.
     delivered_is cs c.args.chunk c.args.self.now.pending _ s.unfinished (rw (← c.take_out-pending.ensures.taken) c.in-Ok.ensures.given)
 
+pub returns-in-Ok-clause-items : goal.returns-in-Ok-clause-items
+returns-in-Ok-clause-items c = λ cs s.
+    given_is cs c.args.chunk c.args.self.now.pending _ s.unfinished (rw (← c.take_out-pending.ensures.taken) c.in-Ok.ensures.given)
+
 pub returns-in-Ok-clause-stands : goal.returns-in-Ok-clause-stands
 returns-in-Ok-clause-stands c = λ cs s.
     stays c.args.self.now c.add.new.self cs c.args.chunk s
     (refusal_is c.args.self.now (record c.args.self.now { pending = c.take_out-pending.new.self }) cs c.args.chunk s (omega arith) refl refl refl c.take_out-pending.ensures.rest
     ∙ rw (← c.take_out-pending.ensures.taken) (sym c.in_default.ensures))
     (c.in-Ok.ensures.closed ∙ s.goes_on)
+    (sym c.in-Ok.ensures.limits.octets)
     (rw (← c.take_out-pending.ensures.taken, ← c.take_out-pending.ensures.rest) c.in-Ok.ensures.pending)
 
 pub returns-in-Ok-clause-faults : goal.returns-in-Ok-clause-faults
