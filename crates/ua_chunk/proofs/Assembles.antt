@@ -1,8 +1,10 @@
 -- The assembler, which keeps messages, against the lists of chunks.
 use Rattle.std.proofs.Common.{◌≡◌, ℕ, ◌+◌, ◌≤◌, ◌<◌, ◌^◌, min, Bool, true, false, cond, not, ◌&&◌, eqb, ltb, Option, Some, None, List, [], ◌∷◌, ◌++◌, refl, sym, ◌∙◌, ap, subst, arith, length, length-append}
 use Rattle.std.proofs.lemmas.Bool.{le-ltb, ltb-false, ltb-true, lt-ltb}
+use Rattle.std.specs.List.{concat}
 use Rattle.ua_chunk.specs.declared.assembler.Assembler.{Assembler}
 use Rattle.ua_chunk.specs.declared.chunk.Chunk.{Chunk}
+use Rattle.ua_chunk.specs.declared.delivered.Delivered.{Delivered}
 use Rattle.ua_chunk.specs.declared.pending.Pending.{Pending}
 use Rattle.ua_chunk.specs.declared.flag.Flag.{Flag}
 use Rattle.ua_chunk.specs.declared.flag.Flag.TheVariants.{F, C, A}
@@ -12,7 +14,7 @@ use Rattle.ua_chunk.specs.Abort.{is_readable_abort}
 use Rattle.ua_chunk.specs.Assembling.{Stands, refusal_kept, added, given_kept, given_kept_by, put_back, put_back_by}
 use Rattle.ua_chunk.specs.Delivered.{given, given_by, delivered}
 use Rattle.ua_chunk.specs.Flag.{is_more_flag, is_abort_flag}
-use Rattle.ua_chunk.specs.Gathered.{is_more, unfinished, gathered, joined}
+use Rattle.ua_chunk.specs.Gathered.{is_more, unfinished, gathered, joined, filled, bodies}
 use Rattle.ua_chunk.specs.Item.{Item}
 use Rattle.ua_chunk.specs.Item.Item.{Whole}
 use Rattle.ua_chunk.specs.Kept.{kept, kept_messages}
@@ -20,9 +22,10 @@ use Rattle.ua_chunk.specs.Open.{open_ids}
 use Rattle.ua_chunk.specs.Pending.{without, is_under, message_of}
 use Rattle.ua_chunk.specs.Refusal.{refusal, passes, most_open, IsFor, OpenWithin}
 use Rattle.ua_chunk.specs.Sequence.{may_follow}
+use Rattle.ua_chunk.specs.View.{HasParts}
 use Rattle.ua_chunk.proofs.Bounds.{within_push}
 use Rattle.ua_chunk.proofs.OneMore.{delivered_push}
-use Rattle.ua_chunk.proofs.KeptMessages.{message_is, messages_push, joined_push, count_is}
+use Rattle.ua_chunk.proofs.KeptMessages.{message_is, messages_push, joined_push, bodies_push, concat_bodies, count_is}
 
 -- ---- what is handed out, and what is kept
 
@@ -31,11 +34,13 @@ count_more us c = omega (arith, length-append us (c ∷ []))
 
 added_is : (id : ℕ) (us : List Chunk) (c : Chunk) → added (kept id us) c ≡ kept id (us ++ c ∷ [])
 added_is id us c =
-    ap (λ n. record { request = id; chunks = n; message = joined us ++ c.body }) (count_more us c)
-    ∙ ap (λ o. record { request = id; chunks = min (length (us ++ c ∷ [])) 4294967295; message = o }) (sym (joined_push us c))
+    ap (λ n. record { request = id; chunks = n; message = bodies us ++ filled (c.body ∷ []) }) (count_more us c)
+    ∙ ap (λ o. record { request = id; chunks = min (length (us ++ c ∷ [])) 4294967295; message = o }) (sym (bodies_push us c))
 
 given_flag : (f : Flag) (cs : List Chunk) (c : Chunk) → given_kept_by f (kept c.request (unfinished c.request cs)) c ≡ given_by f cs c
-given_flag F cs c = ap (λ o. Whole c.request o ∷ []) (sym (joined_push (unfinished c.request cs) c))
+given_flag F cs c =
+    let us = unfinished c.request cs in
+    ap (λ o. Whole c.request o ∷ []) (ap concat (sym (bodies_push us c)) ∙ concat_bodies (us ++ c ∷ []))
 given_flag C cs c = refl
 given_flag A cs c = refl
 
@@ -46,6 +51,12 @@ put_back_flag A cs c = refl
 
 pub given_is : (cs : List Chunk) (c : Chunk) (ms : List Pending) (ds : List Item) → ms ≡ kept_messages cs → ds ≡ given_kept (message_of c.request ms) c → given cs c ≡ ds
 given_is cs c ms ds e f = sym (given_flag c.flag cs c) ∙ ap (λ m. given_kept m c) (sym (ap (message_of c.request) e ∙ message_is c.request cs)) ∙ sym f
+
+-- the parts of what is handed out, where these are the parts that were kept
+pub parts_are : (cs : List Chunk) (c : Chunk) (ms : List Pending) (d : Option Delivered) → ms ≡ kept_messages cs → HasParts d ((message_of c.request ms).message ++ filled (c.body ∷ [])) → HasParts d (bodies (gathered cs c))
+parts_are cs c ms d e h =
+    subst (HasParts d)
+    (ap (λ (m : Pending). m.message ++ filled (c.body ∷ [])) (ap (message_of c.request) e ∙ message_is c.request cs) ∙ sym (bodies_push (unfinished c.request cs) c)) h
 
 pub delivered_is : (cs : List Chunk) (c : Chunk) (ms : List Pending) (ds : List Item) → ms ≡ kept_messages cs → ds ≡ given_kept (message_of c.request ms) c → delivered (cs ++ c ∷ []) ≡ delivered cs ++ ds
 delivered_is cs c ms ds e f = delivered_push cs c ∙ ap (λ t. delivered cs ++ t) (given_is cs c ms ds e f)
@@ -81,8 +92,10 @@ few_open cs c rest h e =
     let small : length rest ≤ length (kept_messages cs) = subst (λ (t : List Pending). length t ≤ length (kept_messages cs)) (sym e) (without_shorter (is_under c.request) (kept_messages cs)) in
     few_by (is_more c) (length rest) (length (open_ids (cs ++ c ∷ []))) (kept c.request (unfinished c.request cs ++ c ∷ [])) (omega (arith, small, count_is cs)) all
 
-large : (limit : ℕ) (us : List Chunk) (c : Chunk) → passes limit (length (joined (us ++ c ∷ []))) ≡ passes limit (length (joined us) + length c.body)
-large limit us c = ap (passes limit) (ap length (joined_push us c) ∙ length-append (joined us) c.body)
+large : (limit : ℕ) (us : List Chunk) (c : Chunk) → passes limit (length (joined (us ++ c ∷ []))) ≡ passes limit (length (concat (bodies us)) + length c.body)
+large limit us c =
+    ap (passes limit) (ap length (joined_push us c) ∙ length-append (joined us) c.body)
+    ∙ ap (λ (t : List ℕ). passes limit (length t + length c.body)) (sym (concat_bodies us))
 
 many_by : (limit n m : ℕ) → limit < 2 ^ 32 → m ≡ n + 1 → ltb limit m ≡ ltb limit (min n 4294967295 + 1)
 many_by limit n m h e = many_cases (ltb limit m) refl
@@ -106,11 +119,11 @@ refusal_is a b cs c s h last octets chunks pending =
     let p : b.pending ≡ without (is_under c.request) (kept_messages cs) = pending ∙ ap (without (is_under c.request)) s.unfinished in
     ap (λ t. chain (may_follow a.last c.sequence) (is_abort_flag c.flag && not (is_readable_abort c.body)) t (not (is_abort_flag c.flag) && passes a.octets (length (joined (gathered cs c)))) (not (is_abort_flag c.flag) && passes a.chunks (length (gathered cs c)))) (few_open cs c b.pending s.few p)
     ∙ ap (λ t. chain (may_follow a.last c.sequence) (is_abort_flag c.flag && not (is_readable_abort c.body)) (is_more c && ltb 3 (length b.pending)) (not (is_abort_flag c.flag) && t) (not (is_abort_flag c.flag) && passes a.chunks (length (gathered cs c)))) (large a.octets (unfinished c.request cs) c)
-    ∙ ap (λ t. chain (may_follow a.last c.sequence) (is_abort_flag c.flag && not (is_readable_abort c.body)) (is_more c && ltb 3 (length b.pending)) (not (is_abort_flag c.flag) && passes a.octets (length (joined (unfinished c.request cs)) + length c.body)) (not (is_abort_flag c.flag) && t)) (many a.chunks (unfinished c.request cs) c h)
-    ∙ ap (λ (t : Pending). chain (may_follow a.last c.sequence) (is_abort_flag c.flag && not (is_readable_abort c.body)) (is_more c && ltb 3 (length b.pending)) (not (is_abort_flag c.flag) && passes a.octets (length t.message + length c.body)) (not (is_abort_flag c.flag) && passes a.chunks (t.chunks + 1))) (sym m)
-    ∙ ap (λ t. chain (may_follow t c.sequence) (is_abort_flag c.flag && not (is_readable_abort c.body)) (is_more c && ltb 3 (length b.pending)) (not (is_abort_flag c.flag) && passes a.octets (length (message_of c.request a.pending).message + length c.body)) (not (is_abort_flag c.flag) && passes a.chunks ((message_of c.request a.pending).chunks + 1))) (sym last)
-    ∙ ap (λ t. chain (may_follow b.last c.sequence) (is_abort_flag c.flag && not (is_readable_abort c.body)) (is_more c && ltb 3 (length b.pending)) (not (is_abort_flag c.flag) && passes t (length (message_of c.request a.pending).message + length c.body)) (not (is_abort_flag c.flag) && passes a.chunks ((message_of c.request a.pending).chunks + 1))) (sym octets)
-    ∙ ap (λ t. chain (may_follow b.last c.sequence) (is_abort_flag c.flag && not (is_readable_abort c.body)) (is_more c && ltb 3 (length b.pending)) (not (is_abort_flag c.flag) && passes b.octets (length (message_of c.request a.pending).message + length c.body)) (not (is_abort_flag c.flag) && passes t ((message_of c.request a.pending).chunks + 1))) (sym chunks)
+    ∙ ap (λ t. chain (may_follow a.last c.sequence) (is_abort_flag c.flag && not (is_readable_abort c.body)) (is_more c && ltb 3 (length b.pending)) (not (is_abort_flag c.flag) && passes a.octets (length (concat (bodies (unfinished c.request cs))) + length c.body)) (not (is_abort_flag c.flag) && t)) (many a.chunks (unfinished c.request cs) c h)
+    ∙ ap (λ (t : Pending). chain (may_follow a.last c.sequence) (is_abort_flag c.flag && not (is_readable_abort c.body)) (is_more c && ltb 3 (length b.pending)) (not (is_abort_flag c.flag) && passes a.octets (length (concat t.message) + length c.body)) (not (is_abort_flag c.flag) && passes a.chunks (t.chunks + 1))) (sym m)
+    ∙ ap (λ t. chain (may_follow t c.sequence) (is_abort_flag c.flag && not (is_readable_abort c.body)) (is_more c && ltb 3 (length b.pending)) (not (is_abort_flag c.flag) && passes a.octets (length (concat (message_of c.request a.pending).message) + length c.body)) (not (is_abort_flag c.flag) && passes a.chunks ((message_of c.request a.pending).chunks + 1))) (sym last)
+    ∙ ap (λ t. chain (may_follow b.last c.sequence) (is_abort_flag c.flag && not (is_readable_abort c.body)) (is_more c && ltb 3 (length b.pending)) (not (is_abort_flag c.flag) && passes t (length (concat (message_of c.request a.pending).message) + length c.body)) (not (is_abort_flag c.flag) && passes a.chunks ((message_of c.request a.pending).chunks + 1))) (sym octets)
+    ∙ ap (λ t. chain (may_follow b.last c.sequence) (is_abort_flag c.flag && not (is_readable_abort c.body)) (is_more c && ltb 3 (length b.pending)) (not (is_abort_flag c.flag) && passes b.octets (length (concat (message_of c.request a.pending).message) + length c.body)) (not (is_abort_flag c.flag) && passes t ((message_of c.request a.pending).chunks + 1))) (sym chunks)
 
 some_step : (t : Bool) (f : AssembleFault) (o : Option AssembleFault) (g : AssembleFault) → cond t (Some f) o ≡ Some g → (f ≡ g → IsFor (Some f) g) → (o ≡ Some g → IsFor o g) → IsFor (cond t (Some f) o) g
 some_step true f o g e h k = h cc

@@ -2,7 +2,7 @@
 use Rattle.std.proofs.Common.{◌≡◌, ℕ, zero, suc, ◌+◌, ◌*◌, ◌≤◌, ◌<◌, Bool, true, false, not, ◌&&◌, eqb, ltb, List, [], ◌∷◌, ◌++◌, refl, sym, ◌∙◌, ap, arith, length, map}
 use Rattle.std.proofs.lemmas.Bool.{le-ltb, ltb-false, ne_eqb, eqb-true}
 use Rattle.std.proofs.lemmas.List.Sums.{sum_by-cons}
-use Rattle.std.specs.List.{sum_by}
+use Rattle.std.specs.List.{concat, sum_by}
 use Rattle.ua_chunk.specs.declared.assembler.Assembler.{Assembler}
 use Rattle.ua_chunk.specs.declared.chunk.Chunk.{Chunk}
 use Rattle.ua_chunk.specs.declared.pending.Pending.{Pending}
@@ -15,6 +15,7 @@ use Rattle.ua_chunk.specs.Flag.{is_more_flag, is_abort_flag}
 use Rattle.ua_chunk.specs.Gathered.{is_of, is_more, unfinished, gathered, joined}
 use Rattle.ua_chunk.specs.Open.{open_ids, open_octets}
 use Rattle.ua_chunk.specs.Refusal.{passes, OpenWithin}
+use Rattle.ua_chunk.proofs.KeptMessages.{concat_bodies}
 use Rattle.ua_chunk.proofs.OneMore.{unfinished_other, unfinished_end, unfinished_more}
 
 fewer_by : (t : Bool) (limit m n : ℕ) → eqb limit 0 ≡ t → m ≤ n → (not t && ltb limit n) ≡ false → (not t && ltb limit m) ≡ false
@@ -68,15 +69,18 @@ fits_in octets n some fits =
 pub bounded : (octets : ℕ) (cs : List Chunk) → 0 < octets → OpenWithin octets cs → length (open_ids cs) ≤ 4 → open_octets cs ≤ 4 * octets
 bounded octets cs some w few = sum_small (λ id. length (joined (unfinished id cs))) octets (open_ids cs) (λ id. fits_in octets (length (joined (unfinished id cs))) some (w id)) 4 few
 
-octets_kept : (f : ℕ → Pending) (ids : List ℕ) → octets_in (map f ids) ≡ sum_by (λ id. length ((f id).message)) ids
+octets_kept : (f : ℕ → List Chunk) (ids : List ℕ) → octets_in (map (λ id. kept id (f id)) ids) ≡ sum_by (λ id. length (joined (f id))) ids
 octets_kept f [] = refl
 octets_kept f (id ∷ ids) =
-    sum_by-cons (λ (m : Pending). length m.message) (f id) (map f ids)
-    ∙ ap (λ n. length ((f id).message) + n) (octets_kept f ids)
-    ∙ sym (sum_by-cons (λ id. length ((f id).message)) id ids)
+    sum_by-cons (λ (m : Pending). length (concat m.message)) (kept id (f id)) (map (λ id. kept id (f id)) ids)
+    ∙ ap (λ (t : List ℕ). length t + octets_in (map (λ id. kept id (f id)) ids)) (concat_bodies (f id))
+    ∙ ap (λ n. length (joined (f id)) + n) (octets_kept f ids)
+    ∙ sym (sum_by-cons (λ id. length (joined (f id))) id ids)
+
+-- what an assembler holds
+pub held_is : (a : Assembler) (cs : List Chunk) (held : ℕ) → held ≡ octets_in a.pending → Stands a cs → held ≡ open_octets cs
+held_is a cs held e s = e ∙ ap octets_in s.unfinished ∙ octets_kept (λ id. unfinished id cs) (open_ids cs)
 
 -- what an assembler holds is bounded
 pub held_bounded : (a : Assembler) (cs : List Chunk) (held : ℕ) → held ≡ octets_in a.pending → Stands a cs → 0 < a.octets → held ≤ 4 * a.octets
-held_bounded a cs held e s some =
-    let all : held ≡ open_octets cs = e ∙ ap octets_in s.unfinished ∙ octets_kept (λ id. kept id (unfinished id cs)) (open_ids cs) in
-    omega (arith, bounded a.octets cs some s.within s.few)
+held_bounded a cs held e s some = omega (arith, held_is a cs held e s, bounded a.octets cs some s.within s.few)

@@ -11,7 +11,8 @@ use Rattle.ua_chunk.specs.declared.flag.Flag.TheVariants.{F, C, A}
 use Rattle.ua_chunk.specs.declared.fault.OpenFault.{OpenFault}
 use Rattle.ua_chunk.specs.declared.open_chunk.OpenChunk.{OpenChunk}
 use Rattle.ua_chunk.specs.Flag.{flag_octet, flag_in}
-use Rattle.ua_chunk.specs.Layout.{IsChunkOf, IsOpenChunkOf, token_header, sequence_header, SecurityHeader, policy_header, none_policy, is_none_policy, chunk_behind, chunk_with, chunk_in, opening_behind, opening_with, opening_in, sequence_fault, headers_fault, open_refusal}
+use Rattle.ua_chunk.specs.Layout.{IsChunkOf, token_header, sequence_header, chunk_behind, chunk_with, chunk_in}
+use Rattle.ua_chunk.specs.Opening.{IsOpenChunkOf, SecurityHeader, policy_header, none_policy, is_none_policy, opening_behind, opening_with, opening_in, sequence_fault, headers_fault, open_refusal}
 use Rattle.ua_chunk.proofs.Layouts.{none_is}
 
 -- ---- flags

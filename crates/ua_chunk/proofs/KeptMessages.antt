@@ -2,14 +2,14 @@
 use Rattle.std.proofs.Common.{◌≡◌, ℕ, suc, Bool, true, false, cond, eqb, List, [], ◌∷◌, ◌++◌, refl, sym, ◌∙◌, ap, map, length, append-nil}
 use Rattle.std.proofs.lemmas.Bool.{or_parts, cond-false, eqb-true, eq-eqb}
 use Rattle.std.proofs.lemmas.List.Concat.{flat_map-append}
-use Rattle.std.specs.List.{list_any}
+use Rattle.std.specs.List.{concat, list_any}
 use Rattle.ua_chunk.specs.declared.chunk.Chunk.{Chunk}
 use Rattle.ua_chunk.specs.declared.pending.Pending.{Pending}
-use Rattle.ua_chunk.specs.Gathered.{is_more, unfinished, joined}
+use Rattle.ua_chunk.specs.Gathered.{is_more, unfinished, joined, is_filled, filled, bodies}
 use Rattle.ua_chunk.specs.Kept.{kept, kept_messages}
 use Rattle.ua_chunk.specs.Open.{open_ids}
 use Rattle.ua_chunk.specs.Pending.{without, is_under, message_of, nothing_of}
-use Rattle.ua_chunk.proofs.Lists.{map_push, map_same, left_any}
+use Rattle.ua_chunk.proofs.Lists.{map_push, map_same, left_any, filter_append}
 use Rattle.ua_chunk.proofs.OneMore.{open_push, open_gone, not_open, unfinished_other, unfinished_more, eqb_comm}
 
 -- ---- taking one out
@@ -66,6 +66,21 @@ messages_push cs c =
 
 pub joined_push : (us : List Chunk) (c : Chunk) → joined (us ++ c ∷ []) ≡ joined us ++ c.body
 joined_push us c = flat_map-append (λ (c : Chunk). c.body) us (c ∷ []) ∙ ap (λ t. joined us ++ t) (append-nil c.body)
+
+-- the parts of a message, one body more
+pub bodies_push : (us : List Chunk) (c : Chunk) → bodies (us ++ c ∷ []) ≡ bodies us ++ filled (c.body ∷ [])
+bodies_push us c =
+    ap filled (map_push (λ (c : Chunk). c.body) us (c ∷ []))
+    ∙ filter_append is_filled (map (λ (c : Chunk). c.body) us) (c.body ∷ [])
+
+concat_one : (b : List ℕ) (parts : List (List ℕ)) → concat (cond (is_filled b) (b ∷ parts) parts) ≡ b ++ concat parts
+concat_one [] parts = refl
+concat_one (x ∷ b) parts = refl
+
+-- the octets of a message are its parts, joined
+pub concat_bodies : (us : List Chunk) → concat (bodies us) ≡ joined us
+concat_bodies [] = refl
+concat_bodies (u ∷ us) = concat_one u.body (bodies us) ∙ ap (λ (t : List ℕ). u.body ++ t) (concat_bodies us)
 
 count_ids : (f : ℕ → List Chunk) (ids : List ℕ) → length (map (λ j. kept j (f j)) ids) ≡ length ids
 count_ids f [] = refl

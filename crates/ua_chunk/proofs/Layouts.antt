@@ -7,7 +7,8 @@ use Rattle.ua_builtin.specs.Number.{number_at}
 use Rattle.ua_frame.specs.declared.frame.Frame.{Frame}
 use Rattle.ua_chunk.specs.declared.flag.Flag.{Flag}
 use Rattle.ua_chunk.specs.Flag.{flag_octet}
-use Rattle.ua_chunk.specs.Layout.{token_header, sequence_header, policy_header, none_policy, is_none_policy, sequence_fault, headers_fault, HeadersAt, IsChunkOf}
+use Rattle.ua_chunk.specs.Layout.{token_header, sequence_header, IsChunkOf}
+use Rattle.ua_chunk.specs.Opening.{policy_header, none_policy, is_none_policy, sequence_fault, headers_fault, HeadersAt}
 
 -- two numbers, one behind the other
 two_numbers : (b rest left : List ℕ) (n m : ℕ) → number_at 4 b ≡ Some (n, rest) → number_at 4 rest ≡ Some (m, left) → token_header.decode b ≡ Some ((n, m), left)

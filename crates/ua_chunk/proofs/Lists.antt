@@ -1,8 +1,8 @@
 -- Lists after one more element, and filters.
-use Rattle.std.proofs.Common.{◌≡◌, Bool, true, false, cond, ◌||◌, List, [], ◌∷◌, ◌++◌, refl, sym, ◌∙◌, ap, map}
+use Rattle.std.proofs.Common.{◌≡◌, ℕ, ◌+◌, Bool, true, false, cond, ◌||◌, List, [], ◌∷◌, ◌++◌, refl, sym, ◌∙◌, ap, map, length, append-nil, length-append}
 use Rattle.std.proofs.lemmas.Bool.{or_parts, cond-false}
-use Rattle.std.proofs.lemmas.List.Folds.{list_any-append}
-use Rattle.std.specs.List.{list_any, filter}
+use Rattle.std.proofs.lemmas.List.Folds.{list_any-append, concat-append}
+use Rattle.std.specs.List.{concat, list_any, filter}
 use Rattle.ua_chunk.specs.Gathered.{after_last}
 use Rattle.ua_chunk.specs.Pending.{without}
 
@@ -77,3 +77,9 @@ map_same p f g [] h e = refl
 map_same p f g (x ∷ xs) h e =
     let parts = or_parts (p x) (list_any p xs) e in
     ap (λ y. y ∷ map f xs) (h x parts.0) ∙ ap (λ t. g x ∷ t) (map_same p f g xs h parts.1)
+
+-- ---- parts
+
+pub length_part : (parts : List (List ℕ)) (part : List ℕ) → length (concat (parts ++ part ∷ [])) ≡ length (concat parts) + length part
+length_part parts part =
+    ap length (concat-append parts (part ∷ []) ∙ ap (λ (t : List ℕ). concat parts ++ t) (append-nil part)) ∙ length-append (concat parts) part

@@ -1,4 +1,5 @@
--- The bodies of aborts (OPC 10000-6, 6.7.3).
+-- The bodies of A chunks (OPC 10000-6, 6.7.3): the code of the error, a UInt32, and a String that says why. So 00 00 02 80 FF FF FF FF
+-- is BadInternalError with a null reason.
 use Rattle.std.specs.Prelude.{ℕ, Bool, List, Option, is_some}
 use Rattle.ua_builtin.specs.Counted.{text}
 use Rattle.ua_builtin.specs.Format.{Flat}

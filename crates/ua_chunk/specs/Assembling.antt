@@ -1,5 +1,6 @@
 -- How an assembler stands.
 use Rattle.std.specs.Prelude.{◌≡◌, ◌≤◌, ◌+◌, ℕ, min, nat_lt, true, false, ◌&&◌, not, length, Option, List, [], ◌∷◌, ◌++◌}
+use Rattle.std.specs.List.{concat}
 use Rattle.ua_frame.specs.Reasons.{first_reason}
 use Rattle.ua_chunk.specs.declared.assembler.Assembler.{Assembler}
 use Rattle.ua_chunk.specs.declared.chunk.Chunk.{Chunk}
@@ -11,6 +12,7 @@ use Rattle.ua_chunk.specs.declared.fault.AssembleFault.TheVariants.{Sequence, Un
 use Rattle.ua_chunk.specs.Abort.{abort_of, is_readable_abort}
 use Rattle.ua_chunk.specs.Delivered.{aborted}
 use Rattle.ua_chunk.specs.Flag.{is_more_flag, is_abort_flag}
+use Rattle.ua_chunk.specs.Gathered.{filled}
 use Rattle.ua_chunk.specs.Item.{Item}
 use Rattle.ua_chunk.specs.Item.Item.{Whole}
 use Rattle.ua_chunk.specs.Kept.{kept_messages}
@@ -55,17 +57,17 @@ refusal_kept a m c = first_reason (
     (Sequence, not (may_follow a.last c.sequence))
     ∷ (Unreadable, is_abort_flag c.flag && not (is_readable_abort c.body))
     ∷ (TooManyOpen, is_more_flag c.flag && nat_lt 3 (length a.pending))
-    ∷ (MessageTooLarge, not (is_abort_flag c.flag) && passes a.octets (length m.message + length c.body))
+    ∷ (MessageTooLarge, not (is_abort_flag c.flag) && passes a.octets (length (concat m.message) + length c.body))
     ∷ (TooManyChunks, not (is_abort_flag c.flag) && passes a.chunks (m.chunks + 1))
     ∷ [])
 
 -- its message with it
 abbrev pub added : Pending → Chunk → Pending
-added m c = record { request = m.request; chunks = min (m.chunks + 1) 4294967295; message = m.message ++ c.body }
+added m c = record { request = m.request; chunks = min (m.chunks + 1) 4294967295; message = m.message ++ filled (c.body ∷ []) }
 
--- what it delivers, by its flag: an F the message with its body, a C nothing, an A its code and reason if it reads
+-- what it delivers, by its flag: an F the octets of the message with its body, a C nothing, an A its code and reason if it reads
 abbrev pub given_kept_by : Flag → Pending → Chunk → List Item
-given_kept_by F m c = Whole c.request (m.message ++ c.body) ∷ []
+given_kept_by F m c = Whole c.request (concat (m.message ++ filled (c.body ∷ []))) ∷ []
 given_kept_by C m c = []
 given_kept_by A m c = aborted c.request (abort_of c.body)
 

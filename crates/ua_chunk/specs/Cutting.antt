@@ -1,4 +1,5 @@
--- The chunks of a body (OPC 10000-6, 6.7.2).
+-- The chunks of a body (OPC 10000-6, 6.7.2): consecutive pieces of it, each but the last as long as there is room for, under C but the
+-- last under F, numbered on. So 01 02 03 04 05 with room for 2 is C 01 02, C 03 04, F 05.
 use Rattle.std.specs.Prelude.{◌≡◌, ◌≤◌, ◌<◌, ℕ, zero, suc, nat_lt, if◌then◌else◌, length, take, drop, map, Option, Some, None, List, [], ◌∷◌, ◌++◌}
 use Rattle.ua_builtin.specs.Format.{Extends}
 use Rattle.ua_builtin.specs.Number.{number_octets}
@@ -62,7 +63,10 @@ chunks_octets cs = frames_octets (map frame_of cs)
 
 -- the octets of a chunk of a message in front of its body, where its frame has this size
 abbrev pub front_octets : Lane → Flag → ℕ → ℕ → ℕ → List ℕ
-front_octets lane flag size s id = kind_octets Msg ++ flag_octet flag ∷ (number_octets 4 size ++ (token_header.canonical (lane.channel, lane.token) ++ sequence_header.canonical (s, id)))
+front_octets lane flag size s id =
+    kind_octets Msg
+    ++ flag_octet flag
+    ∷ (number_octets 4 size ++ (token_header.canonical (lane.channel, lane.token) ++ sequence_header.canonical (s, id)))
 
 -- the number after as many chunks as there are pieces
 abbrev pub number_after : ℕ → List (List ℕ) → ℕ

@@ -1,4 +1,6 @@
--- What lists of chunks deliver.
+-- What lists of chunks deliver: at each F the bodies of its message, joined, and at each A the code and the reason for which its message
+-- is given up (OPC 10000-6, 6.7.2 and 6.7.3). So C (3, 01 02), C (5, 0A), F (3, 03), F (5, 0B), of these request ids and bodies,
+-- deliver 01 02 03 under 3, and then 0A 0B under 5.
 use Rattle.std.specs.Prelude.{ℕ, Option, Some, None, List, [], ◌∷◌}
 use Rattle.ua_builtin.specs.declared.status_code.StatusCode.{StatusCode}
 use Rattle.ua_frame.specs.After.{each_from, each_after}

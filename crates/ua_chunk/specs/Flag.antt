@@ -1,4 +1,5 @@
--- The flags of chunks (OPC 10000-6, 6.7.2.2).
+-- The flags of chunks, the fourth octet of their frames (OPC 10000-6, 6.7.2.2): C of an intermediate chunk, F of the last chunk of a
+-- message, A of a chunk that gives up its message.
 use Rattle.std.specs.Prelude.{ℕ, ◌==◌, Bool, true, false, if◌then◌else◌, Option, Some, None}
 use Rattle.ua_chunk.specs.declared.flag.Flag.{Flag}
 use Rattle.ua_chunk.specs.declared.flag.Flag.TheVariants.{F, C, A}
@@ -17,10 +18,10 @@ is_abort_flag A = true
 
 -- the octet of a flag: its letter in ASCII
 abbrev pub flag_octet : Flag → ℕ
-flag_octet F = 70
-flag_octet C = 67
-flag_octet A = 65
+flag_octet F = 0x46
+flag_octet C = 0x43
+flag_octet A = 0x41
 
 -- the flag of an octet, if it is one's
 abbrev pub flag_in : ℕ → Option Flag
-flag_in octet = if octet == 70 then Some F else if octet == 67 then Some C else if octet == 65 then Some A else None
+flag_in octet = if octet == 0x46 then Some F else if octet == 0x43 then Some C else if octet == 0x41 then Some A else None

@@ -1,5 +1,6 @@
--- The chunks of one message among those of all.
-use Rattle.std.specs.Prelude.{ℕ, ◌==◌, Bool, not, if◌then◌else◌, List, [], ◌∷◌, ◌++◌}
+-- The chunks of one message among those of all: those of its request id, from behind the last F or A of that id (OPC 10000-6, 6.7.2.4:
+-- the chunks of a message have one request id).
+use Rattle.std.specs.Prelude.{ℕ, ◌==◌, Bool, true, false, not, if◌then◌else◌, map, List, [], ◌∷◌, ◌++◌}
 use Rattle.std.specs.List.{list_any, filter, flat_map}
 use Rattle.ua_chunk.specs.declared.chunk.Chunk.{Chunk}
 use Rattle.ua_chunk.specs.Flag.{is_more_flag}
@@ -32,3 +33,16 @@ gathered before c = unfinished c.request before ++ c ∷ []
 -- the joined bodies of chunks
 abbrev pub joined : List Chunk → List ℕ
 joined cs = flat_map (λ c. c.body) cs
+
+-- there are octets
+abbrev pub is_filled : List ℕ → Bool
+is_filled [] = false
+is_filled (x ∷ b) = true
+
+-- those of the parts that are not empty, in order
+abbrev pub filled : List (List ℕ) → List (List ℕ)
+filled parts = filter is_filled parts
+
+-- the bodies of chunks that are not empty, in order
+abbrev pub bodies : List Chunk → List (List ℕ)
+bodies cs = filled (map (λ c. c.body) cs)

@@ -1,13 +1,13 @@
--- What is kept of the unfinished messages of a list of chunks.
+-- What an assembler keeps of the unfinished messages of a list of chunks.
 use Rattle.std.specs.Prelude.{ℕ, min, map, length, List}
 use Rattle.ua_chunk.specs.declared.chunk.Chunk.{Chunk}
 use Rattle.ua_chunk.specs.declared.pending.Pending.{Pending}
-use Rattle.ua_chunk.specs.Gathered.{unfinished, joined}
+use Rattle.ua_chunk.specs.Gathered.{unfinished, bodies}
 use Rattle.ua_chunk.specs.Open.{open_ids}
 
--- what is kept of these chunks of a request id; the count stops at its type's greatest number
+-- what is kept of these chunks of a request id: their bodies as they came; the count stops at its type's greatest number
 abbrev pub kept : ℕ → List Chunk → Pending
-kept id cs = record { request = id; chunks = min (length cs) 4294967295; message = joined cs }
+kept id cs = record { request = id; chunks = min (length cs) 4294967295; message = bodies cs }
 
 -- what is kept of the unfinished messages
 abbrev pub kept_messages : List Chunk → List Pending

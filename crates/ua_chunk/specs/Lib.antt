@@ -1,15 +1,18 @@
-pub mod Abort
-pub mod Assembling
-pub mod Cutting
-pub mod Delivered
+-- The definitions, in the order in which they are best read: how frames carry chunks, their numbers, the messages that they
+-- are of, which are refused; cutting; merged messages; and last how an assembler stands and keeps what is unfinished.
 pub mod Flag
+pub mod Layout
+pub mod Opening
+pub mod Sequence
+pub mod Abort
 pub mod Gathered
 pub mod Item
-pub mod Kept
-pub mod Layout
-pub mod Merge
+pub mod Delivered
 pub mod Open
-pub mod Pending
 pub mod Refusal
-pub mod Sequence
+pub mod Cutting
+pub mod Merge
+pub mod Pending
+pub mod Kept
+pub mod Assembling
 pub mod View

@@ -1,4 +1,5 @@
--- Messages that are sent at the same time.
+-- Messages that are sent at the same time, so that their chunks come merged: what is to be delivered of them. Messages of request ids 3
+-- and 5 may come as C (3), C (5), F (3), F (5), or in any other order in which those of each id stay in theirs.
 use Rattle.std.specs.Prelude.{◌≡◌, ℕ, ◌==◌, Bool, true, false, if◌then◌else◌, length, map, Option, Some, None, List, [], ◌∷◌, ◌++◌}
 use Rattle.std.specs.List.{filter, flat_map}
 use Rattle.ua_chunk.specs.declared.chunk.Chunk.{Chunk}

@@ -1,4 +1,4 @@
--- The messages that a list of chunks leaves unfinished.
+-- The messages that a list of chunks leaves unfinished: those whose last chunk is a C.
 use Rattle.std.specs.Prelude.{ℕ, ◌&&◌, not, if◌then◌else◌, length, List, [], ◌∷◌}
 use Rattle.std.specs.List.{list_any, sum_by}
 use Rattle.ua_chunk.specs.declared.chunk.Chunk.{Chunk}

@@ -1,6 +1,6 @@
--- Unfinished messages, and the first of a list that passes a test.
+-- What an assembler keeps, as a list, and the first of a list that passes a test.
 use Rattle.std.specs.Prelude.{ℕ, ◌==◌, Bool, if◌then◌else◌, length, List, [], ◌∷◌}
-use Rattle.std.specs.List.{sum_by}
+use Rattle.std.specs.List.{concat, sum_by}
 use Rattle.ua_chunk.specs.declared.pending.Pending.{Pending}
 
 -- the first that passes, or d
@@ -27,4 +27,4 @@ message_of id ms = first_of (is_under id) (nothing_of id) ms
 
 -- the octets of all these messages
 abbrev pub octets_in : List Pending → ℕ
-octets_in ms = sum_by (λ m. length m.message) ms
+octets_in ms = sum_by (λ m. length (concat m.message)) ms

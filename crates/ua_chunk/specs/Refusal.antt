@@ -1,4 +1,4 @@
--- Which chunks are refused.
+-- Which chunks are refused, and why: the reasons in the order in which they are judged.
 use Rattle.std.specs.Prelude.{◌≡◌, ◌≤◌, ℕ, ◌==◌, nat_lt, Bool, false, ◌&&◌, not, length, Option, Some, None, List, [], ◌∷◌, ◌++◌}
 use Rattle.ua_frame.specs.After.{AllFrom}
 use Rattle.ua_frame.specs.Reasons.{first_reason}
@@ -19,7 +19,11 @@ passes limit n = not (limit == 0) && nat_lt limit n
 abbrev pub most_open : ℕ
 most_open = 4
 
--- what may be wrong with the message of a chunk that stands behind these chunks, in the order in which it is judged: an abort that does not read, too many unfinished messages, octets and chunks of the message above the limits
+-- what may be wrong with the message of a chunk that stands behind these chunks, in the order in which it is judged
+--   Unreadable         the body of an A is not a code and a reason alone (6.7.3)
+--   TooManyOpen        more messages would be unfinished than may be
+--   MessageTooLarge    the bodies of the message with this one have more octets than the receiver takes (7.1.2.3, MaxMessageSize)
+--   TooManyChunks      the message has more chunks with this one than the receiver takes (7.1.2.3, MaxChunkCount)
 abbrev pub message_reasons : ℕ → ℕ → List Chunk → Chunk → List (AssembleFault × Bool)
 message_reasons octets chunks cs c =
     (Unreadable, is_abort_flag c.flag && not (is_readable_abort c.body))
@@ -28,7 +32,9 @@ message_reasons octets chunks cs c =
     ∷ (TooManyChunks, not (is_abort_flag c.flag) && passes chunks (length (gathered cs c)))
     ∷ []
 
--- the reasons why a chunk may be refused that stands behind these chunks and this last number, in the order in which they are judged: its number, then its message
+-- why a chunk may be refused that stands behind these chunks and this last number, in the order in which it is judged
+--   Sequence           its sequence number does not follow the last one (6.7.2.4)
+--   and then what may be wrong with its message
 abbrev pub reasons : ℕ → ℕ → Option ℕ → List Chunk → Chunk → List (AssembleFault × Bool)
 reasons octets chunks last cs c = (Sequence, not (may_follow last c.sequence)) ∷ message_reasons octets chunks cs c
 
@@ -53,7 +59,8 @@ IsFor reason Closed = ⊥
 -- none of the chunks is refused behind those before it
 abbrev pub TakesAll : ℕ → ℕ → Option ℕ → List Chunk → List Chunk → Type 0
 TakesAll octets chunks last before [] = Unit {0}
-TakesAll octets chunks last before (c ∷ cs) = (refusal octets chunks last before c ≡ None) × TakesAll octets chunks (Some c.sequence) (before ++ c ∷ []) cs
+TakesAll octets chunks last before (c ∷ cs) =
+    (refusal octets chunks last before c ≡ None) × TakesAll octets chunks (Some c.sequence) (before ++ c ∷ []) cs
 
 -- none of the chunks is refused for its message behind those before it, whatever their numbers
 abbrev pub TakesMessages : ℕ → ℕ → List Chunk → List Chunk → Type 0

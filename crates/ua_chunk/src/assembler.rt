@@ -61,7 +61,8 @@ impl Assembler {
     ghost use Rattle.ua_chunk.specs.Delivered.{given, delivered};
     ghost use Rattle.ua_chunk.specs.Open.{open_ids, open_octets};
     ghost use Rattle.ua_chunk.specs.Refusal.{refusal, IsFor};
-    ghost use Rattle.ua_chunk.specs.View.{items_of};
+    ghost use Rattle.ua_chunk.specs.Gathered.{filled, bodies, gathered};
+    ghost use Rattle.ua_chunk.specs.View.{items_of, HasParts};
 
     /// An assembler for messages of at most so many octets and chunks, each 0 for any number, behind
     /// the last sequence number, if there was one.
@@ -107,6 +108,7 @@ impl Assembler {
     /// Adds a chunk to its message, which was taken out.
     fn add(&mut self, mut pending: Pending, chunk: Chunk) -> Result<Option<Delivered>, AllocError>
         ensures given { IfOk result (λ d. items_of d ≡ given_kept pending chunk) }
+        ensures parts { IfOk result (λ d. HasParts d (pending.message ++ filled (chunk.body ∷ []))) }
         ensures pending { OnOk result (self.new.pending ≡ self.old.pending ++ put_back pending chunk) }
         ensures last { OnOk result (self.new.last ≡ Some chunk.sequence) }
         ensures closed { self.new.closed ≡ self.old.closed }
@@ -137,6 +139,8 @@ impl Assembler {
         ensures given { (cs : List Chunk) → Stands self.old cs →
             IfOk result (λ d. delivered (cs ++ chunk ∷ []) ≡ delivered cs ++ items_of d) }
         ensures items { (cs : List Chunk) → Stands self.old cs → IfOk result (λ d. given cs chunk ≡ items_of d) }
+        // Nothing is joined: the parts are the bodies of the chunks that are not empty, in order.
+        ensures parts { (cs : List Chunk) → Stands self.old cs → IfOk result (λ d. HasParts d (bodies (gathered cs chunk))) }
         ensures stands { (cs : List Chunk) → Stands self.old cs → OnOk result (Stands self.new (cs ++ chunk ∷ [])) }
         ensures last { OnOk result (last_number self.new ≡ Some chunk.sequence) }
         ensures limits { SameLimits self.old self.new }

@@ -5,10 +5,13 @@ ghost use Rattle.ua_frame.specs.Kinds.{has_flag};
 ghost use Rattle.ua_frame.specs.declared.kind.Kind.TheVariants.{Msg};
 ghost use Rattle.ua_chunk.specs.Layout.{IsChunkOf, chunk_in};
 
-use crate::fields::drop_front;
 use crate::flag::Flag;
-use ua_frame::{Body, Frame};
+use bytes::Bytes;
+use ua_frame::Frame;
 use ua_octets::front_number;
+
+/// The octets of a chunk's headers, behind the header of its frame.
+const HEADERS: usize = 16;
 
 /// A chunk of a message: a MSG or a CLO frame under the security policy None (OPC 10000-6, 6.7.2).
 #[derive(Drop)]
@@ -23,28 +26,28 @@ pub struct Chunk {
     /// The request id, which all chunks of a message share.
     pub request: u32,
     /// What follows the sequence header.
-    pub body: Body,
+    pub body: Bytes,
 }
 
-/// The chunk of a MSG or CLO frame. It takes no memory.
+/// The chunk of a MSG or CLO frame. It takes no memory, and moves no octet.
 pub fn read_chunk(frame: Frame) -> Chunk
     requires flag { IsTrue (has_flag Msg frame.flag) }
     requires body { 16 ≤ length frame.body }
     ensures chunk { IsChunkOf frame result }
     ensures found { chunk_in frame ≡ Some result }
 {
-    let mut octets = frame.body.into_vec();
-    let (channel, rest) = front_number(&octets);
+    let mut body = frame.body;
+    let (channel, rest) = front_number(&body);
     let (token, rest) = front_number(rest);
     let (sequence, rest) = front_number(rest);
     let (request, _) = front_number(rest);
-    drop_front(&mut octets, 16);
+    body.advance(HEADERS);
     Chunk {
         channel,
         token,
         flag: Flag::from_octet(frame.flag),
         sequence,
         request,
-        body: Body::new(octets),
+        body,
     }
 }

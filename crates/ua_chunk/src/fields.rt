@@ -1,6 +1,6 @@
 //! Fields at the front of octets, taken off without memory.
 
-ghost use Rattle.std.specs.Prelude.{◌≡◌, ◌≤◌, length, drop, Some, None, MatchOption};
+ghost use Rattle.std.specs.Prelude.{◌≡◌, Some, None, MatchOption};
 ghost use Rattle.ua_chunk.specs.Layout.{sequence_header};
 
 use ua_octets::split_number;
@@ -14,14 +14,4 @@ pub fn split_sequence(octets: &[u8]) -> Option<(u32, u32, &[u8])>
     let (sequence, rest) = split_number(octets)?;
     let (request, rest) = split_number(rest)?;
     Some((sequence, request, rest))
-}
-
-/// Drops the first octets, and moves the others to the front.
-pub fn drop_front(octets: &mut Vec<u8>, count: usize)
-    requires { count ≤ length octets.old.items }
-    ensures { octets.new.items ≡ drop count octets.old.items }
-{
-    let left = octets.len() - count;
-    octets.copy_within(count.., 0);
-    octets.truncate(left);
 }

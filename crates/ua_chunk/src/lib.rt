@@ -1,5 +1,5 @@
 //! Chunks of messages (OPC 10000-6, 6.7): their layouts, cutting a body into them, and the assembler
-//! that joins the chunks of messages which come interleaved.
+//! that gathers the chunks of messages which come interleaved, without a copy of their bodies.
 //!
 //! Its contract is that of [`Assembler`]: whatever chunks came, what is handed out is what their list
 //! delivers, each message at its last chunk, whole and once, and a refusal is the first reason that holds.

@@ -1,26 +1,34 @@
-//! The octets of messages.
+//! Messages, as the bodies of their chunks.
 
+use bytes::Bytes;
 use std::alloc::{AllocError, Global};
 use std::marker::Model;
-use ua_builtin::Octets;
-use ua_frame::Body;
+use ua_octets::Parts;
 
-/// The octets of a message: the bodies of its chunks, joined.
+/// A message: the bodies of its chunks that are not empty, in order and as they came. Its octets
+/// are these, joined.
 #[derive(Drop)]
 pub struct Message {
-    octets: Vec<u8>,
+    parts: Vec<Bytes>,
+    /// How many octets they have together.
+    len: usize,
 }
 
 impl Model for Message {
-    ghost use Rattle.std.specs.Prelude.{List, ℕ};
+    ghost use Rattle.std.specs.List.{concat};
+    ghost use Rattle.std.specs.Prelude.{List, ℕ, ◌≡◌, length};
 
-    ghost Value = { List ℕ };
+    ghost Value = { List (List ℕ) };
 
-    ghost view = { λ m. m.octets.items };
+    ghost view = { λ m. m.parts.items };
+
+    ghost invariant = { λ m. m.len ≡ length (concat m.parts.items) };
 }
 
 impl Message {
-    ghost use Rattle.std.specs.Prelude.{◌≡◌, ◌↔◌, ◌++◌, [], length, IsTrue, OnOk};
+    ghost use Rattle.std.specs.List.{concat};
+    ghost use Rattle.std.specs.Prelude.{◌≡◌, ◌↔◌, ◌∷◌, ◌++◌, [], length, IsTrue, OnOk};
+    ghost use Rattle.ua_chunk.specs.Gathered.{filled};
 
     /// A message of which nothing has come.
     #[inline]
@@ -28,43 +36,56 @@ impl Message {
         ensures { result ≡ [] }
     {
         Message {
-            octets: Vec::new(alloc),
+            parts: Vec::new(alloc),
+            len: 0,
         }
     }
 
     /// The number of octets.
     #[inline]
     pub fn len(&self) -> usize
-        ensures { result ≡ length self.now }
+        ensures { result ≡ length (concat self.now) }
     {
-        self.octets.len()
+        self.len
     }
 
     /// Whether there are no octets.
     #[inline]
     pub fn is_empty(&self) -> bool
-        ensures { IsTrue result ↔ (self.now ≡ []) }
+        ensures { IsTrue result ↔ (concat self.now ≡ []) }
     {
-        self.octets.is_empty()
+        self.len == 0
+    }
+
+    /// The bodies of its chunks that are not empty, in order.
+    #[inline]
+    pub fn parts(&self) -> &[Bytes]
+        ensures { result.now ≡ self.now }
+    {
+        self.parts.as_slice()
     }
 
     /// A source of the octets, from the first on.
     #[inline]
-    pub fn source(&self) -> Octets<'_>
-        ensures { result ≡ self.now }
+    pub fn source(&self) -> Parts<'_>
+        ensures { result ≡ concat self.now }
     {
-        Octets::new(self.octets.as_slice())
+        let _len = self.len;
+        Parts::new(self.parts.as_slice())
     }
 
-    /// Adds the body of one more chunk. The first one is taken as it is.
-    pub(crate) fn add(&mut self, body: Body) -> Result<(), AllocError>
-        ensures { OnOk result (self.new ≡ self.old ++ body) }
+    /// Adds the body of one more chunk, as it is.
+    pub(crate) fn add(&mut self, body: Bytes) -> Result<(), AllocError>
+        ensures { OnOk result (self.new ≡ self.old ++ filled (body ∷ [])) }
     {
-        if self.octets.is_empty() {
-            self.octets = body.into_vec();
+        if body.is_empty() {
             return Ok(());
         }
-        self.octets.extend_from_slice(body.as_slice())?;
+        let Some(len) = self.len.checked_add(body.len()) else {
+            return Err(AllocError);
+        };
+        self.parts.push(body)?;
+        self.len = len;
         Ok(())
     }
 }

@@ -1,11 +1,12 @@
 //! Chunks of OPN frames.
 
 ghost use Rattle.std.specs.Prelude.{◌≡◌, ◌++◌, Some, None, MatchOption, MatchResult, IfOk, option_map};
-ghost use Rattle.ua_chunk.specs.Layout.{policy_header, is_none_policy, HeadersAt, IsOpenChunkOf, opening_in, open_refusal};
+ghost use Rattle.ua_chunk.specs.Opening.{policy_header, is_none_policy, HeadersAt, IsOpenChunkOf, opening_in, open_refusal};
 
 use crate::fault::OpenFault;
-use crate::fields::{drop_front, split_sequence};
-use ua_frame::{Body, Frame};
+use crate::fields::split_sequence;
+use bytes::Bytes;
+use ua_frame::Frame;
 use ua_octets::{split_counted, split_number};
 
 /// The URI of the security policy None.
@@ -21,7 +22,7 @@ pub struct OpenChunk {
     /// The request id.
     pub request: u32,
     /// What follows the sequence header.
-    pub body: Body,
+    pub body: Bytes,
 }
 
 /// What stands in front of the sequence header of an OPN frame.
@@ -94,20 +95,21 @@ fn read_headers(octets: &[u8]) -> Result<Headers, OpenFault>
     })
 }
 
-/// The chunk of an OPN frame. The certificate and the thumbprint are passed over. It takes no memory.
+/// The chunk of an OPN frame. The certificate and the thumbprint are passed over. It takes no memory,
+/// and moves no octet.
 pub fn read_open(frame: Frame) -> Result<OpenChunk, OpenFault>
     ensures chunk { IfOk result (IsOpenChunkOf frame) }
     ensures found { MatchResult result (λ chunk. opening_in frame ≡ Some chunk) (λ _. opening_in frame ≡ None) }
     ensures faults { MatchResult result (λ _. open_refusal frame.body ≡ None)
         (λ fault. open_refusal frame.body ≡ Some fault) }
 {
-    let mut octets = frame.body.into_vec();
-    let headers = read_headers(&octets)?;
-    drop_front(&mut octets, headers.len);
+    let mut body = frame.body;
+    let headers = read_headers(&body)?;
+    body.advance(headers.len);
     Ok(OpenChunk {
         channel: headers.channel,
         sequence: headers.sequence,
         request: headers.request,
-        body: Body::new(octets),
+        body,
     })
 }

@@ -1,9 +1,9 @@
 //! Unfinished messages.
 
 use crate::message::Message;
+use bytes::Bytes;
 use std::alloc::{AllocError, Global};
 use std::marker::Model;
-use ua_frame::Body;
 
 /// What has come of a message.
 #[derive(Drop)]
@@ -15,14 +15,15 @@ pub struct Pending {
 }
 
 impl Pending {
-    ghost use Rattle.std.specs.Prelude.{◌≡◌, ◌+◌, ◌++◌, min, OnOk};
+    ghost use Rattle.std.specs.Prelude.{◌≡◌, ◌+◌, ◌∷◌, ◌++◌, [], min, OnOk};
+    ghost use Rattle.ua_chunk.specs.Gathered.{filled};
 
     /// Adds the body of one more chunk.
-    pub fn add(&mut self, body: Body) -> Result<(), AllocError>
+    pub fn add(&mut self, body: Bytes) -> Result<(), AllocError>
         ensures { OnOk result (self.new ≡ record {
           request = self.old.request;
           chunks = min (self.old.chunks + 1) 4294967295;
-          message = self.old.message ++ body;
+          message = self.old.message ++ filled (body ∷ []);
         }) }
     {
         self.message.add(body)?;

@@ -1,4 +1,4 @@
-use Rattle.std.proofs.Common.{◌≡◌, sym, ◌∙◌, ap, drop}
+use Rattle.std.proofs.Common.{sym, ◌∙◌, ap, drop}
 use Rattle.ua_builtin.specs.Number.{number_at}
 use Rattle.ua_chunk.proofs.Carried.{chunk_found}
 use Rattle.ua_chunk.proofs.Layouts.{sixteen, chunk_is}
@@ -6,15 +6,14 @@ use Rattle.ua_chunk.proofs.chunk.read_chunk.Goals as goal
 
 pub returns-clause-chunk : goal.returns-clause-chunk
 returns-clause-chunk c =
-    let body : c.deref.result.now ≡ c.args.frame.body = c.deref.ensures.value ∙ c.into_vec-octets.ensures in
-    chunk_is c.args.frame c.from_octet.result c.front_number-channel.result.1.now c.front_number-token.result.1.now c.front_number-sequence.result.1.now c.front_number-request.result.1.now c.new.result _ _ _ _ c.from_octet.ensures
-    (ap (number_at 4) (sym body) ∙ c.front_number-channel.ensures.value)
+    chunk_is c.args.frame c.from_octet.result c.front_number-channel.result.1.now c.front_number-token.result.1.now c.front_number-sequence.result.1.now c.front_number-request.result.1.now c.advance.new.self _ _ _ _ c.from_octet.ensures
+    (ap (number_at 4) (sym c.deref.ensures) ∙ c.front_number-channel.ensures.value)
     c.front_number-token.ensures.value
     c.front_number-sequence.ensures.value
     c.front_number-request.ensures.value
-    (c.new.ensures ∙ c.drop_front.ensures
-    ∙ sixteen c.into_vec-octets.result.items c.front_number-channel.result.1.now c.front_number-token.result.1.now c.front_number-sequence.result.1.now c.front_number-request.result.1.now
-    (c.front_number-channel.ensures.rest ∙ ap (drop 4) c.deref.ensures.value)
+    (c.advance.ensures
+    ∙ sixteen c.args.frame.body c.front_number-channel.result.1.now c.front_number-token.result.1.now c.front_number-sequence.result.1.now c.front_number-request.result.1.now
+    (c.front_number-channel.ensures.rest ∙ ap (drop 4) c.deref.ensures)
     c.front_number-token.ensures.rest
     c.front_number-sequence.ensures.rest
     c.front_number-request.ensures.rest)

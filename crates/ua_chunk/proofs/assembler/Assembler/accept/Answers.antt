@@ -1,5 +1,5 @@
 use Rattle.std.proofs.Common.{sym, ◌∙◌, refl, arith}
-use Rattle.ua_chunk.proofs.Assembles.{delivered_is, given_is, refusal_is, fault_is_for, stays}
+use Rattle.ua_chunk.proofs.Assembles.{delivered_is, given_is, parts_are, refusal_is, fault_is_for, stays}
 use Rattle.ua_chunk.proofs.assembler.Assembler.accept.Goals as goal
 
 pub returns-in-Some-clause-faults : goal.returns-in-Some-clause-faults
@@ -15,6 +15,10 @@ returns-in-Ok-clause-given c = λ cs s.
 pub returns-in-Ok-clause-items : goal.returns-in-Ok-clause-items
 returns-in-Ok-clause-items c = λ cs s.
     given_is cs c.args.chunk c.args.self.now.pending _ s.unfinished (rw (← c.take_out-pending.ensures.taken) c.in-Ok.ensures.given)
+
+pub returns-in-Ok-clause-parts : goal.returns-in-Ok-clause-parts
+returns-in-Ok-clause-parts c = λ cs s.
+    parts_are cs c.args.chunk c.args.self.now.pending _ s.unfinished (rw (← c.take_out-pending.ensures.taken) c.in-Ok.ensures.parts)
 
 pub returns-in-Ok-clause-stands : goal.returns-in-Ok-clause-stands
 returns-in-Ok-clause-stands c = λ cs s.

@@ -6,8 +6,8 @@ use Rattle.ua_chunk.specs.Pending.{is_under, nothing_of}
 use Rattle.ua_chunk.proofs.Places.{missing, found_value, found_rest}
 use Rattle.ua_chunk.proofs.pending.PendingMessages.take_out.Goals as goal
 
-nothing_with : (id : ℕ) (o : List ℕ) → o ≡ [] → ◌≡◌ {A = Pending} record { request = id; chunks = 0; message = o } (nothing_of id)
-nothing_with id o e = ap (λ (t : List ℕ). let m : Pending = record { request = id; chunks = 0; message = t } in m) e
+nothing_with : (id : ℕ) (o : List (List ℕ)) → o ≡ [] → ◌≡◌ {A = Pending} record { request = id; chunks = 0; message = o } (nothing_of id)
+nothing_with id o e = ap (λ (t : List (List ℕ)). let m : Pending = record { request = id; chunks = 0; message = t } in m) e
 
 pub returns-in_default-clause-taken : goal.returns-in_default-clause-taken
 returns-in_default-clause-taken c =
