@@ -1,22 +1,24 @@
 -- The bodies of aborts.
 use Rattle.std.proofs.Common.{◌≡◌, ℕ, Bool, true, false, cond, ◌&&◌, nat_eq, Option, Some, None, List, [], ◌∷◌, refl, sym, ap, arith, length, is_some}
 use Rattle.std.proofs.lemmas.Bool.{ne_eqb}
-use Rattle.ua_builtin.specs.Counted.{counted, text, is_text}
-use Rattle.ua_builtin.specs.Exact.{◌>>=◌}
-use Rattle.ua_builtin.specs.Format.{flat}
-use Rattle.ua_builtin.specs.Join.{pair}
-use Rattle.ua_builtin.specs.Number.{number_at}
+use Rattle.ua_octets.specs.Counted.{counted, text, is_text}
+use Rattle.ua_octets.specs.Exact.{◌>>=◌}
+use Rattle.ua_octets.specs.Format.{flat}
+use Rattle.ua_octets.specs.Join.{pair}
+use Rattle.ua_octets.specs.Number.{number_at}
 use Rattle.ua_builtin.specs.Status.{status_code, of_code}
 use Rattle.ua_builtin.specs.declared.status_code.StatusCode.{StatusCode}
-use Rattle.ua_frame.specs.Whole.{IsWhole, if_nothing_left, whole_of}
+use Rattle.ua_octets.specs.Format.{IsWhole}
+use Rattle.ua_frame.specs.Whole.{if_nothing_left, whole_of}
 use Rattle.ua_frame.proofs.Wholes.{whole_read}
+use Rattle.ua_chunk.proofs.HeadersLawful.{sound_abort_body}
 use Rattle.ua_chunk.specs.Abort.{abort_body, abort_of, is_readable_abort}
 
 -- what was read of the whole body is what the abort is
 pub read_is : (b : List ℕ) (read : Option (StatusCode × Option (List ℕ))) → IsWhole (pair (flat status_code) (flat text)) b read → read ≡ abort_of b
 unfolding abort_body
-read_is b None h = sym (whole_read abort_body b None h)
-read_is b (Some a) h = sym (whole_read abort_body b (Some a) h)
+read_is b None h = sym (whole_read abort_body sound_abort_body b None h)
+read_is b (Some a) h = sym (whole_read abort_body sound_abort_body b (Some a) h)
 
 -- ---- found without memory
 

@@ -3,7 +3,8 @@ use Rattle.std.proofs.Common.{◌≡◌, ℕ, Bool, true, false, cond, ◌↔◌
 use Rattle.std.proofs.lemmas.Bool.{eqb-true}
 use Rattle.std.proofs.lemmas.Slice.Eq.{bytes_eq-Decides}
 use Rattle.std.specs.Option.{is_none}
-use Rattle.ua_builtin.specs.Exact.{some_is, Begins}
+use Rattle.ua_octets.specs.Exact.{Begins}
+use Rattle.ua_octets.proofs.Readers.{some_is}
 use Rattle.ua_frame.specs.declared.frame.Frame.{Frame}
 use Rattle.ua_chunk.specs.declared.chunk.Chunk.{Chunk}
 use Rattle.ua_chunk.specs.declared.flag.Flag.{Flag}
@@ -14,6 +15,7 @@ use Rattle.ua_chunk.specs.Flag.{flag_octet, flag_in}
 use Rattle.ua_chunk.specs.Layout.{IsChunkOf, token_header, sequence_header, chunk_behind, chunk_with, chunk_in}
 use Rattle.ua_chunk.specs.Opening.{IsOpenChunkOf, SecurityHeader, policy_header, none_policy, is_none_policy, opening_behind, opening_with, opening_in, sequence_fault, headers_fault, open_refusal}
 use Rattle.ua_chunk.proofs.Layouts.{none_is}
+use Rattle.ua_chunk.proofs.HeadersLawful.{sound_token_header, sound_sequence_header, sound_policy_header}
 
 -- ---- flags
 
@@ -37,14 +39,14 @@ pub chunk_found : (f : Frame) (c : Chunk) → IsChunkOf f c → chunk_in f ≡ S
 unfolding chunk_in
 chunk_found f c h =
     ap (λ o. chunk_with o (token_header.decode f.body)) (ap flag_in h.flag ∙ flag_in_octet c.flag)
-    ∙ ap (chunk_with (Some c.flag)) (ap token_header.decode h.octets ∙ token_header.exact.complete (c.channel, c.token) h.security (h.sequence ++ c.body) h.security_encoded)
-    ∙ ap (chunk_behind (Some c.flag) (c.channel, c.token)) (sequence_header.exact.complete (c.sequence, c.request) h.sequence c.body h.sequence_encoded)
+    ∙ ap (chunk_with (Some c.flag)) (ap token_header.decode h.octets ∙ sound_token_header.exact.complete (c.channel, c.token) h.security (h.sequence ++ c.body) h.security_encoded)
+    ∙ ap (chunk_behind (Some c.flag) (c.channel, c.token)) (sound_sequence_header.exact.complete (c.sequence, c.request) h.sequence c.body h.sequence_encoded)
 
 chunk_of_found : (f : Frame) (flag : Flag) (ids numbers : ℕ × ℕ) (rest body : List ℕ) → flag_in f.flag ≡ Some flag → token_header.decode f.body ≡ Some (ids, rest) → sequence_header.decode rest ≡ Some (numbers, body)
     → IsChunkOf f (record { channel = ids.0; token = ids.1; flag = flag; sequence = numbers.0; request = numbers.1; body = body })
 chunk_of_found f flag ids numbers rest body e first second =
-    let security : Begins token_header.encodes f.body ids rest = token_header.exact.sound f.body ids rest first in
-    let sequence : Begins sequence_header.encodes rest numbers body = sequence_header.exact.sound rest numbers body second in
+    let security : Begins token_header.encodes f.body ids rest = sound_token_header.exact.sound f.body ids rest first in
+    let sequence : Begins sequence_header.encodes rest numbers body = sound_sequence_header.exact.sound rest numbers body second in
     record {
       flag = flag_is f.flag flag e;
       security = security.front;
@@ -75,15 +77,15 @@ chunk_is_found f c = (λ h. chunk_with_is f c (token_header.decode f.body) refl 
 pub opening_found : (f : Frame) (c : OpenChunk) → IsOpenChunkOf f c → opening_in f ≡ Some c
 unfolding opening_in
 opening_found f c h =
-    ap opening_with (ap policy_header.decode h.octets ∙ policy_header.exact.complete (c.channel, (Some none_policy, (h.certificate, h.thumbprint))) h.security (h.sequence ++ c.body) h.security_encoded)
+    ap opening_with (ap policy_header.decode h.octets ∙ sound_policy_header.exact.complete (c.channel, (Some none_policy, (h.certificate, h.thumbprint))) h.security (h.sequence ++ c.body) h.security_encoded)
     ∙ ap (λ b. opening_behind b c.channel (sequence_header.decode (h.sequence ++ c.body))) ((bytes_eq-Decides none_policy none_policy).1 refl)
-    ∙ ap (opening_behind true c.channel) (sequence_header.exact.complete (c.sequence, c.request) h.sequence c.body h.sequence_encoded)
+    ∙ ap (opening_behind true c.channel) (sound_sequence_header.exact.complete (c.sequence, c.request) h.sequence c.body h.sequence_encoded)
 
 opening_of_found : (f : Frame) (header : SecurityHeader) (numbers : ℕ × ℕ) (rest body : List ℕ) → true ≡ is_none_policy header.1.0 → policy_header.decode f.body ≡ Some (header, rest) → sequence_header.decode rest ≡ Some (numbers, body)
     → IsOpenChunkOf f (record { channel = header.0; sequence = numbers.0; request = numbers.1; body = body })
 opening_of_found f header numbers rest body none first second =
-    let security : Begins policy_header.encodes f.body header rest = policy_header.exact.sound f.body header rest first in
-    let sequence : Begins sequence_header.encodes rest numbers body = sequence_header.exact.sound rest numbers body second in
+    let security : Begins policy_header.encodes f.body header rest = sound_policy_header.exact.sound f.body header rest first in
+    let sequence : Begins sequence_header.encodes rest numbers body = sound_sequence_header.exact.sound rest numbers body second in
     record {
       certificate = header.1.1.0;
       thumbprint = header.1.1.1;

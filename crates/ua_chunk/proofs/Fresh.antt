@@ -18,7 +18,7 @@ use Rattle.ua_chunk.specs.Gathered.{is_of, is_more, ends, after_last, unfinished
 use Rattle.ua_chunk.specs.Item.Item.{Whole}
 use Rattle.ua_chunk.specs.Kept.{kept}
 use Rattle.ua_chunk.specs.Open.{open_ids}
-use Rattle.ua_frame.specs.Reasons.{first_reason}
+use Rattle.ua_builtin.specs.Reasons.{first_reason}
 use Rattle.ua_chunk.specs.Refusal.{passes, most_open, message_reasons, message_refusal, refusal}
 use Rattle.ua_chunk.specs.Sequence.{next_number, may_follow}
 use Rattle.ua_chunk.proofs.Bounds.{none_within}

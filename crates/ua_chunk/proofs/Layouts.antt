@@ -2,13 +2,14 @@
 use Rattle.std.proofs.Common.{◌≡◌, ℕ, ◌-◌, ◌≤◌, Bool, true, Option, Some, None, List, ◌++◌, refl, sym, ◌∙◌, ap, subst, arith, length, drop, length-append, append_assoc}
 use Rattle.std.proofs.lemmas.List.{drop_at, drop-drop}
 use Rattle.std.proofs.lemmas.Slice.Eq.{bytes_eq-Decides}
-use Rattle.ua_builtin.specs.Exact.{Begins}
-use Rattle.ua_builtin.specs.Number.{number_at}
+use Rattle.ua_octets.specs.Exact.{Begins}
+use Rattle.ua_octets.specs.Number.{number_at}
 use Rattle.ua_frame.specs.declared.frame.Frame.{Frame}
 use Rattle.ua_chunk.specs.declared.flag.Flag.{Flag}
 use Rattle.ua_chunk.specs.Flag.{flag_octet}
 use Rattle.ua_chunk.specs.Layout.{token_header, sequence_header, IsChunkOf}
 use Rattle.ua_chunk.specs.Opening.{policy_header, none_policy, is_none_policy, sequence_fault, headers_fault, HeadersAt}
+use Rattle.ua_chunk.proofs.HeadersLawful.{sound_token_header, sound_sequence_header, sound_policy_header}
 
 -- two numbers, one behind the other
 two_numbers : (b rest left : List ℕ) (n m : ℕ) → number_at 4 b ≡ Some (n, rest) → number_at 4 rest ≡ Some (m, left) → token_header.decode b ≡ Some ((n, m), left)
@@ -22,8 +23,8 @@ pub chunk_is : (f : Frame) (flag : Flag) (r1 r2 r3 r4 body : List ℕ) (channel 
     → number_at 4 f.body ≡ Some (channel, r1) → number_at 4 r1 ≡ Some (token, r2) → number_at 4 r2 ≡ Some (sequence, r3) → number_at 4 r3 ≡ Some (request, r4) → body ≡ r4
     → IsChunkOf f (record { channel = channel; token = token; flag = flag; sequence = sequence; request = request; body = body })
 chunk_is f flag r1 r2 r3 r4 body channel token sequence request same e1 e2 e3 e4 left =
-    let security : Begins token_header.encodes f.body (channel, token) r2 = token_header.exact.sound f.body (channel, token) r2 (two_numbers f.body r1 r2 channel token e1 e2) in
-    let numbers : Begins sequence_header.encodes r2 (sequence, request) r4 = sequence_header.exact.sound r2 (sequence, request) r4 (two_numbers r2 r3 r4 sequence request e3 e4) in
+    let security : Begins token_header.encodes f.body (channel, token) r2 = sound_token_header.exact.sound f.body (channel, token) r2 (two_numbers f.body r1 r2 channel token e1 e2) in
+    let numbers : Begins sequence_header.encodes r2 (sequence, request) r4 = sound_sequence_header.exact.sound r2 (sequence, request) r4 (two_numbers r2 r3 r4 sequence request e3 e4) in
     record {
       flag = same;
       security = security.front;
@@ -48,15 +49,15 @@ left_behind front middle rest octets e =
 pub shorter : (octets rest left : List ℕ) (channel sequence request : ℕ) (policy certificate thumbprint : Option (List ℕ)) → policy_header.decode octets ≡ Some ((channel, (policy, (certificate, thumbprint))), rest)
     → sequence_header.decode rest ≡ Some ((sequence, request), left) → length left ≤ length octets
 shorter octets rest left channel sequence request policy certificate thumbprint e f =
-    let security = policy_header.exact.sound octets (channel, (policy, (certificate, thumbprint))) rest e in
-    let numbers = sequence_header.exact.sound rest (sequence, request) left f in
+    let security = sound_policy_header.exact.sound octets (channel, (policy, (certificate, thumbprint))) rest e in
+    let numbers = sound_sequence_header.exact.sound rest (sequence, request) left f in
     omega (arith, ap length security.parts, length-append security.front rest, ap length numbers.parts, length-append numbers.front left)
 
 pub headers_at : (octets rest left : List ℕ) (channel sequence request : ℕ) (policy certificate thumbprint : Option (List ℕ)) → policy_header.decode octets ≡ Some ((channel, (policy, (certificate, thumbprint))), rest)
     → true ≡ is_none_policy policy → sequence_header.decode rest ≡ Some ((sequence, request), left) → HeadersAt octets channel sequence request (length octets - length left)
 headers_at octets rest left channel sequence request policy certificate thumbprint e none f =
-    let security : Begins policy_header.encodes octets (channel, (policy, (certificate, thumbprint))) rest = policy_header.exact.sound octets (channel, (policy, (certificate, thumbprint))) rest e in
-    let numbers : Begins sequence_header.encodes rest (sequence, request) left = sequence_header.exact.sound rest (sequence, request) left f in
+    let security : Begins policy_header.encodes octets (channel, (policy, (certificate, thumbprint))) rest = sound_policy_header.exact.sound octets (channel, (policy, (certificate, thumbprint))) rest e in
+    let numbers : Begins sequence_header.encodes rest (sequence, request) left = sound_sequence_header.exact.sound rest (sequence, request) left f in
     let all : octets ≡ security.front ++ (numbers.front ++ left) = security.parts ∙ ap (λ (t : List ℕ). security.front ++ t) numbers.parts in
     record {
       certificate = certificate;

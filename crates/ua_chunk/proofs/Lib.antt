@@ -5,6 +5,7 @@ pub mod Bounds
 pub mod Carried
 pub mod CutLaws
 pub mod Fresh
+pub mod HeadersLawful
 pub mod Interleaved
 pub mod KeptMessages
 pub mod Layouts

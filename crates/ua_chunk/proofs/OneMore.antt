@@ -2,7 +2,8 @@
 use Rattle.std.proofs.Common.{◌≡◌, ℕ, Bool, true, false, cond, not, ◌&&◌, ◌||◌, eqb, List, [], ◌∷◌, ◌++◌, refl, sym, ◌∙◌, ap, subst, append-nil}
 use Rattle.std.proofs.lemmas.Bool.{or_parts, or_from, or_right, and_parts, cond-true, eqb-true, eqb-false, ne_eqb, eq-eqb, not-true, true_from_ne_false}
 use Rattle.std.specs.List.{list_any, filter}
-use Rattle.ua_frame.specs.After.{each_after, each_after-push}
+use Rattle.ua_frame.specs.After.{each_after}
+use Rattle.ua_frame.proofs.Afters.{each_after-push}
 use Rattle.ua_chunk.specs.declared.chunk.Chunk.{Chunk}
 use Rattle.ua_chunk.specs.Delivered.{given, delivered, delivered_behind}
 use Rattle.ua_chunk.specs.Gathered.{is_of, is_more, ends, after_last, unfinished}

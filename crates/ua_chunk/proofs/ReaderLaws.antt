@@ -2,8 +2,8 @@
 use Rattle.std.proofs.Common.{◌≡◌, ℕ, ◌<◌, ◌^◌, Bool, true, false, cond, not, ◌&&◌, ◌||◌, ◌↔◌, eqb, ltb, Option, Some, None, List, [], ◌∷◌, refl, sym, ◌∙◌, ap, subst}
 use Rattle.std.proofs.lemmas.Bool.{or_parts, and_from, eqb-true, lt-ltb, false_from_ne_true}
 use Rattle.std.specs.List.{list_any, filter}
-use Rattle.ua_builtin.specs.Counted.{text, counted}
-use Rattle.ua_builtin.specs.Exact.{some_is}
+use Rattle.ua_octets.specs.Counted.{text, counted}
+use Rattle.ua_octets.proofs.Readers.{some_is}
 use Rattle.ua_builtin.specs.Status.{status_code}
 use Rattle.ua_builtin.specs.declared.status_code.StatusCode.{StatusCode}
 use Rattle.ua_frame.specs.declared.frame.Frame.{Frame}
@@ -16,6 +16,7 @@ use Rattle.ua_chunk.specs.Open.{open_ids}
 use Rattle.ua_chunk.proofs.Carried.{chunk_found}
 use Rattle.ua_chunk.proofs.Lists.{left_any}
 use Rattle.ua_chunk.proofs.OneMore.{not_open}
+use Rattle.ua_chunk.proofs.HeadersLawful.{sound_token_header, sound_sequence_header, sound_abort_body}
 
 -- ---- open ids
 
@@ -66,18 +67,18 @@ frame_of_chunk c channel token sequence request = record {
   security = token_header.canonical (c.channel, c.token);
   sequence = sequence_header.canonical (c.sequence, c.request);
   octets = refl;
-  security_encoded = token_header.canonical_encodes (c.channel, c.token) (and_from (ltb c.channel (256 ^ 4)) (ltb c.token (256 ^ 4)) (lt-ltb c.channel (256 ^ 4) channel) (lt-ltb c.token (256 ^ 4) token));
-  sequence_encoded = sequence_header.canonical_encodes (c.sequence, c.request) (and_from (ltb c.sequence (256 ^ 4)) (ltb c.request (256 ^ 4)) (lt-ltb c.sequence (256 ^ 4) sequence) (lt-ltb c.request (256 ^ 4) request));
+  security_encoded = sound_token_header.canonical_encodes (c.channel, c.token) (and_from (ltb c.channel (256 ^ 4)) (ltb c.token (256 ^ 4)) (lt-ltb c.channel (256 ^ 4) channel) (lt-ltb c.token (256 ^ 4) token));
+  sequence_encoded = sound_sequence_header.canonical_encodes (c.sequence, c.request) (and_from (ltb c.sequence (256 ^ 4)) (ltb c.request (256 ^ 4)) (lt-ltb c.sequence (256 ^ 4) sequence) (lt-ltb c.request (256 ^ 4) request));
 }
 
 -- ---- aborts
 
 pub abort_is_encoded : (b : List ℕ) (a : StatusCode × Option (List ℕ)) → (abort_of b ≡ Some a) ↔ abort_body.encodes a b
-abort_is_encoded b a = (encodes_whole abort_body b a, whole_encodes abort_body b a)
+abort_is_encoded b a = (encodes_whole abort_body sound_abort_body b a, whole_encodes abort_body sound_abort_body b a)
 
 encodable_code : (code : StatusCode) → code.code < 2 ^ 32 → abort_body.encodable (code, None) ≡ true
 unfolding abort_body status_code text counted
 encodable_code code small = and_from (ltb code.code (256 ^ 4)) true (lt-ltb code.code (256 ^ 4) small) refl
 
 pub abort_written : (code : StatusCode) → code.code < 2 ^ 32 → abort_of (abort_body.canonical (code, None)) ≡ Some (code, None)
-abort_written code small = (abort_is_encoded (abort_body.canonical (code, None)) (code, None)).1 (abort_body.canonical_encodes (code, None) (encodable_code code small))
+abort_written code small = (abort_is_encoded (abort_body.canonical (code, None)) (code, None)).1 (sound_abort_body.canonical_encodes (code, None) (encodable_code code small))

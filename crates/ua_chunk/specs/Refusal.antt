@@ -1,7 +1,7 @@
 -- Which chunks are refused, and why: the reasons in the order in which they are judged.
 use Rattle.std.specs.Prelude.{◌≡◌, ◌≤◌, ℕ, ◌==◌, nat_lt, Bool, false, ◌&&◌, not, length, Option, Some, None, List, [], ◌∷◌, ◌++◌}
 use Rattle.ua_frame.specs.After.{AllFrom}
-use Rattle.ua_frame.specs.Reasons.{first_reason}
+use Rattle.ua_builtin.specs.Reasons.{first_reason}
 use Rattle.ua_chunk.specs.declared.chunk.Chunk.{Chunk}
 use Rattle.ua_chunk.specs.declared.fault.AssembleFault.{AssembleFault}
 use Rattle.ua_chunk.specs.declared.fault.AssembleFault.TheVariants.{Sequence, Unreadable, TooManyOpen, MessageTooLarge, TooManyChunks, OutOfMemory, Closed}

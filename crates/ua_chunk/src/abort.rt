@@ -9,18 +9,15 @@ ghost use Rattle.ua_chunk.specs.Layout.{frame_of};
 use crate::lane::Lane;
 use byteorder::{ByteOrder, LittleEndian};
 use std::alloc::{AllocError, Global};
-use ua_builtin::{StatusCode, UaString};
-use ua_frame::{HEADER_LEN, Kind, header_octets, read_whole};
-use ua_octets::{is_text, split_counted, split_number};
-
-/// The count of a null String, -1, as its octets stand for it.
-const NULL_LEN: u32 = u32::MAX;
+use ua_builtin::{StatusCode, UaString, Wire};
+use ua_frame::{HEADER_LEN, Kind, header_octets};
+use ua_octets::{NULL_COUNT, is_text, split_counted, split_number};
 
 /// The status code and the reason that the body of an abort holds, if it is just these.
 pub fn read(alloc: Global, body: &[u8]) -> Result<Option<(StatusCode, UaString)>, AllocError>
     ensures { IfOk result (λ abort. abort ≡ abort_of body.now) }
 {
-    read_whole::<(StatusCode, UaString)>(alloc, body)
+    <(StatusCode, UaString)>::read_whole(alloc, body)
 }
 
 /// Whether the body of an abort reads, found without memory.
@@ -49,7 +46,7 @@ pub fn abort_octets(lane: &Lane, sequence: u32, request: u32, code: StatusCode) 
         sequence,
         request,
         code.code,
-        NULL_LEN,
+        NULL_COUNT,
     ];
     LittleEndian::write_u32_into(&numbers, &mut octets[HEADER_LEN..]);
     octets
