@@ -1,5 +1,5 @@
 -- What is printed of the first frame that a reader finds.
-use Rattle.std.proofs.Common.{◌≡◌, ℕ, ◌-◌, ◌≤◌, List, [], ◌++◌, Err, Some, length, take, drop, refl, sym, ap, ap₂, subst, ◌∙◌, arith, length-take, length-drop, take-append-drop}
+use Rattle.std.proofs.Common.{◌≡◌, ℕ, Bool, true, false, ◌-◌, ◌≤◌, List, [], ◌++◌, Err, Some, length, take, drop, refl, sym, ap, ap₂, subst, ◌∙◌, arith, length-take, length-drop, take-append-drop}
 use Rattle.ua_frame.specs.declared.fault.FrameFault.{FrameFault}
 use Rattle.ua_frame.specs.declared.fault.FrameFault.TheVariants.{UnknownType, OutOfPlace, TooLarge, TooSmall, OutOfMemory, Closed}
 use Rattle.ua_frame.specs.declared.frame.Frame.{Frame}
@@ -9,7 +9,8 @@ use Rattle.ua_frame.proofs.Fronts.{length-frame_octets}
 use Rattle.ua_cli.specs.Dissected.{open_gate, Dissected, PrintsLines}
 use Rattle.ua_cli.specs.Dissected.Dissected.{Refused, Framed}
 use Rattle.ua_cli.specs.Lines.{first_lines, refused_line}
-use Rattle.ua_cli.specs.Printed.{AreLines}
+use Rattle.ua_cli.specs.Digits.{HoldsOctets, IsHex}
+use Rattle.ua_cli.specs.Printed.{AreLines, AreLinesOf}
 
 -- the reader that has no octet yet
 abbrev pub first_reader : Reader
@@ -45,5 +46,17 @@ pub refused : (x y : Reader) (piece : List ℕ) (fault : FrameFault) (code : ℕ
 refused x y piece fault code old new is t e h = refused_first piece fault y code old new (subst (λ (r : Reader). Takes r piece (Err fault) y) is t) e h
 
 -- lines that were added to an empty text
-pub alone : (octets old new : List ℕ) → old ≡ [] → PrintsLines octets old new → AreLines new
-alone octets old new none p = record { octets = octets; dissected = subst (λ t. Dissected octets t) (sym (p.added ∙ ap (λ t. t ++ p.lines) none)) p.dissected }
+pub alone : (octets old new : List ℕ) → old ≡ [] → PrintsLines octets old new → Dissected octets new
+alone octets old new none p = subst (λ t. Dissected octets t) (sym (p.added ∙ ap (λ t. t ++ p.lines) none)) p.dissected
+
+-- lines of a file's content
+pub of_octets : (hex : Bool) (content text : List ℕ) → hex ≡ false → Dissected content text → AreLinesOf hex content text
+of_octets hex content text plain lines = record { octets = content; holds = subst (λ b. HoldsOctets b content content) (sym plain) refl; dissected = lines }
+
+-- lines of the octets that its digits stand for
+pub of_digits : (hex : Bool) (content digits octets text : List ℕ) → hex ≡ true → IsHex content digits → octets ≡ digits → Dissected octets text → AreLinesOf hex content text
+of_digits hex content digits octets text asked is same lines = record { octets = octets; holds = subst (λ b. HoldsOctets b content octets) (sym asked) (subst (λ o. IsHex content o) (sym same) is); dissected = lines }
+
+-- they are the lines of some octets
+pub of_some : (hex : Bool) (content text : List ℕ) → AreLinesOf hex content text → AreLines text
+of_some hex content text l = record { octets = l.octets; dissected = l.dissected }

@@ -1,7 +1,14 @@
--- What a run leaves on a stream.
-use Rattle.std.specs.Prelude.{ℕ, List, Option}
+-- What the program prints of a file, and what a run leaves on a stream.
+use Rattle.std.specs.Prelude.{ℕ, Bool, List, Option}
 use Rattle.std.specs.Io.KnownBytes.{Appends}
+use Rattle.ua_cli.specs.Digits.{HoldsOctets}
 use Rattle.ua_cli.specs.Dissected.{Dissected}
+
+-- the text is the lines of the octets that a file with this content holds, with `--hex` or without
+pub record AreLinesOf (hex : Bool) (content text : List ℕ) : Type 0 where
+  pub octets : List ℕ
+  pub holds : HoldsOctets hex content octets
+  pub dissected : Dissected octets text
 
 -- the text is the lines of some stream of octets
 pub record AreLines (text : List ℕ) : Type 0 where

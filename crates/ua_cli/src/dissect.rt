@@ -1,10 +1,16 @@
-//! The first frame of a stream, as a line.
+//! The lines of a file of octets: its first frame, and what stands behind it.
 
-ghost use Rattle.std.specs.Prelude.{◌≡◌, ◌+◌, ◌<◌, ◌^◌, ◌++◌, option_map, string_bytes, OnOk};
+ghost use Rattle.std.specs.Prelude.{◌≡◌, ◌⊎◌, ◌+◌, ◌<◌, ◌^◌, ◌++◌, option_map, string_bytes, IfOk, IfErr, OnOk};
 ghost use Rattle.ua_frame.specs.Whole.{whole_of};
-ghost use Rattle.ua_cli.specs.Dissected.{PrintsLines, open_gate};
+ghost use Rattle.ua_cli.specs.Dissected.{Dissected, PrintsLines, open_gate};
+ghost use Rattle.ua_cli.specs.Printed.{AreLinesOf};
+ghost use Rattle.ua_cli.specs.Digits.{HoldsNone};
+ghost use Rattle.ua_cli.specs.declared.fault.Fault.TheVariants.{NoMemory, NotHexadecimal};
 ghost use Rattle.ua_cli.specs.Lines.{first_lines, last_line, line_and_rest, refused_line};
 
+use crate::arguments::Dissect;
+use crate::fault::Fault;
+use crate::input::decode_hex;
 use crate::line::MessageLine;
 use std::alloc::{AllocError, Global};
 use std::fmt::Write;
@@ -13,6 +19,34 @@ use ua_frame::{Ack, Body, ErrorFrame, Frame, FrameReader, Gate, Hello, Kind, rea
 
 /// The most octets of a frame.
 const LARGEST: u32 = 16777216;
+
+/// The lines of a file with this content, which holds octets, or with `--hex` their hexadecimal
+/// digits.
+pub fn dissect_content<'a>(
+    alloc: Global,
+    asked: &Dissect<'a>,
+    content: &[u8],
+) -> Result<String, Fault<'a>>
+    ensures lines { IfOk result (λ text. AreLinesOf asked.now.hex content.now (string_bytes text)) }
+    ensures faults { IfErr result (λ fault. (fault ≡ NoMemory)
+        ⊎ ((fault ≡ NotHexadecimal asked.now.file) × HoldsNone asked.now.hex content.now)) }
+{
+    if asked.hex {
+        let octets = decode_hex(alloc, asked.file, content)?;
+        Ok(lines_of(alloc, octets.as_slice())?)
+    } else {
+        Ok(lines_of(alloc, content)?)
+    }
+}
+
+/// The lines of a stream.
+fn lines_of(alloc: Global, octets: &[u8]) -> Result<String, AllocError>
+    ensures { IfOk result (λ text. Dissected octets.now (string_bytes text)) }
+{
+    let mut text = String::new(alloc);
+    dissect_first(alloc, octets, &mut text)?;
+    Ok(text)
+}
 
 /// Adds the lines of a stream: that of its first frame, if this is a HEL, an ACK or an ERR, and
 /// what stands behind it.

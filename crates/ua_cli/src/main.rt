@@ -16,8 +16,16 @@ mod text;
 use std::process::ExitCode;
 use std::{env, io};
 
-fn main(rt: HostRuntime) -> io::Result<ExitCode> {
-    let words: Vec<String> = env::args(&rt)?.collect(rt.alloc())?;
-    let status = run::run(&rt, words.as_slice(), &mut rt.stdout(), &mut rt.stderr());
-    Ok(ExitCode::from(status))
+fn main(rt: HostRuntime) -> ExitCode {
+    let mut err = rt.stderr();
+    let status = match words_of(&rt) {
+        Ok(words) => run::run(&rt, words.as_slice(), &mut rt.stdout(), &mut err),
+        Err(error) => run::refuse_words(&error, &mut err),
+    };
+    ExitCode::from(status)
+}
+
+/// The words of the command line, of which the first is the program's name.
+fn words_of(rt: &HostRuntime) -> io::Result<Vec<String>> {
+    Ok(env::args(rt)?.collect(rt.alloc())?)
 }

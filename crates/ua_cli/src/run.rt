@@ -2,12 +2,14 @@
 
 ghost use Rattle.std.specs.Prelude.{◌≡◌, ◌≤◌, ◌≢◌, ◌⊎◌, string_bytes, IfOk, OnOk};
 ghost use Rattle.std.specs.Io.KnownBytes.{Appends};
+ghost use Rattle.std.specs.IoError.{error_kind};
+ghost use Rattle.std.specs.declared.io.ErrorKind.TheVariants.{OutOfMemory};
 ghost use Rattle.ua_cli.specs.Printed.{AreLines, HasPrinted};
 
 use crate::arguments::{self, Dissect, Request};
-use crate::dissect::dissect_first;
+use crate::dissect::dissect_content;
 use crate::fault::Fault;
-use crate::input::{decode_hex, read_file};
+use crate::input::read_file;
 use clap::error::ErrorKind;
 use std::convert::AsStr;
 use std::io;
@@ -56,13 +58,20 @@ pub fn run<S: AsStr, R: Files + AllocGlobal, O: Write, E: Write>(
 fn dissect<'a, R: Files + AllocGlobal>(rt: &R, asked: &Dissect<'a>) -> Result<String, Fault<'a>>
     ensures { IfOk result (λ text. AreLines (string_bytes text)) }
 {
-    let mut octets = read_file(rt, asked.file)?;
-    if asked.hex {
-        octets = decode_hex(rt.alloc(), asked.file, octets.as_slice())?;
+    let content = read_file(rt, asked.file)?;
+    dissect_content(rt.alloc(), asked, content.as_slice())
+}
+
+/// Tells why the words of the command line could not be gathered. The status is 2 where a word is
+/// not UTF-8, and 1 where memory was refused or `err` fails.
+pub fn refuse_words<E: Write>(error: &io::Error, err: &mut E) -> u8
+    ensures status { (result ≡ 1) ⊎ (result ≡ 2) }
+    ensures memory { error_kind error.now ≡ OutOfMemory → result ≡ 1 }
+{
+    match error.kind() {
+        io::ErrorKind::OutOfMemory => print(err, "ua: no memory\n", 1),
+        _ => print(err, "ua: a word is not UTF-8\n", 2),
     }
-    let mut text = String::new(rt.alloc());
-    dissect_first(rt.alloc(), octets.as_slice(), &mut text)?;
-    Ok(text)
 }
 
 /// Writes a text: the status that follows, or 1 where the writer fails.

@@ -1,6 +1,6 @@
 //! What `ua` prints, and its statuses: no clause speaks of them.
 
-use crate::run::run;
+use crate::run::{refuse_words, run};
 use std::io::Write;
 use std::process::Abort;
 use std::rt::Files;
@@ -214,6 +214,22 @@ fn refuses_words_that_do_not_parse(rt: HostRuntime) -> Result<(), Fail> {
         assert_eq!(rt; status, 2);
         assert!(rt; out.is_empty());
         assert!(rt; !err.is_empty());
+    }
+    Ok(())
+}
+
+#[test]
+fn tells_why_it_has_no_words(rt: HostRuntime) -> Result<(), Fail> {
+    let rows = [
+        (io::ErrorKind::OutOfMemory, "ua: no memory\n", 1),
+        (io::ErrorKind::InvalidData, "ua: a word is not UTF-8\n", 2),
+    ];
+    for (kind, want, status) in rows {
+        let error = io::Error::from(kind);
+        let mut err = Vec::new(rt.alloc());
+        assert_eq!(rt; refuse_words(&error, &mut err), status);
+        assert_eq!(rt; err.as_slice(), want.as_bytes());
+        assert_eq!(rt; refuse_words(&error, &mut Broken), 1);
     }
     Ok(())
 }

@@ -1,5 +1,6 @@
-use Rattle.ua_cli.proofs.Firsts.{alone}
+use Rattle.std.proofs.lemmas.Result.{IfOk-weaker}
+use Rattle.ua_cli.proofs.Firsts.{of_some}
 use Rattle.ua_cli.proofs.run.dissect.Goals as goal
 
 pub returns : goal.returns
-returns g c = alone _ _ _ c.new-text.ensures.bytes c.in_ok-dissect_first.ensures
+returns g c = IfOk-weaker c.dissect_content.result _ _ (λ text lines. of_some _ _ _ lines) c.dissect_content.ensures.lines
