@@ -2,6 +2,18 @@
 //!
 //! Its contract is that of [`Wire`]: `read` takes just the front that encodes a value, answers
 //! `NoValue` only where no front encodes one, and `write` adds the one canonical encoding.
+//!
+//! ```
+//! let pump = NodeId::parse_text(alloc, "ns=1;s=Pump")?;
+//! let mut out = Vec::new(alloc);
+//! pump.write(&mut out)?; // 03 01 00 04 00 00 00 and `Pump`
+//! let mut src = Octets::new(out.as_slice());
+//! let same = NodeId::read(alloc, &mut src, MOST_LEVELS)?;
+//! let equal = same == pump; // true: they mean the same
+//! let text = same.to_text(alloc)?; // `ns=1;s=Pump` again
+//! let now = DateTime { ticks: 116_444_736_000_000_000 }; // 1970-01-01
+//! now.write(&mut out)?;
+//! ```
 #![tactic(auto)]
 
 mod date_time;

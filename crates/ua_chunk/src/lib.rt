@@ -3,6 +3,16 @@
 //!
 //! Its contract is that of [`Assembler`]: whatever chunks came, what is handed out is what their list
 //! delivers, each message at its last chunk, whole and once, and a refusal is the first reason that holds.
+//!
+//! ```
+//! let mut assembler = Assembler::new(alloc, most_octets, most_chunks, last_number);
+//! match assembler.accept(read_chunk(frame))? {
+//!     Some(Delivered::Whole(request, message)) => read(request, &mut message.source()),
+//!     Some(Delivered::Aborted(request, code, reason)) => give_up(request, code, reason),
+//!     None => {} // more chunks of the message are to come
+//! }
+//! let next = cut(&lane, &body, number, request, &mut out)?; // the number after its chunks
+//! ```
 #![tactic(auto)]
 
 mod abort;

@@ -3,6 +3,19 @@
 //!
 //! Its contract is that of [`FrameReader::take`]: the frames of the octets so far, each once and in
 //! order, or the first thing wrong with a header, as soon as its eight octets are there.
+//!
+//! ```
+//! let gate = Gate::new(65535).taking(Kind::Msg).taking(Kind::Clo);
+//! let mut reader = FrameReader::new(alloc, gate);
+//! let mut rest = piece;
+//! while !rest.is_empty() {
+//!     let (size, frame) = reader.take(rest)?; // after a fault it answers `Closed`
+//!     rest = &rest[size..];
+//!     if let Some(frame) = frame {
+//!         frames.push(frame)?; // whole, and of a size that the gate takes
+//!     }
+//! }
+//! ```
 #![tactic(auto)]
 
 mod ack;

@@ -1,5 +1,14 @@
 //! The node table of a server: nodes with their values, node files, and the items of Read and Write
 //! (OPC 10000-4, 5.11).
+//!
+//! ```
+//! let mut table = NodeTable::load(alloc, "ns=1;s=Pump\trw\tPump\tInt32\t5\n")?;
+//! let node = NodeId::parse_text(alloc, "ns=1;s=Pump")?;
+//! let item = ReadValueId::of_value(node);
+//! let answer = table.read_item(alloc, &item, Stamps::Both, moment)?; // good or refused
+//! let mut statuses = Vec::with_capacity(alloc, items.len())?; // room is the caller's
+//! table.write_items(items, moment, &mut statuses); // takes no memory, cannot fail
+//! ```
 #![tactic(auto)]
 
 mod fault;

@@ -4,6 +4,19 @@
 //!
 //! Its contract is that of [`Wire`]: `read` takes just the front that encodes a value, answers
 //! `NoValue` only where no front encodes one, and `write` adds the one canonical encoding.
+//!
+//! ```
+//! let mut src = Octets::new(&octets);
+//! let name = UaString::read(alloc, &mut src, MOST_LEVELS)?; // takes just the octets of the value
+//! let size = u32::read(alloc, &mut src, MOST_LEVELS)?; // what stands behind it
+//! if src.left() != 0 {
+//!     return Err(ReadFault::NoValue); // more than these two: for the caller to refuse
+//! }
+//! let mut out = Vec::new(alloc);
+//! name.write(&mut out)?; // adds its one canonical encoding
+//! size.write(&mut out)?;
+//! let again = <(UaString, u32)>::read_whole(alloc, &out)?; // `Some` of the two
+//! ```
 #![tactic(auto)]
 
 mod boolean;

@@ -4,6 +4,17 @@
 //! Its contract is that of `Wire` for DiagnosticInfo, over the relation `EncodesDiagnostic`, with
 //! exact `depth`, `count`, `writable` and `try_clone`; `Dimensions` and the functions of `field`
 //! are for the crate above, which reads and writes Variants and DataValues with them.
+//!
+//! ```
+//! let mut src = Octets::new(&octets);
+//! let info = DiagnosticInfo::read(alloc, &mut src, MOST_LEVELS)?;
+//! let levels = info.depth(); // one more than those of the info within
+//! let copy = info.try_clone(alloc)?;
+//! if copy.writable() {
+//!     copy.write(&mut out)?; // a mask, and the fields that are there
+//! }
+//! let sizes = Dimensions::none(alloc); // of an array without dimensions
+//! ```
 #![tactic(auto)]
 
 mod diagnostic_info;

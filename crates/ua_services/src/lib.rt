@@ -4,6 +4,17 @@
 //! The contract of the readers: Ok only for a body that is the encoding of one message, of at most
 //! 100 levels, with nothing behind it; every other body is refused by the fault that names why.
 //! Writers add the one canonical encoding, and `laws` says that reading gives back what was written.
+//!
+//! ```
+//! match read_request(alloc, &mut src) {
+//!     Ok(Request::Read(read)) => answer_read(read),
+//!     Ok(request) => answer(request.kind(), request.header()),
+//!     Err(RequestFault::Unsupported(handle)) => no_service(handle),
+//!     Err(RequestFault::Unreadable(handle)) => no_request(handle),
+//!     Err(RequestFault::OutOfMemory) => no_memory(),
+//! }
+//! write_response(&response, &mut out)?; // the body of a message; an error leaves `out` as it was
+//! ```
 #![tactic(auto)]
 
 mod fault;

@@ -2,6 +2,18 @@
 //! (OPC 10000-6, 5.2.5 and 5.2.6; OPC 10000-4, 5 and 7).
 //!
 //! A structure is its fields in order, and its contract is that of [`ua_builtin::Wire`].
+//!
+//! ```
+//! let header = RequestHeader::new(token, moment, handle);
+//! let item = ReadValueId::of_value(node);
+//! let request = ReadRequest::of_item(alloc, header, item)?;
+//! request.write(&mut out)?; // its fields in order
+//! let mut src = Octets::new(out.as_slice());
+//! let read = ReadRequest::read(alloc, &mut src, MOST_LEVELS)?;
+//! for item in read.nodes_to_read.as_items().unwrap_or(&[]) {
+//!     // null and no items differ: `as_items` is `None` for null
+//! }
+//! ```
 #![tactic(auto)]
 
 mod array;

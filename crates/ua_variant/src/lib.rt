@@ -4,6 +4,21 @@
 //! Its contract is that of `Wire` for the three, over the relations `EncodesVariant`,
 //! `EncodesDataValue` and `EncodesDiagnostic`, and exact `depth`, `count`, `writable` and
 //! `try_clone`. Values hold no pointers or capacities in a contract, so `≡` is equality of values.
+//!
+//! ```
+//! let five = Variant::One(Scalar::Int32(5));
+//! let answer = DataValue {
+//!     value: Some(BoxedVariant::new(alloc, five)?),
+//!     status: None,
+//!     source_timestamp: None,
+//!     source_picoseconds: None,
+//!     server_timestamp: None,
+//!     server_picoseconds: None,
+//! };
+//! answer.write(&mut out)?; // 01 06 05 00 00 00
+//! let read = DataValue::read(alloc, &mut Octets::new(out.as_slice()), MOST_LEVELS)?;
+//! let levels = read.depth(); // 2: the DataValue, and the Variant within
+//! ```
 #![tactic(auto)]
 
 mod clone;
