@@ -80,6 +80,14 @@ pub sizes_more : (ds : List ℤ) (d : ℤ) (m n : ℕ) (old new : List ℕ) → 
 sizes_more ds d m n old new e h =
     ap (λ k. with_sizes ds (sizes_at k old)) e ∙ ap (λ r. with_sizes ds (r >>= λ d. sizes_at n d.1 >>= λ ds. Some (d.0 ∷ ds.0, ds.1))) h ∙ sizes_push ds d (sizes_at n new)
 
+-- one more dimension, as a loop over so many of them meets it
+pub sizes_so_far : {one : List ℤ} {e : ℤ} (ds : List ℤ) (d : ℤ) (count counter : ℕ) (start old new : List ℕ) → counter < count → one ≡ ds ++ e ∷ [] → e ≡ d → size_at old ≡ Some (d, new) → with_sizes ds (sizes_at (count - counter) old) ≡ sizes_at count start
+    → with_sizes one (sizes_at (count - (counter + 1)) new) ≡ sizes_at count start
+sizes_so_far {one} {e} ds d count counter start old new lt pushed same read before =
+    let here : with_sizes ds (sizes_at (count - counter) old) ≡ with_sizes (ds ++ d ∷ []) (sizes_at (count - (counter + 1)) new) = sizes_more ds d (count - counter) (count - (counter + 1)) old new (omega arith) read in
+    let is : one ≡ ds ++ d ∷ [] = pushed ∙ ap (λ (x : ℤ). ds ++ x ∷ []) same in
+    ap (λ (xs : List ℤ). with_sizes xs (sizes_at (count - (counter + 1)) new)) is ∙ sym here ∙ before
+
 pub sizes_stop : (ds : List ℤ) (m n : ℕ) (old : List ℕ) → m ≡ suc n → size_at old ≡ None → with_sizes ds (sizes_at m old) ≡ None
 sizes_stop ds m n old e h = ap (λ k. with_sizes ds (sizes_at k old)) e ∙ ap (λ r. with_sizes ds (r >>= λ d. sizes_at n d.1 >>= λ ds. Some (d.0 ∷ ds.0, ds.1))) h
 

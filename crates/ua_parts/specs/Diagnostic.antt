@@ -69,11 +69,11 @@ EncodesDiagnostic (around f d) b = Masked 127 (λ m c. (has m 64 ≡ true) × Jo
 -- ---- which can be written, and how
 
 -- the flags of the fields that are there (OPC 10000-6, 5.2.2.12)
-abbrev pub diagnostic_flags : DiagnosticFields → ℕ
+unfoldable pub diagnostic_flags : DiagnosticFields → ℕ
 diagnostic_flags f = flag_bit 1 (is_some f.symbolic_id) + flag_bit 2 (is_some f.namespace_uri) + flag_bit 4 (is_some f.localized_text) + flag_bit 8 (is_some f.locale) + flag_bit 16 (is_some f.additional_info) + flag_bit 32 (is_some f.inner_status_code)
 
 -- each field that is there can be written
-abbrev pub diagnostic_fields_encodable : DiagnosticFields → Bool
+unfoldable pub diagnostic_fields_encodable : DiagnosticFields → Bool
 diagnostic_fields_encodable f = optional_fits (signed w32).encodable f.symbolic_id && (optional_fits (signed w32).encodable f.namespace_uri && (optional_fits (signed w32).encodable f.locale && (optional_fits (signed w32).encodable f.localized_text && ((flagged_text (is_some f.additional_info)).encodable f.additional_info && optional_fits status_code_format.encodable f.inner_status_code))))
 
 -- each field that is there can be written, at every level
@@ -86,7 +86,7 @@ abbrev pub diagnostic_encodable : DiagnosticData → Bool
 diagnostic_encodable d = leb (diagnostic_depth d) 100 && diagnostic_fits d
 
 -- the octets that are written for the fields, behind the mask
-abbrev pub diagnostic_fields_canonical : DiagnosticFields → List ℕ
+unfoldable pub diagnostic_fields_canonical : DiagnosticFields → List ℕ
 diagnostic_fields_canonical f =
     let number = optional_canonical (signed w32).canonical in
     number f.symbolic_id ++ (number f.namespace_uri ++ (number f.locale ++ (number f.localized_text ++ ((flagged_text (is_some f.additional_info)).canonical f.additional_info ++ optional_canonical status_code_format.canonical f.inner_status_code))))

@@ -81,6 +81,7 @@ abbrev pub diagnostic_mask : DiagnosticFields → ℕ → ℕ
 diagnostic_mask f v = diagnostic_flags f + 64 * v
 
 diagnostic_sum : (f : DiagnosticFields) → diagnostic_flags f ≡ there f.symbolic_id + 2 * there f.namespace_uri + 4 * there f.localized_text + 8 * there f.locale + 16 * there f.additional_info + 32 * there f.inner_status_code
+unfolding diagnostic_flags
 diagnostic_sum f = omega (arith, bit_is 1 f.symbolic_id, bit_is 2 f.namespace_uri, bit_is 4 f.localized_text, bit_is 8 f.locale, bit_is 16 f.additional_info, bit_is 32 f.inner_status_code)
 
 -- a seventh bit above six
@@ -99,7 +100,7 @@ pub diagnostic_mask_inner : (f : DiagnosticFields) (v : ℕ) → v ≤ 1 → has
 diagnostic_mask_inner f v h = has_bit (diagnostic_mask f v) 6 ∙ ap (λ (r : ℕ). eqb r 1) (seventh (diagnostic_mask f v) (diagnostic_flags f) v (low_bits f).6 h refl).6
 
 pub diagnostic_fields_encodable_as : (f : DiagnosticFields) (v : ℕ) → v ≤ 1 → (diagnostic_fields (diagnostic_mask f v)).encodable f ≡ diagnostic_fields_encodable f
-unfolding diagnostic_fields
+unfolding diagnostic_fields diagnostic_fields_encodable
 diagnostic_fields_encodable_as f v h =
     let m = diagnostic_mask f v in
     let b = low_bits f in
@@ -119,7 +120,7 @@ mask_text f v h = flag_there 4 (diagnostic_mask f v) f.additional_info ((seventh
 
 -- the flag of the text alone decides what is written for the fields
 canonical_by : (m : ℕ) (f : DiagnosticFields) → has m 16 ≡ is_some f.additional_info → (diagnostic_fields m).canonical f ≡ diagnostic_fields_canonical f
-unfolding diagnostic_fields
+unfolding diagnostic_fields diagnostic_fields_canonical
 canonical_by m f e =
     let number = optional_canonical (signed w32).canonical in
     ap (λ (t : Bool). number f.symbolic_id ++ (number f.namespace_uri ++ (number f.locale ++ (number f.localized_text ++ ((flagged_text t).canonical f.additional_info ++ optional_canonical status_code_format.canonical f.inner_status_code))))) e

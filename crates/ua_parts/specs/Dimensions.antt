@@ -1,5 +1,5 @@
 -- The dimensions of an array: Int32 numbers behind their count (OPC 10000-6, 5.2.2.16).
-use Rattle.std.specs.Prelude.{◌≡◌, ℕ, suc, zero, ◌*◌, ◌⊎◌, Bool, true, false, cond, ◌&&◌, ◌||◌, leb, eqb, List, [], ◌∷◌, ◌++◌, length, Option, Some}
+use Rattle.std.specs.Prelude.{◌≡◌, ℕ, suc, zero, ◌*◌, ◌^◌, ◌<◌, ◌⊎◌, Bool, true, false, cond, ◌&&◌, ◌||◌, leb, eqb, List, [], ◌∷◌, ◌++◌, length, Option, Some}
 use lib.IntN.{ℤ, pos, negsuc}
 use Rattle.std.specs.Int.RustNames.{unsigned_abs}
 use Rattle.ua_builtin.specs.Exact.{◌>>=◌}
@@ -101,3 +101,11 @@ no_dims_at f octets = cond f (number_at 4 octets >>= λ m. when (is_none_count m
 -- what was read, with these dimensions in front of it
 abbrev pub with_sizes : List ℤ → Option (List ℤ × List ℕ) → Option (List ℤ × List ℕ)
 with_sizes ds r = r >>= λ x. Some (ds ++ x.0, x.1)
+
+-- a count of dimensions that is not negative, and behind it fewer octets than as many dimensions take, which are 4 each
+pub record IsOverlongDims (octets : List ℕ) : Type 0 where
+  pub count : ℕ
+  pub rest : List ℕ
+  pub begins : number_at 4 octets ≡ Some (count, rest)
+  pub positive : count < 2 ^ 31
+  pub beyond : length rest < 4 * count

@@ -182,6 +182,7 @@ fn diagnostic_fits_in(value: &DiagnosticInfo) -> bool
 }
 
 /// Whether the fields can be written, but the inner info.
+#[tactic(auto, unfolding(crate::specs::Diagnostic::diagnostic_fields_encodable))]
 fn fields_fit(value: &DiagnosticInfo) -> bool
     ensures { result ≡ diagnostic_fields_encodable (diagnostic_fields_of value.now) }
 {

@@ -6,15 +6,15 @@ ghost use Rattle.ua_builtin.specs.Flags.{flagged_text};
 ghost use Rattle.ua_builtin.specs.Format.{Gives, GivesBy, StaysBehind, Extends};
 ghost use Rattle.ua_builtin.specs.Signed.{signed};
 ghost use Rattle.ua_builtin.specs.Status.{status_code};
-ghost use Rattle.ua_parts.specs.Parts.{optional_read, optional_fits};
-ghost use Rattle.ua_parts.specs.Diagnostic.{diagnostic_at, diagnostic_step, diagnostic_flags, diagnostic_fits, diagnostic_fields_canonical, diagnostic_canonical};
+ghost use Rattle.ua_parts.specs.Parts.{optional_read, optional_fits, optional_canonical};
+ghost use Rattle.ua_parts.specs.Diagnostic.{diagnostic_at, diagnostic_step, diagnostic_flags, diagnostic_fits, diagnostic_fields_encodable, diagnostic_fields_canonical, diagnostic_canonical};
 ghost use Rattle.ua_parts.specs.View.{diagnostic_of, diagnostic_fields_of};
 
 use crate::diagnostic_info::{BoxedDiagnostic, DiagnosticInfo};
-use crate::field::{append_field, read_field};
+use crate::field::{append_field, append_three, read_field};
 use std::alloc::{AllocError, Global};
 use ua_builtin::flags::{append_flagged, flag_of, read_flagged};
-use ua_builtin::{ReadFault, Source, Wire};
+use ua_builtin::{ReadFault, Source, StatusCode, UaString, Wire};
 
 const SYMBOLIC_ID: u8 = 0x01;
 
@@ -129,6 +129,7 @@ fn read_inner<S: Source>(
 }
 
 /// The flags of the fields that are there, but the inner info.
+#[tactic(auto, unfolding(crate::specs::Diagnostic::diagnostic_flags))]
 fn mask_of(value: &DiagnosticInfo) -> u8
     ensures value { result ≡ diagnostic_flags (diagnostic_fields_of value.now) }
     ensures within { result ≤ 63 }
@@ -142,23 +143,37 @@ fn mask_of(value: &DiagnosticInfo) -> u8
 }
 
 /// Adds the fields that are there, but the inner info.
+#[tactic(auto, unfolding(crate::specs::Diagnostic::diagnostic_fields_canonical))]
 fn append_fields(value: &DiagnosticInfo, out: &mut Vec<u8>) -> Result<(), AllocError>
-    requires symbolic_id { IsTrue (optional_fits (signed w32).encodable value.now.symbolic_id) }
-    requires namespace_uri { IsTrue (optional_fits (signed w32).encodable value.now.namespace_uri) }
-    requires locale { IsTrue (optional_fits (signed w32).encodable value.now.locale) }
-    requires localized_text { IsTrue (optional_fits (signed w32).encodable value.now.localized_text) }
-    requires additional_info { IsTrue ((flagged_text (is_some value.now.additional_info)).encodable value.now.additional_info) }
-    requires inner_status_code { IsTrue (optional_fits status_code.encodable value.now.inner_status_code) }
+    requires { diagnostic_fields_encodable (diagnostic_fields_of value.now) ≡ true }
     ensures ok { OnOk result (out.new.items ≡ out.old.items ++ diagnostic_fields_canonical (diagnostic_fields_of value.now)) }
     ensures err { OnErr result (Extends out.old.items out.new.items) }
 {
-    append_field(&value.symbolic_id, out)?;
-    append_field(&value.namespace_uri, out)?;
-    append_field(&value.locale, out)?;
-    append_field(&value.localized_text, out)?;
-    append_flagged(&value.additional_info, out)?;
-    append_field(&value.inner_status_code, out)?;
-    Ok(())
+    append_three(&value.symbolic_id, &value.namespace_uri, &value.locale, out)?;
+    append_texts(
+        &value.localized_text,
+        &value.additional_info,
+        &value.inner_status_code,
+        out,
+    )
+}
+
+/// Adds the last three of these fields, where they are there.
+fn append_texts(
+    localized_text: &Option<i32>,
+    additional_info: &UaString,
+    inner_status_code: &Option<StatusCode>,
+    out: &mut Vec<u8>,
+) -> Result<(), AllocError>
+    requires localized_text { IsTrue (optional_fits (signed w32).encodable localized_text.now) }
+    requires additional_info { IsTrue ((flagged_text (is_some additional_info.now)).encodable additional_info.now) }
+    requires inner_status_code { IsTrue (optional_fits status_code.encodable inner_status_code.now) }
+    ensures ok { OnOk result (out.new.items ≡ out.old.items ++ (optional_canonical (signed w32).canonical localized_text.now ++ ((flagged_text (is_some additional_info.now)).canonical additional_info.now ++ optional_canonical status_code.canonical inner_status_code.now))) }
+    ensures err { OnErr result (Extends out.old.items out.new.items) }
+{
+    append_field(localized_text, out)?;
+    append_flagged(additional_info, out)?;
+    append_field(inner_status_code, out)
 }
 
 /// Adds the canonical encoding of a DiagnosticInfo whose fields can be written.
@@ -167,17 +182,10 @@ pub fn append_diagnostic(value: &DiagnosticInfo, out: &mut Vec<u8>) -> Result<()
     ensures ok { OnOk result (out.new.items ≡ out.old.items ++ diagnostic_canonical (diagnostic_of value.now)) }
     ensures err { OnErr result (Extends out.old.items out.new.items) }
 {
-    let mask = mask_of(value);
+    out.push(mask_of(value) + flag_of(INNER, value.inner.is_some()))?;
+    append_fields(value, out)?;
     match &value.inner {
-        None => {
-            out.push(mask)?;
-            append_fields(value, out)?;
-        }
-        Some(inner) => {
-            out.push(mask + INNER)?;
-            append_fields(value, out)?;
-            append_diagnostic(inner.get(), out)?;
-        }
+        None => Ok(()),
+        Some(inner) => append_diagnostic(inner.get(), out),
     }
-    Ok(())
 }

@@ -1,8 +1,9 @@
 //! The dimensions of an array (OPC 10000-6, 5.2.2.16).
 
-ghost use Rattle.std.specs.Prelude.{◌≡◌, ◌<◌, ◌++◌, true, min, IfOk, OnOk, OnErr, []};
+ghost use Rattle.std.specs.Prelude.{◌≡◌, ◌<◌, ◌*◌, ◌++◌, true, min, length, IsTrue, IfOk, OnOk, OnErr, IsErrOf, []};
 ghost use Rattle.ua_builtin.specs.Format.{Gives, GivesBy, StaysBehind, Extends};
-ghost use Rattle.ua_parts.specs.Dimensions.{product, is_count, are_sizes, dims_encodable, dims_canonical, sizes_canonical, size_at, sizes_at, dims_at, no_dims_at};
+ghost use Rattle.ua_octets.specs.declared.fault.ReadFault.TheVariants.{NoValue};
+ghost use Rattle.ua_parts.specs.Dimensions.{product, is_count, are_sizes, dims_encodable, dims_canonical, sizes_canonical, size_at, sizes_at, dims_at, no_dims_at, IsOverlongDims};
 
 use std::alloc::{AllocError, Global};
 use std::marker::Model;
@@ -123,6 +124,7 @@ pub fn read_dims<S: Source>(
     requires { elements < 2147483648 }
     ensures exact { Gives (dims_at set elements) (S.octets src.old) (S.octets src.new) result }
     ensures behind { StaysBehind (S.octets src.old) (S.octets src.new) }
+    ensures long { IsTrue set → IsOverlongDims (S.octets src.old) → IsErrOf result NoValue }
 {
     if !set {
         return Ok(Dimensions::none(alloc));
@@ -162,6 +164,7 @@ pub fn read_no_dims<S: Source>(
 fn read_sizes<S: Source>(alloc: Global, src: &mut S, count: u32) -> Result<Vec<i32>, ReadFault>
     ensures exact { GivesBy (λ v. v.items) (sizes_at count) (S.octets src.old) (S.octets src.new) result }
     ensures behind { StaysBehind (S.octets src.old) (S.octets src.new) }
+    ensures long { length (S.octets src.old) < 4 * count → IsErrOf result NoValue }
 {
     if src.left() / 4 < count as usize {
         return Err(ReadFault::NoValue);

@@ -68,3 +68,35 @@ pub fn append_field<T: Wire>(field: &Option<T>, out: &mut Vec<u8>) -> Result<(),
         Some(x) => x.append(out),
     }
 }
+
+/// Adds two fields, where they are there.
+pub fn append_two<A: Wire, B: Wire>(
+    first: &Option<A>,
+    second: &Option<B>,
+    out: &mut Vec<u8>,
+) -> Result<(), AllocError>
+    requires first { IsTrue (optional_fits A.format.encodable first.now) }
+    requires second { IsTrue (optional_fits B.format.encodable second.now) }
+    ensures ok { OnOk result (out.new.items ≡ out.old.items ++ (optional_canonical A.format.canonical first.now ++ optional_canonical B.format.canonical second.now)) }
+    ensures err { OnErr result (Extends out.old.items out.new.items) }
+{
+    append_field(first, out)?;
+    append_field(second, out)
+}
+
+/// Adds three fields, where they are there.
+pub fn append_three<A: Wire, B: Wire, C: Wire>(
+    first: &Option<A>,
+    second: &Option<B>,
+    third: &Option<C>,
+    out: &mut Vec<u8>,
+) -> Result<(), AllocError>
+    requires first { IsTrue (optional_fits A.format.encodable first.now) }
+    requires second { IsTrue (optional_fits B.format.encodable second.now) }
+    requires third { IsTrue (optional_fits C.format.encodable third.now) }
+    ensures ok { OnOk result (out.new.items ≡ out.old.items ++ (optional_canonical A.format.canonical first.now ++ (optional_canonical B.format.canonical second.now ++ optional_canonical C.format.canonical third.now))) }
+    ensures err { OnErr result (Extends out.old.items out.new.items) }
+{
+    append_field(first, out)?;
+    append_two(second, third, out)
+}

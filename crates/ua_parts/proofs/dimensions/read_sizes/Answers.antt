@@ -1,8 +1,7 @@
-use Rattle.std.proofs.Common.{◌-◌, ◌+◌, ◌++◌, ◌∷◌, [], ap, sym, ◌∙◌, arith, rules, w32, ℤ, FitsSigned, Vec, Global}
+use Rattle.std.proofs.Common.{arith, rules, w32, ℤ, FitsSigned, Vec, Global}
 use Rattle.std.proofs.lemmas.Int.{to_z-of_z}
 use Rattle.std.proofs.lemmas.Result.{err_from_is_err_and}
-use Rattle.ua_parts.specs.Dimensions.{sizes_at, with_sizes}
-use Rattle.ua_parts.proofs.Extents.{sizes_short, sizes_more, sizes_fault}
+use Rattle.ua_parts.proofs.Extents.{sizes_short, sizes_so_far, sizes_fault}
 use Rattle.ua_parts.proofs.dimensions.read_sizes.Goals as goal
 
 pub returns-then-left-count-clause-exact : goal.returns-then-left-count-clause-exact
@@ -17,8 +16,6 @@ pub loop-preserved : goal.loop-preserved
 loop-preserved g c =
     let fits : FitsSigned w32 c.in_ok-size.size = search rules in
     record {
-      so_far = ap (λ ds. with_sizes ds (sizes_at (c.args.count - (c.loop.counter + 1)) (g.S.Source.octets c.read_size.new.src))) (c.in_ok-push.ensures.items ∙ ap (λ x. c.loop.sizes.items ++ x ∷ []) (to_z-of_z w32 c.in_ok-size.size fits))
-          ∙ sym (sizes_more c.loop.sizes.items c.in_ok-size.size (c.args.count - c.loop.counter) (c.args.count - (c.loop.counter + 1)) (g.S.Source.octets c.loop.src) (g.S.Source.octets c.read_size.new.src) (omega arith) c.in_ok-size.ensures.exact)
-          ∙ c.loop.invariant.so_far;
+      so_far = sizes_so_far c.loop.sizes.items c.in_ok-size.size c.args.count c.loop.counter (g.S.Source.octets c.args.src.now) (g.S.Source.octets c.loop.src) (g.S.Source.octets c.read_size.new.src) (omega arith) c.in_ok-push.ensures.items (to_z-of_z w32 c.in_ok-size.size fits) c.in_ok-size.ensures.exact c.loop.invariant.so_far;
       behind = λ start h. c.in_ok-size.ensures.behind start (c.loop.invariant.behind start h);
     }
