@@ -1,4 +1,5 @@
 pub mod Fits
+pub mod Leaves
 pub mod Lengths
 pub mod Loops
 pub mod Rows

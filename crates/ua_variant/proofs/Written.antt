@@ -3,11 +3,15 @@ use Rattle.std.proofs.Common.{◌≡◌, ℕ, ◌+◌, ◌<◌, true, ◌&&◌, 
 use lib.IntN.{ℤ}
 use Rattle.std.proofs.lemmas.Grind.{common_steps}
 use Rattle.ua_builtin.specs.Exact.{both_true}
-use Rattle.ua_variant.specs.Data.{VariantData, DataValueData, ScalarData, ScalarsData, many}
+use Rattle.ua_variant.specs.Data.{DataFields, VariantData, DataValueData, ScalarData, ScalarsData, many}
 use Rattle.ua_variant.specs.View.{scalar_of, row}
 use Rattle.std.specs.Prelude.{leb}
+use Rattle.ua_builtin.specs.DateTime.{date_time}
+use Rattle.ua_builtin.specs.Join.{number}
+use Rattle.ua_builtin.specs.Status.{status_code}
+use Rattle.ua_parts.specs.Parts.{optional_fits}
 use Rattle.ua_variant.specs.Measure.{variant_depth, data_value_depth}
-use Rattle.ua_variant.specs.Encodable.{variant_encodable, data_value_encodable, data_value_fits, variant_fits, scalars_fit, row_length, is_kind}
+use Rattle.ua_variant.specs.Encodable.{data_fields_encodable, variant_encodable, data_value_encodable, data_value_fits, variant_fits, scalars_fit, row_length, is_kind}
 use Rattle.ua_parts.specs.Dimensions.{dims_encodable, is_count}
 use Rattle.ua_variant.specs.Canonical.{row_canonical, scalar_canonical}
 use Rattle.ua_parts.specs.DimensionReaders.{count_is}
@@ -42,3 +46,16 @@ variant_fits_of v h = (both_true (leb (variant_depth v) 100) (variant_fits v) h)
 
 pub data_value_fits_of : (d : DataValueData) → IsTrue (data_value_encodable d) → data_value_fits d ≡ true
 data_value_fits_of d h = (both_true (leb (data_value_depth d) 100) (data_value_fits d) h).1
+
+-- each of the fields can be written
+pub data_fields_parts : (f : DataFields) → data_fields_encodable f ≡ true
+    → IsTrue (optional_fits status_code.encodable f.status) × IsTrue (optional_fits date_time.encodable f.source_timestamp) × IsTrue (optional_fits (number 2).encodable f.source_picoseconds) × IsTrue (optional_fits date_time.encodable f.server_timestamp) × IsTrue (optional_fits (number 2).encodable f.server_picoseconds)
+unfolding data_fields_encodable
+data_fields_parts f h =
+    let time = optional_fits date_time.encodable in
+    let parts = optional_fits (number 2).encodable in
+    let a = both_true (optional_fits status_code.encodable f.status) (time f.source_timestamp && (parts f.source_picoseconds && (time f.server_timestamp && parts f.server_picoseconds))) h in
+    let b = both_true (time f.source_timestamp) (parts f.source_picoseconds && (time f.server_timestamp && parts f.server_picoseconds)) a.1 in
+    let c = both_true (parts f.source_picoseconds) (time f.server_timestamp && parts f.server_picoseconds) b.1 in
+    let d = both_true (time f.server_timestamp) (parts f.server_picoseconds) c.1 in
+    (a.0, b.0, c.0, d.0, d.1)

@@ -10,7 +10,7 @@ use Rattle.ua_parts.specs.Dimensions.{null_count, has_dims, dims_canonical}
 use Rattle.ua_parts.specs.Diagnostic.{diagnostic_canonical}
 
 -- the octets that are written for the fields of a DataValue but its value, behind the mask
-abbrev pub data_fields_canonical : DataFields → List ℕ
+unfoldable pub data_fields_canonical : DataFields → List ℕ
 data_fields_canonical f = (data_fields (data_flags f)).canonical f
 
 -- the octets that are written for a Variant, a scalar, the elements of an array, and a DataValue

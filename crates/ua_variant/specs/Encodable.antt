@@ -28,7 +28,7 @@ abbrev pub is_read_kind : ℕ → Bool
 is_read_kind k = leb 1 k && leb k 31
 
 -- each field that is there can be written
-abbrev pub data_fields_encodable : DataFields → Bool
+unfoldable pub data_fields_encodable : DataFields → Bool
 data_fields_encodable f = optional_fits status_code_format.encodable f.status && (optional_fits (date_time_format).encodable f.source_timestamp && (optional_fits (number 2).encodable f.source_picoseconds && (optional_fits (date_time_format).encodable f.server_timestamp && optional_fits (number 2).encodable f.server_picoseconds)))
 
 -- the scalar is a Variant

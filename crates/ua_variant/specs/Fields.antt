@@ -17,5 +17,5 @@ data_fields m =
     (both (optional (has m 2) status_code_format) (both (optional (has m 4) (date_time_format)) (both (optional (has m 16) (number 2)) (both (optional (has m 8) (date_time_format)) (optional (has m 32) (number 2))))))
 
 -- the flags of the fields that are there
-abbrev pub data_flags : DataFields → ℕ
+unfoldable pub data_flags : DataFields → ℕ
 data_flags f = flag_bit 2 (is_some f.status) + flag_bit 4 (is_some f.source_timestamp) + flag_bit 8 (is_some f.server_timestamp) + flag_bit 16 (is_some f.source_picoseconds) + flag_bit 32 (is_some f.server_picoseconds)

@@ -16,6 +16,7 @@ abbrev pub data_mask : DataFields → ℕ → ℕ
 data_mask f v = data_flags f + v
 
 data_sum : (f : DataFields) (v : ℕ) → data_mask f v ≡ v + 2 * there f.status + 4 * there f.source_timestamp + 8 * there f.server_timestamp + 16 * there f.source_picoseconds + 32 * there f.server_picoseconds
+unfolding data_flags
 data_sum f v = omega (arith, bit_is 2 f.status, bit_is 4 f.source_timestamp, bit_is 8 f.server_timestamp, bit_is 16 f.source_picoseconds, bit_is 32 f.server_picoseconds)
 
 data_bits : (f : DataFields) (v : ℕ) → v ≤ 1 → let m = data_mask f v in
@@ -30,7 +31,7 @@ pub data_mask_value : (f : DataFields) (v : ℕ) → v ≤ 1 → has (data_mask 
 data_mask_value f v h = has_bit (data_mask f v) 0 ∙ ap (λ (r : ℕ). eqb r 1) (data_bits f v h).0
 
 pub data_fields_encodable_as : (f : DataFields) (v : ℕ) → v ≤ 1 → (data_fields (data_mask f v)).encodable f ≡ data_fields_encodable f
-unfolding data_fields
+unfolding data_fields data_fields_encodable
 data_fields_encodable_as f v h =
     let m = data_mask f v in
     let b = data_bits f v h in

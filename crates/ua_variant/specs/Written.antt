@@ -26,6 +26,7 @@ unfolding data_fields
 data_canonical_same m n f = refl
 
 data_fields_encoded : (f : DataFields) (v : ℕ) → v ≤ 1 → data_fields_encodable f ≡ true → (data_fields (data_mask f v)).encodes f (data_fields_canonical f)
+unfolding data_fields_canonical
 data_fields_encoded f v h fits =
     subst ((data_fields (data_mask f v)).encodes f) (data_canonical_same (data_mask f v) (data_flags f) f)
     ((data_fields (data_mask f v)).canonical_encodes f (data_fields_encodable_as f v h ∙ fits))

@@ -170,6 +170,7 @@ fn data_value_fits_in(value: &DataValue) -> bool
         }
 }
 
+#[tactic(auto, unfolding(crate::specs::Encodable::data_fields_encodable))]
 fn data_fields_fit(value: &DataValue) -> bool
     ensures { result ≡ data_fields_encodable (data_fields_of value.now) }
 {

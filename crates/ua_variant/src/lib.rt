@@ -24,6 +24,7 @@
 mod clone;
 mod encodable;
 pub mod laws;
+mod leaf;
 mod masks;
 mod measure;
 mod read;

@@ -1,18 +1,21 @@
 //! Reads Variants and DataValues.
 
-ghost use Rattle.std.specs.Prelude.{◌≡◌, ◌<◌, IsErrOf};
+ghost use Rattle.std.specs.Prelude.{◌≡◌, ◌<◌, ◌≤◌, IsErrOf};
+ghost use Rattle.ua_builtin.specs.Exact.{image_read};
 ghost use Rattle.ua_builtin.specs.Format.{Gives, GivesBy, StaysBehind};
 ghost use Rattle.ua_octets.specs.declared.fault.ReadFault.TheVariants.{NoValue};
 ghost use Rattle.ua_parts.specs.Formats.{made_read};
 ghost use Rattle.ua_parts.specs.Parts.{optional_read};
 ghost use Rattle.ua_variant.specs.Data.{leaf};
+ghost use Rattle.ua_variant.specs.Fields.{data_fields};
 ghost use Rattle.ua_variant.specs.Formats.{IsOverlongArray, IsOverlongRow};
 ghost use Rattle.ua_variant.specs.Leaf.{leaf_at};
 ghost use Rattle.ua_variant.specs.Least.{least_octets as least_of};
 ghost use Rattle.ua_variant.specs.Encodable.{is_read_kind as read_kind};
 ghost use Rattle.ua_variant.specs.Decoding.{variant_at, variant_step, variant_after, data_value_at, data_value_step, scalars_at, scalar_at, array_at, elements_at, row_at};
-ghost use Rattle.ua_variant.specs.View.{row, variant_of, scalar_of, data_value_of};
+ghost use Rattle.ua_variant.specs.View.{row, variant_of, scalar_of, data_value_of, value_within};
 
+use crate::leaf::read_as;
 use crate::masks;
 use crate::values::{BoxedVariant, DataValue, Scalar, Scalars, Variant};
 use std::alloc::Global;
@@ -26,43 +29,77 @@ use ua_parts::{read_diagnostic, read_dims, read_no_dims};
 /// Counts from here on are negative as an Int32, and mean null.
 const FIRST_NEGATIVE: u32 = 1 << 31;
 
+/// For so many elements room is made at once; a longer array grows by what was read, so that
+/// nested arrays with false counts ask for no more than their octets can hold.
+const MOST_RESERVED: usize = 64;
+
 /// Reads a scalar that holds no further value.
-#[tactic(auto, unfolding(crate::specs::Leaf::leaf_at))]
-fn read_leaf<S: Source>(
-    alloc: Global,
-    src: &mut S,
-    depth: u32,
-    kind: u8,
-) -> Result<Scalar, ReadFault>
+fn read_leaf<S: Source>(alloc: Global, src: &mut S, kind: u8) -> Result<Scalar, ReadFault>
     ensures exact { GivesBy scalar_of (made_read leaf (leaf_at kind)) (S.octets src.old) (S.octets src.new) result }
     ensures behind { StaysBehind (S.octets src.old) (S.octets src.new) }
 {
     match kind {
-        1 => Ok(Scalar::Boolean(bool::read_value(alloc, src, depth)?)),
-        2 => Ok(Scalar::SByte(i8::read_value(alloc, src, depth)?)),
-        3 => Ok(Scalar::Byte(u8::read_value(alloc, src, depth)?)),
-        4 => Ok(Scalar::Int16(i16::read_value(alloc, src, depth)?)),
-        5 => Ok(Scalar::UInt16(u16::read_value(alloc, src, depth)?)),
-        6 => Ok(Scalar::Int32(i32::read_value(alloc, src, depth)?)),
-        7 => Ok(Scalar::UInt32(u32::read_value(alloc, src, depth)?)),
-        8 => Ok(Scalar::Int64(i64::read_value(alloc, src, depth)?)),
-        9 => Ok(Scalar::UInt64(u64::read_value(alloc, src, depth)?)),
-        10 => Ok(Scalar::Float(FloatBits::read_value(alloc, src, depth)?)),
-        11 => Ok(Scalar::Double(DoubleBits::read_value(alloc, src, depth)?)),
-        12 => Ok(Scalar::String(UaString::read_value(alloc, src, depth)?)),
-        13 => Ok(Scalar::DateTime(DateTime::read_value(alloc, src, depth)?)),
-        14 => Ok(Scalar::Guid(Guid::read_value(alloc, src, depth)?)),
-        15 => Ok(Scalar::ByteString(UaBytes::read_value(alloc, src, depth)?)),
-        16 => Ok(Scalar::XmlElement(XmlElement::read_value(alloc, src, depth)?)),
-        17 => Ok(Scalar::NodeId(NodeId::read_value(alloc, src, depth)?)),
-        18 => Ok(Scalar::ExpandedNodeId(ExpandedNodeId::read_value(alloc, src, depth)?)),
-        19 => Ok(Scalar::StatusCode(StatusCode::read_value(alloc, src, depth)?)),
-        20 => Ok(Scalar::QualifiedName(QualifiedName::read_value(alloc, src, depth)?)),
-        21 => Ok(Scalar::LocalizedText(LocalizedText::read_value(alloc, src, depth)?)),
-        22 => Ok(Scalar::ExtensionObject(ExtensionObject::read_value(alloc, src, depth)?)),
-        26..=31 => Ok(Scalar::Reserved(kind, UaBytes::read_value(alloc, src, depth)?)),
+        1..=11 => read_number(alloc, src, kind),
+        12..=22 => read_record(alloc, src, kind),
+        26..=31 => read_reserved(alloc, src, kind),
         _ => Err(ReadFault::NoValue),
     }
+}
+
+/// Reads a Boolean, a whole number, a Float or a Double.
+fn read_number<S: Source>(alloc: Global, src: &mut S, kind: u8) -> Result<Scalar, ReadFault>
+    requires low { 1 ≤ kind }
+    requires high { kind ≤ 11 }
+    ensures exact { GivesBy scalar_of (made_read leaf (leaf_at kind)) (S.octets src.old) (S.octets src.new) result }
+    ensures behind { StaysBehind (S.octets src.old) (S.octets src.new) }
+{
+    match kind {
+        1 => read_as::<bool, S>(alloc, src),
+        2 => read_as::<i8, S>(alloc, src),
+        3 => read_as::<u8, S>(alloc, src),
+        4 => read_as::<i16, S>(alloc, src),
+        5 => read_as::<u16, S>(alloc, src),
+        6 => read_as::<i32, S>(alloc, src),
+        7 => read_as::<u32, S>(alloc, src),
+        8 => read_as::<i64, S>(alloc, src),
+        9 => read_as::<u64, S>(alloc, src),
+        10 => read_as::<FloatBits, S>(alloc, src),
+        _ => read_as::<DoubleBits, S>(alloc, src),
+    }
+}
+
+/// Reads a scalar of a type id from String's to ExtensionObject's.
+fn read_record<S: Source>(alloc: Global, src: &mut S, kind: u8) -> Result<Scalar, ReadFault>
+    requires low { 12 ≤ kind }
+    requires high { kind ≤ 22 }
+    ensures exact { GivesBy scalar_of (made_read leaf (leaf_at kind)) (S.octets src.old) (S.octets src.new) result }
+    ensures behind { StaysBehind (S.octets src.old) (S.octets src.new) }
+{
+    match kind {
+        12 => read_as::<UaString, S>(alloc, src),
+        13 => read_as::<DateTime, S>(alloc, src),
+        14 => read_as::<Guid, S>(alloc, src),
+        15 => read_as::<UaBytes, S>(alloc, src),
+        16 => read_as::<XmlElement, S>(alloc, src),
+        17 => read_as::<NodeId, S>(alloc, src),
+        18 => read_as::<ExpandedNodeId, S>(alloc, src),
+        19 => read_as::<StatusCode, S>(alloc, src),
+        20 => read_as::<QualifiedName, S>(alloc, src),
+        21 => read_as::<LocalizedText, S>(alloc, src),
+        _ => read_as::<ExtensionObject, S>(alloc, src),
+    }
+}
+
+/// Reads octets under a reserved type id.
+#[tactic(auto, using(crate::proofs::Leaves::reserved_reads))]
+fn read_reserved<S: Source>(alloc: Global, src: &mut S, kind: u8) -> Result<Scalar, ReadFault>
+    requires low { 26 ≤ kind }
+    requires high { kind ≤ 31 }
+    ensures exact { GivesBy scalar_of (made_read leaf (leaf_at kind)) (S.octets src.old) (S.octets src.new) result }
+    ensures behind { StaysBehind (S.octets src.old) (S.octets src.new) }
+{
+    let octets = UaBytes::read_value(alloc, src, 0)?;
+    Ok(Scalar::Reserved(kind, octets))
 }
 
 /// Reads a Variant of at most so many levels.
@@ -199,7 +236,7 @@ fn read_row<S: Source>(
     ensures exact { GivesBy (λ ss. row ss) (row_at count (scalars_at depth kind)) (S.octets src.old) (S.octets src.new) result }
     ensures behind { StaysBehind (S.octets src.old) (S.octets src.new) }
 {
-    let mut items = Vec::with_capacity(alloc, count as usize)?;
+    let mut items = Vec::with_capacity(alloc, (count as usize).min(MOST_RESERVED))?;
     for _ in 0..count {
         let item = read_scalar(alloc, src, depth, kind)?;
         items.push(item)?;
@@ -223,7 +260,7 @@ fn read_scalar<S: Source>(
         23 => Ok(Scalar::DataValue(read_data_value(alloc, src, depth)?)),
         24 => Ok(Scalar::Variant(BoxedVariant::new(alloc, read_variant(alloc, src, depth)?)?)),
         25 => Ok(Scalar::DiagnosticInfo(read_diagnostic(alloc, src, depth)?)),
-        _ => read_leaf(alloc, src, depth, kind),
+        _ => read_leaf(alloc, src, kind),
     }
 }
 
@@ -245,7 +282,7 @@ pub fn read_data_value<S: Source>(
 
 /// Reads a DataValue, with so many levels left within.
 #[cycle(variants)]
-#[tactic(auto, unfolding(crate::specs::Decoding::data_value_step, crate::specs::Fields::data_fields))]
+#[tactic(auto, unfolding(crate::specs::Decoding::data_value_step))]
 fn read_data_value_level<S: Source>(
     alloc: Global,
     src: &mut S,
@@ -259,6 +296,20 @@ fn read_data_value_level<S: Source>(
         return Err(ReadFault::NoValue);
     }
     let value = read_boxed(alloc, src, depth, mask & masks::VALUE != 0)?;
+    read_data_fields(alloc, src, mask, value)
+}
+
+/// Reads the fields of a DataValue that the mask announces, behind its value.
+#[tactic(auto, unfolding(crate::specs::Fields::data_fields))]
+fn read_data_fields<S: Source>(
+    alloc: Global,
+    src: &mut S,
+    mask: u8,
+    value: Option<BoxedVariant>,
+) -> Result<DataValue, ReadFault>
+    ensures exact { GivesBy data_value_of (image_read (value_within value) (data_fields mask).decode) (S.octets src.old) (S.octets src.new) result }
+    ensures behind { StaysBehind (S.octets src.old) (S.octets src.new) }
+{
     let status = read_field(alloc, src, 0, mask & masks::STATUS != 0)?;
     let source_timestamp = read_field(alloc, src, 0, mask & masks::SOURCE_TIMESTAMP != 0)?;
     let source_picoseconds = read_field(alloc, src, 0, mask & masks::SOURCE_PICOSECONDS != 0)?;

@@ -1,17 +1,13 @@
 //! Writes Variants and DataValues.
 
-ghost use Rattle.std.specs.Prelude.{◌≡◌, ◌<◌, ◌≤◌, ◌++◌, true, OnOk, OnErr, IsTrue};
-ghost use Rattle.ua_builtin.specs.DateTime.{date_time};
+ghost use Rattle.std.specs.Prelude.{◌≡◌, ◌<◌, ◌≤◌, ◌++◌, true, OnOk, OnErr};
 ghost use Rattle.ua_builtin.specs.Format.{Extends};
-ghost use Rattle.ua_builtin.specs.Join.{number};
-ghost use Rattle.ua_builtin.specs.Status.{status_code};
 ghost use Rattle.ua_parts.specs.Dimensions.{dims_encodable, has_dims};
-ghost use Rattle.ua_parts.specs.Parts.{optional_fits};
 ghost use Rattle.ua_variant.specs.Data.{many};
 ghost use Rattle.ua_variant.specs.Canonical.{data_fields_canonical, variant_canonical, scalar_canonical, row_canonical, data_value_canonical};
 ghost use Rattle.ua_variant.specs.Encoding.{array_octet};
 ghost use Rattle.ua_variant.specs.Fields.{data_flags};
-ghost use Rattle.ua_variant.specs.Encodable.{row_length, variant_fits, scalar_fits, scalars_fit, data_value_fits};
+ghost use Rattle.ua_variant.specs.Encodable.{data_fields_encodable, row_length, variant_fits, scalar_fits, scalars_fit, data_value_fits};
 ghost use Rattle.ua_variant.specs.View.{row, variant_of, scalar_of, data_value_of, data_fields_of};
 
 use crate::encodable::element_count;
@@ -20,13 +16,14 @@ use crate::values::{DataValue, Scalar, Scalars, Variant};
 use std::alloc::AllocError;
 use ua_builtin::Wire;
 use ua_builtin::flags::flag_of;
-use ua_parts::field::append_field;
+use ua_parts::field::{append_three, append_two};
 use ua_parts::{Dimensions, append_diagnostic, append_dims};
 
 /// The count of a null array.
 const NULL_COUNT: u32 = u32::MAX;
 
 /// The flags of the fields that are there, but the value.
+#[tactic(auto, unfolding(crate::specs::Fields::data_flags))]
 fn data_mask(value: &DataValue) -> u8
     ensures value { result ≡ data_flags (data_fields_of value.now) }
     ensures within { result ≤ 62 }
@@ -45,22 +42,19 @@ fn data_mask(value: &DataValue) -> u8
 }
 
 /// Adds the fields that are there, but the value.
-#[tactic(auto, unfolding(crate::specs::Fields::data_fields))]
+#[tactic(auto, unfolding(crate::specs::Canonical::data_fields_canonical, crate::specs::Fields::data_fields))]
 fn append_data_fields(value: &DataValue, out: &mut Vec<u8>) -> Result<(), AllocError>
-    requires status { IsTrue (optional_fits status_code.encodable value.now.status) }
-    requires source_timestamp { IsTrue (optional_fits date_time.encodable value.now.source_timestamp) }
-    requires source_picoseconds { IsTrue (optional_fits (number 2).encodable value.now.source_picoseconds) }
-    requires server_timestamp { IsTrue (optional_fits date_time.encodable value.now.server_timestamp) }
-    requires server_picoseconds { IsTrue (optional_fits (number 2).encodable value.now.server_picoseconds) }
+    requires { data_fields_encodable (data_fields_of value.now) ≡ true }
     ensures ok { OnOk result (out.new.items ≡ out.old.items ++ data_fields_canonical (data_fields_of value.now)) }
     ensures err { OnErr result (Extends out.old.items out.new.items) }
 {
-    append_field(&value.status, out)?;
-    append_field(&value.source_timestamp, out)?;
-    append_field(&value.source_picoseconds, out)?;
-    append_field(&value.server_timestamp, out)?;
-    append_field(&value.server_picoseconds, out)?;
-    Ok(())
+    append_three(
+        &value.status,
+        &value.source_timestamp,
+        &value.source_picoseconds,
+        out,
+    )?;
+    append_two(&value.server_timestamp, &value.server_picoseconds, out)
 }
 
 /// The first octet of an array.

@@ -1,0 +1,373 @@
+//! Types whose values are scalars of one type id (OPC 10000-6, 5.1.2).
+
+ghost use Rattle.std.specs.Prelude.{◌≡◌, ℕ, List};
+ghost use Rattle.ua_builtin.specs.Exact.{image_read};
+ghost use Rattle.ua_builtin.specs.Format.{GivesBy, StaysBehind};
+ghost use Rattle.ua_parts.specs.Formats.{made_read};
+ghost use Rattle.ua_variant.specs.Data.{LeafData, leaf};
+ghost use Rattle.ua_variant.specs.Leaf.{leaf_at};
+ghost use Rattle.ua_variant.specs.View.{scalar_of};
+
+use crate::values::Scalar;
+use std::alloc::Global;
+use ua_builtin::{
+    DateTime, DoubleBits, ExpandedNodeId, ExtensionObject, FloatBits, Guid, LocalizedText, NodeId,
+    QualifiedName, ReadFault, Source, StatusCode, UaBytes, UaString, Wire, XmlElement,
+};
+
+/// A type whose values are the scalars of one type id that hold no further value.
+pub trait Leaf: Wire {
+    /// The type id.
+    ghost kind: { ℕ };
+
+    /// The data of the scalar.
+    ghost as_leaf: { Self → LeafData };
+
+    /// Shows that scalars of the type id are read as values of this type.
+    fn reads()
+        ensures { (octets : List ℕ) → leaf_at kind octets ≡ image_read as_leaf (Self.format.decode 0) octets };
+
+    /// This value as a scalar.
+    fn into_scalar(self) -> Scalar
+        ensures { scalar_of result ≡ leaf (as_leaf self) };
+}
+
+/// Reads a scalar as a value of its type.
+pub fn read_as<T: Leaf, S: Source>(alloc: Global, src: &mut S) -> Result<Scalar, ReadFault>
+    ensures exact { GivesBy scalar_of (made_read leaf (leaf_at T.kind)) (S.octets src.old) (S.octets src.new) result }
+    ensures behind { StaysBehind (S.octets src.old) (S.octets src.new) }
+{
+    T::reads();
+    let value = T::read_value(alloc, src, 0)?;
+    Ok(value.into_scalar())
+}
+
+impl Leaf for bool {
+    ghost use Rattle.ua_variant.specs.Data.{boolean};
+
+    ghost kind = { 1 };
+
+    ghost as_leaf = { boolean };
+
+    #[tactic(auto, unfolding(crate::specs::Leaf::leaf_at))]
+    fn reads() {}
+
+    fn into_scalar(self) -> Scalar {
+        Scalar::Boolean(self)
+    }
+}
+
+impl Leaf for i8 {
+    ghost use Rattle.ua_variant.specs.Data.{sbyte};
+
+    ghost kind = { 2 };
+
+    ghost as_leaf = { sbyte };
+
+    #[tactic(auto, unfolding(crate::specs::Leaf::leaf_at))]
+    fn reads() {}
+
+    fn into_scalar(self) -> Scalar {
+        Scalar::SByte(self)
+    }
+}
+
+impl Leaf for u8 {
+    ghost use Rattle.ua_variant.specs.Data.{byte};
+
+    ghost kind = { 3 };
+
+    ghost as_leaf = { byte };
+
+    #[tactic(auto, unfolding(crate::specs::Leaf::leaf_at))]
+    fn reads() {}
+
+    fn into_scalar(self) -> Scalar {
+        Scalar::Byte(self)
+    }
+}
+
+impl Leaf for i16 {
+    ghost use Rattle.ua_variant.specs.Data.{int16};
+
+    ghost kind = { 4 };
+
+    ghost as_leaf = { int16 };
+
+    #[tactic(auto, unfolding(crate::specs::Leaf::leaf_at))]
+    fn reads() {}
+
+    fn into_scalar(self) -> Scalar {
+        Scalar::Int16(self)
+    }
+}
+
+impl Leaf for u16 {
+    ghost use Rattle.ua_variant.specs.Data.{uint16};
+
+    ghost kind = { 5 };
+
+    ghost as_leaf = { uint16 };
+
+    #[tactic(auto, unfolding(crate::specs::Leaf::leaf_at))]
+    fn reads() {}
+
+    fn into_scalar(self) -> Scalar {
+        Scalar::UInt16(self)
+    }
+}
+
+impl Leaf for i32 {
+    ghost use Rattle.ua_variant.specs.Data.{int32};
+
+    ghost kind = { 6 };
+
+    ghost as_leaf = { int32 };
+
+    #[tactic(auto, unfolding(crate::specs::Leaf::leaf_at))]
+    fn reads() {}
+
+    fn into_scalar(self) -> Scalar {
+        Scalar::Int32(self)
+    }
+}
+
+impl Leaf for u32 {
+    ghost use Rattle.ua_variant.specs.Data.{uint32};
+
+    ghost kind = { 7 };
+
+    ghost as_leaf = { uint32 };
+
+    #[tactic(auto, unfolding(crate::specs::Leaf::leaf_at))]
+    fn reads() {}
+
+    fn into_scalar(self) -> Scalar {
+        Scalar::UInt32(self)
+    }
+}
+
+impl Leaf for i64 {
+    ghost use Rattle.ua_variant.specs.Data.{int64};
+
+    ghost kind = { 8 };
+
+    ghost as_leaf = { int64 };
+
+    #[tactic(auto, unfolding(crate::specs::Leaf::leaf_at))]
+    fn reads() {}
+
+    fn into_scalar(self) -> Scalar {
+        Scalar::Int64(self)
+    }
+}
+
+impl Leaf for u64 {
+    ghost use Rattle.ua_variant.specs.Data.{uint64};
+
+    ghost kind = { 9 };
+
+    ghost as_leaf = { uint64 };
+
+    #[tactic(auto, unfolding(crate::specs::Leaf::leaf_at))]
+    fn reads() {}
+
+    fn into_scalar(self) -> Scalar {
+        Scalar::UInt64(self)
+    }
+}
+
+impl Leaf for FloatBits {
+    ghost use Rattle.ua_variant.specs.Data.{float};
+
+    ghost kind = { 10 };
+
+    ghost as_leaf = { float };
+
+    #[tactic(auto, unfolding(crate::specs::Leaf::leaf_at))]
+    fn reads() {}
+
+    fn into_scalar(self) -> Scalar {
+        Scalar::Float(self)
+    }
+}
+
+impl Leaf for DoubleBits {
+    ghost use Rattle.ua_variant.specs.Data.{double};
+
+    ghost kind = { 11 };
+
+    ghost as_leaf = { double };
+
+    #[tactic(auto, unfolding(crate::specs::Leaf::leaf_at))]
+    fn reads() {}
+
+    fn into_scalar(self) -> Scalar {
+        Scalar::Double(self)
+    }
+}
+
+impl Leaf for UaString {
+    ghost use Rattle.ua_variant.specs.Data.{string};
+
+    ghost kind = { 12 };
+
+    ghost as_leaf = { string };
+
+    #[tactic(auto, unfolding(crate::specs::Leaf::leaf_at))]
+    fn reads() {}
+
+    fn into_scalar(self) -> Scalar {
+        Scalar::String(self)
+    }
+}
+
+impl Leaf for DateTime {
+    ghost use Rattle.ua_variant.specs.Data.{date_time};
+
+    ghost kind = { 13 };
+
+    ghost as_leaf = { date_time };
+
+    #[tactic(auto, unfolding(crate::specs::Leaf::leaf_at))]
+    fn reads() {}
+
+    fn into_scalar(self) -> Scalar {
+        Scalar::DateTime(self)
+    }
+}
+
+impl Leaf for Guid {
+    ghost use Rattle.ua_variant.specs.Data.{guid};
+
+    ghost kind = { 14 };
+
+    ghost as_leaf = { guid };
+
+    #[tactic(auto, unfolding(crate::specs::Leaf::leaf_at))]
+    fn reads() {}
+
+    fn into_scalar(self) -> Scalar {
+        Scalar::Guid(self)
+    }
+}
+
+impl Leaf for UaBytes {
+    ghost use Rattle.ua_variant.specs.Data.{byte_string};
+
+    ghost kind = { 15 };
+
+    ghost as_leaf = { byte_string };
+
+    #[tactic(auto, unfolding(crate::specs::Leaf::leaf_at))]
+    fn reads() {}
+
+    fn into_scalar(self) -> Scalar {
+        Scalar::ByteString(self)
+    }
+}
+
+impl Leaf for XmlElement {
+    ghost use Rattle.ua_variant.specs.Data.{xml_element};
+
+    ghost kind = { 16 };
+
+    ghost as_leaf = { xml_element };
+
+    #[tactic(auto, unfolding(crate::specs::Leaf::leaf_at))]
+    fn reads() {}
+
+    fn into_scalar(self) -> Scalar {
+        Scalar::XmlElement(self)
+    }
+}
+
+impl Leaf for NodeId {
+    ghost use Rattle.ua_variant.specs.Data.{node_id};
+
+    ghost kind = { 17 };
+
+    ghost as_leaf = { node_id };
+
+    #[tactic(auto, unfolding(crate::specs::Leaf::leaf_at))]
+    fn reads() {}
+
+    fn into_scalar(self) -> Scalar {
+        Scalar::NodeId(self)
+    }
+}
+
+impl Leaf for ExpandedNodeId {
+    ghost use Rattle.ua_variant.specs.Data.{expanded_node_id};
+
+    ghost kind = { 18 };
+
+    ghost as_leaf = { expanded_node_id };
+
+    #[tactic(auto, unfolding(crate::specs::Leaf::leaf_at))]
+    fn reads() {}
+
+    fn into_scalar(self) -> Scalar {
+        Scalar::ExpandedNodeId(self)
+    }
+}
+
+impl Leaf for StatusCode {
+    ghost use Rattle.ua_variant.specs.Data.{status_code};
+
+    ghost kind = { 19 };
+
+    ghost as_leaf = { status_code };
+
+    #[tactic(auto, unfolding(crate::specs::Leaf::leaf_at))]
+    fn reads() {}
+
+    fn into_scalar(self) -> Scalar {
+        Scalar::StatusCode(self)
+    }
+}
+
+impl Leaf for QualifiedName {
+    ghost use Rattle.ua_variant.specs.Data.{qualified_name};
+
+    ghost kind = { 20 };
+
+    ghost as_leaf = { qualified_name };
+
+    #[tactic(auto, unfolding(crate::specs::Leaf::leaf_at))]
+    fn reads() {}
+
+    fn into_scalar(self) -> Scalar {
+        Scalar::QualifiedName(self)
+    }
+}
+
+impl Leaf for LocalizedText {
+    ghost use Rattle.ua_variant.specs.Data.{localized_text};
+
+    ghost kind = { 21 };
+
+    ghost as_leaf = { localized_text };
+
+    #[tactic(auto, unfolding(crate::specs::Leaf::leaf_at))]
+    fn reads() {}
+
+    fn into_scalar(self) -> Scalar {
+        Scalar::LocalizedText(self)
+    }
+}
+
+impl Leaf for ExtensionObject {
+    ghost use Rattle.ua_variant.specs.Data.{extension_object};
+
+    ghost kind = { 22 };
+
+    ghost as_leaf = { extension_object };
+
+    #[tactic(auto, unfolding(crate::specs::Leaf::leaf_at))]
+    fn reads() {}
+
+    fn into_scalar(self) -> Scalar {
+        Scalar::ExtensionObject(self)
+    }
+}
