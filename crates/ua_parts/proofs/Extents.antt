@@ -11,13 +11,13 @@ use Rattle.std.proofs.lemmas.List.{take_more}
 use Rattle.std.proofs.lemmas.List.Recursion.{and_push, and_fails_at}
 use Rattle.std.proofs.Math.Nat.{min-eq_left, mul-zero, mul-suc}
 use native.Mathlib.Decide.{dec_le}
-use Rattle.ua_builtin.specs.Exact.{◌>>=◌}
-use Rattle.ua_builtin.specs.Format.{Gives, GivesBy}
-use Rattle.ua_builtin.specs.Number.{number_octets}
+use Rattle.ua_octets.specs.Exact.{◌>>=◌}
+use Rattle.ua_octets.specs.Format.{Gives, GivesBy}
+use Rattle.ua_octets.specs.Number.{number_octets}
 use Rattle.ua_octets.specs.declared.fault.ReadFault.{ReadFault}
 use Rattle.ua_octets.specs.declared.fault.ReadFault.TheVariants.{NoValue, OutOfMemory}
-use Rattle.ua_parts.specs.Dimensions.{product, are_sizes, is_size, size_at, sizes_at, with_sizes, sizes_canonical}
-use Rattle.ua_parts.specs.DimensionReaders.{is_count_at, exact_sizes}
+use Rattle.ua_parts.specs.Dimensions.{product, are_sizes, is_size, size_at, sizes_at, sizes_canonical}
+use Rattle.ua_parts.proofs.DimensionsRead.{is_count_at, exact_sizes}
 use Rattle.ua_parts.proofs.Lengths.{sizes_take}
 
 -- ---- which can be written
@@ -67,6 +67,10 @@ product_next ds i all n h f is factor =
     ∙ ap (λ x. min x 18446744073709551615) (sym (product_after ds i (pos 0) h))
 
 -- ---- reading
+
+-- what was read, with these dimensions in front of it
+abbrev pub with_sizes : List ℤ → Option (List ℤ × List ℕ) → Option (List ℤ × List ℕ)
+with_sizes ds r = r >>= λ x. Some (ds ++ x.0, x.1)
 
 pub sizes_none : (r : Option (List ℤ × List ℕ)) → with_sizes [] r ≡ r
 sizes_none None = refl

@@ -1,3 +1,11 @@
-pub mod Extents
+pub mod PartsRead
+pub mod PartsLawful
+pub mod Masks
+pub mod DimensionsRead
+pub mod Viewed
+pub mod DiagnosticsRead
+pub mod DiagnosticsWritten
+pub mod DiagnosticsLawful
 pub mod Lengths
-pub mod Written
+pub mod Extents
+mod Written

@@ -2,16 +2,17 @@
 use Rattle.std.proofs.Common.{◌≡◌, true, IsTrue, ◌&&◌}
 use Rattle.std.specs.Prelude.{leb, is_some}
 use Rattle.std.specs.Int.{w32}
-use Rattle.ua_builtin.specs.Exact.{both_true}
+use Rattle.ua_octets.specs.Format.{most_levels}
+use Rattle.ua_octets.specs.Signed.{signed}
+use Rattle.ua_octets.proofs.Readers.{both_true}
 use Rattle.ua_builtin.specs.Flags.{flagged_text}
-use Rattle.ua_builtin.specs.Signed.{signed}
 use Rattle.ua_builtin.specs.Status.{status_code}
 use Rattle.ua_parts.specs.Diagnostic.{DiagnosticFields, DiagnosticData, diagnostic_depth, diagnostic_fields_encodable, diagnostic_fits, diagnostic_encodable}
 use Rattle.ua_parts.specs.Parts.{optional_fits}
 
 -- what can be written fits
 pub diagnostic_fits_of : (d : DiagnosticData) → IsTrue (diagnostic_encodable d) → diagnostic_fits d ≡ true
-diagnostic_fits_of d h = (both_true (leb (diagnostic_depth d) 100) (diagnostic_fits d) h).1
+diagnostic_fits_of d h = (both_true (leb (diagnostic_depth d) most_levels) (diagnostic_fits d) h).1
 
 -- each of the fields can be written
 pub fields_parts : (f : DiagnosticFields) → diagnostic_fields_encodable f ≡ true

@@ -1,11 +1,11 @@
 -- DiagnosticInfo (OPC 10000-6, 5.2.2.12): as pure data, its levels, its encodings, and which is written.
+-- symbolic id 1 and the text "A", around an empty one: 51 01 00 00 00 01 00 00 00 41 00
 use Rattle.std.specs.Prelude.{◌≡◌, ℕ, suc, zero, ◌+◌, Bool, true, false, ◌&&◌, leb, List, ◌∷◌, ◌++◌, Option, Some, None, is_some}
 use lib.IntN.{ℤ}
-use Rattle.std.proofs.Common.{refl}
 use Rattle.std.specs.Int.{w32}
 use Rattle.ua_builtin.specs.Exact.{◌>>=◌}
 use Rattle.ua_builtin.specs.Number.{number_at}
-use Rattle.ua_builtin.specs.Format.{Flat}
+use Rattle.ua_builtin.specs.Format.{Flat, most_levels}
 use Rattle.ua_builtin.specs.Join.{both, made}
 use Rattle.ua_builtin.specs.Signed.{signed}
 use Rattle.ua_builtin.specs.Flags.{has, flag_bit, flagged_text}
@@ -54,27 +54,37 @@ diagnostic_count (around f d) = 1 + diagnostic_fields_count f + diagnostic_count
 
 -- ---- which octets encode it
 
--- symbolic id, namespace, locale, localized text, additional info, inner status (OPC 10000-6, 5.2.2.12)
+-- symbolic id 0x01, namespace 0x02, locale 0x08, localized text 0x04, additional info 0x10, inner status 0x20, in this order (OPC 10000-6, 5.2.2.12)
 unfoldable pub diagnostic_fields : ℕ → Flat DiagnosticFields
 diagnostic_fields m =
     made (λ (a, (b, (c, (d, (e, f))))). record { symbolic_id = a; namespace_uri = b; locale = c; localized_text = d; additional_info = e; inner_status_code = f })
-    (λ f. (f.symbolic_id, (f.namespace_uri, (f.locale, (f.localized_text, (f.additional_info, f.inner_status_code)))))) (λ f. refl)
-    (both (optional (has m 1) (signed w32)) (both (optional (has m 2) (signed w32)) (both (optional (has m 8) (signed w32)) (both (optional (has m 4) (signed w32)) (both (flagged_text (has m 16)) (optional (has m 32) status_code_format))))))
+    (λ f. (f.symbolic_id, (f.namespace_uri, (f.locale, (f.localized_text, (f.additional_info, f.inner_status_code))))))
+    (both (optional (has m 0x01) (signed w32))
+    (both (optional (has m 0x02) (signed w32))
+    (both (optional (has m 0x08) (signed w32))
+    (both (optional (has m 0x04) (signed w32))
+    (both (flagged_text (has m 0x10))
+    (optional (has m 0x20) status_code_format))))))
 
 -- a mask of at most 0x7F, the fields that it announces, and behind them where 0x40 is set the inner info (OPC 10000-6, 5.2.2.12)
 abbrev pub EncodesDiagnostic : DiagnosticData → List ℕ → Type 0
-EncodesDiagnostic (innermost f) b = Masked 127 (λ m c. (has m 64 ≡ false) × (diagnostic_fields m).encodes f c) b
-EncodesDiagnostic (around f d) b = Masked 127 (λ m c. (has m 64 ≡ true) × Joins ((diagnostic_fields m).encodes f) (EncodesDiagnostic d) c) b
+EncodesDiagnostic (innermost f) b = Masked 0x7F (λ m c. (has m 0x40 ≡ false) × (diagnostic_fields m).encodes f c) b
+EncodesDiagnostic (around f d) b = Masked 0x7F (λ m c. (has m 0x40 ≡ true) × Joins ((diagnostic_fields m).encodes f) (EncodesDiagnostic d) c) b
 
 -- ---- which can be written, and how
 
 -- the flags of the fields that are there (OPC 10000-6, 5.2.2.12)
 unfoldable pub diagnostic_flags : DiagnosticFields → ℕ
-diagnostic_flags f = flag_bit 1 (is_some f.symbolic_id) + flag_bit 2 (is_some f.namespace_uri) + flag_bit 4 (is_some f.localized_text) + flag_bit 8 (is_some f.locale) + flag_bit 16 (is_some f.additional_info) + flag_bit 32 (is_some f.inner_status_code)
+diagnostic_flags f =
+    flag_bit 0x01 (is_some f.symbolic_id) + flag_bit 0x02 (is_some f.namespace_uri) + flag_bit 0x04 (is_some f.localized_text)
+    + flag_bit 0x08 (is_some f.locale) + flag_bit 0x10 (is_some f.additional_info) + flag_bit 0x20 (is_some f.inner_status_code)
 
 -- each field that is there can be written
 unfoldable pub diagnostic_fields_encodable : DiagnosticFields → Bool
-diagnostic_fields_encodable f = optional_fits (signed w32).encodable f.symbolic_id && (optional_fits (signed w32).encodable f.namespace_uri && (optional_fits (signed w32).encodable f.locale && (optional_fits (signed w32).encodable f.localized_text && ((flagged_text (is_some f.additional_info)).encodable f.additional_info && optional_fits status_code_format.encodable f.inner_status_code))))
+diagnostic_fields_encodable f =
+    let number = optional_fits (signed w32).encodable in
+    number f.symbolic_id && (number f.namespace_uri && (number f.locale && (number f.localized_text
+    && ((flagged_text (is_some f.additional_info)).encodable f.additional_info && optional_fits status_code_format.encodable f.inner_status_code))))
 
 -- each field that is there can be written, at every level
 abbrev pub diagnostic_fits : DiagnosticData → Bool
@@ -83,25 +93,26 @@ diagnostic_fits (around f d) = diagnostic_fields_encodable f && diagnostic_fits 
 
 -- at most 100 levels, and each field that is there can be written
 abbrev pub diagnostic_encodable : DiagnosticData → Bool
-diagnostic_encodable d = leb (diagnostic_depth d) 100 && diagnostic_fits d
+diagnostic_encodable d = leb (diagnostic_depth d) most_levels && diagnostic_fits d
 
 -- the octets that are written for the fields, behind the mask
 unfoldable pub diagnostic_fields_canonical : DiagnosticFields → List ℕ
 diagnostic_fields_canonical f =
     let number = optional_canonical (signed w32).canonical in
-    number f.symbolic_id ++ (number f.namespace_uri ++ (number f.locale ++ (number f.localized_text ++ ((flagged_text (is_some f.additional_info)).canonical f.additional_info ++ optional_canonical status_code_format.canonical f.inner_status_code))))
+    number f.symbolic_id ++ (number f.namespace_uri ++ (number f.locale ++ (number f.localized_text
+    ++ ((flagged_text (is_some f.additional_info)).canonical f.additional_info ++ optional_canonical status_code_format.canonical f.inner_status_code))))
 
 -- the octets that are written: the mask, the fields that are there, and the inner one where there is one
 abbrev pub diagnostic_canonical : DiagnosticData → List ℕ
 diagnostic_canonical (innermost f) = diagnostic_flags f ∷ diagnostic_fields_canonical f
-diagnostic_canonical (around f d) = (diagnostic_flags f + 64) ∷ (diagnostic_fields_canonical f ++ diagnostic_canonical d)
+diagnostic_canonical (around f d) = (diagnostic_flags f + 0x40) ∷ (diagnostic_fields_canonical f ++ diagnostic_canonical d)
 
 -- ---- reading on lists
 
 -- a mask of at most 0x7F, the fields that it announces, and where 0x40 is set an inner one, which inner reads
 unfoldable pub diagnostic_step : Reader DiagnosticData → Reader DiagnosticData
-diagnostic_step inner octets = number_at 1 octets >>= λ m. when (leb m.0 127) (
-    (diagnostic_fields m.0).decode m.1 >>= λ f. optional_read (has m.0 64) inner f.1 >>= λ i. Some (diagnostic_within i.0 f.0, i.1))
+diagnostic_step inner octets = number_at 1 octets >>= λ m. when (leb m.0 0x7F) (
+    (diagnostic_fields m.0).decode m.1 >>= λ f. optional_read (has m.0 0x40) inner f.1 >>= λ i. Some (diagnostic_within i.0 f.0, i.1))
 
 -- with so many levels left
 unfoldable pub diagnostic_at : ℕ → Reader DiagnosticData

@@ -1,9 +1,11 @@
 -- The dimensions of an array: Int32 numbers behind their count (OPC 10000-6, 5.2.2.16).
-use Rattle.std.specs.Prelude.{◌≡◌, ℕ, suc, zero, ◌*◌, ◌^◌, ◌<◌, ◌⊎◌, Bool, true, false, cond, ◌&&◌, ◌||◌, leb, eqb, List, [], ◌∷◌, ◌++◌, length, Option, Some}
+-- 2 rows of 3: 02 00 00 00 02 00 00 00 03 00 00 00
+use Rattle.std.specs.Prelude.{◌≡◌, ℕ, suc, zero, ◌*◌, ◌<◌, ◌⊎◌, Bool, true, false, cond, ◌&&◌, ◌||◌, leb, eqb, List, [], ◌∷◌, ◌++◌, length, Some}
 use lib.IntN.{ℤ, pos, negsuc}
 use Rattle.std.specs.Int.RustNames.{unsigned_abs}
 use Rattle.ua_builtin.specs.Exact.{◌>>=◌}
 use Rattle.ua_builtin.specs.Number.{IsNumber, number_at, number_octets}
+use Rattle.ua_builtin.specs.Counted.{first_negative, null_count as minus_one}
 use Rattle.ua_parts.specs.Parts.{Reader, when, Joins, Nothing, IsCount, IsNegative}
 
 -- the number of elements of an array with these dimensions
@@ -33,7 +35,7 @@ EncodesDims true n (d ∷ ds) b = (product (d ∷ ds) ≡ n) × Joins (IsCount (
 
 -- at most the greatest Int32
 abbrev pub is_count : ℕ → Bool
-is_count n = leb n 2147483647
+is_count n = leb n 0x7FFFFFFF
 
 -- an Int32 that is not negative
 abbrev pub is_size : ℤ → Bool
@@ -50,9 +52,9 @@ abbrev pub dims_encodable : List ℤ → ℕ → Bool
 dims_encodable [] n = true
 dims_encodable (d ∷ ds) n = is_count (length (d ∷ ds)) && are_sizes (d ∷ ds) && eqb (product (d ∷ ds)) n
 
--- -1 as an Int32, the count of null
+-- the count of a null array: -1 as an Int32, FF FF FF FF
 abbrev pub null_count : List ℕ
-null_count = number_octets 4 4294967295
+null_count = number_octets 4 minus_one
 
 -- the octets that are written for dimensions, one behind the other
 abbrev pub sizes_canonical : List ℤ → List ℕ
@@ -71,9 +73,9 @@ dims_canonical (d ∷ ds) = number_octets 4 (length (d ∷ ds)) ++ sizes_canonic
 
 -- ---- reading on lists
 
--- a number that is negative as an Int32: 2 ^ 31 or more
+-- a number that is negative as an Int32
 abbrev pub is_negative : ℕ → Bool
-is_negative n = leb 2147483648 n
+is_negative n = leb first_negative n
 
 -- a dimension, which is not negative
 unfoldable pub size_at : Reader ℤ
@@ -98,14 +100,10 @@ dims_at f n octets = cond f (
 unfoldable pub no_dims_at : Bool → Reader (List ℤ)
 no_dims_at f octets = cond f (number_at 4 octets >>= λ m. when (is_none_count m.0) (Some ([], m.1))) (Some ([], octets))
 
--- what was read, with these dimensions in front of it
-abbrev pub with_sizes : List ℤ → Option (List ℤ × List ℕ) → Option (List ℤ × List ℕ)
-with_sizes ds r = r >>= λ x. Some (ds ++ x.0, x.1)
-
 -- a count of dimensions that is not negative, and behind it fewer octets than as many dimensions take, which are 4 each
 pub record IsOverlongDims (octets : List ℕ) : Type 0 where
   pub count : ℕ
   pub rest : List ℕ
   pub begins : number_at 4 octets ≡ Some (count, rest)
-  pub positive : count < 2 ^ 31
+  pub positive : count < first_negative
   pub beyond : length rest < 4 * count

@@ -1,10 +1,7 @@
-pub mod Codes
-pub mod Diagnostic
-pub mod Diagnostics
-pub mod DimensionReaders
-pub mod Dimensions
-pub mod Flags
-pub mod Formats
 pub mod Parts
-pub mod Sizes
+pub mod Dimensions
+pub mod Diagnostic
 pub mod View
+pub mod Formats
+pub mod Codes
+pub mod Sizes

@@ -1,5 +1,5 @@
 -- The data that a DiagnosticInfo of the code stands for, and the one that stands for data.
-use Rattle.std.specs.Prelude.{◌≡◌, Option, Some, None, refl}
+use Rattle.std.specs.Prelude.{Option, Some, None}
 use Rattle.ua_parts.specs.Diagnostic.{DiagnosticFields, no_fields, DiagnosticData, innermost, around, diagnostic_within}
 use Rattle.ua_parts.specs.declared.diagnostic_info.DiagnosticInfo.{DiagnosticInfo}
 
@@ -23,14 +23,3 @@ diagnostic_value (around f d) = made_diagnostic (Some d) f
 -- the DiagnosticInfo of the code that says nothing: no field is there
 abbrev pub no_diagnostics : DiagnosticInfo
 no_diagnostics = made_diagnostic None no_fields
-
-pub diagnostic_forth : (d : DiagnosticData) → diagnostic_of (diagnostic_value d) ≡ d
-diagnostic_forth (innermost f) = refl
-diagnostic_forth (around f d) = refl
-
-made_back : (i : Option DiagnosticData) (f : DiagnosticFields) → diagnostic_value (diagnostic_within i f) ≡ made_diagnostic i f
-made_back None f = refl
-made_back (Some d) f = refl
-
-pub diagnostic_value_of : (d : DiagnosticInfo) → diagnostic_value (diagnostic_of d) ≡ d
-diagnostic_value_of d = made_back d.inner (diagnostic_fields_of d)

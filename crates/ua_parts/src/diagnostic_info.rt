@@ -9,9 +9,7 @@ use std::alloc::{AllocError, Global};
 use std::marker::Model;
 use ua_builtin::flags::is_flagged_encodable;
 use ua_builtin::{StatusCode, UaString, Wire};
-
-/// The most levels of a value that is written.
-const MOST_LEVELS: u32 = 100;
+use ua_octets::MOST_LEVELS;
 
 /// A DiagnosticInfo: what a vendor says about a StatusCode (OPC 10000-6, 5.2.2.12). The ids are
 /// places in the string table of the response header.

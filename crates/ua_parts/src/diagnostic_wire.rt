@@ -3,7 +3,7 @@
 ghost use Rattle.std.specs.Prelude.{◌≡◌, ◌≤◌, ◌++◌, true, IsTrue, OnOk, OnErr, is_some};
 ghost use Rattle.std.specs.Int.{w32};
 ghost use Rattle.ua_builtin.specs.Flags.{flagged_text};
-ghost use Rattle.ua_builtin.specs.Format.{Gives, GivesBy, StaysBehind, Extends};
+ghost use Rattle.ua_builtin.specs.Format.{most_levels, Gives, GivesBy, StaysBehind, Extends};
 ghost use Rattle.ua_builtin.specs.Signed.{signed};
 ghost use Rattle.ua_builtin.specs.Status.{status_code};
 ghost use Rattle.ua_parts.specs.Parts.{optional_read, optional_fits, optional_canonical};
@@ -35,11 +35,13 @@ const KNOWN_FLAGS: u8 = 0x7F;
 
 /// DiagnosticInfo (OPC 10000-6, 5.2.2.12).
 impl Wire for DiagnosticInfo {
-    ghost use Rattle.ua_parts.specs.Formats.{diagnostic_format, diagnostic_starts};
+    ghost use Rattle.ua_parts.specs.Formats.{diagnostic_format};
 
     ghost format = { diagnostic_format };
 
-    ghost starts = { diagnostic_starts };
+    #[inline]
+    #[tactic(auto, using(crate::proofs::DiagnosticsLawful::lawful_diagnostic))]
+    fn lawful() {}
 
     #[tactic(auto, unfolding(crate::specs::Formats::diagnostic_format))]
     fn read_value<S: Source>(
@@ -68,6 +70,7 @@ pub fn read_diagnostic<S: Source>(
     src: &mut S,
     depth: u32,
 ) -> Result<DiagnosticInfo, ReadFault>
+    requires levels { depth ≤ most_levels }
     ensures exact { GivesBy diagnostic_of (diagnostic_at depth) (S.octets src.old) (S.octets src.new) result }
     ensures behind { StaysBehind (S.octets src.old) (S.octets src.new) }
 {
@@ -85,6 +88,7 @@ fn read_level<S: Source>(
     src: &mut S,
     depth: u32,
 ) -> Result<DiagnosticInfo, ReadFault>
+    requires levels { depth ≤ most_levels }
     ensures exact { GivesBy diagnostic_of (diagnostic_step (diagnostic_at depth)) (S.octets src.old) (S.octets src.new) result }
     ensures behind { StaysBehind (S.octets src.old) (S.octets src.new) }
 {
@@ -118,6 +122,7 @@ fn read_inner<S: Source>(
     depth: u32,
     set: bool,
 ) -> Result<Option<BoxedDiagnostic>, ReadFault>
+    requires levels { depth ≤ most_levels }
     ensures exact { Gives (optional_read set (diagnostic_at depth)) (S.octets src.old) (S.octets src.new) result }
     ensures behind { StaysBehind (S.octets src.old) (S.octets src.new) }
 {

@@ -1,6 +1,7 @@
 //! The dimensions of an array (OPC 10000-6, 5.2.2.16).
 
 ghost use Rattle.std.specs.Prelude.{◌≡◌, ◌<◌, ◌*◌, ◌++◌, true, min, length, IsTrue, IfOk, OnOk, OnErr, IsErrOf, []};
+ghost use Rattle.ua_builtin.specs.Counted.{first_negative};
 ghost use Rattle.ua_builtin.specs.Format.{Gives, GivesBy, StaysBehind, Extends};
 ghost use Rattle.ua_octets.specs.declared.fault.ReadFault.TheVariants.{NoValue};
 ghost use Rattle.ua_parts.specs.Dimensions.{product, is_count, are_sizes, dims_encodable, dims_canonical, sizes_canonical, size_at, sizes_at, dims_at, no_dims_at, IsOverlongDims};
@@ -8,9 +9,7 @@ ghost use Rattle.ua_parts.specs.Dimensions.{product, is_count, are_sizes, dims_e
 use std::alloc::{AllocError, Global};
 use std::marker::Model;
 use ua_builtin::{ReadFault, Source, Wire};
-
-/// Counts from here on are negative as an Int32, and mean none.
-const FIRST_NEGATIVE: u32 = 1 << 31;
+use ua_octets::FIRST_NEGATIVE;
 
 /// The dimensions of an array; none where it has one dimension alone.
 #[derive(Drop)]
@@ -80,7 +79,7 @@ pub fn is_counted(n: usize) -> bool
 
 /// Whether these are the dimensions of an array of n elements: none, or their product is n.
 pub fn dims_fit(dims: &Dimensions, n: usize) -> bool
-    requires { n < 2147483648 }
+    requires { n < first_negative }
     ensures { result ≡ dims_encodable dims.now n }
 {
     let dims = dims.as_slice();
@@ -121,7 +120,7 @@ pub fn read_dims<S: Source>(
     set: bool,
     elements: u32,
 ) -> Result<Dimensions, ReadFault>
-    requires { elements < 2147483648 }
+    requires { elements < first_negative }
     ensures exact { Gives (dims_at set elements) (S.octets src.old) (S.octets src.new) result }
     ensures behind { StaysBehind (S.octets src.old) (S.octets src.new) }
     ensures long { IsTrue set → IsOverlongDims (S.octets src.old) → IsErrOf result NoValue }

@@ -1,7 +1,7 @@
 //! Fields that a mask announces: a value is there where its flag is set.
 
 ghost use Rattle.std.specs.Prelude.{◌≡◌, ◌≤◌, ◌++◌, IsTrue, OnOk, OnErr};
-ghost use Rattle.ua_builtin.specs.Format.{Gives, StaysBehind, Extends};
+ghost use Rattle.ua_builtin.specs.Format.{most_levels, Gives, StaysBehind, Extends};
 ghost use Rattle.ua_parts.specs.Parts.{there, optional_read, optional_fits, optional_canonical};
 
 use std::alloc::{AllocError, Global};
@@ -46,6 +46,7 @@ pub fn read_field<T: Wire + Drop, S: Source>(
     depth: u32,
     set: bool,
 ) -> Result<Option<T>, ReadFault>
+    requires levels { depth ≤ most_levels }
     ensures exact { Gives (optional_read set (T.format.decode depth)) (S.octets src.old) (S.octets src.new) result }
     ensures behind { StaysBehind (S.octets src.old) (S.octets src.new) }
 {

@@ -1,7 +1,7 @@
 use Rattle.std.proofs.Common.{◌-◌, arith}
 use Rattle.ua_parts.specs.View.{diagnostic_of}
 use Rattle.ua_parts.specs.Diagnostic.{diagnostic_at, diagnostic_step}
-use Rattle.ua_parts.specs.Diagnostics.{diagnostic_none, diagnostic_level}
+use Rattle.ua_parts.proofs.DiagnosticsRead.{diagnostic_none, diagnostic_level}
 use Rattle.ua_parts.proofs.Extents.{gives_same}
 use Rattle.ua_parts.proofs.diagnostic_wire.+diagnostics.Goals as goal
 

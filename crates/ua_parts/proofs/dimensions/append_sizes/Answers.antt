@@ -1,5 +1,5 @@
 use Rattle.std.proofs.Common.{◌++◌, ap, ◌∙◌, pos, FitsSigned, slice_index_or, rules, w32}
-use Rattle.ua_builtin.specs.Number.{number_octets}
+use Rattle.ua_octets.specs.Number.{number_octets}
 use Rattle.ua_parts.proofs.Extents.{canonical_after}
 use Rattle.ua_parts.proofs.dimensions.append_sizes.Goals as goal
 

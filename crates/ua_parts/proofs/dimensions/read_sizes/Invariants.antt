@@ -1,6 +1,7 @@
 use Rattle.std.proofs.Common.{◌≡◌, ◌-◌}
-use Rattle.ua_builtin.specs.Format.{StaysBehind}
-use Rattle.ua_parts.specs.Dimensions.{sizes_at, with_sizes}
+use Rattle.ua_octets.specs.Format.{StaysBehind}
+use Rattle.ua_parts.specs.Dimensions.{sizes_at}
+use Rattle.ua_parts.proofs.Extents.{with_sizes}
 use Rattle.ua_parts.proofs.dimensions.read_sizes.Given as goal
 
 abbrev pub invariant-loop : goal.invariant-loop

@@ -1,7 +1,9 @@
 use Rattle.ua_parts.specs.View.{diagnostic_of}
-use Rattle.ua_parts.specs.View.{diagnostic_value, diagnostic_value_of}
+use Rattle.ua_parts.specs.View.{diagnostic_value}
+use Rattle.ua_parts.proofs.Viewed.{diagnostic_value_of}
 use Rattle.ua_parts.specs.Diagnostic.{diagnostic_at}
-use Rattle.ua_parts.specs.Formats.{diagnostic_format, gives_made}
+use Rattle.ua_parts.specs.Formats.{diagnostic_format}
+use Rattle.ua_parts.proofs.DiagnosticsLawful.{gives_made}
 use Rattle.ua_parts.proofs.diagnostic_wire.DiagnosticInfoWire.read_value.Goals as goal
 
 pub returns-clause-exact : goal.returns-clause-exact

@@ -1,7 +1,8 @@
 -- The mask that a writer sets announces just the fields that are there, flag by flag.
 use Rattle.std.specs.Prelude.{◌≡◌, ℕ, ◌+◌, ◌*◌, ◌/◌, ◌%◌, ◌^◌, ◌≤◌, Bool, true, false, eqb, Option, Some, None, is_some}
 use Rattle.std.proofs.Common.{refl, ap, ◌∙◌, arith}
-use Rattle.ua_builtin.specs.Flags.{has, has_bit, flag_bit}
+use Rattle.ua_builtin.specs.Flags.{has, flag_bit}
+use Rattle.ua_builtin.proofs.FlagBits.{has_bit}
 use Rattle.ua_parts.specs.Parts.{there, optional_encodable, optional_fits}
 
 pub bit_is : {A : Type 0} (k : ℕ) (o : Option A) → flag_bit k (is_some o) ≡ k * there o

@@ -3,9 +3,12 @@ use Rattle.std.specs.Prelude.{◌≡◌, ℕ, zero, suc, ◌<◌, ◌≤◌, ◌
 use lib.IntN.{ℤ, pos, negsuc}
 use Rattle.std.proofs.Common.{inl, inr, refl, sym, subst, append-nil, arith}
 use Rattle.std.proofs.lemmas.Grind.{common_steps}
-use Rattle.ua_builtin.specs.Exact.{Exact, ◌>>=◌, exact_only, both_true, not_false}
-use Rattle.ua_builtin.specs.Number.{IsNumber, number_octets, exact_number}
-use Rattle.ua_parts.specs.Parts.{when, Joins, Nothing, IsCount, IsNegative, exact_then, exact_map, exact_as, exact_if, exact_when, nil_behind}
+use Rattle.ua_octets.specs.Exact.{Exact, ◌>>=◌}
+use Rattle.ua_octets.specs.Number.{IsNumber, number_octets}
+use Rattle.ua_octets.proofs.Readers.{exact_only, both_true, not_false}
+use Rattle.ua_octets.proofs.NumbersRead.{exact_number}
+use Rattle.ua_parts.specs.Parts.{when, Joins, Nothing, IsCount, IsNegative}
+use Rattle.ua_parts.proofs.PartsRead.{exact_then, exact_map, exact_as, exact_if, exact_when, nil_behind}
 use Rattle.ua_parts.specs.Dimensions.{product, IsSize, EncodesSizes, EncodesDims, is_count, are_sizes, dims_encodable, null_count, sizes_canonical, has_dims, dims_canonical, is_negative, size_at, sizes_at, is_none_count, dims_at, no_dims_at}
 
 pub count_is : (n : ℕ) → is_count n ≡ true → n < 2147483648
