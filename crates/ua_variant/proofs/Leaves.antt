@@ -5,7 +5,8 @@ use Rattle.ua_builtin.specs.Exact.{◌>>=◌, image_read}
 use Rattle.ua_builtin.specs.Counted.{counted}
 use Rattle.ua_variant.specs.Data.{LeafData, reserved, leaf}
 use Rattle.ua_parts.proofs.Extents.{never_some}
-use Rattle.ua_variant.specs.Leaf.{is_reserved, if_true, leaf_kind, leaf_at, exact_leaf, leaf_apart, leaf_kind_within, holds_values}
+use Rattle.ua_variant.specs.Leaf.{is_reserved, leaf_kind, leaf_at, holds_values}
+use Rattle.ua_variant.proofs.LeavesRead.{if_true, exact_leaf, leaf_apart, leaf_kind_within}
 
 is_reserved_at : (k : ℕ) → 26 ≤ k → k ≤ 31 → IsTrue (is_reserved k)
 is_reserved_at k h j = Prim.grind (arith, common_steps)

@@ -1,7 +1,15 @@
-pub mod Fits
-pub mod Leaves
+mod FieldFlags
+pub mod LeavesRead
+mod Leaves
+pub mod ScalarsRead
+pub mod ArraysRead
+pub mod VariantsRead
+pub mod Encoded
 pub mod Lengths
-pub mod Loops
-pub mod Rows
-pub mod Valued
-pub mod Written
+pub mod Viewed
+pub mod VariantsLawful
+mod Rows
+mod Fits
+mod Loops
+mod Valued
+mod Written

@@ -1,6 +1,6 @@
 -- What the parts of a value know from the whole.
 use Rattle.std.proofs.Common.{◌≡◌, ◌<◌, true, Option, Some, None, subst, ap, arith}
-use Rattle.ua_builtin.specs.Exact.{both_true}
+use Rattle.ua_octets.proofs.Readers.{both_true}
 use Rattle.ua_variant.specs.Data.{VariantData, DataFields}
 use Rattle.ua_variant.specs.declared.values.DataValue.{DataValue}
 use Rattle.ua_variant.specs.View.{value_within, data_fields_of, data_value_of}

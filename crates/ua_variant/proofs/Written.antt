@@ -2,7 +2,8 @@
 use Rattle.std.proofs.Common.{◌≡◌, ℕ, ◌+◌, ◌<◌, true, ◌&&◌, IsTrue, List, [], ◌∷◌, ◌++◌, length, get_or, take, sym, ap, ◌∙◌, append_assoc, append-nil, arith}
 use lib.IntN.{ℤ}
 use Rattle.std.proofs.lemmas.Grind.{common_steps}
-use Rattle.ua_builtin.specs.Exact.{both_true}
+use Rattle.ua_octets.specs.Format.{most_levels}
+use Rattle.ua_octets.proofs.Readers.{both_true}
 use Rattle.ua_variant.specs.Data.{DataFields, VariantData, DataValueData, ScalarData, ScalarsData, many}
 use Rattle.ua_variant.specs.View.{scalar_of, row}
 use Rattle.std.specs.Prelude.{leb}
@@ -14,7 +15,7 @@ use Rattle.ua_variant.specs.Measure.{variant_depth, data_value_depth}
 use Rattle.ua_variant.specs.Encodable.{data_fields_encodable, variant_encodable, data_value_encodable, data_value_fits, variant_fits, scalars_fit, row_length, is_kind}
 use Rattle.ua_parts.specs.Dimensions.{dims_encodable, is_count}
 use Rattle.ua_variant.specs.Canonical.{row_canonical, scalar_canonical}
-use Rattle.ua_parts.specs.DimensionReaders.{count_is}
+use Rattle.ua_parts.proofs.DimensionsRead.{count_is}
 use Rattle.ua_variant.specs.declared.values.Scalar.{Scalar}
 use Rattle.ua_variant.proofs.Rows.{seen, seen_next}
 
@@ -42,10 +43,10 @@ row_after old ss i s h is =
 
 -- what can be written fits
 pub variant_fits_of : (v : VariantData) → IsTrue (variant_encodable v) → variant_fits v ≡ true
-variant_fits_of v h = (both_true (leb (variant_depth v) 100) (variant_fits v) h).1
+variant_fits_of v h = (both_true (leb (variant_depth v) most_levels) (variant_fits v) h).1
 
 pub data_value_fits_of : (d : DataValueData) → IsTrue (data_value_encodable d) → data_value_fits d ≡ true
-data_value_fits_of d h = (both_true (leb (data_value_depth d) 100) (data_value_fits d) h).1
+data_value_fits_of d h = (both_true (leb (data_value_depth d) most_levels) (data_value_fits d) h).1
 
 -- each of the fields can be written
 pub data_fields_parts : (f : DataFields) → data_fields_encodable f ≡ true

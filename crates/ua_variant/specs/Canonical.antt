@@ -33,4 +33,4 @@ abbrev mutual
 
   pub data_value_canonical : DataValueData → List ℕ
   data_value_canonical (bare f) = data_flags f ∷ data_fields_canonical f
-  data_value_canonical (valued v f) = (data_flags f + 1) ∷ (variant_canonical v ++ data_fields_canonical f)
+  data_value_canonical (valued v f) = (data_flags f + 0x01) ∷ (variant_canonical v ++ data_fields_canonical f)

@@ -1,5 +1,5 @@
 -- Readers on lists: the value at the front and the octets behind it, or nothing.
-use Rattle.std.specs.Prelude.{ℕ, suc, zero, ◌%◌, Bool, cond, ◌&&◌, not, leb, eqb, List, [], ◌∷◌, Option, Some, None}
+use Rattle.std.specs.Prelude.{ℕ, suc, zero, ◌%◌, Bool, cond, ◌&&◌, not, leb, eqb, Some, None}
 use Rattle.ua_builtin.specs.Exact.{◌>>=◌}
 use Rattle.ua_builtin.specs.Number.{number_at}
 use Rattle.ua_variant.specs.Data.{VariantData, null, one, absent, many, ScalarData, leaf, data_value, variant, diagnostic, ScalarsData, no_scalars, scalar, DataValueData}
@@ -15,8 +15,8 @@ use Rattle.ua_parts.specs.Diagnostic.{diagnostic_at}
 
 -- a mask of at most 0x3F, where 0x01 is set a value, which inner reads, and the other fields that the mask announces
 unfoldable pub data_value_step : Reader VariantData → Reader DataValueData
-data_value_step inner octets = number_at 1 octets >>= λ m. when (leb m.0 63) (
-    optional_read (has m.0 1) inner m.1 >>= λ v. (data_fields m.0).decode v.1 >>= λ f. Some (value_within v.0 f.0, f.1))
+data_value_step inner octets = number_at 1 octets >>= λ m. when (leb m.0 0x3F) (
+    optional_read (has m.0 0x01) inner m.1 >>= λ v. (data_fields m.0).decode v.1 >>= λ f. Some (value_within v.0 f.0, f.1))
 
 -- a scalar of the type id
 unfoldable pub scalar_at : Reader DataValueData → Reader VariantData → Reader DiagnosticData → ℕ → Reader ScalarData
@@ -46,7 +46,7 @@ array_at p k f octets = number_at 4 octets >>= λ n. cond (is_negative n.0)
 unfoldable pub variant_after : (ℕ → Reader ScalarData) → ℕ → Reader VariantData
 variant_after p t octets =
     cond (eqb t 0) (Some (null, octets)) (
-    cond (leb 128 t) (when (is_read_kind (t % 64) && leb t 255) (array_at p (t % 64) (has t 64) octets))
+    cond (leb 0x80 t) (when (is_read_kind (t % 0x40) && leb t 0xFF) (array_at p (t % 0x40) (has t 0x40) octets))
     (when (not (eqb t 24)) (p t octets >>= λ s. Some (one s.0, s.1))))
 
 -- the first octet and what it announces, where p reads the scalars of each type id
@@ -66,12 +66,3 @@ unfoldable mutual
 -- the scalars of each type id, with n levels left
 abbrev pub scalars_at : ℕ → ℕ → Reader ScalarData
 scalars_at n = scalar_at (data_value_at n) (variant_at n) (diagnostic_at n)
-
--- these before the rest of a row
-abbrev pub before : List ScalarData → ScalarsData → ScalarsData
-before [] r = r
-before (s ∷ ss) r = scalar s (before ss r)
-
--- what was read of a row, with these scalars in front of it
-abbrev pub with_front : List ScalarData → Option (ScalarsData × List ℕ) → Option (ScalarsData × List ℕ)
-with_front ss r = r >>= λ x. Some (before ss x.0, x.1)

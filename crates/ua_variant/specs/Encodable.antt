@@ -5,6 +5,7 @@ use Rattle.std.specs.Prelude.{ℕ, ◌+◌, Bool, true, false, ◌&&◌, leb, eq
 use Rattle.ua_variant.specs.Data.{DataFields, VariantData, null, one, absent, many, ScalarData, leaf, data_value, variant, diagnostic, ScalarsData, no_scalars, scalar, DataValueData, bare, valued}
 use Rattle.ua_variant.specs.Leaf.{leaf_kind, leaf_encodable}
 use Rattle.ua_variant.specs.Measure.{variant_depth, data_value_depth}
+use Rattle.ua_builtin.specs.Format.{most_levels}
 use Rattle.ua_builtin.specs.Join.{number}
 use Rattle.ua_builtin.specs.DateTime.{date_time as date_time_format}
 use Rattle.ua_builtin.specs.Status.{status_code as status_code_format}
@@ -19,7 +20,7 @@ kind_of (data_value d) = 23
 kind_of (variant v) = 24
 kind_of (diagnostic d) = 25
 
--- the type ids that are written, and those that are read
+-- the type ids that are written
 abbrev pub is_kind : ℕ → Bool
 is_kind k = leb 1 k && leb k 25
 
@@ -29,7 +30,10 @@ is_read_kind k = leb 1 k && leb k 31
 
 -- each field that is there can be written
 unfoldable pub data_fields_encodable : DataFields → Bool
-data_fields_encodable f = optional_fits status_code_format.encodable f.status && (optional_fits (date_time_format).encodable f.source_timestamp && (optional_fits (number 2).encodable f.source_picoseconds && (optional_fits (date_time_format).encodable f.server_timestamp && optional_fits (number 2).encodable f.server_picoseconds)))
+data_fields_encodable f =
+    let time = optional_fits date_time_format.encodable in
+    let picoseconds = optional_fits (number 2).encodable in
+    optional_fits status_code_format.encodable f.status && (time f.source_timestamp && (picoseconds f.source_picoseconds && (time f.server_timestamp && picoseconds f.server_picoseconds)))
 
 -- the scalar is a Variant
 abbrev pub is_variant : ScalarData → Bool
@@ -69,8 +73,8 @@ abbrev mutual
 
 -- with at most 100 levels
 abbrev pub variant_encodable : VariantData → Bool
-variant_encodable v = leb (variant_depth v) 100 && variant_fits v
+variant_encodable v = leb (variant_depth v) most_levels && variant_fits v
 
 -- a DataValue that can be written with all that it holds, with at most 100 levels
 abbrev pub data_value_encodable : DataValueData → Bool
-data_value_encodable d = leb (data_value_depth d) 100 && data_value_fits d
+data_value_encodable d = leb (data_value_depth d) most_levels && data_value_fits d

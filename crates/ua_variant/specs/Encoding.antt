@@ -1,4 +1,4 @@
--- Which octets encode which values.
+-- Which octets encode which values: an Int32 of 7 as a Variant is 06 07 00 00 00, two of them 86 02 00 00 00 07 00 00 00 08 00 00 00.
 pub use Rattle.ua_parts.specs.Diagnostic.{EncodesDiagnostic}
 pub use Rattle.ua_parts.specs.Dimensions.{EncodesDims}
 use Rattle.std.specs.Prelude.{◌≡◌, ℕ, ◌+◌, Bool, true, false, IsTrue, List, []}
@@ -11,7 +11,7 @@ use Rattle.ua_variant.specs.Encodable.{kind_of, row_length, is_read_kind}
 
 -- the first octet of an array: 0x80, 0x40 where dimensions follow, and the type id
 abbrev pub array_octet : Bool → ℕ → ℕ
-array_octet f k = 128 + flag_bit 64 f + k
+array_octet f k = 0x80 + flag_bit 0x40 f + k
 
 -- a Variant (OPC 10000-6, 5.2.2.16): the octet of the type id, and behind it a value, or for an array a count, the elements and the dimensions
 abbrev mutual
@@ -34,5 +34,5 @@ abbrev mutual
 
   -- a mask of at most 0x3F, where 0x01 is set the value, and the other fields that it announces (OPC 10000-6, 5.2.2.17)
   pub EncodesDataValue : DataValueData → List ℕ → Type 0
-  EncodesDataValue (bare f) b = Masked 63 (λ m c. (has m 1 ≡ false) × (data_fields m).encodes f c) b
-  EncodesDataValue (valued v f) b = Masked 63 (λ m c. (has m 1 ≡ true) × Joins (EncodesVariant v) ((data_fields m).encodes f) c) b
+  EncodesDataValue (bare f) b = Masked 0x3F (λ m c. (has m 0x01 ≡ false) × (data_fields m).encodes f c) b
+  EncodesDataValue (valued v f) b = Masked 0x3F (λ m c. (has m 0x01 ≡ true) × Joins (EncodesVariant v) ((data_fields m).encodes f) c) b

@@ -6,11 +6,9 @@ ghost use Rattle.ua_variant.specs.View.{row, variant_of, scalar_of, data_value_o
 
 use crate::values::{DataValue, Scalar, Scalars, Variant};
 use ua_builtin::Wire;
+use ua_octets::MOST_LEVELS;
 use ua_parts::field::field_fits;
 use ua_parts::{dims_fit, is_counted};
-
-/// The most levels of a value that is written.
-const MOST_LEVELS: u32 = 100;
 
 impl Variant {
     /// Whether the value can be written: it has at most 100 levels, the elements of an array are

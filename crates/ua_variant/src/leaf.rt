@@ -3,7 +3,6 @@
 ghost use Rattle.std.specs.Prelude.{◌≡◌, ℕ, List};
 ghost use Rattle.ua_builtin.specs.Exact.{image_read};
 ghost use Rattle.ua_builtin.specs.Format.{GivesBy, StaysBehind};
-ghost use Rattle.ua_parts.specs.Formats.{made_read};
 ghost use Rattle.ua_variant.specs.Data.{LeafData, leaf};
 ghost use Rattle.ua_variant.specs.Leaf.{leaf_at};
 ghost use Rattle.ua_variant.specs.View.{scalar_of};
@@ -34,7 +33,7 @@ pub trait Leaf: Wire {
 
 /// Reads a scalar as a value of its type.
 pub fn read_as<T: Leaf, S: Source>(alloc: Global, src: &mut S) -> Result<Scalar, ReadFault>
-    ensures exact { GivesBy scalar_of (made_read leaf (leaf_at T.kind)) (S.octets src.old) (S.octets src.new) result }
+    ensures exact { GivesBy scalar_of (image_read leaf (leaf_at T.kind)) (S.octets src.old) (S.octets src.new) result }
     ensures behind { StaysBehind (S.octets src.old) (S.octets src.new) }
 {
     T::reads();

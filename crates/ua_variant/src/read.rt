@@ -2,9 +2,9 @@
 
 ghost use Rattle.std.specs.Prelude.{◌≡◌, ◌<◌, ◌≤◌, IsErrOf};
 ghost use Rattle.ua_builtin.specs.Exact.{image_read};
-ghost use Rattle.ua_builtin.specs.Format.{Gives, GivesBy, StaysBehind};
+ghost use Rattle.ua_builtin.specs.Counted.{first_negative};
+ghost use Rattle.ua_builtin.specs.Format.{most_levels, Gives, GivesBy, StaysBehind};
 ghost use Rattle.ua_octets.specs.declared.fault.ReadFault.TheVariants.{NoValue};
-ghost use Rattle.ua_parts.specs.Formats.{made_read};
 ghost use Rattle.ua_parts.specs.Parts.{optional_read};
 ghost use Rattle.ua_variant.specs.Data.{leaf};
 ghost use Rattle.ua_variant.specs.Fields.{data_fields};
@@ -23,11 +23,9 @@ use ua_builtin::{
     DateTime, DoubleBits, ExpandedNodeId, ExtensionObject, FloatBits, Guid, LocalizedText, NodeId,
     QualifiedName, ReadFault, Source, StatusCode, UaBytes, UaString, Wire, XmlElement,
 };
+use ua_octets::FIRST_NEGATIVE;
 use ua_parts::field::read_field;
 use ua_parts::{read_diagnostic, read_dims, read_no_dims};
-
-/// Counts from here on are negative as an Int32, and mean null.
-const FIRST_NEGATIVE: u32 = 1 << 31;
 
 /// For so many elements room is made at once; a longer array grows by what was read, so that
 /// nested arrays with false counts ask for no more than their octets can hold.
@@ -35,7 +33,7 @@ const MOST_RESERVED: usize = 64;
 
 /// Reads a scalar that holds no further value.
 fn read_leaf<S: Source>(alloc: Global, src: &mut S, kind: u8) -> Result<Scalar, ReadFault>
-    ensures exact { GivesBy scalar_of (made_read leaf (leaf_at kind)) (S.octets src.old) (S.octets src.new) result }
+    ensures exact { GivesBy scalar_of (image_read leaf (leaf_at kind)) (S.octets src.old) (S.octets src.new) result }
     ensures behind { StaysBehind (S.octets src.old) (S.octets src.new) }
 {
     match kind {
@@ -50,7 +48,7 @@ fn read_leaf<S: Source>(alloc: Global, src: &mut S, kind: u8) -> Result<Scalar, 
 fn read_number<S: Source>(alloc: Global, src: &mut S, kind: u8) -> Result<Scalar, ReadFault>
     requires low { 1 ≤ kind }
     requires high { kind ≤ 11 }
-    ensures exact { GivesBy scalar_of (made_read leaf (leaf_at kind)) (S.octets src.old) (S.octets src.new) result }
+    ensures exact { GivesBy scalar_of (image_read leaf (leaf_at kind)) (S.octets src.old) (S.octets src.new) result }
     ensures behind { StaysBehind (S.octets src.old) (S.octets src.new) }
 {
     match kind {
@@ -72,7 +70,7 @@ fn read_number<S: Source>(alloc: Global, src: &mut S, kind: u8) -> Result<Scalar
 fn read_record<S: Source>(alloc: Global, src: &mut S, kind: u8) -> Result<Scalar, ReadFault>
     requires low { 12 ≤ kind }
     requires high { kind ≤ 22 }
-    ensures exact { GivesBy scalar_of (made_read leaf (leaf_at kind)) (S.octets src.old) (S.octets src.new) result }
+    ensures exact { GivesBy scalar_of (image_read leaf (leaf_at kind)) (S.octets src.old) (S.octets src.new) result }
     ensures behind { StaysBehind (S.octets src.old) (S.octets src.new) }
 {
     match kind {
@@ -95,7 +93,7 @@ fn read_record<S: Source>(alloc: Global, src: &mut S, kind: u8) -> Result<Scalar
 fn read_reserved<S: Source>(alloc: Global, src: &mut S, kind: u8) -> Result<Scalar, ReadFault>
     requires low { 26 ≤ kind }
     requires high { kind ≤ 31 }
-    ensures exact { GivesBy scalar_of (made_read leaf (leaf_at kind)) (S.octets src.old) (S.octets src.new) result }
+    ensures exact { GivesBy scalar_of (image_read leaf (leaf_at kind)) (S.octets src.old) (S.octets src.new) result }
     ensures behind { StaysBehind (S.octets src.old) (S.octets src.new) }
 {
     let octets = UaBytes::read_value(alloc, src, 0)?;
@@ -105,6 +103,7 @@ fn read_reserved<S: Source>(alloc: Global, src: &mut S, kind: u8) -> Result<Scal
 /// Reads a Variant of at most so many levels.
 #[cycle(variants)]
 pub fn read_variant<S: Source>(alloc: Global, src: &mut S, depth: u32) -> Result<Variant, ReadFault>
+    requires levels { depth ≤ most_levels }
     ensures exact { GivesBy variant_of (variant_at depth) (S.octets src.old) (S.octets src.new) result }
     ensures behind { StaysBehind (S.octets src.old) (S.octets src.new) }
     ensures long { IsOverlongArray (S.octets src.old) → IsErrOf result NoValue }
@@ -149,6 +148,7 @@ fn read_variant_level<S: Source>(
     src: &mut S,
     depth: u32,
 ) -> Result<Variant, ReadFault>
+    requires levels { depth ≤ most_levels }
     ensures exact { GivesBy variant_of (variant_step (scalars_at depth)) (S.octets src.old) (S.octets src.new) result }
     ensures behind { StaysBehind (S.octets src.old) (S.octets src.new) }
     ensures long { IsOverlongArray (S.octets src.old) → IsErrOf result NoValue }
@@ -181,6 +181,7 @@ fn read_array<S: Source>(
     kind: u8,
     flagged: bool,
 ) -> Result<Variant, ReadFault>
+    requires levels { depth ≤ most_levels }
     ensures exact { GivesBy variant_of (array_at (scalars_at depth) kind flagged) (S.octets src.old) (S.octets src.new) result }
     ensures behind { StaysBehind (S.octets src.old) (S.octets src.new) }
     ensures long { IsOverlongRow kind (S.octets src.old) → IsErrOf result NoValue }
@@ -211,7 +212,8 @@ fn read_elements<S: Source>(
     flagged: bool,
     count: u32,
 ) -> Result<Variant, ReadFault>
-    requires { count < 2147483648 }
+    requires levels { depth ≤ most_levels }
+    requires count { count < first_negative }
     ensures exact { GivesBy variant_of (elements_at (scalars_at depth) kind flagged count) (S.octets src.old) (S.octets src.new) result }
     ensures behind { StaysBehind (S.octets src.old) (S.octets src.new) }
 {
@@ -233,6 +235,7 @@ fn read_row<S: Source>(
     kind: u8,
     count: u32,
 ) -> Result<Scalars, ReadFault>
+    requires levels { depth ≤ most_levels }
     ensures exact { GivesBy (λ ss. row ss) (row_at count (scalars_at depth kind)) (S.octets src.old) (S.octets src.new) result }
     ensures behind { StaysBehind (S.octets src.old) (S.octets src.new) }
 {
@@ -253,6 +256,7 @@ fn read_scalar<S: Source>(
     depth: u32,
     kind: u8,
 ) -> Result<Scalar, ReadFault>
+    requires levels { depth ≤ most_levels }
     ensures exact { GivesBy scalar_of (scalars_at depth kind) (S.octets src.old) (S.octets src.new) result }
     ensures behind { StaysBehind (S.octets src.old) (S.octets src.new) }
 {
@@ -271,6 +275,7 @@ pub fn read_data_value<S: Source>(
     src: &mut S,
     depth: u32,
 ) -> Result<DataValue, ReadFault>
+    requires levels { depth ≤ most_levels }
     ensures exact { GivesBy data_value_of (data_value_at depth) (S.octets src.old) (S.octets src.new) result }
     ensures behind { StaysBehind (S.octets src.old) (S.octets src.new) }
 {
@@ -288,6 +293,7 @@ fn read_data_value_level<S: Source>(
     src: &mut S,
     depth: u32,
 ) -> Result<DataValue, ReadFault>
+    requires levels { depth ≤ most_levels }
     ensures exact { GivesBy data_value_of (data_value_step (variant_at depth)) (S.octets src.old) (S.octets src.new) result }
     ensures behind { StaysBehind (S.octets src.old) (S.octets src.new) }
 {
@@ -333,6 +339,7 @@ fn read_boxed<S: Source>(
     depth: u32,
     set: bool,
 ) -> Result<Option<BoxedVariant>, ReadFault>
+    requires levels { depth ≤ most_levels }
     ensures exact { Gives (optional_read set (variant_at depth)) (S.octets src.old) (S.octets src.new) result }
     ensures behind { StaysBehind (S.octets src.old) (S.octets src.new) }
 {

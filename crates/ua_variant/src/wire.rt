@@ -8,13 +8,15 @@ use ua_builtin::{ReadFault, Source, Wire};
 
 /// Variant (OPC 10000-6, 5.2.2.16).
 impl Wire for Variant {
-    ghost use Rattle.ua_variant.specs.Formats.{variant_format, variant_starts, IsOverlongArray};
+    ghost use Rattle.ua_variant.specs.Formats.{variant_format, IsOverlongArray};
 
     ghost format = { variant_format };
 
     ghost overlong = { IsOverlongArray };
 
-    ghost starts = { variant_starts };
+    #[inline]
+    #[tactic(auto, using(crate::proofs::VariantsLawful::lawful_variant))]
+    fn lawful() {}
 
     #[tactic(auto, unfolding(crate::specs::Formats::variant_format))]
     fn read_value<S: Source>(alloc: Global, src: &mut S, depth: u32) -> Result<Variant, ReadFault> {
@@ -34,11 +36,13 @@ impl Wire for Variant {
 
 /// DataValue (OPC 10000-6, 5.2.2.17).
 impl Wire for DataValue {
-    ghost use Rattle.ua_variant.specs.Formats.{data_value_format, data_value_starts};
+    ghost use Rattle.ua_variant.specs.Formats.{data_value_format};
 
     ghost format = { data_value_format };
 
-    ghost starts = { data_value_starts };
+    #[inline]
+    #[tactic(auto, using(crate::proofs::VariantsLawful::lawful_data_value))]
+    fn lawful() {}
 
     #[tactic(auto, unfolding(crate::specs::Formats::data_value_format))]
     fn read_value<S: Source>(

@@ -1,6 +1,7 @@
 //! Writes Variants and DataValues.
 
 ghost use Rattle.std.specs.Prelude.{◌≡◌, ◌<◌, ◌≤◌, ◌++◌, true, OnOk, OnErr};
+ghost use Rattle.ua_builtin.specs.Counted.{first_negative};
 ghost use Rattle.ua_builtin.specs.Format.{Extends};
 ghost use Rattle.ua_parts.specs.Dimensions.{dims_encodable, has_dims};
 ghost use Rattle.ua_variant.specs.Data.{many};
@@ -16,11 +17,9 @@ use crate::values::{DataValue, Scalar, Scalars, Variant};
 use std::alloc::AllocError;
 use ua_builtin::Wire;
 use ua_builtin::flags::flag_of;
+use ua_octets::NULL_COUNT;
 use ua_parts::field::{append_three, append_two};
 use ua_parts::{Dimensions, append_diagnostic, append_dims};
-
-/// The count of a null array.
-const NULL_COUNT: u32 = u32::MAX;
 
 /// The flags of the fields that are there, but the value.
 #[tactic(auto, unfolding(crate::specs::Fields::data_flags))]
@@ -113,7 +112,7 @@ fn append_array(
     out: &mut Vec<u8>,
 ) -> Result<(), AllocError>
     requires low { kind < 32 }
-    requires count { row_length (row items.now) < 2147483648 }
+    requires count { row_length (row items.now) < first_negative }
     requires dims { dims_encodable dims.now (row_length (row items.now)) ≡ true }
     requires each { scalars_fit kind (row items.now) ≡ true }
     ensures ok { OnOk result (out.new.items ≡ out.old.items ++ variant_canonical (many kind (row items.now) dims.now)) }

@@ -1,10 +1,9 @@
-use Rattle.std.proofs.Common.{◌-◌, ◌+◌, ◌∷◌, [], map, Some, ap, sym, ◌∙◌, arith}
-use Rattle.std.proofs.lemmas.List.{map-append}
-use Rattle.ua_variant.specs.View.{row, scalar_of, variant_of, data_value_of}
-use Rattle.ua_variant.specs.Decoding.{variant_at, variant_step, data_value_at, data_value_step, scalars_at, row_at, with_front}
-use Rattle.ua_variant.specs.Variants.{variant_none, variant_level, data_value_none, data_value_level}
+use Rattle.std.proofs.Common.{◌-◌, map, arith}
+use Rattle.ua_variant.specs.View.{scalar_of, variant_of, data_value_of}
+use Rattle.ua_variant.specs.Decoding.{variant_at, variant_step, data_value_at, data_value_step, scalars_at}
+use Rattle.ua_variant.proofs.VariantsRead.{variant_none, variant_level, data_value_none, data_value_level}
 use Rattle.ua_parts.proofs.Extents.{gives_same}
-use Rattle.ua_variant.proofs.Loops.{row_more, row_ends, array_short}
+use Rattle.ua_variant.proofs.Loops.{row_so_far, row_done, array_short}
 use Rattle.ua_variant.proofs.read.+variants.Goals as goal
 
 pub read_variant-returns-then-depth-eq0-clause-exact : goal.read_variant-returns-then-depth-eq0-clause-exact
@@ -23,19 +22,13 @@ read_data_value-returns-clause-exact g t c =
 
 pub read_row-loop-preserved : goal.read_row-loop-preserved
 read_row-loop-preserved g t c = record {
-  so_far = let p = scalars_at c.args.depth c.args.kind in
-      ap (λ xs. with_front (map scalar_of xs) (row_at (c.args.count - (c.loop.counter + 1)) p (g.S.Source.octets c.read_scalar.new.src))) c.in_ok-push.ensures.items
-      ∙ ap (λ ss. with_front ss (row_at (c.args.count - (c.loop.counter + 1)) p (g.S.Source.octets c.read_scalar.new.src))) (map-append scalar_of c.loop.items.items (c.in_ok-item.item ∷ []))
-      ∙ sym (row_more p (map scalar_of c.loop.items.items) (scalar_of c.in_ok-item.item) (c.args.count - c.loop.counter) (c.args.count - (c.loop.counter + 1)) (g.S.Source.octets c.loop.src) (g.S.Source.octets c.read_scalar.new.src) (omega arith) c.in_ok-item.ensures.exact)
-      ∙ c.loop.invariant.so_far;
+  so_far = row_so_far (scalars_at c.args.depth c.args.kind) c.loop.items.items c.in_ok-item.item c.args.count c.loop.counter (g.S.Source.octets c.args.src.now) (g.S.Source.octets c.loop.src) (g.S.Source.octets c.read_scalar.new.src) (omega arith) c.in_ok-push.ensures.items c.in_ok-item.ensures.exact c.loop.invariant.so_far;
   behind = λ start h. c.in_ok-item.ensures.behind start (c.loop.invariant.behind start h);
 }
 
 pub read_row-returns-clause-exact : goal.read_row-returns-clause-exact
 read_row-returns-clause-exact g t c =
-    sym c.loop.invariant.so_far
-    ∙ row_ends (scalars_at c.args.depth c.args.kind) (map scalar_of c.loop.items.items) (c.args.count - c.loop.counter) (g.S.Source.octets c.loop.src) (omega arith)
-    ∙ ap (λ ss. Some (row ss, g.S.Source.octets c.loop.src)) (sym c.new.ensures)
+    row_done (scalars_at c.args.depth c.args.kind) (map scalar_of c.loop.items.items) c.args.count (c.args.count - c.loop.counter) (g.S.Source.octets c.args.src.now) (g.S.Source.octets c.loop.src) c.loop.invariant.so_far (omega arith) c.new.ensures
 
 pub read_array-returns-then-room-count-clause-exact : goal.read_array-returns-then-room-count-clause-exact
 read_array-returns-then-room-count-clause-exact g t c =

@@ -2,22 +2,26 @@
 use Rattle.std.specs.Prelude.{◌≡◌, ℕ, ◌<◌, ◌≤◌, Bool, true, false, ◌&&◌, not, IsTrue, leb, eqb, List, [], ◌∷◌, ◌++◌}
 use Rattle.std.proofs.Common.{refl, sym, subst, ap, ◌∙◌, append-nil, arith}
 use Rattle.std.proofs.lemmas.Grind.{common_steps}
-use Rattle.ua_builtin.specs.Exact.{both_true, not_false}
+use Rattle.ua_octets.specs.Format.{most_levels}
+use Rattle.ua_octets.proofs.Readers.{both_true, not_false}
 use Rattle.ua_builtin.specs.Number.{number_octets}
 use Rattle.ua_variant.specs.Data.{DataFields, VariantData, null, one, absent, many, ScalarData, leaf, data_value, variant, diagnostic, ScalarsData, no_scalars, scalar, DataValueData, bare, valued}
 use Rattle.ua_variant.specs.Measure.{variant_depth, data_value_depth}
 use Rattle.ua_builtin.specs.Flags.{has}
-use Rattle.ua_parts.specs.Parts.{IsOctet, fits_second, depth_first}
-use Rattle.ua_variant.specs.Leaf.{leaf_canonical_encodes, leaf_apart, holds_values}
+use Rattle.ua_parts.specs.Parts.{IsOctet}
+use Rattle.ua_parts.proofs.PartsLawful.{fits_second, depth_first}
+use Rattle.ua_variant.specs.Leaf.{holds_values}
+use Rattle.ua_variant.proofs.LeavesRead.{leaf_canonical_encodes, leaf_apart}
 use Rattle.ua_variant.specs.Fields.{data_fields, data_flags}
-use Rattle.ua_variant.specs.Flags.{data_mask, data_mask_low, data_mask_value, data_fields_encodable_as}
+use Rattle.ua_variant.proofs.FieldFlags.{data_mask, data_mask_low, data_mask_value, data_fields_encodable_as}
 use Rattle.ua_variant.specs.Encodable.{data_fields_encodable, kind_of, is_kind, is_read_kind, is_variant, row_length, variant_fits, scalar_fits, scalars_fit, data_value_fits, variant_encodable, data_value_encodable}
-use Rattle.ua_parts.specs.Diagnostics.{diagnostic_encodes}
+use Rattle.ua_parts.proofs.DiagnosticsWritten.{diagnostic_encodes}
 use Rattle.ua_parts.specs.Dimensions.{is_count, dims_encodable, null_count, has_dims, dims_canonical}
 use Rattle.ua_variant.specs.Encoding.{array_octet, EncodesVariant, EncodesScalar, EncodesRow, EncodesDataValue}
 use Rattle.ua_variant.specs.Canonical.{data_fields_canonical, variant_canonical, scalar_canonical, row_canonical, data_value_canonical}
-use Rattle.ua_parts.specs.DimensionReaders.{eqb_to, count_encodes, null_encodes, dims_encode}
-use Rattle.ua_variant.specs.Variants.{kind_within}
+use Rattle.ua_parts.proofs.DimensionsRead.{eqb_to, count_encodes, null_encodes, dims_encode}
+use Rattle.ua_variant.proofs.ScalarsRead.{sound_data_fields}
+use Rattle.ua_variant.proofs.VariantsRead.{kind_within}
 
 -- ---- fields behind a mask
 
@@ -29,7 +33,7 @@ data_fields_encoded : (f : DataFields) (v : ℕ) → v ≤ 1 → data_fields_enc
 unfolding data_fields_canonical
 data_fields_encoded f v h fits =
     subst ((data_fields (data_mask f v)).encodes f) (data_canonical_same (data_mask f v) (data_flags f) f)
-    ((data_fields (data_mask f v)).canonical_encodes f (data_fields_encodable_as f v h ∙ fits))
+    ((sound_data_fields (data_mask f v)).canonical_encodes f (data_fields_encodable_as f v h ∙ fits))
 
 low_63 : (m : ℕ) → m ≤ 63 → IsTrue (leb m 63)
 low_63 m h = Prim.grind (arith, common_steps)
@@ -113,11 +117,11 @@ mutual
 pub variant_canonical_encodes : (v : VariantData) → IsTrue (variant_encodable v) → EncodesVariant v (variant_canonical v)
 variant_canonical_encodes v h = variant_encodes v (fits_second (variant_depth v) (variant_fits v) h)
 
-pub variant_encodable_depth : (v : VariantData) → IsTrue (variant_encodable v) → variant_depth v ≤ 100
+pub variant_encodable_depth : (v : VariantData) → IsTrue (variant_encodable v) → variant_depth v ≤ most_levels
 variant_encodable_depth v h = depth_first (variant_depth v) (variant_fits v) h
 
 pub data_value_canonical_encodes : (d : DataValueData) → IsTrue (data_value_encodable d) → EncodesDataValue d (data_value_canonical d)
 data_value_canonical_encodes d h = data_value_encodes d (fits_second (data_value_depth d) (data_value_fits d) h)
 
-pub data_value_encodable_depth : (d : DataValueData) → IsTrue (data_value_encodable d) → data_value_depth d ≤ 100
+pub data_value_encodable_depth : (d : DataValueData) → IsTrue (data_value_encodable d) → data_value_depth d ≤ most_levels
 data_value_encodable_depth d h = depth_first (data_value_depth d) (data_value_fits d) h

@@ -2,20 +2,35 @@
 use Rattle.std.specs.Prelude.{◌≡◌, ℕ, suc, ◌+◌, ◌≤◌, Bool, true, false, cond, IsTrue, leb, eqb, List, [], ◌++◌, Option, Some, None}
 use Rattle.std.proofs.Common.{refl, sym, subst, ap, ◌∙◌, arith}
 use Rattle.std.proofs.lemmas.Grind.{common_steps}
-use Rattle.ua_builtin.specs.Exact.{Exact, ◌>>=◌}
-use Rattle.ua_builtin.specs.Format.{Within}
+use Rattle.ua_octets.specs.Exact.{Exact, ◌>>=◌}
+use Rattle.ua_octets.specs.Format.{IsSound, Within}
+use Rattle.ua_octets.proofs.Lawfulness.{sound_made, sound_both, sound_number}
+use Rattle.ua_builtin.proofs.PlainLawful.{sound_date_time, sound_status_code}
+use Rattle.ua_parts.proofs.PartsLawful.{sound_optional}
 use Rattle.ua_variant.specs.Data.{DataFields, VariantData, ScalarData, leaf, data_value, variant, diagnostic, DataValueData, bare, valued}
 use Rattle.ua_parts.specs.Diagnostic.{DiagnosticData}
 use Rattle.ua_variant.specs.Measure.{variant_depth, scalar_depth, data_value_depth}
 use Rattle.ua_variant.specs.View.{value_within}
 use Rattle.ua_builtin.specs.Flags.{has}
-use Rattle.ua_parts.specs.Parts.{Reader, when, Joins, Nothing, IsOctet, Optional, optional_read, exact_octet, exact_then, exact_map, exact_as, exact_when, exact_optional}
-use Rattle.ua_variant.specs.Leaf.{leaf_kind, leaf_at, exact_leaf, leaf_apart, holds_values, Sound, sound_if, eqb_is}
+use Rattle.ua_parts.specs.Parts.{Reader, when, Joins, Nothing, IsOctet, Optional, optional_read}
+use Rattle.ua_parts.proofs.PartsRead.{exact_octet, exact_then, exact_map, exact_as, exact_when, exact_optional}
+use Rattle.ua_variant.specs.Leaf.{leaf_kind, leaf_at, holds_values}
+use Rattle.ua_variant.proofs.LeavesRead.{exact_leaf, leaf_apart, Sound, sound_if, eqb_is}
 use Rattle.ua_variant.specs.Fields.{data_fields}
 use Rattle.ua_variant.specs.Encodable.{kind_of}
 use Rattle.ua_variant.specs.Encoding.{EncodesVariant, EncodesScalar, EncodesDataValue}
 use Rattle.ua_variant.specs.Decoding.{data_value_step, scalar_at}
-use Rattle.ua_parts.specs.Diagnostics.{Shallow}
+use Rattle.ua_parts.proofs.DiagnosticsRead.{Shallow}
+
+pub sound_data_fields : (m : ℕ) → IsSound (data_fields m)
+unfolding data_fields
+sound_data_fields m =
+    sound_made _ _ (λ f. refl)
+    (sound_both (sound_optional (has m 2) sound_status_code)
+    (sound_both (sound_optional (has m 4) sound_date_time)
+    (sound_both (sound_optional (has m 16) (sound_number 2))
+    (sound_both (sound_optional (has m 8) sound_date_time)
+    (sound_optional (has m 32) (sound_number 2))))))
 
 -- of the depth n at most
 abbrev pub ShallowV : ℕ → VariantData → List ℕ → Type 0
@@ -38,7 +53,7 @@ Body n m y b = IsTrue (leb m 63) × ((v : Option VariantData) × Joins (Optional
 body : (n m : ℕ) (r : Reader VariantData) → Exact (ShallowV n) r
     → Exact (Body n m) (λ octets. when (leb m 63) (optional_read (has m 1) r octets >>= λ v. (data_fields m).decode v.1 >>= λ f. Some (value_within v.0 f.0, f.1)))
 body n m r e =
-    exact_when (leb m 63) (exact_then (exact_optional (ShallowV n) r (has m 1) e) (λ v. exact_map (λ (f : DataFields). value_within v f) (data_fields m).exact))
+    exact_when (leb m 63) (exact_then (exact_optional (ShallowV n) r (has m 1) e) (λ v. exact_map (λ (f : DataFields). value_within v f) (sound_data_fields m).exact))
 
 nil_before : (b front back : List ℕ) → b ≡ front ++ back → Nothing front → b ≡ back
 nil_before b front back e none = e ∙ ap (λ (c : List ℕ). c ++ back) none
