@@ -10,6 +10,7 @@ pub mod Viewed
 pub mod VariantsLawful
 mod Rows
 mod Fits
+mod Judged
 mod Loops
 mod Valued
 mod Written

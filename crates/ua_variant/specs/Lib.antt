@@ -5,6 +5,7 @@ pub mod Least
 pub mod Fields
 pub mod Encoding
 pub mod Encodable
+pub mod Judging
 pub mod Canonical
 pub mod Decoding
 pub mod View

@@ -2,6 +2,8 @@
 
 ghost use Rattle.std.specs.Prelude.{◌≡◌};
 ghost use Rattle.ua_variant.specs.Encodable.{variant_encodable, data_value_encodable, variant_fits, scalar_fits, scalars_fit, data_value_fits, data_fields_encodable, kind_of, is_kind, row_length};
+ghost use Rattle.ua_variant.specs.Judging.{levels_if, is_within};
+ghost use Rattle.ua_variant.specs.Measure.{variant_depth, scalar_depth, scalars_depth, data_value_depth};
 ghost use Rattle.ua_variant.specs.View.{row, variant_of, scalar_of, data_value_of, data_fields_of};
 
 use crate::values::{DataValue, Scalar, Scalars, Variant};
@@ -16,7 +18,7 @@ impl Variant {
     pub fn writable(&self) -> bool
         ensures { result ≡ variant_encodable (variant_of self.now) }
     {
-        self.depth() <= MOST_LEVELS && variant_fits_in(self)
+        is_within_most(variant_levels_of(self))
     }
 }
 
@@ -25,7 +27,7 @@ impl DataValue {
     pub fn writable(&self) -> bool
         ensures { result ≡ data_value_encodable (data_value_of self.now) }
     {
-        self.depth() <= MOST_LEVELS && data_value_fits_in(self)
+        is_within_most(data_value_levels_of(self))
     }
 }
 
@@ -81,91 +83,124 @@ pub fn element_count(items: &Scalars) -> usize
     items.as_slice().len()
 }
 
+/// Whether there are levels, at most those of a value that is written.
+#[inline]
+fn is_within_most(levels: Option<u32>) -> bool
+    ensures { result ≡ is_within levels }
+{
+    match levels {
+        None => false,
+        Some(n) => n <= MOST_LEVELS,
+    }
+}
+
+/// No levels, where the value can be written.
+#[inline]
+fn no_levels_if(fits: bool) -> Option<u32>
+    ensures { result ≡ levels_if fits 0 }
+{
+    if fits { Some(0) } else { None }
+}
+
+/// How many levels a Variant has, if it can be written but for these.
 #[cycle(fits)]
-fn variant_fits_in(value: &Variant) -> bool
-    ensures { result ≡ variant_fits (variant_of value.now) }
+fn variant_levels_of(value: &Variant) -> Option<u32>
+    ensures { result ≡ levels_if (variant_fits (variant_of value.now)) (variant_depth (variant_of value.now)) }
 {
     match value {
-        Variant::Null => true,
-        Variant::One(Scalar::Variant(_)) => false,
-        Variant::One(s) => scalar_fits_in(s),
+        Variant::Null => Some(1),
+        Variant::One(Scalar::Variant(_)) => None,
+        Variant::One(s) => Some(scalar_levels_of(s)?.saturating_add(1)),
         Variant::Many {
             kind,
             items: None,
             dims,
-        } => dims.as_slice().is_empty() && is_written_kind(*kind),
+        } => {
+            if dims.as_slice().is_empty() && is_written_kind(*kind) {
+                Some(1)
+            } else {
+                None
+            }
+        }
         Variant::Many {
             kind,
             items: Some(items),
             dims,
         } => {
             let n = element_count(items);
-            is_written_kind(*kind)
-                && is_counted(n)
-                && dims_fit(dims, n)
-                && row_fits_in(*kind, items)
+            if !(is_written_kind(*kind) && is_counted(n) && dims_fit(dims, n)) {
+                return None;
+            }
+            Some(row_levels_of(*kind, items)?.saturating_add(1))
         }
     }
 }
 
+/// How many levels a scalar has, if it can be written but for these.
 #[cycle(fits)]
-fn scalar_fits_in(value: &Scalar) -> bool
-    ensures { result ≡ scalar_fits (scalar_of value.now) }
+fn scalar_levels_of(value: &Scalar) -> Option<u32>
+    ensures { result ≡ levels_if (scalar_fits (scalar_of value.now)) (scalar_depth (scalar_of value.now)) }
 {
     match value {
-        Scalar::Boolean(x) => x.is_encodable(),
-        Scalar::SByte(x) => x.is_encodable(),
-        Scalar::Byte(x) => x.is_encodable(),
-        Scalar::Int16(x) => x.is_encodable(),
-        Scalar::UInt16(x) => x.is_encodable(),
-        Scalar::Int32(x) => x.is_encodable(),
-        Scalar::UInt32(x) => x.is_encodable(),
-        Scalar::Int64(x) => x.is_encodable(),
-        Scalar::UInt64(x) => x.is_encodable(),
-        Scalar::Float(x) => x.is_encodable(),
-        Scalar::Double(x) => x.is_encodable(),
-        Scalar::String(x) => x.is_encodable(),
-        Scalar::DateTime(x) => x.is_encodable(),
-        Scalar::Guid(x) => x.is_encodable(),
-        Scalar::ByteString(x) => x.is_encodable(),
-        Scalar::XmlElement(x) => x.is_encodable(),
-        Scalar::NodeId(x) => x.is_encodable(),
-        Scalar::ExpandedNodeId(x) => x.is_encodable(),
-        Scalar::StatusCode(x) => x.is_encodable(),
-        Scalar::QualifiedName(x) => x.is_encodable(),
-        Scalar::LocalizedText(x) => x.is_encodable(),
-        Scalar::ExtensionObject(x) => x.is_encodable(),
-        Scalar::DataValue(d) => data_value_fits_in(d),
-        Scalar::Variant(v) => variant_fits_in(v.get()),
-        Scalar::DiagnosticInfo(d) => d.fits(),
-        Scalar::Reserved(_, _) => false,
+        Scalar::Boolean(x) => no_levels_if(x.is_encodable()),
+        Scalar::SByte(x) => no_levels_if(x.is_encodable()),
+        Scalar::Byte(x) => no_levels_if(x.is_encodable()),
+        Scalar::Int16(x) => no_levels_if(x.is_encodable()),
+        Scalar::UInt16(x) => no_levels_if(x.is_encodable()),
+        Scalar::Int32(x) => no_levels_if(x.is_encodable()),
+        Scalar::UInt32(x) => no_levels_if(x.is_encodable()),
+        Scalar::Int64(x) => no_levels_if(x.is_encodable()),
+        Scalar::UInt64(x) => no_levels_if(x.is_encodable()),
+        Scalar::Float(x) => no_levels_if(x.is_encodable()),
+        Scalar::Double(x) => no_levels_if(x.is_encodable()),
+        Scalar::String(x) => no_levels_if(x.is_encodable()),
+        Scalar::DateTime(x) => no_levels_if(x.is_encodable()),
+        Scalar::Guid(x) => no_levels_if(x.is_encodable()),
+        Scalar::ByteString(x) => no_levels_if(x.is_encodable()),
+        Scalar::XmlElement(x) => no_levels_if(x.is_encodable()),
+        Scalar::NodeId(x) => no_levels_if(x.is_encodable()),
+        Scalar::ExpandedNodeId(x) => no_levels_if(x.is_encodable()),
+        Scalar::StatusCode(x) => no_levels_if(x.is_encodable()),
+        Scalar::QualifiedName(x) => no_levels_if(x.is_encodable()),
+        Scalar::LocalizedText(x) => no_levels_if(x.is_encodable()),
+        Scalar::ExtensionObject(x) => no_levels_if(x.is_encodable()),
+        Scalar::DataValue(d) => data_value_levels_of(d),
+        Scalar::Variant(v) => variant_levels_of(v.get()),
+        Scalar::DiagnosticInfo(d) => { if d.fits() { Some(d.depth()) } else { None } }
+        Scalar::Reserved(_, _) => None,
     }
 }
 
+/// How many levels the deepest element has, if each is of the type id and can be written but for these.
 #[cycle(fits)]
-fn row_fits_in(kind: u8, items: &Scalars) -> bool
-    ensures { result ≡ scalars_fit kind (row items.now) }
+fn row_levels_of(kind: u8, items: &Scalars) -> Option<u32>
+    ensures { result ≡ levels_if (scalars_fit kind (row items.now)) (scalars_depth (row items.now)) }
 {
+    let mut deepest = 0;
     for s in items.as_slice() {
         if s.kind() != kind {
-            return false;
+            return None;
         }
-        if !scalar_fits_in(s) {
-            return false;
+        match scalar_levels_of(s) {
+            None => return None,
+            Some(n) => deepest = deepest.max(n),
         }
     }
-    true
+    Some(deepest)
 }
 
+/// How many levels a DataValue has, if it can be written but for these.
 #[cycle(fits)]
-fn data_value_fits_in(value: &DataValue) -> bool
-    ensures { result ≡ data_value_fits (data_value_of value.now) }
+fn data_value_levels_of(value: &DataValue) -> Option<u32>
+    ensures { result ≡ levels_if (data_value_fits (data_value_of value.now)) (data_value_depth (data_value_of value.now)) }
 {
-    data_fields_fit(value)
-        && match &value.value {
-            None => true,
-            Some(v) => variant_fits_in(v.get()),
-        }
+    if !data_fields_fit(value) {
+        return None;
+    }
+    match &value.value {
+        None => Some(1),
+        Some(v) => Some(variant_levels_of(v.get())?.saturating_add(1)),
+    }
 }
 
 #[tactic(auto, unfolding(crate::specs::Encodable::data_fields_encodable))]
