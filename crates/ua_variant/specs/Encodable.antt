@@ -33,7 +33,8 @@ unfoldable pub data_fields_encodable : DataFields → Bool
 data_fields_encodable f =
     let time = optional_fits date_time_format.encodable in
     let picoseconds = optional_fits (number 2).encodable in
-    optional_fits status_code_format.encodable f.status && (time f.source_timestamp && (picoseconds f.source_picoseconds && (time f.server_timestamp && picoseconds f.server_picoseconds)))
+    optional_fits status_code_format.encodable f.status
+    && (time f.source_timestamp && (picoseconds f.source_picoseconds && (time f.server_timestamp && picoseconds f.server_picoseconds)))
 
 -- the scalar is a Variant
 abbrev pub is_variant : ScalarData → Bool

@@ -1,4 +1,6 @@
--- Which octets encode which values: an Int32 of 7 as a Variant is 06 07 00 00 00, two of them 86 02 00 00 00 07 00 00 00 08 00 00 00.
+-- Which octets encode which Variants and DataValues (OPC 10000-6, 5.2.2.16 and 5.2.2.17).
+-- the Int32 7 as a Variant: 06 07 00 00 00; an array of the Int32s 7 and 8: 86 02 00 00 00 07 00 00 00 08 00 00 00
+-- a DataValue of the Int32 7 and the status 0x80000000: 03 06 07 00 00 00 00 00 00 80
 pub use Rattle.ua_parts.specs.Diagnostic.{EncodesDiagnostic}
 pub use Rattle.ua_parts.specs.Dimensions.{EncodesDims}
 use Rattle.std.specs.Prelude.{◌≡◌, ℕ, ◌+◌, Bool, true, false, IsTrue, List, []}
@@ -13,13 +15,17 @@ use Rattle.ua_variant.specs.Encodable.{kind_of, row_length, is_read_kind}
 abbrev pub array_octet : Bool → ℕ → ℕ
 array_octet f k = 0x80 + flag_bit 0x40 f + k
 
--- a Variant (OPC 10000-6, 5.2.2.16): the octet of the type id, and behind it a value, or for an array a count, the elements and the dimensions
+-- a Variant (OPC 10000-6, 5.2.2.16): 0 alone is null
+-- one: the octet of the type id, and the value; a Variant can hold arrays of Variants, and no Variant directly
+-- an array: its octet, the count of the elements, the elements, and their dimensions where the octet announces them; a null one has a negative count
 abbrev mutual
   pub EncodesVariant : VariantData → List ℕ → Type 0
   EncodesVariant null b = IsOctet 0 b
   EncodesVariant (one s) b = (kind_of s ≡ 24 → ⊥) × Joins (IsOctet (kind_of s)) (EncodesScalar s) b
-  EncodesVariant (absent k ds) b = IsTrue (is_read_kind k) × (ds ≡ []) × (f : Bool) × Joins (IsOctet (array_octet f k)) (Joins IsNegative (EncodesDims f 0 [])) b
-  EncodesVariant (many k ss ds) b = IsTrue (is_read_kind k) × (f : Bool) × Joins (IsOctet (array_octet f k)) (Joins (IsCount (row_length ss)) (Joins (EncodesRow k ss) (EncodesDims f (row_length ss) ds))) b
+  EncodesVariant (absent k ds) b =
+      IsTrue (is_read_kind k) × (ds ≡ []) × (f : Bool) × Joins (IsOctet (array_octet f k)) (Joins IsNegative (EncodesDims f 0 [])) b
+  EncodesVariant (many k ss ds) b =
+      IsTrue (is_read_kind k) × (f : Bool) × Joins (IsOctet (array_octet f k)) (Joins (IsCount (row_length ss)) (Joins (EncodesRow k ss) (EncodesDims f (row_length ss) ds))) b
 
   pub EncodesScalar : ScalarData → List ℕ → Type 0
   EncodesScalar (leaf l) b = EncodesLeaf l b

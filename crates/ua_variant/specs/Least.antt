@@ -14,7 +14,8 @@ takes_4 k = eqb k 6 || eqb k 7 || eqb k 10 || eqb k 12 || eqb k 15 || eqb k 16 |
 abbrev pub takes_8 : ℕ → Bool
 takes_8 k = eqb k 8 || eqb k 9 || eqb k 11 || eqb k 13
 
--- the least octets that a scalar of the type id takes in any encoding; a reserved id is that of a ByteString, 14 a Guid, 20 a QualifiedName, 22 an ExtensionObject (OPC 10000-6, 5.2.2)
+-- the least octets that a scalar of the type id takes in any encoding (OPC 10000-6, 5.2.2)
+-- a reserved id is that of a ByteString, 14 a Guid, 20 a QualifiedName, 22 an ExtensionObject
 unfoldable pub least_octets : ℕ → ℕ
 least_octets k =
     cond (is_reserved k) 4 (

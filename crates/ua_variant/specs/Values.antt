@@ -9,7 +9,14 @@ use Rattle.ua_parts.specs.View.{diagnostic_value}
 
 -- the DataValue of the code with these fields, and with a value where there is one
 abbrev pub made_data_value : Option VariantData → DataFields → DataValue
-made_data_value v f = record { value = v; status = f.status; source_timestamp = f.source_timestamp; source_picoseconds = f.source_picoseconds; server_timestamp = f.server_timestamp; server_picoseconds = f.server_picoseconds }
+made_data_value v f = record {
+  value = v;
+  status = f.status;
+  source_timestamp = f.source_timestamp;
+  source_picoseconds = f.source_picoseconds;
+  server_timestamp = f.server_timestamp;
+  server_picoseconds = f.server_picoseconds;
+}
 
 -- the DataValue of the code that stands for the data
 abbrev pub data_value_value : DataValueData → DataValue

@@ -24,7 +24,13 @@ value_within (Some v) f = valued v f
 
 -- the fields of a DataValue of the code but its value
 abbrev pub data_fields_of : DataValue → DataFields
-data_fields_of d = record { status = d.status; source_timestamp = d.source_timestamp; source_picoseconds = d.source_picoseconds; server_timestamp = d.server_timestamp; server_picoseconds = d.server_picoseconds }
+data_fields_of d = record {
+  status = d.status;
+  source_timestamp = d.source_timestamp;
+  source_picoseconds = d.source_picoseconds;
+  server_timestamp = d.server_timestamp;
+  server_picoseconds = d.server_picoseconds;
+}
 
 -- the data that a DataValue of the code stands for
 abbrev pub data_value_of : DataValue → DataValueData

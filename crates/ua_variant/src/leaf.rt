@@ -32,6 +32,7 @@ pub trait Leaf: Wire {
 }
 
 /// Reads a scalar as a value of its type.
+#[inline]
 pub fn read_as<T: Leaf, S: Source>(alloc: Global, src: &mut S) -> Result<Scalar, ReadFault>
     ensures exact { GivesBy scalar_of (image_read leaf (leaf_at T.kind)) (S.octets src.old) (S.octets src.new) result }
     ensures behind { StaysBehind (S.octets src.old) (S.octets src.new) }
@@ -48,9 +49,11 @@ impl Leaf for bool {
 
     ghost as_leaf = { boolean };
 
+    #[inline]
     #[tactic(auto, unfolding(crate::specs::Leaf::leaf_at))]
     fn reads() {}
 
+    #[inline]
     fn into_scalar(self) -> Scalar {
         Scalar::Boolean(self)
     }
@@ -63,9 +66,11 @@ impl Leaf for i8 {
 
     ghost as_leaf = { sbyte };
 
+    #[inline]
     #[tactic(auto, unfolding(crate::specs::Leaf::leaf_at))]
     fn reads() {}
 
+    #[inline]
     fn into_scalar(self) -> Scalar {
         Scalar::SByte(self)
     }
@@ -78,9 +83,11 @@ impl Leaf for u8 {
 
     ghost as_leaf = { byte };
 
+    #[inline]
     #[tactic(auto, unfolding(crate::specs::Leaf::leaf_at))]
     fn reads() {}
 
+    #[inline]
     fn into_scalar(self) -> Scalar {
         Scalar::Byte(self)
     }
@@ -93,9 +100,11 @@ impl Leaf for i16 {
 
     ghost as_leaf = { int16 };
 
+    #[inline]
     #[tactic(auto, unfolding(crate::specs::Leaf::leaf_at))]
     fn reads() {}
 
+    #[inline]
     fn into_scalar(self) -> Scalar {
         Scalar::Int16(self)
     }
@@ -108,9 +117,11 @@ impl Leaf for u16 {
 
     ghost as_leaf = { uint16 };
 
+    #[inline]
     #[tactic(auto, unfolding(crate::specs::Leaf::leaf_at))]
     fn reads() {}
 
+    #[inline]
     fn into_scalar(self) -> Scalar {
         Scalar::UInt16(self)
     }
@@ -123,9 +134,11 @@ impl Leaf for i32 {
 
     ghost as_leaf = { int32 };
 
+    #[inline]
     #[tactic(auto, unfolding(crate::specs::Leaf::leaf_at))]
     fn reads() {}
 
+    #[inline]
     fn into_scalar(self) -> Scalar {
         Scalar::Int32(self)
     }
@@ -138,9 +151,11 @@ impl Leaf for u32 {
 
     ghost as_leaf = { uint32 };
 
+    #[inline]
     #[tactic(auto, unfolding(crate::specs::Leaf::leaf_at))]
     fn reads() {}
 
+    #[inline]
     fn into_scalar(self) -> Scalar {
         Scalar::UInt32(self)
     }
@@ -153,9 +168,11 @@ impl Leaf for i64 {
 
     ghost as_leaf = { int64 };
 
+    #[inline]
     #[tactic(auto, unfolding(crate::specs::Leaf::leaf_at))]
     fn reads() {}
 
+    #[inline]
     fn into_scalar(self) -> Scalar {
         Scalar::Int64(self)
     }
@@ -168,9 +185,11 @@ impl Leaf for u64 {
 
     ghost as_leaf = { uint64 };
 
+    #[inline]
     #[tactic(auto, unfolding(crate::specs::Leaf::leaf_at))]
     fn reads() {}
 
+    #[inline]
     fn into_scalar(self) -> Scalar {
         Scalar::UInt64(self)
     }
@@ -183,9 +202,11 @@ impl Leaf for FloatBits {
 
     ghost as_leaf = { float };
 
+    #[inline]
     #[tactic(auto, unfolding(crate::specs::Leaf::leaf_at))]
     fn reads() {}
 
+    #[inline]
     fn into_scalar(self) -> Scalar {
         Scalar::Float(self)
     }
@@ -198,9 +219,11 @@ impl Leaf for DoubleBits {
 
     ghost as_leaf = { double };
 
+    #[inline]
     #[tactic(auto, unfolding(crate::specs::Leaf::leaf_at))]
     fn reads() {}
 
+    #[inline]
     fn into_scalar(self) -> Scalar {
         Scalar::Double(self)
     }
@@ -213,9 +236,11 @@ impl Leaf for UaString {
 
     ghost as_leaf = { string };
 
+    #[inline]
     #[tactic(auto, unfolding(crate::specs::Leaf::leaf_at))]
     fn reads() {}
 
+    #[inline]
     fn into_scalar(self) -> Scalar {
         Scalar::String(self)
     }
@@ -228,9 +253,11 @@ impl Leaf for DateTime {
 
     ghost as_leaf = { date_time };
 
+    #[inline]
     #[tactic(auto, unfolding(crate::specs::Leaf::leaf_at))]
     fn reads() {}
 
+    #[inline]
     fn into_scalar(self) -> Scalar {
         Scalar::DateTime(self)
     }
@@ -243,9 +270,11 @@ impl Leaf for Guid {
 
     ghost as_leaf = { guid };
 
+    #[inline]
     #[tactic(auto, unfolding(crate::specs::Leaf::leaf_at))]
     fn reads() {}
 
+    #[inline]
     fn into_scalar(self) -> Scalar {
         Scalar::Guid(self)
     }
@@ -258,9 +287,11 @@ impl Leaf for UaBytes {
 
     ghost as_leaf = { byte_string };
 
+    #[inline]
     #[tactic(auto, unfolding(crate::specs::Leaf::leaf_at))]
     fn reads() {}
 
+    #[inline]
     fn into_scalar(self) -> Scalar {
         Scalar::ByteString(self)
     }
@@ -273,9 +304,11 @@ impl Leaf for XmlElement {
 
     ghost as_leaf = { xml_element };
 
+    #[inline]
     #[tactic(auto, unfolding(crate::specs::Leaf::leaf_at))]
     fn reads() {}
 
+    #[inline]
     fn into_scalar(self) -> Scalar {
         Scalar::XmlElement(self)
     }
@@ -288,9 +321,11 @@ impl Leaf for NodeId {
 
     ghost as_leaf = { node_id };
 
+    #[inline]
     #[tactic(auto, unfolding(crate::specs::Leaf::leaf_at))]
     fn reads() {}
 
+    #[inline]
     fn into_scalar(self) -> Scalar {
         Scalar::NodeId(self)
     }
@@ -303,9 +338,11 @@ impl Leaf for ExpandedNodeId {
 
     ghost as_leaf = { expanded_node_id };
 
+    #[inline]
     #[tactic(auto, unfolding(crate::specs::Leaf::leaf_at))]
     fn reads() {}
 
+    #[inline]
     fn into_scalar(self) -> Scalar {
         Scalar::ExpandedNodeId(self)
     }
@@ -318,9 +355,11 @@ impl Leaf for StatusCode {
 
     ghost as_leaf = { status_code };
 
+    #[inline]
     #[tactic(auto, unfolding(crate::specs::Leaf::leaf_at))]
     fn reads() {}
 
+    #[inline]
     fn into_scalar(self) -> Scalar {
         Scalar::StatusCode(self)
     }
@@ -333,9 +372,11 @@ impl Leaf for QualifiedName {
 
     ghost as_leaf = { qualified_name };
 
+    #[inline]
     #[tactic(auto, unfolding(crate::specs::Leaf::leaf_at))]
     fn reads() {}
 
+    #[inline]
     fn into_scalar(self) -> Scalar {
         Scalar::QualifiedName(self)
     }
@@ -348,9 +389,11 @@ impl Leaf for LocalizedText {
 
     ghost as_leaf = { localized_text };
 
+    #[inline]
     #[tactic(auto, unfolding(crate::specs::Leaf::leaf_at))]
     fn reads() {}
 
+    #[inline]
     fn into_scalar(self) -> Scalar {
         Scalar::LocalizedText(self)
     }
@@ -363,9 +406,11 @@ impl Leaf for ExtensionObject {
 
     ghost as_leaf = { extension_object };
 
+    #[inline]
     #[tactic(auto, unfolding(crate::specs::Leaf::leaf_at))]
     fn reads() {}
 
+    #[inline]
     fn into_scalar(self) -> Scalar {
         Scalar::ExtensionObject(self)
     }
