@@ -54,7 +54,8 @@ diagnostic_count (around f d) = 1 + diagnostic_fields_count f + diagnostic_count
 
 -- ---- which octets encode it
 
--- symbolic id 0x01, namespace 0x02, locale 0x08, localized text 0x04, additional info 0x10, inner status 0x20, in this order (OPC 10000-6, 5.2.2.12)
+-- symbolic id 0x01, namespace 0x02, locale 0x08, localized text 0x04, additional info 0x10, inner status 0x20
+-- in this order: the locale stands before the text, whose bit is the lower one (OPC 10000-6, 5.2.2.12)
 unfoldable pub diagnostic_fields : ℕ → Flat DiagnosticFields
 diagnostic_fields m =
     made (λ (a, (b, (c, (d, (e, f))))). record { symbolic_id = a; namespace_uri = b; locale = c; localized_text = d; additional_info = e; inner_status_code = f })

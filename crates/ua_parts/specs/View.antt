@@ -5,7 +5,14 @@ use Rattle.ua_parts.specs.declared.diagnostic_info.DiagnosticInfo.{DiagnosticInf
 
 -- the fields of a DiagnosticInfo of the code but its inner one
 abbrev pub diagnostic_fields_of : DiagnosticInfo → DiagnosticFields
-diagnostic_fields_of d = record { symbolic_id = d.symbolic_id; namespace_uri = d.namespace_uri; locale = d.locale; localized_text = d.localized_text; additional_info = d.additional_info; inner_status_code = d.inner_status_code }
+diagnostic_fields_of d = record {
+  symbolic_id = d.symbolic_id;
+  namespace_uri = d.namespace_uri;
+  locale = d.locale;
+  localized_text = d.localized_text;
+  additional_info = d.additional_info;
+  inner_status_code = d.inner_status_code;
+}
 
 -- the data that a DiagnosticInfo of the code stands for
 abbrev pub diagnostic_of : DiagnosticInfo → DiagnosticData
@@ -13,7 +20,15 @@ diagnostic_of d = diagnostic_within d.inner (diagnostic_fields_of d)
 
 -- the DiagnosticInfo of the code with these fields, and with an inner one where there is one
 abbrev pub made_diagnostic : Option DiagnosticData → DiagnosticFields → DiagnosticInfo
-made_diagnostic i f = record { symbolic_id = f.symbolic_id; namespace_uri = f.namespace_uri; locale = f.locale; localized_text = f.localized_text; additional_info = f.additional_info; inner_status_code = f.inner_status_code; inner = i }
+made_diagnostic i f = record {
+  symbolic_id = f.symbolic_id;
+  namespace_uri = f.namespace_uri;
+  locale = f.locale;
+  localized_text = f.localized_text;
+  additional_info = f.additional_info;
+  inner_status_code = f.inner_status_code;
+  inner = i;
+}
 
 -- the DiagnosticInfo of the code that stands for the data
 abbrev pub diagnostic_value : DiagnosticData → DiagnosticInfo
