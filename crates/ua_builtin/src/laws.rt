@@ -1,6 +1,6 @@
 //! Laws of the built-in types, each carried by a function without a body.
 
-ghost use Rattle.std.specs.Prelude.{◌≡◌, ◌++◌, List, ℕ, Bool, map, option_map};
+ghost use Rattle.std.specs.Prelude.{◌≡◌, ◌++◌, List, [], ◌∷◌, ℕ, Bool, false, Some, None, map, option_map};
 ghost use Rattle.std.specs.Bool.{Decides};
 ghost use Rattle.ua_builtin.specs.declared.node_id.NodeId.{NodeId};
 ghost use Rattle.ua_builtin.specs.NodeText.{NamesNode};
@@ -24,8 +24,11 @@ pub fn texts_name_one_node_id()
 {}
 
 /// The first reason of two tables, one behind the other, is that of the first one, or else of the
-/// second; and by other names it is the same one.
+/// second; a last one that does not hold changes nothing; and by other names it is the same one.
 pub fn first_reasons<A, B>()
     ensures joined { (reasons more : List (A × Bool)) → first_reason (reasons ++ more) ≡ or_else (first_reason reasons) (first_reason more) }
+    ensures among { (reasons more : List (A × Bool)) (a : A) → first_reason reasons ≡ Some a → first_reason (reasons ++ more) ≡ Some a }
+    ensures behind { (reasons more : List (A × Bool)) → first_reason reasons ≡ None → first_reason (reasons ++ more) ≡ first_reason more }
+    ensures last { (reasons : List (A × Bool)) (a : A) (b : Bool) → b ≡ false → first_reason (reasons ++ (a, b) ∷ []) ≡ first_reason reasons }
     ensures renamed { (name : A → B) (reasons : List (A × Bool)) → first_reason (map (renamed_reason name) reasons) ≡ option_map name (first_reason reasons) }
 {}

@@ -25,6 +25,7 @@ is_so test (Some h) = test h
 abbrev pub greeting_reasons_of : Option Hello → List (ℕ × Bool)
 greeting_reasons_of h = (0x8007_0000, is_none h) ∷ (0x8083_0000, is_so is_url_long h) ∷ (0x8081_0000, is_so is_buffer_small h) ∷ []
 
--- why a HEL is refused whose header is good, in the order in which it is judged: Bad_DecodingError where its body is no Hello, Bad_TcpEndpointUrlInvalid, Bad_TcpNotEnoughResources
+-- why a HEL is refused whose header is good, in the order in which it is judged:
+-- Bad_DecodingError where its body is no Hello, Bad_TcpEndpointUrlInvalid, Bad_TcpNotEnoughResources
 abbrev pub greeting_reasons : List ℕ → List (ℕ × Bool)
 greeting_reasons body = greeting_reasons_of (hello_in body)

@@ -28,7 +28,9 @@ pub record Stops {E X : Type 0} (R : Rules E X) (octets : List ℕ) (why : X) : 
 
 -- a stream stops for what is against its first wrong frame, the first such reason of the table
 abbrev pub StopsAtFirstWrong : {E X : Type 0} → Rules E X → Type 0
-StopsAtFirstWrong {X = X} R = (octets : List ℕ) (frames : List (List ℕ)) (rest : List ℕ) (why : X) → Frames octets frames rest → Stops R octets why ↔ FirstWrong R frames rest why
+StopsAtFirstWrong {X = X} R =
+    (octets : List ℕ) (frames : List (List ℕ)) (rest : List ℕ) (why : X) → Frames octets frames rest
+    → Stops R octets why ↔ FirstWrong R frames rest why
 
 -- some reading of the octets by these rules
 pub record Reading {E X : Type 0} (R : Rules E X) (octets : List ℕ) : Type 0 where
@@ -58,7 +60,9 @@ pub record BeginWith (frames : List Frame) (raws : List (List ℕ)) : Type 0 whe
 
 -- the frames of a reading are the first frames of the octets
 abbrev pub ReadsFirstFrames : {E X : Type 0} → Rules E X → Type 0
-ReadsFirstFrames {X = X} R = (octets : List ℕ) (frames : List Frame) (rest : List ℕ) (end : End X) (raws : List (List ℕ)) (r : List ℕ) → Run R octets frames rest end → Frames octets raws r → BeginWith frames raws
+ReadsFirstFrames {X = X} R =
+    (octets : List ℕ) (frames : List Frame) (rest : List ℕ) (end : End X) (raws : List (List ℕ)) (r : List ℕ)
+    → Run R octets frames rest end → Frames octets raws r → BeginWith frames raws
 
 -- where a stream goes on, they are all its frames
 abbrev pub ReadsAllFrames : {E X : Type 0} → Rules E X → Type 0
@@ -66,7 +70,9 @@ ReadsAllFrames R = (octets : List ℕ) (frames : List Frame) (rest : List ℕ) �
 
 -- behind a refused or a last frame nothing counts
 abbrev pub EndsStay : {E X : Type 0} → Rules E X → Type 0
-EndsStay {X = X} R = (octets more : List ℕ) (frames : List Frame) (rest : List ℕ) (end : End X) → (end ≡ Going → ⊥) → Run R octets frames rest end → Run R (octets ++ more) frames (rest ++ more) end
+EndsStay {X = X} R =
+    (octets more : List ℕ) (frames : List Frame) (rest : List ℕ) (end : End X) → (end ≡ Going → ⊥)
+    → Run R octets frames rest end → Run R (octets ++ more) frames (rest ++ more) end
 
 -- rules that agree on the frames of a stream that goes on read it alike
 abbrev pub ReadsAlike : {E F X : Type 0} → Rules E X → Rules F X → Type 0
@@ -74,8 +80,12 @@ ReadsAlike R S = (octets : List ℕ) (frames : List Frame) (rest : List ℕ) →
 
 -- rules that agree also behind these frames see it end alike
 abbrev pub EndsAlike : {E F X : Type 0} → Rules E X → Rules F X → Type 0
-EndsAlike {X = X} R S = (octets : List ℕ) (frames : List Frame) (rest : List ℕ) (end : End X) → SameBehind R S frames → Run R octets frames rest end → Run S octets frames rest end
+EndsAlike {X = X} R S =
+    (octets : List ℕ) (frames : List Frame) (rest : List ℕ) (end : End X) → SameBehind R S frames
+    → Run R octets frames rest end → Run S octets frames rest end
 
 -- by whatever names the reasons go, a stream is read alike
 abbrev pub ReadsByOtherNames : {E X Y : Type 0} → (X → Y) → Rules E X → Type 0
-ReadsByOtherNames {X = X} name R = (octets : List ℕ) (frames : List Frame) (rest : List ℕ) (end : End X) → Run R octets frames rest end → Run (renamed name R) octets frames rest (end_renamed name end)
+ReadsByOtherNames {X = X} name R =
+    (octets : List ℕ) (frames : List Frame) (rest : List ℕ) (end : End X)
+    → Run R octets frames rest end → Run (renamed name R) octets frames rest (end_renamed name end)

@@ -11,7 +11,8 @@ use Rattle.ua_frame.specs.declared.hello.Hello.{Hello}
 use Rattle.ua_frame.specs.declared.ack.Ack.{Ack}
 use Rattle.ua_frame.specs.declared.error.ErrorFrame.{ErrorFrame}
 
--- ---- Hello: five UInt32s and a String, as 00 00 00 00 FF FF 00 00 FF FF 00 00 00 00 00 00 00 00 00 00 01 00 00 00 61 of version 0, sizes 65535, no limits, and the URL 'a'
+-- ---- Hello: five UInt32s and a String
+-- version 0, sizes 65535, no limits, and the URL 'a': 00 00 00 00 FF FF 00 00 FF FF 00 00 00 00 00 00 00 00 00 00 01 00 00 00 61
 
 -- a Hello's fields in order: five numbers, and the endpoint's URL or null (OPC 10000-6, 7.1.2.3)
 abbrev pub HelloFields : Type 0

@@ -1,11 +1,15 @@
 //! Laws of streams. Each is the contract of a function that does nothing.
 
-ghost use Rattle.std.specs.Prelude.{List, ℕ, []};
+ghost use Rattle.std.specs.Prelude.{◌≡◌, ◌≤◌, ◌↔◌, List, ℕ, [], Some};
+ghost use Rattle.ua_builtin.specs.Format.{most_levels};
 ghost use Rattle.ua_frame.specs.Greeting.{IsBegun};
 ghost use Rattle.ua_frame.specs.Hello.{hello_gate};
 ghost use Rattle.ua_frame.specs.Laws.{HasReadings, HasOneReading, HaveFrames, FramesAreOne, ReadsFirstFrames, ReadsAllFrames, StopsAtFirstWrong, EndsStay, ReadsAlike, EndsAlike, ReadsByOtherNames};
 ghost use Rattle.ua_frame.specs.Reader.{gate_rules};
 ghost use Rattle.ua_frame.specs.Run.{Rules, Run, Going};
+ghost use Rattle.ua_frame.specs.Whole.{body_of};
+
+use ua_builtin::Wire;
 
 /// Any octets have a reading by given rules: good frames, and how they go on behind them.
 pub fn has_readings<E, X>()
@@ -58,6 +62,14 @@ pub fn same_rules<E, F, X>()
 pub fn renamed_rules<E, X, Y>()
     ensures { (name : X → Y) (rules : Rules E X) → ReadsByOtherNames name rules }
 {}
+
+/// The value that octets are the whole of is the one that they encode, of at most the most levels.
+pub fn one_body<T: Wire>()
+    ensures { (octets : List ℕ) (v : T)
+        → (body_of T.format octets ≡ Some v) ↔ (T.format.encodes v octets × (T.format.depth v ≤ most_levels)) }
+{
+    T::lawful();
+}
 
 /// Octets that are no frame yet at the gate of a HEL are the beginning of a greeting.
 pub fn begins_as_read()

@@ -41,6 +41,17 @@ fn reads_a_frame_in_two_pieces(rt: HostRuntime) {
 }
 
 #[test]
+fn a_closed_reader_takes_nothing(rt: HostRuntime) {
+    let mut reader = reader(rt.alloc());
+    let (taken, none) = reader.take(b"CLOF\x18\0\0\0behind").expect(&rt, "no fault");
+    assert!(rt; none.is_none());
+    assert_eq!(rt; (taken, reader.held()), (14, 14));
+    reader.close();
+    assert_eq!(rt; reader.held(), 0);
+    assert!(rt; matches!(reader.take(b" the header"), Err(FrameFault::Closed)));
+}
+
+#[test]
 fn refuses_a_frame_out_of_place(rt: HostRuntime) {
     let mut reader = reader(rt.alloc());
     let octets = error_frame(StatusCode::BAD_TCP_NOT_ENOUGH_RESOURCES);
