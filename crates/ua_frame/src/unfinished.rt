@@ -41,7 +41,7 @@ fn extend(alloc: Global, body: &mut BytesMut, len: usize, piece: &[u8]) -> Resul
 {
     let n = (len - body.len()).min(piece.len());
     if body.is_empty() {
-        // Copied as it is, where an added octet is first a zero.
+        // `extend_from_slice` would write zeros first, and octets over them.
         *body = BytesMut::copy_from_slice(alloc, &piece[..n])?;
     } else {
         body.extend_from_slice(&piece[..n])?;
