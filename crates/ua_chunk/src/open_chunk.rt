@@ -97,6 +97,7 @@ fn read_headers(octets: &[u8]) -> Result<Headers, OpenFault>
 
 /// The chunk of an OPN frame. The certificate and the thumbprint are passed over. It takes no memory,
 /// and moves no octet.
+#[tactic(auto, using(crate::proofs::Carried::opening_none))]
 pub fn read_open(frame: Frame) -> Result<OpenChunk, OpenFault>
     ensures chunk { IfOk result (IsOpenChunkOf frame) }
     ensures found { MatchResult result (λ chunk. opening_in frame ≡ Some chunk) (λ _. opening_in frame ≡ None) }
