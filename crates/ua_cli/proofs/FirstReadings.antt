@@ -17,11 +17,11 @@ is_some [] = false
 is_some (f ∷ fs) = true
 
 -- a frame of each kind is taken, and the first one is the last that is looked at
-abbrev first_rules : Rules Frame
-first_rules = record { gate = λ before. open_gate; reasons = λ before f. []; tells = λ before f. []; over = is_some }
+abbrev first_rules : Rules Frame ℕ
+first_rules = record { gate = λ before. open_gate; reasons = λ before f. []; of_header = λ code. code; tells = λ before f. []; over = is_some }
 
 -- the lines of a reading
-abbrev lines_of : List Frame → List ℕ → End → List ℕ
+abbrev lines_of : List Frame → List ℕ → End ℕ → List ℕ
 lines_of [] rest Going = last_line 0 (length rest)
 lines_of [] rest (Stopped code) = refused_line code
 lines_of [] rest Over = []
@@ -31,7 +31,7 @@ lines_of (f ∷ fs) rest end = first_lines f.kind f.body (frame_size f) (length 
 record Reads (octets lines : List ℕ) : Type 0 where
   frames : List Frame
   rest : List ℕ
-  end : End
+  end : End ℕ
   run : Run first_rules octets frames rest end
   lines_is : lines ≡ lines_of frames rest end
 
@@ -48,7 +48,7 @@ reads octets lines (Refused fault code whole fault_is code_is is) = record {
   frames = [];
   rest = octets;
   end = Stopped code;
-  run = record { whole = sym (front_none octets); good = tt; ends = (refl, inl (record { fault = fault; whole = whole; fault_is = fault_is; code_is = code_is })) };
+  run = record { whole = sym (front_none octets); good = tt; ends = (refl, inl (record { fault = fault; code = code; whole = whole; fault_is = fault_is; code_is = code_is; why_is = refl })) };
   lines_is = is;
 }
 reads octets lines (Framed f more parts let_in is) = record {
@@ -63,7 +63,7 @@ reads octets lines (Framed f more parts let_in is) = record {
   lines_is = is;
 }
 
-same_lines : (fs gs : List Frame) (x y : List ℕ) (e d : End) → IsSame fs gs x y e d → lines_of fs x e ≡ lines_of gs y d
+same_lines : (fs gs : List Frame) (x y : List ℕ) (e d : End ℕ) → IsSame fs gs x y e d → lines_of fs x e ≡ lines_of gs y d
 same_lines fs gs x y e d s =
     ap (λ (t : List Frame). lines_of t x e) s.frames ∙ ap (λ (t : List ℕ). lines_of gs t e) s.rests ∙ ap (lines_of gs y) s.ends
 
@@ -77,10 +77,10 @@ one_reading octets lines others h k =
     ∙ sym s.lines_is
 
 refused_lines : (octets : List ℕ) (code : ℕ) → (WrongHeader first_rules [] octets code ⊎ WrongFrame first_rules [] octets code) → HasLines octets
-refused_lines octets code (inl w) = record { lines = refused_line code; dissected = Refused w.fault code w.whole w.fault_is w.code_is refl }
+refused_lines octets code (inl w) = record { lines = refused_line w.code; dissected = Refused w.fault w.code w.whole w.fault_is w.code_is refl }
 refused_lines octets code (inr w) = let none = w.refused in absurd cc
 
-some_lines : (octets : List ℕ) (fs : List Frame) (rest : List ℕ) (end : End) → Run first_rules octets fs rest end → HasLines octets
+some_lines : (octets : List ℕ) (fs : List Frame) (rest : List ℕ) (end : End ℕ) → Run first_rules octets fs rest end → HasLines octets
 unfolding AllAfter
 some_lines octets [] rest Going run =
     record { lines = last_line 0 (length octets); dissected = Partial (subst (λ (t : List ℕ). IsPartial open_gate t) (sym (run.whole ∙ front_none rest)) run.ends.1) refl }

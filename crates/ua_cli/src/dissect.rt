@@ -15,7 +15,7 @@ use crate::line::MessageLine;
 use std::alloc::{AllocError, Global};
 use std::fmt::Write;
 use ua_builtin::StatusCode;
-use ua_frame::{Ack, Body, ErrorFrame, Frame, FrameReader, Gate, Hello, Kind, read_whole};
+use ua_frame::{Ack, ErrorFrame, Frame, FrameReader, Gate, Hello, Kind};
 
 /// The most octets of a frame.
 const LARGEST: u32 = 16777216;
@@ -104,13 +104,13 @@ fn push_frame(
 fn push_message<T: MessageLine>(
     alloc: Global,
     out: &mut String,
-    body: &Body,
+    body: &[u8],
     size: usize,
     left: usize,
 ) -> Result<(), AllocError>
     ensures { OnOk result (string_bytes out.new ≡ string_bytes out.old ++ line_and_rest (option_map (T.line size) (whole_of T.message body.now)) size left) }
 {
-    let Some(message) = read_whole::<T>(alloc, body.as_slice())? else {
+    let Some(message) = T::read_whole(alloc, body)? else {
         return push_refusal(out, StatusCode::BAD_DECODING_ERROR);
     };
     message.push_line(out, size)?;

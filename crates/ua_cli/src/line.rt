@@ -12,8 +12,8 @@ use ua_frame::{Ack, ErrorFrame, Hello};
 /// A message that is printed as a line, where it is the body of a frame.
 pub trait MessageLine: Wire + Drop {
     ghost use Rattle.std.specs.Prelude.{◌≡◌, ◌++◌, ℕ, List, Option, string_bytes, OnOk};
-    ghost use Rattle.ua_builtin.specs.Format.{Flat};
-    ghost use Rattle.ua_frame.specs.Whole.{IsWhole, whole_of};
+    ghost use Rattle.ua_builtin.specs.Format.{Flat, IsWhole};
+    ghost use Rattle.ua_frame.specs.Whole.{whole_of};
 
     /// How octets encode the message.
     ghost message: { Flat Self };
@@ -31,6 +31,7 @@ pub trait MessageLine: Wire + Drop {
 
 impl MessageLine for Hello {
     ghost use Rattle.ua_frame.specs.Messages.{hello};
+    ghost use Rattle.ua_frame.proofs.MessagesLawful.{sound_hello};
     ghost use Rattle.ua_frame.proofs.Wholes.{whole_read};
     ghost use Rattle.ua_cli.specs.Lines.{hello_line};
 
@@ -38,7 +39,7 @@ impl MessageLine for Hello {
 
     ghost line = { hello_line };
 
-    ghost reads = { whole_read hello };
+    ghost reads = { whole_read hello sound_hello };
 
     fn push_line(&self, out: &mut String, size: usize) -> Result<(), AllocError> {
         write!(out, "0 HEL {size}")?;
@@ -58,6 +59,7 @@ impl MessageLine for Hello {
 
 impl MessageLine for Ack {
     ghost use Rattle.ua_frame.specs.Messages.{ack};
+    ghost use Rattle.ua_frame.proofs.MessagesLawful.{sound_ack};
     ghost use Rattle.ua_frame.proofs.Wholes.{whole_read};
     ghost use Rattle.ua_cli.specs.Lines.{ack_line};
 
@@ -65,7 +67,7 @@ impl MessageLine for Ack {
 
     ghost line = { ack_line };
 
-    ghost reads = { whole_read ack };
+    ghost reads = { whole_read ack sound_ack };
 
     fn push_line(&self, out: &mut String, size: usize) -> Result<(), AllocError> {
         write!(out, "0 ACK {size}")?;
@@ -83,6 +85,7 @@ impl MessageLine for Ack {
 
 impl MessageLine for ErrorFrame {
     ghost use Rattle.ua_frame.specs.Messages.{error};
+    ghost use Rattle.ua_frame.proofs.MessagesLawful.{sound_error};
     ghost use Rattle.ua_frame.proofs.Wholes.{whole_read};
     ghost use Rattle.ua_cli.specs.Lines.{error_line};
 
@@ -90,7 +93,7 @@ impl MessageLine for ErrorFrame {
 
     ghost line = { error_line };
 
-    ghost reads = { whole_read error };
+    ghost reads = { whole_read error sound_error };
 
     fn push_line(&self, out: &mut String, size: usize) -> Result<(), AllocError> {
         write!(out, "0 ERR {size} code {:08X} reason ", self.error.code)?;
