@@ -5,7 +5,7 @@ ghost use Rattle.std.specs.Prelude.{◌≡◌, IfOk};
 use std::alloc::Global;
 use thiserror::Error;
 use ua_builtin::laws::{canonical_encodes, encodes_once};
-use ua_builtin::{Octets, ReadFault, Wire, WriteFault};
+use ua_builtin::{MOST_LEVELS, Octets, ReadFault, Wire, WriteFault};
 
 /// Why a value did not pass through octets.
 #[derive(Clone, Copy, PartialEq, Eq, Debug, Error)]
@@ -26,5 +26,5 @@ pub fn through_octets<T: Wire + Drop>(alloc: Global, value: &T) -> Result<T, Pas
     let mut octets = Vec::new(alloc);
     value.write(&mut octets)?;
     let mut src = Octets::new(octets.as_slice());
-    Ok(T::read(alloc, &mut src, 100)?)
+    Ok(T::read(alloc, &mut src, MOST_LEVELS)?)
 }
