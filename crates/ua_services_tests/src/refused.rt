@@ -180,7 +180,7 @@ fn is_unreadable_response(alloc: Global, body: &[u8]) -> bool {
 // The answer under another NodeId.
 fn renamed_answer(rt: &impl Abort, alloc: Global, id: &str) -> Vec<u8> {
     let mut body = octets(rt, alloc, &[id]);
-    let rest = octets(rt, alloc, &CLOSED[1..]);
+    let rest = octets(rt, alloc, CLOSED.get(1..).expect(rt, "the rest"));
     body.extend_from_slice(&rest).expect(rt, "memory");
     body
 }
