@@ -39,18 +39,10 @@ user_token_policy_starts v h = pair_starts _ _ text_starts h.of h.encoded
 
 -- ---- EndpointDescription
 
--- its fields from security_policy_uri on
-unfoldable pub endpoint_description_tail : Format (Option (List ℕ) × (Option (List UserTokenPolicy) × (Option (List ℕ) × ℕ)))
-endpoint_description_tail = pair string (pair (array user_token_policy) (pair string byte))
-
--- what an EndpointDescription has in its fields from security_policy_uri on
-abbrev pub endpoint_description_tail_of : EndpointDescription → Option (List ℕ) × (Option (List UserTokenPolicy) × (Option (List ℕ) × ℕ))
-endpoint_description_tail_of s = (s.security_policy_uri, (s.user_identity_tokens, (s.transport_profile_uri, s.security_level)))
-
 -- its fields in order (OPC 10000-4, 7.14)
 unfoldable pub endpoint_description : Format EndpointDescription
-endpoint_description = struct (λ p. record { endpoint_url = p.0; server = p.1.0; server_certificate = p.1.1.0; security_mode = p.1.1.1.0; security_policy_uri = p.1.1.1.1.0; user_identity_tokens = p.1.1.1.1.1.0; transport_profile_uri = p.1.1.1.1.1.1.0; security_level = p.1.1.1.1.1.1.1 }) (λ s. (s.endpoint_url, (s.server, (s.server_certificate, (s.security_mode, endpoint_description_tail_of s))))) (λ s. refl) (λ p. refl)
-    (pair string (pair application_description (pair byte_string (pair int32 endpoint_description_tail))))
+endpoint_description = struct (λ p. record { endpoint_url = p.0; server = p.1.0; server_certificate = p.1.1.0; security_mode = p.1.1.1.0; security_policy_uri = p.1.1.1.1.0; user_identity_tokens = p.1.1.1.1.1.0; transport_profile_uri = p.1.1.1.1.1.1.0; security_level = p.1.1.1.1.1.1.1 }) (λ s. (s.endpoint_url, (s.server, (s.server_certificate, (s.security_mode, (s.security_policy_uri, (s.user_identity_tokens, (s.transport_profile_uri, s.security_level)))))))) (λ s. refl) (λ p. refl)
+    (pair string (pair application_description (pair byte_string (pair int32 (pair string (pair (array user_token_policy) (pair string byte)))))))
 
 pub endpoint_description_starts : TakesSome endpoint_description.encodes
 unfolding endpoint_description

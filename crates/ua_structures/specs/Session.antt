@@ -63,17 +63,9 @@ anonymous_identity_token_starts v h = text_starts h.of h.encoded
 
 -- ---- CreateSessionRequest
 
--- its fields from client_nonce on
-unfoldable pub create_session_request_tail : Format (Option (List ℕ) × (Option (List ℕ) × (DoubleBits × ℕ)))
-create_session_request_tail = pair byte_string (pair byte_string (pair (flat double_bits) uint32))
-
--- what a CreateSession request has in its fields from client_nonce on
-abbrev pub create_session_request_tail_of : CreateSessionRequest → Option (List ℕ) × (Option (List ℕ) × (DoubleBits × ℕ))
-create_session_request_tail_of s = (s.client_nonce, (s.client_certificate, (s.requested_session_timeout, s.max_response_message_size)))
-
 -- the fields behind its header
 abbrev pub create_session_request_fields : Format (ApplicationDescription × (Option (List ℕ) × (Option (List ℕ) × (Option (List ℕ) × (Option (List ℕ) × (Option (List ℕ) × (DoubleBits × ℕ)))))))
-create_session_request_fields = pair application_description (pair string (pair string (pair string create_session_request_tail)))
+create_session_request_fields = pair application_description (pair string (pair string (pair string (pair byte_string (pair byte_string (pair (flat double_bits) uint32))))))
 
 -- the CreateSession request that a header and the fields behind it make
 abbrev pub create_session_request_of : RequestHeader × (ApplicationDescription × (Option (List ℕ) × (Option (List ℕ) × (Option (List ℕ) × (Option (List ℕ) × (Option (List ℕ) × (DoubleBits × ℕ))))))) → CreateSessionRequest
@@ -81,7 +73,7 @@ create_session_request_of p = record { request_header = p.0; client_description 
 
 -- its fields in order (OPC 10000-4, 5.7.2)
 unfoldable pub create_session_request : Format CreateSessionRequest
-create_session_request = struct create_session_request_of (λ s. (s.request_header, (s.client_description, (s.server_uri, (s.endpoint_url, (s.session_name, create_session_request_tail_of s)))))) (λ s. refl) (λ p. refl)
+create_session_request = struct create_session_request_of (λ s. (s.request_header, (s.client_description, (s.server_uri, (s.endpoint_url, (s.session_name, (s.client_nonce, (s.client_certificate, (s.requested_session_timeout, s.max_response_message_size))))))))) (λ s. refl) (λ p. refl)
     (pair request_header create_session_request_fields)
 
 pub create_session_request_starts : TakesSome create_session_request.encodes
@@ -90,18 +82,10 @@ create_session_request_starts v h = pair_starts _ _ request_header_starts h.of h
 
 -- ---- CreateSessionResponse
 
--- its fields from server_certificate on
-unfoldable pub create_session_response_tail : Format (Option (List ℕ) × (Option (List EndpointDescription) × (Option (List SignedSoftwareCertificate) × (SignatureData × ℕ))))
-create_session_response_tail = pair byte_string (pair (array endpoint_description) (pair (array signed_software_certificate) (pair signature_data uint32)))
-
--- what a CreateSession response has in its fields from server_certificate on
-abbrev pub create_session_response_tail_of : CreateSessionResponse → Option (List ℕ) × (Option (List EndpointDescription) × (Option (List SignedSoftwareCertificate) × (SignatureData × ℕ)))
-create_session_response_tail_of s = (s.server_certificate, (s.server_endpoints, (s.server_software_certificates, (s.server_signature, s.max_request_message_size))))
-
 -- its fields in order (OPC 10000-4, 5.7.2)
 unfoldable pub create_session_response : Format CreateSessionResponse
-create_session_response = struct (λ p. record { response_header = p.0; session_id = p.1.0; authentication_token = p.1.1.0; revised_session_timeout = p.1.1.1.0; server_nonce = p.1.1.1.1.0; server_certificate = p.1.1.1.1.1.0; server_endpoints = p.1.1.1.1.1.1.0; server_software_certificates = p.1.1.1.1.1.1.1.0; server_signature = p.1.1.1.1.1.1.1.1.0; max_request_message_size = p.1.1.1.1.1.1.1.1.1 }) (λ s. (s.response_header, (s.session_id, (s.authentication_token, (s.revised_session_timeout, (s.server_nonce, create_session_response_tail_of s)))))) (λ s. refl) (λ p. refl)
-    (pair response_header (pair (flat node_id) (pair (flat node_id) (pair (flat double_bits) (pair byte_string create_session_response_tail)))))
+create_session_response = struct (λ p. record { response_header = p.0; session_id = p.1.0; authentication_token = p.1.1.0; revised_session_timeout = p.1.1.1.0; server_nonce = p.1.1.1.1.0; server_certificate = p.1.1.1.1.1.0; server_endpoints = p.1.1.1.1.1.1.0; server_software_certificates = p.1.1.1.1.1.1.1.0; server_signature = p.1.1.1.1.1.1.1.1.0; max_request_message_size = p.1.1.1.1.1.1.1.1.1 }) (λ s. (s.response_header, (s.session_id, (s.authentication_token, (s.revised_session_timeout, (s.server_nonce, (s.server_certificate, (s.server_endpoints, (s.server_software_certificates, (s.server_signature, s.max_request_message_size)))))))))) (λ s. refl) (λ p. refl)
+    (pair response_header (pair (flat node_id) (pair (flat node_id) (pair (flat double_bits) (pair byte_string (pair byte_string (pair (array endpoint_description) (pair (array signed_software_certificate) (pair signature_data uint32)))))))))
 
 pub create_session_response_starts : TakesSome create_session_response.encodes
 unfolding create_session_response

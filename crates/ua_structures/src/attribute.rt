@@ -3,6 +3,7 @@
 ghost use Rattle.std.specs.Prelude.{◌≡◌, ◌∷◌, [], IfOk};
 ghost use Rattle.ua_structures.specs.Plain.{value_of_node, value_for_node, read_of, write_of};
 
+use crate::append::{append_three, append_two};
 use crate::array::UaArray;
 use crate::header::{RequestHeader, ResponseHeader};
 use std::alloc::{AllocError, Global};
@@ -80,11 +81,8 @@ impl Wire for ReadValueId {
 
     #[tactic(auto, unfolding(crate::specs::Attribute::read_value_id))]
     fn append(&self, out: &mut Vec<u8>) -> Result<(), AllocError> {
-        self.node_id.append(out)?;
-        self.attribute_id.append(out)?;
-        self.index_range.append(out)?;
-        self.data_encoding.append(out)?;
-        Ok(())
+        append_two(&self.node_id, &self.attribute_id, out)?;
+        append_two(&self.index_range, &self.data_encoding, out)
     }
 }
 
@@ -176,11 +174,8 @@ impl Wire for ReadRequest {
 
     #[tactic(auto, unfolding(crate::specs::Attribute::read_request))]
     fn append(&self, out: &mut Vec<u8>) -> Result<(), AllocError> {
-        self.request_header.append(out)?;
-        self.max_age.append(out)?;
-        self.timestamps_to_return.append(out)?;
-        self.nodes_to_read.append(out)?;
-        Ok(())
+        append_two(&self.request_header, &self.max_age, out)?;
+        append_two(&self.timestamps_to_return, &self.nodes_to_read, out)
     }
 }
 
@@ -223,10 +218,12 @@ impl Wire for ReadResponse {
 
     #[tactic(auto, unfolding(crate::specs::Attribute::read_response))]
     fn append(&self, out: &mut Vec<u8>) -> Result<(), AllocError> {
-        self.response_header.append(out)?;
-        self.results.append(out)?;
-        self.diagnostic_infos.append(out)?;
-        Ok(())
+        append_three(
+            &self.response_header,
+            &self.results,
+            &self.diagnostic_infos,
+            out,
+        )
     }
 }
 
@@ -287,11 +284,8 @@ impl Wire for WriteValue {
 
     #[tactic(auto, unfolding(crate::specs::Attribute::write_value))]
     fn append(&self, out: &mut Vec<u8>) -> Result<(), AllocError> {
-        self.node_id.append(out)?;
-        self.attribute_id.append(out)?;
-        self.index_range.append(out)?;
-        self.value.append(out)?;
-        Ok(())
+        append_two(&self.node_id, &self.attribute_id, out)?;
+        append_two(&self.index_range, &self.value, out)
     }
 }
 
@@ -372,9 +366,7 @@ impl Wire for WriteRequest {
 
     #[tactic(auto, unfolding(crate::specs::Attribute::write_request))]
     fn append(&self, out: &mut Vec<u8>) -> Result<(), AllocError> {
-        self.request_header.append(out)?;
-        self.nodes_to_write.append(out)?;
-        Ok(())
+        append_two(&self.request_header, &self.nodes_to_write, out)
     }
 }
 
@@ -417,9 +409,11 @@ impl Wire for WriteResponse {
 
     #[tactic(auto, unfolding(crate::specs::Attribute::write_response))]
     fn append(&self, out: &mut Vec<u8>) -> Result<(), AllocError> {
-        self.response_header.append(out)?;
-        self.results.append(out)?;
-        self.diagnostic_infos.append(out)?;
-        Ok(())
+        append_three(
+            &self.response_header,
+            &self.results,
+            &self.diagnostic_infos,
+            out,
+        )
     }
 }

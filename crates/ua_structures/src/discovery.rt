@@ -1,5 +1,6 @@
 //! Discovery: endpoints, and who serves them.
 
+use crate::append::{append_three, append_two};
 use crate::array::UaArray;
 use crate::header::{RequestHeader, ResponseHeader};
 use std::alloc::{AllocError, Global};
@@ -69,14 +70,14 @@ impl Wire for ApplicationDescription {
 
     #[tactic(auto, unfolding(crate::specs::Discovery::application_description))]
     fn append(&self, out: &mut Vec<u8>) -> Result<(), AllocError> {
-        self.application_uri.append(out)?;
-        self.product_uri.append(out)?;
-        self.application_name.append(out)?;
-        self.application_type.append(out)?;
-        self.gateway_server_uri.append(out)?;
-        self.discovery_profile_uri.append(out)?;
-        self.discovery_urls.append(out)?;
-        Ok(())
+        append_three(
+            &self.application_uri,
+            &self.product_uri,
+            &self.application_name,
+            out,
+        )?;
+        append_two(&self.application_type, &self.gateway_server_uri, out)?;
+        append_two(&self.discovery_profile_uri, &self.discovery_urls, out)
     }
 }
 
@@ -129,12 +130,13 @@ impl Wire for UserTokenPolicy {
 
     #[tactic(auto, unfolding(crate::specs::Discovery::user_token_policy))]
     fn append(&self, out: &mut Vec<u8>) -> Result<(), AllocError> {
-        self.policy_id.append(out)?;
-        self.token_type.append(out)?;
-        self.issued_token_type.append(out)?;
-        self.issuer_endpoint_url.append(out)?;
-        self.security_policy_uri.append(out)?;
-        Ok(())
+        append_three(
+            &self.policy_id,
+            &self.token_type,
+            &self.issued_token_type,
+            out,
+        )?;
+        append_two(&self.issuer_endpoint_url, &self.security_policy_uri, out)
     }
 }
 
@@ -153,26 +155,6 @@ pub struct EndpointDescription {
     pub security_level: u8,
 }
 
-impl EndpointDescription {
-    ghost use Rattle.std.specs.Prelude.{◌≡◌, ◌++◌, IsTrue, OnOk, OnErr};
-    ghost use Rattle.ua_builtin.specs.Format.{Extends};
-    ghost use Rattle.ua_structures.specs.Discovery.{endpoint_description_tail, endpoint_description_tail_of};
-
-    // The fields from security_policy_uri on.
-    #[tactic(auto, unfolding(crate::specs::Discovery::endpoint_description_tail))]
-    fn append_tail(&self, out: &mut Vec<u8>) -> Result<(), AllocError>
-        requires { IsTrue (endpoint_description_tail.encodable (endpoint_description_tail_of self.now)) }
-        ensures ok { OnOk result (out.new.items ≡ out.old.items ++ endpoint_description_tail.canonical (endpoint_description_tail_of self.now)) }
-        ensures err { OnErr result (Extends out.old.items out.new.items) }
-    {
-        self.security_policy_uri.append(out)?;
-        self.user_identity_tokens.append(out)?;
-        self.transport_profile_uri.append(out)?;
-        self.security_level.append(out)?;
-        Ok(())
-    }
-}
-
 impl Wire for EndpointDescription {
     ghost use Rattle.ua_structures.specs.Discovery.{endpoint_description, endpoint_description_starts};
 
@@ -180,7 +162,7 @@ impl Wire for EndpointDescription {
 
     ghost starts = { endpoint_description_starts };
 
-    #[tactic(auto, unfolding(crate::specs::Discovery::endpoint_description, crate::specs::Discovery::endpoint_description_tail))]
+    #[tactic(auto, unfolding(crate::specs::Discovery::endpoint_description))]
     fn read_value<S: Source>(
         alloc: Global,
         src: &mut S,
@@ -214,7 +196,7 @@ impl Wire for EndpointDescription {
         })
     }
 
-    #[tactic(auto, unfolding(crate::specs::Discovery::endpoint_description, crate::specs::Discovery::endpoint_description_tail))]
+    #[tactic(auto, unfolding(crate::specs::Discovery::endpoint_description))]
     fn is_encodable(&self) -> bool {
         self.endpoint_url.is_encodable()
             && self.server.is_encodable()
@@ -228,12 +210,19 @@ impl Wire for EndpointDescription {
 
     #[tactic(auto, unfolding(crate::specs::Discovery::endpoint_description))]
     fn append(&self, out: &mut Vec<u8>) -> Result<(), AllocError> {
-        self.endpoint_url.append(out)?;
-        self.server.append(out)?;
-        self.server_certificate.append(out)?;
-        self.security_mode.append(out)?;
-        self.append_tail(out)?;
-        Ok(())
+        append_three(
+            &self.endpoint_url,
+            &self.server,
+            &self.server_certificate,
+            out,
+        )?;
+        append_three(
+            &self.security_mode,
+            &self.security_policy_uri,
+            &self.user_identity_tokens,
+            out,
+        )?;
+        append_two(&self.transport_profile_uri, &self.security_level, out)
     }
 }
 
@@ -300,11 +289,8 @@ impl Wire for GetEndpointsRequest {
 
     #[tactic(auto, unfolding(crate::specs::Discovery::get_endpoints_request))]
     fn append(&self, out: &mut Vec<u8>) -> Result<(), AllocError> {
-        self.request_header.append(out)?;
-        self.endpoint_url.append(out)?;
-        self.locale_ids.append(out)?;
-        self.profile_uris.append(out)?;
-        Ok(())
+        append_two(&self.request_header, &self.endpoint_url, out)?;
+        append_two(&self.locale_ids, &self.profile_uris, out)
     }
 }
 
@@ -342,8 +328,6 @@ impl Wire for GetEndpointsResponse {
 
     #[tactic(auto, unfolding(crate::specs::Discovery::get_endpoints_response))]
     fn append(&self, out: &mut Vec<u8>) -> Result<(), AllocError> {
-        self.response_header.append(out)?;
-        self.endpoints.append(out)?;
-        Ok(())
+        append_two(&self.response_header, &self.endpoints, out)
     }
 }

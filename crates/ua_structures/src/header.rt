@@ -3,6 +3,7 @@
 ghost use Rattle.std.specs.Prelude.{◌≡◌};
 ghost use Rattle.ua_structures.specs.Plain.{null_object as nothing_held, request_header_of, response_header_of, service_fault_of};
 
+use crate::append::{append_three, append_two};
 use crate::array::UaArray;
 use std::alloc::{AllocError, Global};
 use ua_builtin::{
@@ -108,14 +109,14 @@ impl Wire for RequestHeader {
 
     #[tactic(auto, unfolding(crate::specs::Header::request_header))]
     fn append(&self, out: &mut Vec<u8>) -> Result<(), AllocError> {
-        self.authentication_token.append(out)?;
-        self.timestamp.append(out)?;
-        self.request_handle.append(out)?;
-        self.return_diagnostics.append(out)?;
-        self.audit_entry_id.append(out)?;
-        self.timeout_hint.append(out)?;
-        self.additional_header.append(out)?;
-        Ok(())
+        append_three(
+            &self.authentication_token,
+            &self.timestamp,
+            &self.request_handle,
+            out,
+        )?;
+        append_two(&self.return_diagnostics, &self.audit_entry_id, out)?;
+        append_two(&self.timeout_hint, &self.additional_header, out)
     }
 }
 
@@ -197,13 +198,18 @@ impl Wire for ResponseHeader {
 
     #[tactic(auto, unfolding(crate::specs::Header::response_header))]
     fn append(&self, out: &mut Vec<u8>) -> Result<(), AllocError> {
-        self.timestamp.append(out)?;
-        self.request_handle.append(out)?;
-        self.service_result.append(out)?;
-        self.service_diagnostics.append(out)?;
-        self.string_table.append(out)?;
-        self.additional_header.append(out)?;
-        Ok(())
+        append_three(
+            &self.timestamp,
+            &self.request_handle,
+            &self.service_result,
+            out,
+        )?;
+        append_three(
+            &self.service_diagnostics,
+            &self.string_table,
+            &self.additional_header,
+            out,
+        )
     }
 }
 
@@ -248,7 +254,6 @@ impl Wire for ServiceFault {
 
     #[tactic(auto, unfolding(crate::specs::Header::service_fault))]
     fn append(&self, out: &mut Vec<u8>) -> Result<(), AllocError> {
-        self.response_header.append(out)?;
-        Ok(())
+        self.response_header.append(out)
     }
 }

@@ -16,6 +16,7 @@
 //! ```
 #![tactic(auto)]
 
+mod append;
 mod array;
 mod attribute;
 mod discovery;

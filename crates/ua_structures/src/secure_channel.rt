@@ -1,5 +1,6 @@
 //! The services of secure channels.
 
+use crate::append::{append_three, append_two};
 use crate::header::{RequestHeader, ResponseHeader};
 use std::alloc::{AllocError, Global};
 use ua_builtin::{DateTime, ReadFault, Source, UaBytes, Wire};
@@ -60,13 +61,18 @@ impl Wire for OpenRequest {
 
     #[tactic(auto, unfolding(crate::specs::SecureChannel::open_request))]
     fn append(&self, out: &mut Vec<u8>) -> Result<(), AllocError> {
-        self.request_header.append(out)?;
-        self.client_protocol_version.append(out)?;
-        self.request_type.append(out)?;
-        self.security_mode.append(out)?;
-        self.client_nonce.append(out)?;
-        self.requested_lifetime.append(out)?;
-        Ok(())
+        append_three(
+            &self.request_header,
+            &self.client_protocol_version,
+            &self.request_type,
+            out,
+        )?;
+        append_three(
+            &self.security_mode,
+            &self.client_nonce,
+            &self.requested_lifetime,
+            out,
+        )
     }
 }
 
@@ -130,14 +136,14 @@ impl Wire for OpenResponse {
 
     #[tactic(auto, unfolding(crate::specs::SecureChannel::open_response))]
     fn append(&self, out: &mut Vec<u8>) -> Result<(), AllocError> {
-        self.response_header.append(out)?;
-        self.server_protocol_version.append(out)?;
-        self.channel_id.append(out)?;
-        self.token_id.append(out)?;
-        self.created_at.append(out)?;
-        self.revised_lifetime.append(out)?;
-        self.server_nonce.append(out)?;
-        Ok(())
+        append_three(
+            &self.response_header,
+            &self.server_protocol_version,
+            &self.channel_id,
+            out,
+        )?;
+        append_two(&self.token_id, &self.created_at, out)?;
+        append_two(&self.revised_lifetime, &self.server_nonce, out)
     }
 }
 
@@ -171,7 +177,6 @@ impl Wire for CloseRequest {
 
     #[tactic(auto, unfolding(crate::specs::SecureChannel::close_request))]
     fn append(&self, out: &mut Vec<u8>) -> Result<(), AllocError> {
-        self.request_header.append(out)?;
-        Ok(())
+        self.request_header.append(out)
     }
 }

@@ -1,5 +1,6 @@
 //! Sessions.
 
+use crate::append::{append_three, append_two};
 use crate::array::UaArray;
 use crate::discovery::{ApplicationDescription, EndpointDescription};
 use crate::header::{RequestHeader, ResponseHeader};
@@ -43,9 +44,7 @@ impl Wire for SignedSoftwareCertificate {
 
     #[tactic(auto, unfolding(crate::specs::Session::signed_software_certificate))]
     fn append(&self, out: &mut Vec<u8>) -> Result<(), AllocError> {
-        self.certificate_data.append(out)?;
-        self.signature.append(out)?;
-        Ok(())
+        append_two(&self.certificate_data, &self.signature, out)
     }
 }
 
@@ -83,9 +82,7 @@ impl Wire for SignatureData {
 
     #[tactic(auto, unfolding(crate::specs::Session::signature_data))]
     fn append(&self, out: &mut Vec<u8>) -> Result<(), AllocError> {
-        self.algorithm.append(out)?;
-        self.signature.append(out)?;
-        Ok(())
+        append_two(&self.algorithm, &self.signature, out)
     }
 }
 
@@ -120,8 +117,7 @@ impl Wire for AnonymousIdentityToken {
 
     #[tactic(auto, unfolding(crate::specs::Session::anonymous_identity_token))]
     fn append(&self, out: &mut Vec<u8>) -> Result<(), AllocError> {
-        self.policy_id.append(out)?;
-        Ok(())
+        self.policy_id.append(out)
     }
 }
 
@@ -144,15 +140,11 @@ pub struct CreateSessionRequest {
 }
 
 impl CreateSessionRequest {
-    ghost use Rattle.std.specs.Prelude.{◌≡◌, ◌++◌, IsTrue, OnOk, OnErr};
-    ghost use Rattle.ua_builtin.specs.Format.{Extends};
-    ghost use Rattle.ua_structures.specs.Session.{create_session_request_tail, create_session_request_tail_of};
     ghost use Rattle.ua_builtin.specs.Exact.{image_read};
     ghost use Rattle.ua_builtin.specs.Format.{Gives, StaysBehind};
     ghost use Rattle.ua_structures.specs.Session.{create_session_request_fields, create_session_request_of};
 
     /// Reads the fields behind a header that was read already.
-    #[tactic(auto, unfolding(crate::specs::Session::create_session_request_tail))]
     pub fn read_behind<S: Source>(
         alloc: Global,
         src: &mut S,
@@ -193,20 +185,6 @@ impl CreateSessionRequest {
             max_response_message_size,
         })
     }
-
-    // The fields from client_nonce on.
-    #[tactic(auto, unfolding(crate::specs::Session::create_session_request_tail))]
-    fn append_tail(&self, out: &mut Vec<u8>) -> Result<(), AllocError>
-        requires { IsTrue (create_session_request_tail.encodable (create_session_request_tail_of self.now)) }
-        ensures ok { OnOk result (out.new.items ≡ out.old.items ++ create_session_request_tail.canonical (create_session_request_tail_of self.now)) }
-        ensures err { OnErr result (Extends out.old.items out.new.items) }
-    {
-        self.client_nonce.append(out)?;
-        self.client_certificate.append(out)?;
-        self.requested_session_timeout.append(out)?;
-        self.max_response_message_size.append(out)?;
-        Ok(())
-    }
 }
 
 impl Wire for CreateSessionRequest {
@@ -226,7 +204,7 @@ impl Wire for CreateSessionRequest {
         CreateSessionRequest::read_behind(alloc, src, depth, request_header)
     }
 
-    #[tactic(auto, unfolding(crate::specs::Session::create_session_request, crate::specs::Session::create_session_request_tail))]
+    #[tactic(auto, unfolding(crate::specs::Session::create_session_request))]
     fn is_encodable(&self) -> bool {
         self.request_header.is_encodable()
             && self.client_description.is_encodable()
@@ -241,13 +219,24 @@ impl Wire for CreateSessionRequest {
 
     #[tactic(auto, unfolding(crate::specs::Session::create_session_request))]
     fn append(&self, out: &mut Vec<u8>) -> Result<(), AllocError> {
-        self.request_header.append(out)?;
-        self.client_description.append(out)?;
-        self.server_uri.append(out)?;
-        self.endpoint_url.append(out)?;
-        self.session_name.append(out)?;
-        self.append_tail(out)?;
-        Ok(())
+        append_three(
+            &self.request_header,
+            &self.client_description,
+            &self.server_uri,
+            out,
+        )?;
+        append_three(
+            &self.endpoint_url,
+            &self.session_name,
+            &self.client_nonce,
+            out,
+        )?;
+        append_three(
+            &self.client_certificate,
+            &self.requested_session_timeout,
+            &self.max_response_message_size,
+            out,
+        )
     }
 }
 
@@ -270,27 +259,6 @@ pub struct CreateSessionResponse {
     pub max_request_message_size: u32,
 }
 
-impl CreateSessionResponse {
-    ghost use Rattle.std.specs.Prelude.{◌≡◌, ◌++◌, IsTrue, OnOk, OnErr};
-    ghost use Rattle.ua_builtin.specs.Format.{Extends};
-    ghost use Rattle.ua_structures.specs.Session.{create_session_response_tail, create_session_response_tail_of};
-
-    // The fields from server_certificate on.
-    #[tactic(auto, unfolding(crate::specs::Session::create_session_response_tail))]
-    fn append_tail(&self, out: &mut Vec<u8>) -> Result<(), AllocError>
-        requires { IsTrue (create_session_response_tail.encodable (create_session_response_tail_of self.now)) }
-        ensures ok { OnOk result (out.new.items ≡ out.old.items ++ create_session_response_tail.canonical (create_session_response_tail_of self.now)) }
-        ensures err { OnErr result (Extends out.old.items out.new.items) }
-    {
-        self.server_certificate.append(out)?;
-        self.server_endpoints.append(out)?;
-        self.server_software_certificates.append(out)?;
-        self.server_signature.append(out)?;
-        self.max_request_message_size.append(out)?;
-        Ok(())
-    }
-}
-
 impl Wire for CreateSessionResponse {
     ghost use Rattle.ua_structures.specs.Session.{create_session_response, create_session_response_starts};
 
@@ -298,7 +266,7 @@ impl Wire for CreateSessionResponse {
 
     ghost starts = { create_session_response_starts };
 
-    #[tactic(auto, unfolding(crate::specs::Session::create_session_response, crate::specs::Session::create_session_response_tail))]
+    #[tactic(auto, unfolding(crate::specs::Session::create_session_response))]
     fn read_value<S: Source>(
         alloc: Global,
         src: &mut S,
@@ -343,7 +311,7 @@ impl Wire for CreateSessionResponse {
         })
     }
 
-    #[tactic(auto, unfolding(crate::specs::Session::create_session_response, crate::specs::Session::create_session_response_tail))]
+    #[tactic(auto, unfolding(crate::specs::Session::create_session_response))]
     fn is_encodable(&self) -> bool {
         self.response_header.is_encodable()
             && self.session_id.is_encodable()
@@ -359,13 +327,24 @@ impl Wire for CreateSessionResponse {
 
     #[tactic(auto, unfolding(crate::specs::Session::create_session_response))]
     fn append(&self, out: &mut Vec<u8>) -> Result<(), AllocError> {
-        self.response_header.append(out)?;
-        self.session_id.append(out)?;
-        self.authentication_token.append(out)?;
-        self.revised_session_timeout.append(out)?;
-        self.server_nonce.append(out)?;
-        self.append_tail(out)?;
-        Ok(())
+        append_three(
+            &self.response_header,
+            &self.session_id,
+            &self.authentication_token,
+            out,
+        )?;
+        append_three(
+            &self.revised_session_timeout,
+            &self.server_nonce,
+            &self.server_certificate,
+            out,
+        )?;
+        append_two(
+            &self.server_endpoints,
+            &self.server_software_certificates,
+            out,
+        )?;
+        append_two(&self.server_signature, &self.max_request_message_size, out)
     }
 }
 
@@ -442,13 +421,18 @@ impl Wire for ActivateSessionRequest {
 
     #[tactic(auto, unfolding(crate::specs::Session::activate_session_request))]
     fn append(&self, out: &mut Vec<u8>) -> Result<(), AllocError> {
-        self.request_header.append(out)?;
-        self.client_signature.append(out)?;
-        self.client_software_certificates.append(out)?;
-        self.locale_ids.append(out)?;
-        self.user_identity_token.append(out)?;
-        self.user_token_signature.append(out)?;
-        Ok(())
+        append_three(
+            &self.request_header,
+            &self.client_signature,
+            &self.client_software_certificates,
+            out,
+        )?;
+        append_three(
+            &self.locale_ids,
+            &self.user_identity_token,
+            &self.user_token_signature,
+            out,
+        )
     }
 }
 
@@ -495,11 +479,8 @@ impl Wire for ActivateSessionResponse {
 
     #[tactic(auto, unfolding(crate::specs::Session::activate_session_response))]
     fn append(&self, out: &mut Vec<u8>) -> Result<(), AllocError> {
-        self.response_header.append(out)?;
-        self.server_nonce.append(out)?;
-        self.results.append(out)?;
-        self.diagnostic_infos.append(out)?;
-        Ok(())
+        append_two(&self.response_header, &self.server_nonce, out)?;
+        append_two(&self.results, &self.diagnostic_infos, out)
     }
 }
 
@@ -557,9 +538,7 @@ impl Wire for CloseSessionRequest {
 
     #[tactic(auto, unfolding(crate::specs::Session::close_session_request))]
     fn append(&self, out: &mut Vec<u8>) -> Result<(), AllocError> {
-        self.request_header.append(out)?;
-        self.delete_subscriptions.append(out)?;
-        Ok(())
+        append_two(&self.request_header, &self.delete_subscriptions, out)
     }
 }
 
@@ -593,7 +572,6 @@ impl Wire for CloseSessionResponse {
 
     #[tactic(auto, unfolding(crate::specs::Session::close_session_response))]
     fn append(&self, out: &mut Vec<u8>) -> Result<(), AllocError> {
-        self.response_header.append(out)?;
-        Ok(())
+        self.response_header.append(out)
     }
 }
