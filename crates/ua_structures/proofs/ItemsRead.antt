@@ -1,16 +1,16 @@
 -- The loop that reads so many values, against the list of them all.
-use Rattle.std.specs.Prelude.{◌≡◌, ℕ, suc, ◌+◌, ◌-◌, ◌<◌, ◌≤◌, ◌^◌, List, [], ◌∷◌, ◌++◌, length, Option, Some, None, Err, cond, Bool, is_none}
+use Rattle.std.specs.Prelude.{◌≡◌, ℕ, suc, ◌+◌, ◌-◌, ◌<◌, ◌≤◌, List, [], ◌∷◌, ◌++◌, length, Option, Some, None, Err, cond, Bool}
 use Rattle.std.proofs.Common.{refl, sym, ◌∙◌, ap, arith, append_assoc, length-append}
 use Rattle.std.proofs.lemmas.List.{append-nil}
 use Rattle.ua_octets.specs.declared.fault.ReadFault.{ReadFault}
 use Rattle.ua_octets.specs.declared.fault.ReadFault.TheVariants.{NoValue, OutOfMemory}
 use Rattle.std.proofs.lemmas.Bool.{lt-ltb}
-use Rattle.ua_builtin.specs.Exact.{◌>>=◌}
+use Rattle.ua_builtin.specs.Counted.{first_negative}
+use Rattle.ua_builtin.specs.Exact.{◌>>=◌, image_read}
 use Rattle.ua_builtin.specs.Number.{number_at}
-use Rattle.ua_builtin.specs.Format.{Format, flat, Gives, GivesBy}
-use Rattle.ua_builtin.specs.Join.{only, TakesSome}
-use Rattle.ua_structures.specs.Kinds.{kind}
-use Rattle.ua_structures.specs.Array.{EachEncoded, items_at, items, items_exact, array, behind_array_count, none_is}
+use Rattle.ua_builtin.specs.Format.{Format, IsLawful, TakesSome, Within, Gives, GivesBy}
+use Rattle.ua_structures.specs.Array.{EachEncoded, items_at, array, behind_count}
+use Rattle.ua_structures.proofs.ArrayRead.{exact_items}
 
 -- what was read stands in front of what is still to be read
 abbrev pub with_front : {A : Type 0} → List A → Option (List A × List ℕ) → Option (List A × List ℕ)
@@ -71,18 +71,21 @@ octet_each p starts (x ∷ v) b h =
     let len : length b ≡ length (h.0 ++ h.1) = ap length h.2 in
     omega (arith, here, more, len, length-append h.0 h.1)
 
-too_few : {A : Type 0} (f : Format A) → TakesSome f.encodes → (levels n : ℕ) (octets : List ℕ) → length octets < n → (found : Option (List A × List ℕ)) → items_at (f.decode levels) n octets ≡ found → found ≡ None
-too_few f starts levels n octets short None e = refl
-too_few f starts levels n octets short (Some found) e =
-    let s = (items_exact n f levels).sound octets found.0 found.1 e in
-    let count = s.encoded.0.0 in
-    let most = octet_each f.encodes starts found.0 s.front s.encoded.0.1 in
+within_starts : {A : Type 0} (f : Format A) (levels : ℕ) → TakesSome f.encodes → TakesSome (Within f.encodes f.depth levels)
+within_starts f levels starts v h = starts v h.0
+
+too_few : {A : Type 0} (f : Format A) → IsLawful f → (levels n : ℕ) (octets : List ℕ) → length octets < n → (found : Option (List A × List ℕ)) → items_at (f.decode levels) n octets ≡ found → found ≡ None
+too_few f lawful levels n octets short None e = refl
+too_few f lawful levels n octets short (Some found) e =
+    let s = (exact_items (Within f.encodes f.depth levels) (f.decode levels) (lawful.exact levels) n).sound octets found.0 found.1 e in
+    let count = s.encoded.0 in
+    let most = octet_each (Within f.encodes f.depth levels) (within_starts f levels lawful.starts) found.0 s.front s.encoded.1 in
     let len : length octets ≡ length (s.front ++ found.1) = ap length s.parts in
     absurd (omega (arith, count, most, len, length-append s.front found.1))
 
-pub claims_more : {A : Type 0} (f : Format A) → TakesSome f.encodes → (levels count : ℕ) (octets rest : List ℕ) → number_at 4 octets ≡ Some (count, rest) → count < 2 ^ 31 → length rest < count → (array f).decode levels octets ≡ None
+pub claims_more : {A : Type 0} (f : Format A) → IsLawful f → (levels count : ℕ) (octets rest : List ℕ) → number_at 4 octets ≡ Some (count, rest) → count < first_negative → length rest < count → (array f).decode levels octets ≡ None
 unfolding array
-claims_more f starts levels count octets rest e small short =
-    ap (λ o. o >>= λ x. (behind_array_count f x.0).decode levels x.1) e
-    ∙ ap (λ (test : Bool). (cond test (kind Some (λ v. v) (λ v x same. same) (λ x. refl) (items count f)) (flat (only None is_none none_is))).decode levels rest) (lt-ltb count (2 ^ 31) small)
-    ∙ ap (λ o. o >>= λ x. Some (Some x.0, x.1)) (too_few f starts levels count rest short (items_at (f.decode levels) count rest) refl)
+claims_more f lawful levels count octets rest e small short =
+    ap (λ o. o >>= λ x. behind_count (f.decode levels) x.0 x.1) e
+    ∙ ap (λ (test : Bool). cond test (image_read Some (items_at (f.decode levels) count) rest) (Some (None, rest))) (lt-ltb count first_negative small)
+    ∙ ap (λ o. o >>= λ x. Some (Some x.0, x.1)) (too_few f lawful levels count rest short (items_at (f.decode levels) count rest) refl)

@@ -1,1 +1,9 @@
+pub mod PlainFits
+pub mod ArrayRead
+pub mod ArrayLawful
 pub mod ItemsRead
+pub mod HeaderLawful
+pub mod AttributeLawful
+pub mod DiscoveryLawful
+pub mod SecureChannelLawful
+pub mod SessionLawful

@@ -3,7 +3,6 @@ pub mod Attribute
 pub mod Discovery
 pub mod Field
 pub mod Header
-pub mod Kinds
 pub mod Plain
 pub mod SecureChannel
 pub mod Session

@@ -1,22 +1,36 @@
 -- Structures with nothing in them but what they are made for.
-use Rattle.std.specs.Prelude.{ℕ, List, Some, None}
-use lib.IntN.{pos}
+use Rattle.std.specs.Prelude.{ℕ, ℤ, pos, List, Option, Some, None}
 use Rattle.ua_builtin.specs.NodeId.{node}
+use Rattle.ua_builtin.specs.Status.{of_code}
 use Rattle.ua_builtin.specs.declared.date_time.DateTime.{DateTime}
 use Rattle.ua_builtin.specs.declared.extension_object.ExtensionObject.{ExtensionObject}
 use Rattle.ua_builtin.specs.declared.extension_object.ExtensionBody.TheVariants.{Absent}
 use Rattle.ua_builtin.specs.declared.node_id.NodeId.{NodeId}
 use Rattle.ua_builtin.specs.declared.node_id.Identifier.TheVariants.{Numeric}
 use Rattle.ua_builtin.specs.declared.status_code.StatusCode.{StatusCode}
-use Rattle.ua_variant.specs.declared.values.DataValue.{DataValue}
+use Rattle.ua_octets.specs.declared.double_bits.DoubleBits.{DoubleBits}
 use Rattle.ua_parts.specs.View.{no_diagnostics}
+use Rattle.ua_variant.specs.declared.values.DataValue.{DataValue}
 use Rattle.ua_structures.specs.declared.attribute.ReadRequest.{ReadRequest}
+use Rattle.ua_structures.specs.declared.attribute.ReadResponse.{ReadResponse}
 use Rattle.ua_structures.specs.declared.attribute.ReadValueId.{ReadValueId}
 use Rattle.ua_structures.specs.declared.attribute.WriteRequest.{WriteRequest}
+use Rattle.ua_structures.specs.declared.attribute.WriteResponse.{WriteResponse}
 use Rattle.ua_structures.specs.declared.attribute.WriteValue.{WriteValue}
+use Rattle.ua_structures.specs.declared.discovery.ApplicationDescription.{ApplicationDescription}
+use Rattle.ua_structures.specs.declared.discovery.EndpointDescription.{EndpointDescription}
+use Rattle.ua_structures.specs.declared.discovery.GetEndpointsRequest.{GetEndpointsRequest}
 use Rattle.ua_structures.specs.declared.header.RequestHeader.{RequestHeader}
 use Rattle.ua_structures.specs.declared.header.ResponseHeader.{ResponseHeader}
 use Rattle.ua_structures.specs.declared.header.ServiceFault.{ServiceFault}
+use Rattle.ua_structures.specs.declared.secure_channel.CloseRequest.{CloseRequest}
+use Rattle.ua_structures.specs.declared.secure_channel.OpenRequest.{OpenRequest}
+use Rattle.ua_structures.specs.declared.secure_channel.OpenResponse.{OpenResponse}
+use Rattle.ua_structures.specs.declared.session.ActivateSessionRequest.{ActivateSessionRequest}
+use Rattle.ua_structures.specs.declared.session.ActivateSessionResponse.{ActivateSessionResponse}
+use Rattle.ua_structures.specs.declared.session.CreateSessionRequest.{CreateSessionRequest}
+use Rattle.ua_structures.specs.declared.session.CreateSessionResponse.{CreateSessionResponse}
+use Rattle.ua_structures.specs.declared.session.SignatureData.{SignatureData}
 
 -- the object that holds nothing: the NodeId i=0, and no body (OPC 10000-6, 5.2.2.15)
 abbrev pub null_object : ExtensionObject
@@ -24,11 +38,26 @@ null_object = record { type_id = node 0 (Numeric 0); body = Absent }
 
 -- a header of a request that asks for no diagnostics, names no audit entry and no timeout, and adds nothing
 abbrev pub request_header_of : NodeId → DateTime → ℕ → RequestHeader
-request_header_of token time handle = record { authentication_token = token; timestamp = time; request_handle = handle; return_diagnostics = 0; audit_entry_id = None; timeout_hint = 0; additional_header = null_object }
+request_header_of token time handle = record {
+  authentication_token = token;
+  timestamp = time;
+  request_handle = handle;
+  return_diagnostics = 0;
+  audit_entry_id = None;
+  timeout_hint = 0;
+  additional_header = null_object;
+}
 
 -- a header of a response without diagnostics and texts, that adds nothing
 abbrev pub response_header_of : DateTime → ℕ → StatusCode → ResponseHeader
-response_header_of time handle code = record { timestamp = time; request_handle = handle; service_result = code; service_diagnostics = no_diagnostics; string_table = None; additional_header = null_object }
+response_header_of time handle code = record {
+  timestamp = time;
+  request_handle = handle;
+  service_result = code;
+  service_diagnostics = no_diagnostics;
+  string_table = None;
+  additional_header = null_object;
+}
 
 -- a fault that says its code alone
 abbrev pub service_fault_of : DateTime → ℕ → StatusCode → ServiceFault
@@ -49,3 +78,112 @@ read_of header items = record { request_header = header; max_age = record { bits
 -- a Write of these items
 abbrev pub write_of : RequestHeader → List WriteValue → WriteRequest
 write_of header items = record { request_header = header; nodes_to_write = Some items }
+
+-- the null NodeId: i=0 (OPC 10000-6, 5.2.2.9)
+abbrev pub null_id : NodeId
+null_id = node 0 (Numeric 0)
+
+-- no signature: neither an algorithm nor octets
+abbrev pub null_signature : SignatureData
+null_signature = record { algorithm = None; signature = None }
+
+-- ---- secure channels
+
+-- an OpenSecureChannel request of this type, 0 to issue a token and 1 to renew it: under no token, of version 0, with the mode 1, None, and no nonce
+abbrev pub open_request_of : ℤ → DateTime → ℕ → ℕ → OpenRequest
+open_request_of kind time handle lifetime = record {
+  request_header = request_header_of null_id time handle;
+  client_protocol_version = 0;
+  request_type = kind;
+  security_mode = pos 1;
+  client_nonce = None;
+  requested_lifetime = lifetime;
+}
+
+-- the good answer: of version 0, made at this moment, without a nonce
+abbrev pub open_response_of : DateTime → ℕ → ℕ → ℕ → ℕ → OpenResponse
+open_response_of time handle channel token lifetime = record {
+  response_header = response_header_of time handle (of_code 0);
+  server_protocol_version = 0;
+  channel_id = channel;
+  token_id = token;
+  created_at = time;
+  revised_lifetime = lifetime;
+  server_nonce = None;
+}
+
+-- a CloseSecureChannel request under no token
+abbrev pub close_request_of : DateTime → ℕ → CloseRequest
+close_request_of time handle = record { request_header = request_header_of null_id time handle }
+
+-- ---- sessions
+
+-- an application of this type, 0 for a server and 1 for a client, with this URI, name and addresses; the name has no locale, and all else is null
+abbrev pub application_of : ℤ → Option (List ℕ) → Option (List ℕ) → Option (List (Option (List ℕ))) → ApplicationDescription
+application_of kind uri name urls = record {
+  application_uri = uri;
+  product_uri = None;
+  application_name = record { locale = None; text = name };
+  application_type = kind;
+  gateway_server_uri = None;
+  discovery_profile_uri = None;
+  discovery_urls = urls;
+}
+
+-- a GetEndpoints request at this address, for any locale and profile
+abbrev pub endpoints_of : RequestHeader → Option (List ℕ) → GetEndpointsRequest
+endpoints_of header url = record { request_header = header; endpoint_url = url; locale_ids = None; profile_uris = None }
+
+-- a CreateSession request of this client, at this address, under this name, with this timeout: no limit of responses, and all else null
+abbrev pub create_session_of : RequestHeader → ApplicationDescription → Option (List ℕ) → Option (List ℕ) → DoubleBits → CreateSessionRequest
+create_session_of header client url name timeout = record {
+  request_header = header;
+  client_description = client;
+  server_uri = None;
+  endpoint_url = url;
+  session_name = name;
+  client_nonce = None;
+  client_certificate = None;
+  requested_session_timeout = timeout;
+  max_response_message_size = 0;
+}
+
+-- the answer: the session's id and token, its timeout, the endpoints, and the most octets of a request; all else is null
+abbrev pub session_of : ResponseHeader → NodeId → NodeId → DoubleBits → Option (List EndpointDescription) → ℕ → CreateSessionResponse
+session_of header id token timeout endpoints most = record {
+  response_header = header;
+  session_id = id;
+  authentication_token = token;
+  revised_session_timeout = timeout;
+  server_nonce = None;
+  server_certificate = None;
+  server_endpoints = endpoints;
+  server_software_certificates = None;
+  server_signature = null_signature;
+  max_request_message_size = most;
+}
+
+-- an ActivateSession request by this identity; all else is null
+abbrev pub activate_session_of : RequestHeader → ExtensionObject → ActivateSessionRequest
+activate_session_of header identity = record {
+  request_header = header;
+  client_signature = null_signature;
+  client_software_certificates = None;
+  locale_ids = None;
+  user_identity_token = identity;
+  user_token_signature = null_signature;
+}
+
+-- the answer, with nulls alone
+abbrev pub activated_of : ResponseHeader → ActivateSessionResponse
+activated_of header = record { response_header = header; server_nonce = None; results = None; diagnostic_infos = None }
+
+-- ---- the answers to Read and Write
+
+-- the values that were read, without diagnostics
+abbrev pub values_of : ResponseHeader → List DataValue → ReadResponse
+values_of header values = record { response_header = header; results = Some values; diagnostic_infos = None }
+
+-- what became of each item that was to be written, without diagnostics
+abbrev pub statuses_of : ResponseHeader → List StatusCode → WriteResponse
+statuses_of header codes = record { response_header = header; results = Some codes; diagnostic_infos = None }

@@ -1,22 +1,16 @@
 //! Arrays of values.
 
-ghost use Rattle.std.specs.Prelude.{◌≡◌, ◌≤◌, ◌++◌, List, ℕ, IsTrue, OnOk, OnErr, IfOk, IsErrOf, option_map};
+ghost use Rattle.std.specs.Prelude.{◌≡◌, ◌≤◌, ◌+◌, ◌++◌, List, ℕ, length, IsTrue, OnOk, OnErr, IfOk, IsErrOf, option_map};
 ghost use Rattle.std.specs.List.{flat_map, list_all};
 ghost use Rattle.ua_builtin.specs.Counted.{IsOverlong};
 ghost use Rattle.ua_builtin.specs.Exact.{Begins};
-ghost use Rattle.ua_builtin.specs.Format.{GivesBy, Behind, StaysBehind, Extends};
+ghost use Rattle.ua_builtin.specs.Format.{most_levels, GivesBy, Behind, StaysBehind, Extends};
 ghost use Rattle.ua_octets.specs.declared.fault.ReadFault.TheVariants.{NoValue};
 ghost use Rattle.ua_structures.specs.Array.{array, items_at};
 
 use std::alloc::{AllocError, Global};
 use std::marker::Model;
-use ua_builtin::{ReadFault, Source, Wire};
-
-/// The count that stands for null.
-const NULL_COUNT: u32 = u32::MAX;
-
-/// Counts from here on are negative as an Int32, and mean null.
-const FIRST_NEGATIVE: u32 = 1 << 31;
+use ua_builtin::{FIRST_NEGATIVE, NULL_COUNT, ReadFault, Source, Wire};
 
 /// An array of values, or null, which differs from no values (OPC 10000-6, 5.2.5).
 #[derive(Drop)]
@@ -78,6 +72,7 @@ fn read_items<T: Wire + Drop, S: Source>(
     depth: u32,
     count: u32,
 ) -> Result<Vec<T>, ReadFault>
+    requires levels { depth ≤ most_levels }
     ensures exact { GivesBy (λ v. v.items) (items_at (T.format.decode depth) count) (S.octets src.old) (S.octets src.new) result }
     ensures behind { StaysBehind (S.octets src.old) (S.octets src.new) }
 {
@@ -114,14 +109,17 @@ fn append_items<T: Wire>(items: &[T], out: &mut Vec<u8>) -> Result<(), AllocErro
 }
 
 impl<T: Wire + Drop> Wire for UaArray<T> {
-    ghost use Rattle.ua_structures.specs.Array.{array, array_starts};
+    ghost use Rattle.ua_structures.specs.Array.{array};
     ghost use Rattle.ua_builtin.specs.Counted.{IsOverlong};
 
     ghost format = { array T.format };
 
     ghost overlong = { IsOverlong };
 
-    ghost starts = { array_starts T.format };
+    #[inline]
+    fn lawful() {
+        T::lawful();
+    }
 
     #[tactic(auto, unfolding(crate::specs::Array::array))]
     fn read_value<S: Source>(
@@ -129,6 +127,7 @@ impl<T: Wire + Drop> Wire for UaArray<T> {
         src: &mut S,
         depth: u32,
     ) -> Result<UaArray<T>, ReadFault> {
+        T::lawful();
         let count = u32::read_value(alloc, src, depth)?;
         if count >= FIRST_NEGATIVE {
             return Ok(UaArray { items: None });
@@ -170,8 +169,10 @@ pub fn read_array<T: Wire + Drop, S: Source>(
     src: &mut S,
     depth: u32,
 ) -> Result<Option<Vec<T>>, ReadFault>
+    requires levels { depth ≤ most_levels }
     ensures found { IfOk result (λ v. Begins (array T.format).encodes (S.octets src.old) (option_map (λ items. items.items) v) (S.octets src.new)) }
     ensures levels { IfOk result (λ v. (array T.format).depth (option_map (λ items. items.items) v) ≤ depth) }
+    ensures counted { IfOk result (λ v. (array T.format).count (option_map (λ items. items.items) v) + length (S.octets src.new) ≤ length (S.octets src.old)) }
     ensures none { IsErrOf result NoValue → (v : _) (front rest : List ℕ) → S.octets src.old ≡ front ++ rest
         → (array T.format).depth v ≤ depth → ¬ ((array T.format).encodes v front) }
     ensures behind { Behind (S.octets src.old) (S.octets src.new) }

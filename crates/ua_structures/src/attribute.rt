@@ -1,7 +1,14 @@
 //! Reading and writing attributes.
 
-ghost use Rattle.std.specs.Prelude.{◌≡◌, ◌∷◌, [], IfOk};
-ghost use Rattle.ua_structures.specs.Plain.{value_of_node, value_for_node, read_of, write_of};
+ghost use Rattle.std.specs.Prelude.{◌≡◌, ◌<◌, ◌≤◌, ◌∷◌, [], length, IsTrue, IfOk};
+ghost use Rattle.std.specs.List.{list_all};
+ghost use Rattle.ua_builtin.specs.Counted.{first_negative};
+ghost use Rattle.ua_builtin.specs.NodeId.{node_id as node_format};
+ghost use Rattle.ua_builtin.specs.Status.{status_code};
+ghost use Rattle.ua_variant.specs.Formats.{data_value_format};
+ghost use Rattle.ua_structures.specs.Attribute.{read_value_id, read_request, read_response, write_value, write_request, write_response};
+ghost use Rattle.ua_structures.specs.Header.{request_header as header_format, response_header as answer_format};
+ghost use Rattle.ua_structures.specs.Plain.{value_of_node, value_for_node, read_of, write_of, values_of, statuses_of};
 
 use crate::append::{append_three, append_two};
 use crate::array::UaArray;
@@ -32,8 +39,10 @@ const BOTH_TIMES: i32 = 2;
 
 impl ReadValueId {
     /// The whole value of a node, in its default encoding.
+    #[tactic(auto, using(crate::proofs::PlainFits::read_value_id_fits))]
     pub fn of_value(node_id: NodeId) -> ReadValueId
-        ensures { result ≡ value_of_node node_id }
+        ensures value { result ≡ value_of_node node_id }
+        ensures encodable { IsTrue (node_format.encodable node_id) → IsTrue (read_value_id.encodable result) }
     {
         ReadValueId {
             node_id,
@@ -48,11 +57,13 @@ impl ReadValueId {
 }
 
 impl Wire for ReadValueId {
-    ghost use Rattle.ua_structures.specs.Attribute.{read_value_id, read_value_id_starts};
+    ghost use Rattle.ua_structures.specs.Attribute.{read_value_id};
 
     ghost format = { read_value_id };
 
-    ghost starts = { read_value_id_starts };
+    #[inline]
+    #[tactic(auto, using(crate::proofs::AttributeLawful::lawful_read_value_id))]
+    fn lawful() {}
 
     #[tactic(auto, unfolding(crate::specs::Attribute::read_value_id))]
     fn read_value<S: Source>(
@@ -99,12 +110,15 @@ pub struct ReadRequest {
 
 impl ReadRequest {
     ghost use Rattle.ua_builtin.specs.Exact.{image_read};
-    ghost use Rattle.ua_builtin.specs.Format.{Gives, StaysBehind};
+    ghost use Rattle.ua_builtin.specs.Format.{most_levels, Gives, StaysBehind};
     ghost use Rattle.ua_structures.specs.Attribute.{read_request_fields, read_request_of};
 
     /// A Read of these items, however old their values, with the times of source and server.
+    #[tactic(auto, using(crate::proofs::PlainFits::read_request_fits))]
     pub fn of_items(request_header: RequestHeader, items: Vec<ReadValueId>) -> ReadRequest
-        ensures { result ≡ read_of request_header items.items }
+        ensures value { result ≡ read_of request_header items.items }
+        ensures encodable { IsTrue (header_format.encodable request_header) → length items.items < first_negative
+            → IsTrue (list_all read_value_id.encodable items.items) → IsTrue (read_request.encodable result) }
     {
         ReadRequest {
             request_header,
@@ -115,12 +129,15 @@ impl ReadRequest {
     }
 
     /// A Read of this one item, as [`of_items`](ReadRequest::of_items) makes it.
+    #[tactic(auto, using(crate::proofs::PlainFits::read_item_fits))]
     pub fn of_item(
         alloc: Global,
         request_header: RequestHeader,
         item: ReadValueId,
     ) -> Result<ReadRequest, AllocError>
-        ensures { IfOk result (λ request. request ≡ read_of request_header (item ∷ [])) }
+        ensures value { IfOk result (λ request. request ≡ read_of request_header (item ∷ [])) }
+        ensures encodable { IsTrue (header_format.encodable request_header) → IsTrue (read_value_id.encodable item)
+            → IfOk result (λ request. IsTrue (read_request.encodable request)) }
     {
         let mut items = Vec::new(alloc);
         items.push(item)?;
@@ -134,6 +151,7 @@ impl ReadRequest {
         depth: u32,
         request_header: RequestHeader,
     ) -> Result<ReadRequest, ReadFault>
+        requires levels { depth ≤ most_levels }
         ensures exact { Gives (image_read (λ fields. read_request_of (request_header, fields)) (read_request_fields.decode depth)) (S.octets src.old) (S.octets src.new) result }
         ensures behind { StaysBehind (S.octets src.old) (S.octets src.new) }
     {
@@ -148,11 +166,13 @@ impl ReadRequest {
 }
 
 impl Wire for ReadRequest {
-    ghost use Rattle.ua_structures.specs.Attribute.{read_request, read_request_starts};
+    ghost use Rattle.ua_structures.specs.Attribute.{read_request};
 
     ghost format = { read_request };
 
-    ghost starts = { read_request_starts };
+    #[inline]
+    #[tactic(auto, using(crate::proofs::AttributeLawful::lawful_read_request))]
+    fn lawful() {}
 
     #[tactic(auto, unfolding(crate::specs::Attribute::read_request))]
     fn read_value<S: Source>(
@@ -188,12 +208,30 @@ pub struct ReadResponse {
     pub diagnostic_infos: UaArray<DiagnosticInfo>,
 }
 
+impl ReadResponse {
+    /// The values of the items, without diagnostics.
+    #[tactic(auto, using(crate::proofs::PlainFits::read_response_fits))]
+    pub fn of_results(response_header: ResponseHeader, results: Vec<DataValue>) -> ReadResponse
+        ensures value { result ≡ values_of response_header results.items }
+        ensures encodable { IsTrue (answer_format.encodable response_header) → length results.items < first_negative
+            → IsTrue (list_all data_value_format.encodable results.items) → IsTrue (read_response.encodable result) }
+    {
+        ReadResponse {
+            response_header,
+            results: UaArray::new(Some(results)),
+            diagnostic_infos: UaArray::null(),
+        }
+    }
+}
+
 impl Wire for ReadResponse {
-    ghost use Rattle.ua_structures.specs.Attribute.{read_response, read_response_starts};
+    ghost use Rattle.ua_structures.specs.Attribute.{read_response};
 
     ghost format = { read_response };
 
-    ghost starts = { read_response_starts };
+    #[inline]
+    #[tactic(auto, using(crate::proofs::AttributeLawful::lawful_read_response))]
+    fn lawful() {}
 
     #[tactic(auto, unfolding(crate::specs::Attribute::read_response))]
     fn read_value<S: Source>(
@@ -240,8 +278,10 @@ pub struct WriteValue {
 
 impl WriteValue {
     /// The whole value of a node, set to this.
+    #[tactic(auto, using(crate::proofs::PlainFits::write_value_fits))]
     pub fn of_value(node_id: NodeId, value: DataValue) -> WriteValue
-        ensures { result ≡ value_for_node node_id value }
+        ensures value { result ≡ value_for_node node_id value }
+        ensures encodable { IsTrue (node_format.encodable node_id) → IsTrue (data_value_format.encodable value) → IsTrue (write_value.encodable result) }
     {
         WriteValue {
             node_id,
@@ -253,11 +293,13 @@ impl WriteValue {
 }
 
 impl Wire for WriteValue {
-    ghost use Rattle.ua_structures.specs.Attribute.{write_value, write_value_starts};
+    ghost use Rattle.ua_structures.specs.Attribute.{write_value};
 
     ghost format = { write_value };
 
-    ghost starts = { write_value_starts };
+    #[inline]
+    #[tactic(auto, using(crate::proofs::AttributeLawful::lawful_write_value))]
+    fn lawful() {}
 
     #[tactic(auto, unfolding(crate::specs::Attribute::write_value))]
     fn read_value<S: Source>(
@@ -298,12 +340,15 @@ pub struct WriteRequest {
 
 impl WriteRequest {
     ghost use Rattle.ua_builtin.specs.Exact.{image_read};
-    ghost use Rattle.ua_builtin.specs.Format.{Gives, StaysBehind};
+    ghost use Rattle.ua_builtin.specs.Format.{most_levels, Gives, StaysBehind};
     ghost use Rattle.ua_structures.specs.Attribute.{write_request_fields, write_request_of};
 
     /// A Write of these items.
+    #[tactic(auto, using(crate::proofs::PlainFits::write_request_fits))]
     pub fn of_items(request_header: RequestHeader, items: Vec<WriteValue>) -> WriteRequest
-        ensures { result ≡ write_of request_header items.items }
+        ensures value { result ≡ write_of request_header items.items }
+        ensures encodable { IsTrue (header_format.encodable request_header) → length items.items < first_negative
+            → IsTrue (list_all write_value.encodable items.items) → IsTrue (write_request.encodable result) }
     {
         WriteRequest {
             request_header,
@@ -312,12 +357,15 @@ impl WriteRequest {
     }
 
     /// A Write of this one item.
+    #[tactic(auto, using(crate::proofs::PlainFits::write_item_fits))]
     pub fn of_item(
         alloc: Global,
         request_header: RequestHeader,
         item: WriteValue,
     ) -> Result<WriteRequest, AllocError>
-        ensures { IfOk result (λ request. request ≡ write_of request_header (item ∷ [])) }
+        ensures value { IfOk result (λ request. request ≡ write_of request_header (item ∷ [])) }
+        ensures encodable { IsTrue (header_format.encodable request_header) → IsTrue (write_value.encodable item)
+            → IfOk result (λ request. IsTrue (write_request.encodable request)) }
     {
         let mut items = Vec::new(alloc);
         items.push(item)?;
@@ -331,6 +379,7 @@ impl WriteRequest {
         depth: u32,
         request_header: RequestHeader,
     ) -> Result<WriteRequest, ReadFault>
+        requires levels { depth ≤ most_levels }
         ensures exact { Gives (image_read (λ fields. write_request_of (request_header, fields)) (write_request_fields.decode depth)) (S.octets src.old) (S.octets src.new) result }
         ensures behind { StaysBehind (S.octets src.old) (S.octets src.new) }
     {
@@ -343,11 +392,13 @@ impl WriteRequest {
 }
 
 impl Wire for WriteRequest {
-    ghost use Rattle.ua_structures.specs.Attribute.{write_request, write_request_starts};
+    ghost use Rattle.ua_structures.specs.Attribute.{write_request};
 
     ghost format = { write_request };
 
-    ghost starts = { write_request_starts };
+    #[inline]
+    #[tactic(auto, using(crate::proofs::AttributeLawful::lawful_write_request))]
+    fn lawful() {}
 
     #[tactic(auto, unfolding(crate::specs::Attribute::write_request))]
     fn read_value<S: Source>(
@@ -379,12 +430,30 @@ pub struct WriteResponse {
     pub diagnostic_infos: UaArray<DiagnosticInfo>,
 }
 
+impl WriteResponse {
+    /// What became of each item, without diagnostics.
+    #[tactic(auto, using(crate::proofs::PlainFits::write_response_fits))]
+    pub fn of_results(response_header: ResponseHeader, results: Vec<StatusCode>) -> WriteResponse
+        ensures value { result ≡ statuses_of response_header results.items }
+        ensures encodable { IsTrue (answer_format.encodable response_header) → length results.items < first_negative
+            → IsTrue (list_all status_code.encodable results.items) → IsTrue (write_response.encodable result) }
+    {
+        WriteResponse {
+            response_header,
+            results: UaArray::new(Some(results)),
+            diagnostic_infos: UaArray::null(),
+        }
+    }
+}
+
 impl Wire for WriteResponse {
-    ghost use Rattle.ua_structures.specs.Attribute.{write_response, write_response_starts};
+    ghost use Rattle.ua_structures.specs.Attribute.{write_response};
 
     ghost format = { write_response };
 
-    ghost starts = { write_response_starts };
+    #[inline]
+    #[tactic(auto, using(crate::proofs::AttributeLawful::lawful_write_response))]
+    fn lawful() {}
 
     #[tactic(auto, unfolding(crate::specs::Attribute::write_response))]
     fn read_value<S: Source>(

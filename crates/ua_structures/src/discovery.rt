@@ -1,5 +1,8 @@
 //! Discovery: endpoints, and who serves them.
 
+ghost use Rattle.std.specs.Prelude.{◌≡◌, ◌≤◌, None, pos};
+ghost use Rattle.ua_structures.specs.Plain.{application_of, endpoints_of};
+
 use crate::append::{append_three, append_two};
 use crate::array::UaArray;
 use crate::header::{RequestHeader, ResponseHeader};
@@ -20,12 +23,62 @@ pub struct ApplicationDescription {
     pub discovery_urls: UaArray<UaString>,
 }
 
+/// A server, as an ApplicationType (OPC 10000-4, 7.4).
+const SERVER: i32 = 0;
+
+/// A client, as an ApplicationType (OPC 10000-4, 7.4).
+const CLIENT: i32 = 1;
+
+impl ApplicationDescription {
+    /// A server of this URI and name, which has no locale, at these addresses; with nulls else.
+    pub fn server(
+        application_uri: UaString,
+        name: UaString,
+        discovery_urls: UaArray<UaString>,
+    ) -> ApplicationDescription
+        ensures { result ≡ application_of (pos 0) application_uri name discovery_urls }
+    {
+        ApplicationDescription::of_type(SERVER, application_uri, name, discovery_urls)
+    }
+
+    /// A client of this URI and name, which has no locale; with nulls else.
+    pub fn client(application_uri: UaString, name: UaString) -> ApplicationDescription
+        ensures { result ≡ application_of (pos 1) application_uri name None }
+    {
+        ApplicationDescription::of_type(CLIENT, application_uri, name, UaArray::null())
+    }
+
+    fn of_type(
+        application_type: i32,
+        application_uri: UaString,
+        name: UaString,
+        discovery_urls: UaArray<UaString>,
+    ) -> ApplicationDescription
+        ensures { result ≡ application_of application_type application_uri name discovery_urls }
+    {
+        ApplicationDescription {
+            application_uri,
+            product_uri: UaString::null(),
+            application_name: LocalizedText {
+                locale: UaString::null(),
+                text: name,
+            },
+            application_type,
+            gateway_server_uri: UaString::null(),
+            discovery_profile_uri: UaString::null(),
+            discovery_urls,
+        }
+    }
+}
+
 impl Wire for ApplicationDescription {
-    ghost use Rattle.ua_structures.specs.Discovery.{application_description, application_description_starts};
+    ghost use Rattle.ua_structures.specs.Discovery.{application_description};
 
     ghost format = { application_description };
 
-    ghost starts = { application_description_starts };
+    #[inline]
+    #[tactic(auto, using(crate::proofs::DiscoveryLawful::lawful_application_description))]
+    fn lawful() {}
 
     #[tactic(auto, unfolding(crate::specs::Discovery::application_description))]
     fn read_value<S: Source>(
@@ -94,11 +147,13 @@ pub struct UserTokenPolicy {
 }
 
 impl Wire for UserTokenPolicy {
-    ghost use Rattle.ua_structures.specs.Discovery.{user_token_policy, user_token_policy_starts};
+    ghost use Rattle.ua_structures.specs.Discovery.{user_token_policy};
 
     ghost format = { user_token_policy };
 
-    ghost starts = { user_token_policy_starts };
+    #[inline]
+    #[tactic(auto, using(crate::proofs::DiscoveryLawful::lawful_user_token_policy))]
+    fn lawful() {}
 
     #[tactic(auto, unfolding(crate::specs::Discovery::user_token_policy))]
     fn read_value<S: Source>(
@@ -156,11 +211,13 @@ pub struct EndpointDescription {
 }
 
 impl Wire for EndpointDescription {
-    ghost use Rattle.ua_structures.specs.Discovery.{endpoint_description, endpoint_description_starts};
+    ghost use Rattle.ua_structures.specs.Discovery.{endpoint_description};
 
     ghost format = { endpoint_description };
 
-    ghost starts = { endpoint_description_starts };
+    #[inline]
+    #[tactic(auto, using(crate::proofs::DiscoveryLawful::lawful_endpoint_description))]
+    fn lawful() {}
 
     #[tactic(auto, unfolding(crate::specs::Discovery::endpoint_description))]
     fn read_value<S: Source>(
@@ -239,8 +296,20 @@ pub struct GetEndpointsRequest {
 
 impl GetEndpointsRequest {
     ghost use Rattle.ua_builtin.specs.Exact.{image_read};
-    ghost use Rattle.ua_builtin.specs.Format.{Gives, StaysBehind};
+    ghost use Rattle.ua_builtin.specs.Format.{most_levels, Gives, StaysBehind};
     ghost use Rattle.ua_structures.specs.Discovery.{get_endpoints_request_fields, get_endpoints_request_of};
+
+    /// Asks for the endpoints at this address, for any locale and profile.
+    pub fn of_url(request_header: RequestHeader, endpoint_url: UaString) -> GetEndpointsRequest
+        ensures { result ≡ endpoints_of request_header endpoint_url }
+    {
+        GetEndpointsRequest {
+            request_header,
+            endpoint_url,
+            locale_ids: UaArray::null(),
+            profile_uris: UaArray::null(),
+        }
+    }
 
     /// Reads the fields behind a header that was read already.
     pub fn read_behind<S: Source>(
@@ -249,6 +318,7 @@ impl GetEndpointsRequest {
         depth: u32,
         request_header: RequestHeader,
     ) -> Result<GetEndpointsRequest, ReadFault>
+        requires levels { depth ≤ most_levels }
         ensures exact { Gives (image_read (λ fields. get_endpoints_request_of (request_header, fields)) (get_endpoints_request_fields.decode depth)) (S.octets src.old) (S.octets src.new) result }
         ensures behind { StaysBehind (S.octets src.old) (S.octets src.new) }
     {
@@ -263,11 +333,13 @@ impl GetEndpointsRequest {
 }
 
 impl Wire for GetEndpointsRequest {
-    ghost use Rattle.ua_structures.specs.Discovery.{get_endpoints_request, get_endpoints_request_starts};
+    ghost use Rattle.ua_structures.specs.Discovery.{get_endpoints_request};
 
     ghost format = { get_endpoints_request };
 
-    ghost starts = { get_endpoints_request_starts };
+    #[inline]
+    #[tactic(auto, using(crate::proofs::DiscoveryLawful::lawful_get_endpoints_request))]
+    fn lawful() {}
 
     #[tactic(auto, unfolding(crate::specs::Discovery::get_endpoints_request))]
     fn read_value<S: Source>(
@@ -302,11 +374,13 @@ pub struct GetEndpointsResponse {
 }
 
 impl Wire for GetEndpointsResponse {
-    ghost use Rattle.ua_structures.specs.Discovery.{get_endpoints_response, get_endpoints_response_starts};
+    ghost use Rattle.ua_structures.specs.Discovery.{get_endpoints_response};
 
     ghost format = { get_endpoints_response };
 
-    ghost starts = { get_endpoints_response_starts };
+    #[inline]
+    #[tactic(auto, using(crate::proofs::DiscoveryLawful::lawful_get_endpoints_response))]
+    fn lawful() {}
 
     #[tactic(auto, unfolding(crate::specs::Discovery::get_endpoints_response))]
     fn read_value<S: Source>(

@@ -1,7 +1,11 @@
 //! Headers of requests and responses, and the fault.
 
-ghost use Rattle.std.specs.Prelude.{◌≡◌};
-ghost use Rattle.ua_structures.specs.Plain.{null_object as nothing_held, request_header_of, response_header_of, service_fault_of};
+ghost use Rattle.std.specs.Prelude.{◌≡◌, IsTrue};
+ghost use Rattle.ua_builtin.specs.DateTime.{date_time};
+ghost use Rattle.ua_builtin.specs.NodeId.{node_id};
+ghost use Rattle.ua_builtin.specs.Status.{status_code};
+ghost use Rattle.ua_structures.specs.Header.{request_header, response_header, service_fault};
+ghost use Rattle.ua_structures.specs.Plain.{null_id as no_node, null_object as nothing_held, request_header_of, response_header_of, service_fault_of};
 
 use crate::append::{append_three, append_two};
 use crate::array::UaArray;
@@ -12,14 +16,39 @@ use ua_builtin::{
 };
 use ua_variant::DiagnosticInfo;
 
-// The object that holds nothing.
-fn null_object() -> ExtensionObject
+/// The null NodeId.
+pub fn null_id() -> NodeId
+    ensures { result ≡ no_node }
+{
+    NodeId::new(0, Identifier::Numeric(0))
+}
+
+/// The object that holds nothing.
+pub fn null_object() -> ExtensionObject
     ensures { result ≡ nothing_held }
 {
     ExtensionObject {
-        type_id: NodeId::new(0, Identifier::Numeric(0)),
+        type_id: null_id(),
         body: ExtensionBody::Absent,
     }
+}
+
+/// That a moment can be encoded: its number is within the range of its type once it is read.
+#[inline]
+#[tactic(auto, unfolding(ua_builtin::specs::DateTime::date_time))]
+pub fn moment_fits(moment: &DateTime)
+    ensures { IsTrue (date_time.encodable moment.now) }
+{
+    let _ticks = moment.ticks;
+}
+
+// The same of a result.
+#[inline]
+#[tactic(auto, unfolding(ua_builtin::specs::Status::status_code))]
+fn status_fits(status: &StatusCode)
+    ensures { IsTrue (status_code.encodable status.now) }
+{
+    let _code = status.code;
 }
 
 /// What stands at the head of each request (OPC 10000-4, 7.33).
@@ -48,8 +77,10 @@ impl RequestHeader {
         timestamp: DateTime,
         request_handle: u32,
     ) -> RequestHeader
-        ensures { result ≡ request_header_of authentication_token timestamp request_handle }
+        ensures value { result ≡ request_header_of authentication_token timestamp request_handle }
+        ensures encodable { IsTrue (node_id.encodable authentication_token) → IsTrue (request_header.encodable result) }
     {
+        moment_fits(&timestamp);
         RequestHeader {
             authentication_token,
             timestamp,
@@ -63,11 +94,13 @@ impl RequestHeader {
 }
 
 impl Wire for RequestHeader {
-    ghost use Rattle.ua_structures.specs.Header.{request_header, request_header_starts};
+    ghost use Rattle.ua_structures.specs.Header.{request_header};
 
     ghost format = { request_header };
 
-    ghost starts = { request_header_starts };
+    #[inline]
+    #[tactic(auto, using(crate::proofs::HeaderLawful::lawful_request_header))]
+    fn lawful() {}
 
     #[tactic(auto, unfolding(crate::specs::Header::request_header))]
     fn read_value<S: Source>(
@@ -143,8 +176,11 @@ impl ResponseHeader {
         request_handle: u32,
         service_result: StatusCode,
     ) -> ResponseHeader
-        ensures { result ≡ response_header_of timestamp request_handle service_result }
+        ensures value { result ≡ response_header_of timestamp request_handle service_result }
+        ensures encodable { IsTrue (response_header.encodable result) }
     {
+        moment_fits(&timestamp);
+        status_fits(&service_result);
         ResponseHeader {
             timestamp,
             request_handle,
@@ -157,11 +193,13 @@ impl ResponseHeader {
 }
 
 impl Wire for ResponseHeader {
-    ghost use Rattle.ua_structures.specs.Header.{response_header, response_header_starts};
+    ghost use Rattle.ua_structures.specs.Header.{response_header};
 
     ghost format = { response_header };
 
-    ghost starts = { response_header_starts };
+    #[inline]
+    #[tactic(auto, using(crate::proofs::HeaderLawful::lawful_response_header))]
+    fn lawful() {}
 
     #[tactic(auto, unfolding(crate::specs::Header::response_header))]
     fn read_value<S: Source>(
@@ -221,8 +259,10 @@ pub struct ServiceFault {
 
 impl ServiceFault {
     /// The fault with this code, sent at this moment to the request with this handle.
+    #[tactic(auto, unfolding(crate::specs::Header::service_fault))]
     pub fn new(timestamp: DateTime, request_handle: u32, code: StatusCode) -> ServiceFault
-        ensures { result ≡ service_fault_of timestamp request_handle code }
+        ensures value { result ≡ service_fault_of timestamp request_handle code }
+        ensures encodable { IsTrue (service_fault.encodable result) }
     {
         ServiceFault {
             response_header: ResponseHeader::new(timestamp, request_handle, code),
@@ -231,11 +271,13 @@ impl ServiceFault {
 }
 
 impl Wire for ServiceFault {
-    ghost use Rattle.ua_structures.specs.Header.{service_fault, service_fault_starts};
+    ghost use Rattle.ua_structures.specs.Header.{service_fault};
 
     ghost format = { service_fault };
 
-    ghost starts = { service_fault_starts };
+    #[inline]
+    #[tactic(auto, using(crate::proofs::HeaderLawful::lawful_service_fault))]
+    fn lawful() {}
 
     #[tactic(auto, unfolding(crate::specs::Header::service_fault))]
     fn read_value<S: Source>(

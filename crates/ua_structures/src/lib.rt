@@ -32,7 +32,7 @@ pub use discovery::{
     ApplicationDescription, EndpointDescription, GetEndpointsRequest, GetEndpointsResponse,
     UserTokenPolicy,
 };
-pub use header::{RequestHeader, ResponseHeader, ServiceFault};
+pub use header::{RequestHeader, ResponseHeader, ServiceFault, null_id, null_object};
 pub use secure_channel::{CloseRequest, OpenRequest, OpenResponse};
 pub use session::{
     ActivateSessionRequest, ActivateSessionResponse, AnonymousIdentityToken, CloseSessionRequest,

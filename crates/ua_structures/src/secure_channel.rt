@@ -1,9 +1,13 @@
 //! The services of secure channels.
 
+ghost use Rattle.std.specs.Prelude.{◌≡◌, pos, IsTrue};
+ghost use Rattle.ua_structures.specs.Plain.{open_request_of, open_response_of, close_request_of};
+ghost use Rattle.ua_structures.specs.SecureChannel.{open_request, open_response, close_request};
+
 use crate::append::{append_three, append_two};
-use crate::header::{RequestHeader, ResponseHeader};
+use crate::header::{RequestHeader, ResponseHeader, moment_fits, null_id};
 use std::alloc::{AllocError, Global};
-use ua_builtin::{DateTime, ReadFault, Source, UaBytes, Wire};
+use ua_builtin::{DateTime, ReadFault, Source, StatusCode, UaBytes, Wire};
 
 /// OpenSecureChannel: asks for a secure channel, or for a new token of one (OPC 10000-4, 5.6.2).
 #[derive(Drop)]
@@ -19,12 +23,62 @@ pub struct OpenRequest {
     pub requested_lifetime: u32,
 }
 
+/// To issue a token, as a RequestType (OPC 10000-4, 5.6.2).
+const ISSUE: i32 = 0;
+
+/// To renew a token, as a RequestType (OPC 10000-4, 5.6.2).
+const RENEW: i32 = 1;
+
+/// No security, as a MessageSecurityMode (OPC 10000-4, 7.20).
+const NO_SECURITY: i32 = 1;
+
+impl OpenRequest {
+    /// Asks for a channel and its first token, which is to live so many milliseconds: under no
+    /// token of a session, without security and without a nonce.
+    pub fn issue(timestamp: DateTime, request_handle: u32, requested_lifetime: u32) -> OpenRequest
+        ensures value { result ≡ open_request_of (pos 0) timestamp request_handle requested_lifetime }
+        ensures encodable { IsTrue (open_request.encodable result) }
+    {
+        moment_fits(&timestamp);
+        OpenRequest::of_type(ISSUE, timestamp, request_handle, requested_lifetime)
+    }
+
+    /// Asks for a new token of a channel, else as [`issue`](OpenRequest::issue) does.
+    pub fn renew(timestamp: DateTime, request_handle: u32, requested_lifetime: u32) -> OpenRequest
+        ensures value { result ≡ open_request_of (pos 1) timestamp request_handle requested_lifetime }
+        ensures encodable { IsTrue (open_request.encodable result) }
+    {
+        moment_fits(&timestamp);
+        OpenRequest::of_type(RENEW, timestamp, request_handle, requested_lifetime)
+    }
+
+    fn of_type(
+        request_type: i32,
+        timestamp: DateTime,
+        request_handle: u32,
+        requested_lifetime: u32,
+    ) -> OpenRequest
+        ensures { result ≡ open_request_of request_type timestamp request_handle requested_lifetime }
+    {
+        OpenRequest {
+            request_header: RequestHeader::new(null_id(), timestamp, request_handle),
+            client_protocol_version: 0,
+            request_type,
+            security_mode: NO_SECURITY,
+            client_nonce: UaBytes::null(),
+            requested_lifetime,
+        }
+    }
+}
+
 impl Wire for OpenRequest {
-    ghost use Rattle.ua_structures.specs.SecureChannel.{open_request, open_request_starts};
+    ghost use Rattle.ua_structures.specs.SecureChannel.{open_request};
 
     ghost format = { open_request };
 
-    ghost starts = { open_request_starts };
+    #[inline]
+    #[tactic(auto, using(crate::proofs::SecureChannelLawful::lawful_open_request))]
+    fn lawful() {}
 
     #[tactic(auto, unfolding(crate::specs::SecureChannel::open_request))]
     fn read_value<S: Source>(
@@ -92,12 +146,40 @@ pub struct OpenResponse {
     pub server_nonce: UaBytes,
 }
 
+impl OpenResponse {
+    /// The good answer to the request with this handle: the channel, its token, made at this moment,
+    /// and how many milliseconds the token lives; without a nonce.
+    pub fn new(
+        created_at: DateTime,
+        request_handle: u32,
+        channel_id: u32,
+        token_id: u32,
+        revised_lifetime: u32,
+    ) -> OpenResponse
+        ensures value { result ≡ open_response_of created_at request_handle channel_id token_id revised_lifetime }
+        ensures encodable { IsTrue (open_response.encodable result) }
+    {
+        moment_fits(&created_at);
+        OpenResponse {
+            response_header: ResponseHeader::new(created_at, request_handle, StatusCode::GOOD),
+            server_protocol_version: 0,
+            channel_id,
+            token_id,
+            created_at,
+            revised_lifetime,
+            server_nonce: UaBytes::null(),
+        }
+    }
+}
+
 impl Wire for OpenResponse {
-    ghost use Rattle.ua_structures.specs.SecureChannel.{open_response, open_response_starts};
+    ghost use Rattle.ua_structures.specs.SecureChannel.{open_response};
 
     ghost format = { open_response };
 
-    ghost starts = { open_response_starts };
+    #[inline]
+    #[tactic(auto, using(crate::proofs::SecureChannelLawful::lawful_open_response))]
+    fn lawful() {}
 
     #[tactic(auto, unfolding(crate::specs::SecureChannel::open_response))]
     fn read_value<S: Source>(
@@ -153,12 +235,27 @@ pub struct CloseRequest {
     pub request_header: RequestHeader,
 }
 
+impl CloseRequest {
+    /// Ends the channel, under no token of a session.
+    pub fn new(timestamp: DateTime, request_handle: u32) -> CloseRequest
+        ensures value { result ≡ close_request_of timestamp request_handle }
+        ensures encodable { IsTrue (close_request.encodable result) }
+    {
+        moment_fits(&timestamp);
+        CloseRequest {
+            request_header: RequestHeader::new(null_id(), timestamp, request_handle),
+        }
+    }
+}
+
 impl Wire for CloseRequest {
-    ghost use Rattle.ua_structures.specs.SecureChannel.{close_request, close_request_starts};
+    ghost use Rattle.ua_structures.specs.SecureChannel.{close_request};
 
     ghost format = { close_request };
 
-    ghost starts = { close_request_starts };
+    #[inline]
+    #[tactic(auto, using(crate::proofs::SecureChannelLawful::lawful_close_request))]
+    fn lawful() {}
 
     #[tactic(auto, unfolding(crate::specs::SecureChannel::close_request))]
     fn read_value<S: Source>(

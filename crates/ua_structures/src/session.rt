@@ -1,5 +1,8 @@
 //! Sessions.
 
+ghost use Rattle.std.specs.Prelude.{◌≡◌, ◌≤◌};
+ghost use Rattle.ua_structures.specs.Plain.{null_signature, create_session_of, session_of, activate_session_of, activated_of};
+
 use crate::append::{append_three, append_two};
 use crate::array::UaArray;
 use crate::discovery::{ApplicationDescription, EndpointDescription};
@@ -18,11 +21,13 @@ pub struct SignedSoftwareCertificate {
 }
 
 impl Wire for SignedSoftwareCertificate {
-    ghost use Rattle.ua_structures.specs.Session.{signed_software_certificate, signed_software_certificate_starts};
+    ghost use Rattle.ua_structures.specs.Session.{signed_software_certificate};
 
     ghost format = { signed_software_certificate };
 
-    ghost starts = { signed_software_certificate_starts };
+    #[inline]
+    #[tactic(auto, using(crate::proofs::SessionLawful::lawful_signed_software_certificate))]
+    fn lawful() {}
 
     #[tactic(auto, unfolding(crate::specs::Session::signed_software_certificate))]
     fn read_value<S: Source>(
@@ -55,12 +60,26 @@ pub struct SignatureData {
     pub signature: UaBytes,
 }
 
+impl SignatureData {
+    /// No signature: neither an algorithm nor octets.
+    pub fn null() -> SignatureData
+        ensures { result ≡ null_signature }
+    {
+        SignatureData {
+            algorithm: UaString::null(),
+            signature: UaBytes::null(),
+        }
+    }
+}
+
 impl Wire for SignatureData {
-    ghost use Rattle.ua_structures.specs.Session.{signature_data, signature_data_starts};
+    ghost use Rattle.ua_structures.specs.Session.{signature_data};
 
     ghost format = { signature_data };
 
-    ghost starts = { signature_data_starts };
+    #[inline]
+    #[tactic(auto, using(crate::proofs::SessionLawful::lawful_signature_data))]
+    fn lawful() {}
 
     #[tactic(auto, unfolding(crate::specs::Session::signature_data))]
     fn read_value<S: Source>(
@@ -94,11 +113,13 @@ pub struct AnonymousIdentityToken {
 }
 
 impl Wire for AnonymousIdentityToken {
-    ghost use Rattle.ua_structures.specs.Session.{anonymous_identity_token, anonymous_identity_token_starts};
+    ghost use Rattle.ua_structures.specs.Session.{anonymous_identity_token};
 
     ghost format = { anonymous_identity_token };
 
-    ghost starts = { anonymous_identity_token_starts };
+    #[inline]
+    #[tactic(auto, using(crate::proofs::SessionLawful::lawful_anonymous_identity_token))]
+    fn lawful() {}
 
     #[tactic(auto, unfolding(crate::specs::Session::anonymous_identity_token))]
     fn read_value<S: Source>(
@@ -141,8 +162,32 @@ pub struct CreateSessionRequest {
 
 impl CreateSessionRequest {
     ghost use Rattle.ua_builtin.specs.Exact.{image_read};
-    ghost use Rattle.ua_builtin.specs.Format.{Gives, StaysBehind};
+    ghost use Rattle.ua_builtin.specs.Format.{most_levels, Gives, StaysBehind};
     ghost use Rattle.ua_structures.specs.Session.{create_session_request_fields, create_session_request_of};
+
+    /// Asks for a session of this client, at this address, under this name, with this timeout in
+    /// milliseconds: without a limit of responses, and with nulls else.
+    pub fn new(
+        request_header: RequestHeader,
+        client_description: ApplicationDescription,
+        endpoint_url: UaString,
+        session_name: UaString,
+        requested_session_timeout: DoubleBits,
+    ) -> CreateSessionRequest
+        ensures { result ≡ create_session_of request_header client_description endpoint_url session_name requested_session_timeout }
+    {
+        CreateSessionRequest {
+            request_header,
+            client_description,
+            server_uri: UaString::null(),
+            endpoint_url,
+            session_name,
+            client_nonce: UaBytes::null(),
+            client_certificate: UaBytes::null(),
+            requested_session_timeout,
+            max_response_message_size: 0,
+        }
+    }
 
     /// Reads the fields behind a header that was read already.
     pub fn read_behind<S: Source>(
@@ -151,6 +196,7 @@ impl CreateSessionRequest {
         depth: u32,
         request_header: RequestHeader,
     ) -> Result<CreateSessionRequest, ReadFault>
+        requires levels { depth ≤ most_levels }
         ensures exact { Gives (image_read (λ fields. create_session_request_of (request_header, fields)) (create_session_request_fields.decode depth)) (S.octets src.old) (S.octets src.new) result }
         ensures behind { StaysBehind (S.octets src.old) (S.octets src.new) }
     {
@@ -188,11 +234,13 @@ impl CreateSessionRequest {
 }
 
 impl Wire for CreateSessionRequest {
-    ghost use Rattle.ua_structures.specs.Session.{create_session_request, create_session_request_starts};
+    ghost use Rattle.ua_structures.specs.Session.{create_session_request};
 
     ghost format = { create_session_request };
 
-    ghost starts = { create_session_request_starts };
+    #[inline]
+    #[tactic(auto, using(crate::proofs::SessionLawful::lawful_create_session_request))]
+    fn lawful() {}
 
     #[tactic(auto, unfolding(crate::specs::Session::create_session_request))]
     fn read_value<S: Source>(
@@ -259,12 +307,42 @@ pub struct CreateSessionResponse {
     pub max_request_message_size: u32,
 }
 
+impl CreateSessionResponse {
+    /// The session with this id and token, its timeout in milliseconds, the endpoints of the
+    /// server, and the most octets of a request; with nulls else.
+    pub fn new(
+        response_header: ResponseHeader,
+        session_id: NodeId,
+        authentication_token: NodeId,
+        revised_session_timeout: DoubleBits,
+        server_endpoints: UaArray<EndpointDescription>,
+        max_request_message_size: u32,
+    ) -> CreateSessionResponse
+        ensures { result ≡ session_of response_header session_id authentication_token revised_session_timeout server_endpoints max_request_message_size }
+    {
+        CreateSessionResponse {
+            response_header,
+            session_id,
+            authentication_token,
+            revised_session_timeout,
+            server_nonce: UaBytes::null(),
+            server_certificate: UaBytes::null(),
+            server_endpoints,
+            server_software_certificates: UaArray::null(),
+            server_signature: SignatureData::null(),
+            max_request_message_size,
+        }
+    }
+}
+
 impl Wire for CreateSessionResponse {
-    ghost use Rattle.ua_structures.specs.Session.{create_session_response, create_session_response_starts};
+    ghost use Rattle.ua_structures.specs.Session.{create_session_response};
 
     ghost format = { create_session_response };
 
-    ghost starts = { create_session_response_starts };
+    #[inline]
+    #[tactic(auto, using(crate::proofs::SessionLawful::lawful_create_session_response))]
+    fn lawful() {}
 
     #[tactic(auto, unfolding(crate::specs::Session::create_session_response))]
     fn read_value<S: Source>(
@@ -361,8 +439,25 @@ pub struct ActivateSessionRequest {
 
 impl ActivateSessionRequest {
     ghost use Rattle.ua_builtin.specs.Exact.{image_read};
-    ghost use Rattle.ua_builtin.specs.Format.{Gives, StaysBehind};
+    ghost use Rattle.ua_builtin.specs.Format.{most_levels, Gives, StaysBehind};
     ghost use Rattle.ua_structures.specs.Session.{activate_session_request_fields, activate_session_request_of};
+
+    /// Says that the session of the header is that of this identity; with nulls else.
+    pub fn new(
+        request_header: RequestHeader,
+        user_identity_token: ExtensionObject,
+    ) -> ActivateSessionRequest
+        ensures { result ≡ activate_session_of request_header user_identity_token }
+    {
+        ActivateSessionRequest {
+            request_header,
+            client_signature: SignatureData::null(),
+            client_software_certificates: UaArray::null(),
+            locale_ids: UaArray::null(),
+            user_identity_token,
+            user_token_signature: SignatureData::null(),
+        }
+    }
 
     /// Reads the fields behind a header that was read already.
     pub fn read_behind<S: Source>(
@@ -371,6 +466,7 @@ impl ActivateSessionRequest {
         depth: u32,
         request_header: RequestHeader,
     ) -> Result<ActivateSessionRequest, ReadFault>
+        requires levels { depth ≤ most_levels }
         ensures exact { Gives (image_read (λ fields. activate_session_request_of (request_header, fields)) (activate_session_request_fields.decode depth)) (S.octets src.old) (S.octets src.new) result }
         ensures behind { StaysBehind (S.octets src.old) (S.octets src.new) }
     {
@@ -393,11 +489,13 @@ impl ActivateSessionRequest {
 }
 
 impl Wire for ActivateSessionRequest {
-    ghost use Rattle.ua_structures.specs.Session.{activate_session_request, activate_session_request_starts};
+    ghost use Rattle.ua_structures.specs.Session.{activate_session_request};
 
     ghost format = { activate_session_request };
 
-    ghost starts = { activate_session_request_starts };
+    #[inline]
+    #[tactic(auto, using(crate::proofs::SessionLawful::lawful_activate_session_request))]
+    fn lawful() {}
 
     #[tactic(auto, unfolding(crate::specs::Session::activate_session_request))]
     fn read_value<S: Source>(
@@ -445,12 +543,28 @@ pub struct ActivateSessionResponse {
     pub diagnostic_infos: UaArray<DiagnosticInfo>,
 }
 
+impl ActivateSessionResponse {
+    /// The answer with nulls alone.
+    pub fn new(response_header: ResponseHeader) -> ActivateSessionResponse
+        ensures { result ≡ activated_of response_header }
+    {
+        ActivateSessionResponse {
+            response_header,
+            server_nonce: UaBytes::null(),
+            results: UaArray::null(),
+            diagnostic_infos: UaArray::null(),
+        }
+    }
+}
+
 impl Wire for ActivateSessionResponse {
-    ghost use Rattle.ua_structures.specs.Session.{activate_session_response, activate_session_response_starts};
+    ghost use Rattle.ua_structures.specs.Session.{activate_session_response};
 
     ghost format = { activate_session_response };
 
-    ghost starts = { activate_session_response_starts };
+    #[inline]
+    #[tactic(auto, using(crate::proofs::SessionLawful::lawful_activate_session_response))]
+    fn lawful() {}
 
     #[tactic(auto, unfolding(crate::specs::Session::activate_session_response))]
     fn read_value<S: Source>(
@@ -493,7 +607,7 @@ pub struct CloseSessionRequest {
 
 impl CloseSessionRequest {
     ghost use Rattle.ua_builtin.specs.Exact.{image_read};
-    ghost use Rattle.ua_builtin.specs.Format.{Gives, StaysBehind};
+    ghost use Rattle.ua_builtin.specs.Format.{most_levels, Gives, StaysBehind};
     ghost use Rattle.ua_structures.specs.Session.{close_session_request_fields, close_session_request_of};
 
     /// Reads the fields behind a header that was read already.
@@ -503,6 +617,7 @@ impl CloseSessionRequest {
         depth: u32,
         request_header: RequestHeader,
     ) -> Result<CloseSessionRequest, ReadFault>
+        requires levels { depth ≤ most_levels }
         ensures exact { Gives (image_read (λ fields. close_session_request_of (request_header, fields)) (close_session_request_fields.decode depth)) (S.octets src.old) (S.octets src.new) result }
         ensures behind { StaysBehind (S.octets src.old) (S.octets src.new) }
     {
@@ -515,11 +630,13 @@ impl CloseSessionRequest {
 }
 
 impl Wire for CloseSessionRequest {
-    ghost use Rattle.ua_structures.specs.Session.{close_session_request, close_session_request_starts};
+    ghost use Rattle.ua_structures.specs.Session.{close_session_request};
 
     ghost format = { close_session_request };
 
-    ghost starts = { close_session_request_starts };
+    #[inline]
+    #[tactic(auto, using(crate::proofs::SessionLawful::lawful_close_session_request))]
+    fn lawful() {}
 
     #[tactic(auto, unfolding(crate::specs::Session::close_session_request))]
     fn read_value<S: Source>(
@@ -549,11 +666,13 @@ pub struct CloseSessionResponse {
 }
 
 impl Wire for CloseSessionResponse {
-    ghost use Rattle.ua_structures.specs.Session.{close_session_response, close_session_response_starts};
+    ghost use Rattle.ua_structures.specs.Session.{close_session_response};
 
     ghost format = { close_session_response };
 
-    ghost starts = { close_session_response_starts };
+    #[inline]
+    #[tactic(auto, using(crate::proofs::SessionLawful::lawful_close_session_response))]
+    fn lawful() {}
 
     #[tactic(auto, unfolding(crate::specs::Session::close_session_response))]
     fn read_value<S: Source>(
