@@ -9,10 +9,13 @@ use Rattle.std.proofs.lemmas.Bool.{ltb-true, lt-ltb, eqb-true, eq-eqb}
 use Rattle.std.proofs.lemmas.Str.Parse.{without_leading_plus_none, IsNumeralModel, numerals_by_value, tells_digits, parse_signed_minus, parse_signed_plain}
 use Rattle.std.proofs.Math.Nat.{pow-le-pow_right}
 use Rattle.std.proofs.lemmas.Int.Digits.{digits_value-lt}
-use Rattle.ua_builtin.specs.Exact.{both_true}
 use Rattle.ua_nodes.specs.ValueText.{all_digits, is_numeral, number_below, unsigned_denoted, signed_denoted, negative, pattern_denoted}
 use mir.Syntax.{Width}
 use mir.Val.{hbits}
+
+both_true : (a b : Bool) → a && b ≡ true → (a ≡ true) × (b ≡ true)
+both_true true b h = (refl, h)
+both_true false b h = absurd cc
 
 pub all_digits_true : (radix : ℕ) (text : List ℕ) → AllDigits radix text → all_digits radix text ≡ true
 all_digits_true radix [] h = refl
