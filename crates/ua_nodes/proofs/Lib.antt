@@ -1,7 +1,9 @@
 pub mod Elements
 pub mod Faults
 pub mod Files
+pub mod Judged
 pub mod OneLoad
 pub mod Pieces
+pub mod Ranges
 pub mod Reasons
 pub mod Writes

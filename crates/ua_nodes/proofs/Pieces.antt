@@ -36,7 +36,7 @@ length_onto : (x : ℕ) (parts : List (List ℕ)) → length parts ≤ length (o
 length_onto x [] = omega arith
 length_onto x (part ∷ parts) = omega arith
 
-at_least_one : (c : ℕ) (text : List ℕ) → 1 ≤ length (pieces c text)
+pub at_least_one : (c : ℕ) (text : List ℕ) → 1 ≤ length (pieces c text)
 at_least_one c text = omega (arith, length-slice_split (λ (b : ℕ). nat_eq b c) text)
 
 -- where the octet stands in a text there are two pieces or more

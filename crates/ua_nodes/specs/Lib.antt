@@ -2,6 +2,7 @@ pub mod Attribute
 pub mod LineFault
 pub mod NodeFile
 pub mod Parsed
+pub mod Range
 pub mod Read
 pub mod Status
 pub mod Table

@@ -1,16 +1,20 @@
 -- The answer to an item of a Read (OPC 10000-4, 5.11.2).
-use Rattle.std.specs.Prelude.{ℕ, Bool, true, false, not, ◌&&◌, ◌||◌, cond, nat_eq, nat_lt, List, [], ◌∷◌, length, Option, None, Some, codes}
+use Rattle.std.specs.Prelude.{ℕ, Bool, true, false, not, ◌&&◌, ◌||◌, cond, nat_eq, nat_lt, leb, List, [], ◌∷◌, length, Option, None, Some, Result, Ok, Err, codes}
+use Rattle.std.specs.Option.{is_some}
 use Rattle.std.specs.Str.{bytes_eq}
 use Rattle.ua_builtin.specs.declared.date_time.DateTime.{DateTime}
 use Rattle.ua_builtin.specs.declared.status_code.StatusCode.{StatusCode}
 use Rattle.ua_builtin.specs.declared.qualified_name.QualifiedName.{QualifiedName}
-use Rattle.ua_variant.specs.Data.{DataFields, DataValueData, bare, valued}
+use Rattle.ua_builtin.specs.declared.node_id.NodeId.{NodeId}
+use Rattle.ua_variant.specs.Data.{DataFields, VariantData, DataValueData, bare, valued}
 use Rattle.ua_structures.specs.declared.attribute.ReadValueId.{ReadValueId}
 use Rattle.ua_nodes.specs.declared.node.Variable.{Variable}
 use Rattle.ua_nodes.specs.declared.stamps.Stamps.{Stamps}
 use Rattle.ua_nodes.specs.declared.stamps.Stamps.TheVariants.{Source, Server, Both, Neither}
+use Rattle.ua_nodes.specs.declared.range.IndexRange.{IndexRange}
 use Rattle.ua_nodes.specs.Attribute.{is_attribute, attribute_value}
-use Rattle.ua_nodes.specs.Status.{first_reason, bad_node_id_unknown, bad_attribute_id_invalid, bad_index_range_invalid, bad_data_encoding_invalid, bad_not_readable}
+use Rattle.ua_nodes.specs.Range.{asked_range, elements_of, part_of}
+use Rattle.ua_nodes.specs.Status.{first_reason, bad_node_id_unknown, bad_attribute_id_invalid, bad_index_range_invalid, bad_index_range_no_data, bad_data_encoding_invalid, bad_not_readable}
 
 -- a text that is neither null nor empty
 abbrev pub is_filled : Option (List ℕ) → Bool
@@ -26,14 +30,33 @@ is_text (Some text) name = bytes_eq text name
 abbrev pub is_default_encoding : QualifiedName → Bool
 is_default_encoding q = not (is_filled q.name) || (nat_eq q.namespace 0 && is_text q.name (codes "Default Binary"))
 
+-- the item asks for a range: its text is neither null nor empty
+abbrev pub asks_range : ReadValueId → Bool
+asks_range item = is_filled item.index_range
+
+-- the attribute is an array: the Value of a node whose values are arrays
+abbrev pub is_array_attribute : Variable → ℕ → Bool
+is_array_attribute v attribute_id = nat_eq attribute_id 13 && v.array
+
+-- no element stands at a place of the range: its first place is behind the last element
+abbrev pub is_past : Option IndexRange → VariantData → Bool
+is_past None value = false
+is_past (Some r) value = leb (length (elements_of value)) r.first
+
 -- why an item for this node is refused, in the order in which it is judged
 abbrev pub read_reasons : Variable → ReadValueId → List (Bool × StatusCode)
 read_reasons v item =
     (not (is_attribute item.attribute_id), bad_attribute_id_invalid)
-    ∷ (is_filled item.index_range, bad_index_range_invalid)
+    ∷ (asks_range item && not (is_array_attribute v item.attribute_id && is_some (asked_range item.index_range)), bad_index_range_invalid)
     ∷ (not (is_default_encoding item.data_encoding), bad_data_encoding_invalid)
     ∷ (nat_eq item.attribute_id 13 && not v.access.readable, bad_not_readable)
+    ∷ (is_past (asked_range item.index_range) v.value, bad_index_range_no_data)
     ∷ []
+
+-- an item is refused, or it asks for this range
+abbrev pub judged : Option StatusCode → Option IndexRange → Result (Option IndexRange) StatusCode
+judged (Some code) r = Err code
+judged None r = Ok r
 
 -- the source time is asked for: by Source and by Both (OPC 10000-4, 7.40)
 abbrev pub gives_source : Stamps → Bool
@@ -68,10 +91,16 @@ stamps_of v is_value stamps moment = record {
   server_picoseconds = None;
 }
 
--- the answer for a node: the refusal where there is a reason, else the attribute's value with its status and times
+-- what is read of a node: an attribute, or of the Value the part at the places of a range
+abbrev pub value_read : NodeId → Variable → ℕ → Option IndexRange → VariantData
+value_read id v attribute_id None = attribute_value id v attribute_id
+value_read id v attribute_id (Some r) = part_of r v.value
+
+-- the answer for a node: the refusal where there is a reason, else what is read with its status and times
 abbrev pub read_by : Option StatusCode → Variable → ReadValueId → Stamps → DateTime → DataValueData
 read_by (Some code) v item stamps moment = refused code
-read_by None v item stamps moment = valued (attribute_value item.node_id v item.attribute_id) (stamps_of v (nat_eq item.attribute_id 13) stamps moment)
+read_by None v item stamps moment =
+    valued (value_read item.node_id v item.attribute_id (asked_range item.index_range)) (stamps_of v (nat_eq item.attribute_id 13) stamps moment)
 
 -- the answer to an item, by the node that it names
 abbrev pub read_answer : Option Variable → ReadValueId → Stamps → DateTime → DataValueData

@@ -18,6 +18,10 @@ bad_attribute_id_invalid = record { code = 0x8035_0000 }
 abbrev pub bad_index_range_invalid : StatusCode
 bad_index_range_invalid = record { code = 0x8036_0000 }
 
+-- BadIndexRangeNoData: no element stands at a place of the index range
+abbrev pub bad_index_range_no_data : StatusCode
+bad_index_range_no_data = record { code = 0x8037_0000 }
+
 -- BadDataEncodingInvalid: the data encoding is not valid
 abbrev pub bad_data_encoding_invalid : StatusCode
 bad_data_encoding_invalid = record { code = 0x8038_0000 }

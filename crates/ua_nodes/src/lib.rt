@@ -16,6 +16,8 @@ mod laws;
 mod node;
 mod node_file;
 mod number;
+mod part;
+mod range;
 mod read;
 mod stamps;
 mod table;

@@ -4,11 +4,13 @@ ghost use Rattle.std.specs.Prelude.{◌≡◌, IfOk};
 ghost use Rattle.ua_variant.specs.View.{variant_of, data_value_of};
 ghost use Rattle.ua_variant.specs.Data.{valued};
 ghost use Rattle.ua_nodes.specs.Attribute.{is_attribute, attribute_value};
-ghost use Rattle.ua_nodes.specs.Read.{is_filled, is_default_encoding, read_reasons, refused as refused_data, stamps_of, read_by, read_answer};
+ghost use Rattle.ua_nodes.specs.Range.{asked_range};
+ghost use Rattle.ua_nodes.specs.Read.{is_filled, is_default_encoding, read_reasons, judged, refused as refused_data, stamps_of, value_read, read_by, read_answer};
 ghost use Rattle.ua_nodes.specs.Status.{first_reason};
 ghost use Rattle.ua_nodes.specs.Table.{node_at};
 
 use crate::node::Variable;
+use crate::range::IndexRange;
 use crate::stamps::Stamps;
 use crate::table::NodeTable;
 use std::alloc::{AllocError, Global};
@@ -50,32 +52,54 @@ impl Variable {
     ) -> Result<DataValue, AllocError>
         ensures { IfOk result (λ d. data_value_of d ≡ read_by (first_reason (read_reasons self.now item.now)) self.now item.now stamps moment) }
     {
-        if let Some(code) = self.read_refusal(item) {
-            return Ok(refused(code));
-        }
-        let value = self.attribute(alloc, &item.node_id, item.attribute_id)?;
+        let range = match self.judge_read(item) {
+            Ok(range) => range,
+            Err(code) => return Ok(refused(code)),
+        };
+        let value = self.value_read(alloc, item, range)?;
         let value = BoxedVariant::new(alloc, value)?;
         Ok(self.stamped(value, item.attribute_id == VALUE, stamps, moment))
     }
 
-    /// Why an item for this node is refused.
-    fn read_refusal(&self, item: &ReadValueId) -> Option<StatusCode>
-        ensures { result ≡ first_reason (read_reasons self.now item.now) }
+    /// The range that an item for this node asks for, or why the item is refused.
+    fn judge_read(&self, item: &ReadValueId) -> Result<Option<IndexRange>, StatusCode>
+        ensures { result ≡ judged (first_reason (read_reasons self.now item.now)) (asked_range item.now.index_range) }
     {
         if !is_known(item.attribute_id) {
-            return Some(StatusCode::BAD_ATTRIBUTE_ID_INVALID);
+            return Err(StatusCode::BAD_ATTRIBUTE_ID_INVALID);
         }
-        // Ranges of arrays would be read here.
-        if has_text(&item.index_range) {
-            return Some(StatusCode::BAD_INDEX_RANGE_INVALID);
+        let range = IndexRange::asked(&item.index_range);
+        let is_array = item.attribute_id == VALUE && self.array;
+        if has_text(&item.index_range) && !(is_array && range.is_some()) {
+            return Err(StatusCode::BAD_INDEX_RANGE_INVALID);
         }
         if !is_binary(&item.data_encoding) {
-            return Some(StatusCode::BAD_DATA_ENCODING_INVALID);
+            return Err(StatusCode::BAD_DATA_ENCODING_INVALID);
         }
         if item.attribute_id == VALUE && !self.access.readable {
-            return Some(StatusCode::BAD_NOT_READABLE);
+            return Err(StatusCode::BAD_NOT_READABLE);
         }
-        None
+        if let Some(range) = range {
+            if range.first as usize >= self.value.elements().len() {
+                return Err(StatusCode::BAD_INDEX_RANGE_NO_DATA);
+            }
+        }
+        Ok(range)
+    }
+
+    /// What is read of this node: an attribute, or of the Value the part at the places of a range.
+    fn value_read(
+        &self,
+        alloc: Global,
+        item: &ReadValueId,
+        range: Option<IndexRange>,
+    ) -> Result<Variant, AllocError>
+        ensures { IfOk result (λ v. variant_of v ≡ value_read item.now.node_id self.now item.now.attribute_id range) }
+    {
+        match range {
+            Some(range) => self.value.part(alloc, range),
+            None => self.attribute(alloc, &item.node_id, item.attribute_id),
+        }
     }
 
     /// The value of an attribute of this node, which the NodeId names.

@@ -10,6 +10,8 @@ mod fixture;
 #[cfg(test)]
 mod items;
 #[cfg(test)]
+mod ranges;
+#[cfg(test)]
 mod stamps;
 #[cfg(test)]
 mod types;
