@@ -1,6 +1,5 @@
 -- A file loads in one way, or has one first bad line.
 use Rattle.std.proofs.Common.{◌≡◌, ℕ, ◌<◌, ◌⊎◌, inl, inr, Bool, true, false, cond, List, [], ◌∷◌, ◌++◌, Option, Some, None, IsSome, refl, sym, ◌∙◌, ap, subst, arith, true≢false, rules}
-use Rattle.std.specs.Bool.{Decides}
 use Rattle.std.specs.List.{AllByRecursion, IsDistinct, AllZip}
 use Rattle.std.specs.Map.{keys_of}
 use Rattle.ua_builtin.proofs.NamesOnce.{one_node}
@@ -14,6 +13,7 @@ use Rattle.ua_nodes.specs.ValueText.{value_denoted}
 use Rattle.ua_nodes.specs.Table.{Nodes, node_at, same_id}
 use Rattle.ua_nodes.proofs.Files.{Writes}
 use Rattle.ua_nodes.proofs.Reasons.{pass_written, same_place}
+use Rattle.ua_nodes.proofs.Writes.{same_id_is}
 
 some_same : {A : Type 0} (o : Option A) (x y : A) → o ≡ Some x → o ≡ Some y → x ≡ y
 some_same o x y p q = let e : Some x ≡ Some y = sym p ∙ q in cc
@@ -45,9 +45,6 @@ one_each (l ∷ ls) (x ∷ xs) (y ∷ ys) v w = λ i. one_written l.text x y v.0
 
 pub loads_once : (lines : List FileLine) (a b : Nodes) → WriteNodes lines a → WriteNodes lines b → a ≡ b
 loads_once lines a b v w = one_each lines a b v.each w.each
-
-same_id_is : (a b : NodeId) → Decides (same_id a b) (a ≡ b)
-same_id_is a b = search rules
 
 -- what lines behind others write
 record Behind (front : List FileLine) (line : FileLine) (nodes : Nodes) : Type 0 where

@@ -14,7 +14,8 @@ use Rattle.ua_nodes.specs.Status.{first_reason}
 use Rattle.ua_nodes.specs.Table.{Nodes, node_at, same_id}
 use Rattle.ua_nodes.specs.Write.{write_reasons, write_answer, written_by, is_good_for, later, last_good, after_item, after_write, write_answers}
 
-same_id_is : (a b : NodeId) → Decides (same_id a b) (a ≡ b)
+-- the same NodeId is an equal one
+pub same_id_is : (a b : NodeId) → Decides (same_id a b) (a ≡ b)
 same_id_is a b = search rules
 
 abbrev Node : Type 0

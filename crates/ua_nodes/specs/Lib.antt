@@ -4,6 +4,7 @@ pub mod NodeFile
 pub mod Parsed
 pub mod Range
 pub mod Read
+pub mod Sound
 pub mod Status
 pub mod Table
 pub mod TypeName

@@ -1,11 +1,19 @@
-//! Laws of node files and of Writes, each carried by a function without a body.
+//! Laws of node files, of Reads and of Writes, each carried by a function without a body.
 
-ghost use Rattle.std.specs.Prelude.{◌≡◌, ℕ, List};
+ghost use Rattle.std.specs.Prelude.{◌≡◌, ◌++◌, ◌∷◌, [], IsTrue, ℕ, List};
+ghost use Rattle.std.specs.Str.{IsUtf8};
 ghost use Rattle.ua_nodes.specs.declared.fault.LineReason.{LineReason};
-ghost use Rattle.ua_nodes.specs.NodeFile.{FileLine, WriteNodes, IsFirstBad};
+ghost use Rattle.ua_nodes.specs.declared.node.Variable.{Variable};
+ghost use Rattle.ua_nodes.specs.declared.stamps.Stamps.{Stamps};
+ghost use Rattle.ua_nodes.specs.NodeFile.{FileLine, node_lines, WriteNodes, IsFirstBad};
+ghost use Rattle.ua_nodes.specs.Read.{read_answer};
+ghost use Rattle.ua_nodes.specs.Sound.{IsSoundNode, IsSound};
 ghost use Rattle.ua_nodes.specs.Table.{Nodes, node_at};
 ghost use Rattle.ua_nodes.specs.Write.{after_write, last_good, written_by};
 ghost use Rattle.std.specs.Option.{option_map};
+ghost use Rattle.ua_builtin.specs.DateTime.{date_time};
+ghost use Rattle.ua_variant.specs.Encodable.{data_value_encodable};
+ghost use Rattle.ua_structures.specs.declared.attribute.ReadValueId.{ReadValueId};
 ghost use Rattle.ua_builtin.specs.declared.date_time.DateTime.{DateTime};
 ghost use Rattle.ua_builtin.specs.declared.node_id.NodeId.{NodeId};
 ghost use Rattle.ua_structures.specs.declared.attribute.WriteValue.{WriteValue};
@@ -29,4 +37,24 @@ pub fn a_file_has_one_first_bad_line()
 /// that names it, else those from before.
 pub fn a_node_keeps_the_last_good_item()
     ensures { (items : List WriteValue) (moment : DateTime) (nodes : Nodes) (id : NodeId) → node_at (after_write items moment nodes) id ≡ option_map (λ v. written_by v (last_good (id, v) items) moment) (node_at nodes id) }
+{}
+
+/// A table that a file writes is sound.
+pub fn a_loaded_table_is_sound()
+    ensures { (text : List ℕ) (nodes : Nodes) → IsUtf8 text → WriteNodes (node_lines text) nodes → IsSound nodes }
+{}
+
+/// A sound table stays sound with a sound node more.
+pub fn a_table_stays_sound_with_a_sound_node()
+    ensures { (nodes : Nodes) (id : NodeId) (variable : Variable) → IsSound nodes → IsSoundNode id variable → IsSound (nodes ++ (id, variable) ∷ []) }
+{}
+
+/// A sound table stays sound after a Write.
+pub fn a_table_stays_sound_after_a_write()
+    ensures { (items : List WriteValue) (moment : DateTime) (nodes : Nodes) → IsTrue (date_time.encodable moment) → IsSound nodes → IsSound (after_write items moment nodes) }
+{}
+
+/// What a Read of a sound table answers can be written.
+pub fn a_sound_table_answers_what_can_be_written()
+    ensures { (nodes : Nodes) (item : ReadValueId) (stamps : Stamps) (moment : DateTime) → IsTrue (date_time.encodable moment) → IsSound nodes → IsTrue (data_value_encodable (read_answer (node_at nodes item.node_id) item stamps moment)) }
 {}

@@ -13,6 +13,7 @@
 
 mod fault;
 mod laws;
+mod moment;
 mod node;
 mod node_file;
 mod number;
@@ -28,7 +29,9 @@ mod write;
 pub use fault::{InsertFault, LineReason, LoadFault, ValueFault};
 pub use laws::{
     a_file_has_one_first_bad_line, a_file_loads_in_one_way, a_file_that_loads_has_no_bad_line,
-    a_node_keeps_the_last_good_item,
+    a_loaded_table_is_sound, a_node_keeps_the_last_good_item,
+    a_sound_table_answers_what_can_be_written, a_table_stays_sound_after_a_write,
+    a_table_stays_sound_with_a_sound_node,
 };
 pub use node::{Access, Node, NodeValue, Variable};
 pub use stamps::Stamps;

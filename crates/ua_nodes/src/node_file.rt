@@ -3,6 +3,7 @@
 ghost use Rattle.std.specs.Prelude.{◌≡◌, ◌≢◌, ◌+◌, ◌*◌, ◌≤◌, ◌∷◌, [], length, MatchOption, IfOk, IfErr, OnOk};
 ghost use Rattle.std.specs.Str.Lines.{strip_carriage_return};
 ghost use Rattle.ua_nodes.specs.NodeFile.{node_lines, WriteNodes, Refuses, Adds, RefusesLine, GivesNode, GivesId, GivesName, access_denoted, fields, is_read as is_read_line};
+ghost use Rattle.ua_nodes.specs.Sound.{IsSound};
 
 use crate::fault::{LineFault, LineReason, LoadFault};
 use crate::node::{Access, Node};
@@ -20,6 +21,7 @@ impl NodeTable {
     pub fn load(alloc: Global, text: &str) -> Result<NodeTable, LoadFault>
         ensures nodes { IfOk result (λ t. WriteNodes (node_lines text.now) t) }
         ensures fault { IfErr result (λ e. Refuses (node_lines text.now) e) }
+        ensures sound { IfOk result (λ t. IsSound t) }
     {
         let mut table = NodeTable::new(alloc);
         table.make_room(most_nodes(text));

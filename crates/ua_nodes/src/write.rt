@@ -3,9 +3,11 @@
 ghost use Rattle.std.specs.Prelude.{◌≡◌, ◌+◌, ◌≤◌, ◌++◌, vec_len, vec_capacity, IsSome, Some, None, cond, is_none};
 ghost use Rattle.ua_variant.specs.View.{variant_of};
 ghost use Rattle.ua_nodes.specs.Status.{first_reason};
+ghost use Rattle.ua_nodes.specs.Sound.{IsSound};
 ghost use Rattle.ua_nodes.specs.Table.{node_at};
 ghost use Rattle.ua_nodes.specs.Write.{is_of_type, write_reasons, write_answer, good_or, stored, written_by, after_item, after_write, write_answers};
 
+use crate::moment::shows_writable;
 use crate::node::{NodeValue, Variable};
 use crate::read::{VALUE, has_text, is_known};
 use crate::table::NodeTable;
@@ -24,7 +26,9 @@ impl NodeTable {
         requires { vec_len statuses.old + vec_len items ≤ vec_capacity statuses.old }
         ensures nodes { self.new ≡ after_write items.items moment self.old }
         ensures answers { statuses.new.items ≡ statuses.old.items ++ write_answers self.old items.items }
+        ensures sound { IsSound self.old → IsSound self.new }
     {
+        shows_writable(&moment);
         for item in items {
             let status = self.write_item(item, moment);
             let Ok(()) = statuses.push(status) else {

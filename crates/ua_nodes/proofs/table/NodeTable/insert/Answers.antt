@@ -1,10 +1,12 @@
-use Rattle.std.proofs.Common.{◌≡◌, ◌++◌, ◌∷◌, [], List, false, Option, None, Some, refl, ◌∙◌, ap}
+use Rattle.std.proofs.Common.{◌≡◌, ◌++◌, ◌∷◌, [], List, false, Option, None, Some, refl, sym, ◌∙◌, ap, subst}
 use Rattle.std.specs.Option.{is_some}
 use Rattle.indexmap.specs.IndexMap.{get}
 use Rattle.indexmap.proofs.CallerLemmas.{insert_entry-new}
 use Rattle.ua_builtin.specs.declared.node_id.NodeId.{NodeId}
 use Rattle.ua_nodes.specs.declared.node.Variable.{Variable}
-use Rattle.ua_nodes.specs.Table.{same_id}
+use Rattle.ua_nodes.specs.Sound.{IsSound}
+use Rattle.ua_nodes.specs.Table.{same_id, variable_of}
+use Rattle.ua_nodes.proofs.SoundWrite.{sound_with}
 use Rattle.ua_nodes.proofs.table.NodeTable.insert.Goals as goal
 
 none_is : (o : Option Variable) → false ≡ is_some o → o ≡ None
@@ -22,3 +24,6 @@ returns-clause-ok c =
     ∙ insert_entry-new same_id m parts.0 parts.1 none
     ∙ ap (λ (es : List (NodeId × Variable)). es ++ (parts.0, parts.1) ∷ []) c.self.view_is
     ∙ ap (λ (p : NodeId × Variable). c.args.self.now ++ p ∷ []) e
+
+pub returns-clause-sound : goal.returns-clause-sound
+returns-clause-sound c = λ before node. subst IsSound (sym (returns-clause-ok c)) (sound_with c.args.self.now c.args.node.id (variable_of c.args.node) before node)

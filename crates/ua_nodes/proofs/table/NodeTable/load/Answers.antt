@@ -3,6 +3,7 @@ use Rattle.std.proofs.lemmas.Iterator.Consumers.{YieldsList-turn, YieldsList-end
 use Rattle.std.proofs.lemmas.Iterator.Splits.{YieldsList-from_str_split}
 use Rattle.std.proofs.lemmas.List.{length_push}
 use Rattle.ua_nodes.proofs.Files.{turn_more, turn_fault, turns_end, count_fits}
+use Rattle.ua_nodes.proofs.SoundFile.{file_sound}
 use Rattle.ua_nodes.proofs.table.NodeTable.load.Goals as goal
 
 pub overflow_add-number : goal.overflow_add-number
@@ -33,3 +34,6 @@ returns-clause-nodes c =
     let at = c.loop-line in
     let t = YieldsList-end (YieldsList-from_str_split 10 c.args.text.now (lit< tt) (cc) (cc) (cc)) at.yielded _ at.yielded_by _ _ c.in-None.is c.next.ensures.steps in
     turns_end c.args.text.now at.number (length at.yielded) at.table at.invariant.0 t.1 at.invariant.1
+
+pub returns-clause-sound : goal.returns-clause-sound
+returns-clause-sound c = file_sound c.args.text.now c.loop-line.table c.utf8.text (returns-clause-nodes c)

@@ -1,9 +1,11 @@
-use Rattle.std.proofs.Common.{◌≡◌, ◌++◌, ◌∷◌, [], List, length, refl, sym, ap, ◌∙◌, append_assoc, arith}
+use Rattle.std.proofs.Common.{◌≡◌, ◌++◌, ◌∷◌, [], List, length, refl, sym, ap, ◌∙◌, append_assoc, arith, subst}
 use Rattle.std.specs.Vec.Iter.{into_iter_items}
 use Rattle.ua_builtin.specs.declared.status_code.StatusCode.{StatusCode}
 use Rattle.ua_structures.specs.declared.attribute.WriteValue.{WriteValue}
+use Rattle.ua_nodes.specs.Sound.{IsSound}
 use Rattle.ua_nodes.specs.Table.{Nodes, node_at}
 use Rattle.ua_nodes.specs.Write.{after_write, write_answer, write_answers}
+use Rattle.ua_nodes.proofs.SoundWrite.{write_sound}
 use Rattle.ua_nodes.proofs.Writes.{after_first, after_nothing, answers_after}
 use Rattle.ua_nodes.proofs.table.NodeTable.write_items.Goals as goal
 
@@ -40,3 +42,6 @@ returns-clause-nodes c =
     let none = c.in-None.ensures.steps in
     let empty : into_iter_items at.item-iterator ≡ [] = nothing_left (into_iter_items at.item-iterator) (sym at.invariant.3 ∙ none.0) in
     sym (at.invariant.0 ∙ ap (λ (is : List WriteValue). after_write is c.args.moment at.self) empty ∙ after_nothing c.args.moment at.self)
+
+pub returns-clause-sound : goal.returns-clause-sound
+returns-clause-sound c = λ before. subst IsSound (sym (returns-clause-nodes c)) (write_sound c.args.items.items c.args.moment c.args.self.now c.shows_writable.ensures before)

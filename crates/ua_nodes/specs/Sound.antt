@@ -1,0 +1,37 @@
+-- Sound tables: whatever a Read of them answers can be written.
+use Rattle.std.specs.Prelude.{IsTrue, None}
+use Rattle.std.specs.List.{AllByRecursion}
+use Rattle.ua_builtin.specs.Counted.{text}
+use Rattle.ua_builtin.specs.NodeId.{node_id}
+use Rattle.ua_builtin.specs.declared.node_id.NodeId.{NodeId}
+use Rattle.ua_variant.specs.Data.{DataFields, DataValueData, valued}
+use Rattle.ua_variant.specs.Encodable.{data_value_encodable}
+use Rattle.ua_nodes.specs.declared.node.Variable.{Variable}
+use Rattle.ua_nodes.specs.Table.{Nodes}
+use Rattle.ua_nodes.specs.Write.{is_of_type}
+
+-- the status and source time that a node holds
+abbrev pub held_fields : Variable → DataFields
+held_fields v = record {
+  status = v.status;
+  source_timestamp = v.source_time;
+  source_picoseconds = v.source_picoseconds;
+  server_timestamp = None;
+  server_picoseconds = None;
+}
+
+-- what a node holds, as a DataValue
+abbrev pub held : Variable → DataValueData
+held v = valued v.value (held_fields v)
+
+-- a node whose NodeId and name can be written, and whose value is one of its type, or an array of it without dimensions,
+-- and can be written within a DataValue: it has at most 99 levels
+pub record IsSoundNode (id : NodeId) (v : Variable) : Type 0 where
+  pub id_fits : IsTrue (node_id.encodable id)
+  pub name_fits : IsTrue (text.encodable v.name)
+  pub of_type : IsTrue (is_of_type v.kind v.array v.value)
+  pub value_fits : IsTrue (data_value_encodable (held v))
+
+-- each node is sound
+abbrev pub IsSound : Nodes → Type 0
+IsSound nodes = AllByRecursion (λ node. IsSoundNode node.0 node.1) nodes
