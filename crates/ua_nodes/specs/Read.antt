@@ -1,5 +1,5 @@
 -- The answer to an item of a Read (OPC 10000-4, 5.11.2).
-use Rattle.std.specs.Prelude.{ℕ, Bool, true, false, not, ◌&&◌, ◌||◌, cond, nat_eq, nat_lt, leb, List, [], ◌∷◌, length, Option, None, Some, Result, Ok, Err, codes}
+use Rattle.std.specs.Prelude.{ℕ, Bool, true, false, not, ◌&&◌, ◌||◌, cond, nat_eq, nat_lt, leb, List, [], ◌∷◌, length, Option, None, Some, Result, Ok, Err, ℤ, pos, negsuc, codes}
 use Rattle.std.specs.Option.{is_some}
 use Rattle.std.specs.Str.{bytes_eq}
 use Rattle.ua_builtin.specs.declared.date_time.DateTime.{DateTime}
@@ -57,6 +57,11 @@ read_reasons v item =
 abbrev pub judged : Option StatusCode → Option IndexRange → Result (Option IndexRange) StatusCode
 judged (Some code) r = Err code
 judged None r = Ok r
+
+-- the times that a number in a Read request asks for (OPC 10000-4, 7.40)
+abbrev pub stamps_numbered : ℤ → Option Stamps
+stamps_numbered (pos n) = cond (nat_eq n 0) (Some Source) (cond (nat_eq n 1) (Some Server) (cond (nat_eq n 2) (Some Both) (cond (nat_eq n 3) (Some Neither) None)))
+stamps_numbered (negsuc n) = None
 
 -- the source time is asked for: by Source and by Both (OPC 10000-4, 7.40)
 abbrev pub gives_source : Stamps → Bool

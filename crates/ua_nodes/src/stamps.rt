@@ -11,7 +11,22 @@ pub enum Stamps {
 
 impl Stamps {
     ghost use Rattle.std.specs.Prelude.{◌≡◌};
-    ghost use Rattle.ua_nodes.specs.Read.{gives_source, gives_server};
+    ghost use Rattle.ua_nodes.specs.Read.{gives_source, gives_server, stamps_numbered};
+
+    /// The times of a number in a Read request: 0 for Source, 1 for Server, 2 for Both and 3 for
+    /// Neither.
+    #[inline]
+    pub fn of_number(number: i32) -> Option<Stamps>
+        ensures { result ≡ stamps_numbered number }
+    {
+        match number {
+            0 => Some(Stamps::Source),
+            1 => Some(Stamps::Server),
+            2 => Some(Stamps::Both),
+            3 => Some(Stamps::Neither),
+            _ => None,
+        }
+    }
 
     #[inline]
     pub(crate) fn gives_source(self) -> bool
