@@ -1,5 +1,10 @@
+pub mod MessagesLawful
+pub mod RequestLawful
+pub mod ResponseLawful
 pub mod BodyLaws
 pub mod BodyRead
+pub mod ByKind
 pub mod MessageRead
 pub mod RequestRead
 pub mod ResponseRead
+pub mod Lengths

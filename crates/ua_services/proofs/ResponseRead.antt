@@ -1,59 +1,128 @@
 -- A response, against the reader on lists.
-use Rattle.std.specs.Prelude.{◌≡◌, ℕ, ◌<◌, ◌≤◌, List, length, Option, Some, None, Err}
-use Rattle.std.proofs.Common.{refl, sym, ◌∙◌, ap, subst}
-use Rattle.ua_builtin.specs.Exact.{◌>>=◌, some_is}
+use Rattle.std.specs.Prelude.{◌≡◌, ℕ, ◌<◌, ◌≤◌, List, length, Option, Some, None, Result, Ok, Err, IfOk, IfErr, ◌⊎◌, ◌↔◌}
+use Rattle.std.proofs.Common.{refl, sym, ◌∙◌, ap, subst, inl, inr}
+use Rattle.ua_builtin.specs.Exact.{◌>>=◌}
+use Rattle.ua_octets.proofs.Readers.{some_is}
 use Rattle.ua_builtin.specs.Format.{Gives, most_levels}
 use Rattle.ua_builtin.specs.NodeId.{node_id}
 use Rattle.ua_builtin.specs.declared.node_id.NodeId.{NodeId}
 use Rattle.ua_octets.specs.declared.fault.ReadFault.{ReadFault}
 use Rattle.ua_octets.specs.declared.fault.ReadFault.TheVariants.{NoValue, OutOfMemory as NoMemory}
-use Rattle.ua_services.specs.Message.{IsBody}
-use Rattle.ua_services.specs.Response.{response, response_kind, of_kind, announced, AnnouncesNone, Misread}
+use Rattle.ua_services.specs.Message.{IsBody, IsNoBody, kind_at, if_last, body_of, found_or, id_of}
+use Rattle.ua_services.specs.Response.{response, responses, response_kind, response_read, unread_by, misread_id, misread_kind, AnnouncesNone, Misread}
 use Rattle.ua_services.specs.declared.response.Response.{Response}
 use Rattle.ua_services.specs.declared.response.ResponseKind.{ResponseKind}
 use Rattle.ua_services.specs.declared.fault.ResponseFault.{ResponseFault}
 use Rattle.ua_services.specs.declared.fault.ResponseFault.TheVariants.{Unknown, Unreadable, OutOfMemory}
-use Rattle.ua_services.proofs.BodyRead.{whole, unread, left_over}
+use Rattle.ua_services.proofs.ResponseLawful.{lawful_response}
+use Rattle.ua_services.proofs.BodyRead.{body_is, body_found, no_body, nothing_left, some_left, found_ok, found_err, err_is}
 
-decode-response : (old : List ℕ) → response.decode most_levels old ≡ (node_id.decode old >>= λ x. (announced (response_kind x.0)).decode most_levels x.1)
-unfolding response
-decode-response old = refl
+-- a reader answers this, or that memory was refused
+abbrev pub Reads : Result Response ResponseFault → Result Response ResponseFault → Type 0
+Reads result expected = (result ≡ expected) ⊎ (result ≡ Err OutOfMemory)
 
-reads_id : (old rest : List ℕ) (id : NodeId) → node_id.decode old ≡ Some (id, rest) → response.decode most_levels old ≡ (announced (response_kind id)).decode most_levels rest
-reads_id old rest id found = decode-response old ∙ ap (λ (o : Option (NodeId × List ℕ)). o >>= λ x. (announced (response_kind x.0)).decode most_levels x.1) found
+-- ---- the whole body
 
-reads_kind : (k : ResponseKind) (old rest : List ℕ) (id : NodeId) → node_id.decode old ≡ Some (id, rest) → response_kind id ≡ Some k → response.decode most_levels old ≡ (of_kind k).decode most_levels rest
-reads_kind k old rest id found is = reads_id old rest id found ∙ ap (λ (o : Option ResponseKind). (announced o).decode most_levels rest) is
+-- what a body is read as, by the NodeId that was found
+abbrev read_by : Option (NodeId × List ℕ) → Result Response ResponseFault
+read_by o = found_or ((o >>= λ x. kind_at responses most_levels (response_kind x.0) x.1) >>= λ x. if_last x.0 x.1) (misread_id (o >>= λ x. Some x.0))
 
-some_kind : (k : ResponseKind) (old rest : List ℕ) (id : NodeId) → node_id.decode old ≡ Some (id, rest) → response_kind id ≡ Some k → AnnouncesNone old → ⊥
-some_kind k old rest id found is none =
-    let same : id ≡ none.0 = some_is id none.0 (sym (ap (λ (o : Option (NodeId × List ℕ)). o >>= λ x. Some x.0) found) ∙ none.1) in
-    let both : Some k ≡ None = sym is ∙ ap response_kind same ∙ none.2 in
+read-by : (old : List ℕ) → response_read old ≡ read_by (node_id.decode old)
+unfolding response response_read
+read-by old = refl
+
+-- what a body is read as behind the NodeId, by the kind that this announces
+abbrev read_kind : List ℕ → Option ResponseKind → Result Response ResponseFault
+read_kind rest o = found_or (kind_at responses most_levels o rest >>= λ x. if_last x.0 x.1) (misread_kind o)
+
+read-kind : (old rest : List ℕ) (id : NodeId) (o : Option ResponseKind) → node_id.decode old ≡ Some (id, rest) → response_kind id ≡ o → response_read old ≡ read_kind rest o
+read-kind old rest id o found is = read-by old ∙ ap read_by found ∙ ap (read_kind rest) is
+
+pub id_fails : (old new : List ℕ) (e : ReadFault) → Gives node_id.decode old new (Err e)
+    → Reads (Err (unread_by e)) (response_read old)
+id_fails old new NoValue h = inl (sym (read-by old ∙ ap read_by h))
+id_fails old new NoMemory h = inr refl
+
+pub unknown : (old rest : List ℕ) (id : NodeId) → node_id.decode old ≡ Some (id, rest) → response_kind id ≡ None
+    → Reads (Err Unknown) (response_read old)
+unknown old rest id found is = inl (sym (read-kind old rest id None found is))
+
+pub kind_fails : (k : ResponseKind) (old rest new : List ℕ) (id : NodeId) (e : ReadFault) → node_id.decode old ≡ Some (id, rest) → response_kind id ≡ Some k → Gives (kind_at responses most_levels (Some k)) rest new (Err e)
+    → Reads (Err (unread_by e)) (response_read old)
+kind_fails k old rest new id NoValue found is h = inl (sym (read-kind old rest id (Some k) found is ∙ ap (λ o. found_or (o >>= λ x. if_last x.0 x.1) Unreadable) h))
+kind_fails k old rest new id NoMemory found is h = inr refl
+
+kind_gives : (k : ResponseKind) (old rest new : List ℕ) (id : NodeId) (m : Response) → node_id.decode old ≡ Some (id, rest) → response_kind id ≡ Some k → kind_at responses most_levels (Some k) rest ≡ Some (m, new)
+    → response_read old ≡ found_or (if_last m new) Unreadable
+kind_gives k old rest new id m found is e = read-kind old rest id (Some k) found is ∙ ap (λ o. found_or (o >>= λ x. if_last x.0 x.1) Unreadable) e
+
+pub kind_left : (k : ResponseKind) (old rest new : List ℕ) (id : NodeId) (m : Response) → node_id.decode old ≡ Some (id, rest) → response_kind id ≡ Some k → kind_at responses most_levels (Some k) rest ≡ Some (m, new) → 0 < length new
+    → Reads (Err Unreadable) (response_read old)
+kind_left k old rest new id m found is e more = inl (sym (kind_gives k old rest new id m found is e ∙ ap (λ o. found_or o Unreadable) (some_left m new more)))
+
+pub kind_read : (k : ResponseKind) (old rest new : List ℕ) (id : NodeId) (m : Response) → node_id.decode old ≡ Some (id, rest) → response_kind id ≡ Some k → kind_at responses most_levels (Some k) rest ≡ Some (m, new) → length new ≤ 0
+    → Reads (Ok m) (response_read old)
+kind_read k old rest new id m found is e none = inl (sym (kind_gives k old rest new id m found is e ∙ ap (λ o. found_or o Unreadable) (nothing_left m new none)))
+
+-- ---- what was read, by the relations
+
+no_such_kind : (octets : List ℕ) (id : NodeId) (k : ResponseKind) → id_of octets ≡ Some id → response_kind id ≡ Some k → AnnouncesNone octets → ⊥
+no_such_kind octets id k e is a =
+    let same : id ≡ a.0 = some_is id a.0 (sym e ∙ a.1) in
+    let both : Some k ≡ None = sym is ∙ ap response_kind same ∙ a.2 in
     absurd cc
 
-no_id : (old : List ℕ) → node_id.decode old ≡ None → AnnouncesNone old → ⊥
-no_id old e none =
-    let both : None ≡ Some none.0 = sym (ap (λ (o : Option (NodeId × List ℕ)). o >>= λ x. Some x.0) e) ∙ none.1 in
+no_such_id : (octets : List ℕ) → id_of octets ≡ None → AnnouncesNone octets → ⊥
+no_such_id octets e a =
+    let both : None ≡ Some a.0 = sym e ∙ a.1 in
     absurd cc
 
-pub id_fails : (old new : List ℕ) (e : ReadFault) (out : ResponseFault) → Gives node_id.decode old new (Err e) → (e ≡ NoValue → out ≡ Unreadable) → (e ≡ NoMemory → out ≡ OutOfMemory) → Misread old out
-id_fails old new NoValue out h value memory =
-    subst (Misread old) (sym (value refl)) (no_id old h, unread response old (decode-response old ∙ ap (λ (o : Option (NodeId × List ℕ)). o >>= λ x. (announced (response_kind x.0)).decode most_levels x.1) h))
-id_fails old new NoMemory out h value memory = subst (Misread old) (sym (memory refl)) tt
+pub response_found : (octets : List ℕ) (r : Result Response ResponseFault) → (r ≡ response_read octets) ⊎ (r ≡ Err OutOfMemory) → IfOk r (λ m. IsBody response m octets)
+unfolding response_read
+response_found octets (Ok m) (inl h) = body_is response lawful_response octets m (found_ok (body_of response octets) (misread_id (id_of octets)) m h)
+response_found octets (Ok m) (inr h) = absurd cc
+response_found octets (Err e) h = tt
 
-pub unknown : (old rest : List ℕ) (id : NodeId) → node_id.decode old ≡ Some (id, rest) → response_kind id ≡ None → Misread old Unknown
-unknown old rest id found is = (
-  (id, ap (λ (o : Option (NodeId × List ℕ)). o >>= λ x. Some x.0) found, is),
-  unread response old (reads_id old rest id found ∙ ap (λ (o : Option ResponseKind). (announced o).decode most_levels rest) is),
+misread_by : (octets : List ℕ) (id : NodeId) (o : Option ResponseKind) → id_of octets ≡ Some id → response_kind id ≡ o → IsNoBody response octets → Misread octets (misread_kind o)
+misread_by octets id None e is none = ((id, e, is), none)
+misread_by octets id (Some k) e is none = (λ (a : AnnouncesNone octets). no_such_kind octets id k e is a, none)
+
+misread_is : (octets : List ℕ) (o : Option NodeId) → id_of octets ≡ o → IsNoBody response octets → Misread octets (misread_id o)
+misread_is octets None e none = (λ (a : AnnouncesNone octets). no_such_id octets e a, none)
+misread_is octets (Some id) e none = misread_by octets id (response_kind id) e refl none
+
+pub response_refused : (octets : List ℕ) (r : Result Response ResponseFault) → (r ≡ response_read octets) ⊎ (r ≡ Err OutOfMemory) → IfErr r (λ fault. Misread octets fault)
+unfolding response_read
+response_refused octets (Ok m) h = tt
+response_refused octets (Err e) (inl h) =
+    let w = found_err (body_of response octets) (misread_id (id_of octets)) e h in
+    subst (Misread octets) (sym w.1) (misread_is octets (id_of octets) refl (no_body response lawful_response octets w.0))
+response_refused octets (Err e) (inr h) = subst (Misread octets) (sym (err_is e OutOfMemory h)) tt
+
+pub response_counted : (octets : List ℕ) (r : Result Response ResponseFault) → (r ≡ response_read octets) ⊎ (r ≡ Err OutOfMemory) → IfOk r (λ m. response.count m ≤ length octets)
+response_counted octets (Ok m) h = lawful_response.counted m octets (response_found octets (Ok m) h).0
+response_counted octets (Err e) h = tt
+
+-- ---- what reading on lists gives
+
+pub response_read-found : (octets : List ℕ) (m : Response) → ((response_read octets ≡ Ok m) ↔ IsBody response m octets)
+unfolding response_read
+response_read-found octets m = (
+  (λ e. body_is response lawful_response octets m (found_ok (body_of response octets) (misread_id (id_of octets)) m (sym e))),
+  (λ h. ap (λ o. found_or o (misread_id (id_of octets))) (body_found response lawful_response octets m h)),
 )
 
-pub kind_fails : (k : ResponseKind) (old rest new : List ℕ) (id : NodeId) (e : ReadFault) (out : ResponseFault) → node_id.decode old ≡ Some (id, rest) → response_kind id ≡ Some k → Gives ((of_kind k).decode most_levels) rest new (Err e)
-    → (e ≡ NoValue → out ≡ Unreadable) → (e ≡ NoMemory → out ≡ OutOfMemory) → Misread old out
-kind_fails k old rest new id NoValue out found is h value memory = subst (Misread old) (sym (value refl)) (some_kind k old rest id found is, unread response old (reads_kind k old rest id found is ∙ h))
-kind_fails k old rest new id NoMemory out found is h value memory = subst (Misread old) (sym (memory refl)) tt
+pub response_read-refused : (octets : List ℕ) (fault : ResponseFault) → response_read octets ≡ Err fault → Misread octets fault
+response_read-refused octets fault e = response_refused octets (Err fault) (inl (sym e))
 
-pub kind_left : (k : ResponseKind) (old rest new : List ℕ) (id : NodeId) (m : Response) → node_id.decode old ≡ Some (id, rest) → response_kind id ≡ Some k → (of_kind k).decode most_levels rest ≡ Some (m, new) → 0 < length new → Misread old Unreadable
-kind_left k old rest new id m found is e more = (some_kind k old rest id found is, left_over response old m new (reads_kind k old rest id found is ∙ e) more)
+kind_memory : (o : Option ResponseKind) → misread_kind o ≡ OutOfMemory → ⊥
+kind_memory None e = cc
+kind_memory (Some k) e = cc
 
-pub kind_read : (k : ResponseKind) (old rest new : List ℕ) (id : NodeId) (m : Response) → node_id.decode old ≡ Some (id, rest) → response_kind id ≡ Some k → (of_kind k).decode most_levels rest ≡ Some (m, new) → length new ≤ 0 → IsBody response m old
-kind_read k old rest new id m found is e none = whole response old m new (reads_kind k old rest id found is ∙ e) none
+id_memory : (o : Option NodeId) → misread_id o ≡ OutOfMemory → ⊥
+id_memory None e = cc
+id_memory (Some id) e = kind_memory (response_kind id) e
+
+pub response_read-memory : (octets : List ℕ) → response_read octets ≡ Err OutOfMemory → ⊥
+unfolding response_read
+response_read-memory octets e = id_memory (id_of octets) (sym (found_err (body_of response octets) (misread_id (id_of octets)) OutOfMemory (sym e)).1)

@@ -8,10 +8,7 @@ ghost use Rattle.ua_octets.specs.declared.fault.WriteFault.TheVariants.{NotWrita
 ghost use Rattle.ua_services.specs.Message.{IsBody, IsNoBody, message, standard, standard_number as number_of_id};
 
 use std::alloc::{AllocError, Global};
-use ua_builtin::{Identifier, NodeId, ReadFault, Source, Wire, WriteFault};
-
-/// The levels that a message may have.
-pub const LEVELS: u32 = 100;
+use ua_builtin::{Identifier, MOST_LEVELS, NodeId, ReadFault, Source, Wire, WriteFault};
 
 /// The number of a NodeId of the standard's namespace.
 pub fn standard_number(id: &NodeId) -> Option<u32>
@@ -47,7 +44,8 @@ pub fn read_whole<T: Wire + Drop, S: Source>(alloc: Global, src: &mut S) -> Resu
     ensures found { IfOk result (λ m. IsBody T.format m (S.octets src.old)) }
     ensures none { IsErrOf result NoValue → IsNoBody T.format (S.octets src.old) }
 {
-    let value = T::read_value(alloc, src, LEVELS)?;
+    T::lawful();
+    let value = T::read_value(alloc, src, MOST_LEVELS)?;
     if src.left() > 0 {
         return Err(ReadFault::NoValue);
     }
@@ -63,7 +61,8 @@ pub fn read_message<T: Wire + Drop, S: Source>(
     ensures found { IfOk result (λ m. IsBody (message number T.format) m (S.octets src.old)) }
     ensures none { IsErrOf result NoValue → IsNoBody (message number T.format) (S.octets src.old) }
 {
-    let id = NodeId::read_value(alloc, src, LEVELS)?;
+    T::lawful();
+    let id = NodeId::read_value(alloc, src, MOST_LEVELS)?;
     let Some(found) = standard_number(&id) else {
         return Err(ReadFault::NoValue);
     };

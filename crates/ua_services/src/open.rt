@@ -1,15 +1,15 @@
 //! The messages of the secure channel.
 
-ghost use Rattle.std.specs.Prelude.{◌≡◌, ◌++◌, ◌↔◌, IfOk, IsErrOf, OnOk, OnErr, IsFalse};
+ghost use Rattle.std.specs.Prelude.{◌≡◌, ◌++◌, ◌↔◌, ◌⊎◌, IfOk, IsErrOf, OnOk, OnErr, IsFalse};
 ghost use Rattle.ua_octets.specs.declared.fault.ReadFault.TheVariants.{NoValue};
 ghost use Rattle.ua_octets.specs.declared.fault.WriteFault.TheVariants.{NotWritable};
 ghost use Rattle.ua_structures.specs.SecureChannel.{open_request, open_response, close_request};
-ghost use Rattle.ua_services.specs.Message.{IsBody, IsNoBody, message};
-ghost use Rattle.ua_services.specs.Open.{IsAnswer, IsNoAnswer};
+ghost use Rattle.ua_services.specs.Message.{IsBody, IsNoBody, message, body_of, found_or};
+ghost use Rattle.ua_services.specs.Open.{IsAnswer, IsNoAnswer, answer_read};
 
-use crate::message::{LEVELS, read_message, read_whole, standard_number, write_message};
+use crate::message::{read_message, read_whole, standard_number, write_message};
 use std::alloc::Global;
-use ua_builtin::{NodeId, ReadFault, Source, Wire, WriteFault};
+use ua_builtin::{MOST_LEVELS, NodeId, ReadFault, Source, Wire, WriteFault};
 use ua_structures::{CloseRequest, OpenRequest, OpenResponse, ServiceFault};
 
 /// The answer to an OpenSecureChannel request.
@@ -22,6 +22,7 @@ pub enum OpenAnswer {
 /// Reads a body that is one OpenSecureChannel request and nothing behind it. After a fault the
 /// source is to be given up.
 pub fn read_open_request<S: Source>(alloc: Global, src: &mut S) -> Result<OpenRequest, ReadFault>
+    ensures read { (result ≡ found_or (body_of (message 446 open_request) (S.octets src.old)) NoValue) ⊎ (result ≡ Err ReadFault.OutOfMemory) }
     ensures found { IfOk result (λ m. IsBody (message 446 open_request) m (S.octets src.old)) }
     ensures none { IsErrOf result NoValue → IsNoBody (message 446 open_request) (S.octets src.old) }
 {
@@ -39,18 +40,27 @@ pub fn write_open_request(request: &OpenRequest, out: &mut Vec<u8>) -> Result<()
     write_message(446, request, out)
 }
 
-/// Reads a body that is one OpenSecureChannel response, or one ServiceFault, and nothing behind it.
-/// After a fault the source is to be given up.
-pub fn read_open_response<S: Source>(alloc: Global, src: &mut S) -> Result<OpenAnswer, ReadFault>
+// Reads an answer by the NodeId that it begins with.
+fn read_answer<S: Source>(alloc: Global, src: &mut S) -> Result<OpenAnswer, ReadFault>
     ensures found { IfOk result (λ answer. IsAnswer answer (S.octets src.old)) }
     ensures none { IsErrOf result NoValue → IsNoAnswer (S.octets src.old) }
 {
-    let id = NodeId::read_value(alloc, src, LEVELS)?;
+    let id = NodeId::read_value(alloc, src, MOST_LEVELS)?;
     match standard_number(&id) {
         Some(449) => Ok(OpenAnswer::Open(read_whole(alloc, src)?)),
         Some(397) => Ok(OpenAnswer::Fault(read_whole(alloc, src)?)),
         _ => Err(ReadFault::NoValue),
     }
+}
+
+/// Reads a body that is one OpenSecureChannel response, or one ServiceFault, and nothing behind it.
+/// After a fault the source is to be given up.
+pub fn read_open_response<S: Source>(alloc: Global, src: &mut S) -> Result<OpenAnswer, ReadFault>
+    ensures read { (result ≡ found_or (answer_read (S.octets src.old)) NoValue) ⊎ (result ≡ Err ReadFault.OutOfMemory) }
+    ensures found { IfOk result (λ answer. IsAnswer answer (S.octets src.old)) }
+    ensures none { IsErrOf result NoValue → IsNoAnswer (S.octets src.old) }
+{
+    read_answer(alloc, src)
 }
 
 /// Adds the canonical body of an OpenSecureChannel response at the end. An error leaves what was

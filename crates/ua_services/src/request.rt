@@ -1,24 +1,22 @@
 //! Requests.
 
-ghost use Rattle.std.specs.Prelude.{◌≡◌, ◌++◌, [], Some, IfOk, IfErr, OnOk, OnErr, IsErrOf, IsFalse, ◌↔◌, option_map};
-ghost use Rattle.ua_builtin.specs.Format.{Gives, StaysBehind};
+ghost use Rattle.std.specs.Prelude.{◌≡◌, ◌≤◌, ◌++◌, ◌⊎◌, length, IfOk, IfErr, OnOk, OnErr, IsErrOf, IsFalse, ◌↔◌};
+ghost use Rattle.ua_builtin.specs.Format.{most_levels, Gives, StaysBehind};
 ghost use Rattle.ua_octets.specs.declared.fault.WriteFault.TheVariants.{NotWritable};
 ghost use Rattle.ua_services.specs.Message.{IsBody, handle_behind};
-ghost use Rattle.ua_services.specs.Request.{request, request_kind, of_kind, behind_header, IsUnsupported, Misread, MisreadKind};
-ghost use Rattle.ua_octets.specs.declared.fault.ReadFault.TheVariants.{NoValue};
-ghost use Rattle.ua_services.specs.declared.fault.RequestFault.TheVariants.{Unreadable};
+ghost use Rattle.ua_services.specs.Request.{request, request_kind, behind_header, unread_with, kind_read, request_read, Misread};
 
 use crate::fault::RequestFault;
-use crate::message::{LEVELS, append_message, standard_number};
+use crate::message::{append_message, standard_number};
 use std::alloc::{AllocError, Global};
-use ua_builtin::{NodeId, ReadFault, Source, Wire, WriteFault};
+use ua_builtin::{MOST_LEVELS, NodeId, ReadFault, Source, Wire, WriteFault};
 use ua_structures::{
     ActivateSessionRequest, CloseSessionRequest, CreateSessionRequest, GetEndpointsRequest,
     ReadRequest, RequestHeader, WriteRequest,
 };
 
 /// The kinds of request, each with its own encoding (OPC 10000-6, A.3).
-#[derive(Clone, Copy, PartialEq, Eq, Debug)]
+#[derive(Clone, Copy, PartialEq, Eq)]
 pub enum RequestKind {
     GetEndpoints,
     CreateSession,
@@ -95,35 +93,40 @@ fn read_behind<S: Source>(
     kind: RequestKind,
     header: RequestHeader,
 ) -> Result<Request, ReadFault>
+    requires levels { depth ≤ most_levels }
     ensures exact { Gives (behind_header kind header depth) (S.octets src.old) (S.octets src.new) result }
     ensures behind { StaysBehind (S.octets src.old) (S.octets src.new) }
 {
     match kind {
-        RequestKind::GetEndpoints => GetEndpointsRequest::read_behind(
+        RequestKind::GetEndpoints => Ok(Request::GetEndpoints(GetEndpointsRequest::read_behind(
             alloc, src, depth, header,
-        ).map(Request::GetEndpoints),
-        RequestKind::CreateSession => CreateSessionRequest::read_behind(
+        )?)),
+        RequestKind::CreateSession => Ok(Request::CreateSession(CreateSessionRequest::read_behind(
             alloc, src, depth, header,
-        ).map(Request::CreateSession),
-        RequestKind::ActivateSession => ActivateSessionRequest::read_behind(
+        )?)),
+        RequestKind::ActivateSession => Ok(Request::ActivateSession(
+            ActivateSessionRequest::read_behind(alloc, src, depth, header)?,
+        )),
+        RequestKind::CloseSession => Ok(Request::CloseSession(CloseSessionRequest::read_behind(
             alloc, src, depth, header,
-        ).map(Request::ActivateSession),
-        RequestKind::CloseSession => CloseSessionRequest::read_behind(
+        )?)),
+        RequestKind::Read => Ok(Request::Read(ReadRequest::read_behind(
             alloc, src, depth, header,
-        ).map(Request::CloseSession),
-        RequestKind::Read => ReadRequest::read_behind(alloc, src, depth, header).map(Request::Read),
-        RequestKind::Write => WriteRequest::read_behind(alloc, src, depth, header).map(
-            Request::Write,
-        ),
+        )?)),
+        RequestKind::Write => Ok(Request::Write(WriteRequest::read_behind(
+            alloc, src, depth, header,
+        )?)),
     }
 }
 
 impl Wire for Request {
-    ghost use Rattle.ua_services.specs.Request.{request, request_starts};
+    ghost use Rattle.ua_services.specs.Request.{request};
 
     ghost format = { request };
 
-    ghost starts = { request_starts };
+    #[inline]
+    #[tactic(auto, using(crate::proofs::RequestLawful::lawful_request))]
+    fn lawful() {}
 
     #[tactic(auto, unfolding(crate::specs::Request::request))]
     fn read_value<S: Source>(alloc: Global, src: &mut S, depth: u32) -> Result<Request, ReadFault> {
@@ -135,7 +138,6 @@ impl Wire for Request {
         read_behind(alloc, src, depth, kind, header)
     }
 
-    #[tactic(auto, unfolding(crate::specs::Request::request, ua_builtin::specs::NodeId::node_id))]
     fn is_encodable(&self) -> bool {
         match self {
             Request::GetEndpoints(message) => message.is_encodable(),
@@ -147,7 +149,7 @@ impl Wire for Request {
         }
     }
 
-    #[tactic(auto, unfolding(crate::specs::Request::request, ua_builtin::specs::NodeId::node_id))]
+    #[tactic(auto, unfolding(ua_builtin::specs::NodeId::node_id))]
     fn append(&self, out: &mut Vec<u8>) -> Result<(), AllocError> {
         match self {
             Request::GetEndpoints(message) => append_message(428, message, out),
@@ -162,8 +164,7 @@ impl Wire for Request {
 
 // What a fault within a request whose handle is known means.
 fn unreadable(fault: ReadFault, handle: u32) -> RequestFault
-    ensures no_value { fault ≡ NoValue → result ≡ Unreadable handle }
-    ensures memory { fault ≡ ReadFault.OutOfMemory → result ≡ RequestFault.OutOfMemory }
+    ensures { result ≡ unread_with handle fault }
 {
     match fault {
         ReadFault::NoValue => RequestFault::Unreadable(handle),
@@ -173,9 +174,9 @@ fn unreadable(fault: ReadFault, handle: u32) -> RequestFault
 
 // Reads the header of a request that is not supported, for its handle.
 fn unsupported<S: Source>(alloc: Global, src: &mut S) -> RequestFault
-    ensures { IsUnsupported (handle_behind (S.octets src.old)) result }
+    ensures { (result ≡ RequestFault.Unsupported (handle_behind (S.octets src.old))) ⊎ (result ≡ RequestFault.OutOfMemory) }
 {
-    match RequestHeader::read_value(alloc, src, LEVELS) {
+    match RequestHeader::read_value(alloc, src, MOST_LEVELS) {
         Ok(header) => RequestFault::Unsupported(header.request_handle),
         Err(ReadFault::NoValue) => RequestFault::Unsupported(0),
         Err(ReadFault::OutOfMemory) => RequestFault::OutOfMemory,
@@ -188,15 +189,14 @@ fn read_announced<S: Source>(
     src: &mut S,
     kind: RequestKind,
 ) -> Result<Request, RequestFault>
-    ensures found { IfOk result (λ m. (of_kind kind).decode 100 (S.octets src.old) ≡ Some (m, [])) }
-    ensures refused { IfErr result (λ fault. MisreadKind kind (S.octets src.old) fault) }
+    ensures { (result ≡ kind_read kind (S.octets src.old)) ⊎ (result ≡ Err RequestFault.OutOfMemory) }
 {
-    let header = match RequestHeader::read_value(alloc, src, LEVELS) {
+    let header = match RequestHeader::read_value(alloc, src, MOST_LEVELS) {
         Ok(header) => header,
         Err(fault) => return Err(unreadable(fault, 0)),
     };
     let handle = header.request_handle;
-    let request = match read_behind(alloc, src, LEVELS, kind, header) {
+    let request = match read_behind(alloc, src, MOST_LEVELS, kind, header) {
         Ok(request) => request,
         Err(fault) => return Err(unreadable(fault, handle)),
     };
@@ -207,13 +207,11 @@ fn read_announced<S: Source>(
     Ok(request)
 }
 
-/// Reads a body that is one request and nothing behind it, of at most 100 levels. After a fault the
-/// source is to be given up.
-pub fn read_request<S: Source>(alloc: Global, src: &mut S) -> Result<Request, RequestFault>
-    ensures found { IfOk result (λ m. IsBody request m (S.octets src.old)) }
-    ensures refused { IfErr result (λ fault. Misread (S.octets src.old) fault) }
+// Reads a body, as reading on lists does.
+fn read_body<S: Source>(alloc: Global, src: &mut S) -> Result<Request, RequestFault>
+    ensures { (result ≡ request_read (S.octets src.old)) ⊎ (result ≡ Err RequestFault.OutOfMemory) }
 {
-    let id = match NodeId::read_value(alloc, src, LEVELS) {
+    let id = match NodeId::read_value(alloc, src, MOST_LEVELS) {
         Ok(id) => id,
         Err(fault) => return Err(unreadable(fault, 0)),
     };
@@ -223,6 +221,18 @@ pub fn read_request<S: Source>(alloc: Global, src: &mut S) -> Result<Request, Re
     }
 }
 
+/// Reads a body that is one request and nothing behind it, of at most 100 levels. After a fault the
+/// source is to be given up.
+#[tactic(auto, using(crate::proofs::RequestRead::request_found, crate::proofs::RequestRead::request_refused, crate::proofs::RequestRead::request_counted))]
+pub fn read_request<S: Source>(alloc: Global, src: &mut S) -> Result<Request, RequestFault>
+    ensures read { (result ≡ request_read (S.octets src.old)) ⊎ (result ≡ Err RequestFault.OutOfMemory) }
+    ensures found { IfOk result (λ m. IsBody request m (S.octets src.old)) }
+    ensures counted { IfOk result (λ m. request.count m ≤ length (S.octets src.old)) }
+    ensures refused { IfErr result (λ fault. Misread (S.octets src.old) fault) }
+{
+    read_body(alloc, src)
+}
+
 /// Adds the canonical body of a request at the end. An error leaves what was there.
 pub fn write_request(message: &Request, out: &mut Vec<u8>) -> Result<(), WriteFault>
     ensures ok { OnOk result (out.new.items ≡ out.old.items ++ request.canonical message.now) }
@@ -230,4 +240,18 @@ pub fn write_request(message: &Request, out: &mut Vec<u8>) -> Result<(), WriteFa
     ensures refused { IsErrOf result NotWritable ↔ IsFalse (request.encodable message.now) }
 {
     message.write(out)
+}
+
+/// The canonical body of a request, which is let go of.
+pub fn request_body(alloc: Global, message: Request) -> Result<Vec<u8>, WriteFault>
+    ensures ok { IfOk result (λ body. body.items ≡ request.canonical message) }
+    ensures refused { IsErrOf result NotWritable ↔ IsFalse (request.encodable message) }
+{
+    let mut body = Vec::new(alloc);
+    let written = message.write(&mut body);
+    drop(message);
+    match written {
+        Ok(()) => Ok(body),
+        Err(fault) => Err(fault),
+    }
 }

@@ -1,25 +1,23 @@
 //! Responses.
 
-ghost use Rattle.std.specs.Prelude.{◌≡◌, ◌++◌, IfOk, IfErr, OnOk, OnErr, IsErrOf, IsFalse, ◌↔◌, option_map};
-ghost use Rattle.ua_builtin.specs.Format.{Gives, StaysBehind};
+ghost use Rattle.std.specs.Prelude.{◌≡◌, ◌≤◌, ◌++◌, ◌⊎◌, length, IfOk, IfErr, OnOk, OnErr, IsErrOf, IsFalse, ◌↔◌};
+ghost use Rattle.ua_builtin.specs.Format.{most_levels, Gives, StaysBehind};
 ghost use Rattle.ua_octets.specs.declared.fault.WriteFault.TheVariants.{NotWritable};
-ghost use Rattle.ua_services.specs.Message.{IsBody};
-ghost use Rattle.ua_services.specs.Response.{response, response_kind, of_kind, Misread};
-ghost use Rattle.ua_octets.specs.declared.fault.ReadFault.TheVariants.{NoValue};
-ghost use Rattle.ua_services.specs.declared.fault.ResponseFault.TheVariants.{Unreadable};
+ghost use Rattle.ua_services.specs.Message.{IsBody, kind_at};
+ghost use Rattle.ua_services.specs.Response.{response, responses, response_kind, unread_by, response_read, Misread};
 
 use crate::fault::ResponseFault;
-use crate::message::{LEVELS, append_message, standard_number};
+use crate::message::{append_message, standard_number};
 use crate::request::RequestKind;
 use std::alloc::{AllocError, Global};
-use ua_builtin::{NodeId, ReadFault, Source, Wire, WriteFault};
+use ua_builtin::{MOST_LEVELS, NodeId, ReadFault, Source, Wire, WriteFault};
 use ua_structures::{
     ActivateSessionResponse, CloseSessionResponse, CreateSessionResponse, GetEndpointsResponse,
     ReadResponse, ResponseHeader, ServiceFault, WriteResponse,
 };
 
 /// The kinds of response, each with its own encoding (OPC 10000-6, A.3).
-#[derive(Clone, Copy, PartialEq, Eq, Debug)]
+#[derive(Clone, Copy, PartialEq, Eq)]
 pub enum ResponseKind {
     GetEndpoints,
     CreateSession,
@@ -116,36 +114,39 @@ fn read_kind<S: Source>(
     depth: u32,
     kind: ResponseKind,
 ) -> Result<Response, ReadFault>
-    ensures exact { Gives ((of_kind kind).decode depth) (S.octets src.old) (S.octets src.new) result }
+    requires levels { depth ≤ most_levels }
+    ensures exact { Gives (kind_at responses depth (Some kind)) (S.octets src.old) (S.octets src.new) result }
     ensures behind { StaysBehind (S.octets src.old) (S.octets src.new) }
 {
     match kind {
-        ResponseKind::GetEndpoints => Wire::read_value(alloc, src, depth).map(
-            Response::GetEndpoints,
-        ),
-        ResponseKind::CreateSession => Wire::read_value(alloc, src, depth).map(
-            Response::CreateSession,
-        ),
-        ResponseKind::ActivateSession => Wire::read_value(alloc, src, depth).map(
-            Response::ActivateSession,
-        ),
-        ResponseKind::CloseSession => Wire::read_value(alloc, src, depth).map(
-            Response::CloseSession,
-        ),
-        ResponseKind::Read => Wire::read_value(alloc, src, depth).map(Response::Read),
-        ResponseKind::Write => Wire::read_value(alloc, src, depth).map(Response::Write),
-        ResponseKind::ServiceFault => Wire::read_value(alloc, src, depth).map(
-            Response::ServiceFault,
-        ),
+        ResponseKind::GetEndpoints => Ok(Response::GetEndpoints(Wire::read_value(
+            alloc, src, depth,
+        )?)),
+        ResponseKind::CreateSession => Ok(Response::CreateSession(Wire::read_value(
+            alloc, src, depth,
+        )?)),
+        ResponseKind::ActivateSession => Ok(Response::ActivateSession(Wire::read_value(
+            alloc, src, depth,
+        )?)),
+        ResponseKind::CloseSession => Ok(Response::CloseSession(Wire::read_value(
+            alloc, src, depth,
+        )?)),
+        ResponseKind::Read => Ok(Response::Read(Wire::read_value(alloc, src, depth)?)),
+        ResponseKind::Write => Ok(Response::Write(Wire::read_value(alloc, src, depth)?)),
+        ResponseKind::ServiceFault => Ok(Response::ServiceFault(Wire::read_value(
+            alloc, src, depth,
+        )?)),
     }
 }
 
 impl Wire for Response {
-    ghost use Rattle.ua_services.specs.Response.{response, response_starts};
+    ghost use Rattle.ua_services.specs.Response.{response};
 
     ghost format = { response };
 
-    ghost starts = { response_starts };
+    #[inline]
+    #[tactic(auto, using(crate::proofs::ResponseLawful::lawful_response))]
+    fn lawful() {}
 
     #[tactic(auto, unfolding(crate::specs::Response::response))]
     fn read_value<S: Source>(
@@ -160,7 +161,6 @@ impl Wire for Response {
         read_kind(alloc, src, depth, kind)
     }
 
-    #[tactic(auto, unfolding(crate::specs::Response::response, ua_builtin::specs::NodeId::node_id))]
     fn is_encodable(&self) -> bool {
         match self {
             Response::GetEndpoints(message) => message.is_encodable(),
@@ -173,7 +173,7 @@ impl Wire for Response {
         }
     }
 
-    #[tactic(auto, unfolding(crate::specs::Response::response, ua_builtin::specs::NodeId::node_id))]
+    #[tactic(auto, unfolding(ua_builtin::specs::NodeId::node_id))]
     fn append(&self, out: &mut Vec<u8>) -> Result<(), AllocError> {
         match self {
             Response::GetEndpoints(message) => append_message(431, message, out),
@@ -189,8 +189,7 @@ impl Wire for Response {
 
 // What a fault within a response means.
 fn unreadable(fault: ReadFault) -> ResponseFault
-    ensures no_value { fault ≡ NoValue → result ≡ Unreadable }
-    ensures memory { fault ≡ ReadFault.OutOfMemory → result ≡ ResponseFault.OutOfMemory }
+    ensures { result ≡ unread_by fault }
 {
     match fault {
         ReadFault::NoValue => ResponseFault::Unreadable,
@@ -198,20 +197,18 @@ fn unreadable(fault: ReadFault) -> ResponseFault
     }
 }
 
-/// Reads a body that is one response and nothing behind it, of at most 100 levels. After a fault
-/// the source is to be given up.
-pub fn read_response<S: Source>(alloc: Global, src: &mut S) -> Result<Response, ResponseFault>
-    ensures found { IfOk result (λ m. IsBody response m (S.octets src.old)) }
-    ensures refused { IfErr result (λ fault. Misread (S.octets src.old) fault) }
+// Reads a body, as reading on lists does.
+fn read_body<S: Source>(alloc: Global, src: &mut S) -> Result<Response, ResponseFault>
+    ensures { (result ≡ response_read (S.octets src.old)) ⊎ (result ≡ Err ResponseFault.OutOfMemory) }
 {
-    let id = match NodeId::read_value(alloc, src, LEVELS) {
+    let id = match NodeId::read_value(alloc, src, MOST_LEVELS) {
         Ok(id) => id,
         Err(fault) => return Err(unreadable(fault)),
     };
     let Some(kind) = announced_kind(&id) else {
         return Err(ResponseFault::Unknown);
     };
-    let response = match read_kind(alloc, src, LEVELS, kind) {
+    let response = match read_kind(alloc, src, MOST_LEVELS, kind) {
         Ok(response) => response,
         Err(fault) => return Err(unreadable(fault)),
     };
@@ -222,6 +219,18 @@ pub fn read_response<S: Source>(alloc: Global, src: &mut S) -> Result<Response, 
     Ok(response)
 }
 
+/// Reads a body that is one response and nothing behind it, of at most 100 levels. After a fault
+/// the source is to be given up.
+#[tactic(auto, using(crate::proofs::ResponseRead::response_found, crate::proofs::ResponseRead::response_refused, crate::proofs::ResponseRead::response_counted))]
+pub fn read_response<S: Source>(alloc: Global, src: &mut S) -> Result<Response, ResponseFault>
+    ensures read { (result ≡ response_read (S.octets src.old)) ⊎ (result ≡ Err ResponseFault.OutOfMemory) }
+    ensures found { IfOk result (λ m. IsBody response m (S.octets src.old)) }
+    ensures counted { IfOk result (λ m. response.count m ≤ length (S.octets src.old)) }
+    ensures refused { IfErr result (λ fault. Misread (S.octets src.old) fault) }
+{
+    read_body(alloc, src)
+}
+
 /// Adds the canonical body of a response at the end. An error leaves what was there.
 pub fn write_response(message: &Response, out: &mut Vec<u8>) -> Result<(), WriteFault>
     ensures ok { OnOk result (out.new.items ≡ out.old.items ++ response.canonical message.now) }
@@ -229,4 +238,18 @@ pub fn write_response(message: &Response, out: &mut Vec<u8>) -> Result<(), Write
     ensures refused { IsErrOf result NotWritable ↔ IsFalse (response.encodable message.now) }
 {
     message.write(out)
+}
+
+/// The canonical body of a response, which is let go of.
+pub fn response_body(alloc: Global, message: Response) -> Result<Vec<u8>, WriteFault>
+    ensures ok { IfOk result (λ body. body.items ≡ response.canonical message) }
+    ensures refused { IsErrOf result NotWritable ↔ IsFalse (response.encodable message) }
+{
+    let mut body = Vec::new(alloc);
+    let written = message.write(&mut body);
+    drop(message);
+    match written {
+        Ok(()) => Ok(body),
+        Err(fault) => Err(fault),
+    }
 }

@@ -9,8 +9,8 @@ use std::process::Abort;
 use ua_builtin::{Octets, Wire};
 use ua_services::{
     CloseRequest, OpenAnswer, OpenRequest, OpenResponse, Request, Response, read_open_request,
-    read_open_response, read_request, read_response, write_close_request, write_open_request,
-    write_open_response, write_request, write_response,
+    read_open_response, read_request, read_response, request_body, response_body,
+    write_close_request, write_open_request, write_open_response,
 };
 
 /// That octets are those of these lines.
@@ -23,10 +23,7 @@ pub fn request_of(rt: &impl Abort, alloc: Global, body: &[u8]) -> Request {
 }
 
 pub fn request_octets(rt: &impl Abort, alloc: Global, request: Request) -> Vec<u8> {
-    let mut out = Vec::new(alloc);
-    write_request(&request, &mut out).expect(rt, "a body");
-    drop(request);
-    out
+    request_body(alloc, request).expect(rt, "a body")
 }
 
 pub fn response_of(rt: &impl Abort, alloc: Global, body: &[u8]) -> Response {
@@ -34,10 +31,7 @@ pub fn response_of(rt: &impl Abort, alloc: Global, body: &[u8]) -> Response {
 }
 
 pub fn response_octets(rt: &impl Abort, alloc: Global, response: Response) -> Vec<u8> {
-    let mut out = Vec::new(alloc);
-    write_response(&response, &mut out).expect(rt, "a body");
-    drop(response);
-    out
+    response_body(alloc, response).expect(rt, "a body")
 }
 
 pub fn open_request_of(rt: &impl Abort, alloc: Global, body: &[u8]) -> OpenRequest {

@@ -124,8 +124,8 @@ fn a_request_is_answered_by_its_own_kind_or_a_fault(rt: HostRuntime) {
     let request = close_session();
     let response = closed();
     let fault = fault();
-    assert_eq!(rt; request.kind(), RequestKind::CloseSession);
-    assert_eq!(rt; response.kind(), ResponseKind::CloseSession);
+    assert!(rt; request.kind() == RequestKind::CloseSession);
+    assert!(rt; response.kind() == ResponseKind::CloseSession);
     assert!(rt; response.answers(RequestKind::CloseSession));
     assert!(rt; fault.answers(RequestKind::CloseSession));
     assert!(rt; !response.answers(RequestKind::Read));

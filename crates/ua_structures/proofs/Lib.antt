@@ -7,3 +7,4 @@ pub mod AttributeLawful
 pub mod DiscoveryLawful
 pub mod SecureChannelLawful
 pub mod SessionLawful
+pub mod PlainLengths

@@ -1,6 +1,7 @@
 use Rattle.ua_services.specs.Response.{response}
+use Rattle.ua_services.proofs.ResponseLawful.{lawful_response}
 use Rattle.ua_services.proofs.BodyLaws.{one_message}
 use Rattle.ua_services.proofs.laws.bodies_of_responses_differ.Goals as goal
 
 pub returns : goal.returns
-returns c = one_message response
+returns c = one_message response lawful_response

@@ -1,0 +1,12 @@
+use Rattle.std.proofs.Common.{sym}
+use Rattle.ua_services.proofs.RequestRead.{id_fails, not_supported, kind_found}
+use Rattle.ua_services.proofs.request.read_body.Goals as goal
+
+pub returns-in-Err : goal.returns-in-Err
+returns-in-Err g c = rw c.unreadable.ensures (id_fails (g.S.Source.octets c.args.src.now) (g.S.Source.octets c.read_value.new.src) c.in-Err.fault c.in-Err.ensures.exact)
+
+pub returns-in-Some : goal.returns-in-Some
+returns-in-Some g c = kind_found c.in-Some.kind (g.S.Source.octets c.args.src.now) (g.S.Source.octets c.read_value.new.src) c.in-Ok.id c.read_announced.result c.in-Ok.ensures.exact (sym c.in-Some.ensures) c.read_announced.ensures
+
+pub returns : goal.returns
+returns g c = not_supported (g.S.Source.octets c.args.src.now) (g.S.Source.octets c.read_value.new.src) c.in-Ok.id c.unsupported.result c.in-Ok.ensures.exact (sym c.in-None.ensures) c.unsupported.ensures
