@@ -6,6 +6,7 @@ pub mod Fits
 pub mod IdFits
 pub mod Judged
 pub mod OneLoad
+pub mod Parsed
 pub mod Pieces
 pub mod Ranges
 pub mod Reasons

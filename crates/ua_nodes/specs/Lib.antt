@@ -1,7 +1,6 @@
 pub mod Attribute
 pub mod LineFault
 pub mod NodeFile
-pub mod Parsed
 pub mod Range
 pub mod Read
 pub mod Sound

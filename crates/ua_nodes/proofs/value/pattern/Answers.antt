@@ -1,5 +1,5 @@
 use Rattle.std.proofs.Common.{◌≡◌, ◌≢◌, ◌++◌, ◌∷◌, List, ℕ, slice_index, codes, sym, ◌∙◌, ap, lit<, eq-eqb, true≢false}
-use Rattle.ua_nodes.specs.Parsed.{pattern_parsed, pattern_small}
+use Rattle.ua_nodes.proofs.Parsed.{pattern_parsed, pattern_small}
 use Rattle.ua_nodes.proofs.value.pattern.Goals as goal
 
 parts_of : (c : goal.After-ok) → c.args.text.now ≡ codes "0x" ++ c.in_ok-hex.hex.now

@@ -10,12 +10,9 @@ use Rattle.std.proofs.lemmas.Str.Parse.{without_leading_plus_none, IsNumeralMode
 use Rattle.std.proofs.Math.Nat.{pow-le-pow_right}
 use Rattle.std.proofs.lemmas.Int.Digits.{digits_value-lt}
 use Rattle.ua_nodes.specs.ValueText.{all_digits, is_numeral, number_below, unsigned_denoted, signed_denoted, negative, pattern_denoted}
+use Rattle.ua_nodes.proofs.Fits.{both_true, both_are}
 use mir.Syntax.{Width}
 use mir.Val.{hbits}
-
-both_true : (a b : Bool) → a && b ≡ true → (a ≡ true) × (b ≡ true)
-both_true true b h = (refl, h)
-both_true false b h = absurd cc
 
 pub all_digits_true : (radix : ℕ) (text : List ℕ) → AllDigits radix text → all_digits radix text ≡ true
 all_digits_true radix [] h = refl
@@ -26,9 +23,6 @@ all_digits_from radix [] h = tt
 all_digits_from radix (c ∷ cs) h =
     let w = both_true (nat_lt (digit_value c) radix) (all_digits radix cs) h in
     (ltb-true (digit_value c) radix w.0, all_digits_from radix cs w.1)
-
-both_are : (a b : Bool) → a ≡ true → b ≡ true → a && b ≡ true
-both_are a b p q = ap (λ (t : Bool). t && b) p ∙ q
 
 -- the test of a numeral below the bound
 pub is_number : (radix bound : ℕ) (text : List ℕ) → IsNumeral radix text → digits_value radix text < bound → (is_numeral radix text && nat_lt (digits_value radix text) bound) ≡ true

@@ -1,0 +1,6 @@
+use Rattle.std.specs.Int.{w16}
+use Rattle.ua_nodes.proofs.Parsed.{signed_exact}
+use Rattle.ua_nodes.proofs.number.I16WholeNumber.lawful.Goals as goal
+
+pub returns-clause-exact : goal.returns-clause-exact
+returns-clause-exact c text r h ne = signed_exact w16 text r h.0 ne
