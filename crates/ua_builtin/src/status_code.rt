@@ -12,7 +12,21 @@ pub struct StatusCode {
     pub code: u32,
 }
 
+/// The least number whose top bit is set.
+const FIRST_BAD: u32 = 0x8000_0000;
+
 impl StatusCode {
+    ghost use Rattle.ua_builtin.specs.Status.{is_bad};
+
+    /// Whether the operation failed, and what came with the code is not to be used: its top bit is
+    /// set (OPC 10000-4, 7.39). A code that is not bad is good or uncertain.
+    #[inline]
+    pub fn is_bad(self) -> bool
+        ensures { result ≡ is_bad self }
+    {
+        self.code >= FIRST_BAD
+    }
+
     /// The operation succeeded.
     pub const GOOD: StatusCode = StatusCode { code: 0 };
 
