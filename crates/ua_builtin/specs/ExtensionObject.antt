@@ -7,7 +7,7 @@ use Rattle.ua_octets.specs.Format.{Flat}
 use Rattle.ua_octets.specs.Join.{both, made}
 use Rattle.ua_octets.specs.Counted.{counted}
 use Rattle.ua_builtin.specs.XmlElement.{xml_element}
-use Rattle.ua_builtin.specs.NodeId.{node_id}
+use Rattle.ua_builtin.specs.NodeId.{node_id, null_id}
 use Rattle.ua_builtin.specs.declared.node_id.NodeId.{NodeId}
 use Rattle.ua_builtin.specs.declared.extension_object.ExtensionObject.{ExtensionObject}
 use Rattle.ua_builtin.specs.declared.extension_object.ExtensionBody.{ExtensionBody}
@@ -58,6 +58,10 @@ body = record {
 -- the ExtensionObject of the NodeId of its type's encoding and its body
 abbrev pub extension : NodeId × ExtensionBody → ExtensionObject
 extension p = record { type_id = p.0; body = p.1 }
+
+-- the object that holds nothing: the null NodeId, and no body
+abbrev pub null_object : ExtensionObject
+null_object = extension (null_id, Absent)
 
 -- the NodeId of the type's encoding, an octet for the kind of body, and the body
 unfoldable pub extension_object : Flat ExtensionObject

@@ -16,6 +16,10 @@ use Rattle.ua_builtin.specs.declared.node_id.Identifier.TheVariants.{Numeric, Te
 abbrev pub node : ℕ → Identifier → NodeId
 node n i = record { namespace = n; identifier = i }
 
+-- the null NodeId: i=0
+abbrev pub null_id : NodeId
+null_id = node 0 (Numeric 0)
+
 -- ---- which octets encode it
 
 -- 0x00, and the id as Byte; the namespace is 0

@@ -39,6 +39,19 @@ impl ExtensionBody {
 
 impl ExtensionObject {
     ghost use Rattle.std.specs.Prelude.{◌≡◌, IfOk};
+    ghost use Rattle.ua_builtin.specs.ExtensionObject.{null_object};
+
+    /// The object that holds nothing: the null NodeId, and no body (OPC 10000-6, 5.2.2.15). Takes no
+    /// memory.
+    #[inline]
+    pub fn null() -> ExtensionObject
+        ensures { result ≡ null_object }
+    {
+        ExtensionObject {
+            type_id: NodeId::null(),
+            body: ExtensionBody::Absent,
+        }
+    }
 
     /// A value of its own, equal to this one.
     pub fn try_clone(&self) -> Result<ExtensionObject, AllocError>

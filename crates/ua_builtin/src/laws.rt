@@ -1,12 +1,18 @@
-//! Laws of the built-in types, each carried by a function without a body.
+//! Laws that a caller may rely on, each the contract of a function that does nothing at run time:
+//! of the built-in types, of tables of reasons (`first_reasons`), and from `ua_octets` those of every
+//! value that octets encode.
 
-ghost use Rattle.std.specs.Prelude.{◌≡◌, ◌++◌, List, [], ◌∷◌, ℕ, Bool, false, Some, None, map, option_map};
+ghost use Rattle.std.specs.Prelude.{◌≡◌, ◌++◌, IsTrue, List, [], ◌∷◌, ℕ, Bool, false, Some, None, map, option_map};
 ghost use Rattle.std.specs.Bool.{Decides};
 ghost use Rattle.ua_builtin.specs.declared.node_id.NodeId.{NodeId};
+ghost use Rattle.ua_builtin.specs.DateTime.{date_time};
 ghost use Rattle.ua_builtin.specs.NodeText.{NamesNode};
 ghost use Rattle.ua_builtin.specs.Reasons.{first_reason, or_else, renamed_reason};
+ghost use Rattle.ua_builtin.specs.Status.{status_code};
 
+use crate::date_time::DateTime;
 use crate::node_id::NodeId;
+use crate::status_code::StatusCode;
 pub use ua_octets::laws::{
     canonical_encodes, counts_within_octets, encodes_in_octets, encodes_once, reads_back,
 };
@@ -22,6 +28,24 @@ pub fn equal_node_ids_are_the_same()
 pub fn texts_name_one_node_id()
     ensures { (v w : NodeId) (text : List ℕ) → NamesNode v text → NamesNode w text → v ≡ w }
 {}
+
+/// Every DateTime can be written.
+#[inline]
+#[tactic(auto, unfolding(crate::specs::DateTime::date_time))]
+pub fn moment_is_encodable(moment: &DateTime)
+    ensures { IsTrue (date_time.encodable moment.now) }
+{
+    let _ticks = moment.ticks;
+}
+
+/// Every StatusCode can be written.
+#[inline]
+#[tactic(auto, unfolding(crate::specs::Status::status_code))]
+pub fn status_is_encodable(status: &StatusCode)
+    ensures { IsTrue (status_code.encodable status.now) }
+{
+    let _code = status.code;
+}
 
 /// The first reason of two tables, one behind the other, is that of the first one, or else of the
 /// second; a last one that does not hold changes nothing; and by other names it is the same one.

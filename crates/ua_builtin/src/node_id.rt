@@ -52,7 +52,7 @@ impl Identifier {
 impl NodeId {
     ghost use Rattle.std.specs.Prelude.{◌≡◌, ◌≤◌, ◌++◌, IsTrue, IfOk, OnOk, OnErr};
     ghost use Rattle.ua_octets.specs.Format.{most_levels, Gives, StaysBehind, Extends};
-    ghost use Rattle.ua_builtin.specs.NodeId.{node, in_form, form_of};
+    ghost use Rattle.ua_builtin.specs.NodeId.{node, null_id, in_form, form_of};
 
     /// A node's name of these parts.
     #[inline]
@@ -63,6 +63,14 @@ impl NodeId {
             namespace,
             identifier,
         }
+    }
+
+    /// The null NodeId, which names no node: `i=0` (OPC 10000-6, 5.2.2.9). Takes no memory.
+    #[inline]
+    pub fn null() -> NodeId
+        ensures { result ≡ null_id }
+    {
+        NodeId::new(0, Identifier::Numeric(0))
     }
 
     /// A value of its own, equal to this one.
