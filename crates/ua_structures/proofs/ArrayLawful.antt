@@ -1,5 +1,5 @@
 -- Arrays of values of a lawful format are lawful.
-use Rattle.std.specs.Prelude.{◌≡◌, ℕ, ◌+◌, ◌<◌, ◌≤◌, ◌^◌, suc, List, [], ◌∷◌, ◌++◌, ◌&&◌, IsTrue, length, nat_lt, Option, Some, None}
+use Rattle.std.specs.Prelude.{◌≡◌, ℕ, ◌≤◌, List, [], ◌∷◌, ◌++◌, IsTrue, length, nat_lt, Option, Some, None}
 use Rattle.std.specs.List.{flat_map, list_all}
 use Rattle.std.proofs.Common.{refl, ap, arith, length-append}
 use Rattle.std.proofs.lemmas.Bool.{ltb-true}

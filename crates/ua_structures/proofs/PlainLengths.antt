@@ -1,11 +1,11 @@
 -- How many octets the structures have that open and close a channel, with nothing in them but what they are made for.
 use Rattle.std.specs.Prelude.{◌≡◌, ℕ, ℤ, pos, ◌+◌, List, ◌++◌, length, None}
-use Rattle.std.proofs.Common.{refl, ◌∙◌, ap, arith, length-append}
+use Rattle.std.proofs.Common.{refl, arith, length-append}
 use Rattle.ua_octets.proofs.NumbersRead.{length-number_octets}
 use Rattle.ua_builtin.specs.Counted.{text, counted}
 use Rattle.ua_builtin.specs.DateTime.{date_time}
-use Rattle.ua_builtin.specs.ExtensionObject.{extension_object}
-use Rattle.ua_builtin.specs.NodeId.{node_id}
+use Rattle.ua_builtin.specs.ExtensionObject.{extension_object, null_object}
+use Rattle.ua_builtin.specs.NodeId.{node_id, null_id}
 use Rattle.ua_builtin.specs.Status.{status_code, of_code}
 use Rattle.ua_builtin.specs.declared.date_time.DateTime.{DateTime}
 use Rattle.ua_parts.specs.Formats.{diagnostic_format}
@@ -14,7 +14,7 @@ use Rattle.ua_parts.specs.View.{no_diagnostics}
 use Rattle.ua_structures.specs.Array.{array}
 use Rattle.ua_structures.specs.Field.{byte_string, int32, string, uint32}
 use Rattle.ua_structures.specs.Header.{request_header, response_header}
-use Rattle.ua_structures.specs.Plain.{null_id, null_object, request_header_of, response_header_of, open_request_of, open_response_of, close_request_of}
+use Rattle.ua_structures.specs.Plain.{request_header_of, response_header_of, open_request_of, open_response_of, close_request_of}
 use Rattle.ua_structures.specs.SecureChannel.{open_request, open_response, close_request}
 
 -- octets of these lengths, one behind the other

@@ -1,12 +1,11 @@
 -- Structures with nothing in them but what they are made for.
 use Rattle.std.specs.Prelude.{ℕ, ℤ, pos, List, Option, Some, None}
-use Rattle.ua_builtin.specs.NodeId.{node}
+use Rattle.ua_builtin.specs.ExtensionObject.{null_object}
+use Rattle.ua_builtin.specs.NodeId.{null_id}
 use Rattle.ua_builtin.specs.Status.{of_code}
 use Rattle.ua_builtin.specs.declared.date_time.DateTime.{DateTime}
 use Rattle.ua_builtin.specs.declared.extension_object.ExtensionObject.{ExtensionObject}
-use Rattle.ua_builtin.specs.declared.extension_object.ExtensionBody.TheVariants.{Absent}
 use Rattle.ua_builtin.specs.declared.node_id.NodeId.{NodeId}
-use Rattle.ua_builtin.specs.declared.node_id.Identifier.TheVariants.{Numeric}
 use Rattle.ua_builtin.specs.declared.status_code.StatusCode.{StatusCode}
 use Rattle.ua_octets.specs.declared.double_bits.DoubleBits.{DoubleBits}
 use Rattle.ua_parts.specs.View.{no_diagnostics}
@@ -30,11 +29,7 @@ use Rattle.ua_structures.specs.declared.session.ActivateSessionRequest.{Activate
 use Rattle.ua_structures.specs.declared.session.ActivateSessionResponse.{ActivateSessionResponse}
 use Rattle.ua_structures.specs.declared.session.CreateSessionRequest.{CreateSessionRequest}
 use Rattle.ua_structures.specs.declared.session.CreateSessionResponse.{CreateSessionResponse}
-use Rattle.ua_structures.specs.declared.session.SignatureData.{SignatureData}
-
--- the object that holds nothing: the NodeId i=0, and no body (OPC 10000-6, 5.2.2.15)
-abbrev pub null_object : ExtensionObject
-null_object = record { type_id = node 0 (Numeric 0); body = Absent }
+use Rattle.ua_structures.specs.declared.signature.SignatureData.{SignatureData}
 
 -- a header of a request that asks for no diagnostics, names no audit entry and no timeout, and adds nothing
 abbrev pub request_header_of : NodeId → DateTime → ℕ → RequestHeader
@@ -78,10 +73,6 @@ read_of header items = record { request_header = header; max_age = record { bits
 -- a Write of these items
 abbrev pub write_of : RequestHeader → List WriteValue → WriteRequest
 write_of header items = record { request_header = header; nodes_to_write = Some items }
-
--- the null NodeId: i=0 (OPC 10000-6, 5.2.2.9)
-abbrev pub null_id : NodeId
-null_id = node 0 (Numeric 0)
 
 -- no signature: neither an algorithm nor octets
 abbrev pub null_signature : SignatureData

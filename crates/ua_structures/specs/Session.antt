@@ -15,7 +15,6 @@ use Rattle.ua_structures.specs.Discovery.{application_description, endpoint_desc
 use Rattle.ua_structures.specs.Field.{byte_string, string, uint32}
 use Rattle.ua_structures.specs.Header.{request_header, response_header}
 use Rattle.ua_structures.specs.declared.discovery.ApplicationDescription.{ApplicationDescription}
-use Rattle.ua_structures.specs.declared.discovery.EndpointDescription.{EndpointDescription}
 use Rattle.ua_structures.specs.declared.header.RequestHeader.{RequestHeader}
 use Rattle.ua_structures.specs.declared.session.ActivateSessionRequest.{ActivateSessionRequest}
 use Rattle.ua_structures.specs.declared.session.ActivateSessionResponse.{ActivateSessionResponse}
@@ -24,8 +23,8 @@ use Rattle.ua_structures.specs.declared.session.CloseSessionRequest.{CloseSessio
 use Rattle.ua_structures.specs.declared.session.CloseSessionResponse.{CloseSessionResponse}
 use Rattle.ua_structures.specs.declared.session.CreateSessionRequest.{CreateSessionRequest}
 use Rattle.ua_structures.specs.declared.session.CreateSessionResponse.{CreateSessionResponse}
-use Rattle.ua_structures.specs.declared.session.SignatureData.{SignatureData}
-use Rattle.ua_structures.specs.declared.session.SignedSoftwareCertificate.{SignedSoftwareCertificate}
+use Rattle.ua_structures.specs.declared.signature.SignatureData.{SignatureData}
+use Rattle.ua_structures.specs.declared.signature.SignedSoftwareCertificate.{SignedSoftwareCertificate}
 
 -- ---- SignedSoftwareCertificate
 

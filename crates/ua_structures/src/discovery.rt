@@ -1,6 +1,10 @@
 //! Discovery: endpoints, and who serves them.
 
-ghost use Rattle.std.specs.Prelude.{◌≡◌, ◌≤◌, None, pos};
+ghost use Rattle.std.specs.Prelude.{◌≡◌, ◌≤◌, None, pos, IsTrue};
+ghost use Rattle.ua_structures.specs.Array.{array};
+ghost use Rattle.ua_structures.specs.Discovery.{application_description, get_endpoints_request};
+ghost use Rattle.ua_structures.specs.Field.{string};
+ghost use Rattle.ua_structures.specs.Header.{request_header as header_format};
 ghost use Rattle.ua_structures.specs.Plain.{application_of, endpoints_of};
 
 use crate::append::{append_three, append_two};
@@ -31,19 +35,24 @@ const CLIENT: i32 = 1;
 
 impl ApplicationDescription {
     /// A server of this URI and name, which has no locale, at these addresses; with nulls else.
+    #[tactic(auto, using(crate::proofs::PlainFits::server_fits))]
     pub fn server(
         application_uri: UaString,
         name: UaString,
         discovery_urls: UaArray<UaString>,
     ) -> ApplicationDescription
-        ensures { result ≡ application_of (pos 0) application_uri name discovery_urls }
+        ensures value { result ≡ application_of (pos 0) application_uri name discovery_urls }
+        ensures encodable { IsTrue (string.encodable application_uri) → IsTrue (string.encodable name) → IsTrue ((array string).encodable discovery_urls)
+            → IsTrue (application_description.encodable result) }
     {
         ApplicationDescription::of_type(SERVER, application_uri, name, discovery_urls)
     }
 
     /// A client of this URI and name, which has no locale; with nulls else.
+    #[tactic(auto, using(crate::proofs::PlainFits::client_fits))]
     pub fn client(application_uri: UaString, name: UaString) -> ApplicationDescription
-        ensures { result ≡ application_of (pos 1) application_uri name None }
+        ensures value { result ≡ application_of (pos 1) application_uri name None }
+        ensures encodable { IsTrue (string.encodable application_uri) → IsTrue (string.encodable name) → IsTrue (application_description.encodable result) }
     {
         ApplicationDescription::of_type(CLIENT, application_uri, name, UaArray::null())
     }
@@ -300,8 +309,10 @@ impl GetEndpointsRequest {
     ghost use Rattle.ua_structures.specs.Discovery.{get_endpoints_request_fields, get_endpoints_request_of};
 
     /// Asks for the endpoints at this address, for any locale and profile.
+    #[tactic(auto, using(crate::proofs::PlainFits::endpoints_fit))]
     pub fn of_url(request_header: RequestHeader, endpoint_url: UaString) -> GetEndpointsRequest
-        ensures { result ≡ endpoints_of request_header endpoint_url }
+        ensures value { result ≡ endpoints_of request_header endpoint_url }
+        ensures encodable { IsTrue (header_format.encodable request_header) → IsTrue (string.encodable endpoint_url) → IsTrue (get_endpoints_request.encodable result) }
     {
         GetEndpointsRequest {
             request_header,

@@ -1,55 +1,18 @@
 //! Headers of requests and responses, and the fault.
 
 ghost use Rattle.std.specs.Prelude.{◌≡◌, IsTrue};
-ghost use Rattle.ua_builtin.specs.DateTime.{date_time};
 ghost use Rattle.ua_builtin.specs.NodeId.{node_id};
-ghost use Rattle.ua_builtin.specs.Status.{status_code};
 ghost use Rattle.ua_structures.specs.Header.{request_header, response_header, service_fault};
-ghost use Rattle.ua_structures.specs.Plain.{null_id as no_node, null_object as nothing_held, request_header_of, response_header_of, service_fault_of};
+ghost use Rattle.ua_structures.specs.Plain.{request_header_of, response_header_of, service_fault_of};
 
 use crate::append::{append_three, append_two};
 use crate::array::UaArray;
 use std::alloc::{AllocError, Global};
+use ua_builtin::laws::{moment_is_encodable, status_is_encodable};
 use ua_builtin::{
-    DateTime, ExtensionBody, ExtensionObject, Identifier, NodeId, ReadFault, Source, StatusCode,
-    UaString, Wire,
+    DateTime, ExtensionObject, NodeId, ReadFault, Source, StatusCode, UaString, Wire,
 };
 use ua_variant::DiagnosticInfo;
-
-/// The null NodeId.
-pub fn null_id() -> NodeId
-    ensures { result ≡ no_node }
-{
-    NodeId::new(0, Identifier::Numeric(0))
-}
-
-/// The object that holds nothing.
-pub fn null_object() -> ExtensionObject
-    ensures { result ≡ nothing_held }
-{
-    ExtensionObject {
-        type_id: null_id(),
-        body: ExtensionBody::Absent,
-    }
-}
-
-/// That a moment can be encoded: its number is within the range of its type once it is read.
-#[inline]
-#[tactic(auto, unfolding(ua_builtin::specs::DateTime::date_time))]
-pub fn moment_fits(moment: &DateTime)
-    ensures { IsTrue (date_time.encodable moment.now) }
-{
-    let _ticks = moment.ticks;
-}
-
-// The same of a result.
-#[inline]
-#[tactic(auto, unfolding(ua_builtin::specs::Status::status_code))]
-fn status_fits(status: &StatusCode)
-    ensures { IsTrue (status_code.encodable status.now) }
-{
-    let _code = status.code;
-}
 
 /// What stands at the head of each request (OPC 10000-4, 7.33).
 #[derive(Drop)]
@@ -80,7 +43,7 @@ impl RequestHeader {
         ensures value { result ≡ request_header_of authentication_token timestamp request_handle }
         ensures encodable { IsTrue (node_id.encodable authentication_token) → IsTrue (request_header.encodable result) }
     {
-        moment_fits(&timestamp);
+        moment_is_encodable(&timestamp);
         RequestHeader {
             authentication_token,
             timestamp,
@@ -88,7 +51,7 @@ impl RequestHeader {
             return_diagnostics: 0,
             audit_entry_id: UaString::null(),
             timeout_hint: 0,
-            additional_header: null_object(),
+            additional_header: ExtensionObject::null(),
         }
     }
 }
@@ -179,15 +142,15 @@ impl ResponseHeader {
         ensures value { result ≡ response_header_of timestamp request_handle service_result }
         ensures encodable { IsTrue (response_header.encodable result) }
     {
-        moment_fits(&timestamp);
-        status_fits(&service_result);
+        moment_is_encodable(&timestamp);
+        status_is_encodable(&service_result);
         ResponseHeader {
             timestamp,
             request_handle,
             service_result,
             service_diagnostics: DiagnosticInfo::empty(),
             string_table: UaArray::null(),
-            additional_header: null_object(),
+            additional_header: ExtensionObject::null(),
         }
     }
 }

@@ -23,6 +23,7 @@ mod discovery;
 mod header;
 mod secure_channel;
 mod session;
+mod signature;
 
 pub use array::{UaArray, read_array};
 pub use attribute::{
@@ -32,10 +33,10 @@ pub use discovery::{
     ApplicationDescription, EndpointDescription, GetEndpointsRequest, GetEndpointsResponse,
     UserTokenPolicy,
 };
-pub use header::{RequestHeader, ResponseHeader, ServiceFault, null_id, null_object};
+pub use header::{RequestHeader, ResponseHeader, ServiceFault};
 pub use secure_channel::{CloseRequest, OpenRequest, OpenResponse};
 pub use session::{
     ActivateSessionRequest, ActivateSessionResponse, AnonymousIdentityToken, CloseSessionRequest,
-    CloseSessionResponse, CreateSessionRequest, CreateSessionResponse, SignatureData,
-    SignedSoftwareCertificate,
+    CloseSessionResponse, CreateSessionRequest, CreateSessionResponse,
 };
+pub use signature::{SignatureData, SignedSoftwareCertificate};

@@ -5,9 +5,10 @@ ghost use Rattle.ua_structures.specs.Plain.{open_request_of, open_response_of, c
 ghost use Rattle.ua_structures.specs.SecureChannel.{open_request, open_response, close_request};
 
 use crate::append::{append_three, append_two};
-use crate::header::{RequestHeader, ResponseHeader, moment_fits, null_id};
+use crate::header::{RequestHeader, ResponseHeader};
 use std::alloc::{AllocError, Global};
-use ua_builtin::{DateTime, ReadFault, Source, StatusCode, UaBytes, Wire};
+use ua_builtin::laws::moment_is_encodable;
+use ua_builtin::{DateTime, NodeId, ReadFault, Source, StatusCode, UaBytes, Wire};
 
 /// OpenSecureChannel: asks for a secure channel, or for a new token of one (OPC 10000-4, 5.6.2).
 #[derive(Drop)]
@@ -39,7 +40,7 @@ impl OpenRequest {
         ensures value { result ≡ open_request_of (pos 0) timestamp request_handle requested_lifetime }
         ensures encodable { IsTrue (open_request.encodable result) }
     {
-        moment_fits(&timestamp);
+        moment_is_encodable(&timestamp);
         OpenRequest::of_type(ISSUE, timestamp, request_handle, requested_lifetime)
     }
 
@@ -48,7 +49,7 @@ impl OpenRequest {
         ensures value { result ≡ open_request_of (pos 1) timestamp request_handle requested_lifetime }
         ensures encodable { IsTrue (open_request.encodable result) }
     {
-        moment_fits(&timestamp);
+        moment_is_encodable(&timestamp);
         OpenRequest::of_type(RENEW, timestamp, request_handle, requested_lifetime)
     }
 
@@ -61,7 +62,7 @@ impl OpenRequest {
         ensures { result ≡ open_request_of request_type timestamp request_handle requested_lifetime }
     {
         OpenRequest {
-            request_header: RequestHeader::new(null_id(), timestamp, request_handle),
+            request_header: RequestHeader::new(NodeId::null(), timestamp, request_handle),
             client_protocol_version: 0,
             request_type,
             security_mode: NO_SECURITY,
@@ -159,7 +160,7 @@ impl OpenResponse {
         ensures value { result ≡ open_response_of created_at request_handle channel_id token_id revised_lifetime }
         ensures encodable { IsTrue (open_response.encodable result) }
     {
-        moment_fits(&created_at);
+        moment_is_encodable(&created_at);
         OpenResponse {
             response_header: ResponseHeader::new(created_at, request_handle, StatusCode::GOOD),
             server_protocol_version: 0,
@@ -241,9 +242,9 @@ impl CloseRequest {
         ensures value { result ≡ close_request_of timestamp request_handle }
         ensures encodable { IsTrue (close_request.encodable result) }
     {
-        moment_fits(&timestamp);
+        moment_is_encodable(&timestamp);
         CloseRequest {
-            request_header: RequestHeader::new(null_id(), timestamp, request_handle),
+            request_header: RequestHeader::new(NodeId::null(), timestamp, request_handle),
         }
     }
 }

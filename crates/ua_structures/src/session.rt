@@ -1,108 +1,34 @@
 //! Sessions.
 
-ghost use Rattle.std.specs.Prelude.{◌≡◌, ◌≤◌};
-ghost use Rattle.ua_structures.specs.Plain.{null_signature, create_session_of, session_of, activate_session_of, activated_of};
+ghost use Rattle.std.specs.Prelude.{◌≡◌, ◌≤◌, IsTrue};
+ghost use Rattle.ua_builtin.specs.DoubleBits.{double_bits};
+ghost use Rattle.ua_builtin.specs.ExtensionObject.{extension_object};
+ghost use Rattle.ua_builtin.specs.NodeId.{node_id};
+ghost use Rattle.ua_structures.specs.Array.{array};
+ghost use Rattle.ua_structures.specs.Discovery.{application_description, endpoint_description};
+ghost use Rattle.ua_structures.specs.Field.{string};
+ghost use Rattle.ua_structures.specs.Header.{request_header as header_format, response_header as answer_format};
+ghost use Rattle.ua_structures.specs.Plain.{create_session_of, session_of, activate_session_of, activated_of};
+ghost use Rattle.ua_structures.specs.Session.{create_session_request, create_session_response, activate_session_request, activate_session_response};
 
 use crate::append::{append_three, append_two};
 use crate::array::UaArray;
 use crate::discovery::{ApplicationDescription, EndpointDescription};
 use crate::header::{RequestHeader, ResponseHeader};
+use crate::signature::{SignatureData, SignedSoftwareCertificate};
 use std::alloc::{AllocError, Global};
 use ua_builtin::{
     DoubleBits, ExtensionObject, NodeId, ReadFault, Source, StatusCode, UaBytes, UaString, Wire,
 };
 use ua_variant::DiagnosticInfo;
 
-/// A certificate of software, and its signature (OPC 10000-4, 7.38).
-#[derive(Drop)]
-pub struct SignedSoftwareCertificate {
-    pub certificate_data: UaBytes,
-    pub signature: UaBytes,
-}
-
-impl Wire for SignedSoftwareCertificate {
-    ghost use Rattle.ua_structures.specs.Session.{signed_software_certificate};
-
-    ghost format = { signed_software_certificate };
-
-    #[inline]
-    #[tactic(auto, using(crate::proofs::SessionLawful::lawful_signed_software_certificate))]
-    fn lawful() {}
-
-    #[tactic(auto, unfolding(crate::specs::Session::signed_software_certificate))]
-    fn read_value<S: Source>(
-        alloc: Global,
-        src: &mut S,
-        depth: u32,
-    ) -> Result<SignedSoftwareCertificate, ReadFault> {
-        let (certificate_data, signature) = Wire::read_value(alloc, src, depth)?;
-        Ok(SignedSoftwareCertificate {
-            certificate_data,
-            signature,
-        })
-    }
-
-    #[tactic(auto, unfolding(crate::specs::Session::signed_software_certificate))]
-    fn is_encodable(&self) -> bool {
-        self.certificate_data.is_encodable() && self.signature.is_encodable()
-    }
-
-    #[tactic(auto, unfolding(crate::specs::Session::signed_software_certificate))]
-    fn append(&self, out: &mut Vec<u8>) -> Result<(), AllocError> {
-        append_two(&self.certificate_data, &self.signature, out)
-    }
-}
-
-/// A signature, and the algorithm that made it (OPC 10000-4, 7.37).
-#[derive(Drop)]
-pub struct SignatureData {
-    pub algorithm: UaString,
-    pub signature: UaBytes,
-}
-
-impl SignatureData {
-    /// No signature: neither an algorithm nor octets.
-    pub fn null() -> SignatureData
-        ensures { result ≡ null_signature }
-    {
-        SignatureData {
-            algorithm: UaString::null(),
-            signature: UaBytes::null(),
-        }
-    }
-}
-
-impl Wire for SignatureData {
-    ghost use Rattle.ua_structures.specs.Session.{signature_data};
-
-    ghost format = { signature_data };
-
-    #[inline]
-    #[tactic(auto, using(crate::proofs::SessionLawful::lawful_signature_data))]
-    fn lawful() {}
-
-    #[tactic(auto, unfolding(crate::specs::Session::signature_data))]
-    fn read_value<S: Source>(
-        alloc: Global,
-        src: &mut S,
-        depth: u32,
-    ) -> Result<SignatureData, ReadFault> {
-        let (algorithm, signature) = Wire::read_value(alloc, src, depth)?;
-        Ok(SignatureData {
-            algorithm,
-            signature,
-        })
-    }
-
-    #[tactic(auto, unfolding(crate::specs::Session::signature_data))]
-    fn is_encodable(&self) -> bool {
-        self.algorithm.is_encodable() && self.signature.is_encodable()
-    }
-
-    #[tactic(auto, unfolding(crate::specs::Session::signature_data))]
-    fn append(&self, out: &mut Vec<u8>) -> Result<(), AllocError> {
-        append_two(&self.algorithm, &self.signature, out)
-    }
+/// Every timeout can be written: its bits are within the range of their type once they are read.
+#[inline]
+#[tactic(auto, unfolding(ua_octets::specs::DoubleBits::double_bits))]
+fn timeout_is_encodable(timeout: &DoubleBits)
+    ensures { IsTrue (double_bits.encodable timeout.now) }
+{
+    let _bits = timeout.bits;
 }
 
 /// The identity of a user without a name. It stands in the body of an ExtensionObject. (OPC 10000-4, 7.41.3).
@@ -167,6 +93,7 @@ impl CreateSessionRequest {
 
     /// Asks for a session of this client, at this address, under this name, with this timeout in
     /// milliseconds: without a limit of responses, and with nulls else.
+    #[tactic(auto, using(crate::proofs::PlainFits::create_session_fits))]
     pub fn new(
         request_header: RequestHeader,
         client_description: ApplicationDescription,
@@ -174,8 +101,11 @@ impl CreateSessionRequest {
         session_name: UaString,
         requested_session_timeout: DoubleBits,
     ) -> CreateSessionRequest
-        ensures { result ≡ create_session_of request_header client_description endpoint_url session_name requested_session_timeout }
+        ensures value { result ≡ create_session_of request_header client_description endpoint_url session_name requested_session_timeout }
+        ensures encodable { IsTrue (header_format.encodable request_header) → IsTrue (application_description.encodable client_description)
+            → IsTrue (string.encodable endpoint_url) → IsTrue (string.encodable session_name) → IsTrue (create_session_request.encodable result) }
     {
+        timeout_is_encodable(&requested_session_timeout);
         CreateSessionRequest {
             request_header,
             client_description,
@@ -310,6 +240,7 @@ pub struct CreateSessionResponse {
 impl CreateSessionResponse {
     /// The session with this id and token, its timeout in milliseconds, the endpoints of the
     /// server, and the most octets of a request; with nulls else.
+    #[tactic(auto, using(crate::proofs::PlainFits::session_fits))]
     pub fn new(
         response_header: ResponseHeader,
         session_id: NodeId,
@@ -318,8 +249,11 @@ impl CreateSessionResponse {
         server_endpoints: UaArray<EndpointDescription>,
         max_request_message_size: u32,
     ) -> CreateSessionResponse
-        ensures { result ≡ session_of response_header session_id authentication_token revised_session_timeout server_endpoints max_request_message_size }
+        ensures value { result ≡ session_of response_header session_id authentication_token revised_session_timeout server_endpoints max_request_message_size }
+        ensures encodable { IsTrue (answer_format.encodable response_header) → IsTrue (node_id.encodable session_id) → IsTrue (node_id.encodable authentication_token)
+            → IsTrue ((array endpoint_description).encodable server_endpoints) → IsTrue (create_session_response.encodable result) }
     {
+        timeout_is_encodable(&revised_session_timeout);
         CreateSessionResponse {
             response_header,
             session_id,
@@ -443,11 +377,14 @@ impl ActivateSessionRequest {
     ghost use Rattle.ua_structures.specs.Session.{activate_session_request_fields, activate_session_request_of};
 
     /// Says that the session of the header is that of this identity; with nulls else.
+    #[tactic(auto, using(crate::proofs::PlainFits::activate_session_fits))]
     pub fn new(
         request_header: RequestHeader,
         user_identity_token: ExtensionObject,
     ) -> ActivateSessionRequest
-        ensures { result ≡ activate_session_of request_header user_identity_token }
+        ensures value { result ≡ activate_session_of request_header user_identity_token }
+        ensures encodable { IsTrue (header_format.encodable request_header) → IsTrue (extension_object.encodable user_identity_token)
+            → IsTrue (activate_session_request.encodable result) }
     {
         ActivateSessionRequest {
             request_header,
@@ -545,8 +482,10 @@ pub struct ActivateSessionResponse {
 
 impl ActivateSessionResponse {
     /// The answer with nulls alone.
+    #[tactic(auto, using(crate::proofs::PlainFits::activated_fits))]
     pub fn new(response_header: ResponseHeader) -> ActivateSessionResponse
-        ensures { result ≡ activated_of response_header }
+        ensures value { result ≡ activated_of response_header }
+        ensures encodable { IsTrue (answer_format.encodable response_header) → IsTrue (activate_session_response.encodable result) }
     {
         ActivateSessionResponse {
             response_header,
