@@ -6,7 +6,8 @@ use Rattle.ua_builtin.specs.declared.date_time.DateTime.{DateTime}
 use Rattle.ua_builtin.specs.declared.status_code.StatusCode.{StatusCode}
 use Rattle.ua_variant.specs.Data.{DataFields}
 use Rattle.ua_variant.specs.Encodable.{data_fields_encodable}
-use Rattle.ua_nodes.proofs.Fits.{both_true, both_are}
+use Rattle.ua_octets.proofs.Readers.{both_true}
+use Rattle.ua_nodes.proofs.Fits.{both_are}
 
 -- a field that is there passes the test
 abbrev pub field_fits : {A : Type 0} → (A → Bool) → Option A → Bool

@@ -24,12 +24,9 @@ use Rattle.ua_builtin.specs.NodeId.{node_id}
 use Rattle.ua_builtin.specs.NodeText.{NamesNode}
 use Rattle.ua_builtin.specs.declared.guid.Guid.{Guid}
 use Rattle.ua_builtin.specs.declared.node_id.NodeId.{NodeId}
+use Rattle.ua_octets.proofs.Readers.{both_true}
 use Rattle.ua_nodes.specs.ValueText.{is_numeral, number_below, unsigned_denoted, signed_denoted, pattern_denoted, negative}
 use mir.Val.{bits, hbits}
-
-pub both_true : (a b : Bool) → a && b ≡ true → (a ≡ true) × (b ≡ true)
-both_true true b h = (refl, h)
-both_true false b h = absurd cc
 
 pub both_are : (a b : Bool) → a ≡ true → b ≡ true → a && b ≡ true
 both_are a b p q = ap (λ (t : Bool). t && b) p ∙ q

@@ -10,7 +10,8 @@ use Rattle.ua_builtin.specs.declared.guid.Guid.{Guid}
 use Rattle.ua_builtin.specs.declared.node_id.NodeId.{NodeId}
 use Rattle.ua_builtin.specs.declared.node_id.Identifier.{Identifier}
 use Rattle.ua_builtin.specs.declared.node_id.Identifier.TheVariants.{Numeric, Text, Guid as Global, Opaque}
-use Rattle.ua_nodes.proofs.Fits.{both_true, text_fits, counted_fits, parsed_length, encoded_length}
+use Rattle.ua_octets.proofs.Readers.{both_true}
+use Rattle.ua_nodes.proofs.Fits.{text_fits, counted_fits, parsed_length, encoded_length}
 use Rattle.ua_nodes.proofs.Utf8Pieces.{utf8_cut}
 
 pub numeric_fits : (ns n : ℕ) → ns < 65536 → n < 4294967296 → node_id.encodable (node ns (Numeric n)) ≡ true

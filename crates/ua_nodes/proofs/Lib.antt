@@ -13,7 +13,6 @@ pub mod Reasons
 pub mod SoundFile
 pub mod SoundRead
 pub mod SoundWrite
-pub mod TimeFits
 pub mod Utf8Pieces
 pub mod ValueFits
 pub mod Writes

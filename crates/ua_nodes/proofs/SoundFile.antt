@@ -13,7 +13,8 @@ use Rattle.ua_nodes.specs.NodeFile.{FileLine, lines_of, numbered, is_read, node_
 use Rattle.ua_nodes.specs.Sound.{held, IsSoundNode, IsSound}
 use Rattle.ua_nodes.specs.Table.{Nodes}
 use Rattle.ua_nodes.specs.ValueText.{most_octets}
-use Rattle.ua_nodes.proofs.Fits.{both_true, text_fits}
+use Rattle.ua_octets.proofs.Readers.{both_true}
+use Rattle.ua_nodes.proofs.Fits.{text_fits}
 use Rattle.ua_nodes.proofs.IdFits.{node_fits}
 use Rattle.ua_nodes.proofs.Pieces.{pieces}
 use Rattle.ua_nodes.proofs.Utf8Pieces.{pieces_utf8, piece_utf8, stripped_utf8}

@@ -1,5 +1,5 @@
 -- What a Read of a sound table answers can be written.
-use Rattle.std.proofs.Common.{◌≡◌, ℕ, suc, ◌+◌, ◌<◌, ◌≤◌, max, Bool, true, false, not, ◌&&◌, ◌||◌, cond, leb, nat_eq, nat_lt, List, [], ◌∷◌, ◌++◌, length, Option, Some, None, ℤ, pos, refl, sym, ◌∙◌, ap, subst, arith, lit<}
+use Rattle.std.proofs.Common.{◌≡◌, ℕ, suc, ◌+◌, ◌<◌, ◌≤◌, max, Bool, true, false, not, ◌&&◌, ◌||◌, cond, if◌then◌else◌, leb, nat_eq, nat_lt, List, [], ◌∷◌, ◌++◌, length, Option, Some, None, ℤ, pos, refl, sym, ◌∙◌, ap, subst, arith, lit<}
 use Rattle.std.proofs.lemmas.Bool.{eq-eqb, eqb-true, lt-ltb, ltb-true, le-leb, leb-true}
 use Rattle.ua_builtin.specs.Counted.{text}
 use Rattle.ua_builtin.specs.DateTime.{date_time}
@@ -25,11 +25,13 @@ use Rattle.ua_nodes.specs.Attribute.{level, access_level, single, type_node, att
 use Rattle.ua_nodes.specs.Range.{asked_range, is_within, ranged_from, ranged, part_of}
 use Rattle.ua_nodes.specs.Read.{read_reasons, gives_source, gives_server, refused, where_so, stamps_of, value_read, read_by, read_answer}
 use Rattle.ua_nodes.specs.Sound.{held, held_fields, IsSoundNode, IsSound}
-use Rattle.ua_nodes.specs.Status.{first_reason, bad_node_id_unknown, bad_attribute_id_invalid, bad_index_range_invalid, bad_index_range_no_data, bad_data_encoding_invalid, bad_not_readable}
+use Rattle.ua_builtin.specs.Reasons.{first_reason}
+use Rattle.ua_nodes.specs.Status.{bad_node_id_unknown, bad_attribute_id_invalid, bad_index_range_invalid, bad_index_range_no_data, bad_data_encoding_invalid, bad_not_readable}
 use Rattle.ua_nodes.specs.Table.{Nodes, node_at, same_id}
 use Rattle.ua_nodes.specs.Write.{has_none, is_of_type}
 use Rattle.ua_nodes.proofs.FieldsFit.{field_fits, parts_of, fields_from}
-use Rattle.ua_nodes.proofs.Fits.{both_true, both_are}
+use Rattle.ua_octets.proofs.Readers.{both_true}
+use Rattle.ua_nodes.proofs.Fits.{both_are}
 use Rattle.ua_nodes.proofs.IdFits.{numeric_fits}
 use Rattle.ua_nodes.proofs.Writes.{same_id_is}
 
@@ -43,7 +45,7 @@ code_fits code h = rw h refl
 abbrev CodeFits : Option StatusCode → Type 0
 CodeFits o = (code : StatusCode) → o ≡ Some code → nat_lt code.code 4294967296 ≡ true
 
-where_holds : (test : Bool) (code : StatusCode) (rest : Option StatusCode) → nat_lt code.code 4294967296 ≡ true → CodeFits rest → CodeFits (cond test (Some code) rest)
+where_holds : (test : Bool) (code : StatusCode) (rest : Option StatusCode) → nat_lt code.code 4294967296 ≡ true → CodeFits rest → CodeFits (if test then Some code else rest)
 where_holds true code rest here more c e = let is : code ≡ c = cc in ap (λ (x : StatusCode). nat_lt x.code 4294967296) (sym is) ∙ here
 where_holds false code rest here more c e = more c e
 

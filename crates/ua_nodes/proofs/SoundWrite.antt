@@ -16,10 +16,12 @@ use Rattle.ua_nodes.specs.declared.node.Variable.{Variable}
 use Rattle.ua_nodes.specs.Attribute.{is_attribute}
 use Rattle.ua_nodes.specs.Read.{is_filled}
 use Rattle.ua_nodes.specs.Sound.{held_fields, held, IsSoundNode, IsSound}
-use Rattle.ua_nodes.specs.Status.{first_reason, bad_attribute_id_invalid, bad_not_writable, bad_write_not_supported, bad_type_mismatch}
+use Rattle.ua_builtin.specs.Reasons.{first_reason}
+use Rattle.ua_nodes.specs.Status.{bad_attribute_id_invalid, bad_not_writable, bad_write_not_supported, bad_type_mismatch}
 use Rattle.ua_nodes.specs.Table.{Nodes}
 use Rattle.ua_nodes.specs.Write.{is_of_type, holds_type, write_reasons, or_else, time_of, picoseconds_of, stored, written_by, is_good_for, later, last_good, after_write}
-use Rattle.ua_nodes.proofs.Fits.{both_true, both_are}
+use Rattle.ua_octets.proofs.Readers.{both_true}
+use Rattle.ua_nodes.proofs.Fits.{both_are}
 use Rattle.ua_nodes.proofs.FieldsFit.{field_fits, parts_of, fields_from}
 
 -- ---- one node more
@@ -36,7 +38,7 @@ record Gives (v : Variable) (item : WriteValue) : Type 0 where
   fits : data_value_encodable (data_value_of item.value) ≡ true
 
 -- where no reason of four holds, the last doesn't
-last_fails : (a b c d : Bool) (p q r s : StatusCode) → is_none (first_reason ((a, p) ∷ (b, q) ∷ (c, r) ∷ (d, s) ∷ [])) ≡ true → d ≡ false
+last_fails : (a b c d : Bool) (p q r s : StatusCode) → is_none (first_reason ((p, a) ∷ (q, b) ∷ (r, c) ∷ (s, d) ∷ [])) ≡ true → d ≡ false
 last_fails true b c d p q r s h = absurd cc
 last_fails false true c d p q r s h = absurd cc
 last_fails false false true d p q r s h = absurd cc

@@ -10,7 +10,7 @@ use Rattle.ua_builtin.specs.declared.date_time.DateTime.{DateTime}
 use Rattle.ua_builtin.specs.declared.node_id.NodeId.{NodeId}
 use Rattle.ua_structures.specs.declared.attribute.WriteValue.{WriteValue}
 use Rattle.ua_nodes.specs.declared.node.Variable.{Variable}
-use Rattle.ua_nodes.specs.Status.{first_reason}
+use Rattle.ua_builtin.specs.Reasons.{first_reason}
 use Rattle.ua_nodes.specs.Table.{Nodes, node_at, same_id}
 use Rattle.ua_nodes.specs.Write.{write_reasons, write_answer, written_by, is_good_for, later, last_good, after_item, after_write, write_answers}
 

@@ -2,6 +2,7 @@
 use Rattle.std.specs.Prelude.{ℕ, Bool, true, false, not, ◌&&◌, ◌||◌, cond, nat_eq, nat_lt, leb, List, [], ◌∷◌, length, Option, None, Some, Result, Ok, Err, ℤ, pos, negsuc, codes}
 use Rattle.std.specs.Option.{is_some}
 use Rattle.std.specs.Str.{bytes_eq}
+use Rattle.ua_builtin.specs.Reasons.{first_reason}
 use Rattle.ua_builtin.specs.declared.date_time.DateTime.{DateTime}
 use Rattle.ua_builtin.specs.declared.status_code.StatusCode.{StatusCode}
 use Rattle.ua_builtin.specs.declared.qualified_name.QualifiedName.{QualifiedName}
@@ -14,7 +15,7 @@ use Rattle.ua_nodes.specs.declared.stamps.Stamps.TheVariants.{Source, Server, Bo
 use Rattle.ua_nodes.specs.declared.range.IndexRange.{IndexRange}
 use Rattle.ua_nodes.specs.Attribute.{is_attribute, attribute_value}
 use Rattle.ua_nodes.specs.Range.{asked_range, elements_of, part_of}
-use Rattle.ua_nodes.specs.Status.{first_reason, bad_node_id_unknown, bad_attribute_id_invalid, bad_index_range_invalid, bad_index_range_no_data, bad_data_encoding_invalid, bad_not_readable}
+use Rattle.ua_nodes.specs.Status.{bad_node_id_unknown, bad_attribute_id_invalid, bad_index_range_invalid, bad_index_range_no_data, bad_data_encoding_invalid, bad_not_readable}
 
 -- a text that is neither null nor empty
 abbrev pub is_filled : Option (List ℕ) → Bool
@@ -44,13 +45,13 @@ is_past None value = false
 is_past (Some r) value = leb (length (elements_of value)) r.first
 
 -- why an item for this node is refused, in the order in which it is judged
-abbrev pub read_reasons : Variable → ReadValueId → List (Bool × StatusCode)
+abbrev pub read_reasons : Variable → ReadValueId → List (StatusCode × Bool)
 read_reasons v item =
-    (not (is_attribute item.attribute_id), bad_attribute_id_invalid)
-    ∷ (asks_range item && not (is_array_attribute v item.attribute_id && is_some (asked_range item.index_range)), bad_index_range_invalid)
-    ∷ (not (is_default_encoding item.data_encoding), bad_data_encoding_invalid)
-    ∷ (nat_eq item.attribute_id 13 && not v.access.readable, bad_not_readable)
-    ∷ (is_past (asked_range item.index_range) v.value, bad_index_range_no_data)
+    (bad_attribute_id_invalid, not (is_attribute item.attribute_id))
+    ∷ (bad_index_range_invalid, asks_range item && not (is_array_attribute v item.attribute_id && is_some (asked_range item.index_range)))
+    ∷ (bad_data_encoding_invalid, not (is_default_encoding item.data_encoding))
+    ∷ (bad_not_readable, nat_eq item.attribute_id 13 && not v.access.readable)
+    ∷ (bad_index_range_no_data, is_past (asked_range item.index_range) v.value)
     ∷ []
 
 -- an item is refused, or it asks for this range

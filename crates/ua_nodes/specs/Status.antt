@@ -1,5 +1,4 @@
 -- The StatusCodes of items (OPC 10000-4, 7.39; OPC 10000-6, A.2).
-use Rattle.std.specs.Prelude.{Bool, cond, List, [], ◌∷◌, Option, None, Some}
 use Rattle.ua_builtin.specs.declared.status_code.StatusCode.{StatusCode}
 
 -- Good: the operation succeeded
@@ -41,8 +40,3 @@ bad_write_not_supported = record { code = 0x8073_0000 }
 -- BadTypeMismatch: the value is not of the attribute's type
 abbrev pub bad_type_mismatch : StatusCode
 bad_type_mismatch = record { code = 0x8074_0000 }
-
--- the code of the first reason that holds
-abbrev pub first_reason : List (Bool × StatusCode) → Option StatusCode
-first_reason [] = None
-first_reason (reason ∷ reasons) = cond reason.0 (Some reason.1) (first_reason reasons)

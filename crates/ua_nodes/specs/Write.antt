@@ -1,5 +1,6 @@
 -- The answers to the items of a Write, and what they leave (OPC 10000-4, 5.11.4).
 use Rattle.std.specs.Prelude.{ℕ, Bool, true, false, not, ◌&&◌, ◌||◌, cond, nat_eq, map, List, [], ◌∷◌, Option, None, Some, is_none}
+use Rattle.ua_builtin.specs.Reasons.{first_reason}
 use Rattle.ua_builtin.specs.declared.date_time.DateTime.{DateTime}
 use Rattle.ua_builtin.specs.declared.node_id.NodeId.{NodeId}
 use Rattle.ua_builtin.specs.declared.status_code.StatusCode.{StatusCode}
@@ -11,7 +12,7 @@ use Rattle.ua_structures.specs.declared.attribute.WriteValue.{WriteValue}
 use Rattle.ua_nodes.specs.declared.node.Variable.{Variable}
 use Rattle.ua_nodes.specs.Attribute.{is_attribute}
 use Rattle.ua_nodes.specs.Read.{is_filled}
-use Rattle.ua_nodes.specs.Status.{good, first_reason, bad_node_id_unknown, bad_attribute_id_invalid, bad_not_writable, bad_write_not_supported, bad_type_mismatch}
+use Rattle.ua_nodes.specs.Status.{good, bad_node_id_unknown, bad_attribute_id_invalid, bad_not_writable, bad_write_not_supported, bad_type_mismatch}
 use Rattle.ua_nodes.specs.Table.{Nodes, node_at, same_id}
 
 -- the list is empty
@@ -32,12 +33,12 @@ holds_type kind array None = false
 holds_type kind array (Some v) = is_of_type kind array v
 
 -- why an item for this node is refused, in the order in which it is judged
-abbrev pub write_reasons : Variable → WriteValue → List (Bool × StatusCode)
+abbrev pub write_reasons : Variable → WriteValue → List (StatusCode × Bool)
 write_reasons v item =
-    (not (is_attribute item.attribute_id), bad_attribute_id_invalid)
-    ∷ (not (nat_eq item.attribute_id 13 && v.access.writable), bad_not_writable)
-    ∷ (is_filled item.index_range || is_none item.value.value, bad_write_not_supported)
-    ∷ (not (holds_type v.kind v.array item.value.value && data_value_encodable (data_value_of item.value)), bad_type_mismatch)
+    (bad_attribute_id_invalid, not (is_attribute item.attribute_id))
+    ∷ (bad_not_writable, not (nat_eq item.attribute_id 13 && v.access.writable))
+    ∷ (bad_write_not_supported, is_filled item.index_range || is_none item.value.value)
+    ∷ (bad_type_mismatch, not (holds_type v.kind v.array item.value.value && data_value_encodable (data_value_of item.value)))
     ∷ []
 
 -- the code of the reason that holds, or Good where none does

@@ -13,7 +13,6 @@
 
 mod fault;
 mod laws;
-mod moment;
 mod node;
 mod node_file;
 mod number;

@@ -8,15 +8,15 @@ ghost use Rattle.ua_nodes.specs.Attribute.{is_attribute, attribute_value};
 ghost use Rattle.ua_nodes.specs.Range.{asked_range};
 ghost use Rattle.ua_nodes.specs.Read.{is_filled, is_default_encoding, read_reasons, judged, refused as refused_data, stamps_of, value_read, read_by, read_answer};
 ghost use Rattle.ua_nodes.specs.Sound.{IsSound};
-ghost use Rattle.ua_nodes.specs.Status.{first_reason};
+ghost use Rattle.ua_builtin.specs.Reasons.{first_reason};
 ghost use Rattle.ua_nodes.specs.Table.{node_at};
 
-use crate::moment::shows_writable;
 use crate::node::Variable;
 use crate::range::IndexRange;
 use crate::stamps::Stamps;
 use crate::table::NodeTable;
 use std::alloc::{AllocError, Global};
+use ua_builtin::laws::moment_is_encodable;
 use ua_builtin::{
     DateTime, Identifier, LocalizedText, NodeId, QualifiedName, StatusCode, UaString,
 };
@@ -39,7 +39,7 @@ impl NodeTable {
         ensures answer { IfOk result (λ d. data_value_of d ≡ read_answer (node_at self.now item.now.node_id) item.now stamps moment) }
         ensures encodable { IsSound self.now → IfOk result (λ d. IsTrue (data_value_encodable (data_value_of d))) }
     {
-        shows_writable(&moment);
+        moment_is_encodable(&moment);
         match self.get(&item.node_id) {
             Some(variable) => variable.read(alloc, item, stamps, moment),
             None => Ok(refused(StatusCode::BAD_NODE_ID_UNKNOWN)),

@@ -2,15 +2,15 @@
 
 ghost use Rattle.std.specs.Prelude.{◌≡◌, ◌+◌, ◌≤◌, ◌++◌, vec_len, vec_capacity, IsSome, Some, None, cond, is_none};
 ghost use Rattle.ua_variant.specs.View.{variant_of};
-ghost use Rattle.ua_nodes.specs.Status.{first_reason};
+ghost use Rattle.ua_builtin.specs.Reasons.{first_reason};
 ghost use Rattle.ua_nodes.specs.Sound.{IsSound};
 ghost use Rattle.ua_nodes.specs.Table.{node_at};
 ghost use Rattle.ua_nodes.specs.Write.{is_of_type, write_reasons, write_answer, good_or, stored, written_by, after_item, after_write, write_answers};
 
-use crate::moment::shows_writable;
 use crate::node::{NodeValue, Variable};
 use crate::read::{VALUE, has_text, is_known};
 use crate::table::NodeTable;
+use ua_builtin::laws::moment_is_encodable;
 use ua_builtin::{DateTime, StatusCode};
 use ua_structures::WriteValue;
 use ua_variant::{DataValue, Variant};
@@ -28,7 +28,7 @@ impl NodeTable {
         ensures answers { statuses.new.items ≡ statuses.old.items ++ write_answers self.old items.items }
         ensures sound { IsSound self.old → IsSound self.new }
     {
-        shows_writable(&moment);
+        moment_is_encodable(&moment);
         for item in items {
             let status = self.write_item(item, moment);
             let Ok(()) = statuses.push(status) else {

@@ -3,7 +3,7 @@ use Rattle.ua_builtin.specs.declared.status_code.StatusCode.{StatusCode}
 use Rattle.ua_variant.specs.Data.{VariantData, valued}
 use Rattle.ua_nodes.specs.Range.{asked_range}
 use Rattle.ua_nodes.specs.Read.{read_reasons, stamps_of, value_read, read_by}
-use Rattle.ua_nodes.specs.Status.{first_reason}
+use Rattle.ua_builtin.specs.Reasons.{first_reason}
 use Rattle.ua_nodes.proofs.Judged.{judged_err, judged_ok}
 use Rattle.ua_nodes.proofs.node.Variable.read.Goals as goal
 

@@ -17,7 +17,7 @@ can_write (Err x) answer h e = tt
 pub returns-in-Some-clause-encodable : goal.returns-in-Some-clause-encodable
 returns-in-Some-clause-encodable c = λ sound.
     let item = c.args.item.now in
-    let fits = read_sound c.args.self.now item c.args.stamps c.args.moment c.shows_writable.ensures sound in
+    let fits = read_sound c.args.self.now item c.args.stamps c.args.moment c.moment_is_encodable.ensures sound in
     let there : node_at c.args.self.now item.node_id ≡ Some c.in-Some.variable.now = sym c.in-Some.ensures in
     can_write c.read.result (read_answer (Some c.in-Some.variable.now) item c.args.stamps c.args.moment)
     (ap (λ (o : Option Variable). data_value_encodable (read_answer o item c.args.stamps c.args.moment)) (sym there) ∙ fits) c.read.ensures
