@@ -13,6 +13,7 @@ pub mod Reasons
 pub mod SoundFile
 pub mod SoundRead
 pub mod SoundWrite
+pub mod SoundTest
 pub mod Utf8Pieces
 pub mod ValueFits
 pub mod Writes

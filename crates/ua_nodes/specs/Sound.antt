@@ -1,11 +1,17 @@
 -- Sound tables: whatever a Read of them answers can be written.
-use Rattle.std.specs.Prelude.{IsTrue, None}
+use Rattle.std.specs.Prelude.{IsTrue, None, Bool, ◌&&◌, nat_lt}
 use Rattle.std.specs.List.{AllByRecursion}
 use Rattle.ua_builtin.specs.Counted.{text}
+use Rattle.ua_builtin.specs.DateTime.{date_time}
+use Rattle.ua_builtin.specs.Format.{most_levels}
+use Rattle.ua_builtin.specs.Join.{number}
 use Rattle.ua_builtin.specs.NodeId.{node_id}
+use Rattle.ua_builtin.specs.Status.{status_code}
 use Rattle.ua_builtin.specs.declared.node_id.NodeId.{NodeId}
 use Rattle.ua_variant.specs.Data.{DataFields, DataValueData, valued}
-use Rattle.ua_variant.specs.Encodable.{data_value_encodable}
+use Rattle.ua_variant.specs.Encodable.{data_value_encodable, variant_encodable}
+use Rattle.ua_variant.specs.Measure.{variant_depth}
+use Rattle.ua_parts.specs.Parts.{optional_fits}
 use Rattle.ua_nodes.specs.declared.node.Variable.{Variable}
 use Rattle.ua_nodes.specs.Table.{Nodes}
 use Rattle.ua_nodes.specs.Write.{is_of_type}
@@ -31,6 +37,12 @@ pub record IsSoundNode (id : NodeId) (v : Variable) : Type 0 where
   pub name_fits : IsTrue (text.encodable v.name)
   pub of_type : IsTrue (is_of_type v.kind v.array v.value)
   pub value_fits : IsTrue (data_value_encodable (held v))
+
+-- the test of it: the value leaves a level for the DataValue, and can be written, and so can the status and source time
+abbrev pub is_sound_node : NodeId → Variable → Bool
+is_sound_node id v =
+    node_id.encodable id && (text.encodable v.name && (is_of_type v.kind v.array v.value && (nat_lt (variant_depth v.value) most_levels && (variant_encodable v.value
+    && (optional_fits status_code.encodable v.status && (optional_fits date_time.encodable v.source_time && optional_fits (number 2).encodable v.source_picoseconds))))))
 
 -- each node is sound
 abbrev pub IsSound : Nodes → Type 0

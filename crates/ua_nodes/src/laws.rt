@@ -1,13 +1,13 @@
 //! Laws of node files, of Reads and of Writes, each carried by a function without a body.
 
-ghost use Rattle.std.specs.Prelude.{◌≡◌, ◌++◌, ◌∷◌, [], IsTrue, ℕ, List};
+ghost use Rattle.std.specs.Prelude.{◌≡◌, ◌↔◌, ◌++◌, ◌∷◌, [], IsTrue, ℕ, List};
 ghost use Rattle.std.specs.Str.{IsUtf8};
 ghost use Rattle.ua_nodes.specs.declared.fault.LineReason.{LineReason};
 ghost use Rattle.ua_nodes.specs.declared.node.Variable.{Variable};
 ghost use Rattle.ua_nodes.specs.declared.stamps.Stamps.{Stamps};
 ghost use Rattle.ua_nodes.specs.NodeFile.{FileLine, node_lines, WriteNodes, IsFirstBad};
 ghost use Rattle.ua_nodes.specs.Read.{read_answer};
-ghost use Rattle.ua_nodes.specs.Sound.{IsSoundNode, IsSound};
+ghost use Rattle.ua_nodes.specs.Sound.{IsSoundNode, IsSound, is_sound_node};
 ghost use Rattle.ua_nodes.specs.Table.{Nodes, node_at};
 ghost use Rattle.ua_nodes.specs.Write.{after_write, last_good, written_by};
 ghost use Rattle.std.specs.Option.{option_map};
@@ -37,6 +37,11 @@ pub fn a_file_has_one_first_bad_line()
 /// that names it, else those from before.
 pub fn a_node_keeps_the_last_good_item()
     ensures { (items : List WriteValue) (moment : DateTime) (nodes : Nodes) (id : NodeId) → node_at (after_write items moment nodes) id ≡ option_map (λ v. written_by v (last_good (id, v) items) moment) (node_at nodes id) }
+{}
+
+/// A node is sound exactly where it passes the test.
+pub fn a_node_is_sound_where_it_passes()
+    ensures { (id : NodeId) (variable : Variable) → (IsTrue (is_sound_node id variable) ↔ IsSoundNode id variable) }
 {}
 
 /// A table that a file writes is sound.

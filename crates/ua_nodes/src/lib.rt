@@ -19,6 +19,7 @@ mod number;
 mod part;
 mod range;
 mod read;
+mod sound;
 mod stamps;
 mod table;
 mod type_name;
@@ -28,7 +29,7 @@ mod write;
 pub use fault::{InsertFault, LineReason, LoadFault, ValueFault};
 pub use laws::{
     a_file_has_one_first_bad_line, a_file_loads_in_one_way, a_file_that_loads_has_no_bad_line,
-    a_loaded_table_is_sound, a_node_keeps_the_last_good_item,
+    a_loaded_table_is_sound, a_node_is_sound_where_it_passes, a_node_keeps_the_last_good_item,
     a_sound_table_answers_what_can_be_written, a_table_stays_sound_after_a_write,
     a_table_stays_sound_with_a_sound_node,
 };

@@ -115,7 +115,7 @@ impl Variable {
 }
 
 /// Whether a value is one of the type, or an array of it without dimensions.
-fn is_value_of(kind: u8, array: bool, value: &Variant) -> bool
+pub(crate) fn is_value_of(kind: u8, array: bool, value: &Variant) -> bool
     ensures { result ≡ is_of_type kind array (variant_of value.now) }
 {
     match value {
