@@ -1,11 +1,13 @@
 //! Uses of the stack, as its callers write them, each with a contract of its own: a value through
-//! octets and back, the frames of a piece of a stream.
+//! octets and back, the frames of a piece of a stream, a value of a node file, the body of a request.
 #![tactic(auto)]
 
+mod requests;
 mod stream;
-#[cfg(test)]
-mod tests;
+mod tables;
 mod values;
 
+pub use requests::take_request;
 pub use stream::take_frames;
+pub use tables::{TableFault, value_in_file};
 pub use values::{PassFault, through_octets};
