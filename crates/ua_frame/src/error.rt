@@ -11,7 +11,7 @@ use ua_builtin::{ReadFault, Source, StatusCode, UaString, Wire};
 
 /// Error, the body of an ERR frame and of an abort: why one end gives up (OPC 10000-6, 7.1.2.5
 /// and 6.7.3).
-#[derive(Drop)]
+#[derive(PartialEq, Eq, Debug, Drop)]
 pub struct ErrorFrame {
     pub error: StatusCode,
     pub reason: UaString,

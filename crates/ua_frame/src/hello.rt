@@ -5,7 +5,7 @@ use ua_builtin::{ReadFault, Source, UaString, Wire};
 
 /// Hello, the body of a HEL frame: what a client allows, and the endpoint that it asks for
 /// (OPC 10000-6, 7.1.2.3). Sizes are in octets; a limit of 0 is none.
-#[derive(Drop)]
+#[derive(PartialEq, Eq, Debug, Drop)]
 pub struct Hello {
     pub protocol_version: u32,
     pub receive_buffer_size: u32,

@@ -4,7 +4,7 @@ ghost use Rattle.std.specs.Prelude.{◌≤◌};
 
 /// What one end of a connection allows: sizes of frames in octets, and for messages the octets of
 /// the joined bodies and the number of chunks.
-#[derive(Clone, Copy, Debug)]
+#[derive(Clone, Copy, PartialEq, Eq, Debug)]
 pub struct Limits {
     pub receive_buffer_size: u32,
     pub send_buffer_size: u32,
