@@ -35,6 +35,7 @@ impl RequestHeader {
     /// The header of a request under this token (that of CreateSession, null without a session),
     /// sent at this moment, with this handle: it asks for no diagnostics, names no audit entry and
     /// no timeout, and adds nothing.
+    #[tactic(auto, using(crate::proofs::PlainFits::request_header_fits))]
     pub fn new(
         authentication_token: NodeId,
         timestamp: DateTime,
@@ -134,6 +135,7 @@ pub struct ResponseHeader {
 impl ResponseHeader {
     /// The header of a response sent at this moment to the request with this handle, with this
     /// result: without diagnostics and texts, it adds nothing.
+    #[tactic(auto, using(crate::proofs::PlainFits::response_header_fits))]
     pub fn new(
         timestamp: DateTime,
         request_handle: u32,

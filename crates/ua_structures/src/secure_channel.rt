@@ -36,6 +36,7 @@ const NO_SECURITY: i32 = 1;
 impl OpenRequest {
     /// Asks for a channel and its first token, which is to live so many milliseconds: under no
     /// token of a session, without security and without a nonce.
+    #[tactic(auto, using(crate::proofs::PlainFits::issue_fits))]
     pub fn issue(timestamp: DateTime, request_handle: u32, requested_lifetime: u32) -> OpenRequest
         ensures value { result ≡ open_request_of (pos 0) timestamp request_handle requested_lifetime }
         ensures encodable { IsTrue (open_request.encodable result) }
@@ -45,6 +46,7 @@ impl OpenRequest {
     }
 
     /// Asks for a new token of a channel, else as [`issue`](OpenRequest::issue) does.
+    #[tactic(auto, using(crate::proofs::PlainFits::renew_fits))]
     pub fn renew(timestamp: DateTime, request_handle: u32, requested_lifetime: u32) -> OpenRequest
         ensures value { result ≡ open_request_of (pos 1) timestamp request_handle requested_lifetime }
         ensures encodable { IsTrue (open_request.encodable result) }
@@ -150,6 +152,7 @@ pub struct OpenResponse {
 impl OpenResponse {
     /// The good answer to the request with this handle: the channel, its token, made at this moment,
     /// and how many milliseconds the token lives; without a nonce.
+    #[tactic(auto, using(crate::proofs::PlainFits::open_response_fits))]
     pub fn new(
         created_at: DateTime,
         request_handle: u32,
@@ -238,6 +241,7 @@ pub struct CloseRequest {
 
 impl CloseRequest {
     /// Ends the channel, under no token of a session.
+    #[tactic(auto, using(crate::proofs::PlainFits::close_request_fits))]
     pub fn new(timestamp: DateTime, request_handle: u32) -> CloseRequest
         ensures value { result ≡ close_request_of timestamp request_handle }
         ensures encodable { IsTrue (close_request.encodable result) }
