@@ -12,5 +12,7 @@ mod Rows
 mod Fits
 mod Judged
 mod Loops
+mod BlocksRead
 mod Valued
 mod Written
+mod PackedRows

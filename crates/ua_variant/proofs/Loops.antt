@@ -12,21 +12,13 @@ use Rattle.ua_variant.specs.Encodable.{row_length}
 use Rattle.ua_variant.specs.Least.{least_octets}
 use Rattle.ua_parts.proofs.DimensionsRead.{not_negative_at}
 use Rattle.ua_variant.specs.Decoding.{array_at, row_at, scalars_at}
+use Rattle.ua_variant.specs.Blocks.{before, with_front}
 use Rattle.ua_variant.proofs.ArraysRead.{exact_row}
 use Rattle.ua_variant.proofs.VariantsRead.{exact_scalars}
 use Rattle.ua_variant.proofs.Lengths.{row_takes}
 use Rattle.ua_parts.proofs.Extents.{never_some}
 
--- these before the rest of a row
-abbrev pub before : List ScalarData → ScalarsData → ScalarsData
-before [] r = r
-before (s ∷ ss) r = scalar s (before ss r)
-
--- what was read of a row, with these scalars in front of it
-abbrev pub with_front : List ScalarData → Option (ScalarsData × List ℕ) → Option (ScalarsData × List ℕ)
-with_front ss r = r >>= λ x. Some (before ss x.0, x.1)
-
-before_row : (ss : List ScalarData) → before ss no_scalars ≡ row ss
+pub before_row : (ss : List ScalarData) → before ss no_scalars ≡ row ss
 before_row [] = refl
 before_row (s ∷ ss) = ap (scalar s) (before_row ss)
 
@@ -47,17 +39,21 @@ row_more p ss s m n old new e h =
     ap (λ k. with_front ss (row_at k p old)) e ∙ ap (λ r. with_front ss (r >>= λ s. row_at n p s.1 >>= λ ss. Some (scalar s.0 ss.0, ss.1))) h ∙ front_push ss s (row_at n p new)
 
 -- one more element, as a loop over so many of them meets it
+pub row_step : (p : Reader ScalarData) (all ss : List ScalarData) (s : ScalarData) (count counter : ℕ) (old new : List ℕ) (whole : Option (ScalarsData × List ℕ)) → counter < count → all ≡ ss ++ s ∷ [] → p old ≡ Some (s, new) → with_front ss (row_at (count - counter) p old) ≡ whole
+    → with_front all (row_at (count - (counter + 1)) p new) ≡ whole
+row_step p all ss s count counter old new whole lt is read so_far =
+    let here : with_front ss (row_at (count - counter) p old) ≡ with_front (ss ++ s ∷ []) (row_at (count - (counter + 1)) p new) = row_more p ss s (count - counter) (count - (counter + 1)) old new (omega arith) read in
+    ap (λ (xs : List ScalarData). with_front xs (row_at (count - (counter + 1)) p new)) is ∙ sym here ∙ so_far
+
 pub row_so_far : {all : List Scalar} (p : Reader ScalarData) (ss : List Scalar) (s : Scalar) (count counter : ℕ) (start old new : List ℕ) → counter < count → all ≡ ss ++ s ∷ [] → p old ≡ Some (scalar_of s, new) → with_front (map scalar_of ss) (row_at (count - counter) p old) ≡ row_at count p start
     → with_front (map scalar_of all) (row_at (count - (counter + 1)) p new) ≡ row_at count p start
 row_so_far {all} p ss s count counter start old new lt pushed read before =
-    let is : map scalar_of all ≡ map scalar_of ss ++ scalar_of s ∷ [] = ap (map scalar_of) pushed ∙ map-append scalar_of ss (s ∷ []) in
-    let here : with_front (map scalar_of ss) (row_at (count - counter) p old) ≡ with_front (map scalar_of ss ++ scalar_of s ∷ []) (row_at (count - (counter + 1)) p new) = row_more p (map scalar_of ss) (scalar_of s) (count - counter) (count - (counter + 1)) old new (omega arith) read in
-    ap (λ (xs : List ScalarData). with_front xs (row_at (count - (counter + 1)) p new)) is ∙ sym here ∙ before
+    row_step p (map scalar_of all) (map scalar_of ss) (scalar_of s) count counter old new (row_at count p start) lt (ap (map scalar_of) pushed ∙ map-append scalar_of ss (s ∷ [])) read before
 
 pub row_stops : (p : Reader ScalarData) (ss : List ScalarData) (m n : ℕ) (old : List ℕ) → m ≡ suc n → p old ≡ None → with_front ss (row_at m p old) ≡ None
 row_stops p ss m n old e h = ap (λ k. with_front ss (row_at k p old)) e ∙ ap (λ r. with_front ss (r >>= λ s. row_at n p s.1 >>= λ ss. Some (scalar s.0 ss.0, ss.1))) h
 
-row_ends : (p : Reader ScalarData) (ss : List ScalarData) (m : ℕ) (b : List ℕ) → m ≡ 0 → with_front ss (row_at m p b) ≡ Some (row ss, b)
+pub row_ends : (p : Reader ScalarData) (ss : List ScalarData) (m : ℕ) (b : List ℕ) → m ≡ 0 → with_front ss (row_at m p b) ≡ Some (row ss, b)
 row_ends p ss m b e = ap (λ k. with_front ss (row_at k p b)) e ∙ ap (λ r. Some (r, b)) (before_row ss)
 
 -- the row, where the loop ends

@@ -30,7 +30,7 @@ many_parts k ss ds h =
     let w = both_true (is_kind k) (is_count n) v.0 in
     (kind_low k w.0, count_is n w.1, v.1, u.1)
 
-row_push : (ss : List ScalarData) (s : ScalarData) → row_canonical (row (ss ++ s ∷ [])) ≡ row_canonical (row ss) ++ scalar_canonical s
+pub row_push : (ss : List ScalarData) (s : ScalarData) → row_canonical (row (ss ++ s ∷ [])) ≡ row_canonical (row ss) ++ scalar_canonical s
 row_push [] s = append-nil (scalar_canonical s)
 row_push (x ∷ ss) s = ap (λ r. scalar_canonical x ++ r) (row_push ss s) ∙ sym (append_assoc (scalar_canonical x) (row_canonical (row ss)) (scalar_canonical s))
 

@@ -2,12 +2,14 @@ pub mod Data
 pub mod Measure
 pub mod Leaf
 pub mod Least
+pub mod Packed
 pub mod Fields
 pub mod Encoding
 pub mod Encodable
 pub mod Judging
 pub mod Canonical
 pub mod Decoding
+pub mod Blocks
 pub mod View
 pub mod Values
 pub mod Formats

@@ -4,11 +4,12 @@ use Rattle.std.proofs.Common.{arith}
 use denote.Param.Weighed.{most}
 use Rattle.ua_variant.specs.Data.{DataFields, VariantData}
 use Rattle.ua_variant.specs.Measure.{variant_count, scalar_count, scalars_count, data_value_count}
-use Rattle.ua_variant.specs.View.{row, value_within, data_fields_of, data_value_of, scalar_of, variant_of}
+use Rattle.ua_variant.specs.View.{row, value_within, data_fields_of, data_value_of, scalar_of, elements_of, variant_of}
 use Rattle.ua_variant.specs.declared.values.Scalar.{Scalar}
 use Rattle.ua_variant.specs.declared.values.Variant.{Variant}
 use Rattle.ua_variant.specs.declared.values.DataValue.{DataValue}
-use Rattle.ua_variant.specs.declared.values.BoxedVariant.TheDeep.{deep-Variant, deep-Scalar, deep-DataValue}
+use Rattle.ua_variant.specs.declared.values.Elements.{Elements}
+use Rattle.ua_variant.specs.declared.values.BoxedVariant.TheDeep.{deep-Variant, deep-Scalar, deep-DataValue, deep-Elements}
 use Rattle.ua_variant.specs.Values.{made_data_value}
 
 data_value_at : (v : Option VariantData) (f : DataFields) → deep-DataValue (made_data_value v f) ≤ 2 * data_value_count (value_within v f)
@@ -49,6 +50,10 @@ scalar_falls (Scalar.Reserved k x) = omega arith
 pub scalars_fall : (ss : List Scalar) → most deep-Scalar ss ≤ 2 * scalars_count (row (map scalar_of ss)) + 1
 scalars_fall [] = omega arith
 scalars_fall (s ∷ ss) = omega (arith, scalar_falls s, scalars_fall ss)
+
+pub elements_fall : (e : Elements) → deep-Elements e ≤ 2 * scalars_count (row (elements_of e)) + 1
+elements_fall (Elements.Packed p) = omega arith
+elements_fall (Elements.Mixed v) = omega (arith, scalars_fall v.items)
 
 pub variant_falls : (v : Variant) → max (deep-Variant v) 0 ≤ 2 * variant_count (variant_of v)
 variant_falls Variant.Null = omega arith

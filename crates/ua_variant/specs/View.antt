@@ -1,11 +1,13 @@
 -- The data that the values of the code stand for, and the values that stand for data.
 pub use Rattle.ua_parts.specs.View.{diagnostic_fields_of, diagnostic_of}
-use Rattle.std.specs.Prelude.{ℕ, List, [], ◌∷◌, Option, Some, None}
+use Rattle.std.specs.Prelude.{ℕ, List, [], ◌∷◌, map, Option, Some, None}
 use lib.IntN.{ℤ}
 use Rattle.ua_variant.specs.Data.{boolean, sbyte, byte, int16, uint16, int32, uint32, int64, uint64, float, double, string, date_time, guid, byte_string, xml_element, node_id, expanded_node_id, status_code, qualified_name, localized_text, extension_object, reserved, DataFields, VariantData, null, one, absent, many, ScalarData, leaf, data_value, variant, diagnostic, ScalarsData, no_scalars, scalar, DataValueData, bare, valued}
 use Rattle.ua_variant.specs.declared.values.Scalar.{Scalar}
 use Rattle.ua_variant.specs.declared.values.Variant.{Variant}
 use Rattle.ua_variant.specs.declared.values.DataValue.{DataValue}
+use Rattle.ua_variant.specs.declared.values.Elements.{Elements}
+use Rattle.ua_variant.specs.Packed.{packed_leaves}
 
 -- the elements of an array, as a list and as data
 abbrev pub row : List ScalarData → ScalarsData
@@ -64,6 +66,11 @@ scalar_of (Scalar.DataValue d) = data_value (data_value_of d)
 scalar_of (Scalar.Variant v) = variant v
 scalar_of (Scalar.DiagnosticInfo d) = diagnostic (diagnostic_of d)
 scalar_of (Scalar.Reserved k x) = leaf (reserved k x)
+
+-- the elements of an array, as they are held
+abbrev pub elements_of : Elements → List ScalarData
+elements_of (Elements.Packed p) = map leaf (packed_leaves p)
+elements_of (Elements.Mixed v) = map scalar_of v.items
 
 -- the array of the type id k with these elements and dimensions; a null one where the elements are null
 abbrev pub many_of : ℕ → Option (List ScalarData) → List ℤ → VariantData

@@ -1,9 +1,9 @@
 //! Copies of values.
 
-ghost use Rattle.std.specs.Prelude.{◌≡◌, IfOk};
+ghost use Rattle.std.specs.Prelude.{◌≡◌, ◌≤◌, ◌-◌, drop, take, length, map, IfOk};
+ghost use Rattle.ua_variant.specs.View.{scalar_of};
 
-use crate::encodable::element_count;
-use crate::values::{BoxedVariant, DataValue, Scalar, Scalars, Variant};
+use crate::values::{BoxedVariant, DataValue, Elements, Scalar, Scalars, Variant};
 use std::alloc::{AllocError, Global};
 
 impl Variant {
@@ -21,6 +21,31 @@ impl DataValue {
         ensures { IfOk result (λ d. d ≡ self.now) }
     {
         copy_data_value(alloc, self)
+    }
+}
+
+impl Scalar {
+    /// A value of its own, equal to this one.
+    pub fn try_clone(&self, alloc: Global) -> Result<Scalar, AllocError>
+        ensures { IfOk result (λ s. s ≡ self.now) }
+    {
+        copy_scalar(alloc, self)
+    }
+}
+
+impl Scalars {
+    /// The elements from one place up to another, which is not among them; no other is cloned.
+    pub fn part(&self, alloc: Global, from: usize, to: usize) -> Result<Scalars, AllocError>
+        requires order { from ≤ to }
+        requires within { to ≤ length self.now }
+        ensures { IfOk result (λ part. part ≡ take (to - from) (drop from self.now)) }
+    {
+        match self.elements() {
+            Elements::Packed(packed) => Ok(Scalars::packed(packed.part(alloc, from, to)?)),
+            Elements::Mixed(scalars) => {
+                Ok(Scalars::new(copy_scalars(alloc, &scalars[from..to])?))
+            }
+        }
     }
 }
 
@@ -100,12 +125,22 @@ fn copy_boxed(alloc: Global, value: &BoxedVariant) -> Result<BoxedVariant, Alloc
 fn copy_row(alloc: Global, items: &Scalars) -> Result<Scalars, AllocError>
     ensures { IfOk result (λ r. r ≡ items.now) }
 {
-    let mut copies = Vec::with_capacity(alloc, element_count(items))?;
-    for s in items.as_slice() {
+    match items.elements() {
+        Elements::Packed(packed) => Ok(Scalars::packed(packed.try_clone(alloc)?)),
+        Elements::Mixed(scalars) => Ok(Scalars::new(copy_scalars(alloc, scalars)?)),
+    }
+}
+
+#[cycle(copies)]
+fn copy_scalars(alloc: Global, items: &[Scalar]) -> Result<Vec<Scalar>, AllocError>
+    ensures { IfOk result (λ copies. map scalar_of copies.items ≡ map scalar_of items.now) }
+{
+    let mut copies = Vec::with_capacity(alloc, items.len())?;
+    for s in items {
         let copy = copy_scalar(alloc, s)?;
         copies.push(copy)?;
     }
-    Ok(Scalars::new(copies))
+    Ok(copies)
 }
 
 #[cycle(copies)]

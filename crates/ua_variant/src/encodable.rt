@@ -6,7 +6,7 @@ ghost use Rattle.ua_variant.specs.Judging.{levels_if, is_within};
 ghost use Rattle.ua_variant.specs.Measure.{variant_depth, scalar_depth, scalars_depth, data_value_depth};
 ghost use Rattle.ua_variant.specs.View.{row, variant_of, scalar_of, data_value_of, data_fields_of};
 
-use crate::values::{DataValue, Scalar, Scalars, Variant};
+use crate::values::{DataValue, Elements, Scalar, Scalars, Variant};
 use ua_builtin::Wire;
 use ua_octets::MOST_LEVELS;
 use ua_parts::field::field_fits;
@@ -80,7 +80,7 @@ fn is_written_kind(kind: u8) -> bool
 pub fn element_count(items: &Scalars) -> usize
     ensures { result ≡ row_length (row items.now) }
 {
-    items.as_slice().len()
+    items.len()
 }
 
 /// Whether there are levels, at most those of a value that is written.
@@ -176,8 +176,12 @@ fn scalar_levels_of(value: &Scalar) -> Option<u32>
 fn row_levels_of(kind: u8, items: &Scalars) -> Option<u32>
     ensures { result ≡ levels_if (scalars_fit kind (row items.now)) (scalars_depth (row items.now)) }
 {
+    let scalars = match items.elements() {
+        Elements::Packed(packed) => return no_levels_if(packed.fits(kind)),
+        Elements::Mixed(scalars) => scalars,
+    };
     let mut deepest = 0;
-    for s in items.as_slice() {
+    for s in scalars {
         if s.kind() != kind {
             return None;
         }

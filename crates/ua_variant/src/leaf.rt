@@ -4,7 +4,7 @@ ghost use Rattle.std.specs.Prelude.{◌≡◌, ℕ, List};
 ghost use Rattle.ua_builtin.specs.Exact.{image_read};
 ghost use Rattle.ua_builtin.specs.Format.{GivesBy, StaysBehind};
 ghost use Rattle.ua_variant.specs.Data.{LeafData, leaf};
-ghost use Rattle.ua_variant.specs.Leaf.{leaf_at};
+ghost use Rattle.ua_variant.specs.Leaf.{leaf_at, leaf_canonical, leaf_encodable, leaf_kind};
 ghost use Rattle.ua_variant.specs.View.{scalar_of};
 
 use crate::values::Scalar;
@@ -22,9 +22,12 @@ pub trait Leaf: Wire {
     /// The data of the scalar.
     ghost as_leaf: { Self → LeafData };
 
-    /// Shows that scalars of the type id are read as values of this type.
-    fn reads()
-        ensures { (octets : List ℕ) → leaf_at kind octets ≡ image_read as_leaf (Self.format.decode 0) octets };
+    /// Shows that scalars of the type id are the values of this type, in its encoding.
+    fn is_leaf()
+        ensures reads { (octets : List ℕ) → leaf_at kind octets ≡ image_read as_leaf (Self.format.decode 0) octets }
+        ensures id { (x : Self) → leaf_kind (as_leaf x) ≡ kind }
+        ensures fits { (x : Self) → leaf_encodable (as_leaf x) ≡ Self.format.encodable x }
+        ensures canonical { (x : Self) → leaf_canonical (as_leaf x) ≡ Self.format.canonical x };
 
     /// This value as a scalar.
     fn into_scalar(self) -> Scalar
@@ -33,13 +36,22 @@ pub trait Leaf: Wire {
 
 /// Reads a scalar as a value of its type.
 #[inline]
+pub fn read_leaf_as<T: Leaf, S: Source>(alloc: Global, src: &mut S) -> Result<T, ReadFault>
+    ensures exact { GivesBy (λ x. leaf (T.as_leaf x)) (image_read leaf (leaf_at T.kind)) (S.octets src.old) (S.octets src.new) result }
+    ensures behind { StaysBehind (S.octets src.old) (S.octets src.new) }
+{
+    T::is_leaf();
+    let value = T::read_value(alloc, src, 0)?;
+    Ok(value)
+}
+
+/// Reads a scalar of the type id of a type.
+#[inline]
 pub fn read_as<T: Leaf, S: Source>(alloc: Global, src: &mut S) -> Result<Scalar, ReadFault>
     ensures exact { GivesBy scalar_of (image_read leaf (leaf_at T.kind)) (S.octets src.old) (S.octets src.new) result }
     ensures behind { StaysBehind (S.octets src.old) (S.octets src.new) }
 {
-    T::reads();
-    let value = T::read_value(alloc, src, 0)?;
-    Ok(value.into_scalar())
+    Ok(read_leaf_as::<T, S>(alloc, src)?.into_scalar())
 }
 
 impl Leaf for bool {
@@ -51,7 +63,7 @@ impl Leaf for bool {
 
     #[inline]
     #[tactic(auto, unfolding(crate::specs::Leaf::leaf_at))]
-    fn reads() {}
+    fn is_leaf() {}
 
     #[inline]
     fn into_scalar(self) -> Scalar {
@@ -68,7 +80,7 @@ impl Leaf for i8 {
 
     #[inline]
     #[tactic(auto, unfolding(crate::specs::Leaf::leaf_at))]
-    fn reads() {}
+    fn is_leaf() {}
 
     #[inline]
     fn into_scalar(self) -> Scalar {
@@ -85,7 +97,7 @@ impl Leaf for u8 {
 
     #[inline]
     #[tactic(auto, unfolding(crate::specs::Leaf::leaf_at))]
-    fn reads() {}
+    fn is_leaf() {}
 
     #[inline]
     fn into_scalar(self) -> Scalar {
@@ -102,7 +114,7 @@ impl Leaf for i16 {
 
     #[inline]
     #[tactic(auto, unfolding(crate::specs::Leaf::leaf_at))]
-    fn reads() {}
+    fn is_leaf() {}
 
     #[inline]
     fn into_scalar(self) -> Scalar {
@@ -119,7 +131,7 @@ impl Leaf for u16 {
 
     #[inline]
     #[tactic(auto, unfolding(crate::specs::Leaf::leaf_at))]
-    fn reads() {}
+    fn is_leaf() {}
 
     #[inline]
     fn into_scalar(self) -> Scalar {
@@ -136,7 +148,7 @@ impl Leaf for i32 {
 
     #[inline]
     #[tactic(auto, unfolding(crate::specs::Leaf::leaf_at))]
-    fn reads() {}
+    fn is_leaf() {}
 
     #[inline]
     fn into_scalar(self) -> Scalar {
@@ -153,7 +165,7 @@ impl Leaf for u32 {
 
     #[inline]
     #[tactic(auto, unfolding(crate::specs::Leaf::leaf_at))]
-    fn reads() {}
+    fn is_leaf() {}
 
     #[inline]
     fn into_scalar(self) -> Scalar {
@@ -170,7 +182,7 @@ impl Leaf for i64 {
 
     #[inline]
     #[tactic(auto, unfolding(crate::specs::Leaf::leaf_at))]
-    fn reads() {}
+    fn is_leaf() {}
 
     #[inline]
     fn into_scalar(self) -> Scalar {
@@ -187,7 +199,7 @@ impl Leaf for u64 {
 
     #[inline]
     #[tactic(auto, unfolding(crate::specs::Leaf::leaf_at))]
-    fn reads() {}
+    fn is_leaf() {}
 
     #[inline]
     fn into_scalar(self) -> Scalar {
@@ -204,7 +216,7 @@ impl Leaf for FloatBits {
 
     #[inline]
     #[tactic(auto, unfolding(crate::specs::Leaf::leaf_at))]
-    fn reads() {}
+    fn is_leaf() {}
 
     #[inline]
     fn into_scalar(self) -> Scalar {
@@ -221,7 +233,7 @@ impl Leaf for DoubleBits {
 
     #[inline]
     #[tactic(auto, unfolding(crate::specs::Leaf::leaf_at))]
-    fn reads() {}
+    fn is_leaf() {}
 
     #[inline]
     fn into_scalar(self) -> Scalar {
@@ -238,7 +250,7 @@ impl Leaf for UaString {
 
     #[inline]
     #[tactic(auto, unfolding(crate::specs::Leaf::leaf_at))]
-    fn reads() {}
+    fn is_leaf() {}
 
     #[inline]
     fn into_scalar(self) -> Scalar {
@@ -255,7 +267,7 @@ impl Leaf for DateTime {
 
     #[inline]
     #[tactic(auto, unfolding(crate::specs::Leaf::leaf_at))]
-    fn reads() {}
+    fn is_leaf() {}
 
     #[inline]
     fn into_scalar(self) -> Scalar {
@@ -272,7 +284,7 @@ impl Leaf for Guid {
 
     #[inline]
     #[tactic(auto, unfolding(crate::specs::Leaf::leaf_at))]
-    fn reads() {}
+    fn is_leaf() {}
 
     #[inline]
     fn into_scalar(self) -> Scalar {
@@ -289,7 +301,7 @@ impl Leaf for UaBytes {
 
     #[inline]
     #[tactic(auto, unfolding(crate::specs::Leaf::leaf_at))]
-    fn reads() {}
+    fn is_leaf() {}
 
     #[inline]
     fn into_scalar(self) -> Scalar {
@@ -306,7 +318,7 @@ impl Leaf for XmlElement {
 
     #[inline]
     #[tactic(auto, unfolding(crate::specs::Leaf::leaf_at))]
-    fn reads() {}
+    fn is_leaf() {}
 
     #[inline]
     fn into_scalar(self) -> Scalar {
@@ -323,7 +335,7 @@ impl Leaf for NodeId {
 
     #[inline]
     #[tactic(auto, unfolding(crate::specs::Leaf::leaf_at))]
-    fn reads() {}
+    fn is_leaf() {}
 
     #[inline]
     fn into_scalar(self) -> Scalar {
@@ -340,7 +352,7 @@ impl Leaf for ExpandedNodeId {
 
     #[inline]
     #[tactic(auto, unfolding(crate::specs::Leaf::leaf_at))]
-    fn reads() {}
+    fn is_leaf() {}
 
     #[inline]
     fn into_scalar(self) -> Scalar {
@@ -357,7 +369,7 @@ impl Leaf for StatusCode {
 
     #[inline]
     #[tactic(auto, unfolding(crate::specs::Leaf::leaf_at))]
-    fn reads() {}
+    fn is_leaf() {}
 
     #[inline]
     fn into_scalar(self) -> Scalar {
@@ -374,7 +386,7 @@ impl Leaf for QualifiedName {
 
     #[inline]
     #[tactic(auto, unfolding(crate::specs::Leaf::leaf_at))]
-    fn reads() {}
+    fn is_leaf() {}
 
     #[inline]
     fn into_scalar(self) -> Scalar {
@@ -391,7 +403,7 @@ impl Leaf for LocalizedText {
 
     #[inline]
     #[tactic(auto, unfolding(crate::specs::Leaf::leaf_at))]
-    fn reads() {}
+    fn is_leaf() {}
 
     #[inline]
     fn into_scalar(self) -> Scalar {
@@ -408,7 +420,7 @@ impl Leaf for ExtensionObject {
 
     #[inline]
     #[tactic(auto, unfolding(crate::specs::Leaf::leaf_at))]
-    fn reads() {}
+    fn is_leaf() {}
 
     #[inline]
     fn into_scalar(self) -> Scalar {

@@ -21,16 +21,20 @@
 //! ```
 #![tactic(auto)]
 
+mod blocks;
 mod clone;
 mod encodable;
 pub mod laws;
 mod leaf;
+mod least;
 mod masks;
 mod measure;
+mod packed;
 mod read;
 mod values;
 mod wire;
 mod write;
 
+pub use packed::{Pack, Packed};
 pub use ua_parts::{BoxedDiagnostic, DiagnosticInfo, Dimensions};
-pub use values::{BoxedVariant, DataValue, Scalar, Scalars, Variant};
+pub use values::{BoxedVariant, DataValue, Elements, Scalar, Scalars, Variant};

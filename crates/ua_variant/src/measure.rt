@@ -4,7 +4,7 @@ ghost use Rattle.std.specs.Prelude.{◌≡◌, ◌≤◌, min};
 ghost use Rattle.ua_variant.specs.Measure.{variant_depth, scalar_depth, scalars_depth, data_value_depth, variant_count, scalar_count, scalars_count, data_value_count, data_fields_count};
 ghost use Rattle.ua_variant.specs.View.{row, variant_of, scalar_of, data_value_of, data_fields_of};
 
-use crate::values::{DataValue, Scalar, Scalars, Variant};
+use crate::values::{DataValue, Elements, Scalar, Scalars, Variant};
 use ua_parts::field::count_of;
 
 impl Variant {
@@ -70,8 +70,12 @@ fn scalar_levels(value: &Scalar) -> u32
 fn row_levels(items: &Scalars) -> u32
     ensures { result ≡ min (scalars_depth (row items.now)) u32.MAX }
 {
+    let scalars = match items.elements() {
+        Elements::Packed(_) => return 0,
+        Elements::Mixed(scalars) => scalars,
+    };
     let mut deepest = 0;
-    for s in items.as_slice() {
+    for s in scalars {
         deepest = deepest.max(scalar_levels(s));
     }
     deepest
@@ -125,8 +129,12 @@ fn count_scalar(value: &Scalar) -> u64
 fn count_row(items: &Scalars) -> u64
     ensures { result ≡ min (scalars_count (row items.now)) u64.MAX }
 {
+    let scalars = match items.elements() {
+        Elements::Packed(packed) => return packed.len() as u64,
+        Elements::Mixed(scalars) => scalars,
+    };
     let mut all = 0u64;
-    for s in items.as_slice() {
+    for s in scalars {
         all = all.saturating_add(count_scalar(s));
     }
     all

@@ -10,12 +10,13 @@ ghost use Rattle.ua_variant.specs.Data.{leaf};
 ghost use Rattle.ua_variant.specs.Fields.{data_fields};
 ghost use Rattle.ua_variant.specs.Formats.{IsOverlongArray, IsOverlongRow};
 ghost use Rattle.ua_variant.specs.Leaf.{leaf_at};
-ghost use Rattle.ua_variant.specs.Least.{least_octets as least_of};
 ghost use Rattle.ua_variant.specs.Encodable.{is_read_kind as read_kind};
 ghost use Rattle.ua_variant.specs.Decoding.{variant_at, variant_step, variant_after, data_value_at, data_value_step, scalars_at, scalar_at, array_at, elements_at, row_at};
 ghost use Rattle.ua_variant.specs.View.{row, variant_of, scalar_of, data_value_of, value_within};
 
+use crate::blocks::{is_packed, read_packed};
 use crate::leaf::read_as;
+use crate::least::least_octets;
 use crate::masks;
 use crate::values::{BoxedVariant, DataValue, Scalar, Scalars, Variant};
 use std::alloc::Global;
@@ -122,24 +123,6 @@ fn is_read_kind(kind: u8) -> bool
     1 <= kind && kind <= 31
 }
 
-/// The least octets that a value of the type id takes.
-#[inline]
-#[tactic(auto, unfolding(crate::specs::Least::least_octets))]
-fn least_octets(kind: u8) -> usize
-    ensures octets { result ≡ least_of kind }
-    ensures some { 0 < result }
-{
-    match kind {
-        4 | 5 | 17 | 18 => 2,
-        6 | 7 | 10 | 12 | 15 | 16 | 19 | 26..=31 => 4,
-        8 | 9 | 11 | 13 => 8,
-        14 => 16,
-        20 => 6,
-        22 => 3,
-        _ => 1,
-    }
-}
-
 /// Reads a Variant, with so many levels left within.
 #[cycle(variants)]
 #[tactic(auto, unfolding(crate::specs::Decoding::variant_step, crate::specs::Decoding::variant_after))]
@@ -239,6 +222,9 @@ fn read_row<S: Source>(
     ensures exact { GivesBy (λ ss. row ss) (row_at count (scalars_at depth kind)) (S.octets src.old) (S.octets src.new) result }
     ensures behind { StaysBehind (S.octets src.old) (S.octets src.new) }
 {
+    if is_packed(kind) {
+        return Ok(Scalars::packed(read_packed(alloc, src, kind, count)?));
+    }
     let mut items = Vec::with_capacity(alloc, (count as usize).min(MOST_RESERVED))?;
     for _ in 0..count {
         let item = read_scalar(alloc, src, depth, kind)?;

@@ -1,8 +1,11 @@
 //! Values that hold values: Variant and DataValue.
 
-ghost use Rattle.std.specs.Prelude.{◌≡◌, map, IfOk};
-ghost use Rattle.ua_variant.specs.View.{variant_of, scalar_of};
+ghost use Rattle.std.specs.Prelude.{◌≡◌, length, map, IfOk, IfSome};
+ghost use Rattle.ua_variant.specs.Data.{leaf};
+ghost use Rattle.ua_variant.specs.Packed.{packed_leaves};
+ghost use Rattle.ua_variant.specs.View.{elements_of, scalar_of, variant_of};
 
+use crate::packed::{Pack, Packed};
 use std::alloc::{AllocError, Global};
 use std::marker::Model;
 use ua_builtin::{
@@ -104,15 +107,25 @@ impl Model for BoxedVariant {
     ghost size_decreases = { λ a h. variant_falls a.inner.value };
 }
 
+/// The elements of an array, as they are held.
+#[cycle(values)]
+#[derive(Drop)]
+pub enum Elements {
+    /// Elements of one type, in a vector of that type.
+    Packed(Packed),
+    /// Elements of any types.
+    Mixed(Vec<Scalar>),
+}
+
 /// The elements of an array.
 #[cycle(values)]
 #[derive(Drop)]
 pub struct Scalars {
-    items: Vec<Scalar>,
+    elements: Elements,
 }
 
 impl Model for Scalars {
-    ghost use Rattle.std.specs.Prelude.{◌+◌, ◌*◌, List, map};
+    ghost use Rattle.std.specs.Prelude.{◌+◌, ◌*◌, List};
     ghost use Rattle.std.specs.Coded.{codes};
     ghost use Rattle.ua_variant.specs.Data.{ScalarData};
     ghost use Rattle.ua_variant.specs.Codes.{coded_scalars, coded_diagnostic};
@@ -122,16 +135,16 @@ impl Model for Scalars {
 
     ghost coded = { coded_scalars (Prim.hlevel (codes, coded_diagnostic (Prim.hlevel codes))) };
 
-    ghost use Rattle.ua_variant.specs.View.{scalar_of, row};
+    ghost use Rattle.ua_variant.specs.View.{row, elements_of};
 
-    ghost view = { λ a. map scalar_of a.items.items };
+    ghost view = { λ a. elements_of a.elements };
 
     ghost size = { λ ss. 2 * scalars_count (row ss) + 1 };
 
-    ghost use Rattle.ua_variant.specs.Sizes.{scalars_fall};
+    ghost use Rattle.ua_variant.specs.Sizes.{elements_fall};
     ghost use Rattle.std.proofs.Common.{arith};
 
-    ghost size_decreases = { λ a h. omega (arith, scalars_fall a.items.items) };
+    ghost size_decreases = { λ a h. omega (arith, elements_fall a.elements) };
 }
 
 impl BoxedVariant {
@@ -163,27 +176,70 @@ impl BoxedVariant {
 }
 
 impl Scalars {
-    /// These elements.
+    /// These elements, each held as a scalar.
     #[inline]
     pub fn new(items: Vec<Scalar>) -> Scalars
         ensures { result ≡ map scalar_of items.items }
     {
-        Scalars { items }
+        Scalars {
+            elements: Elements::Mixed(items),
+        }
     }
 
-    /// The elements, in order.
+    /// These elements, of one type.
     #[inline]
-    pub fn as_slice(&self) -> &[Scalar]
-        ensures { map scalar_of result.now ≡ self.now }
+    pub fn packed(items: Packed) -> Scalars
+        ensures { result ≡ map leaf (packed_leaves items) }
     {
-        &self.items
+        Scalars {
+            elements: Elements::Packed(items),
+        }
     }
 
-    /// Hands the elements over.
+    /// How many elements there are.
     #[inline]
-    pub fn into_vec(self) -> Vec<Scalar>
-        ensures { map scalar_of result.items ≡ self }
+    pub fn len(&self) -> usize
+        ensures { result ≡ length self.now }
     {
-        self.items
+        match &self.elements {
+            Elements::Packed(packed) => packed.len(),
+            Elements::Mixed(scalars) => scalars.len(),
+        }
+    }
+
+    /// The elements, as they are held.
+    #[inline]
+    pub fn elements(&self) -> &Elements
+        ensures { elements_of result.now ≡ self.now }
+    {
+        &self.elements
+    }
+
+    /// Hands the elements over, as they are held.
+    #[inline]
+    pub fn into_elements(self) -> Elements
+        ensures { elements_of result ≡ self }
+    {
+        self.elements
+    }
+
+    /// These elements, in a vector of their type.
+    #[inline]
+    pub fn from_items<T: Pack>(items: Vec<T>) -> Scalars
+        ensures { result ≡ map leaf (map T.as_leaf items.items) }
+    {
+        Scalars::packed(T::pack(items))
+    }
+
+    /// The elements, where they are held in a vector of the type: `None` of elements that are held
+    /// as scalars, or in a vector of another type ([`Scalars::elements`] tells which).
+    #[inline]
+    pub fn as_items<T: Pack>(&self) -> Option<&[T]>
+        ensures { IfSome result (λ items. map leaf (map T.as_leaf items.now) ≡ self.now) }
+    {
+        match &self.elements {
+            Elements::Packed(packed) => packed.as_items::<T>(),
+            Elements::Mixed(_) => None,
+        }
     }
 }

@@ -13,7 +13,7 @@ ghost use Rattle.ua_variant.specs.View.{row, variant_of, scalar_of, data_value_o
 
 use crate::encodable::element_count;
 use crate::masks;
-use crate::values::{DataValue, Scalar, Scalars, Variant};
+use crate::values::{DataValue, Elements, Scalar, Scalars, Variant};
 use std::alloc::AllocError;
 use ua_builtin::Wire;
 use ua_builtin::flags::flag_of;
@@ -170,7 +170,11 @@ fn append_row(kind: u8, items: &Scalars, out: &mut Vec<u8>) -> Result<(), AllocE
     ensures ok { OnOk result (out.new.items ≡ out.old.items ++ row_canonical (row items.now)) }
     ensures err { OnErr result (Extends out.old.items out.new.items) }
 {
-    for s in items.as_slice() {
+    let scalars = match items.elements() {
+        Elements::Packed(packed) => return packed.append(kind, out),
+        Elements::Mixed(scalars) => scalars,
+    };
+    for s in scalars {
         append_scalar(s, out)?;
     }
     Ok(())

@@ -1,5 +1,6 @@
-use Rattle.ua_variant.proofs.Rows.{length_seen}
+use Rattle.std.proofs.Common.{◌∙◌}
+use Rattle.ua_variant.proofs.PackedRows.{length_row}
 use Rattle.ua_variant.proofs.encodable.element_count.Goals as goal
 
 pub returns : goal.returns
-returns c = length_seen c.as_slice.result.now c.args.items.now c.as_slice.ensures
+returns c = c.len.ensures ∙ length_row c.args.items.now

@@ -1,9 +1,14 @@
-use Rattle.std.proofs.Common.{◌-◌, map, arith}
-use Rattle.ua_variant.specs.View.{scalar_of, variant_of, data_value_of}
-use Rattle.ua_variant.specs.Decoding.{variant_at, variant_step, data_value_at, data_value_step, scalars_at}
+use Rattle.std.proofs.Common.{◌≡◌, ◌-◌, ◌+◌, List, Some, map, sym, ap, ◌∙◌, arith}
+use Rattle.std.proofs.lemmas.Result.{err_from_is_err_and}
+use Rattle.ua_variant.specs.Data.{ScalarData, leaf}
+use Rattle.ua_variant.specs.Packed.{packed_leaves}
+use Rattle.ua_variant.specs.declared.packed.Packed.{Packed}
+use Rattle.ua_variant.specs.View.{row, scalar_of, variant_of, data_value_of}
+use Rattle.ua_variant.specs.Decoding.{row_at, variant_at, variant_step, data_value_at, data_value_step, scalars_at}
 use Rattle.ua_variant.proofs.VariantsRead.{variant_none, variant_level, data_value_none, data_value_level}
 use Rattle.ua_parts.proofs.Extents.{gives_same}
-use Rattle.ua_variant.proofs.Loops.{row_so_far, row_done, array_short}
+use Rattle.ua_variant.proofs.Loops.{row_so_far, row_stops, row_done, array_short}
+use Rattle.ua_variant.proofs.BlocksRead.{leaves_at, row_packed, fault_ends}
 use Rattle.ua_variant.proofs.read.+variants.Goals as goal
 
 pub read_variant-returns-then-depth-eq0-clause-exact : goal.read_variant-returns-then-depth-eq0-clause-exact
@@ -19,6 +24,27 @@ read_data_value-returns-then-depth-eq0-clause-exact g t c = data_value_none c.ar
 pub read_data_value-returns-clause-exact : goal.read_data_value-returns-clause-exact
 read_data_value-returns-clause-exact g t c =
     gives_same data_value_of (data_value_at c.args.depth) (data_value_step (variant_at (c.args.depth - 1))) (g.S.Source.octets c.args.src.now) (g.S.Source.octets c.read_data_value_level.new.src) c.read_data_value_level.result (data_value_level c.args.depth (g.S.Source.octets c.args.src.now) (omega arith)) c.read_data_value_level.ensures.exact
+
+pub read_row-returns-in_err-read_packed-clause-exact : goal.read_row-returns-in_err-read_packed-clause-exact
+read_row-returns-in_err-read_packed-clause-exact g t c =
+    let fault = err_from_is_err_and c.from_residual.result c.from_residual.ensures.1 in
+    let packed = sym c.is_packed.ensures ∙ c.if-is_packed.true in
+    let new = g.S.Source.octets c.read_packed.new.src in
+    rw (fault.1, fault.2) (fault_ends (λ (p : Packed). row (map leaf (packed_leaves p))) (λ (ss : List ScalarData). row ss) (row_at c.args.count (leaves_at c.args.kind)) (row_at c.args.count (scalars_at c.args.depth c.args.kind)) (g.S.Source.octets c.args.src.now) new (g.S.Source.octets c.args.src.now) new c.in_err-read_packed.field-0.0
+    (λ none. row_packed c.args.depth c.args.kind c.args.count (g.S.Source.octets c.args.src.now) packed ∙ none) c.in_err-read_packed.ensures.exact)
+
+pub read_row-returns-then-is_packed-clause-exact : goal.read_row-returns-then-is_packed-clause-exact
+read_row-returns-then-is_packed-clause-exact g t c =
+    let new = g.S.Source.octets c.read_packed.new.src in
+    row_packed c.args.depth c.args.kind c.args.count (g.S.Source.octets c.args.src.now) (sym c.is_packed.ensures ∙ c.if-is_packed.true) ∙ c.in_ok-read_packed.ensures.exact ∙ ap (λ (ss : List ScalarData). Some (row ss, new)) (sym c.packed.ensures)
+
+pub read_row-returns-in_err-item-clause-exact : goal.read_row-returns-in_err-item-clause-exact
+read_row-returns-in_err-item-clause-exact g t c =
+    let fault = err_from_is_err_and c.from_residual-in_err-item.result c.from_residual-in_err-item.ensures.1 in
+    let p = scalars_at c.args.depth c.args.kind in
+    let new = g.S.Source.octets c.read_scalar.new.src in
+    rw (fault.1, fault.2) (fault_ends scalar_of (λ (ss : List ScalarData). row ss) p (row_at c.args.count p) (g.S.Source.octets c.loop.src) new (g.S.Source.octets c.args.src.now) new c.in_err-item.field-0.0
+    (λ none. sym c.loop.invariant.so_far ∙ row_stops p (map scalar_of c.loop.items.items) (c.args.count - c.loop.counter) (c.args.count - (c.loop.counter + 1)) (g.S.Source.octets c.loop.src) (omega arith) none) c.in_err-item.ensures.exact)
 
 pub read_row-loop-preserved : goal.read_row-loop-preserved
 read_row-loop-preserved g t c = record {

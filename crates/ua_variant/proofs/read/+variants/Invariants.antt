@@ -2,7 +2,7 @@ use Rattle.std.proofs.Common.{◌≡◌, ◌+◌, ◌*◌, ◌-◌, map}
 use Rattle.ua_octets.specs.Format.{StaysBehind}
 use Rattle.ua_variant.specs.View.{scalar_of}
 use Rattle.ua_variant.specs.Decoding.{row_at, scalars_at}
-use Rattle.ua_variant.proofs.Loops.{with_front}
+use Rattle.ua_variant.specs.Blocks.{with_front}
 use Rattle.ua_variant.proofs.read.+variants.Given as goal
 
 abbrev pub decreases-read_variant : goal.decreases-read_variant

@@ -1,5 +1,5 @@
-use Rattle.std.proofs.Common.{◌++◌, ap, ◌∙◌, arith}
-use Rattle.ua_variant.specs.View.{scalar_of}
+use Rattle.std.proofs.Common.{◌++◌, ap, ◌∙◌, arith, map, sym}
+use Rattle.ua_variant.specs.View.{scalar_of, elements_of}
 use Rattle.ua_variant.specs.Canonical.{scalar_canonical}
 use Rattle.ua_variant.proofs.Rows.{count_below}
 use Rattle.ua_variant.proofs.Fits.{fits_within}
@@ -11,14 +11,14 @@ use Rattle.ua_variant.proofs.write.+appends.Goals as goal
 
 pub append_row-append_scalar-requires : goal.append_row-append_scalar-requires
 append_row-append_scalar-requires t c = (
-  omega (arith, count_below c.as_slice-s-items.result.now c.loop-s.s-index c.s-item.result c.args.items.now c.as_slice-s-items.ensures (omega arith) c.s-item.is),
-  fits_within c.args.kind c.as_slice-s-items.result.now c.loop-s.s-index c.s-item.result c.args.items.now c.as_slice-s-items.ensures (omega arith) c.s-item.is c.requires,
+  omega (arith, count_below c.deref-s-items.result.now c.loop-s.s-index c.s-item.result c.args.items.now (ap (map scalar_of) c.deref-s-items.ensures.value ∙ ap elements_of (sym c.in-Mixed.is) ∙ c.elements.ensures) (omega arith) c.s-item.is),
+  fits_within c.args.kind c.deref-s-items.result.now c.loop-s.s-index c.s-item.result c.args.items.now (ap (map scalar_of) c.deref-s-items.ensures.value ∙ ap elements_of (sym c.in-Mixed.is) ∙ c.elements.ensures) (omega arith) c.s-item.is c.requires,
 )
 
 pub append_row-loop-s-preserved : goal.append_row-loop-s-preserved
 append_row-loop-s-preserved t c =
     c.in_ok-append_scalar.ensures.ok ∙ ap (λ xs. xs ++ scalar_canonical (scalar_of c.s-item.result)) c.loop-s.invariant
-    ∙ row_after c.args.out.now.items c.as_slice-s-items.result.now c.loop-s.s-index c.s-item.result (omega arith) c.s-item.is
+    ∙ row_after c.args.out.now.items c.deref-s-items.result.now c.loop-s.s-index c.s-item.result (omega arith) c.s-item.is
 
 pub append_data_value-append_variant-requires : goal.append_data_value-append_variant-requires
 append_data_value-append_variant-requires t c = (

@@ -1,0 +1,27 @@
+-- Rows of an array that are read part by part.
+use Rattle.std.specs.Prelude.{◌≡◌, ℕ, List, [], ◌∷◌, Option, Some, None, Result, Ok, Err}
+use Rattle.ua_octets.specs.declared.fault.ReadFault.{ReadFault}
+use Rattle.ua_octets.specs.declared.fault.ReadFault.TheVariants.{NoValue, OutOfMemory}
+use Rattle.ua_builtin.specs.Exact.{◌>>=◌}
+use Rattle.ua_parts.specs.Parts.{Reader}
+use Rattle.ua_variant.specs.Data.{ScalarData, ScalarsData, scalar}
+use Rattle.ua_variant.specs.Decoding.{row_at}
+
+-- these before the rest of a row
+abbrev pub before : List ScalarData → ScalarsData → ScalarsData
+before [] r = r
+before (s ∷ ss) r = scalar s (before ss r)
+
+-- what was read of a row, with these scalars in front of it
+abbrev pub with_front : List ScalarData → Option (ScalarsData × List ℕ) → Option (ScalarsData × List ℕ)
+with_front ss r = r >>= λ x. Some (before ss x.0, x.1)
+
+-- n more values, behind these
+abbrev pub row_behind : List ScalarData → ℕ → Reader ScalarData → Reader ScalarsData
+row_behind ss n p octets = with_front ss (row_at n p octets)
+
+-- where a step was made, what is left to read gives the whole; where it met no value, the whole is none
+abbrev pub GoesOn : {X A : Type 0} → Option A → Option A → Result X ReadFault → Type 0
+GoesOn whole left (Ok _) = whole ≡ left
+GoesOn whole left (Err NoValue) = whole ≡ None
+GoesOn whole left (Err OutOfMemory) = Unit {0}
