@@ -3,7 +3,7 @@ use Rattle.std.proofs.Common.{◌≡◌, ◌≢◌, ℕ, zero, suc, ◌+◌, ◌
 use Rattle.std.specs.Char.{digit_value}
 use Rattle.std.specs.List.{join_with_byte}
 use Rattle.std.proofs.lemmas.Bool.{leb-true, leb-false}
-use Rattle.std.proofs.lemmas.List.{take_min, drop_min, take_all, length-drop, take-map, drop-map}
+use Rattle.std.proofs.lemmas.List.{take_min, drop_min, length-drop}
 use Rattle.std.proofs.lemmas.List.Splits.{join_with_byte-slice_split}
 use Rattle.ua_builtin.specs.Exact.{◌>>=◌}
 use Rattle.ua_nodes.specs.declared.range.IndexRange.{IndexRange}
@@ -114,12 +114,10 @@ pub part_many : (r : IndexRange) (kind : ℕ) (items : Option (List ScalarData))
 part_many r kind None ds = refl
 part_many r kind (Some ss) ds = ap (λ (t : List ScalarData). many kind (row (ranged r t)) []) (row_back ss)
 
--- the part of a list that is cut out of what stands behind its start
-pub cut_is : {X Y : Type 0} (f : X → Y) (r : IndexRange) (items : List X) (k n m : ℕ) → k ≡ min r.first (length items) → n ≡ r.last + 1 - r.first → m ≡ min n (length (take (length items - k) (drop k items)))
-    → map f (take m (take (length items - k) (drop k items))) ≡ ranged r (map f items)
-cut_is f r items k n m at long most =
-    let behind = take (length items - k) (drop k items) in
-    let whole : behind ≡ drop k items = take_all (length items - k) (drop k items) (omega (arith, length-drop k items)) in
-    ap (map f) (ap (λ (t : ℕ). take t behind) most ∙ take_min n behind ∙ ap (take n) (whole ∙ ap (λ (t : ℕ). drop t items) at ∙ drop_min r.first items))
-    ∙ sym (take-map f n (drop r.first items)) ∙ ap (take n) (sym (drop-map f r.first items))
-    ∙ ap (λ (t : ℕ). take t (drop r.first (map f items))) long ∙ sym (ranged_is r (map f items))
+-- the part of a list that is cut out of it
+pub cut_is : {X : Type 0} (r : IndexRange) (items : List X) (k n m : ℕ) → k ≡ min r.first (length items) → n ≡ r.last + 1 - r.first → m ≡ min n (length items - k)
+    → take (k + m - k) (drop k items) ≡ ranged r items
+cut_is r items k n m at long most =
+    let many : k + m - k ≡ min n (length (drop k items)) = omega (arith, most, length-drop k items) in
+    ap (λ (t : ℕ). take t (drop k items)) many ∙ take_min n (drop k items) ∙ ap (λ (t : ℕ). take n (drop t items)) at ∙ ap (take n) (drop_min r.first items)
+    ∙ ap (λ (t : ℕ). take t (drop r.first items)) long ∙ sym (ranged_is r items)

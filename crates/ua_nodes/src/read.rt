@@ -85,7 +85,7 @@ impl Variable {
             return Err(StatusCode::BAD_NOT_READABLE);
         }
         if let Some(range) = range {
-            if range.first as usize >= self.value.elements().len() {
+            if range.first as usize >= self.value.element_count() {
                 return Err(StatusCode::BAD_INDEX_RANGE_NO_DATA);
             }
         }

@@ -1,12 +1,12 @@
-use Rattle.std.proofs.Common.{◌≡◌, ◌-◌, length, map, take, drop, ap, ◌∙◌}
-use Rattle.std.proofs.lemmas.List.{take_all}
-use Rattle.ua_variant.specs.View.{scalar_of}
+use Rattle.std.proofs.Common.{◌≡◌, ◌-◌, IfOk, min, sym, subst, ap, ◌∙◌}
+use Rattle.ua_nodes.specs.Range.{list_in, ranged}
 use Rattle.ua_nodes.proofs.Ranges.{cut_is}
 use Rattle.ua_nodes.proofs.part.clone_part.Goals as goal
 
-pub returns : goal.returns
-returns c =
-    let items = c.args.items.now in
-    let wanted = take c.min-2.result (take (length items - c.min.result) (drop c.min.result items)) in
-    c.new.ensures ∙ c.loop-item.invariant ∙ ap (map scalar_of) (take_all c.loop-item.item-index wanted c.loop-item-test.false)
-    ∙ cut_is scalar_of c.args.range items c.min.result c.len.result c.min-2.result c.min.ensures c.len.ensures c.min-2.ensures
+pub returns-in-Some : goal.returns-in-Some
+returns-in-Some c =
+    let k = c.min-from.result in
+    let n = c.len-in-Some.result in
+    let at = c.min-from.ensures ∙ ap (min c.args.range.first) c.len.ensures in
+    let most = c.min.ensures ∙ ap (λ l. min n (l - k)) c.len-in-Some-2.ensures in
+    subst (λ r. IfOk c.part.result (λ p. p ≡ r)) (cut_is c.args.range c.in-Some.items k n c.min.result at c.len-in-Some.ensures most ∙ ap (λ i. ranged c.args.range (list_in i)) (sym c.in-Some.is)) c.part.ensures
