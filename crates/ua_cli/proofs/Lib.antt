@@ -1,5 +1,1 @@
-mod Codes
-mod FirstReadings
-mod Firsts
-mod LastLines
-mod Shows
+mod Prints

@@ -3,11 +3,12 @@
 use clap::{Arg, ArgAction, ArgMatches, Command, Error};
 use std::alloc::{AllocError, Global};
 use std::convert::AsStr;
+use ua_pair::Side;
 
 /// What the words ask for.
 #[derive(Clone, Copy, Debug, PartialEq, Eq)]
 pub enum Request<'a> {
-    /// Print the frames of a file.
+    /// Print the frames and messages of a file.
     Dissect(Dissect<'a>),
     /// The words name no command.
     Nothing,
@@ -19,8 +20,8 @@ pub struct Dissect<'a> {
     pub file: &'a str,
     /// Whether the file holds hexadecimal digits.
     pub hex: bool,
-    /// Whether the octets are those that a server sent.
-    pub server: bool,
+    /// The side that sent the octets.
+    pub side: Side,
 }
 
 fn dissect_command<'a>(alloc: Global) -> Result<Command<'a>, AllocError> {
@@ -37,7 +38,7 @@ fn dissect_command<'a>(alloc: Global) -> Result<Command<'a>, AllocError> {
         .action(ArgAction::SetTrue)
         .help("the octets are those that a server sent");
     Command::new(alloc, "dissect")
-        .about("prints the frames of a file of octets")
+        .about("prints the frames and messages of a file of octets")
         .arg(file)?
         .arg(hex)?
         .arg(server)
@@ -50,12 +51,20 @@ fn command<'a>(alloc: Global) -> Result<Command<'a>, AllocError> {
         .subcommand(dissect_command(alloc)?)
 }
 
+fn side_of(matches: &ArgMatches<'_>) -> Side {
+    if matches.get_flag("server") {
+        Side::Server
+    } else {
+        Side::Client
+    }
+}
+
 fn dissect_of<'a>(matches: &ArgMatches<'a>) -> Request<'a> {
     match matches.get_str("FILE") {
         Some(file) => Request::Dissect(Dissect {
             file,
             hex: matches.get_flag("hex"),
-            server: matches.get_flag("server"),
+            side: side_of(matches),
         }),
         None => Request::Nothing,
     }

@@ -6,12 +6,9 @@ mod arguments;
 mod dissect;
 mod fault;
 mod input;
-pub mod laws;
-mod line;
 mod run;
 #[cfg(test)]
 mod tests;
-mod text;
 
 use std::process::ExitCode;
 use std::{env, io};

@@ -4,7 +4,7 @@ ghost use Rattle.std.specs.Prelude.{◌≡◌, ◌≤◌, ◌≢◌, ◌⊎◌, 
 ghost use Rattle.std.specs.Io.KnownBytes.{Appends};
 ghost use Rattle.std.specs.IoError.{error_kind};
 ghost use Rattle.std.specs.declared.io.ErrorKind.TheVariants.{OutOfMemory};
-ghost use Rattle.ua_cli.specs.Printed.{AreLines, HasPrinted};
+ghost use Rattle.ua_cli.specs.Printed.{AreSomeLines, HasPrinted};
 
 use crate::arguments::{self, Dissect, Request};
 use crate::dissect::dissect_content;
@@ -56,7 +56,7 @@ pub fn run<S: AsStr, R: Files + AllocGlobal, O: Write, E: Write>(
 
 /// What `ua dissect` prints.
 fn dissect<'a, R: Files + AllocGlobal>(rt: &R, asked: &Dissect<'a>) -> Result<String, Fault<'a>>
-    ensures { IfOk result (λ text. AreLines (string_bytes text)) }
+    ensures { IfOk result (λ text. AreSomeLines (string_bytes text)) }
 {
     let content = read_file(rt, asked.file)?;
     dissect_content(rt.alloc(), asked, content.as_slice())

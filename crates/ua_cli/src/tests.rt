@@ -103,7 +103,7 @@ fn expect_dissected<R: Files + AllocGlobal + Abort>(
 }
 
 #[test]
-fn prints_the_first_frame(rt: HostRuntime) -> Result<(), Fail> {
+fn prints_frames_on_both_sides(rt: HostRuntime) -> Result<(), Fail> {
     let rows: [(&[u8], &str); 10] = [
         (b"", "end 0\n"),
         (b"HEL", "rest 3\n"),
@@ -140,6 +140,25 @@ fn prints_a_hello_and_what_follows(rt: HostRuntime) -> Result<(), Fail> {
     want.push_str("rest 3\n")?;
     expect_dissected(&rt, stream.as_slice(), want.as_str())?;
     expect_dissected(&rt, &HELLO[..55], "rest 55\n")
+}
+
+/// A MSG frame whose message is a CloseSession request.
+const CLOSE_SESSION: &[u8] =
+    b"MSGF\x3C\0\0\0\x01\0\0\0\x01\0\0\0\x06\0\0\0\x06\0\0\0\x01\0\xD9\x01\x01\x02\x01\0\0\x80\x3E\xD5\xDE\xB1\x9D\x01\x06\0\0\0\0\0\0\0\xFF\xFF\xFF\xFF\0\0\0\0\0\0\0\0";
+
+#[test]
+fn names_messages_by_the_side_that_is_asked_for(rt: HostRuntime) -> Result<(), Fail> {
+    fs::write(&rt, "message.bin", CLOSE_SESSION)?;
+    let frame = "0 MSG F 60 channel 1 token 1 sequence 6 request 6\nmessage 6 octets 36 ";
+    let rows: [(&[&str], &str); 2] = [
+        (&["ua", "dissect", "message.bin"], "CloseSessionRequest"),
+        (&["ua", "dissect", "--server", "message.bin"], "unsupported"),
+    ];
+    for (words, name) in rows {
+        let want = format!(in rt.alloc(); "{frame}{name}\nend 60\n")?;
+        expect_run(&rt, words, want.as_str(), "", 0)?;
+    }
+    Ok(())
 }
 
 #[test]

@@ -1,7 +1,0 @@
-use Rattle.std.proofs.Common.{append_assoc}
-use Rattle.ua_cli.specs.Lines.{numbers_text}
-use Rattle.ua_cli.proofs.line.push_numbers.Goals as goal
-
-pub returns : goal.returns
-unfolding numbers_text
-returns c = simp append_assoc c.write.ensures.bytes

@@ -1,0 +1,10 @@
+mod Befores
+mod Codes
+mod CutBacks
+mod Nexts
+mod Readings
+mod Refusals
+mod RestLines
+mod Shows
+mod Stages
+mod Standings

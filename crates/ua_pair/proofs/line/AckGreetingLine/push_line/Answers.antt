@@ -1,0 +1,7 @@
+use Rattle.std.proofs.Common.{append_assoc}
+use Rattle.ua_pair.specs.Lines.{ack_line}
+use Rattle.ua_pair.proofs.line.AckGreetingLine.push_line.Goals as goal
+
+pub returns : goal.returns
+unfolding ack_line
+returns c = simp append_assoc (simp (c.in_ok-push_numbers.ensures, c.in_ok-write.ensures.bytes, append_assoc) at c.push_newline.ensures)

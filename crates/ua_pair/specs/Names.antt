@@ -1,0 +1,90 @@
+-- The names of messages, by the side that sent them: a client sends requests, a server responses.
+use Rattle.std.specs.Prelude.{ℕ, List, [], Option, Some, None, Result, Ok, Err, codes}
+use Rattle.ua_structures.specs.SecureChannel.{open_request}
+use Rattle.ua_structures.specs.declared.secure_channel.OpenRequest.{OpenRequest}
+use Rattle.ua_services.specs.Message.{message, body_of}
+use Rattle.ua_services.specs.Open.{answer_read}
+use Rattle.ua_services.specs.Request.{request_read, kind_of as request_kind_of}
+use Rattle.ua_services.specs.Response.{response_read, kind_of as response_kind_of}
+use Rattle.ua_services.specs.declared.open.OpenAnswer.{OpenAnswer}
+use Rattle.ua_services.specs.declared.open.OpenAnswer.TheVariants.{Open, Fault}
+use Rattle.ua_services.specs.declared.request.Request.{Request}
+use Rattle.ua_services.specs.declared.request.RequestKind.{RequestKind}
+use Rattle.ua_services.specs.declared.request.RequestKind.TheVariants as request
+use Rattle.ua_services.specs.declared.response.Response.{Response}
+use Rattle.ua_services.specs.declared.response.ResponseKind.{ResponseKind}
+use Rattle.ua_services.specs.declared.response.ResponseKind.TheVariants as response
+use Rattle.ua_services.specs.declared.fault.RequestFault.{RequestFault}
+use Rattle.ua_services.specs.declared.fault.RequestFault.TheVariants as request_fault
+use Rattle.ua_services.specs.declared.fault.ResponseFault.{ResponseFault}
+use Rattle.ua_services.specs.declared.fault.ResponseFault.TheVariants as response_fault
+use Rattle.ua_pair.specs.declared.side.Side.{Side}
+use Rattle.ua_pair.specs.declared.side.Side.TheVariants.{Client, Server}
+
+-- ---- requests
+
+-- the name of a kind of request
+abbrev pub request_kind_name : RequestKind → List ℕ
+request_kind_name request.GetEndpoints = codes "GetEndpointsRequest"
+request_kind_name request.CreateSession = codes "CreateSessionRequest"
+request_kind_name request.ActivateSession = codes "ActivateSessionRequest"
+request_kind_name request.CloseSession = codes "CloseSessionRequest"
+request_kind_name request.Read = codes "ReadRequest"
+request_kind_name request.Write = codes "WriteRequest"
+
+-- the name of what was read as a request: its kind, or why there is none
+abbrev pub request_name_of : Result Request RequestFault → List ℕ
+request_name_of (Ok m) = request_kind_name (request_kind_of m)
+request_name_of (Err (request_fault.Unsupported handle)) = codes "unsupported"
+request_name_of (Err (request_fault.Unreadable handle)) = codes "unreadable"
+request_name_of (Err request_fault.OutOfMemory) = []
+
+-- the name of a message that a client sent
+abbrev pub request_name : List ℕ → List ℕ
+request_name octets = request_name_of (request_read octets)
+
+-- ---- responses
+
+-- the name of a kind of response
+abbrev pub response_kind_name : ResponseKind → List ℕ
+response_kind_name response.GetEndpoints = codes "GetEndpointsResponse"
+response_kind_name response.CreateSession = codes "CreateSessionResponse"
+response_kind_name response.ActivateSession = codes "ActivateSessionResponse"
+response_kind_name response.CloseSession = codes "CloseSessionResponse"
+response_kind_name response.Read = codes "ReadResponse"
+response_kind_name response.Write = codes "WriteResponse"
+response_kind_name response.ServiceFault = codes "ServiceFault"
+
+-- the name of what was read as a response: its kind, or why there is none
+abbrev pub response_name_of : Result Response ResponseFault → List ℕ
+response_name_of (Ok m) = response_kind_name (response_kind_of m)
+response_name_of (Err response_fault.Unknown) = codes "unsupported"
+response_name_of (Err response_fault.Unreadable) = codes "unreadable"
+response_name_of (Err response_fault.OutOfMemory) = []
+
+-- the name of a message that a server sent
+abbrev pub response_name : List ℕ → List ℕ
+response_name octets = response_name_of (response_read octets)
+
+-- the name of a message of these octets
+abbrev pub message_name : Side → List ℕ → List ℕ
+message_name Client octets = request_name octets
+message_name Server octets = response_name octets
+
+-- ---- the bodies of OPN frames
+
+-- the name of what was read as a request for a channel
+abbrev pub open_request_name : Option OpenRequest → List ℕ
+open_request_name None = codes "unreadable"
+open_request_name (Some m) = codes "OpenSecureChannelRequest"
+
+-- the name of what was read as the answer to one
+abbrev pub open_answer_name : Option OpenAnswer → List ℕ
+open_answer_name None = codes "unreadable"
+open_answer_name (Some (Open m)) = codes "OpenSecureChannelResponse"
+open_answer_name (Some (Fault m)) = codes "ServiceFault"
+
+-- the name of the body of an OPN
+abbrev pub opening_name : Side → List ℕ → List ℕ
+opening_name Client octets = open_request_name (body_of (message 446 open_request) octets)
+opening_name Server octets = open_answer_name (answer_read octets)

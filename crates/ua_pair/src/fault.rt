@@ -1,0 +1,63 @@
+//! Why a frame has no lines.
+
+ghost use Rattle.std.specs.Prelude.{◌≡◌};
+ghost use Rattle.ua_pair.specs.Dissecting.{chunk_fault, opening_fault};
+
+use crate::side::Side;
+use std::alloc::AllocError;
+use thiserror::Error;
+use ua_builtin::StatusCode;
+use ua_chunk::{AssembleFault, OpenFault};
+
+/// Why a frame has no lines.
+#[derive(Clone, Copy, PartialEq, Eq, Debug, Error)]
+pub enum DissectFault {
+    /// The frame is refused with this code.
+    #[error("refused")]
+    Refused(StatusCode),
+    /// Memory was refused.
+    #[error("out of memory")]
+    OutOfMemory,
+}
+
+impl DissectFault {
+    /// What a fault of the assembler comes to on this side.
+    pub fn of_chunk(side: Side, fault: AssembleFault) -> DissectFault
+        ensures { result ≡ chunk_fault side fault }
+    {
+        let code = match fault {
+            AssembleFault::Sequence => StatusCode::BAD_SEQUENCE_NUMBER_INVALID,
+            AssembleFault::Unreadable => StatusCode::BAD_DECODING_ERROR,
+            AssembleFault::TooManyOpen => StatusCode::BAD_TCP_NOT_ENOUGH_RESOURCES,
+            AssembleFault::MessageTooLarge | AssembleFault::TooManyChunks => match side {
+                Side::Client => StatusCode::BAD_REQUEST_TOO_LARGE,
+                Side::Server => StatusCode::BAD_RESPONSE_TOO_LARGE,
+            },
+            AssembleFault::OutOfMemory | AssembleFault::Closed => {
+                return DissectFault::OutOfMemory;
+            }
+        };
+        DissectFault::Refused(code)
+    }
+
+    /// What a fault in the headers of an OPN comes to.
+    pub fn of_opening(fault: OpenFault) -> DissectFault
+        ensures { result ≡ opening_fault fault }
+    {
+        match fault {
+            OpenFault::Unreadable => DissectFault::Refused(StatusCode::BAD_DECODING_ERROR),
+            OpenFault::Policy => DissectFault::Refused(StatusCode::BAD_SECURITY_POLICY_REJECTED),
+            OpenFault::OutOfMemory => DissectFault::OutOfMemory,
+        }
+    }
+}
+
+impl From<AllocError> for DissectFault {
+    ghost use Rattle.ua_pair.specs.declared.fault.DissectFault.TheVariants.{OutOfMemory};
+
+    ghost from_gives = { λ _ fault. fault ≡ OutOfMemory };
+
+    fn from(_: AllocError) -> DissectFault {
+        DissectFault::OutOfMemory
+    }
+}

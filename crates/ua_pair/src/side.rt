@@ -1,0 +1,8 @@
+//! The sides of a connection.
+
+/// The side of a connection that sent some octets.
+#[derive(Clone, Copy, PartialEq, Eq, Debug)]
+pub enum Side {
+    Client,
+    Server,
+}
