@@ -1,0 +1,111 @@
+//! The pieces of work.
+
+use crate::fault::Fault;
+use std::alloc::Global;
+use ua_builtin::{MOST_LEVELS, Octets, Source, Wire};
+use ua_services::{ReadRequest, ReadResponse};
+use ua_variant::Variant;
+
+/// A piece of work on the octets of one value.
+#[derive(Clone, Copy, PartialEq, Eq, Debug)]
+pub enum Work {
+    /// Reads a Variant, and lets it go.
+    Read,
+    /// Writes a Variant.
+    Write,
+    /// Clones a Variant, and lets the clone go.
+    Clone,
+    /// The levels and the count of a Variant, and whether it can be written.
+    Measure,
+    ReadResponse,
+    WriteResponse,
+    ReadRequest,
+    WriteRequest,
+}
+
+impl Work {
+    /// The work of this name.
+    pub fn named(word: &str) -> Option<Work> {
+        match word {
+            "read" => Some(Work::Read),
+            "write" => Some(Work::Write),
+            "clone" => Some(Work::Clone),
+            "measure" => Some(Work::Measure),
+            "read-response" => Some(Work::ReadResponse),
+            "write-response" => Some(Work::WriteResponse),
+            "read-request" => Some(Work::ReadRequest),
+            "write-request" => Some(Work::WriteRequest),
+            _ => None,
+        }
+    }
+
+    /// Does the work so many times; how many octets, or values, it went over.
+    pub fn repeat(self, alloc: Global, octets: &[u8], times: u32) -> Result<u64, Fault> {
+        match self {
+            Work::Read => read_values::<Variant>(alloc, octets, times),
+            Work::Write => write_values::<Variant>(alloc, octets, times),
+            Work::Clone => clone_values(alloc, octets, times),
+            Work::Measure => measure_values(alloc, octets, times),
+            Work::ReadResponse => read_values::<ReadResponse>(alloc, octets, times),
+            Work::WriteResponse => write_values::<ReadResponse>(alloc, octets, times),
+            Work::ReadRequest => read_values::<ReadRequest>(alloc, octets, times),
+            Work::WriteRequest => write_values::<ReadRequest>(alloc, octets, times),
+        }
+    }
+}
+
+/// The value that the octets begin with.
+fn value_in<T: Wire>(alloc: Global, octets: &[u8]) -> Result<T, Fault> {
+    let value = T::read(alloc, &mut Octets::new(octets), MOST_LEVELS)?;
+    Ok(value)
+}
+
+/// Reads a value so many times.
+fn read_values<T: Wire + Drop>(alloc: Global, octets: &[u8], times: u32) -> Result<u64, Fault> {
+    let mut sum = 0u64;
+    for _ in 0..times {
+        let mut src = Octets::new(octets);
+        let value = T::read(alloc, &mut src, MOST_LEVELS)?;
+        drop(value);
+        sum = sum.wrapping_add((octets.len() - src.left()) as u64);
+    }
+    Ok(sum)
+}
+
+/// Writes a value so many times.
+fn write_values<T: Wire + Drop>(alloc: Global, octets: &[u8], times: u32) -> Result<u64, Fault> {
+    let value = value_in::<T>(alloc, octets)?;
+    let mut out = Vec::with_capacity(alloc, octets.len())?;
+    let mut sum = 0u64;
+    for _ in 0..times {
+        out.clear();
+        value.write(&mut out)?;
+        sum = sum.wrapping_add(out.len() as u64);
+    }
+    Ok(sum)
+}
+
+/// Clones a Variant so many times.
+fn clone_values(alloc: Global, octets: &[u8], times: u32) -> Result<u64, Fault> {
+    let value = value_in::<Variant>(alloc, octets)?;
+    let mut sum = 0u64;
+    for _ in 0..times {
+        let copy = value.try_clone(alloc)?;
+        drop(copy);
+        sum = sum.wrapping_add(octets.len() as u64);
+    }
+    Ok(sum)
+}
+
+/// Measures a Variant so many times.
+fn measure_values(alloc: Global, octets: &[u8], times: u32) -> Result<u64, Fault> {
+    let value = value_in::<Variant>(alloc, octets)?;
+    let mut sum = 0u64;
+    for _ in 0..times {
+        if value.writable() {
+            sum = sum.wrapping_add(value.count());
+        }
+        sum = sum.wrapping_add(value.depth() as u64);
+    }
+    Ok(sum)
+}
