@@ -1,0 +1,84 @@
+-- What was received, with one frame more.
+use Rattle.std.proofs.Common.{◌≡◌, ℕ, List, [], ◌∷◌, ◌++◌, Bool, true, false, Option, Some, None, refl, sym, ◌∙◌, ap, append-nil}
+use Rattle.std.proofs.lemmas.List.{flat_map_more}
+use Rattle.ua_frame.specs.declared.ack.Ack.{Ack}
+use Rattle.ua_frame.specs.declared.frame.Frame.{Frame}
+use Rattle.ua_frame.specs.declared.hello.Hello.{Hello}
+use Rattle.ua_chunk.specs.declared.chunk.Chunk.{Chunk}
+use Rattle.ua_channel.specs.Content.{Opening, Content, content}
+use Rattle.ua_channel.specs.Content.Content.{Greets, Acks, Fails, Opens, Sends, Closes, Nothing}
+use Rattle.ua_channel.specs.Received.{latest_behind, latest, has_some, listed, number_listed, hellos_in, acks_in, openings_in, chunks_in, closings_in, numbers_in, tokens_in, hellos, acks, openings, messages, closings, numbers, used_tokens, Received, received_of, received, nothing_received, or_before, number_or, after}
+
+-- ---- the last of a list with one element more
+
+behind_push : {A : Type 0} (a : Option A) (xs : List A) (y : A) → latest_behind a (xs ++ y ∷ []) ≡ Some y
+behind_push a [] y = refl
+behind_push a (x ∷ xs) y = behind_push (Some x) xs y
+
+latest_listed : {A : Type 0} (xs : List A) (o : Option A) → latest (xs ++ listed o) ≡ or_before (latest xs) o
+latest_listed xs None = ap latest (append-nil xs)
+latest_listed xs (Some y) = behind_push None xs y
+
+latest_number : (xs : List ℕ) (o : Option (ℕ × ℕ)) → latest (xs ++ number_listed o) ≡ number_or (latest xs) o
+latest_number xs None = ap latest (append-nil xs)
+latest_number xs (Some n) = behind_push None xs n.0
+
+some_push : {A : Type 0} (xs : List A) (y : A) → has_some (xs ++ y ∷ []) ≡ true
+some_push [] y = refl
+some_push (x ∷ xs) y = refl
+
+-- ---- each list with one frame more
+
+hellos-push : (fs : List Frame) (f : Frame) → hellos (fs ++ f ∷ []) ≡ hellos fs ++ hellos_in (content f)
+unfolding hellos
+hellos-push fs f = sym (flat_map_more (λ (g : Frame). hellos_in (content g)) [] fs f)
+
+acks-push : (fs : List Frame) (f : Frame) → acks (fs ++ f ∷ []) ≡ acks fs ++ acks_in (content f)
+unfolding acks
+acks-push fs f = sym (flat_map_more (λ (g : Frame). acks_in (content g)) [] fs f)
+
+openings-push : (fs : List Frame) (f : Frame) → openings (fs ++ f ∷ []) ≡ openings fs ++ openings_in (content f)
+unfolding openings
+openings-push fs f = sym (flat_map_more (λ (g : Frame). openings_in (content g)) [] fs f)
+
+messages-push : (fs : List Frame) (f : Frame) → messages (fs ++ f ∷ []) ≡ messages fs ++ chunks_in (content f)
+unfolding messages
+messages-push fs f = sym (flat_map_more (λ (g : Frame). chunks_in (content g)) [] fs f)
+
+closings-push : (fs : List Frame) (f : Frame) → closings (fs ++ f ∷ []) ≡ closings fs ++ closings_in (content f)
+unfolding closings
+closings-push fs f = sym (flat_map_more (λ (g : Frame). closings_in (content g)) [] fs f)
+
+numbers-push : (fs : List Frame) (f : Frame) → numbers (fs ++ f ∷ []) ≡ numbers fs ++ numbers_in (content f)
+unfolding numbers
+numbers-push fs f = sym (flat_map_more (λ (g : Frame). numbers_in (content g)) [] fs f)
+
+tokens-push : (fs : List Frame) (f : Frame) → used_tokens (fs ++ f ∷ []) ≡ used_tokens fs ++ tokens_in (content f)
+unfolding used_tokens
+tokens-push fs f = sym (flat_map_more (λ (g : Frame). tokens_in (content g)) [] fs f)
+
+-- ---- what they come to
+
+module _ (hs : List Hello) (as : List Ack) (os : List Opening) (ts ns : List ℕ) (cs ds : List Chunk) where
+  before : Received
+  before = received_of hs as os ts ns cs ds
+
+  by_content : (c : Content) → received_of (hs ++ hellos_in c) (as ++ acks_in c) (os ++ openings_in c) (ts ++ tokens_in c) (ns ++ numbers_in c) (cs ++ chunks_in c) (ds ++ closings_in c) ≡ after before c
+  by_content (Greets hello) = rw (append-nil as, append-nil os, append-nil ts, append-nil ns, append-nil cs, append-nil ds, latest_listed hs hello) refl
+  by_content (Acks ack) = rw (append-nil hs, append-nil os, append-nil ts, append-nil ns, append-nil cs, append-nil ds, latest_listed as ack) refl
+  by_content (Fails error) = rw (append-nil hs, append-nil as, append-nil os, append-nil ts, append-nil ns, append-nil cs, append-nil ds) refl
+  by_content (Opens o) = rw (append-nil hs, append-nil as, append-nil ts, append-nil cs, append-nil ds, latest_number ns o.numbers) refl
+  by_content (Sends c) = rw (append-nil hs, append-nil as, append-nil os, append-nil ds, behind_push None ts c.token, behind_push None ns c.sequence) refl
+  by_content (Closes c) = rw (append-nil hs, append-nil as, append-nil os, append-nil cs, behind_push None ts c.token, behind_push None ns c.sequence, some_push ds c) refl
+  by_content Nothing = rw (append-nil hs, append-nil as, append-nil os, append-nil ts, append-nil ns, append-nil cs, append-nil ds) refl
+
+-- what was received with one frame more is what that frame makes of what was received before
+pub received-push : (fs : List Frame) (f : Frame) → received (fs ++ f ∷ []) ≡ after (received fs) (content f)
+unfolding received
+received-push fs f =
+    rw (hellos-push fs f, acks-push fs f, openings-push fs f, tokens-push fs f, numbers-push fs f, messages-push fs f, closings-push fs f)
+    (by_content (hellos fs) (acks fs) (openings fs) (used_tokens fs) (numbers fs) (messages fs) (closings fs) (content f))
+
+pub received-nil : received [] ≡ nothing_received
+unfolding received hellos acks openings used_tokens numbers messages closings
+received-nil = refl
