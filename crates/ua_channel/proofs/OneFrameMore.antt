@@ -1,5 +1,5 @@
 -- What was received, with one frame more.
-use Rattle.std.proofs.Common.{◌≡◌, ℕ, List, [], ◌∷◌, ◌++◌, Bool, true, false, Option, Some, None, refl, sym, ◌∙◌, ap, append-nil}
+use Rattle.std.proofs.Common.{◌≡◌, ℕ, List, [], ◌∷◌, ◌++◌, true, Option, Some, None, refl, sym, append-nil}
 use Rattle.std.proofs.lemmas.List.{flat_map_more}
 use Rattle.ua_frame.specs.declared.ack.Ack.{Ack}
 use Rattle.ua_frame.specs.declared.frame.Frame.{Frame}
@@ -59,18 +59,15 @@ tokens-push fs f = sym (flat_map_more (λ (g : Frame). tokens_in (content g)) []
 
 -- ---- what they come to
 
-module _ (hs : List Hello) (as : List Ack) (os : List Opening) (ts ns : List ℕ) (cs ds : List Chunk) where
-  before : Received
-  before = received_of hs as os ts ns cs ds
-
-  by_content : (c : Content) → received_of (hs ++ hellos_in c) (as ++ acks_in c) (os ++ openings_in c) (ts ++ tokens_in c) (ns ++ numbers_in c) (cs ++ chunks_in c) (ds ++ closings_in c) ≡ after before c
-  by_content (Greets hello) = rw (append-nil as, append-nil os, append-nil ts, append-nil ns, append-nil cs, append-nil ds, latest_listed hs hello) refl
-  by_content (Acks ack) = rw (append-nil hs, append-nil os, append-nil ts, append-nil ns, append-nil cs, append-nil ds, latest_listed as ack) refl
-  by_content (Fails error) = rw (append-nil hs, append-nil as, append-nil os, append-nil ts, append-nil ns, append-nil cs, append-nil ds) refl
-  by_content (Opens o) = rw (append-nil hs, append-nil as, append-nil ts, append-nil cs, append-nil ds, latest_number ns o.numbers) refl
-  by_content (Sends c) = rw (append-nil hs, append-nil as, append-nil os, append-nil ds, behind_push None ts c.token, behind_push None ns c.sequence) refl
-  by_content (Closes c) = rw (append-nil hs, append-nil as, append-nil os, append-nil cs, behind_push None ts c.token, behind_push None ns c.sequence, some_push ds c) refl
-  by_content Nothing = rw (append-nil hs, append-nil as, append-nil os, append-nil ts, append-nil ns, append-nil cs, append-nil ds) refl
+module _ (hs : List Hello) (ks : List Ack) (os : List Opening) (ts ns : List ℕ) (cs ds : List Chunk) where
+  by_content : (c : Content) → received_of (hs ++ hellos_in c) (ks ++ acks_in c) (os ++ openings_in c) (ts ++ tokens_in c) (ns ++ numbers_in c) (cs ++ chunks_in c) (ds ++ closings_in c) ≡ after (received_of hs ks os ts ns cs ds) c
+  by_content (Greets hello) = rw (append-nil ks, append-nil os, append-nil ts, append-nil ns, append-nil cs, append-nil ds, latest_listed hs hello) refl
+  by_content (Acks ack) = rw (append-nil hs, append-nil os, append-nil ts, append-nil ns, append-nil cs, append-nil ds, latest_listed ks ack) refl
+  by_content (Fails error) = rw (append-nil hs, append-nil ks, append-nil os, append-nil ts, append-nil ns, append-nil cs, append-nil ds) refl
+  by_content (Opens o) = rw (append-nil hs, append-nil ks, append-nil ts, append-nil cs, append-nil ds, latest_number ns o.numbers) refl
+  by_content (Sends c) = rw (append-nil hs, append-nil ks, append-nil os, append-nil ds, behind_push None ts c.token, behind_push None ns c.sequence) refl
+  by_content (Closes c) = rw (append-nil hs, append-nil ks, append-nil os, append-nil cs, behind_push None ts c.token, behind_push None ns c.sequence, some_push ds c) refl
+  by_content Nothing = rw (append-nil hs, append-nil ks, append-nil os, append-nil ts, append-nil ns, append-nil cs, append-nil ds) refl
 
 -- what was received with one frame more is what that frame makes of what was received before
 pub received-push : (fs : List Frame) (f : Frame) → received (fs ++ f ∷ []) ≡ after (received fs) (content f)

@@ -121,9 +121,9 @@ pub record Received : Type 0 where
 
 -- what these lists come to
 abbrev pub received_of : List Hello → List Ack → List Opening → List ℕ → List ℕ → List Chunk → List Chunk → Received
-received_of hs as os ts ns cs ds = record {
+received_of hs ks os ts ns cs ds = record {
   hello = latest hs;
-  ack = latest as;
+  ack = latest ks;
   openings = os;
   used = latest ts;
   last = latest ns;
