@@ -1,0 +1,155 @@
+-- What the parts of a server make of one frame.
+use Rattle.std.specs.Prelude.{◌≡◌, ℕ, ◌<◌, ◌≤◌, ◌+◌, ◌==◌, pos, nat_lt, nat_le, Bool, false, ◌&&◌, not, IsTrue, List, [], ◌∷◌, Option, Some, None, Result, Ok, Err}
+use Rattle.std.proofs.Common.{int_eq}
+use Rattle.ua_builtin.specs.Reasons.{first_reason}
+use Rattle.ua_frame.specs.declared.frame.Frame.{Frame}
+use Rattle.ua_frame.specs.declared.hello.Hello.{Hello}
+use Rattle.ua_frame.specs.declared.limits.Limits.{Limits}
+use Rattle.ua_frame.specs.Frames.{frame_size}
+use Rattle.ua_frame.specs.Hello.{hello_in}
+use Rattle.ua_frame.specs.Kinds.{has_flag, least_size}
+use Rattle.ua_services.specs.Message.{message, body_of}
+use Rattle.ua_structures.specs.SecureChannel.{open_request}
+use Rattle.ua_structures.specs.declared.secure_channel.OpenRequest.{OpenRequest}
+use Rattle.ua_chunk.specs.Assembling.{last_number, octet_limit, chunk_limit}
+use Rattle.ua_chunk.specs.Assembling as assembling
+use Rattle.ua_chunk.specs.declared.chunk.Chunk.{Chunk}
+use Rattle.ua_chunk.specs.Sequence.{may_follow}
+use Rattle.ua_channel.specs.declared.running.Running.{Running}
+use Rattle.ua_channel.specs.declared.server_event.Event.{Event}
+use Rattle.ua_channel.specs.declared.server_fault.StepFault.{StepFault}
+use Rattle.ua_channel.specs.declared.server_fault.StepFault.TheVariants.{Refused, Closed, OutOfMemory}
+use Rattle.ua_channel.specs.declared.server_opening.Asked.{Asked}
+use Rattle.ua_channel.specs.declared.server_opening.Opened.{Opened}
+use Rattle.ua_channel.specs.Agreement.{Agreement, agreement_of}
+use Rattle.ua_channel.specs.Content.{Content, opening_of}
+use Rattle.ua_channel.specs.Content.Content.{Greets, Opens}
+use Rattle.ua_channel.specs.Received.{Received, nothing_received, after}
+use Rattle.ua_channel.specs.ServerEvents.{told_list}
+use Rattle.ua_channel.specs.ServerRefusals.{last_used, type_wanted, server_reasons}
+use Rattle.ua_channel.specs.ServerTold.{issued, lifetime_for, server_tells}
+use Rattle.ua_channel.specs.ServerTold.{Told as told}
+
+-- a frame whose flag and size are those of its kind, as each one has that a reader hands out
+pub record HasShape (f : Frame) : Type 0 where
+  pub flag : IsTrue (has_flag f.kind f.flag)
+  pub least : least_size f.kind ≤ frame_size f
+
+-- ---- HEL
+
+-- the body is a Hello that is agreed to so, whatever came before
+pub record AgreesTo (limits : Limits) (body : List ℕ) (a : Agreement) : Type 0 where
+  pub hello : Hello
+  pub reads : hello_in body ≡ Some hello
+  pub agreement_is : a ≡ agreement_of limits hello
+  pub accepted : (channel : ℕ) (before : Received) → first_reason (server_reasons limits channel before (Greets (hello_in body))) ≡ None
+
+-- what is made of the body of a HEL
+abbrev pub JudgesHello : Limits → List ℕ → Result Agreement StepFault → Type 0
+JudgesHello limits body (Ok a) = AgreesTo limits body a
+JudgesHello limits body (Err (Refused code)) = (channel : ℕ) (before : Received) → first_reason (server_reasons limits channel before (Greets (hello_in body))) ≡ Some code.code
+JudgesHello limits body (Err OutOfMemory) = Unit {0}
+JudgesHello limits body (Err Closed) = ⊥
+
+-- ---- OPN
+
+-- a request asks for this
+pub record AsksFor (r : OpenRequest) (a : Asked) : Type 0 where
+  pub kind : a.kind ≡ r.request_type
+  pub mode : a.mode ≡ r.security_mode
+  pub handle : a.handle ≡ r.request_header.request_handle
+  pub lifetime : a.lifetime ≡ lifetime_for r.requested_lifetime
+
+-- octets are the body of a request that asks for this
+pub record IsAskedIn (octets : List ℕ) (a : Asked) : Type 0 where
+  pub request : OpenRequest
+  pub reads : body_of (message 446 open_request) octets ≡ Some request
+  pub asks : AsksFor request a
+
+-- what is read of the octets behind a sequence header
+abbrev pub ReadsAsked : List ℕ → Result Asked StepFault → Type 0
+ReadsAsked octets (Ok a) = IsAskedIn octets a
+ReadsAsked octets (Err (Refused code)) = (code.code ≡ 0x8007_0000) × (body_of (message 446 open_request) octets ≡ None)
+ReadsAsked octets (Err OutOfMemory) = Unit {0}
+ReadsAsked octets (Err Closed) = ⊥
+
+-- why a request is refused whose OPN names this channel, where so many tokens were issued: Bad_RequestTypeInvalid,
+-- Bad_SecurityModeRejected, Bad_TcpSecureChannelUnknown
+abbrev pub asked_reasons : Asked → ℕ → ℕ → ℕ → List (ℕ × Bool)
+asked_reasons a on channel count =
+    (0x8053_0000, not (int_eq a.kind (pos (type_wanted count))))
+    ∷ (0x8054_0000, not (int_eq a.mode (pos 1)))
+    ∷ (0x807F_0000, nat_lt 0 count && not (on == channel))
+    ∷ []
+
+-- an OPN has this opened, but for what remains to be judged: its number, and whether a token is left
+pub record OpensSo (channel count : ℕ) (body : List ℕ) (o : Opened) : Type 0 where
+  pub numbers_are : (opening_of body).numbers ≡ Some (o.sequence, o.request)
+  pub tells : (limits : Limits) (before : Received) → issued before ≡ count → server_tells limits before (Opens (opening_of body)) ≡ told.Opened o.request o.handle (count + 1) o.lifetime ∷ []
+  pub remain : (limits : Limits) (before : Received) → issued before ≡ count → first_reason (server_reasons limits channel before (Opens (opening_of body)))
+      ≡ first_reason ((0x8088_0000, not (may_follow before.last o.sequence)) ∷ (0x8081_0000, issued before == 4294967295) ∷ [])
+
+-- what is made of the body of an OPN where so many tokens were issued
+abbrev pub JudgesOpening : ℕ → ℕ → List ℕ → Result Opened StepFault → Type 0
+JudgesOpening channel count body (Ok o) = OpensSo channel count body o
+JudgesOpening channel count body (Err (Refused code)) = (limits : Limits) (before : Received) → issued before ≡ count → first_reason (server_reasons limits channel before (Opens (opening_of body))) ≡ Some code.code
+JudgesOpening channel count body (Err OutOfMemory) = Unit {0}
+JudgesOpening channel count body (Err Closed) = ⊥
+
+-- ---- an open channel
+
+-- an open channel of a server with these limits stands where this was received
+pub record Stays (limits : Limits) (r : Running) (before : Received) : Type 0 where
+  pub hello : Hello
+  pub hello_is : before.hello ≡ Some hello
+  pub agreement_is : r.agreement ≡ agreement_of limits hello
+  pub issued_is : issued before ≡ r.issued
+  pub some : 0 < r.issued
+  pub used_is : last_used before ≡ r.used
+  pub last_is : before.last ≡ last_number r.assembler
+  pub assembles : assembling.Stands r.assembler before.messages
+  pub octets : octet_limit r.assembler ≡ limits.max_message_size
+  pub chunks : chunk_limit r.assembler ≡ limits.max_chunk_count
+  pub goes_on : before.closed ≡ false
+
+-- a frame that carries this is taken after what was received, and tells this
+pub record Takes (limits : Limits) (channel : ℕ) (before : Received) (c : Content) (e : Option Event) : Type 0 where
+  pub accepted : first_reason (server_reasons limits channel before c) ≡ None
+  pub tells : server_tells limits before c ≡ told_list e
+
+-- a frame that carries this is refused with this code after what was received
+abbrev pub IsRefused : Limits → ℕ → Received → Content → ℕ → Type 0
+IsRefused limits channel before c code = first_reason (server_reasons limits channel before c) ≡ Some code
+
+-- what an open channel makes of a frame that carries this, and where it then stands
+abbrev pub Judges : Limits → ℕ → Received → Content → Result (Option Event) StepFault → Running → Type 0
+Judges limits channel before c (Ok e) r = Takes limits channel before c e × Stays limits r (after before c)
+Judges limits channel before c (Err (Refused code)) r = IsRefused limits channel before c code.code
+Judges limits channel before c (Err OutOfMemory) r = Unit {0}
+Judges limits channel before c (Err Closed) r = ⊥
+
+-- what an open channel makes of a close
+abbrev pub JudgesClose : Limits → ℕ → Received → Content → Result (Unit {0}) StepFault → Type 0
+JudgesClose limits channel before c (Ok done) = first_reason (server_reasons limits channel before c) ≡ None
+JudgesClose limits channel before c (Err (Refused code)) = IsRefused limits channel before c code.code
+JudgesClose limits channel before c (Err OutOfMemory) = ⊥
+JudgesClose limits channel before c (Err Closed) = ⊥
+
+-- why the ids of a chunk are refused: Bad_TcpSecureChannelUnknown, Bad_SecureChannelTokenUnknown
+abbrev pub ids_reasons : Chunk → ℕ → ℕ → ℕ → List (ℕ × Bool)
+ids_reasons c channel used count = (0x807F_0000, not (c.channel == channel)) ∷ (0x8087_0000, not (nat_le used c.token && nat_le c.token count)) ∷ []
+
+-- ---- before the channel is open
+
+-- a server with these limits agreed to this where this was received, and has no OPN yet
+pub record HasGreeted (limits : Limits) (a : Agreement) (before : Received) : Type 0 where
+  pub hello : Hello
+  pub before_is : before ≡ record nothing_received { hello = Some hello }
+  pub agreement_is : a ≡ agreement_of limits hello
+
+-- what is made of the first OPN
+abbrev pub JudgesFirst : Limits → ℕ → Received → Content → Result (Running × Event) StepFault → Type 0
+JudgesFirst limits channel before c (Ok (r, e)) = Takes limits channel before c (Some e) × Stays limits r (after before c)
+JudgesFirst limits channel before c (Err (Refused code)) = IsRefused limits channel before c code.code
+JudgesFirst limits channel before c (Err OutOfMemory) = Unit {0}
+JudgesFirst limits channel before c (Err Closed) = ⊥

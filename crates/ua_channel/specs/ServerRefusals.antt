@@ -1,0 +1,160 @@
+-- Which frames a server refuses: the table of refusals, behind those of the header (OPC 10000-6, 6.7 and 7.1).
+use Rattle.std.specs.Prelude.{ℕ, ◌==◌, nat_lt, nat_le, pos, length, Bool, false, ◌&&◌, not, is_none, if◌then◌else◌, List, [], ◌∷◌, ◌++◌, Option, Some, None}
+use Rattle.std.proofs.Common.{int_eq}
+use Rattle.ua_frame.specs.declared.limits.Limits.{Limits}
+use Rattle.ua_frame.specs.Agreement.{is_url_long, is_buffer_small}
+use Rattle.ua_frame.specs.Hello.{is_so}
+use Rattle.ua_structures.specs.declared.secure_channel.OpenRequest.{OpenRequest}
+use Rattle.ua_chunk.specs.Abort.{is_readable_abort}
+use Rattle.ua_chunk.specs.Flag.{is_abort_flag}
+use Rattle.ua_chunk.specs.Gathered.{gathered, joined}
+use Rattle.ua_chunk.specs.Open.{open_ids}
+use Rattle.ua_chunk.specs.Opening.{SecurityHeader, channel_of, policy_of, is_none_policy}
+use Rattle.ua_chunk.specs.Refusal.{most_open, passes}
+use Rattle.ua_chunk.specs.Sequence.{may_follow}
+use Rattle.ua_channel.specs.Content.{Content}
+use Rattle.ua_channel.specs.Content.Content.{Greets, Opens, Sends, Closes}
+use Rattle.ua_channel.specs.Received.{Received}
+use Rattle.ua_channel.specs.ServerTold.{request_of, issued}
+
+-- ---- a test of what a frame carries, false where it carries no such thing
+
+-- the security header is so
+abbrev pub of_header : (SecurityHeader → Bool) → Option SecurityHeader → Bool
+of_header test None = false
+of_header test (Some h) = test h
+
+-- the sequence number is so
+abbrev pub of_number : (ℕ → Bool) → Option (ℕ × ℕ) → Bool
+of_number test None = false
+of_number test (Some n) = test n.0
+
+-- the request is so
+abbrev pub of_request : (OpenRequest → Bool) → Option OpenRequest → Bool
+of_request test None = false
+of_request test (Some r) = test r
+
+-- ---- tokens
+
+-- the first token
+abbrev pub or_first : Option ℕ → ℕ
+or_first None = 1
+or_first (Some token) = token
+
+-- the last token that was used; the first one where none was
+abbrev pub last_used : Received → ℕ
+last_used before = or_first before.used
+
+-- a token that is taken: one from the last used to the newest issued (OPC 10000-6, 6.7.1: the old token is taken until the new one is used)
+abbrev pub is_taken : Received → ℕ → Bool
+is_taken before token = nat_le (last_used before) token && nat_le token (issued before)
+
+-- the type of request that an OPN must have: 0, Issue, the first one; 1, Renew, each later one (OPC 10000-4, 5.6.2)
+abbrev pub type_wanted : ℕ → ℕ
+type_wanted count = if count == 0 then 0 else 1
+
+-- ---- the reasons, in the order of the table
+
+-- the body of a HEL, or the security header of an OPN, does not read
+abbrev pub is_unreadable : Content → Bool
+is_unreadable (Greets hello) = is_none hello
+is_unreadable (Opens o) = is_none o.security
+is_unreadable other = false
+
+-- a HEL whose URL has 4096 octets or more
+abbrev pub has_long_url : Content → Bool
+has_long_url (Greets hello) = is_so is_url_long hello
+has_long_url other = false
+
+-- a HEL with a buffer size below 8192
+abbrev pub has_small_buffer : Content → Bool
+has_small_buffer (Greets hello) = is_so is_buffer_small hello
+has_small_buffer other = false
+
+-- an OPN under another policy than None
+abbrev pub has_other_policy : Content → Bool
+has_other_policy (Opens o) = of_header (λ h. not (is_none_policy (policy_of h))) o.security
+has_other_policy other = false
+
+-- an OPN whose sequence header or body does not read
+abbrev pub is_opening_unreadable : Content → Bool
+is_opening_unreadable (Opens o) = is_none (request_of o)
+is_opening_unreadable other = false
+
+-- the first OPN does not issue a token, or a later one does not renew it
+abbrev pub has_other_type : Received → Content → Bool
+has_other_type before (Opens o) = of_request (λ r. not (int_eq r.request_type (pos (type_wanted (issued before))))) (request_of o)
+has_other_type before other = false
+
+-- an OPN with another security mode than None, the number 1
+abbrev pub has_other_mode : Content → Bool
+has_other_mode (Opens o) = of_request (λ r. not (int_eq r.security_mode (pos 1))) (request_of o)
+has_other_mode other = false
+
+-- a MSG, a CLO or a later OPN on another channel
+abbrev pub is_on_other_channel : ℕ → Received → Content → Bool
+is_on_other_channel channel before (Opens o) = nat_lt 0 (issued before) && of_header (λ h. not (channel_of h == channel)) o.security
+is_on_other_channel channel before (Sends c) = not (c.channel == channel)
+is_on_other_channel channel before (Closes c) = not (c.channel == channel)
+is_on_other_channel channel before other = false
+
+-- a MSG or a CLO under a token that is not taken
+abbrev pub has_other_token : Received → Content → Bool
+has_other_token before (Sends c) = not (is_taken before c.token)
+has_other_token before (Closes c) = not (is_taken before c.token)
+has_other_token before other = false
+
+-- the sequence number does not follow the last one
+abbrev pub breaks_order : Received → Content → Bool
+breaks_order before (Opens o) = of_number (λ n. not (may_follow before.last n)) o.numbers
+breaks_order before (Sends c) = not (may_follow before.last c.sequence)
+breaks_order before (Closes c) = not (may_follow before.last c.sequence)
+breaks_order before other = false
+
+-- the body of an abort does not read
+abbrev pub aborts_unreadably : Content → Bool
+aborts_unreadably (Sends c) = is_abort_flag c.flag && not (is_readable_abort c.body)
+aborts_unreadably other = false
+
+-- more than 4 messages would be unfinished
+abbrev pub opens_too_many : Received → Content → Bool
+opens_too_many before (Sends c) = nat_lt most_open (length (open_ids (before.messages ++ c ∷ [])))
+opens_too_many before other = false
+
+-- the message has more octets than the server takes
+abbrev pub has_too_many_octets : Limits → Received → Content → Bool
+has_too_many_octets limits before (Sends c) = not (is_abort_flag c.flag) && passes limits.max_message_size (length (joined (gathered before.messages c)))
+has_too_many_octets limits before other = false
+
+-- the message has more chunks than the server takes
+abbrev pub has_too_many_chunks : Limits → Received → Content → Bool
+has_too_many_chunks limits before (Sends c) = not (is_abort_flag c.flag) && passes limits.max_chunk_count (length (gathered before.messages c))
+has_too_many_chunks limits before other = false
+
+-- the greatest token was issued, so that none is left
+abbrev pub has_no_token_left : Received → Content → Bool
+has_no_token_left before (Opens o) = issued before == 4294967295
+has_no_token_left before other = false
+
+-- why a server with these limits, on this channel, refuses a frame that carries this after what was received, in the order in which it
+-- is judged: Bad_DecodingError, Bad_TcpEndpointUrlInvalid, Bad_TcpNotEnoughResources, Bad_SecurityPolicyRejected, Bad_DecodingError,
+-- Bad_RequestTypeInvalid, Bad_SecurityModeRejected, Bad_TcpSecureChannelUnknown, Bad_SecureChannelTokenUnknown,
+-- Bad_SequenceNumberInvalid, Bad_DecodingError, Bad_TcpNotEnoughResources, Bad_RequestTooLarge twice, Bad_TcpNotEnoughResources
+abbrev pub server_reasons : Limits → ℕ → Received → Content → List (ℕ × Bool)
+server_reasons limits channel before c =
+    (0x8007_0000, is_unreadable c)
+    ∷ (0x8083_0000, has_long_url c)
+    ∷ (0x8081_0000, has_small_buffer c)
+    ∷ (0x8055_0000, has_other_policy c)
+    ∷ (0x8007_0000, is_opening_unreadable c)
+    ∷ (0x8053_0000, has_other_type before c)
+    ∷ (0x8054_0000, has_other_mode c)
+    ∷ (0x807F_0000, is_on_other_channel channel before c)
+    ∷ (0x8087_0000, has_other_token before c)
+    ∷ (0x8088_0000, breaks_order before c)
+    ∷ (0x8007_0000, aborts_unreadably c)
+    ∷ (0x8081_0000, opens_too_many before c)
+    ∷ (0x80B8_0000, has_too_many_octets limits before c)
+    ∷ (0x80B8_0000, has_too_many_chunks limits before c)
+    ∷ (0x8081_0000, has_no_token_left before c)
+    ∷ []

@@ -1,0 +1,164 @@
+-- Where a server's channel stands after octets.
+use Rattle.std.specs.Prelude.{◌≡◌, ℕ, ◌+◌, ◌*◌, length, Bool, true, false, List, [], ◌∷◌, ◌++◌, Option, Some, None, Result, Ok, Err}
+use Rattle.ua_builtin.specs.Reasons.{first_reason}
+use Rattle.ua_frame.specs.declared.frame.Frame.{Frame}
+use Rattle.ua_frame.specs.declared.gate.Gate.{Gate}
+use Rattle.ua_frame.specs.declared.hello.Hello.{Hello}
+use Rattle.ua_frame.specs.declared.limits.Limits.{Limits}
+use Rattle.ua_frame.specs.Frames.{frame_octets}
+use Rattle.ua_frame.specs.Hello.{hello_gate}
+use Rattle.ua_frame.specs.Kinds.{closed_gate}
+use Rattle.ua_frame.specs.Reader.{open_reader}
+use Rattle.ua_frame.specs.Run.{Rules, Run, events, End, Going, Stopped, Over}
+use Rattle.ua_chunk.specs.declared.lane.Lane.{Lane}
+use Rattle.ua_chunk.specs.Open.{open_octets}
+use Rattle.ua_channel.specs.declared.running.Running.{Running}
+use Rattle.ua_channel.specs.declared.server.Phase.{Phase}
+use Rattle.ua_channel.specs.declared.server.Phase.TheVariants.{Waiting, Greeted, Open, Done}
+use Rattle.ua_channel.specs.declared.server.ServerChannel.{ServerChannel}
+use Rattle.ua_channel.specs.declared.server_event.Event.{Event}
+use Rattle.ua_channel.specs.declared.server_fault.StepFault.{StepFault}
+use Rattle.ua_channel.specs.declared.server_fault.StepFault.TheVariants.{Refused, Closed, OutOfMemory}
+use Rattle.ua_channel.specs.Agreement.{lane_of}
+use Rattle.ua_channel.specs.Content.{Content}
+use Rattle.ua_channel.specs.Received.{Received, nothing_received, after, received}
+use Rattle.ua_channel.specs.ServerParts.{HasGreeted, Stays, Takes, IsRefused}
+use Rattle.ua_channel.specs.ServerRules.{receive_size, opening_gate, running_gate, server_gate, server_rules}
+use Rattle.ua_channel.specs.ServerTold.{Told}
+
+-- ---- what is held
+
+-- the most octets that are held of a client that said this Hello, if it did: of a frame that is not whole 8192 before the ACK, then
+-- the agreed size, and 4 unfinished messages of the greatest size
+abbrev pub bound_behind : Limits → Option Hello → ℕ
+bound_behind limits None = 8192
+bound_behind limits (Some h) = receive_size limits (Some h) + 4 * limits.max_message_size
+
+-- the most octets that a server with these limits holds, after what was received
+abbrev pub bound_after : Limits → Received → ℕ
+bound_after limits before = bound_behind limits before.hello
+
+-- how many octets are held: those of a frame that is not whole, and those of unfinished messages
+abbrev pub held_after : Received → List ℕ → ℕ
+held_after before rest = length rest + open_octets before.messages
+
+-- ---- phases
+
+-- a phase is that of a server with these limits where this was received
+abbrev pub InPhase : Limits → Phase → Received → Type 0
+InPhase limits Waiting before = before ≡ nothing_received
+InPhase limits (Greeted a) before = HasGreeted limits a before
+InPhase limits (Open r) before = Stays limits r before
+InPhase limits Done before = ⊥
+
+-- the gate of a phase
+abbrev pub phase_gate : Phase → Gate
+phase_gate Waiting = hello_gate
+phase_gate (Greeted a) = opening_gate a.ack.receive_buffer_size
+phase_gate (Open r) = running_gate r.agreement.ack.receive_buffer_size
+phase_gate Done = closed_gate 0
+
+-- no channel is open
+abbrev pub IsNotOpen : Phase → Type 0
+IsNotOpen Waiting = Unit {0}
+IsNotOpen (Greeted a) = Unit {0}
+IsNotOpen (Open r) = ⊥
+IsNotOpen Done = Unit {0}
+
+-- where replies go in this phase, if the channel is open
+abbrev pub LaneIs : ℕ → Phase → Lane → Type 0
+LaneIs channel Waiting lane = ⊥
+LaneIs channel (Greeted a) lane = ⊥
+LaneIs channel (Open r) lane = lane ≡ lane_of channel r.used r.agreement
+LaneIs channel Done lane = ⊥
+
+-- ---- the channel
+
+-- the limits of a server's channel
+abbrev pub limits_of : ServerChannel → Limits
+limits_of x = x.limits
+
+-- the id of a server's channel
+abbrev pub channel_of : ServerChannel → ℕ
+channel_of x = x.channel
+
+-- the number of the next chunk that a server sends
+abbrev pub next_of : ServerChannel → ℕ
+next_of x = x.numbers.next
+
+-- the most octets that a server's channel holds
+abbrev pub bound_of : ServerChannel → ℕ
+bound_of x = x.bound
+
+-- the rules of a channel
+abbrev pub rules_of : ServerChannel → Rules Told ℕ
+rules_of x = server_rules (limits_of x) (channel_of x)
+
+-- a channel is where this leaves it that was received
+pub record Holds (x : ServerChannel) (before : Received) : Type 0 where
+  pub phase_is : InPhase (limits_of x) x.phase before
+  pub bound_is : x.bound ≡ bound_after (limits_of x) before
+
+-- a channel is where these octets leave it: these are their frames, and this is the rest, of a frame that is not whole
+pub record Stands (x : ServerChannel) (octets : List ℕ) (frames : List Frame) (rest : List ℕ) : Type 0 where
+  pub run : Run (rules_of x) octets frames rest Going
+  pub reader_is : x.reader ≡ open_reader (server_gate (limits_of x) (received frames)) rest
+  pub holds : Holds x (received frames)
+
+-- a channel that ended, and holds nothing
+pub record IsDone (x : ServerChannel) : Type 0 where
+  pub phase : x.phase ≡ Done
+  pub empty : x.reader.held ≡ []
+
+-- it goes on after these octets, whose frames told this
+pub record Goes (x : ServerChannel) (octets : List ℕ) (told : List Told) : Type 0 where
+  pub frames : List Frame
+  pub rest : List ℕ
+  pub stands : Stands x octets frames rest
+  pub told_is : events (rules_of x) frames ≡ told
+
+-- it goes on after these octets, of which the last octet is that of a frame that tells this, after what the frames before it told
+pub record GoesTelling (x : ServerChannel) (octets : List ℕ) (told : List Told) (e : Told) : Type 0 where
+  pub frames : List Frame
+  pub frame : Frame
+  pub stands : Stands x octets (frames ++ frame ∷ []) []
+  pub told_is : events (rules_of x) frames ≡ told
+  pub tells : (rules_of x).tells frames frame ≡ e ∷ []
+
+-- it ended so after these octets, whose good frames told this
+pub record Ended (x : ServerChannel) (octets : List ℕ) (told : List Told) (end : End ℕ) : Type 0 where
+  pub done : IsDone x
+  pub frames : List Frame
+  pub rest : List ℕ
+  pub run : Run (rules_of x) octets frames rest end
+  pub told_is : events (rules_of x) frames ≡ told
+  pub bound_is : x.bound ≡ bound_after (limits_of x) (received frames)
+
+-- octets are a whole frame, or the eight octets of a header
+pub data IsJustWrong : List ℕ → Type 0 where
+  AtHeader : {rest : List ℕ} → length rest ≡ 8 → IsJustWrong rest
+  AtFrame : {rest : List ℕ} → (f : Frame) → rest ≡ frame_octets f → IsJustWrong rest
+
+-- it refused with this code what stands behind the good frames of these octets: a frame at its last octet, or a header at its eighth
+pub record RefusedAt (x : ServerChannel) (octets : List ℕ) (told : List Told) (code : ℕ) : Type 0 where
+  pub done : IsDone x
+  pub frames : List Frame
+  pub rest : List ℕ
+  pub run : Run (rules_of x) octets frames rest (Stopped code)
+  pub just : IsJustWrong rest
+  pub told_is : events (rules_of x) frames ≡ told
+  pub bound_is : x.bound ≡ bound_after (limits_of x) (received frames)
+
+-- ---- what a frame makes of it
+
+-- where a channel stands behind a frame, by whether that was the last
+abbrev pub GoesOn : Bool → ServerChannel → Received → Type 0
+GoesOn false x before = Holds x before
+GoesOn true x before = (x.phase ≡ Done) × (x.bound ≡ bound_after (limits_of x) before)
+
+-- what is made of a frame that carries this, and where the channel then stands
+abbrev pub JudgesFrame : ServerChannel → Received → Content → Result (Option Event) StepFault → ServerChannel → Type 0
+JudgesFrame old before c (Ok e) new = Takes (limits_of old) (channel_of old) before c e × GoesOn (after before c).closed new (after before c)
+JudgesFrame old before c (Err (Refused code)) new = IsRefused (limits_of old) (channel_of old) before c code.code × (new.phase ≡ Done) × (new.bound ≡ old.bound)
+JudgesFrame old before c (Err OutOfMemory) new = new.phase ≡ Done
+JudgesFrame old before c (Err Closed) new = ⊥

@@ -1,0 +1,89 @@
+//! What a server and a client agree to.
+
+ghost use Rattle.std.specs.Prelude.{◌≡◌, ◌<◌, ◌+◌, ◌^◌};
+ghost use Rattle.ua_channel.specs.ServerParts.{JudgesHello};
+
+use crate::server_fault::StepFault;
+use std::alloc::Global;
+use std::marker::Model;
+use ua_builtin::{StatusCode, Wire};
+use ua_chunk::Lane;
+use ua_frame::{Ack, Hello, Limits, agree};
+
+/// The octets of a chunk's headers.
+const HEADERS: u32 = 24;
+
+/// What a server and a client agreed to: the ACK, and the client's limits of a message.
+#[derive(Clone, Copy)]
+pub struct Agreement {
+    ack: Ack,
+    octets: u32,
+    chunks: u32,
+}
+
+impl Model for Agreement {
+    ghost use Rattle.std.specs.Prelude.{◌≤◌};
+    ghost use Rattle.ua_channel.specs.Agreement.{Agreement};
+
+    ghost Value = { Agreement };
+
+    ghost view = { λ a. record { ack = a.ack; octets = a.octets; chunks = a.chunks } };
+
+    ghost inverse = { λ v. record { ack = v.ack; octets = v.octets; chunks = v.chunks } };
+
+    ghost invariant = { λ a. (8192 ≤ a.ack.receive_buffer_size) × (8192 ≤ a.ack.send_buffer_size) };
+}
+
+impl Agreement {
+    ghost use Rattle.std.specs.Prelude.{◌≤◌};
+    ghost use Rattle.ua_channel.specs.Agreement.{lane_of};
+
+    /// The Acknowledge.
+    #[inline]
+    pub(crate) fn ack(&self) -> Ack
+        ensures { result ≡ self.now.ack }
+    {
+        self.ack
+    }
+
+    /// The largest frame that the server takes.
+    #[inline]
+    pub(crate) fn receive_size(&self) -> u32
+        ensures size { result ≡ self.now.ack.receive_buffer_size }
+        ensures least { 8192 ≤ result }
+    {
+        self.ack.receive_buffer_size
+    }
+
+    /// Where replies go on a channel under a token.
+    pub(crate) fn lane(&self, channel: u32, token: u32) -> Lane
+        ensures lane { result ≡ lane_of channel token self.now }
+        ensures room { 0 < result.room }
+        ensures size { result.room + 24 < 2 ^ 32 }
+    {
+        Lane {
+            channel,
+            token,
+            room: self.ack.send_buffer_size - HEADERS,
+            octets: self.octets,
+            chunks: self.chunks,
+        }
+    }
+}
+
+/// What a server with these limits agrees to at the body of a HEL.
+pub fn judge_hello(alloc: Global, limits: &Limits, body: &[u8]) -> Result<Agreement, StepFault>
+    ensures { JudgesHello limits.now body.now result }
+{
+    let Some(hello) = Hello::read_whole(alloc, body)? else {
+        return Err(StepFault::Refused(StatusCode::BAD_DECODING_ERROR));
+    };
+    match agree(&hello, limits) {
+        Ok(ack) => Ok(Agreement {
+            ack,
+            octets: hello.max_message_size,
+            chunks: hello.max_chunk_count,
+        }),
+        Err(code) => Err(StepFault::Refused(code)),
+    }
+}

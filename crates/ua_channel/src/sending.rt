@@ -1,0 +1,124 @@
+//! What a server sends.
+
+ghost use Rattle.std.specs.Prelude.{◌≡◌, ◌<◌, ◌≤◌, ◌+◌, ◌++◌, ◌^◌, ℕ, List, length, IfOk, OnOk};
+ghost use Rattle.ua_frame.specs.Frames.{frame_octets};
+ghost use Rattle.ua_frame.specs.Messages.{ack_frame};
+ghost use Rattle.ua_channel.specs.ServerSends.{opening_frame, opened_frame, IsReply};
+
+use crate::agreement::Agreement;
+use crate::numbers::Numbers;
+use std::alloc::{AllocError, Global};
+use ua_builtin::{DateTime, StatusCode, Wire};
+use ua_chunk::{CutFault, Lane, NONE_POLICY, abort_octets, cut};
+use ua_frame::{Kind, ack_octets, header_octets};
+use ua_octets::NULL_COUNT;
+use ua_services::{OpenResponse, write_open_response};
+
+/// The octets of an OPN frame in front of its body: the frame's header, the channel's id, the
+/// policy None, two nulls, the sequence number and the request id.
+const OPENING_HEADERS: usize = 79;
+
+/// The octets of the body of an OPN response without a nonce.
+const OPENED_LEN: usize = 56;
+
+/// The ACK frame of what was agreed to.
+pub fn agreed_octets(alloc: Global, agreement: &Agreement) -> Result<Vec<u8>, AllocError>
+    ensures { IfOk result (λ out. out.items ≡ frame_octets (ack_frame agreement.now.ack)) }
+{
+    let mut out = Vec::new(alloc);
+    out.extend_from_slice(&ack_octets(&agreement.ack()))?;
+    Ok(out)
+}
+
+/// Adds an OPN frame under the policy None up to its body, which is to have so many octets.
+pub fn append_opening(
+    channel: u32,
+    sequence: u32,
+    request: u32,
+    len: usize,
+    out: &mut Vec<u8>,
+) -> Result<(), AllocError>
+    requires { len + 79 < 2 ^ 32 }
+    ensures { (body : List ℕ) → length body ≡ len
+        → OnOk result (out.new.items ++ body ≡ out.old.items ++ frame_octets (opening_frame channel sequence request body)) }
+{
+    let size = (OPENING_HEADERS + len) as u32;
+    out.extend_from_slice(&header_octets(Kind::Opn, b'F', size))?;
+    channel.append(out)?;
+    (NONE_POLICY.len() as u32).append(out)?;
+    out.extend_from_slice(NONE_POLICY.as_bytes())?;
+    NULL_COUNT.append(out)?;
+    NULL_COUNT.append(out)?;
+    sequence.append(out)?;
+    request.append(out)?;
+    Ok(())
+}
+
+/// What an OPN response says.
+#[derive(Clone, Copy)]
+pub struct Opening {
+    pub channel: u32,
+    pub request: u32,
+    pub handle: u32,
+    pub token: u32,
+    pub lifetime: u32,
+}
+
+/// The OPN frame of a response that is made at this moment.
+pub fn opened_octets(
+    alloc: Global,
+    opening: &Opening,
+    sequence: u32,
+    moment: DateTime,
+) -> Result<Vec<u8>, AllocError>
+    ensures { IfOk result (λ out. out.items ≡ frame_octets (opened_frame opening.now.channel sequence opening.now.request opening.now.handle opening.now.token opening.now.lifetime moment)) }
+{
+    let Opening {
+        channel,
+        request,
+        handle,
+        token,
+        lifetime,
+    } = *opening;
+    let mut out = Vec::new(alloc);
+    append_opening(channel, sequence, request, OPENED_LEN, &mut out)?;
+    let response = OpenResponse::new(moment, handle, channel, token, lifetime);
+    let written = write_open_response(&response, &mut out);
+    drop(response);
+    // A response without a nonce can be encoded, so this is want of memory.
+    match written {
+        Ok(()) => Ok(out),
+        Err(_) => Err(AllocError),
+    }
+}
+
+/// The octets of a reply: the chunks of its body, or where the client takes no such body an abort
+/// that says so. The numbers go on behind them.
+pub fn reply_octets(
+    alloc: Global,
+    lane: &Lane,
+    body: &[u8],
+    request: u32,
+    numbers: &mut Numbers,
+) -> Result<Vec<u8>, AllocError>
+    requires room { 0 < lane.now.room }
+    requires size { lane.now.room + 24 < 2 ^ 32 }
+    requires body { 0 < length body.now }
+    ensures { IfOk result (λ out. IsReply lane.now body.now numbers.old.next request out.items numbers.new.next) }
+{
+    let number = numbers.number();
+    let mut out = Vec::new(alloc);
+    match cut(lane, body, number, request, &mut out) {
+        Ok(next) => {
+            numbers.go_on(next);
+            Ok(out)
+        }
+        Err(CutFault::OutOfMemory) => Err(AllocError),
+        Err(CutFault::TooManyOctets | CutFault::TooManyChunks) => {
+            let code = StatusCode::BAD_RESPONSE_TOO_LARGE;
+            out.extend_from_slice(&abort_octets(lane, number, request, code))?;
+            numbers.step();
+            Ok(out)
+        }
+    }
+}

@@ -1,0 +1,410 @@
+//! The server's end of a connection.
+
+ghost use Rattle.std.specs.Prelude.{◌≡◌, ◌<◌, length};
+ghost use Rattle.ua_frame.specs.Hello.{hello_gate as first_gate};
+
+use crate::agreement::{Agreement, judge_hello};
+use crate::numbers::Numbers;
+use crate::running::Running;
+use crate::sending::{Opening, agreed_octets, opened_octets, reply_octets};
+use crate::server_event::{Event, ServerEvent};
+use crate::server_fault::{ChannelFault, ReplyFault, StepFault};
+use std::alloc::{AllocError, Global};
+use std::mem;
+use ua_builtin::DateTime;
+use ua_chunk::{Lane, read_chunk};
+use ua_frame::{Frame, FrameReader, Gate, HEADER_LEN, Kind, Limits};
+
+/// The most octets that are held before the ACK: those of the largest HEL.
+const FIRST_BOUND: u32 = 8192;
+
+/// How many messages may be unfinished.
+const MOST_OPEN: usize = 4;
+
+/// How far a connection has come.
+#[derive(Drop)]
+pub enum Phase {
+    /// It waits for the HEL.
+    Waiting,
+    /// It agreed, and waits for the first OPN.
+    Greeted(Agreement),
+    /// It has a token.
+    Open(Running),
+    /// It ended.
+    Done,
+}
+
+/// The server's end of a connection: it takes the octets of a client in whatever pieces they come,
+/// and makes those that are to be sent (OPC 10000-6, 6.7 and 7.1).
+///
+/// A connection begins with the client's HEL and its OPN, which are answered by [`take`]; then come
+/// messages, tokens that are renewed, and one CLO. After a fault, and after the CLO, the channel
+/// holds nothing and takes nothing more.
+///
+/// [`take`]: ServerChannel::take
+#[derive(Drop)]
+pub struct ServerChannel {
+    alloc: Global,
+    limits: Limits,
+    channel: u32,
+    reader: FrameReader,
+    numbers: Numbers,
+    bound: usize,
+    phase: Phase,
+}
+
+/// The gate for a HEL.
+fn hello_gate() -> Gate
+    ensures { result ≡ first_gate }
+{
+    Gate::new(FIRST_BOUND).taking(Kind::Hel)
+}
+
+impl ServerChannel {
+    ghost use Rattle.std.specs.Prelude.{◌≡◌, ◌<◌, ◌≤◌, ◌+◌, ◌^◌, ◌↔◌, [], ℕ, List, length, Ok, Err, IfOk, IfSome, MatchOption, OnOk, OnErr, IsErrOf, IsTrue};
+    ghost use Rattle.ua_frame.specs.declared.frame.Frame.{Frame};
+    ghost use Rattle.ua_frame.specs.Kinds.{lets_in};
+    ghost use Rattle.ua_chunk.specs.declared.lane.Lane.{Lane};
+    ghost use Rattle.ua_chunk.specs.Open.{open_ids};
+    ghost use Rattle.ua_channel.specs.Content.{content};
+    ghost use Rattle.ua_channel.specs.Received.{Received, received};
+    ghost use Rattle.ua_channel.specs.ServerAnswers.{Tells, Steps, Progress, Nexts, Answered, IsSent, AnswersAt, ServerAnswers};
+    ghost use Rattle.ua_channel.specs.ServerParts.{HasShape, Stays};
+    ghost use Rattle.ua_channel.specs.ServerRules.{server_gate};
+    ghost use Rattle.ua_channel.specs.ServerSends.{IsReply, RepliesGo};
+    ghost use Rattle.ua_channel.specs.ServerStands.{limits_of, channel_of, next_of, phase_gate, bound_of, IsNotOpen, LaneIs, Holds, Stands, Goes, IsDone, JudgesFrame, bound_after, held_after};
+    ghost use Rattle.ua_channel.specs.ServerTold.{Told};
+    ghost use Rattle.ua_channel.specs.declared.server.Phase.TheVariants as phase;
+    ghost use Rattle.ua_channel.specs.declared.server_fault.ChannelFault.TheVariants as fault;
+    ghost use Rattle.ua_channel.specs.declared.server_fault.ReplyFault.TheVariants.{NotOpen, OutOfMemory};
+    ghost use Rattle.ua_channel.specs.declared.server_fault.StepFault.TheVariants as step_fault;
+
+    /// Waits for the HEL of a client, on behalf of a server with these limits, whose channel will
+    /// have this id.
+    pub fn new(alloc: Global, limits: Limits, channel: u32) -> ServerChannel
+        ensures stands { Stands result [] [] [] }
+        ensures goes { Goes result [] [] }
+        ensures limits { limits_of result ≡ limits }
+        ensures channel { channel_of result ≡ channel }
+        ensures next { next_of result ≡ 1 }
+    {
+        ServerChannel {
+            alloc,
+            limits,
+            channel,
+            reader: FrameReader::new(alloc, hello_gate()),
+            numbers: Numbers::new(),
+            bound: FIRST_BOUND as usize,
+            phase: Phase::Waiting,
+        }
+    }
+
+    /// The gate for the next frame.
+    fn gate(&self) -> Gate
+        ensures { result ≡ phase_gate self.now.phase }
+    {
+        match &self.phase {
+            Phase::Waiting => hello_gate(),
+            Phase::Greeted(agreement) => Gate::new(agreement.receive_size()).taking(Kind::Opn),
+            Phase::Open(running) => Gate::new(running.agreement().receive_size())
+                .taking(Kind::Opn)
+                .taking(Kind::Msg)
+                .taking(Kind::Clo),
+            Phase::Done => Gate::new(0),
+        }
+    }
+
+    /// Whether the channel ended.
+    fn is_done(&self) -> bool
+        ensures { IsTrue result ↔ (self.now.phase ≡ phase.Done) }
+    {
+        match self.phase {
+            Phase::Done => true,
+            Phase::Waiting | Phase::Greeted(_) | Phase::Open(_) => false,
+        }
+    }
+
+    /// Takes a frame on an open channel, whose phase was taken out.
+    fn on_running(&mut self, mut running: Running, frame: Frame) -> Result<Option<Event>, StepFault>
+        requires done { self.old.phase ≡ phase.Done }
+        requires shape { HasShape frame }
+        ensures judges { (before : Received) → Stays self.old.limits running before → self.old.bound ≡ bound_after self.old.limits before
+            → IsTrue (lets_in (phase_gate (phase.Open running)) frame.kind) → JudgesFrame self.old before (content frame) result self.new }
+        ensures kept { self.new ≡ record self.old { phase = self.new.phase } }
+    {
+        match frame.kind {
+            Kind::Opn => {
+                let event = running.on_renewal(self.alloc, self.channel, frame)?;
+                self.phase = Phase::Open(running);
+                Ok(event)
+            }
+            Kind::Msg => {
+                let event = running.on_message(self.channel, read_chunk(frame))?;
+                self.phase = Phase::Open(running);
+                Ok(event)
+            }
+            Kind::Clo => {
+                running.on_close(self.channel, read_chunk(frame))?;
+                Ok(Some(Event::Closed))
+            }
+            Kind::Hel | Kind::Ack | Kind::Err => Err(StepFault::Closed),
+        }
+    }
+
+    /// Takes a frame.
+    fn on_frame(&mut self, frame: Frame) -> Result<Option<Event>, StepFault>
+        requires shape { HasShape frame }
+        ensures judges { (before : Received) → Holds self.old before → IsTrue (lets_in (phase_gate self.old.phase) frame.kind)
+            → JudgesFrame self.old before (content frame) result self.new }
+        ensures kept { self.new ≡ record self.old { phase = self.new.phase; bound = self.new.bound } }
+    {
+        match mem::replace(&mut self.phase, Phase::Done) {
+            Phase::Waiting => {
+                let agreement = judge_hello(self.alloc, &self.limits, &frame.body)?;
+                self.bound = agreement.receive_size() as usize
+                    + MOST_OPEN * self.limits.max_message_size as usize;
+                self.phase = Phase::Greeted(agreement);
+                Ok(Some(Event::Agreed(agreement)))
+            }
+            Phase::Greeted(agreement) => {
+                let (running, event) =
+                    Running::open(self.alloc, &self.limits, agreement, self.channel, frame)?;
+                self.phase = Phase::Open(running);
+                Ok(Some(event))
+            }
+            Phase::Open(running) => self.on_running(running, frame),
+            Phase::Done => Err(StepFault::Closed),
+        }
+    }
+
+    /// Ends the channel, which then holds nothing.
+    fn fail(&mut self)
+        ensures done { IsDone self.new }
+        ensures kept { self.new ≡ record self.old { phase = self.new.phase; reader = self.new.reader } }
+    {
+        self.reader.close();
+        self.phase = Phase::Done;
+    }
+
+    /// One call of the reader, and what its frame comes to, with the octets that were taken.
+    fn step(&mut self, piece: &[u8]) -> (usize, Result<Option<Event>, StepFault>)
+        ensures steps { (octets : List ℕ) (told : List Told) → Goes self.old octets told → Steps piece.now result.0 result.1 self.new octets told }
+        ensures progress { Progress piece.now result.0 result.1 }
+        ensures limits { limits_of self.new ≡ limits_of self.old }
+        ensures channel { channel_of self.new ≡ channel_of self.old }
+        ensures numbers { self.new.numbers ≡ self.old.numbers }
+    {
+        let held = self.reader.held();
+        match self.reader.take(piece) {
+            Ok((n, None)) => (n, Ok(None)),
+            Ok((n, Some(frame))) => {
+                let answer = self.on_frame(frame);
+                let gate = self.gate();
+                self.reader.set_gate(gate);
+                (n, answer)
+            }
+            Err(fault) => {
+                self.phase = Phase::Done;
+                let n = HEADER_LEN.saturating_sub(held).min(piece.len());
+                (n, Err(StepFault::of_frame(fault)))
+            }
+        }
+    }
+
+    /// Takes octets up to the end of the first frame that tells something, else the whole piece,
+    /// and says how many it took.
+    fn next_event(&mut self, piece: &[u8]) -> (usize, Result<Option<Event>, StepFault>)
+        ensures nexts { (octets : List ℕ) (told : List Told) → Goes self.old octets told → Nexts piece.now result.0 result.1 self.new octets told }
+        ensures limits { limits_of self.new ≡ limits_of self.old }
+        ensures channel { channel_of self.new ≡ channel_of self.old }
+        ensures numbers { self.new.numbers ≡ self.old.numbers }
+    {
+        let mut taken = 0;
+        while taken < piece.len() {
+            let (n, answer) = self.step(&piece[taken..]);
+            taken += n;
+            match answer {
+                Ok(None) => {}
+                Ok(Some(event)) => return (taken, Ok(Some(event))),
+                Err(fault) => return (taken, Err(fault)),
+            }
+        }
+        (taken, Ok(None))
+    }
+
+    /// Makes octets that are to be sent an event. Without them the channel fails.
+    fn send(&mut self, octets: Result<Vec<u8>, AllocError>) -> Result<ServerEvent, ChannelFault>
+        ensures sent { IsSent octets result }
+        ensures good { OnOk result (self.new ≡ self.old) }
+        ensures done { OnErr result (IsDone self.new) }
+        ensures limits { limits_of self.new ≡ limits_of self.old }
+        ensures channel { channel_of self.new ≡ channel_of self.old }
+    {
+        match octets {
+            Ok(octets) => Ok(ServerEvent::Send(octets)),
+            Err(_) => {
+                self.fail();
+                Err(ChannelFault::OutOfMemory)
+            }
+        }
+    }
+
+    /// What is answered at an event of the last frame. The moment is that of an OPN response.
+    fn answer(&mut self, event: Event, moment: DateTime) -> Result<ServerEvent, ChannelFault>
+        ensures answers { (octets : List ℕ) (told : List Told) → Tells event self.old octets told
+            → Answered (channel_of self.old) (next_of self.old) moment result self.new octets told }
+        ensures limits { limits_of self.new ≡ limits_of self.old }
+        ensures channel { channel_of self.new ≡ channel_of self.old }
+    {
+        match event {
+            Event::Agreed(agreement) => self.send(agreed_octets(self.alloc, &agreement)),
+            Event::Opened {
+                request,
+                handle,
+                token,
+                lifetime,
+            } => {
+                let opening = Opening {
+                    channel: self.channel,
+                    request,
+                    handle,
+                    token,
+                    lifetime,
+                };
+                let octets = opened_octets(self.alloc, &opening, self.numbers.number(), moment);
+                self.numbers.step();
+                self.send(octets)
+            }
+            Event::Asked {
+                request, message, ..
+            } => Ok(ServerEvent::Asked(request, message)),
+            Event::Aborted(request) => Ok(ServerEvent::Aborted(request)),
+            Event::Closed => Ok(ServerEvent::Closed),
+        }
+    }
+
+    /// Takes octets as [`take`](ServerChannel::take) does, and says at a refusal too how many: up to
+    /// the end of the frame that is refused, or to the eighth octet of the header that is.
+    pub fn advance(
+        &mut self,
+        piece: &[u8],
+        moment: DateTime,
+    ) -> (usize, Result<ServerEvent, ChannelFault>)
+        ensures answers { (octets : List ℕ) (told : List Told) → Goes self.old octets told
+            → AnswersAt (channel_of self.old) (next_of self.old) moment piece.now result.0 result.1 self.new octets told }
+        ensures closed { IsDone self.old → (result.0 ≡ 0) × (result.1 ≡ Err fault.Closed) × (self.new ≡ self.old) }
+        ensures limits { limits_of self.new ≡ limits_of self.old }
+        ensures channel { channel_of self.new ≡ channel_of self.old }
+    {
+        if self.is_done() {
+            return (0, Err(ChannelFault::Closed));
+        }
+        match self.next_event(piece) {
+            (n, Ok(None)) => (n, Ok(ServerEvent::NeedMore)),
+            (n, Ok(Some(event))) => (n, self.answer(event, moment)),
+            (n, Err(fault)) => (n, Err(ChannelFault::of_step(fault))),
+        }
+    }
+
+    /// Takes octets up to the end of the first frame at which something is to be sent, was asked or
+    /// given up, or the channel is closed; else the whole piece. The moment is that of an OPN
+    /// response. After a fault, and after a close, it answers `Closed`.
+    pub fn take(
+        &mut self,
+        piece: &[u8],
+        moment: DateTime,
+    ) -> Result<(usize, ServerEvent), ChannelFault>
+        ensures answers { (octets : List ℕ) (told : List Told) → Goes self.old octets told
+            → ServerAnswers (channel_of self.old) (next_of self.old) moment piece.now result self.new octets told }
+        ensures closed { IsDone self.old → (result ≡ Err fault.Closed) × (self.new ≡ self.old) }
+        ensures limits { limits_of self.new ≡ limits_of self.old }
+        ensures channel { channel_of self.new ≡ channel_of self.old }
+    {
+        match self.advance(piece, moment) {
+            (n, Ok(event)) => Ok((n, event)),
+            (_, Err(fault)) => Err(fault),
+        }
+    }
+
+    /// Where replies go, if the channel is open.
+    fn lane(&self) -> Option<Lane>
+        ensures lane { MatchOption result (IsNotOpen self.now.phase) (LaneIs self.now.channel self.now.phase) }
+        ensures room { IfSome result (λ lane. 0 < lane.room) }
+        ensures size { IfSome result (λ lane. lane.room + 24 < 2 ^ 32) }
+    {
+        match &self.phase {
+            Phase::Open(running) => Some(running.lane(self.channel)),
+            Phase::Waiting | Phase::Greeted(_) | Phase::Done => None,
+        }
+    }
+
+    /// The octets of a reply under a request id: the chunks of its body under the last token that
+    /// the client used, or where the client takes no such body an abort that says so. Where no
+    /// memory is found the channel fails.
+    pub fn reply(&mut self, id: u32, body: &[u8]) -> Result<Vec<u8>, ReplyFault>
+        requires { 0 < length body.now }
+        ensures stands { (octets : List ℕ) (frames : List Frame) (rest : List ℕ) → Stands self.old octets frames rest
+            → OnOk result (Stands self.new octets frames rest) }
+        ensures sent { (octets : List ℕ) (frames : List Frame) (rest : List ℕ) → Stands self.old octets frames rest
+            → IfOk result (λ out. (lane : Lane) × RepliesGo (limits_of self.old) (channel_of self.old) (received frames) lane
+                × IsReply lane body.now (next_of self.old) id out.items (next_of self.new)) }
+        // No channel is open before the first OPN, and once the channel ended, and then alone.
+        ensures not_open { IsErrOf result NotOpen ↔ IsNotOpen self.old.phase }
+        ensures unchanged { IsErrOf result NotOpen → self.new ≡ self.old }
+        ensures before { (octets : List ℕ) (frames : List Frame) (rest : List ℕ) → Stands self.old octets frames rest
+            → IsErrOf result NotOpen ↔ ((received frames).openings ≡ []) }
+        ensures closed { IsDone self.old → (result ≡ Err NotOpen) × (self.new ≡ self.old) }
+        ensures failed { IsErrOf result OutOfMemory → IsDone self.new }
+        ensures limits { limits_of self.new ≡ limits_of self.old }
+        ensures channel { channel_of self.new ≡ channel_of self.old }
+    {
+        let Some(lane) = self.lane() else {
+            return Err(ReplyFault::NotOpen);
+        };
+        match reply_octets(self.alloc, &lane, body, id, &mut self.numbers) {
+            Ok(out) => Ok(out),
+            Err(_) => {
+                self.fail();
+                Err(ReplyFault::OutOfMemory)
+            }
+        }
+    }
+
+    /// How many octets are held: those of a frame that is not whole, and those of unfinished
+    /// messages. They are never more than [`bound`](ServerChannel::bound) says.
+    pub fn held(&self) -> usize
+        ensures held { (octets : List ℕ) (frames : List Frame) (rest : List ℕ) → Stands self.now octets frames rest
+            → result ≡ held_after (received frames) rest }
+        ensures bound { (octets : List ℕ) (frames : List Frame) (rest : List ℕ) → Stands self.now octets frames rest
+            → result ≤ bound_after (limits_of self.now) (received frames) }
+        ensures done { IsDone self.now → result ≡ 0 }
+    {
+        let messages = match &self.phase {
+            Phase::Open(running) => running.held(),
+            Phase::Waiting | Phase::Greeted(_) | Phase::Done => 0,
+        };
+        self.reader.held() + messages
+    }
+
+    /// The most octets that may be held: 8192 before the ACK, then those of a frame of the agreed
+    /// size and of 4 messages of the greatest size.
+    pub fn bound(&self) -> usize
+        ensures stands { (octets : List ℕ) (frames : List Frame) (rest : List ℕ) → Stands self.now octets frames rest
+            → result ≡ bound_after (limits_of self.now) (received frames) }
+        ensures is { result ≡ bound_of self.now }
+    {
+        self.bound
+    }
+
+    /// How many messages are unfinished.
+    pub fn open_count(&self) -> usize
+        ensures count { (octets : List ℕ) (frames : List Frame) (rest : List ℕ) → Stands self.now octets frames rest
+            → result ≡ length (open_ids (received frames).messages) }
+        ensures done { IsDone self.now → result ≡ 0 }
+    {
+        match &self.phase {
+            Phase::Open(running) => running.open_count(),
+            Phase::Waiting | Phase::Greeted(_) | Phase::Done => 0,
+        }
+    }
+}

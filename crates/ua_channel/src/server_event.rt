@@ -1,0 +1,65 @@
+//! What comes of octets at a server.
+
+ghost use Rattle.std.specs.Prelude.{◌≡◌};
+
+use crate::agreement::Agreement;
+use ua_chunk::{Delivered, Message};
+
+/// What came of the octets so far.
+#[derive(Drop)]
+pub enum ServerEvent {
+    /// Nothing yet.
+    NeedMore,
+    /// These octets are to be sent: the ACK, or the OPN response.
+    Send(Vec<u8>),
+    /// A whole message, under its request id.
+    Asked(u32, Message),
+    /// The client gave up the message of this request id.
+    Aborted(u32),
+    /// The client closed the channel.
+    Closed,
+}
+
+/// What a frame comes to.
+#[derive(Drop)]
+pub enum Event {
+    /// The ACK is to be sent.
+    Agreed(Agreement),
+    /// The answer to an OPN is to be sent.
+    Opened {
+        request: u32,
+        handle: u32,
+        token: u32,
+        lifetime: u32,
+    },
+    /// A whole message, whose last chunk used this token.
+    Asked {
+        request: u32,
+        token: u32,
+        message: Message,
+    },
+    Aborted(u32),
+    Closed,
+}
+
+impl Event {
+    ghost use Rattle.std.specs.Prelude.{map};
+    ghost use Rattle.ua_chunk.specs.View.{items_of};
+    ghost use Rattle.ua_channel.specs.ServerTold.{told_item};
+    ghost use Rattle.ua_channel.specs.ServerEvents.{told_list};
+
+    /// What a chunk under this token delivers, as an event.
+    pub(crate) fn of_delivered(token: u32, delivered: Option<Delivered>) -> Option<Event>
+        ensures { told_list result ≡ map (told_item token) (items_of delivered) }
+    {
+        match delivered {
+            None => None,
+            Some(Delivered::Whole(request, message)) => Some(Event::Asked {
+                request,
+                token,
+                message,
+            }),
+            Some(Delivered::Aborted(request, _, _)) => Some(Event::Aborted(request)),
+        }
+    }
+}
