@@ -1,7 +1,6 @@
 -- What a server's channel answers to octets.
-use Rattle.std.specs.Prelude.{Vec, ◌≡◌, ℕ, ◌<◌, ◌≤◌, length, take, List, [], ◌∷◌, ◌++◌, Option, Some, None, Result, Ok, Err}
+use Rattle.std.specs.Prelude.{◌≡◌, ℕ, ◌<◌, ◌≤◌, length, take, List, [], ◌∷◌, ◌++◌, Option, Some, None, Result, Ok, Err}
 use Rattle.std.specs.List.{concat}
-use Rattle.std.specs.declared.alloc.AllocError.{AllocError}
 use Rattle.ua_builtin.specs.declared.date_time.DateTime.{DateTime}
 use Rattle.ua_frame.specs.Frames.{frame_octets}
 use Rattle.ua_frame.specs.Messages.{err_frame}
@@ -95,11 +94,6 @@ Nexts piece n (Ok (Some e)) new octets before = (0 < n) × (n ≤ length piece) 
 Nexts piece n (Err (step.Refused code)) new octets before = (n ≤ length piece) × RefusedAt new (octets ++ take n piece) before code.code
 Nexts piece n (Err step.OutOfMemory) new octets before = (n ≤ length piece) × IsDone new
 Nexts piece n (Err step.Closed) new octets before = ⊥
-
--- octets that were made are an event; without them memory was refused
-abbrev pub IsSent : Result (Vec ℕ) AllocError → Result ServerEvent ChannelFault → Type 0
-IsSent (Ok octets) answer = answer ≡ Ok (Send octets)
-IsSent (Err fault) answer = answer ≡ Err OutOfMemory
 
 -- what is answered to an event of the last frame
 abbrev pub Answered : ℕ → ℕ → DateTime → Result ServerEvent ChannelFault → ServerChannel → List ℕ → List Told → Type 0

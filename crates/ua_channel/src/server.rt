@@ -61,14 +61,14 @@ fn hello_gate() -> Gate
 }
 
 impl ServerChannel {
-    ghost use Rattle.std.specs.Prelude.{◌≡◌, ◌<◌, ◌≤◌, ◌+◌, ◌^◌, ◌↔◌, [], ℕ, List, length, Ok, Err, IfOk, IfSome, MatchOption, OnOk, OnErr, IsErrOf, IsTrue};
+    ghost use Rattle.std.specs.Prelude.{◌≡◌, ◌<◌, ◌≤◌, ◌+◌, ◌^◌, ◌↔◌, [], ℕ, List, length, Ok, Err, IfOk, IfSome, MatchOption, MatchResult, OnOk, OnErr, IsErrOf, IsTrue};
     ghost use Rattle.ua_frame.specs.declared.frame.Frame.{Frame};
     ghost use Rattle.ua_frame.specs.Kinds.{lets_in};
     ghost use Rattle.ua_chunk.specs.declared.lane.Lane.{Lane};
     ghost use Rattle.ua_chunk.specs.Open.{open_ids};
     ghost use Rattle.ua_channel.specs.Content.{content};
     ghost use Rattle.ua_channel.specs.Received.{Received, received};
-    ghost use Rattle.ua_channel.specs.ServerAnswers.{Tells, Steps, Progress, Nexts, Answered, IsSent, AnswersAt, ServerAnswers};
+    ghost use Rattle.ua_channel.specs.ServerAnswers.{Tells, Steps, Progress, Nexts, Answered, AnswersAt, ServerAnswers};
     ghost use Rattle.ua_channel.specs.ServerParts.{HasShape, Stays};
     ghost use Rattle.ua_channel.specs.ServerRules.{server_gate};
     ghost use Rattle.ua_channel.specs.ServerSends.{IsReply, RepliesGo};
@@ -77,7 +77,7 @@ impl ServerChannel {
     ghost use Rattle.ua_channel.specs.declared.server.Phase.TheVariants as phase;
     ghost use Rattle.ua_channel.specs.declared.server_fault.ChannelFault.TheVariants as fault;
     ghost use Rattle.ua_channel.specs.declared.server_fault.ReplyFault.TheVariants.{NotOpen, OutOfMemory};
-    ghost use Rattle.ua_channel.specs.declared.server_fault.StepFault.TheVariants as step_fault;
+    ghost use Rattle.ua_channel.specs.declared.server_event.ServerEvent.TheVariants as event;
 
     /// Waits for the HEL of a client, on behalf of a server with these limits, whose channel will
     /// have this id.
@@ -234,7 +234,7 @@ impl ServerChannel {
 
     /// Makes octets that are to be sent an event. Without them the channel fails.
     fn send(&mut self, octets: Result<Vec<u8>, AllocError>) -> Result<ServerEvent, ChannelFault>
-        ensures sent { IsSent octets result }
+        ensures sent { MatchResult octets (λ out. result ≡ Ok (event.Send out)) (λ _. result ≡ Err fault.OutOfMemory) }
         ensures good { OnOk result (self.new ≡ self.old) }
         ensures done { OnErr result (IsDone self.new) }
         ensures limits { limits_of self.new ≡ limits_of self.old }

@@ -1,0 +1,214 @@
+-- What an open channel makes of MSG and CLO.
+use Rattle.std.proofs.Common.{◌≡◌, ℕ, ◌+◌, Bool, true, false, IsTrue, not, eqb, List, [], ◌∷◌, ◌++◌, Option, Some, None, Err, option_map, refl, sym, ◌∙◌, ap, subst, arith, map, length, length-append}
+use Rattle.std.specs.Prelude.{IsFalse}
+use Rattle.ua_builtin.specs.Reasons.{first_reason, renamed_reason}
+use Rattle.ua_builtin.proofs.FirstReasons.{first_among, first_behind, first_reason-map}
+use Rattle.ua_frame.specs.declared.limits.Limits.{Limits}
+use Rattle.ua_chunk.specs.declared.chunk.Chunk.{Chunk}
+use Rattle.ua_chunk.specs.declared.fault.AssembleFault.{AssembleFault}
+use Rattle.ua_chunk.specs.declared.fault.AssembleFault.TheVariants.{Sequence, Unreadable, TooManyOpen, MessageTooLarge, TooManyChunks, OutOfMemory, Closed}
+use Rattle.ua_chunk.specs.declared.assembler.Assembler.{Assembler}
+use Rattle.ua_chunk.specs.declared.delivered.Delivered.{Delivered}
+use Rattle.ua_chunk.specs.Assembling.{SameLimits, last_number, octet_limit, chunk_limit}
+use Rattle.ua_chunk.specs.Assembling as assembling
+use Rattle.ua_chunk.specs.Delivered.{given}
+use Rattle.ua_chunk.specs.Refusal.{IsFor, reasons, refusal}
+use Rattle.ua_chunk.specs.Sequence.{may_follow}
+use Rattle.ua_channel.specs.declared.running.Running.{Running}
+use Rattle.ua_chunk.specs.View.{items_of}
+use Rattle.ua_channel.specs.declared.server_event.Event.{Event}
+use Rattle.ua_channel.specs.declared.server_fault.StepFault.{StepFault}
+use Rattle.ua_channel.specs.declared.server_fault.StepFault.TheVariants as step
+use Rattle.ua_channel.specs.declared.server_opening.Opened.{Opened}
+use Rattle.ua_channel.specs.Agreement.{Agreement}
+use Rattle.ua_channel.specs.Content.{Opening, opening_of}
+use Rattle.ua_channel.specs.Content.Content.{Opens, Sends, Closes}
+use Rattle.ua_channel.specs.Received.{Received, number_or, after}
+use Rattle.ua_channel.specs.ServerEvents.{told_of, told_list}
+use Rattle.ua_channel.specs.ServerFaults.{of_chunk_fault}
+use Rattle.ua_channel.specs.ServerParts.{HasGreeted, JudgesFirst, JudgesOpening, OpensSo, Judges, Stays, Takes, ids_reasons}
+use Rattle.ua_channel.specs.ServerRefusals.{last_used, or_first, server_reasons}
+use Rattle.ua_channel.specs.ServerTold.{Told, Told as told, told_item, issued}
+
+-- the code of a fault of the assembler
+pub fault_code : AssembleFault → ℕ
+fault_code Sequence = 0x8088_0000
+fault_code Unreadable = 0x8007_0000
+fault_code TooManyOpen = 0x8081_0000
+fault_code MessageTooLarge = 0x80B8_0000
+fault_code TooManyChunks = 0x80B8_0000
+fault_code OutOfMemory = 0
+fault_code Closed = 0
+
+-- a MSG is judged by its ids, and then as the assembler judges its chunk
+judged_sends : (limits : Limits) (channel : ℕ) (before : Received) (c : Chunk) → first_reason (server_reasons limits channel before (Sends c))
+    ≡ first_reason (ids_reasons c channel (last_used before) (issued before) ++ map (renamed_reason fault_code) (reasons limits.max_message_size limits.max_chunk_count before.last before.messages c))
+unfolding fault_code
+judged_sends limits channel before c = refl
+
+-- a CLO is judged by its ids, and then by its number
+judged_closes : (limits : Limits) (channel : ℕ) (before : Received) (c : Chunk) → first_reason (server_reasons limits channel before (Closes c))
+    ≡ first_reason (ids_reasons c channel (last_used before) (issued before) ++ (0x8088_0000, not (may_follow before.last c.sequence)) ∷ [])
+judged_closes limits channel before c = refl
+
+module _ (limits : Limits) (r : Running) (before : Received) (channel : ℕ) (c : Chunk) (stays : Stays limits r before) where
+  pub ids_as : ids_reasons c channel (last_used before) (issued before) ≡ ids_reasons c channel r.used r.issued
+  ids_as = ap (λ (n : ℕ). ids_reasons c channel n (issued before)) stays.used_is ∙ ap (ids_reasons c channel r.used) stays.issued_is
+
+  -- its ids are refused
+  pub sends_ids_refused : (code : ℕ) → first_reason (ids_reasons c channel r.used r.issued) ≡ Some code → first_reason (server_reasons limits channel before (Sends c)) ≡ Some code
+  sends_ids_refused code e =
+      judged_sends limits channel before c
+      ∙ first_among (ids_reasons c channel (last_used before) (issued before)) (map (renamed_reason fault_code) (reasons limits.max_message_size limits.max_chunk_count before.last before.messages c)) code (ap first_reason ids_as ∙ e)
+
+  pub closes_ids_refused : (code : ℕ) → first_reason (ids_reasons c channel r.used r.issued) ≡ Some code → first_reason (server_reasons limits channel before (Closes c)) ≡ Some code
+  closes_ids_refused code e =
+      judged_closes limits channel before c
+      ∙ first_among (ids_reasons c channel (last_used before) (issued before)) ((0x8088_0000, not (may_follow before.last c.sequence)) ∷ []) code (ap first_reason ids_as ∙ e)
+
+  -- its ids are good
+  refusal_as : refusal (octet_limit r.assembler) (chunk_limit r.assembler) (last_number r.assembler) before.messages c ≡ refusal limits.max_message_size limits.max_chunk_count before.last before.messages c
+  refusal_as =
+      ap (λ (n : ℕ). refusal n (chunk_limit r.assembler) (last_number r.assembler) before.messages c) stays.octets
+      ∙ (ap (λ (n : ℕ). refusal limits.max_message_size n (last_number r.assembler) before.messages c) stays.chunks
+      ∙ ap (λ (o : Option ℕ). refusal limits.max_message_size limits.max_chunk_count o before.messages c) (sym stays.last_is))
+
+  pub sends_judged : first_reason (ids_reasons c channel r.used r.issued) ≡ None → first_reason (server_reasons limits channel before (Sends c)) ≡ option_map fault_code (refusal (octet_limit r.assembler) (chunk_limit r.assembler) (last_number r.assembler) before.messages c)
+  sends_judged e =
+      judged_sends limits channel before c
+      ∙ (first_behind (ids_reasons c channel (last_used before) (issued before)) (map (renamed_reason fault_code) (reasons limits.max_message_size limits.max_chunk_count before.last before.messages c)) (ap first_reason ids_as ∙ e)
+      ∙ (first_reason-map fault_code (reasons limits.max_message_size limits.max_chunk_count before.last before.messages c)
+      ∙ ap (option_map fault_code) (sym refusal_as)))
+
+  pub closes_judged : first_reason (ids_reasons c channel r.used r.issued) ≡ None → first_reason (server_reasons limits channel before (Closes c)) ≡ first_reason ((0x8088_0000, not (may_follow (last_number r.assembler) c.sequence)) ∷ [])
+  closes_judged e =
+      judged_closes limits channel before c
+      ∙ (first_behind (ids_reasons c channel (last_used before) (issued before)) ((0x8088_0000, not (may_follow before.last c.sequence)) ∷ []) (ap first_reason ids_as ∙ e)
+      ∙ ap (λ (o : Option ℕ). first_reason ((0x8088_0000, not (may_follow o c.sequence)) ∷ [])) stays.last_is)
+
+  -- ---- a MSG
+
+  -- a chunk that is taken
+  pub takes_message : (d : Option Delivered) (e : Option Event) (new : Assembler) → first_reason (ids_reasons c channel r.used r.issued) ≡ None → refusal (octet_limit r.assembler) (chunk_limit r.assembler) (last_number r.assembler) before.messages c ≡ None
+      → given before.messages c ≡ items_of d → told_list e ≡ map (told_item c.token) (items_of d) → assembling.Stands new (before.messages ++ c ∷ []) → last_number new ≡ Some c.sequence → SameLimits r.assembler new
+      → Takes limits channel before (Sends c) e × Stays limits (record r { assembler = new; used = c.token }) (after before (Sends c))
+  takes_message d e new ids good items event stands last same = (
+    record { accepted = sends_judged ids ∙ ap (option_map fault_code) good; tells = ap (map (told_item c.token)) items ∙ sym event },
+    record {
+      hello = stays.hello;
+      hello_is = stays.hello_is;
+      agreement_is = stays.agreement_is;
+      issued_is = stays.issued_is;
+      some = stays.some;
+      used_is = refl;
+      last_is = sym last;
+      assembles = stands;
+      octets = sym same.octets ∙ stays.octets;
+      chunks = sym same.chunks ∙ stays.chunks;
+      goes_on = stays.goes_on;
+    },
+  )
+
+  judged_fault : (fault : AssembleFault) (r' : Running) → first_reason (ids_reasons c channel r.used r.issued) ≡ None → IsFor (refusal (octet_limit r.assembler) (chunk_limit r.assembler) (last_number r.assembler) before.messages c) fault
+      → Judges limits channel before (Sends c) (Err (of_chunk_fault fault)) r'
+  unfolding fault_code
+  judged_fault Sequence r' ids h = sends_judged ids ∙ ap (option_map fault_code) h
+  judged_fault Unreadable r' ids h = sends_judged ids ∙ ap (option_map fault_code) h
+  judged_fault TooManyOpen r' ids h = sends_judged ids ∙ ap (option_map fault_code) h
+  judged_fault MessageTooLarge r' ids h = sends_judged ids ∙ ap (option_map fault_code) h
+  judged_fault TooManyChunks r' ids h = sends_judged ids ∙ ap (option_map fault_code) h
+  judged_fault OutOfMemory r' ids h = tt
+  judged_fault Closed r' ids h = h
+
+  -- a chunk that is refused
+  pub refuses_message : (fault : AssembleFault) (e : StepFault) (r' : Running) → first_reason (ids_reasons c channel r.used r.issued) ≡ None → IsFor (refusal (octet_limit r.assembler) (chunk_limit r.assembler) (last_number r.assembler) before.messages c) fault → e ≡ of_chunk_fault fault
+      → Judges limits channel before (Sends c) (Err e) r'
+  refuses_message fault e r' ids h is = subst (λ (x : StepFault). Judges limits channel before (Sends c) (Err x) r') (sym is) (judged_fault fault r' ids h)
+
+-- ---- an OPN
+
+-- what a fault of an OPN comes to
+pub judges_opening : (limits : Limits) (channel count : ℕ) (before : Received) (body : List ℕ) (e : StepFault) (r : Running) → issued before ≡ count → JudgesOpening channel count body (Err e) → Judges limits channel before (Opens (opening_of body)) (Err e) r
+judges_opening limits channel count before body (step.Refused code) r is h = h limits before is
+judges_opening limits channel count before body step.OutOfMemory r is h = tt
+judges_opening limits channel count before body step.Closed r is h = h
+
+pub judges_first : (limits : Limits) (channel count : ℕ) (before : Received) (body : List ℕ) (e : StepFault) → issued before ≡ count → JudgesOpening channel count body (Err e) → JudgesFirst limits channel before (Opens (opening_of body)) (Err e)
+judges_first limits channel count before body (step.Refused code) is h = h limits before is
+judges_first limits channel count before body step.OutOfMemory is h = tt
+judges_first limits channel count before body step.Closed is h = h
+
+module _ (limits : Limits) (r : Running) (before : Received) (channel : ℕ) (body : List ℕ) (o : Opened) (stays : Stays limits r before) (so : OpensSo channel r.issued body o) where
+  remain : first_reason (server_reasons limits channel before (Opens (opening_of body))) ≡ first_reason ((0x8088_0000, not (may_follow before.last o.sequence)) ∷ (0x8081_0000, eqb (issued before) 4294967295) ∷ [])
+  remain = so.remain limits before stays.issued_is
+
+  -- its number does not follow
+  pub refuses_number : IsFalse (may_follow (last_number r.assembler) o.sequence) → first_reason (server_reasons limits channel before (Opens (opening_of body))) ≡ Some 0x8088_0000
+  refuses_number e = remain ∙ ap (λ (b : Bool). first_reason ((0x8088_0000, not b) ∷ (0x8081_0000, eqb (issued before) 4294967295) ∷ [])) (ap (λ (n : Option ℕ). may_follow n o.sequence) stays.last_is ∙ e)
+
+  renewal_fault : (fault : AssembleFault) (r' : Running) → fault ≡ Sequence → IsFalse (may_follow (last_number r.assembler) o.sequence) → Judges limits channel before (Opens (opening_of body)) (Err (of_chunk_fault fault)) r'
+  renewal_fault fault r' is e = subst (λ (x : AssembleFault). Judges limits channel before (Opens (opening_of body)) (Err (of_chunk_fault x)) r') (sym is) (refuses_number e)
+
+  pub refuses_renewal : (fault : AssembleFault) (e : StepFault) (r' : Running) → fault ≡ Sequence → IsFalse (may_follow (last_number r.assembler) o.sequence) → e ≡ of_chunk_fault fault → Judges limits channel before (Opens (opening_of body)) (Err e) r'
+  refuses_renewal fault e r' first breaks is = subst (λ (x : StepFault). Judges limits channel before (Opens (opening_of body)) (Err x) r') (sym is) (renewal_fault fault r' first breaks)
+
+  remain_numbered : IsTrue (may_follow (last_number r.assembler) o.sequence) → first_reason (server_reasons limits channel before (Opens (opening_of body))) ≡ first_reason ((0x8081_0000, eqb r.issued 4294967295) ∷ [])
+  remain_numbered e =
+      remain
+      ∙ (ap (λ (b : Bool). first_reason ((0x8088_0000, not b) ∷ (0x8081_0000, eqb (issued before) 4294967295) ∷ [])) (ap (λ (n : Option ℕ). may_follow n o.sequence) stays.last_is ∙ e)
+      ∙ ap (λ (n : ℕ). first_reason ((0x8081_0000, eqb n 4294967295) ∷ [])) stays.issued_is)
+
+  -- no token is left
+  pub refuses_token : IsTrue (may_follow (last_number r.assembler) o.sequence) → eqb r.issued 4294967295 ≡ true → first_reason (server_reasons limits channel before (Opens (opening_of body))) ≡ Some 0x8081_0000
+  refuses_token e full = remain_numbered e ∙ ap (λ (b : Bool). first_reason ((0x8081_0000, b) ∷ [])) full
+
+  -- a token is issued
+  pub takes_renewal : (e : Option Event) (new : Assembler) → IsTrue (may_follow (last_number r.assembler) o.sequence) → eqb r.issued 4294967295 ≡ false → told_list e ≡ told.Opened o.request o.handle (r.issued + 1) o.lifetime ∷ []
+      → assembling.Stands new before.messages → last_number new ≡ Some o.sequence → SameLimits r.assembler new
+      → Takes limits channel before (Opens (opening_of body)) e × Stays limits (record r { assembler = new; issued = r.issued + 1 }) (after before (Opens (opening_of body)))
+  takes_renewal e new follows left event stands last same = (
+    record { accepted = remain_numbered follows ∙ ap (λ (b : Bool). first_reason ((0x8081_0000, b) ∷ [])) left; tells = so.tells limits before stays.issued_is ∙ sym event },
+    record {
+      hello = stays.hello;
+      hello_is = stays.hello_is;
+      agreement_is = stays.agreement_is;
+      issued_is = length-append before.openings (opening_of body ∷ []) ∙ ap (λ (n : ℕ). n + 1) stays.issued_is;
+      some = omega arith;
+      used_is = stays.used_is;
+      last_is = ap (number_or before.last) so.numbers_are ∙ sym last;
+      assembles = stands;
+      octets = sym same.octets ∙ stays.octets;
+      chunks = sym same.chunks ∙ stays.chunks;
+      goes_on = stays.goes_on;
+    },
+  )
+
+-- the first OPN
+pub takes_first : (limits : Limits) (channel : ℕ) (before : Received) (a : Agreement) (body : List ℕ) (o : Opened) (e : Event) (new : Assembler) → HasGreeted limits a before → OpensSo channel 0 body o → told_of e ≡ told.Opened o.request o.handle 1 o.lifetime
+    → assembling.Stands new [] → last_number new ≡ Some o.sequence → octet_limit new ≡ limits.max_message_size → chunk_limit new ≡ limits.max_chunk_count
+    → Takes limits channel before (Opens (opening_of body)) (Some e) × Stays limits (record { agreement = a; assembler = new; issued = 1; used = 1 }) (after before (Opens (opening_of body)))
+takes_first limits channel before a body o e new g so event stands last octets chunks =
+    let none : before.openings ≡ [] = ap (λ (b : Received). b.openings) g.before_is in
+    let count : issued before ≡ 0 = ap length none in
+    (
+      record {
+        accepted =
+            so.remain limits before count
+            ∙ (ap (λ (n : Option ℕ). first_reason ((0x8088_0000, not (may_follow n o.sequence)) ∷ (0x8081_0000, eqb (issued before) 4294967295) ∷ [])) (ap (λ (b : Received). b.last) g.before_is)
+            ∙ ap (λ (n : ℕ). first_reason ((0x8081_0000, eqb n 4294967295) ∷ [])) count);
+        tells = so.tells limits before count ∙ ap (λ (t : Told). t ∷ []) (sym event);
+      },
+      record {
+        hello = g.hello;
+        hello_is = ap (λ (b : Received). b.hello) g.before_is;
+        agreement_is = g.agreement_is;
+        issued_is = ap (λ (os : List Opening). length (os ++ opening_of body ∷ [])) none;
+        some = omega arith;
+        used_is = ap (λ (b : Received). or_first b.used) g.before_is;
+        last_is = ap (number_or before.last) so.numbers_are ∙ sym last;
+        assembles = subst (assembling.Stands new) (sym (ap (λ (b : Received). b.messages) g.before_is)) stands;
+        octets = octets;
+        chunks = chunks;
+        goes_on = ap (λ (b : Received). b.closed) g.before_is;
+      },
+    )

@@ -1,0 +1,236 @@
+-- What a server's channel makes of one call of its reader.
+use Rattle.std.proofs.Common.{◌≡◌, ℕ, ◌+◌, ◌-◌, ◌<◌, ◌≤◌, min, ◌⊎◌, inl, inr, Bool, true, false, IsTrue, List, [], ◌∷◌, ◌++◌, Option, Some, None, Result, Ok, Err, refl, sym, ◌∙◌, ap, subst, arith, length, take, drop, append_assoc, append-nil, length-append, take-append-drop}
+use Rattle.std.proofs.Math.Seq.{take-length}
+use Rattle.std.proofs.lemmas.Bool.{cases_lt}
+use Rattle.std.proofs.lemmas.List.{take-take, length-take-le}
+use Rattle.ua_builtin.specs.Reasons.{first_reason}
+use Rattle.ua_frame.specs.declared.frame.Frame.{Frame}
+use Rattle.ua_frame.specs.declared.fault.FrameFault.{FrameFault}
+use Rattle.ua_frame.specs.declared.fault.FrameFault.TheVariants as frame_fault
+use Rattle.ua_frame.specs.declared.gate.Gate.{Gate}
+use Rattle.ua_frame.specs.Frames.{frame_octets, header_fault, header_code, LetsIn, IsPartial}
+use Rattle.ua_frame.specs.Kinds.{lets_in}
+use Rattle.ua_frame.specs.Reader.{Reader, open_reader, TakesAll, TakesFrame, Refuses, Starves, Takes}
+use Rattle.ua_frame.specs.Run.{Rules, Run, events, End, Going, Stopped, Over, EndsIn}
+use Rattle.ua_frame.proofs.Fronts.{fault_front}
+use Rattle.ua_frame.proofs.Streams.{run_frame, run_part, run_header, run_refused, events-push}
+use Rattle.ua_channel.specs.declared.server.Phase.{Phase}
+use Rattle.ua_channel.specs.declared.server.Phase.TheVariants.{Waiting, Greeted, Open, Done}
+use Rattle.ua_channel.specs.declared.server.ServerChannel.{ServerChannel}
+use Rattle.ua_channel.specs.declared.server_event.Event.{Event}
+use Rattle.ua_channel.specs.declared.server_event.Event.TheVariants as inner
+use Rattle.ua_channel.specs.declared.server_fault.StepFault.{StepFault}
+use Rattle.ua_channel.specs.declared.server_fault.StepFault.TheVariants.{Refused, OutOfMemory}
+use Rattle.ua_channel.specs.declared.server_fault.StepFault.TheVariants as step
+use Rattle.ua_channel.specs.Content.{content}
+use Rattle.ua_channel.specs.Received.{Received, received, after}
+use Rattle.ua_channel.specs.ServerAnswers.{Tells, Steps}
+use Rattle.ua_channel.specs.ServerEvents.{told_of, told_list}
+use Rattle.ua_channel.specs.ServerFaults.{of_frame_fault}
+use Rattle.ua_channel.specs.ServerParts.{Takes as TakesIt}
+use Rattle.ua_channel.specs.ServerRefusals.{server_reasons}
+use Rattle.ua_channel.specs.ServerRules.{server_gate}
+use Rattle.ua_channel.specs.ServerStands.{limits_of, channel_of, rules_of, phase_gate, bound_after, Holds, Stands, IsDone, Goes, GoesTelling, Ended, IsJustWrong, AtFrame, AtHeader, RefusedAt, GoesOn, JudgesFrame}
+use Rattle.ua_channel.specs.ServerTold.{Told}
+use Rattle.ua_channel.specs.ServerTold.Told.{Agreed, Opened, Asked, GaveUp, Closed}
+use Rattle.ua_channel.proofs.OneFrameMore.{received-push}
+use Rattle.ua_channel.proofs.Phases.{gate_is, silent_open, telling_open, closing}
+
+-- a channel with another reader, phase and bound
+abbrev pub with_parts : ServerChannel → Reader → Phase → ℕ → ServerChannel
+with_parts x r p b = record x { reader = r; phase = p; bound = b }
+
+-- ---- a piece without the end of a frame
+
+pub part_goes : (x : ServerChannel) (r : Reader) (octets piece : List ℕ) (n : ℕ) (told : List Told) → Goes x octets told → TakesAll x.reader piece n r → Goes (with_parts x r x.phase x.bound) (octets ++ take n piece) told
+part_goes x r octets piece n told g t =
+    let gate = server_gate (limits_of x) (received g.frames) in
+    let at : TakesAll (open_reader gate g.rest) piece n r = subst (λ (o : Reader). TakesAll o piece n r) g.stands.reader_is t in
+    let all : take n piece ≡ piece = ap (λ (k : ℕ). take k piece) at.all ∙ take-length piece in
+    subst (λ (p : List ℕ). Goes (with_parts x r x.phase x.bound) (octets ++ p) told) (sym all)
+    (record {
+      frames = g.frames;
+      rest = g.rest ++ piece;
+      stands = record {
+        run = run_part (rules_of x) octets g.rest piece g.frames g.stands.run at.partial;
+        reader_is = at.new_is;
+        holds = record { phase_is = g.stands.holds.phase_is; bound_is = g.stands.holds.bound_is };
+      };
+      told_is = g.told_is;
+    })
+
+-- ---- a frame
+
+module _ (x : ServerChannel) (octets piece : List ℕ) (n : ℕ) (told : List Told) (f : Frame) (r r' : Reader) (p : Phase) (b : ℕ) (g : Goes x octets told) (t : TakesFrame x.reader piece n f r) (r_is : r' ≡ record r { gate = phase_gate p }) where
+  new : ServerChannel
+  new = with_parts x r' p b
+
+  at : TakesFrame (open_reader (server_gate (limits_of x) (received g.frames)) g.rest) piece n f r
+  at = subst (λ (o : Reader). TakesFrame o piece n f r) g.stands.reader_is t
+
+  reader_at : r' ≡ open_reader (phase_gate p) []
+  reader_at = r_is ∙ ap (λ (o : Reader). record o { gate = phase_gate p }) at.new_is
+
+  pub let_in_here : IsTrue (lets_in (phase_gate x.phase) f.kind)
+  let_in_here = subst (λ (o : Gate). IsTrue (lets_in o f.kind)) (sym (gate_is (limits_of x) x.phase (received g.frames) g.stands.holds.phase_is)) at.let_in.kind
+
+  run_more : (end : End ℕ) → first_reason (server_reasons (limits_of x) (channel_of x) (received g.frames) (content f)) ≡ None → EndsIn (rules_of x) (g.frames ++ f ∷ []) [] end → Run (rules_of x) (octets ++ take n piece) (g.frames ++ f ∷ []) [] end
+  run_more end accepted ends = run_frame (rules_of x) octets g.rest (take n piece) g.frames f end g.stands.run at.octets at.sized at.let_in accepted ends
+
+  closed_now : (after (received g.frames) (content f)).closed ≡ (received (g.frames ++ f ∷ [])).closed
+  closed_now = ap (λ (z : Received). z.closed) (sym (received-push g.frames f))
+
+  open_before : (received g.frames).closed ≡ false
+  open_before = g.stands.run.ends.0
+
+  stands_on : first_reason (server_reasons (limits_of x) (channel_of x) (received g.frames) (content f)) ≡ None → (after (received g.frames) (content f)).closed ≡ false → GoesOn (after (received g.frames) (content f)).closed new (after (received g.frames) (content f))
+      → Stands new (octets ++ take n piece) (g.frames ++ f ∷ []) []
+  unfolding new
+  stands_on accepted goes on =
+      let h : Holds new (after (received g.frames) (content f)) = subst (λ (z : Bool). GoesOn z new (after (received g.frames) (content f))) goes on in
+      record {
+        run = run_more Going accepted (sym closed_now ∙ goes, inl (omega arith));
+        reader_is = reader_at ∙ (ap (λ (o : Gate). open_reader o []) (gate_is (limits_of x) p (after (received g.frames) (content f)) h.phase_is) ∙ ap (λ (z : Received). open_reader (server_gate (limits_of x) z) []) (sym (received-push g.frames f)));
+        holds = subst (Holds new) (sym (received-push g.frames f)) h;
+      }
+
+  -- a frame that tells nothing
+  silent : TakesIt (limits_of x) (channel_of x) (received g.frames) (content f) None → GoesOn (after (received g.frames) (content f)).closed new (after (received g.frames) (content f)) → Goes new (octets ++ take n piece) told
+  unfolding new
+  silent takes on = record {
+    frames = g.frames ++ f ∷ [];
+    rest = [];
+    stands = stands_on takes.accepted (silent_open (limits_of x) (received g.frames) (content f) takes.tells open_before) on;
+    told_is = events-push (rules_of x) g.frames f ∙ (ap (λ (z : List Told). events (rules_of x) g.frames ++ z) takes.tells ∙ (append-nil (events (rules_of x) g.frames) ∙ g.told_is));
+  }
+
+  -- a frame that tells something, and isn't a close
+  telling : (e : Event) → TakesIt (limits_of x) (channel_of x) (received g.frames) (content f) (Some e) → GoesOn (after (received g.frames) (content f)).closed new (after (received g.frames) (content f)) → (Closed ≡ told_of e → ⊥) → GoesTelling new (octets ++ take n piece) told (told_of e)
+  unfolding new
+  telling e takes on other = record {
+    frames = g.frames;
+    frame = f;
+    stands = stands_on takes.accepted (telling_open (limits_of x) (received g.frames) (content f) (told_of e) takes.tells other open_before) on;
+    told_is = g.told_is;
+    tells = takes.tells;
+  }
+
+  empty_now : r'.held ≡ []
+  empty_now = ap (λ (o : Reader). o.held) reader_at
+
+  -- a close
+  closes : TakesIt (limits_of x) (channel_of x) (received g.frames) (content f) (Some inner.Closed) → GoesOn (after (received g.frames) (content f)).closed new (after (received g.frames) (content f)) → Ended new (octets ++ take n piece) (told ++ Closed ∷ []) Over
+  unfolding new
+  closes takes on =
+      let last : (after (received g.frames) (content f)).closed ≡ true = closing (limits_of x) (received g.frames) (content f) takes.tells in
+      let done : GoesOn true new (after (received g.frames) (content f)) = subst (λ (z : Bool). GoesOn z new (after (received g.frames) (content f))) last on in
+      record {
+        done = record { phase = done.0; empty = empty_now };
+        frames = g.frames ++ f ∷ [];
+        rest = [];
+        run = run_more Over takes.accepted (sym closed_now ∙ last);
+        told_is = events-push (rules_of x) g.frames f ∙ (ap (λ (z : List Told). events (rules_of x) g.frames ++ z) takes.tells ∙ ap (λ (z : List Told). z ++ Closed ∷ []) g.told_is);
+        bound_is = done.1 ∙ ap (bound_after (limits_of x)) (sym (received-push g.frames f));
+      }
+
+  -- a frame that is refused
+  refused : (code : ℕ) → first_reason (server_reasons (limits_of x) (channel_of x) (received g.frames) (content f)) ≡ Some code → p ≡ Done → b ≡ x.bound → RefusedAt new (octets ++ take n piece) told code
+  unfolding new
+  refused code why done bound = record {
+    done = record { phase = done; empty = empty_now };
+    frames = g.frames;
+    rest = g.rest ++ take n piece;
+    run = run_refused (rules_of x) octets g.rest (take n piece) n g.frames f code g.stands.run (ap (λ (z : List ℕ). g.rest ++ z) (take-take n n piece (omega arith)) ∙ at.octets) at.sized at.let_in why;
+    just = AtFrame f at.octets;
+    told_is = g.told_is;
+    bound_is = bound ∙ g.stands.holds.bound_is;
+  }
+
+  tells_by : (e : Event) → TakesIt (limits_of x) (channel_of x) (received g.frames) (content f) (Some e) → GoesOn (after (received g.frames) (content f)).closed new (after (received g.frames) (content f)) → Tells e new (octets ++ take n piece) told
+  tells_by (inner.Agreed a) takes on = telling (inner.Agreed a) takes on (λ z. absurd cc)
+  tells_by (inner.Opened id handle token lifetime) takes on = telling (inner.Opened id handle token lifetime) takes on (λ z. absurd cc)
+  tells_by (inner.Asked id token message) takes on = telling (inner.Asked id token message) takes on (λ z. absurd cc)
+  tells_by (inner.Aborted id) takes on = telling (inner.Aborted id) takes on (λ z. absurd cc)
+  tells_by inner.Closed takes on = closes takes on
+
+  on_by : (z : Bool) (a : Received) → GoesOn z (with_parts x r p b) a → GoesOn z new a
+  unfolding new
+  on_by false a h = record { phase_is = h.phase_is; bound_is = h.bound_is }
+  on_by true a h = h
+
+  on_as : GoesOn (after (received g.frames) (content f)).closed (with_parts x r p b) (after (received g.frames) (content f)) → GoesOn (after (received g.frames) (content f)).closed new (after (received g.frames) (content f))
+  unfolding new
+  on_as on = on_by (after (received g.frames) (content f)).closed (after (received g.frames) (content f)) on
+
+  -- what a frame comes to
+  pub frame_steps : (answer : Result (Option Event) StepFault) → JudgesFrame (with_parts x r x.phase x.bound) (received g.frames) (content f) answer (with_parts x r p b) → Steps piece n answer (with_parts x r' p b) octets told
+  unfolding new
+  frame_steps (Ok None) j = silent j.0 (on_as j.1)
+  frame_steps (Ok (Some e)) j = tells_by e j.0 (on_as j.1)
+  frame_steps (Err (Refused code)) j = refused code.code j.0 j.1 j.2
+  frame_steps (Err OutOfMemory) j = record { phase = j; empty = empty_now }
+  frame_steps (Err step.Closed) j = j
+
+abbrev with_gate : Gate → Reader → Reader
+with_gate gate r = record r { gate = gate }
+
+-- one call of the reader that has a frame
+pub step_frame : (x y : ServerChannel) (octets piece : List ℕ) (n : ℕ) (told : List Told) (f : Frame) (r z : Reader) (gate : Gate) (answer : Result (Option Event) StepFault) → Goes x octets told → TakesFrame x.reader piece n f r → y ≡ with_parts x r y.phase y.bound → gate ≡ phase_gate y.phase → z ≡ with_gate gate y.reader
+    → ((before : Received) → Holds (with_parts x r x.phase x.bound) before → IsTrue (lets_in (phase_gate x.phase) f.kind) → JudgesFrame (with_parts x r x.phase x.bound) before (content f) answer y) → Steps piece n answer (record y { reader = z }) octets told
+step_frame x y octets piece n told f r z gate answer g t kept gate_at z_is judges =
+    let z_at : z ≡ with_gate (phase_gate y.phase) r = z_is ∙ (ap (λ (h : Gate). with_gate h y.reader) gate_at ∙ ap (λ (c : ServerChannel). with_gate (phase_gate y.phase) c.reader) kept) in
+    let holds : Holds (with_parts x r x.phase x.bound) (received g.frames) = record { phase_is = g.stands.holds.phase_is; bound_is = g.stands.holds.bound_is } in
+    let here : IsTrue (lets_in (phase_gate x.phase) f.kind) = let_in_here x octets piece n told f r z y.phase y.bound g t z_at in
+    subst (λ (c : ServerChannel). Steps piece n answer (record c { reader = z }) octets told) (sym kept)
+    (frame_steps x octets piece n told f r z y.phase y.bound g t z_at answer (subst (λ (c : ServerChannel). JudgesFrame (with_parts x r x.phase x.bound) (received g.frames) (content f) answer c) kept (judges (received g.frames) holds here)))
+
+-- ---- a header that is refused
+
+module _ (x : ServerChannel) (octets piece : List ℕ) (told : List Told) (r : Reader) (n : ℕ) (g : Goes x octets told) (n_is : n ≡ min (8 - length x.reader.held) (length piece)) where
+  held_is : x.reader.held ≡ g.rest
+  held_is = ap (λ (o : Reader). o.held) g.stands.reader_is
+
+  below : (fault : FrameFault) → header_fault (server_gate (limits_of x) (received g.frames)) (g.rest ++ piece) ≡ Some fault → header_fault (server_gate (limits_of x) (received g.frames)) g.rest ≡ None → (length g.rest < 8) ⊎ (8 ≤ length g.rest) → length g.rest < 8
+  below fault wrong good (inl few) = few
+  below fault wrong good (inr whole) = let none : ◌≡◌ {A = Option FrameFault} None (Some fault) = sym good ∙ (sym (fault_front (server_gate (limits_of x) (received g.frames)) g.rest piece whole) ∙ wrong) in absurd cc
+
+  short : (fault : FrameFault) → header_fault (server_gate (limits_of x) (received g.frames)) (g.rest ++ piece) ≡ Some fault → length g.rest < 8
+  short fault wrong = elim g.stands.run.ends.1 [ inl few ↦ few | inr part ↦ below fault wrong part.0 (cases_lt (length g.rest) 8) ]
+
+  refused_header : (fault : FrameFault) (code : ℕ) → Refuses x.reader piece fault r → header_code fault ≡ Some code → RefusedAt (with_parts x r Done x.bound) (octets ++ take n piece) told code
+  refused_header fault code refuses code_is =
+      let at : Refuses (open_reader (server_gate (limits_of x) (received g.frames)) g.rest) piece fault r = subst (λ (o : Reader). Refuses o piece fault r) g.stands.reader_is refuses in
+      let few : length g.rest < 8 = short fault at.fault_is in
+      let held : length x.reader.held ≡ length g.rest = ap length held_is in
+      let whole : 8 ≤ length g.rest + length piece = omega (arith, at.header, length-append g.rest piece) in
+      let taken : length (take n piece) ≡ n = length-take-le n piece (omega (arith, n_is)) in
+      let eight : length (g.rest ++ take n piece) ≡ 8 = omega (arith, length-append g.rest (take n piece), taken, n_is, held, whole, few) in
+      let parts : (g.rest ++ take n piece) ++ drop n piece ≡ g.rest ++ piece = append_assoc g.rest (take n piece) (drop n piece) ∙ ap (λ (z : List ℕ). g.rest ++ z) (take-append-drop n piece) in
+      let wrong : header_fault (server_gate (limits_of x) (received g.frames)) (g.rest ++ take n piece) ≡ Some fault = sym (fault_front (server_gate (limits_of x) (received g.frames)) (g.rest ++ take n piece) (drop n piece) (omega (arith, eight))) ∙ (ap (header_fault (server_gate (limits_of x) (received g.frames))) parts ∙ at.fault_is) in
+      record {
+        done = record { phase = refl; empty = ap (λ (o : Reader). o.held) at.new_is };
+        frames = g.frames;
+        rest = g.rest ++ take n piece;
+        run = run_header (rules_of x) octets g.rest (take n piece) g.frames fault code code g.stands.run (omega (arith, eight)) wrong code_is refl;
+        just = AtHeader eight;
+        told_is = g.told_is;
+        bound_is = g.stands.holds.bound_is;
+      }
+
+  starved : Starves x.reader piece r → IsDone (with_parts x r Done x.bound)
+  starved s = record { phase = refl; empty = ap (λ (o : Reader). o.held) s.new_is }
+
+  never_closed : (x.reader.failed ≡ true) × (r ≡ x.reader) → ⊥
+  never_closed h = let goes : true ≡ false = sym h.0 ∙ ap (λ (o : Reader). o.failed) g.stands.reader_is in cc
+
+  fault_steps : (fault : FrameFault) → Takes x.reader piece (Err fault) r → Steps piece n (Err (of_frame_fault fault)) (with_parts x r Done x.bound) octets told
+  fault_steps frame_fault.UnknownType t = refused_header frame_fault.UnknownType 0x807E_0000 t refl
+  fault_steps frame_fault.OutOfPlace t = refused_header frame_fault.OutOfPlace 0x807E_0000 t refl
+  fault_steps frame_fault.TooLarge t = refused_header frame_fault.TooLarge 0x8080_0000 t refl
+  fault_steps frame_fault.TooSmall t = refused_header frame_fault.TooSmall 0x8007_0000 t refl
+  fault_steps frame_fault.OutOfMemory t = starved t
+  fault_steps frame_fault.Closed t = absurd (never_closed t)
+
+  -- one call of the reader that fails
+  pub step_fault : (fault : FrameFault) (e : StepFault) → Takes x.reader piece (Err fault) r → e ≡ of_frame_fault fault → Steps piece n (Err e) (with_parts x r Done x.bound) octets told
+  step_fault fault e t is = subst (λ (s : StepFault). Steps piece n (Err s) (with_parts x r Done x.bound) octets told) (sym is) (fault_steps fault t)
