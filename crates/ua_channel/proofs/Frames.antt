@@ -150,11 +150,10 @@ hel_taken old new before f a limits is none phase bound agrees =
       phase_is = rw (phase, limits) (record { hello = agrees.hello; before_is = refl; agreement_is = agrees.agreement_is });
       bound_is = bound ∙ (ap (λ (x : Agreement). x.ack.receive_buffer_size + 4 * (limits_of old).max_message_size) agrees.agreement_is ∙ ap (λ (l : Limits). bound_behind l (Some agrees.hello)) (sym limits));
     } in
-    subst (λ (c : Content). JudgesFrame old before c (Ok (Some (event.Agreed a))) new) (sym (content_hel f is))
-    (
+    subst (λ (c : Content). JudgesFrame old before c (Ok (Some (event.Agreed a))) new) (sym (content_hel f is)) (
       record {
         accepted = agrees.accepted (channel_of old) before;
         tells = ap (λ (o : Option Hello). server_tells (limits_of old) before (Greets o)) agrees.reads ∙ ap (λ (x : Agreement). told.Agreed x ∷ []) (sym agrees.agreement_is);
       },
-      subst (λ (b : Received). GoesOn b.closed new b) (sym received) same
+      subst (λ (b : Received). GoesOn b.closed new b) (sym received) same,
     )

@@ -5,3 +5,7 @@ pub mod Runs
 pub mod Frames
 pub mod Phases
 pub mod Servers
+pub mod Pieces
+pub mod Starts
+pub mod OpeningFrames
+pub mod Answering

@@ -189,8 +189,7 @@ pub takes_first : (limits : Limits) (channel : ℕ) (before : Received) (a : Agr
     → Takes limits channel before (Opens (opening_of body)) (Some e) × Stays limits (record { agreement = a; assembler = new; issued = 1; used = 1 }) (after before (Opens (opening_of body)))
 takes_first limits channel before a body o e new g so event stands last octets chunks =
     let none : before.openings ≡ [] = ap (λ (b : Received). b.openings) g.before_is in
-    let count : issued before ≡ 0 = ap length none in
-    (
+    let count : issued before ≡ 0 = ap length none in (
       record {
         accepted =
             so.remain limits before count

@@ -17,7 +17,7 @@ use Rattle.ua_channel.specs.declared.server_fault.StepFault.{StepFault}
 use Rattle.ua_channel.specs.declared.server_fault.StepFault.TheVariants as step
 use Rattle.ua_channel.specs.ServerEvents.{told_of}
 use Rattle.ua_channel.specs.ServerSends.{AreSent, counted_by}
-use Rattle.ua_channel.specs.ServerStands.{next_of, IsDone, Goes, GoesTelling, Ended, RefusedAt}
+use Rattle.ua_channel.specs.ServerStands.{limits_of, channel_of, next_of, IsDone, Goes, GoesTelling, Ended, RefusedAt}
 use Rattle.ua_channel.specs.ServerTold.{Told}
 use Rattle.ua_channel.specs.ServerTold.{Told as told}
 
@@ -94,6 +94,14 @@ Nexts piece n (Ok (Some e)) new octets before = (0 < n) × (n ≤ length piece) 
 Nexts piece n (Err (step.Refused code)) new octets before = (n ≤ length piece) × RefusedAt new (octets ++ take n piece) before code.code
 Nexts piece n (Err step.OutOfMemory) new octets before = (n ≤ length piece) × IsDone new
 Nexts piece n (Err step.Closed) new octets before = ⊥
+
+-- so many octets of a piece were taken since it stood there, and nothing was told
+pub record Took (old now : ServerChannel) (piece : List ℕ) (taken : ℕ) : Type 0 where
+  pub within : taken ≤ length piece
+  pub goes : (octets : List ℕ) (before : List Told) → Goes old octets before → Goes now (octets ++ take taken piece) before
+  pub limits : limits_of now ≡ limits_of old
+  pub channel : channel_of now ≡ channel_of old
+  pub numbers : now.numbers ≡ old.numbers
 
 -- what is answered to an event of the last frame
 abbrev pub Answered : ℕ → ℕ → DateTime → Result ServerEvent ChannelFault → ServerChannel → List ℕ → List Told → Type 0

@@ -65,12 +65,12 @@ impl ServerChannel {
     ghost use Rattle.ua_frame.specs.declared.frame.Frame.{Frame};
     ghost use Rattle.ua_frame.specs.Kinds.{lets_in};
     ghost use Rattle.ua_chunk.specs.declared.lane.Lane.{Lane};
-    ghost use Rattle.ua_chunk.specs.Open.{open_ids};
+    ghost use Rattle.ua_chunk.specs.Open.{open_ids, open_octets};
     ghost use Rattle.ua_channel.specs.Content.{content};
     ghost use Rattle.ua_channel.specs.Received.{Received, received};
     ghost use Rattle.ua_channel.specs.ServerAnswers.{Tells, Steps, Progress, Nexts, Answered, AnswersAt, ServerAnswers};
     ghost use Rattle.ua_channel.specs.ServerParts.{HasShape, Stays};
-    ghost use Rattle.ua_channel.specs.ServerRules.{server_gate};
+    ghost use Rattle.ua_channel.specs.ServerRules.{receive_size};
     ghost use Rattle.ua_channel.specs.ServerSends.{IsReply, RepliesGo};
     ghost use Rattle.ua_channel.specs.ServerStands.{limits_of, channel_of, next_of, phase_gate, bound_of, IsNotOpen, LaneIs, Holds, Stands, Goes, IsDone, JudgesFrame, bound_after, held_after};
     ghost use Rattle.ua_channel.specs.ServerTold.{Told};
@@ -167,8 +167,13 @@ impl ServerChannel {
                 Ok(Some(Event::Agreed(agreement)))
             }
             Phase::Greeted(agreement) => {
-                let (running, event) =
-                    Running::open(self.alloc, &self.limits, agreement, self.channel, frame)?;
+                let (running, event) = Running::open(
+                    self.alloc,
+                    &self.limits,
+                    agreement,
+                    self.channel,
+                    frame,
+                )?;
                 self.phase = Phase::Open(running);
                 Ok(Some(event))
             }
@@ -271,12 +276,21 @@ impl ServerChannel {
                     token,
                     lifetime,
                 };
-                let octets = opened_octets(self.alloc, &opening, self.numbers.number(), moment);
-                self.numbers.step();
-                self.send(octets)
+                match opened_octets(self.alloc, &opening, self.numbers.number(), moment) {
+                    Ok(octets) => {
+                        self.numbers.step();
+                        Ok(ServerEvent::Send(octets))
+                    }
+                    Err(_) => {
+                        self.fail();
+                        Err(ChannelFault::OutOfMemory)
+                    }
+                }
             }
             Event::Asked {
-                request, message, ..
+                request,
+                message,
+                ..
             } => Ok(ServerEvent::Asked(request, message)),
             Event::Aborted(request) => Ok(ServerEvent::Aborted(request)),
             Event::Closed => Ok(ServerEvent::Closed),
@@ -299,10 +313,11 @@ impl ServerChannel {
         if self.is_done() {
             return (0, Err(ChannelFault::Closed));
         }
-        match self.next_event(piece) {
-            (n, Ok(None)) => (n, Ok(ServerEvent::NeedMore)),
-            (n, Ok(Some(event))) => (n, self.answer(event, moment)),
-            (n, Err(fault)) => (n, Err(ChannelFault::of_step(fault))),
+        let (n, outcome) = self.next_event(piece);
+        match outcome {
+            Ok(None) => (n, Ok(ServerEvent::NeedMore)),
+            Ok(Some(event)) => (n, self.answer(event, moment)),
+            Err(fault) => (n, Err(ChannelFault::of_step(fault))),
         }
     }
 
@@ -320,9 +335,10 @@ impl ServerChannel {
         ensures limits { limits_of self.new ≡ limits_of self.old }
         ensures channel { channel_of self.new ≡ channel_of self.old }
     {
-        match self.advance(piece, moment) {
-            (n, Ok(event)) => Ok((n, event)),
-            (_, Err(fault)) => Err(fault),
+        let (n, answer) = self.advance(piece, moment);
+        match answer {
+            Ok(event) => Ok((n, event)),
+            Err(fault) => Err(fault),
         }
     }
 
@@ -347,7 +363,7 @@ impl ServerChannel {
             → OnOk result (Stands self.new octets frames rest) }
         ensures sent { (octets : List ℕ) (frames : List Frame) (rest : List ℕ) → Stands self.old octets frames rest
             → IfOk result (λ out. (lane : Lane) × RepliesGo (limits_of self.old) (channel_of self.old) (received frames) lane
-                × IsReply lane body.now (next_of self.old) id out.items (next_of self.new)) }
+            × IsReply lane body.now (next_of self.old) id out.items (next_of self.new)) }
         // No channel is open before the first OPN, and once the channel ended, and then alone.
         ensures not_open { IsErrOf result NotOpen ↔ IsNotOpen self.old.phase }
         ensures unchanged { IsErrOf result NotOpen → self.new ≡ self.old }
@@ -370,6 +386,18 @@ impl ServerChannel {
         }
     }
 
+    /// How many octets are held of unfinished messages.
+    fn messages_held(&self) -> usize
+        ensures held { (before : Received) → Holds self.now before → result ≡ open_octets before.messages }
+        ensures bound { (before : Received) → Holds self.now before → result + receive_size (limits_of self.now) before.hello ≤ bound_after (limits_of self.now) before }
+        ensures done { self.now.phase ≡ phase.Done → result ≡ 0 }
+    {
+        match &self.phase {
+            Phase::Open(running) => running.held(),
+            Phase::Waiting | Phase::Greeted(_) | Phase::Done => 0,
+        }
+    }
+
     /// How many octets are held: those of a frame that is not whole, and those of unfinished
     /// messages. They are never more than [`bound`](ServerChannel::bound) says.
     pub fn held(&self) -> usize
@@ -379,11 +407,7 @@ impl ServerChannel {
             → result ≤ bound_after (limits_of self.now) (received frames) }
         ensures done { IsDone self.now → result ≡ 0 }
     {
-        let messages = match &self.phase {
-            Phase::Open(running) => running.held(),
-            Phase::Waiting | Phase::Greeted(_) | Phase::Done => 0,
-        };
-        self.reader.held() + messages
+        self.reader.held().saturating_add(self.messages_held())
     }
 
     /// The most octets that may be held: 8192 before the ACK, then those of a frame of the agreed

@@ -1,0 +1,99 @@
+-- What is answered to events, and to whole pieces.
+use Rattle.std.proofs.Common.{◌≡◌, ℕ, ◌<◌, ◌≤◌, List, [], ◌∷◌, ◌++◌, Option, Some, None, Result, Ok, Err, refl, sym, ◌∙◌, ap, subst, length, take, drop, append_assoc, take-append-drop}
+use Rattle.std.proofs.Math.Seq.{take-length}
+use Rattle.std.specs.List.{concat}
+use Rattle.ua_builtin.specs.declared.date_time.DateTime.{DateTime}
+use Rattle.ua_frame.specs.Frames.{frame_octets}
+use Rattle.ua_frame.specs.Messages.{err_frame}
+use Rattle.ua_frame.specs.Run.{Stopped, Over, Going}
+use Rattle.ua_frame.proofs.Ends.{ends_stay}
+use Rattle.ua_chunk.specs.Sequence.{next_number}
+use Rattle.ua_channel.specs.declared.server.ServerChannel.{ServerChannel}
+use Rattle.ua_channel.specs.declared.server_event.Event.{Event}
+use Rattle.ua_channel.specs.declared.server_event.Event.TheVariants as inner
+use Rattle.ua_channel.specs.declared.server_event.ServerEvent.{ServerEvent}
+use Rattle.ua_channel.specs.declared.server_event.ServerEvent.TheVariants.{NeedMore, Send, Asked, Aborted}
+use Rattle.ua_channel.specs.declared.server_event.ServerEvent.TheVariants as event
+use Rattle.ua_channel.specs.declared.server_fault.ChannelFault.{ChannelFault}
+use Rattle.ua_channel.specs.declared.server_fault.ChannelFault.TheVariants as fault
+use Rattle.ua_channel.specs.declared.server_fault.StepFault.{StepFault}
+use Rattle.ua_channel.specs.declared.server_fault.StepFault.TheVariants as step
+use Rattle.ua_channel.specs.ServerAnswers.{Sends, Asks, Hands, Counts, ServerAnswers, AnswersAt, Tells, Nexts, Answered}
+use Rattle.ua_channel.specs.ServerFaults.{of_step}
+use Rattle.ua_channel.specs.ServerSends.{opened_frame}
+use Rattle.ua_channel.specs.ServerStands.{limits_of, channel_of, next_of, rules_of, Holds, Stands, Goes, GoesTelling, IsDone, Ended, RefusedAt}
+use Rattle.ua_channel.specs.ServerTold.{Told}
+use Rattle.ua_channel.specs.ServerTold.{Told as told}
+use Rattle.ua_channel.specs.declared.numbers.Numbers.{Numbers}
+
+-- a channel goes on telling where the number of its next chunk moves on
+pub telling_counted : (x : ServerChannel) (numbers : Numbers) (octets : List ℕ) (before : List Told) (e : Told) → GoesTelling x octets before e → GoesTelling (record x { numbers = numbers }) octets before e
+telling_counted x numbers octets before e g = record {
+  frames = g.frames;
+  frame = g.frame;
+  stands = record { run = g.stands.run; reader_is = g.stands.reader_is; holds = record { phase_is = g.stands.holds.phase_is; bound_is = g.stands.holds.bound_is } };
+  told_is = g.told_is;
+  tells = g.tells;
+}
+
+-- what is sent where a token was issued
+pub opened_sends : (x : ServerChannel) (numbers : Numbers) (moment : DateTime) (octets sent : List ℕ) (before : List Told) (e : Event) (id handle token lifetime number : ℕ) → e ≡ inner.Opened id handle token lifetime → Tells e x octets before → number ≡ x.numbers.next → numbers.next ≡ next_number x.numbers.next
+    → sent ≡ frame_octets (opened_frame (channel_of x) number id handle token lifetime moment) → Sends (channel_of x) (next_of x) moment sent (record x { numbers = numbers }) octets before
+opened_sends x numbers moment octets sent before e id handle token lifetime number is tells number_is next sent_is = record {
+  said = told.Opened id handle token lifetime;
+  are_sent = sent_is ∙ ap (λ (n : ℕ). frame_octets (opened_frame (channel_of x) n id handle token lifetime moment)) number_is;
+  goes = telling_counted x numbers octets before (told.Opened id handle token lifetime) (subst (λ (v : Event). Tells v x octets before) is tells);
+  counted = next;
+}
+
+-- ---- whole pieces
+
+counts_of : (channel number : ℕ) (moment : DateTime) (piece : List ℕ) (n : ℕ) (answer : Result ServerEvent ChannelFault) (new : ServerChannel) (octets : List ℕ) (before : List Told) → 0 < n → n ≤ length piece → Answered channel number moment answer new (octets ++ take n piece) before → AnswersAt channel number moment piece n answer new octets before
+counts_of channel number moment piece n (Ok NeedMore) new octets before some within h = absurd h
+counts_of channel number moment piece n (Ok (Send sent)) new octets before some within h = ((some, within), h)
+counts_of channel number moment piece n (Ok (Asked id message)) new octets before some within h = ((some, within), h)
+counts_of channel number moment piece n (Ok (Aborted id)) new octets before some within h = ((some, within), h)
+counts_of channel number moment piece n (Ok event.Closed) new octets before some within h = ((some, within), h)
+counts_of channel number moment piece n (Err (fault.Refused code err)) new octets before some within h = absurd h
+counts_of channel number moment piece n (Err fault.OutOfMemory) new octets before some within h = (within, h)
+counts_of channel number moment piece n (Err fault.Closed) new octets before some within h = h
+
+-- an event
+pub answers_event : (channel channel' number number' : ℕ) (moment : DateTime) (piece : List ℕ) (n : ℕ) (e : Event) (answer : Result ServerEvent ChannelFault) (mid new : ServerChannel) (octets : List ℕ) (before : List Told) → channel' ≡ channel → number' ≡ number → Nexts piece n (Ok (Some e)) mid octets before
+    → (Tells e mid (octets ++ take n piece) before → Answered channel' number' moment answer new (octets ++ take n piece) before) → AnswersAt channel number moment piece n answer new octets before
+answers_event channel channel' number number' moment piece n e answer mid new octets before same again h by =
+    counts_of channel number moment piece n answer new octets before h.0 h.1
+    (subst (λ (k : ℕ). Answered channel k moment answer new (octets ++ take n piece) before) again
+    (subst (λ (k : ℕ). Answered k number' moment answer new (octets ++ take n piece) before) same (by h.2)))
+
+-- no event
+pub answers_nothing : (channel number : ℕ) (moment : DateTime) (piece : List ℕ) (n : ℕ) (new : ServerChannel) (octets : List ℕ) (before : List Told) → Nexts piece n (Ok None) new octets before → next_of new ≡ number → AnswersAt channel number moment piece n (Ok NeedMore) new octets before
+answers_nothing channel number moment piece n new octets before h same =
+    (h.0, (subst (λ (z : List ℕ). Goes new (octets ++ z) before) (sym (ap (λ (k : ℕ). take k piece) h.0 ∙ take-length piece)) h.1, same))
+
+answers_step : (channel number : ℕ) (moment : DateTime) (piece : List ℕ) (n : ℕ) (s : StepFault) (new : ServerChannel) (octets : List ℕ) (before : List Told) → Nexts piece n (Err s) new octets before → AnswersAt channel number moment piece n (Err (of_step s)) new octets before
+answers_step channel number moment piece n (step.Refused code) new octets before h = (h.0, h.1, refl)
+answers_step channel number moment piece n step.OutOfMemory new octets before h = h
+answers_step channel number moment piece n step.Closed new octets before h = h
+
+-- a fault
+pub answers_fault : (channel number : ℕ) (moment : DateTime) (piece : List ℕ) (n : ℕ) (s : StepFault) (f : ChannelFault) (new : ServerChannel) (octets : List ℕ) (before : List Told) → Nexts piece n (Err s) new octets before → f ≡ of_step s → AnswersAt channel number moment piece n (Err f) new octets before
+answers_fault channel number moment piece n s f new octets before h is = subst (λ (x : ChannelFault). AnswersAt channel number moment piece n (Err x) new octets before) (sym is) (answers_step channel number moment piece n s new octets before h)
+
+-- ---- without the count of a refusal
+
+ended_behind : (x : ServerChannel) (octets more : List ℕ) (before : List Told) (code : ℕ) → RefusedAt x octets before code → Ended x (octets ++ more) before (Stopped code)
+ended_behind x octets more before code r = record {
+  done = r.done;
+  frames = r.frames;
+  rest = r.rest ++ more;
+  run = ends_stay (rules_of x) octets more r.frames r.rest (Stopped code) (λ e. absurd cc) r.run;
+  told_is = r.told_is;
+  bound_is = r.bound_is;
+}
+
+pub taken_fault : (channel number : ℕ) (moment : DateTime) (piece : List ℕ) (n : ℕ) (f : ChannelFault) (new : ServerChannel) (octets : List ℕ) (before : List Told) → AnswersAt channel number moment piece n (Err f) new octets before → ServerAnswers channel number moment piece (Err f) new octets before
+taken_fault channel number moment piece n (fault.Refused code err) new octets before h =
+    (subst (λ (z : List ℕ). Ended new z before (Stopped code.code)) (append_assoc octets (take n piece) (drop n piece) ∙ ap (λ (z : List ℕ). octets ++ z) (take-append-drop n piece)) (ended_behind new (octets ++ take n piece) (drop n piece) before code.code h.1), h.2)
+taken_fault channel number moment piece n fault.OutOfMemory new octets before h = h.1
+taken_fault channel number moment piece n fault.Closed new octets before h = h
