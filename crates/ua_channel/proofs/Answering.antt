@@ -1,11 +1,9 @@
 -- What is answered to events, and to whole pieces.
-use Rattle.std.proofs.Common.{◌≡◌, ℕ, ◌<◌, ◌≤◌, List, [], ◌∷◌, ◌++◌, Option, Some, None, Result, Ok, Err, refl, sym, ◌∙◌, ap, subst, length, take, drop, append_assoc, take-append-drop}
+use Rattle.std.proofs.Common.{◌≡◌, ℕ, ◌<◌, ◌≤◌, List, ◌++◌, Some, None, Result, Ok, Err, refl, sym, ◌∙◌, ap, subst, length, take, drop, append_assoc, take-append-drop}
 use Rattle.std.proofs.Math.Seq.{take-length}
-use Rattle.std.specs.List.{concat}
 use Rattle.ua_builtin.specs.declared.date_time.DateTime.{DateTime}
 use Rattle.ua_frame.specs.Frames.{frame_octets}
-use Rattle.ua_frame.specs.Messages.{err_frame}
-use Rattle.ua_frame.specs.Run.{Stopped, Over, Going}
+use Rattle.ua_frame.specs.Run.{Stopped}
 use Rattle.ua_frame.proofs.Ends.{ends_stay}
 use Rattle.ua_chunk.specs.Sequence.{next_number}
 use Rattle.ua_channel.specs.declared.server.ServerChannel.{ServerChannel}
@@ -18,10 +16,10 @@ use Rattle.ua_channel.specs.declared.server_fault.ChannelFault.{ChannelFault}
 use Rattle.ua_channel.specs.declared.server_fault.ChannelFault.TheVariants as fault
 use Rattle.ua_channel.specs.declared.server_fault.StepFault.{StepFault}
 use Rattle.ua_channel.specs.declared.server_fault.StepFault.TheVariants as step
-use Rattle.ua_channel.specs.ServerAnswers.{Sends, Asks, Hands, Counts, ServerAnswers, AnswersAt, Tells, Nexts, Answered}
+use Rattle.ua_channel.specs.ServerAnswers.{Sends, ServerAnswers, AnswersAt, Tells, Nexts, Answered}
 use Rattle.ua_channel.specs.ServerFaults.{of_step}
 use Rattle.ua_channel.specs.ServerSends.{opened_frame}
-use Rattle.ua_channel.specs.ServerStands.{limits_of, channel_of, next_of, rules_of, Holds, Stands, Goes, GoesTelling, IsDone, Ended, RefusedAt}
+use Rattle.ua_channel.specs.ServerStands.{channel_of, next_of, rules_of, Goes, GoesTelling, Ended, RefusedAt}
 use Rattle.ua_channel.specs.ServerTold.{Told}
 use Rattle.ua_channel.specs.ServerTold.{Told as told}
 use Rattle.ua_channel.specs.declared.numbers.Numbers.{Numbers}

@@ -1,6 +1,5 @@
 -- What a server's channel makes of a frame, by its phase.
-use Rattle.std.proofs.Common.{◌≡◌, ℕ, ◌+◌, ◌*◌, Bool, true, false, IsTrue, List, [], ◌∷◌, ◌++◌, Option, Some, None, Ok, Err, refl, sym, ◌∙◌, ap, subst}
-use Rattle.ua_builtin.specs.Reasons.{first_reason}
+use Rattle.std.proofs.Common.{◌≡◌, ℕ, ◌+◌, ◌*◌, Bool, false, IsTrue, List, [], ◌∷◌, Option, Some, None, Ok, Err, refl, sym, ◌∙◌, ap, subst}
 use Rattle.ua_frame.specs.declared.frame.Frame.{Frame}
 use Rattle.ua_frame.specs.declared.hello.Hello.{Hello}
 use Rattle.ua_frame.specs.declared.kind.Kind.{Kind}
@@ -26,7 +25,7 @@ use Rattle.ua_channel.specs.Received.{Received, nothing_received, or_before, aft
 use Rattle.ua_channel.specs.ServerParts.{AgreesTo, JudgesHello, HasGreeted, JudgesFirst, Stays, Judges, JudgesClose}
 use Rattle.ua_channel.specs.ServerRules.{opening_gate}
 use Rattle.ua_channel.specs.ServerStands.{InPhase, phase_gate, limits_of, channel_of, bound_behind, bound_after, Holds, GoesOn, JudgesFrame}
-use Rattle.ua_channel.specs.ServerTold.{Told, Told as told, server_tells}
+use Rattle.ua_channel.specs.ServerTold.{Told as told, server_tells}
 
 -- ---- the kinds that are let in
 
@@ -147,7 +146,7 @@ pub hel_taken : (old new : ServerChannel) (before : Received) (f : Frame) (a : A
 hel_taken old new before f a limits is none phase bound agrees =
     let received : after before (Greets (hello_in f.body)) ≡ with_hello (Some agrees.hello) = ap (λ (b : Received). after b (Greets (hello_in f.body))) none ∙ ap with_hello (ap (or_before None) agrees.reads) in
     let same : Holds new (with_hello (Some agrees.hello)) = record {
-      phase_is = rw (phase, limits) (record { hello = agrees.hello; before_is = refl; agreement_is = agrees.agreement_is });
+      phase_is = rw (phase, limits) (record { hello = agrees.hello; before_is = refl; agreement_is = agrees.agreement_is; large = agrees.large });
       bound_is = bound ∙ (ap (λ (x : Agreement). x.ack.receive_buffer_size + 4 * (limits_of old).max_message_size) agrees.agreement_is ∙ ap (λ (l : Limits). bound_behind l (Some agrees.hello)) (sym limits));
     } in
     subst (λ (c : Content). JudgesFrame old before c (Ok (Some (event.Agreed a))) new) (sym (content_hel f is)) (

@@ -1,14 +1,15 @@
 -- What a server makes of a HEL.
-use Rattle.std.proofs.Common.{◌≡◌, ℕ, List, Option, Some, None, Ok, Err, refl, ◌∙◌, ap}
+use Rattle.std.proofs.Common.{◌≡◌, ℕ, ◌≤◌, min, Bool, true, false, ◌||◌, ltb, List, [], ◌∷◌, Option, Some, None, Ok, Err, refl, ◌∙◌, ap, arith}
+use Rattle.std.proofs.lemmas.Bool.{ltb-false}
 use Rattle.ua_builtin.specs.Reasons.{first_reason}
 use Rattle.ua_builtin.specs.Status.{of_code}
 use Rattle.ua_builtin.specs.declared.status_code.StatusCode.{StatusCode}
 use Rattle.ua_frame.specs.declared.ack.Ack.{Ack}
 use Rattle.ua_frame.specs.declared.hello.Hello.{Hello}
 use Rattle.ua_frame.specs.declared.limits.Limits.{Limits}
-use Rattle.ua_frame.specs.Agreement.{hello_reasons, unless_refused, ack_to, agreed}
+use Rattle.ua_frame.specs.Agreement.{hello_reasons, is_url_long, unless_refused, ack_to, agreed}
 use Rattle.ua_frame.specs.Hello.{hello_in}
-use Rattle.ua_channel.specs.Agreement.{Agreement, agreement_of}
+use Rattle.ua_channel.specs.Agreement.{Agreement}
 use Rattle.ua_channel.specs.Content.Content.{Greets}
 use Rattle.ua_channel.specs.Received.{Received}
 use Rattle.ua_channel.specs.ServerParts.{AgreesTo}
@@ -39,6 +40,17 @@ reasons_of limits channel before body h some = ap (λ (o : Option Hello). first_
 pub refuses_hello : (limits : Limits) (channel : ℕ) (before : Received) (body : List ℕ) (h : Hello) (code : StatusCode) → hello_in body ≡ Some h → agreed h limits ≡ Err code → first_reason (server_reasons limits channel before (Greets (hello_in body))) ≡ Some code.code
 refuses_hello limits channel before body h code some refused = reasons_of limits channel before body h some ∙ refused_by (first_reason (hello_reasons h)) (ack_to h limits) code refused
 
+small_by : (url receives sends : Bool) → first_reason {A = ℕ} ((0x8083_0000, url) ∷ (0x8081_0000, receives || sends) ∷ []) ≡ None → sends ≡ false
+small_by true receives sends e = absurd cc
+small_by false true sends e = absurd cc
+small_by false false true e = absurd cc
+small_by false false false e = refl
+
+agreed_size : (limits : Limits) (h : Hello) → first_reason (hello_reasons h) ≡ None → 8192 ≤ min limits.receive_buffer_size h.send_buffer_size
+agreed_size limits h good =
+    let large : 8192 ≤ h.send_buffer_size = ltb-false h.send_buffer_size 8192 (small_by (is_url_long h) (ltb h.receive_buffer_size 8192) (ltb h.send_buffer_size 8192) good) in
+    omega (arith, limits.receives, large)
+
 abbrev agreed_with : Hello → Ack → Agreement
 agreed_with h ack = record { ack = ack; octets = h.max_message_size; chunks = h.max_chunk_count }
 
@@ -50,5 +62,6 @@ agrees limits body h ack some ok =
       hello = h;
       reads = some;
       agreement_is = ap (agreed_with h) by.1;
+      large = agreed_size limits h by.0;
       accepted = λ channel before. reasons_of limits channel before body h some ∙ by.0;
     }

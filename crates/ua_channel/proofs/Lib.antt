@@ -9,3 +9,4 @@ pub mod Pieces
 pub mod Starts
 pub mod OpeningFrames
 pub mod Answering
+pub mod Holding

@@ -7,7 +7,7 @@ use Rattle.ua_frame.specs.declared.hello.Hello.{Hello}
 use Rattle.ua_chunk.specs.declared.chunk.Chunk.{Chunk}
 use Rattle.ua_channel.specs.Content.{Opening, Content, content}
 use Rattle.ua_channel.specs.Content.Content.{Greets, Acks, Fails, Opens, Sends, Closes, Nothing}
-use Rattle.ua_channel.specs.Received.{latest_behind, latest, has_some, listed, number_listed, hellos_in, acks_in, openings_in, chunks_in, closings_in, numbers_in, tokens_in, hellos, acks, openings, messages, closings, numbers, used_tokens, Received, received_of, received, nothing_received, or_before, number_or, after}
+use Rattle.ua_channel.specs.Received.{latest_behind, latest, has_some, listed, number_listed, hellos_in, acks_in, openings_in, chunks_in, closings_in, numbers_in, tokens_in, hellos, acks, openings, messages, closings, numbers, used_tokens, received_of, received, nothing_received, or_before, number_or, after}
 
 -- ---- the last of a list with one element more
 

@@ -1,5 +1,5 @@
 -- The octets of an OPN frame that are written one behind the other.
-use Rattle.std.proofs.Common.{◌≡◌, ℕ, ◌+◌, List, [], ◌∷◌, ◌++◌, None, Some, refl, sym, ◌∙◌, ap, arith, length, length-append, append_assoc}
+use Rattle.std.proofs.Common.{◌≡◌, ℕ, ◌+◌, List, ◌∷◌, ◌++◌, sym, ◌∙◌, ap, arith, length, length-append, append_assoc}
 use Rattle.ua_octets.specs.Counted.{counted, null_count}
 use Rattle.ua_octets.specs.Number.{number_octets}
 use Rattle.ua_octets.proofs.NumbersRead.{length-number_octets}

@@ -1,9 +1,8 @@
 -- What a server makes of an OPN.
-use Rattle.std.proofs.Common.{◌≡◌, ℕ, ◌+◌, Bool, true, false, not, ◌&&◌, eqb, ltb, ℤ, pos, int_eq, List, [], ◌∷◌, ◌++◌, Option, Some, None, Err, refl, sym, ◌∙◌, ap, subst}
+use Rattle.std.proofs.Common.{◌≡◌, ℕ, ◌+◌, Bool, true, false, not, ◌&&◌, eqb, ltb, pos, int_eq, List, [], ◌∷◌, ◌++◌, Option, Some, None, Err, refl, sym, ◌∙◌, ap, subst}
 use Rattle.ua_octets.proofs.Readers.{some_is}
 use Rattle.ua_builtin.specs.Reasons.{first_reason}
 use Rattle.ua_builtin.proofs.FirstReasons.{first_among, first_behind}
-use Rattle.ua_builtin.specs.declared.status_code.StatusCode.{StatusCode}
 use Rattle.ua_frame.specs.declared.frame.Frame.{Frame}
 use Rattle.ua_frame.specs.declared.limits.Limits.{Limits}
 use Rattle.ua_services.specs.Message.{message, body_of}
@@ -18,14 +17,13 @@ use Rattle.ua_chunk.specs.Sequence.{may_follow}
 use Rattle.ua_channel.specs.declared.server_fault.StepFault.{StepFault}
 use Rattle.ua_channel.specs.declared.server_fault.StepFault.TheVariants as step
 use Rattle.ua_channel.specs.declared.server_opening.Asked.{Asked}
-use Rattle.ua_channel.specs.declared.server_opening.Opened.{Opened}
 use Rattle.ua_channel.specs.Content.{Opening, opening_numbered, opening_secured, opening_of}
 use Rattle.ua_channel.specs.Content.Content.{Opens}
 use Rattle.ua_channel.specs.Received.{Received}
 use Rattle.ua_channel.specs.ServerFaults.{of_open_fault}
 use Rattle.ua_channel.specs.ServerParts.{IsAskedIn, ReadsAsked, asked_reasons, OpensSo, JudgesOpening}
 use Rattle.ua_channel.specs.ServerRefusals.{type_wanted, server_reasons}
-use Rattle.ua_channel.specs.ServerTold.{Told as told, request_behind, request_of, opened_by, issued, server_tells, lifetime_for}
+use Rattle.ua_channel.specs.ServerTold.{Told as told, request_of, issued, server_tells}
 
 -- ---- headers that are refused
 

@@ -1,33 +1,23 @@
 -- Where a server's channel stands behind one frame.
-use Rattle.std.proofs.Common.{◌≡◌, ℕ, ◌+◌, ◌<◌, ◌≤◌, ◌⊎◌, inl, inr, Bool, true, false, not, T, IsTrue, List, [], ◌∷◌, ◌++◌, Option, Some, None, Ok, Err, refl, sym, ◌∙◌, ap, subst, arith, length, map, length-append}
+use Rattle.std.proofs.Common.{◌≡◌, ℕ, ◌+◌, ◌<◌, Bool, true, false, List, [], ◌∷◌, Option, Some, None, refl, sym, ◌∙◌, ap, subst, arith, map}
 use Rattle.std.specs.Prelude.{if◌then◌else◌}
 use Rattle.std.proofs.lemmas.Bool.{ne_eqb}
-use Rattle.ua_frame.specs.declared.frame.Frame.{Frame}
-use Rattle.ua_frame.specs.declared.gate.Gate.{Gate}
 use Rattle.ua_frame.specs.declared.hello.Hello.{Hello}
-use Rattle.ua_frame.specs.declared.kind.Kind.{Kind}
-use Rattle.ua_frame.specs.declared.kind.Kind.TheVariants.{Hel, Msg, Opn, Clo}
-use Rattle.ua_frame.specs.declared.kind.Kind.TheVariants as kind
 use Rattle.ua_frame.specs.declared.limits.Limits.{Limits}
-use Rattle.ua_frame.specs.Hello.{hello_gate}
-use Rattle.ua_frame.specs.Kinds.{lets_in}
-use Rattle.ua_services.specs.Message.{message, body_of}
 use Rattle.ua_structures.specs.declared.secure_channel.OpenRequest.{OpenRequest}
 use Rattle.ua_chunk.specs.Delivered.{given}
 use Rattle.ua_chunk.specs.Item.{Item}
 use Rattle.ua_chunk.specs.Item.Item.{Whole, Aborted}
-use Rattle.ua_channel.specs.declared.running.Running.{Running}
 use Rattle.ua_channel.specs.declared.server.Phase.{Phase}
 use Rattle.ua_channel.specs.declared.server.Phase.TheVariants.{Waiting, Greeted, Open, Done}
 use Rattle.ua_channel.specs.Agreement.{Agreement}
 use Rattle.ua_channel.specs.Content.{Content}
 use Rattle.ua_channel.specs.Content.Content.{Greets, Acks, Fails, Opens, Sends, Closes, Nothing}
-use Rattle.ua_channel.specs.Received.{Received, nothing_received, after}
-use Rattle.ua_channel.specs.ServerParts.{HasGreeted, Stays}
+use Rattle.ua_channel.specs.Received.{Received, after}
 use Rattle.ua_channel.specs.ServerRules.{opening_gate, running_gate, gate_greeted, gate_behind, server_gate}
 use Rattle.ua_channel.specs.ServerStands.{InPhase, phase_gate}
 use Rattle.ua_channel.specs.ServerTold.{Told, request_of, opened_by, told_item, issued, server_tells}
-use Rattle.ua_channel.specs.ServerTold.Told.{Agreed, Opened, Asked, GaveUp, Closed}
+use Rattle.ua_channel.specs.ServerTold.Told.{Agreed, Opened, Closed}
 
 -- ---- gates
 

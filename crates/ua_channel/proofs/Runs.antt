@@ -98,6 +98,7 @@ module _ (limits : Limits) (r : Running) (before : Received) (channel : ℕ) (c 
       hello = stays.hello;
       hello_is = stays.hello_is;
       agreement_is = stays.agreement_is;
+      large = stays.large;
       issued_is = stays.issued_is;
       some = stays.some;
       used_is = refl;
@@ -172,6 +173,7 @@ module _ (limits : Limits) (r : Running) (before : Received) (channel : ℕ) (bo
       hello = stays.hello;
       hello_is = stays.hello_is;
       agreement_is = stays.agreement_is;
+      large = stays.large;
       issued_is = length-append before.openings (opening_of body ∷ []) ∙ ap (λ (n : ℕ). n + 1) stays.issued_is;
       some = omega arith;
       used_is = stays.used_is;
@@ -201,6 +203,7 @@ takes_first limits channel before a body o e new g so event stands last octets c
         hello = g.hello;
         hello_is = ap (λ (b : Received). b.hello) g.before_is;
         agreement_is = g.agreement_is;
+        large = g.large;
         issued_is = ap (λ (os : List Opening). length (os ++ opening_of body ∷ [])) none;
         some = omega arith;
         used_is = ap (λ (b : Received). or_first b.used) g.before_is;

@@ -8,14 +8,14 @@ use Rattle.ua_frame.specs.declared.frame.Frame.{Frame}
 use Rattle.ua_frame.specs.declared.fault.FrameFault.{FrameFault}
 use Rattle.ua_frame.specs.declared.fault.FrameFault.TheVariants as frame_fault
 use Rattle.ua_frame.specs.declared.gate.Gate.{Gate}
-use Rattle.ua_frame.specs.Frames.{frame_octets, header_fault, header_code, LetsIn, IsPartial}
+use Rattle.ua_frame.specs.Frames.{header_fault, header_code}
 use Rattle.ua_frame.specs.Kinds.{lets_in}
 use Rattle.ua_frame.specs.Reader.{Reader, open_reader, TakesAll, TakesFrame, Refuses, Starves, Takes}
-use Rattle.ua_frame.specs.Run.{Rules, Run, events, End, Going, Stopped, Over, EndsIn}
+use Rattle.ua_frame.specs.Run.{Run, events, End, Going, Over, EndsIn}
 use Rattle.ua_frame.proofs.Fronts.{fault_front}
 use Rattle.ua_frame.proofs.Streams.{run_frame, run_part, run_header, run_refused, events-push}
 use Rattle.ua_channel.specs.declared.server.Phase.{Phase}
-use Rattle.ua_channel.specs.declared.server.Phase.TheVariants.{Waiting, Greeted, Open, Done}
+use Rattle.ua_channel.specs.declared.server.Phase.TheVariants.{Done}
 use Rattle.ua_channel.specs.declared.server.ServerChannel.{ServerChannel}
 use Rattle.ua_channel.specs.declared.server_event.Event.{Event}
 use Rattle.ua_channel.specs.declared.server_event.Event.TheVariants as inner
@@ -25,14 +25,14 @@ use Rattle.ua_channel.specs.declared.server_fault.StepFault.TheVariants as step
 use Rattle.ua_channel.specs.Content.{content}
 use Rattle.ua_channel.specs.Received.{Received, received, after}
 use Rattle.ua_channel.specs.ServerAnswers.{Tells, Steps}
-use Rattle.ua_channel.specs.ServerEvents.{told_of, told_list}
+use Rattle.ua_channel.specs.ServerEvents.{told_of}
 use Rattle.ua_channel.specs.ServerFaults.{of_frame_fault}
 use Rattle.ua_channel.specs.ServerParts.{Takes as TakesIt}
 use Rattle.ua_channel.specs.ServerRefusals.{server_reasons}
 use Rattle.ua_channel.specs.ServerRules.{server_gate}
-use Rattle.ua_channel.specs.ServerStands.{limits_of, channel_of, rules_of, phase_gate, bound_after, Holds, Stands, IsDone, Goes, GoesTelling, Ended, IsJustWrong, AtFrame, AtHeader, RefusedAt, GoesOn, JudgesFrame}
+use Rattle.ua_channel.specs.ServerStands.{limits_of, channel_of, rules_of, phase_gate, bound_after, Holds, Stands, IsDone, Goes, GoesTelling, Ended, AtFrame, AtHeader, RefusedAt, GoesOn, JudgesFrame}
 use Rattle.ua_channel.specs.ServerTold.{Told}
-use Rattle.ua_channel.specs.ServerTold.Told.{Agreed, Opened, Asked, GaveUp, Closed}
+use Rattle.ua_channel.specs.ServerTold.Told.{Closed}
 use Rattle.ua_channel.proofs.OneFrameMore.{received-push}
 use Rattle.ua_channel.proofs.Phases.{gate_is, silent_open, telling_open, closing}
 

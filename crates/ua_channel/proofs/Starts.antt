@@ -1,15 +1,14 @@
 -- A server's channel before any octet, and what it then holds.
-use Rattle.std.proofs.Common.{◌≡◌, ℕ, [], ◌++◌, refl, sym, ◌∙◌, ap, subst}
+use Rattle.std.proofs.Common.{◌≡◌, [], refl, sym, ◌∙◌, ap, subst}
 use Rattle.ua_frame.specs.After.{each_after}
 use Rattle.ua_frame.specs.Hello.{hello_gate}
 use Rattle.ua_frame.specs.Reader.{open_reader}
-use Rattle.ua_frame.specs.Run.{events}
 use Rattle.ua_frame.proofs.Streams.{run_nil}
 use Rattle.ua_channel.specs.declared.server.Phase.TheVariants.{Waiting}
 use Rattle.ua_channel.specs.declared.server.ServerChannel.{ServerChannel}
-use Rattle.ua_channel.specs.Received.{Received, nothing_received}
+use Rattle.ua_channel.specs.Received.{Received}
 use Rattle.ua_channel.specs.ServerRules.{server_gate}
-use Rattle.ua_channel.specs.ServerStands.{limits_of, rules_of, bound_after, Holds, Stands, Goes}
+use Rattle.ua_channel.specs.ServerStands.{limits_of, rules_of, Holds, Stands, Goes}
 use Rattle.ua_channel.proofs.OneFrameMore.{received-nil}
 
 pub stands_first : (x : ServerChannel) → x.reader ≡ open_reader hello_gate [] → x.phase ≡ Waiting → x.bound ≡ 8192 → Stands x [] [] []

@@ -1,5 +1,4 @@
 -- What faults of the parts of a server come to.
-use Rattle.std.specs.Prelude.{ℕ}
 use Rattle.ua_builtin.specs.Status.{of_code}
 use Rattle.ua_frame.specs.declared.fault.FrameFault.{FrameFault}
 use Rattle.ua_frame.specs.declared.fault.FrameFault.TheVariants as frame_fault

@@ -27,6 +27,7 @@ use Rattle.ua_channel.specs.Content.Content.{Greets, Opens}
 use Rattle.ua_channel.specs.Received.{Received, nothing_received, after}
 use Rattle.ua_channel.specs.ServerEvents.{told_list}
 use Rattle.ua_channel.specs.ServerRefusals.{last_used, type_wanted, server_reasons}
+use Rattle.ua_channel.specs.ServerRules.{receive_size}
 use Rattle.ua_channel.specs.ServerTold.{issued, lifetime_for, server_tells}
 use Rattle.ua_channel.specs.ServerTold.{Told as told}
 
@@ -42,6 +43,7 @@ pub record AgreesTo (limits : Limits) (body : List ℕ) (a : Agreement) : Type 0
   pub hello : Hello
   pub reads : hello_in body ≡ Some hello
   pub agreement_is : a ≡ agreement_of limits hello
+  pub large : 8192 ≤ receive_size limits (Some hello)
   pub accepted : (channel : ℕ) (before : Received) → first_reason (server_reasons limits channel before (Greets (hello_in body))) ≡ None
 
 -- what is made of the body of a HEL
@@ -103,6 +105,7 @@ pub record Stays (limits : Limits) (r : Running) (before : Received) : Type 0 wh
   pub hello : Hello
   pub hello_is : before.hello ≡ Some hello
   pub agreement_is : r.agreement ≡ agreement_of limits hello
+  pub large : 8192 ≤ receive_size limits (Some hello)
   pub issued_is : issued before ≡ r.issued
   pub some : 0 < r.issued
   pub used_is : last_used before ≡ r.used
@@ -146,6 +149,7 @@ pub record HasGreeted (limits : Limits) (a : Agreement) (before : Received) : Ty
   pub hello : Hello
   pub before_is : before ≡ record nothing_received { hello = Some hello }
   pub agreement_is : a ≡ agreement_of limits hello
+  pub large : 8192 ≤ receive_size limits (Some hello)
 
 -- what is made of the first OPN
 abbrev pub JudgesFirst : Limits → ℕ → Received → Content → Result (Running × Event) StepFault → Type 0

@@ -17,7 +17,7 @@ use Rattle.ua_chunk.specs.Cutting.{abort_chunk, chunks_of, chunks_octets, cut_re
 use Rattle.ua_chunk.specs.Layout.{frame_of, sequence_header}
 use Rattle.ua_chunk.specs.Opening.{none_policy, policy_header}
 use Rattle.ua_chunk.specs.Sequence.{next_number}
-use Rattle.ua_channel.specs.Agreement.{Agreement, agreement_of, lane_of}
+use Rattle.ua_channel.specs.Agreement.{agreement_of, lane_of}
 use Rattle.ua_channel.specs.Received.{Received}
 use Rattle.ua_channel.specs.ServerRefusals.{last_used}
 use Rattle.ua_channel.specs.ServerTold.{Told, Agreed, Opened, Asked, GaveUp, Closed}

@@ -407,6 +407,7 @@ impl ServerChannel {
             → result ≤ bound_after (limits_of self.now) (received frames) }
         ensures done { IsDone self.now → result ≡ 0 }
     {
+        let _bound = self.bound;
         self.reader.held().saturating_add(self.messages_held())
     }
 

@@ -1,4 +1,4 @@
-use Rattle.std.proofs.Common.{arith, refl, sym}
+use Rattle.std.proofs.Common.{arith, refl}
 use Rattle.ua_channel.proofs.OpeningFrames.{opening_appended}
 use Rattle.ua_channel.proofs.sending.append_opening.Goals as goal
 

@@ -1,7 +1,6 @@
-use Rattle.std.proofs.Common.{sym, ◌∙◌, ap, subst, Err, Some, ℕ, List, ◌∷◌, []}
+use Rattle.std.proofs.Common.{ap, Some, ◌∷◌, []}
 use Rattle.std.proofs.lemmas.Bool.{eq-eqb, ne_eqb}
 use Rattle.std.proofs.lemmas.Result.{err_from_is_err_and}
-use Rattle.ua_chunk.specs.declared.fault.AssembleFault.{AssembleFault}
 use Rattle.ua_channel.specs.ServerTold.{Told}
 use Rattle.ua_channel.proofs.Runs.{judges_opening, refuses_renewal, refuses_token, takes_renewal}
 use Rattle.ua_channel.proofs.running.Running.on_renewal.Goals as goal

@@ -1,7 +1,6 @@
-use Rattle.std.proofs.Common.{sym, ap, length, List}
+use Rattle.std.proofs.Common.{ap, length}
 use Rattle.std.proofs.lemmas.Result.{err_from_is_err_and}
 use Rattle.ua_channel.specs.Received.{Received}
-use Rattle.ua_channel.specs.Content.{Opening}
 use Rattle.ua_channel.proofs.Runs.{judges_first, takes_first}
 use Rattle.ua_channel.proofs.running.Running.open.Goals as goal
 

@@ -1,4 +1,4 @@
-use Rattle.std.proofs.Common.{◌≡◌, ℕ, Result, Ok, Err, Option, Some, None, ◌++◌, ap, subst, take}
+use Rattle.std.proofs.Common.{◌≡◌, Result, Ok, Option, Some, None, ◌++◌, ap, subst, take}
 use Rattle.ua_channel.specs.declared.numbers.Numbers.{Numbers}
 use Rattle.ua_channel.specs.declared.server_event.Event.{Event}
 use Rattle.ua_channel.specs.declared.server_fault.StepFault.{StepFault}

@@ -1,4 +1,4 @@
-use Rattle.std.proofs.Common.{◌≡◌, Result, Ok, Err, Option, Some, None}
+use Rattle.std.proofs.Common.{◌≡◌, Result, Ok, Option, Some, None}
 use Rattle.ua_channel.specs.declared.server_event.Event.{Event}
 use Rattle.ua_channel.specs.declared.server_fault.StepFault.{StepFault}
 use Rattle.ua_channel.proofs.Pieces.{took_nothing, took_more, nexts_told, nexts_failed, nexts_nothing}

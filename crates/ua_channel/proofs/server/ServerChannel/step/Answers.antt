@@ -1,5 +1,5 @@
-use Rattle.std.proofs.Common.{ℕ, ◌-◌, min, List, Result, Ok, Err, Option, Some, refl, sym, ◌∙◌, ap, length}
-use Rattle.ua_frame.specs.Reader.{TakesFrame, Takes}
+use Rattle.std.proofs.Common.{ℕ, ◌-◌, min, ◌∙◌, ap, length}
+use Rattle.ua_frame.specs.Reader.{TakesFrame}
 use Rattle.ua_channel.proofs.Servers.{step_frame, step_fault}
 use Rattle.ua_channel.proofs.server.ServerChannel.step.Goals as goal
 

@@ -1,4 +1,4 @@
-use Rattle.std.proofs.Common.{Result, Ok, Err, subst}
+use Rattle.std.proofs.Common.{Result, subst}
 use Rattle.ua_channel.specs.declared.server_event.ServerEvent.{ServerEvent}
 use Rattle.ua_channel.specs.declared.server_fault.ChannelFault.{ChannelFault}
 use Rattle.ua_channel.specs.ServerAnswers.{AnswersAt}
