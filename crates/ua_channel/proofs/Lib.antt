@@ -10,3 +10,4 @@ pub mod Starts
 pub mod OpeningFrames
 pub mod Answering
 pub mod Holding
+pub mod ServerReadings

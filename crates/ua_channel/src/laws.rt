@@ -2,13 +2,39 @@
 //!
 //! Each function does nothing; its contract is the law.
 
-ghost use Rattle.std.specs.Prelude.{◌≡◌, List, [], ◌∷◌, ◌++◌};
+ghost use Rattle.std.specs.Prelude.{◌≡◌, ◌∷◌, ◌++◌, [], ℕ, List};
+ghost use Rattle.ua_frame.specs.Laws.{HasOneReading, HasReadings, StopsAtFirstWrong};
 ghost use Rattle.ua_frame.specs.declared.frame.Frame.{Frame};
+ghost use Rattle.ua_frame.specs.declared.limits.Limits.{Limits};
 ghost use Rattle.ua_channel.specs.Content.{content};
-ghost use Rattle.ua_channel.specs.Received.{nothing_received, received, after};
+ghost use Rattle.ua_channel.specs.Received.{after, nothing_received, received};
+ghost use Rattle.ua_channel.specs.ServerRules.{server_rules};
+ghost use Rattle.ua_channel.specs.ServerStands.{Goes, GoesTelling, Stands};
+ghost use Rattle.ua_channel.specs.ServerTold.{Told};
+ghost use Rattle.ua_channel.specs.declared.server.ServerChannel.{ServerChannel};
 
 /// What was received with one frame more is what that frame makes of what was received before.
 pub fn one_frame_more()
     ensures first { received [] ≡ nothing_received }
     ensures more { (frames : List Frame) (frame : Frame) → received (frames ++ frame ∷ []) ≡ after (received frames) (content frame) }
+{}
+
+/// Any octets have just one reading at a server, whatever the pieces in which they come, and it stops
+/// at the first frame that is wrong, for the first reason of the table that holds of it.
+pub fn server_reads()
+    ensures some { (limits : Limits) (channel : ℕ) → HasReadings (server_rules limits channel) }
+    ensures one { (limits : Limits) (channel : ℕ) → HasOneReading (server_rules limits channel) }
+    ensures first_wrong { (limits : Limits) (channel : ℕ) → StopsAtFirstWrong (server_rules limits channel) }
+{}
+
+/// A server's channel stands after some octets in one way: with these frames, this rest, and this told.
+pub fn server_stands_once()
+    ensures frames { (x : ServerChannel) (octets : List ℕ) (fs gs : List Frame) (rest more : List ℕ) →
+        Stands x octets fs rest → Stands x octets gs more → (fs ≡ gs) × (rest ≡ more) }
+    ensures told { (x : ServerChannel) (octets : List ℕ) (told more : List Told) → Goes x octets told → Goes x octets more → told ≡ more }
+{}
+
+/// A channel that stands behind a frame which tells something goes on with that told.
+pub fn server_goes_on()
+    ensures { (x : ServerChannel) (octets : List ℕ) (told : List Told) (e : Told) → GoesTelling x octets told e → Goes x octets (told ++ e ∷ []) }
 {}
