@@ -1,0 +1,519 @@
+//! A server's channel: what it answers to octets that are written out, what it replies, and how much
+//! it holds.
+
+use std::alloc::Global;
+use std::process::Abort;
+use ua_builtin::{DateTime, Source};
+use ua_channel::{ChannelFault, ReplyFault, ServerChannel, ServerEvent};
+use ua_chunk::Message;
+use ua_frame::Limits;
+
+/// 1970-01-01.
+const MOMENT: DateTime = DateTime {
+    ticks: 116_444_736_000_000_000,
+};
+
+/// What is to be answered.
+#[derive(Clone, Copy)]
+enum Answer<'a> {
+    Waits,
+    Sends(&'a [u8]),
+    Asks(u32, &'a [u8]),
+    Aborts(u32),
+    Closes,
+    Refuses(u32),
+}
+
+/// The octets of a frame, and the answer to them.
+type Row<'a> = (&'a [u8], Answer<'a>);
+
+/// A HEL of the programs: version 0, sizes 65535, no limits, and their URL.
+const HEL: &[u8] =
+    b"HELF8\0\0\0\0\0\0\0\xFF\xFF\0\0\xFF\xFF\0\0\0\0\0\0\0\0\0\0\x18\0\0\0opc.tcp://localhost:4840";
+
+/// The HEL of a client that takes messages of at most 20 octets.
+const SHORT_HEL: &[u8] =
+    b"HELF8\0\0\0\0\0\0\0\xFF\xFF\0\0\xFF\xFF\0\0\x14\0\0\0\0\0\0\0\x18\0\0\0opc.tcp://localhost:4840";
+
+/// The ACK of the programs.
+const ACK: &[u8] = b"ACKF\x1C\0\0\0\0\0\0\0\xFF\xFF\0\0\xFF\xFF\0\0\0\0\x10\0\0\x01\0\0";
+
+/// The OPN of a client, numbered 1: it issues a token.
+const OPN: &[u8] =
+    b"OPNF\x84\0\0\0\0\0\0\0/\0\0\0http://opcfoundation.org/UA/SecurityPolicy#None\xFF\xFF\xFF\xFF\xFF\xFF\xFF\xFF\x01\0\0\0\x01\0\0\0\x01\0\xBE\x01\0\0\0\x80\x3E\xD5\xDE\xB1\x9D\x01\0\0\0\0\0\0\0\0\xFF\xFF\xFF\xFF\0\0\0\0\0\0\0\0\0\0\0\0\0\0\0\x01\0\0\0\xFF\xFF\xFF\xFF\x80\xEE6\0";
+
+/// The OPN numbered 4294966272.
+const LATE_OPN: &[u8] =
+    b"OPNF\x84\0\0\0\0\0\0\0/\0\0\0http://opcfoundation.org/UA/SecurityPolicy#None\xFF\xFF\xFF\xFF\xFF\xFF\xFF\xFF\0\xFC\xFF\xFF\x01\0\0\0\x01\0\xBE\x01\0\0\0\x80\x3E\xD5\xDE\xB1\x9D\x01\0\0\0\0\0\0\0\0\xFF\xFF\xFF\xFF\0\0\0\0\0\0\0\0\0\0\0\0\0\0\0\x01\0\0\0\xFF\xFF\xFF\xFF\x80\xEE6\0";
+
+/// The answer: channel 7, token 1.
+const OPENED: &[u8] =
+    b"OPNF\x87\0\0\0\x07\0\0\0/\0\0\0http://opcfoundation.org/UA/SecurityPolicy#None\xFF\xFF\xFF\xFF\xFF\xFF\xFF\xFF\x01\0\0\0\x01\0\0\0\x01\0\xC1\x01\0\x80\x3E\xD5\xDE\xB1\x9D\x01\0\0\0\0\0\0\0\0\0\xFF\xFF\xFF\xFF\0\0\0\0\0\0\0\x07\0\0\0\x01\0\0\0\0\x80\x3E\xD5\xDE\xB1\x9D\x01\x80\xEE6\0\xFF\xFF\xFF\xFF";
+
+/// The OPN numbered 3 that renews the token of channel 7.
+const RENEWAL: &[u8] =
+    b"OPNF\x84\0\0\0\x07\0\0\0/\0\0\0http://opcfoundation.org/UA/SecurityPolicy#None\xFF\xFF\xFF\xFF\xFF\xFF\xFF\xFF\x03\0\0\0\x03\0\0\0\x01\0\xBE\x01\0\0\0\x80\x3E\xD5\xDE\xB1\x9D\x01\0\0\0\0\0\0\0\0\xFF\xFF\xFF\xFF\0\0\0\0\0\0\0\0\0\0\0\x01\0\0\0\x01\0\0\0\xFF\xFF\xFF\xFF\x80\xEE6\0";
+
+/// The same numbered 2.
+const FIRST_RENEWAL: &[u8] =
+    b"OPNF\x84\0\0\0\x07\0\0\0/\0\0\0http://opcfoundation.org/UA/SecurityPolicy#None\xFF\xFF\xFF\xFF\xFF\xFF\xFF\xFF\x02\0\0\0\x02\0\0\0\x01\0\xBE\x01\0\0\0\x80\x3E\xD5\xDE\xB1\x9D\x01\0\0\0\0\0\0\0\0\xFF\xFF\xFF\xFF\0\0\0\0\0\0\0\0\0\0\0\x01\0\0\0\x01\0\0\0\xFF\xFF\xFF\xFF\x80\xEE6\0";
+
+/// An OPN that renews the token of channel 8.
+const OTHER_RENEWAL: &[u8] =
+    b"OPNF\x84\0\0\0\x08\0\0\0/\0\0\0http://opcfoundation.org/UA/SecurityPolicy#None\xFF\xFF\xFF\xFF\xFF\xFF\xFF\xFF\x02\0\0\0\x02\0\0\0\x01\0\xBE\x01\0\0\0\x80\x3E\xD5\xDE\xB1\x9D\x01\0\0\0\0\0\0\0\0\xFF\xFF\xFF\xFF\0\0\0\0\0\0\0\0\0\0\0\x01\0\0\0\x01\0\0\0\xFF\xFF\xFF\xFF\x80\xEE6\0";
+
+/// A second OPN that issues a token.
+const SECOND_ISSUE: &[u8] =
+    b"OPNF\x84\0\0\0\x07\0\0\0/\0\0\0http://opcfoundation.org/UA/SecurityPolicy#None\xFF\xFF\xFF\xFF\xFF\xFF\xFF\xFF\x02\0\0\0\x02\0\0\0\x01\0\xBE\x01\0\0\0\x80\x3E\xD5\xDE\xB1\x9D\x01\0\0\0\0\0\0\0\0\xFF\xFF\xFF\xFF\0\0\0\0\0\0\0\0\0\0\0\0\0\0\0\x01\0\0\0\xFF\xFF\xFF\xFF\x80\xEE6\0";
+
+/// The answer to a renewal, numbered 2: token 2.
+const RENEWED: &[u8] =
+    b"OPNF\x87\0\0\0\x07\0\0\0/\0\0\0http://opcfoundation.org/UA/SecurityPolicy#None\xFF\xFF\xFF\xFF\xFF\xFF\xFF\xFF\x02\0\0\0\x03\0\0\0\x01\0\xC1\x01\0\x80\x3E\xD5\xDE\xB1\x9D\x01\0\0\0\0\0\0\0\0\0\xFF\xFF\xFF\xFF\0\0\0\0\0\0\0\x07\0\0\0\x02\0\0\0\0\x80\x3E\xD5\xDE\xB1\x9D\x01\x80\xEE6\0\xFF\xFF\xFF\xFF";
+
+/// The same under the request id 2.
+const FIRST_RENEWED: &[u8] =
+    b"OPNF\x87\0\0\0\x07\0\0\0/\0\0\0http://opcfoundation.org/UA/SecurityPolicy#None\xFF\xFF\xFF\xFF\xFF\xFF\xFF\xFF\x02\0\0\0\x02\0\0\0\x01\0\xC1\x01\0\x80\x3E\xD5\xDE\xB1\x9D\x01\0\0\0\0\0\0\0\0\0\xFF\xFF\xFF\xFF\0\0\0\0\0\0\0\x07\0\0\0\x02\0\0\0\0\x80\x3E\xD5\xDE\xB1\x9D\x01\x80\xEE6\0\xFF\xFF\xFF\xFF";
+
+/// The ACK of a server that takes messages of at most 16 octets.
+const SHORT_ACK: &[u8] = b"ACKF\x1C\0\0\0\0\0\0\0\xFF\xFF\0\0\xFF\xFF\0\0\x10\0\0\0\0\x01\0\0";
+
+/// What is refused in place of a HEL, at the last of these octets, and the ERR frame that says so.
+const REFUSED_FIRST: [(&[u8], &[u8; 16]); 5] = [
+    // a ReceiveBufferSize of 8191
+    (
+        b"HELF8\0\0\0\0\0\0\0\xFF\x1F\0\0\xFF\xFF\0\0\0\0\0\0\0\0\0\0\x18\0\0\0opc.tcp://localhost:4840",
+        b"ERRF\x10\0\0\0\0\0\x81\x80\xFF\xFF\xFF\xFF",
+    ),
+    // no type
+    (
+        b"HEXF8\0\0\0",
+        b"ERRF\x10\0\0\0\0\0\x7E\x80\xFF\xFF\xFF\xFF",
+    ),
+    // a MSG first
+    (
+        b"MSGF\x19\0\0\0",
+        b"ERRF\x10\0\0\0\0\0\x7E\x80\xFF\xFF\xFF\xFF",
+    ),
+    // above 8192
+    (
+        b"HELF\x01 \0\0",
+        b"ERRF\x10\0\0\0\0\0\x80\x80\xFF\xFF\xFF\xFF",
+    ),
+    // below the least
+    (
+        b"HELF\x1F\0\0\0",
+        b"ERRF\x10\0\0\0\0\0\x07\x80\xFF\xFF\xFF\xFF",
+    ),
+];
+
+/// What an open channel 7 refuses behind its opening, and the code.
+const REFUSED: [(&[u8], u32); 10] = [
+    // on channel 8
+    (
+        b"MSGF\x19\0\0\0\x08\0\0\0\x01\0\0\0\x02\0\0\0\x02\0\0\0\xAA",
+        0x807F_0000,
+    ),
+    // under token 2, which is not issued yet
+    (
+        b"MSGF\x19\0\0\0\x07\0\0\0\x02\0\0\0\x02\0\0\0\x02\0\0\0\xAA",
+        0x8087_0000,
+    ),
+    // both
+    (
+        b"MSGF\x19\0\0\0\x08\0\0\0\x02\0\0\0\x02\0\0\0\x02\0\0\0\xAA",
+        0x807F_0000,
+    ),
+    // a size below the least
+    (b"MSGF\x17\0\0\0", 0x8007_0000),
+    // a second HEL
+    (b"HELF8\0\0\0", 0x807E_0000),
+    // a size above the agreed one
+    (b"MSGF\xFF\xFF\xFF\x7F", 0x8080_0000),
+    // an abort with an octet behind its reason
+    (
+        b"MSGA\x21\0\0\0\x07\0\0\0\x01\0\0\0\x02\0\0\0\x02\0\0\0\0\0\xB9\x80\xFF\xFF\xFF\xFF\0",
+        0x8007_0000,
+    ),
+    // a number that does not follow
+    (
+        b"MSGF\x19\0\0\0\x07\0\0\0\x01\0\0\0\x03\0\0\0\x02\0\0\0\xAA",
+        0x8088_0000,
+    ),
+    (SECOND_ISSUE, 0x8053_0000),
+    (OTHER_RENEWAL, 0x807F_0000),
+];
+
+/// Messages of which the chunks come interleaved, an abort, and a close, behind the opening.
+const TALK: [Row<'static>; 7] = [
+    (
+        b"MSGC\x19\0\0\0\x07\0\0\0\x01\0\0\0\x02\0\0\0\x02\0\0\0\xAA",
+        Answer::Waits,
+    ),
+    (
+        b"MSGC\x19\0\0\0\x07\0\0\0\x01\0\0\0\x03\0\0\0\x03\0\0\0\xCC",
+        Answer::Waits,
+    ),
+    (
+        b"MSGF\x19\0\0\0\x07\0\0\0\x01\0\0\0\x04\0\0\0\x02\0\0\0\xBB",
+        Answer::Asks(2, b"\xAA\xBB"),
+    ),
+    (
+        b"MSGA \0\0\0\x07\0\0\0\x01\0\0\0\x05\0\0\0\x03\0\0\0\0\0\xB9\x80\xFF\xFF\xFF\xFF",
+        Answer::Aborts(3),
+    ),
+    (
+        b"MSGF\x19\0\0\0\x07\0\0\0\x01\0\0\0\x06\0\0\0\x03\0\0\0\xDD",
+        Answer::Asks(3, b"\xDD"),
+    ),
+    (
+        b"MSGA \0\0\0\x07\0\0\0\x01\0\0\0\x07\0\0\0\x04\0\0\0\0\0\xB9\x80\xFF\xFF\xFF\xFF",
+        Answer::Aborts(4),
+    ),
+    (
+        b"CLOF\x18\0\0\0\x07\0\0\0\x01\0\0\0\x08\0\0\0\x05\0\0\0",
+        Answer::Closes,
+    ),
+];
+
+/// Token 1, a renewal, and then the tokens 1, 2 and 1, of which the last is taken no more.
+const OLD_TOKEN: [Row<'static>; 5] = [
+    (
+        b"MSGF\x19\0\0\0\x07\0\0\0\x01\0\0\0\x02\0\0\0\x02\0\0\0\xAA",
+        Answer::Asks(2, b"\xAA"),
+    ),
+    (RENEWAL, Answer::Sends(RENEWED)),
+    (
+        b"MSGF\x19\0\0\0\x07\0\0\0\x01\0\0\0\x04\0\0\0\x04\0\0\0\xBB",
+        Answer::Asks(4, b"\xBB"),
+    ),
+    (
+        b"MSGF\x19\0\0\0\x07\0\0\0\x02\0\0\0\x05\0\0\0\x05\0\0\0\xCC",
+        Answer::Asks(5, b"\xCC"),
+    ),
+    (
+        b"MSGF\x19\0\0\0\x07\0\0\0\x01\0\0\0\x06\0\0\0\x06\0\0\0\xDD",
+        Answer::Refuses(0x8087_0000),
+    ),
+];
+
+/// A message of which the first chunk comes under token 1 and the last one, behind a renewal, under
+/// token 2.
+const ACROSS: [Row<'static>; 3] = [
+    (
+        b"MSGC\x19\0\0\0\x07\0\0\0\x01\0\0\0\x02\0\0\0\x02\0\0\0\xAA",
+        Answer::Waits,
+    ),
+    (RENEWAL, Answer::Sends(RENEWED)),
+    (
+        b"MSGF\x19\0\0\0\x07\0\0\0\x02\0\0\0\x04\0\0\0\x02\0\0\0\xBB",
+        Answer::Asks(2, b"\xAA\xBB"),
+    ),
+];
+
+/// A message under token 1 behind a renewal.
+const STILL_OLD: [Row<'static>; 2] = [
+    (FIRST_RENEWAL, Answer::Sends(FIRST_RENEWED)),
+    (
+        b"MSGF\x19\0\0\0\x07\0\0\0\x01\0\0\0\x03\0\0\0\x03\0\0\0\xAA",
+        Answer::Asks(3, b"\xAA"),
+    ),
+];
+
+/// What may come behind the number 4294966272, and what may not.
+const AFTER_LATE: [Row<'static>; 3] = [
+    (
+        b"MSGF\x19\0\0\0\x07\0\0\0\x01\0\0\0\x01\0\0\0\x02\0\0\0\xAA",
+        Answer::Asks(2, b"\xAA"),
+    ),
+    (
+        b"MSGF\x19\0\0\0\x07\0\0\0\x01\0\0\0\x01\xFC\xFF\xFF\x02\0\0\0\xAA",
+        Answer::Asks(2, b"\xAA"),
+    ),
+    (
+        b"MSGF\x19\0\0\0\x07\0\0\0\x01\0\0\0\0\x04\0\0\x02\0\0\0\xAA",
+        Answer::Refuses(0x8088_0000),
+    ),
+];
+
+/// Replies behind the opening under token 1, numbered 2 and 3.
+const FIRST_REPLY: &[u8] = b"MSGF\x19\0\0\0\x07\0\0\0\x01\0\0\0\x02\0\0\0\x02\0\0\0\xEE";
+
+const SECOND_REPLY: &[u8] = b"MSGF\x1A\0\0\0\x07\0\0\0\x01\0\0\0\x03\0\0\0\x03\0\0\0\xEE\xEF";
+
+/// Replies numbered 3 behind a renewal, under token 2 and under token 1.
+const NEW_REPLY: &[u8] = b"MSGF\x19\0\0\0\x07\0\0\0\x02\0\0\0\x03\0\0\0\x02\0\0\0\xEE";
+
+const OLD_REPLY: &[u8] = b"MSGF\x19\0\0\0\x07\0\0\0\x01\0\0\0\x03\0\0\0\x03\0\0\0\xEE";
+
+/// The abort in place of a reply that the client does not take: Bad_ResponseTooLarge.
+const TOO_LARGE: &[u8] =
+    b"MSGA \0\0\0\x07\0\0\0\x01\0\0\0\x02\0\0\0\x02\0\0\0\0\0\xB9\x80\xFF\xFF\xFF\xFF";
+
+// A server's channel of the id 7, with these limits of messages.
+fn server(rt: &impl Abort, alloc: Global, octets: u32) -> ServerChannel {
+    let limits = Limits::new(65535, 65535, octets, 256).expect(rt, "limits");
+    ServerChannel::new(alloc, limits, 7)
+}
+
+// That a message has these octets.
+fn has_octets(rt: &impl Abort, alloc: Global, message: Message, octets: &[u8]) {
+    assert_eq!(rt; message.len(), octets.len());
+    let mut found = vec![in alloc; 0; octets.len()].expect(rt, "memory");
+    assert!(rt; message.source().take_into(found.as_mut_slice()));
+    assert_eq!(rt; found.as_slice(), octets);
+}
+
+// That an event is what is expected.
+fn is_answer(rt: &impl Abort, alloc: Global, event: ServerEvent, expected: Answer<'_>) {
+    match event {
+        ServerEvent::NeedMore => assert!(rt; matches!(expected, Answer::Waits)),
+        ServerEvent::Send(sent) => {
+            let Answer::Sends(octets) = expected else {
+                panic!(rt; "octets to be sent");
+            };
+            assert_eq!(rt; sent.as_slice(), octets);
+        }
+        ServerEvent::Asked(id, message) => {
+            let Answer::Asks(request, octets) = expected else {
+                panic!(rt; "a message");
+            };
+            assert_eq!(rt; id, request);
+            has_octets(rt, alloc, message, octets);
+        }
+        ServerEvent::Aborted(id) => {
+            assert!(rt; matches!(expected, Answer::Aborts(request) if request == id));
+        }
+        ServerEvent::Closed => assert!(rt; matches!(expected, Answer::Closes)),
+    }
+}
+
+// Gives a channel octets, all of which it is to take, and compares its answer.
+fn takes(rt: &impl Abort, alloc: Global, channel: &mut ServerChannel, row: Row<'_>) {
+    let (octets, expected) = row;
+    match channel.take(octets, MOMENT) {
+        Ok((n, event)) => {
+            assert_eq!(rt; n, octets.len());
+            is_answer(rt, alloc, event, expected);
+        }
+        Err(ChannelFault::Refused { code, .. }) => {
+            assert!(rt; matches!(expected, Answer::Refuses(wanted) if wanted == code.code));
+        }
+        Err(_) => panic!(rt; "a fault"),
+    }
+}
+
+// A channel behind its opening.
+fn opened(rt: &impl Abort, alloc: Global, octets: u32) -> ServerChannel {
+    let mut channel = server(rt, alloc, octets);
+    takes(rt, alloc, &mut channel, (HEL, Answer::Sends(ACK)));
+    takes(rt, alloc, &mut channel, (OPN, Answer::Sends(OPENED)));
+    channel
+}
+
+// Gives a channel these rows in turn.
+fn takes_all(rt: &impl Abort, alloc: Global, channel: &mut ServerChannel, rows: &[Row<'_>]) {
+    for row in rows {
+        takes(rt, alloc, channel, *row);
+    }
+}
+
+// That a reply of a channel has these octets.
+fn replies(rt: &impl Abort, channel: &mut ServerChannel, id: u32, body: &[u8], octets: &[u8]) {
+    assert!(rt; !body.is_empty());
+    let out = channel.reply(id, body).expect(rt, "a reply");
+    assert_eq!(rt; out.as_slice(), octets);
+}
+
+// That a channel has ended.
+fn has_ended(rt: &impl Abort, channel: &mut ServerChannel) {
+    assert!(rt; matches!(channel.take(HEL, MOMENT), Err(ChannelFault::Closed)));
+    assert!(rt; matches!(channel.reply(2, &[1]), Err(ReplyFault::NotOpen)));
+    assert_eq!(rt; (channel.held(), channel.open_count()), (0, 0));
+}
+
+#[test]
+fn answers_a_hel_octet_by_octet(rt: HostRuntime) {
+    let mut channel = server(&rt, rt.alloc(), 1_048_576);
+    assert_eq!(rt; (HEL.len(), channel.bound()), (56, 8192));
+    let (front, last) = HEL.split_at(55);
+    for octet in front.chunks(1) {
+        takes(&rt, rt.alloc(), &mut channel, (octet, Answer::Waits));
+    }
+    assert_eq!(rt; channel.held(), 55);
+    takes(&rt, rt.alloc(), &mut channel, (last, Answer::Sends(ACK)));
+}
+
+#[test]
+fn refuses_what_is_no_hel(rt: HostRuntime) {
+    for (octets, frame) in REFUSED_FIRST {
+        let mut channel = server(&rt, rt.alloc(), 1_048_576);
+        match channel.advance(octets, MOMENT) {
+            (n, Err(ChannelFault::Refused { err_frame, .. })) => {
+                assert_eq!(rt; n, octets.len());
+                assert_eq!(rt; err_frame.as_slice(), frame.as_slice());
+            }
+            _ => panic!(rt; "no refusal"),
+        }
+        has_ended(&rt, &mut channel);
+    }
+}
+
+#[test]
+fn refuses_behind_the_opening(rt: HostRuntime) {
+    for (octets, code) in REFUSED {
+        let mut channel = opened(&rt, rt.alloc(), 1_048_576);
+        takes(
+            &rt,
+            rt.alloc(),
+            &mut channel,
+            (octets, Answer::Refuses(code)),
+        );
+        has_ended(&rt, &mut channel);
+    }
+}
+
+#[test]
+fn talks_until_the_close(rt: HostRuntime) {
+    let mut channel = opened(&rt, rt.alloc(), 1_048_576);
+    takes_all(&rt, rt.alloc(), &mut channel, &TALK);
+    has_ended(&rt, &mut channel);
+}
+
+#[test]
+fn takes_the_old_token_until_the_new_one_is_used(rt: HostRuntime) {
+    let mut channel = opened(&rt, rt.alloc(), 1_048_576);
+    takes_all(&rt, rt.alloc(), &mut channel, &OLD_TOKEN);
+}
+
+#[test]
+fn replies_under_the_last_token_used(rt: HostRuntime) {
+    let mut channel = opened(&rt, rt.alloc(), 1_048_576);
+    takes_all(&rt, rt.alloc(), &mut channel, &ACROSS);
+    replies(&rt, &mut channel, 2, &[0xEE], NEW_REPLY);
+    let mut channel = opened(&rt, rt.alloc(), 1_048_576);
+    takes_all(&rt, rt.alloc(), &mut channel, &STILL_OLD);
+    replies(&rt, &mut channel, 3, &[0xEE], OLD_REPLY);
+}
+
+#[test]
+fn numbers_its_replies(rt: HostRuntime) {
+    let mut channel = opened(&rt, rt.alloc(), 1_048_576);
+    replies(&rt, &mut channel, 2, &[0xEE], FIRST_REPLY);
+    replies(&rt, &mut channel, 3, &[0xEE, 0xEF], SECOND_REPLY);
+}
+
+#[test]
+fn gives_up_what_the_client_does_not_take(rt: HostRuntime) {
+    let mut channel = server(&rt, rt.alloc(), 1_048_576);
+    assert!(rt; matches!(channel.reply(2, &[1]), Err(ReplyFault::NotOpen)));
+    takes(
+        &rt,
+        rt.alloc(),
+        &mut channel,
+        (SHORT_HEL, Answer::Sends(ACK)),
+    );
+    takes(&rt, rt.alloc(), &mut channel, (OPN, Answer::Sends(OPENED)));
+    replies(&rt, &mut channel, 2, &[0xEE; 21], TOO_LARGE);
+}
+
+#[test]
+fn takes_numbers_that_start_again(rt: HostRuntime) {
+    for row in AFTER_LATE {
+        let mut channel = server(&rt, rt.alloc(), 1_048_576);
+        takes(&rt, rt.alloc(), &mut channel, (HEL, Answer::Sends(ACK)));
+        takes(
+            &rt,
+            rt.alloc(),
+            &mut channel,
+            (LATE_OPN, Answer::Sends(OPENED)),
+        );
+        takes(&rt, rt.alloc(), &mut channel, row);
+    }
+}
+
+/// Zeros, as many as a chunk of the agreed size has room for.
+const ZEROS: [u8; 65511] = [0; 65511];
+
+// The frame of a chunk of zeros on channel 7 under token 1.
+fn chunk(rt: &impl Abort, alloc: Global, flag: u8, numbers: (u32, u32), len: usize) -> Vec<u8> {
+    let mut out = Vec::new(alloc);
+    let body = ZEROS.get(..len).expect(rt, "zeros");
+    let size = body.len().saturating_add(24) as u32;
+    out.extend_from_slice(b"MSG").expect(rt, "memory");
+    out.push(flag).expect(rt, "memory");
+    for number in [size, 7, 1, numbers.0, numbers.1] {
+        let octets = number.to_le_bytes();
+        out.extend_from_slice(&octets).expect(rt, "memory");
+    }
+    out.extend_from_slice(body).expect(rt, "memory");
+    out
+}
+
+// Gives a channel C chunks of a request id, numbered from a number, and answers the next one.
+fn goes_on(
+    rt: &impl Abort,
+    alloc: Global,
+    channel: &mut ServerChannel,
+    numbers: (u32, u32),
+    lens: &[usize],
+) -> u32 {
+    let (mut sequence, id) = numbers;
+    for len in lens {
+        let octets = chunk(rt, alloc, b'C', (sequence, id), *len);
+        takes(rt, alloc, channel, (octets.as_slice(), Answer::Waits));
+        sequence = sequence.saturating_add(1);
+    }
+    sequence
+}
+
+/// The sizes of the chunks of a message of 1048576 octets.
+const LARGEST: [usize; 17] = [
+    65511, 65511, 65511, 65511, 65511, 65511, 65511, 65511, 65511, 65511, 65511, 65511, 65511,
+    65511, 65511, 65511, 400,
+];
+
+// Four messages of 1048576 octets, and 65534 octets of a frame of 65535.
+#[test]
+fn holds_up_to_its_bound(rt: HostRuntime) {
+    let mut channel = opened(&rt, rt.alloc(), 1_048_576);
+    let mut sequence = 2;
+    for id in 2..6u32 {
+        sequence = goes_on(&rt, rt.alloc(), &mut channel, (sequence, id), &LARGEST);
+    }
+    assert_eq!(rt; (channel.bound(), channel.open_count()), (4_259_839, 4));
+    let octets = chunk(&rt, rt.alloc(), b'F', (sequence, 2), 65511);
+    let front = octets.as_slice().get(..65534).expect(&rt, "a front");
+    takes(&rt, rt.alloc(), &mut channel, (front, Answer::Waits));
+    assert_eq!(rt; channel.held(), 4_259_838);
+}
+
+#[test]
+fn counts_empty_chunks(rt: HostRuntime) {
+    for flag in [b'C', b'F'] {
+        let mut channel = opened(&rt, rt.alloc(), 1_048_576);
+        let sequence = goes_on(&rt, rt.alloc(), &mut channel, (2, 2), &[0; 256]);
+        let octets = chunk(&rt, rt.alloc(), flag, (sequence, 2), 0);
+        let row = (octets.as_slice(), Answer::Refuses(0x80B8_0000));
+        takes(&rt, rt.alloc(), &mut channel, row);
+    }
+}
+
+#[test]
+fn takes_messages_of_the_greatest_size(rt: HostRuntime) {
+    for (last, answer) in [
+        (0, Answer::Asks(2, &[0; 16])),
+        (1, Answer::Refuses(0x80B8_0000)),
+    ] {
+        let mut channel = server(&rt, rt.alloc(), 16);
+        takes(
+            &rt,
+            rt.alloc(),
+            &mut channel,
+            (HEL, Answer::Sends(SHORT_ACK)),
+        );
+        takes(&rt, rt.alloc(), &mut channel, (OPN, Answer::Sends(OPENED)));
+        let sequence = goes_on(&rt, rt.alloc(), &mut channel, (2, 2), &[16]);
+        let octets = chunk(&rt, rt.alloc(), b'F', (sequence, 2), last);
+        takes(&rt, rt.alloc(), &mut channel, (octets.as_slice(), answer));
+    }
+}
