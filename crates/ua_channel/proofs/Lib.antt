@@ -11,3 +11,4 @@ pub mod OpeningFrames
 pub mod Answering
 pub mod Holding
 pub mod ServerReadings
+pub mod Replies

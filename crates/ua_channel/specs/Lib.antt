@@ -8,6 +8,7 @@ pub mod ServerTold
 pub mod ServerRefusals
 pub mod ServerRules
 pub mod ServerSends
+pub mod ServerPlaces
 pub mod ServerStands
 pub mod ServerAnswers
 pub mod ServerParts

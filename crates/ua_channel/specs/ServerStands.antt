@@ -56,12 +56,12 @@ phase_gate (Greeted a) = opening_gate a.ack.receive_buffer_size
 phase_gate (Open r) = running_gate r.agreement.ack.receive_buffer_size
 phase_gate Done = closed_gate 0
 
--- no channel is open
-abbrev pub IsNotOpen : Phase → Type 0
-IsNotOpen Waiting = Unit {0}
-IsNotOpen (Greeted a) = Unit {0}
-IsNotOpen (Open r) = ⊥
-IsNotOpen Done = Unit {0}
+-- in this phase there is no token
+abbrev pub HasNoToken : Phase → Type 0
+HasNoToken Waiting = Unit {0}
+HasNoToken (Greeted a) = Unit {0}
+HasNoToken (Open r) = ⊥
+HasNoToken Done = Unit {0}
 
 -- where replies go in this phase, if the channel is open
 abbrev pub LaneIs : ℕ → Phase → Lane → Type 0
@@ -87,6 +87,10 @@ next_of x = x.numbers.next
 -- the most octets that a server's channel holds
 abbrev pub bound_of : ServerChannel → ℕ
 bound_of x = x.bound
+
+-- no channel is open: there was no OPN yet, or the channel has ended
+abbrev pub IsNotOpen : ServerChannel → Type 0
+IsNotOpen x = HasNoToken x.phase
 
 -- the rules of a channel
 abbrev pub rules_of : ServerChannel → Rules Told ℕ

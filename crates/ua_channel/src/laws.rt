@@ -2,15 +2,19 @@
 //!
 //! Each function does nothing; its contract is the law.
 
-ghost use Rattle.std.specs.Prelude.{◌≡◌, ◌∷◌, ◌++◌, [], ℕ, List};
+ghost use Rattle.std.specs.Prelude.{◌≡◌, ◌∷◌, ◌++◌, [], ℕ, List, Some};
 ghost use Rattle.ua_frame.specs.Laws.{HasOneReading, HasReadings, StopsAtFirstWrong};
 ghost use Rattle.ua_frame.specs.declared.frame.Frame.{Frame};
 ghost use Rattle.ua_frame.specs.declared.limits.Limits.{Limits};
+ghost use Rattle.ua_chunk.specs.declared.lane.Lane.{Lane};
+ghost use Rattle.ua_channel.specs.Agreement.{Agreement, lane_of};
 ghost use Rattle.ua_channel.specs.Content.{content};
 ghost use Rattle.ua_channel.specs.Received.{after, nothing_received, received};
+ghost use Rattle.ua_channel.specs.ServerPlaces.{agreed_by};
 ghost use Rattle.ua_channel.specs.ServerRules.{server_rules};
-ghost use Rattle.ua_channel.specs.ServerStands.{Goes, GoesTelling, Stands};
-ghost use Rattle.ua_channel.specs.ServerTold.{Told};
+ghost use Rattle.ua_channel.specs.ServerSends.{RepliesGo};
+ghost use Rattle.ua_channel.specs.ServerStands.{channel_of, limits_of, Goes, GoesTelling, Stands};
+ghost use Rattle.ua_channel.specs.ServerTold.{Told, Told as told};
 ghost use Rattle.ua_channel.specs.declared.server.ServerChannel.{ServerChannel};
 
 /// What was received with one frame more is what that frame makes of what was received before.
@@ -37,4 +41,11 @@ pub fn server_stands_once()
 /// A channel that stands behind a frame which tells something goes on with that told.
 pub fn server_goes_on()
     ensures { (x : ServerChannel) (octets : List ℕ) (told : List Told) (e : Told) → GoesTelling x octets told e → Goes x octets (told ++ e ∷ []) }
+{}
+
+/// Right behind a whole message a reply goes under the token of its last chunk, to what was agreed.
+pub fn server_replies()
+    ensures { (x : ServerChannel) (octets : List ℕ) (before : List Told) (id token : ℕ) (message : List ℕ) (frames : List Frame) (rest : List ℕ) (lane : Lane) →
+        GoesTelling x octets before (told.Asked id token message) → Stands x octets frames rest → RepliesGo (limits_of x) (channel_of x) (received frames) lane →
+        (a : Agreement) × (agreed_by before ≡ Some a) × (lane ≡ lane_of (channel_of x) token a) }
 {}

@@ -1,4 +1,19 @@
-//! The secure channel of a connection (OPC 10000-6, 6.7 and 7.1).
+//! The secure channel of a connection under the security policy None (OPC 10000-6, 6.7 and 7.1),
+//! with no IO.
+//!
+//! Its contract is that of [`ServerChannel::take`]: whatever the pieces in which octets come, the
+//! events of their frames in order, or at the first wrong frame the first reason against it.
+//!
+//! ```
+//! let mut channel = ServerChannel::new(alloc, limits, channel_id);
+//! let (size, event) = channel.take(piece, moment)?; // then go on with &piece[size..]
+//! match event {
+//!     ServerEvent::Send(octets) => write(&octets), // an ACK or an OPN response
+//!     ServerEvent::Asked(id, message) => write(&channel.reply(id, &answer(message))?),
+//!     ServerEvent::Aborted(_) | ServerEvent::NeedMore => {}
+//!     ServerEvent::Closed => hang_up(), // as after `Refused`, whose ERR frame is written first
+//! }
+//! ```
 #![tactic(auto)]
 
 mod agreement;

@@ -72,7 +72,7 @@ impl ServerChannel {
     ghost use Rattle.ua_channel.specs.ServerParts.{HasShape, Stays};
     ghost use Rattle.ua_channel.specs.ServerRules.{receive_size};
     ghost use Rattle.ua_channel.specs.ServerSends.{IsReply, RepliesGo};
-    ghost use Rattle.ua_channel.specs.ServerStands.{limits_of, channel_of, next_of, phase_gate, bound_of, IsNotOpen, LaneIs, Holds, Stands, Goes, IsDone, JudgesFrame, bound_after, held_after};
+    ghost use Rattle.ua_channel.specs.ServerStands.{limits_of, channel_of, next_of, phase_gate, bound_of, HasNoToken, IsNotOpen, LaneIs, Holds, Stands, Goes, IsDone, JudgesFrame, bound_after, held_after};
     ghost use Rattle.ua_channel.specs.ServerTold.{Told};
     ghost use Rattle.ua_channel.specs.declared.server.Phase.TheVariants as phase;
     ghost use Rattle.ua_channel.specs.declared.server_fault.ChannelFault.TheVariants as fault;
@@ -344,7 +344,7 @@ impl ServerChannel {
 
     /// Where replies go, if the channel is open.
     fn lane(&self) -> Option<Lane>
-        ensures lane { MatchOption result (IsNotOpen self.now.phase) (LaneIs self.now.channel self.now.phase) }
+        ensures lane { MatchOption result (HasNoToken self.now.phase) (LaneIs self.now.channel self.now.phase) }
         ensures room { IfSome result (λ lane. 0 < lane.room) }
         ensures size { IfSome result (λ lane. lane.room + 24 < 2 ^ 32) }
     {
@@ -365,7 +365,7 @@ impl ServerChannel {
             → IfOk result (λ out. (lane : Lane) × RepliesGo (limits_of self.old) (channel_of self.old) (received frames) lane
             × IsReply lane body.now (next_of self.old) id out.items (next_of self.new)) }
         // No channel is open before the first OPN, and once the channel ended, and then alone.
-        ensures not_open { IsErrOf result NotOpen ↔ IsNotOpen self.old.phase }
+        ensures not_open { IsErrOf result NotOpen ↔ IsNotOpen self.old }
         ensures unchanged { IsErrOf result NotOpen → self.new ≡ self.old }
         ensures before { (octets : List ℕ) (frames : List Frame) (rest : List ℕ) → Stands self.old octets frames rest
             → IsErrOf result NotOpen ↔ ((received frames).openings ≡ []) }

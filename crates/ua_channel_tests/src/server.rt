@@ -335,7 +335,8 @@ fn has_ended(rt: &impl Abort, channel: &mut ServerChannel) {
 fn answers_a_hel_octet_by_octet(rt: HostRuntime) {
     let mut channel = server(&rt, rt.alloc(), 1_048_576);
     assert_eq!(rt; (HEL.len(), channel.bound()), (56, 8192));
-    let (front, last) = HEL.split_at(55);
+    let front = HEL.get(..55).expect(&rt, "a front");
+    let last = HEL.get(55..).expect(&rt, "an end");
     for octet in front.chunks(1) {
         takes(&rt, rt.alloc(), &mut channel, (octet, Answer::Waits));
     }
@@ -438,7 +439,8 @@ const ZEROS: [u8; 65511] = [0; 65511];
 fn chunk(rt: &impl Abort, alloc: Global, flag: u8, numbers: (u32, u32), len: usize) -> Vec<u8> {
     let mut out = Vec::new(alloc);
     let body = ZEROS.get(..len).expect(rt, "zeros");
-    let size = body.len().saturating_add(24) as u32;
+    let len = u32::try_from(len).expect(rt, "a length");
+    let size = len.saturating_add(24);
     out.extend_from_slice(b"MSG").expect(rt, "memory");
     out.push(flag).expect(rt, "memory");
     for number in [size, 7, 1, numbers.0, numbers.1] {
