@@ -12,3 +12,16 @@ pub mod Answering
 pub mod Holding
 pub mod ServerReadings
 pub mod Replies
+pub mod Askings
+pub mod AskedLater
+pub mod HeldTokens
+pub mod ClientFrames
+pub mod ClientGreets
+pub mod ClientAsking
+pub mod ClientStands
+pub mod ClientOpenings
+pub mod ClientTalks
+pub mod ClientPhases
+pub mod ClientChunks
+pub mod ClientSteps
+pub mod ClientAdvances

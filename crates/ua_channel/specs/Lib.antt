@@ -14,3 +14,13 @@ pub mod ServerAnswers
 pub mod ServerParts
 pub mod ServerEvents
 pub mod ServerFaults
+-- a client: what it asked; its tokens, its table of refusals and its rules; where it stands, what it sends and answers
+pub mod Asks
+pub mod ClientTokens
+pub mod ClientTold
+pub mod ClientTable
+pub mod ClientSends
+pub mod ClientAsks
+pub mod Client
+pub mod ClientAnswers
+pub mod ClientParts

@@ -1,8 +1,9 @@
 //! The secure channel of a connection under the security policy None (OPC 10000-6, 6.7 and 7.1),
 //! with no IO.
 //!
-//! Its contract is that of [`ServerChannel::take`]: whatever the pieces in which octets come, the
-//! events of their frames in order, or at the first wrong frame the first reason against it.
+//! Its contract is that of [`ServerChannel::take`] and [`ClientChannel::take`]: whatever the pieces in
+//! which octets come, the events of their frames in order, or at the first wrong frame the first
+//! reason against it.
 //!
 //! ```
 //! let mut channel = ServerChannel::new(alloc, limits, channel_id);
@@ -17,6 +18,7 @@
 #![tactic(auto)]
 
 mod agreement;
+mod client;
 pub mod laws;
 mod numbers;
 mod running;
@@ -26,6 +28,7 @@ mod server_event;
 mod server_fault;
 mod server_opening;
 
+pub use client::{AskFault, ClientChannel, ClientEvent, ClientTakeFault};
 pub use server::ServerChannel;
 pub use server_event::ServerEvent;
 pub use server_fault::{ChannelFault, ReplyFault};

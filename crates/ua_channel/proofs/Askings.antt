@@ -1,0 +1,192 @@
+-- What is pending, with one ask more, and with one frame more.
+use Rattle.std.proofs.Common.{◌≡◌, inl, inr, ℕ, ◌≤◌, ◌<◌, List, [], ◌∷◌, ◌++◌, Bool, true, false, ◌&&◌, ◌||◌, not, length, map, refl, sym, ◌∙◌, ap, arith, ltb, eqb, append_assoc, append-nil}
+use Rattle.std.specs.List.{AllByRecursion, filter, flat_map, list_any}
+use Rattle.std.specs.Prelude.{if◌then◌else◌}
+use Rattle.std.proofs.lemmas.Bool.{cases_Bool}
+use Rattle.std.proofs.lemmas.List.{flat_map_more, map-append}
+use Rattle.std.proofs.lemmas.List.Elements.{filter-append}
+use Rattle.std.proofs.lemmas.List.Folds.{list_any-append}
+use Rattle.ua_chunk.specs.declared.chunk.Chunk.{Chunk}
+use Rattle.ua_chunk.specs.Gathered.{is_of, ends}
+use Rattle.ua_channel.specs.Asks.{Asking, Placed, id_of, call_in, renewal_in, calls, renewals, asked_before, asked_in, is_in, is_finished, pending_calls, pending_renewals}
+use Rattle.ua_channel.specs.Asks.Asking.{Call, Renewal}
+use Rattle.ua_channel.specs.ClientParts.{left_pending}
+
+-- ---- one ask more
+
+pub calls-push : (asked : List Asking) (a : Asking) → calls (asked ++ a ∷ []) ≡ calls asked ++ call_in a
+unfolding calls
+calls-push asked a = sym (flat_map_more call_in [] asked a)
+
+pub renewals-push : (asked : List Asking) (a : Asking) → renewals (asked ++ a ∷ []) ≡ renewals asked ++ renewal_in a
+unfolding renewals
+renewals-push asked a = sym (flat_map_more renewal_in [] asked a)
+
+-- the chunks of requests below a number do not finish it
+unfinished_at : (cs : List Chunk) (id : ℕ) → AllByRecursion (λ (c : Chunk). c.request < id) cs → is_finished cs id ≡ false
+unfinished_at [] id below = refl
+unfinished_at (c ∷ cs) id below =
+    let first : eqb c.request id ≡ false = grind (below.0, arith) in
+    ap (λ (b : Bool). (b && ends c) || is_finished cs id) first ∙ unfinished_at cs id below.1
+
+not_in : (ns : List ℕ) (id : ℕ) → AllByRecursion (λ (n : ℕ). n < id) ns → is_in id ns ≡ false
+not_in [] id below = refl
+not_in (n ∷ ns) id below =
+    let first : eqb n id ≡ false = grind (below.0, arith) in
+    ap (λ (b : Bool). b || is_in id ns) first ∙ not_in ns id below.1
+
+pub pending_calls-call : (cs : List Chunk) (asked : List Asking) (id : ℕ) → AllByRecursion (λ (c : Chunk). c.request < id) cs → pending_calls cs (asked ++ Call id ∷ []) ≡ pending_calls cs asked ++ id ∷ []
+unfolding pending_calls
+pending_calls-call cs asked id below =
+    ap (filter (λ (j : ℕ). not (is_finished cs j))) (calls-push asked (Call id))
+    ∙ (filter-append (λ (j : ℕ). not (is_finished cs j)) (calls asked) (id ∷ [])
+    ∙ ap (λ (b : Bool). filter (λ (j : ℕ). not (is_finished cs j)) (calls asked) ++ (if not b then id ∷ [] else [])) (unfinished_at cs id below))
+
+pub pending_calls-renewal : (cs : List Chunk) (asked : List Asking) (id : ℕ) → pending_calls cs (asked ++ Renewal id ∷ []) ≡ pending_calls cs asked
+unfolding pending_calls
+pending_calls-renewal cs asked id = ap (filter (λ (j : ℕ). not (is_finished cs j))) (calls-push asked (Renewal id) ∙ append-nil (calls asked))
+
+pub pending_renewals-renewal : (opened : List ℕ) (asked : List Asking) (id : ℕ) → AllByRecursion (λ (n : ℕ). n < id) opened → pending_renewals opened (asked ++ Renewal id ∷ []) ≡ pending_renewals opened asked ++ id ∷ []
+unfolding pending_renewals
+pending_renewals-renewal opened asked id below =
+    ap (filter (λ (j : ℕ). not (is_in j opened))) (renewals-push asked (Renewal id))
+    ∙ (filter-append (λ (j : ℕ). not (is_in j opened)) (renewals asked) (id ∷ [])
+    ∙ ap (λ (b : Bool). filter (λ (j : ℕ). not (is_in j opened)) (renewals asked) ++ (if not b then id ∷ [] else [])) (not_in opened id below))
+
+pub pending_renewals-call : (opened : List ℕ) (asked : List Asking) (id : ℕ) → pending_renewals opened (asked ++ Call id ∷ []) ≡ pending_renewals opened asked
+unfolding pending_renewals
+pending_renewals-call opened asked id = ap (filter (λ (j : ℕ). not (is_in j opened))) (renewals-push asked (Call id) ∙ append-nil (renewals asked))
+
+-- ---- places
+
+pub asked_in-push : (asks : List Placed) (a : Placed) → asked_in (asks ++ a ∷ []) ≡ asked_in asks ++ a.1 ∷ []
+unfolding asked_in
+asked_in-push asks a = map-append (λ (b : Placed). b.1) asks (a ∷ [])
+
+-- an ask at a place or behind it was not made before it
+pub asked_before-push : (place : ℕ) (asks : List Placed) (a : Placed) → place ≤ a.0 → asked_before place (asks ++ a ∷ []) ≡ asked_before place asks
+unfolding asked_before
+asked_before-push place asks a behind =
+    let late : ltb a.0 place ≡ false = grind (behind, arith) in
+    ap (map (λ (b : Placed). b.1)) (filter-append (λ (b : Placed). ltb b.0 place) asks (a ∷ [])
+    ∙ (ap (λ (t : Bool). filter (λ (b : Placed). ltb b.0 place) asks ++ (if t then a ∷ [] else [])) late ∙ append-nil (filter (λ (b : Placed). ltb b.0 place) asks)))
+
+all_before : (place n : ℕ) (asks : List Placed) → n < place → AllByRecursion (λ (a : Placed). a.0 ≤ n) asks → filter (λ (a : Placed). ltb a.0 place) asks ≡ asks
+all_before place n [] less placed = refl
+all_before place n (a ∷ asks) less placed =
+    let early : ltb a.0 place ≡ true = grind (placed.0, less, arith) in
+    ap (λ (t : Bool). if t then a ∷ filter (λ (b : Placed). ltb b.0 place) asks else filter (λ (b : Placed). ltb b.0 place) asks) early ∙ ap (λ (bs : List Placed). a ∷ bs) (all_before place n asks less placed.1)
+
+-- behind all places everything was asked
+pub asked_before-all : (place n : ℕ) (asks : List Placed) → n < place → AllByRecursion (λ (a : Placed). a.0 ≤ n) asks → asked_before place asks ≡ asked_in asks
+unfolding asked_before asked_in
+asked_before-all place n asks less placed = ap (map (λ (b : Placed). b.1)) (all_before place n asks less placed)
+
+-- ---- one frame more
+
+-- the request ids that are pending are below a number that those asked are below
+calls_below : (n id : ℕ) (asked : List Asking) → AllByRecursion (λ (a : Asking). id_of a < n) asked → is_in id (calls asked) ≡ true → id < n
+unfolding calls
+calls_below n id [] below e = absurd cc
+calls_below n id (Call j ∷ asked) below e = elim (cases_Bool (eqb j id)) [ inl same ↦ grind (below.0, same, arith) | inr other ↦ calls_below n id asked below.1 (ap (λ (b : Bool). b || is_in id (calls asked)) (sym other) ∙ e) ]
+calls_below n id (Renewal j ∷ asked) below e = calls_below n id asked below.1 e
+
+kept_or : (kept found within : Bool) (id j : ℕ) (ids : List ℕ) → eqb j id ≡ found → (is_in id ids ≡ true → within ≡ true) → is_in id (if kept then j ∷ ids else ids) ≡ true → (found || within) ≡ true
+kept_or kept true within id j ids is more e = refl
+kept_or true false within id j ids is more e = more (ap (λ (b : Bool). b || is_in id ids) (sym is) ∙ e)
+kept_or false false within id j ids is more e = more e
+
+within_filter : (test : ℕ → Bool) (id : ℕ) (ids : List ℕ) → is_in id (filter test ids) ≡ true → is_in id ids ≡ true
+within_filter test id [] e = e
+within_filter test id (j ∷ ids) e = kept_or (test j) (eqb j id) (is_in id ids) id j (filter test ids) refl (within_filter test id ids) e
+
+pub pending_below : (n id : ℕ) (cs : List Chunk) (asked : List Asking) → AllByRecursion (λ (a : Asking). id_of a < n) asked → is_in id (pending_calls cs asked) ≡ true → id < n
+unfolding pending_calls
+pending_below n id cs asked below e = calls_below n id asked below (within_filter (λ (j : ℕ). not (is_finished cs j)) id (calls asked) e)
+
+-- ---- a message that ends
+
+finished-push : (cs : List Chunk) (c : Chunk) (id : ℕ) → is_finished (cs ++ c ∷ []) id ≡ (is_finished cs id || ((is_of id c && ends c) || false))
+finished-push cs c id = list_any-append (λ (d : Chunk). is_of id d && ends d) cs (c ∷ [])
+
+and_false : (b : Bool) → (b && false) ≡ false
+and_false true = refl
+and_false false = refl
+
+and_true : (b : Bool) → (b && true) ≡ b
+and_true true = refl
+and_true false = refl
+
+or_false : (b : Bool) → (b || false) ≡ b
+or_false true = refl
+or_false false = refl
+
+filter_same : (p q : ℕ → Bool) (ids : List ℕ) → ((id : ℕ) → p id ≡ q id) → filter p ids ≡ filter q ids
+filter_same p q [] same = refl
+filter_same p q (id ∷ ids) same =
+    ap (λ (b : Bool). if b then id ∷ filter p ids else filter p ids) (same id) ∙ ap (λ (js : List ℕ). if q id then id ∷ js else js) (filter_same p q ids same)
+
+twice_by : (p q : ℕ → Bool) (id : ℕ) (ids : List ℕ) (b d : Bool) → q id ≡ d → filter (λ (j : ℕ). not (p j || q j)) ids ≡ filter (λ (j : ℕ). not (q j)) (filter (λ (j : ℕ). not (p j)) ids)
+    → (if not (b || d) then id ∷ filter (λ (j : ℕ). not (p j || q j)) ids else filter (λ (j : ℕ). not (p j || q j)) ids)
+    ≡ filter (λ (j : ℕ). not (q j)) (if not b then id ∷ filter (λ (j : ℕ). not (p j)) ids else filter (λ (j : ℕ). not (p j)) ids)
+twice_by p q id ids true d is more = more
+twice_by p q id ids false true is more =
+    more ∙ sym (ap (λ (t : Bool). if not t then id ∷ filter (λ (j : ℕ). not (q j)) (filter (λ (j : ℕ). not (p j)) ids) else filter (λ (j : ℕ). not (q j)) (filter (λ (j : ℕ). not (p j)) ids)) is)
+twice_by p q id ids false false is more =
+    ap (λ (js : List ℕ). id ∷ js) more
+    ∙ sym (ap (λ (t : Bool). if not t then id ∷ filter (λ (j : ℕ). not (q j)) (filter (λ (j : ℕ). not (p j)) ids) else filter (λ (j : ℕ). not (q j)) (filter (λ (j : ℕ). not (p j)) ids)) is)
+
+filter_twice : (p q : ℕ → Bool) (ids : List ℕ) → filter (λ (id : ℕ). not (p id || q id)) ids ≡ filter (λ (id : ℕ). not (q id)) (filter (λ (id : ℕ). not (p id)) ids)
+filter_twice p q [] = refl
+filter_twice p q (id ∷ ids) = twice_by p q id ids (p id) (q id) refl (filter_twice p q ids)
+
+eqb_sym : (a b : ℕ) → eqb a b ≡ eqb b a
+eqb_sym a b = grind arith
+
+left_by : (p q : ℕ → Bool) (ids : List ℕ) (ending : Bool) (request : ℕ) → ((id : ℕ) → p id ≡ (q id || ((eqb request id && ending) || false)))
+    → filter (λ (id : ℕ). not (p id)) ids ≡ (if ending then filter (λ (id : ℕ). not (eqb id request)) (filter (λ (id : ℕ). not (q id)) ids) else filter (λ (id : ℕ). not (q id)) ids)
+left_by p q ids true request same =
+    filter_same (λ (id : ℕ). not (p id)) (λ (id : ℕ). not (q id || eqb id request)) ids (λ id. ap not (same id ∙ ap (λ (b : Bool). q id || b) (or_false (eqb request id && true) ∙ (and_true (eqb request id) ∙ eqb_sym request id))))
+    ∙ filter_twice q (λ (id : ℕ). eqb id request) ids
+left_by p q ids false request same =
+    filter_same (λ (id : ℕ). not (p id)) (λ (id : ℕ). not (q id)) ids (λ id. ap not (same id ∙ (ap (λ (b : Bool). q id || (b || false)) (and_false (eqb request id)) ∙ or_false (q id))))
+
+-- with one chunk more those calls are pending that it does not answer
+pub pending_calls-more : (cs : List Chunk) (c : Chunk) (asked : List Asking) → pending_calls (cs ++ c ∷ []) asked ≡ left_pending c (pending_calls cs asked)
+unfolding pending_calls
+pending_calls-more cs c asked = left_by (is_finished (cs ++ c ∷ [])) (is_finished cs) (calls asked) (ends c) c.request (finished-push cs c)
+
+-- the answer to the one renewal that is pending leaves none
+none_left : (p : ℕ → Bool) (id : ℕ) (ids : List ℕ) → filter p ids ≡ id ∷ [] → filter (λ (j : ℕ). not (eqb j id)) (filter p ids) ≡ []
+none_left p id ids one =
+    let same : eqb id id ≡ true = grind arith in
+    ap (filter (λ (j : ℕ). not (eqb j id))) one ∙ ap (λ (b : Bool). if not b then id ∷ [] else []) same
+
+opened-push : (opened : List ℕ) (n id : ℕ) → is_in id (opened ++ n ∷ []) ≡ (is_in id opened || eqb id n)
+opened-push opened n id = list_any-append (λ (m : ℕ). eqb m id) opened (n ∷ []) ∙ ap (λ (b : Bool). is_in id opened || b) (or_false (eqb n id) ∙ eqb_sym n id)
+
+pub pending_renewals-more : (opened : List ℕ) (id : ℕ) (asked : List Asking) → pending_renewals opened asked ≡ id ∷ [] → pending_renewals (opened ++ id ∷ []) asked ≡ []
+unfolding pending_renewals
+pending_renewals-more opened id asked one =
+    filter_same (λ (j : ℕ). not (is_in j (opened ++ id ∷ []))) (λ (j : ℕ). not (is_in j opened || eqb j id)) (renewals asked) (λ j. ap not (opened-push opened id j))
+    ∙ (filter_twice (λ (j : ℕ). is_in j opened) (λ (j : ℕ). eqb j id) (renewals asked) ∙ none_left (λ (j : ℕ). not (is_in j opened)) id (renewals asked) one)
+
+renewals_below : (n id : ℕ) (asked : List Asking) → AllByRecursion (λ (a : Asking). id_of a < n) asked → is_in id (renewals asked) ≡ true → id < n
+unfolding renewals
+renewals_below n id [] below e = absurd cc
+renewals_below n id (Renewal j ∷ asked) below e = elim (cases_Bool (eqb j id)) [ inl same ↦ grind (below.0, same, arith) | inr other ↦ renewals_below n id asked below.1 (ap (λ (b : Bool). b || is_in id (renewals asked)) (sym other) ∙ e) ]
+renewals_below n id (Call j ∷ asked) below e = renewals_below n id asked below.1 e
+
+pub renewal_below : (n id : ℕ) (opened : List ℕ) (asked : List Asking) → AllByRecursion (λ (a : Asking). id_of a < n) asked → is_in id (pending_renewals opened asked) ≡ true → id < n
+unfolding pending_renewals
+renewal_below n id opened asked below e = renewals_below n id asked below (within_filter (λ (j : ℕ). not (is_in j opened)) id (renewals asked) e)
+
+-- ---- all of a list, with one more
+
+pub all-push : {X : Type 0} (P : X → Type 0) (xs : List X) (x : X) → AllByRecursion P xs → P x → AllByRecursion P (xs ++ x ∷ [])
+all-push P [] x all last = (last, tt)
+all-push P (y ∷ xs) x all last = (all.0, all-push P xs x all.1 last)
+
+pub all-weaken : {X : Type 0} (P Q : X → Type 0) (xs : List X) → ((x : X) → P x → Q x) → AllByRecursion P xs → AllByRecursion Q xs
+all-weaken P Q [] more all = tt
+all-weaken P Q (x ∷ xs) more all = (more x all.0, all-weaken P Q xs more all.1)

@@ -1,0 +1,157 @@
+-- What a client makes of an OPN.
+use Rattle.std.proofs.Common.{◌≡◌, ℕ, Bool, true, false, not, ◌||◌, eqb, leb, List, [], ◌∷◌, ◌++◌, Option, Some, None, Result, Ok, Err, refl, sym, ◌∙◌, ap, subst}
+use Rattle.ua_octets.proofs.Readers.{some_is}
+use Rattle.ua_builtin.specs.Reasons.{first_reason}
+use Rattle.ua_frame.specs.declared.frame.Frame.{Frame}
+use Rattle.ua_frame.specs.declared.limits.Limits.{Limits}
+use Rattle.ua_chunk.specs.declared.open_chunk.OpenChunk.{OpenChunk}
+use Rattle.ua_chunk.specs.declared.fault.OpenFault.{OpenFault}
+use Rattle.ua_chunk.specs.declared.fault.OpenFault.TheVariants.{Unreadable, Policy, OutOfMemory}
+use Rattle.ua_chunk.specs.Layout.{sequence_header}
+use Rattle.ua_chunk.specs.Opening.{SecurityHeader, channel_of, policy_of, policy_header, is_none_policy, opening_behind, opening_with, opening_in, sequence_fault, headers_fault, open_refusal}
+use Rattle.ua_services.specs.Open.{answer_read}
+use Rattle.ua_services.specs.declared.open.OpenAnswer.{OpenAnswer}
+use Rattle.ua_services.specs.declared.open.OpenAnswer.TheVariants.{Open, Fault}
+use Rattle.ua_structures.specs.declared.secure_channel.OpenResponse.{OpenResponse}
+use Rattle.ua_channel.specs.Asks.{Asking}
+use Rattle.ua_channel.specs.ClientParts.{of_open_fault, IsStopFor, Judged, JudgesAnswer, IsAnswerOf, IsAnsweredBy, body_reasons, answer_reasons}
+use Rattle.ua_channel.specs.ClientTable.{client_reasons, is_bad}
+use Rattle.ua_channel.specs.ClientTokens.{answer_in}
+use Rattle.ua_channel.specs.ClientTold.{Why, ours}
+use Rattle.ua_channel.specs.Content.{Opening, opening_numbered, opening_secured, opening_of}
+use Rattle.ua_channel.specs.Content.Content.{Opens}
+use Rattle.ua_channel.specs.Received.{Received}
+use Rattle.ua_channel.specs.declared.client.answer.Answer.{Answer}
+use Rattle.ua_channel.specs.declared.client.fault.Stop.{Stop}
+use Rattle.ua_channel.specs.declared.client.fault.Stop.TheVariants as stop
+use Rattle.ua_channel.proofs.ClientAsking.{first_unset}
+
+-- ---- headers that are refused
+
+-- the code of a fault of the headers
+open_code : OpenFault → ℕ
+open_code Unreadable = 0x8007_0000
+open_code Policy = 0x8055_0000
+open_code OutOfMemory = 0
+
+module _ (limits : Limits) (before : Received) (asked : List Asking) where
+  why : Opening → Option Why
+  why o = first_reason (client_reasons limits before asked (Opens o))
+
+  refused_policy : (header : SecurityHeader) (octets : List ℕ) (found : Option ((ℕ × ℕ) × List ℕ)) → is_none_policy (policy_of header) ≡ false → why (opening_numbered header octets found) ≡ Some (ours 0x8055_0000)
+  unfolding why
+  refused_policy header octets None other = rw other refl
+  refused_policy header octets (Some found) other = rw other refl
+
+  refused_numbers : (header : SecurityHeader) (octets : List ℕ) → is_none_policy (policy_of header) ≡ true → why (opening_numbered header octets None) ≡ Some (ours 0x8007_0000)
+  unfolding why answer_in
+  refused_numbers header octets none = rw none refl
+
+  refused_header : (header : SecurityHeader) (octets : List ℕ) (found : Option ((ℕ × ℕ) × List ℕ)) (b : Bool) (fault : OpenFault) → is_none_policy (policy_of header) ≡ b → sequence_fault b found ≡ Some fault → why (opening_numbered header octets found) ≡ Some (ours (open_code fault))
+  unfolding open_code
+  refused_header header octets found false fault e h = refused_policy header octets found e ∙ ap (λ (x : OpenFault). Some (ours (open_code x))) (some_is Policy fault h)
+  refused_header header octets None true fault e h = refused_numbers header octets e ∙ ap (λ (x : OpenFault). Some (ours (open_code x))) (some_is Unreadable fault h)
+  refused_header header octets (Some found) true fault e h = absurd cc
+
+  refused_found : (body : List ℕ) (found : Option (SecurityHeader × List ℕ)) (fault : OpenFault) → headers_fault found ≡ Some fault → why (opening_secured body found) ≡ Some (ours (open_code fault))
+  unfolding open_code why
+  refused_found body None fault h = ap (λ (x : OpenFault). Some (ours (open_code x))) (some_is Unreadable fault h)
+  refused_found body (Some found) fault h = refused_header found.0 found.1 (sequence_header.decode found.1) (is_none_policy (policy_of found.0)) fault refl h
+
+  -- headers that are refused
+  refuses_headers : (body : List ℕ) (fault : OpenFault) → open_refusal body ≡ Some fault → first_reason (client_reasons limits before asked (Opens (opening_of body))) ≡ Some (ours (open_code fault))
+  unfolding opening_of why
+  refuses_headers body fault h = refused_found body (policy_header.decode body) fault h
+
+judges_fault : (body : List ℕ) (fault : OpenFault) → open_refusal body ≡ Some fault → JudgesAnswer (opening_of body) (Err (of_open_fault fault))
+unfolding open_code
+judges_fault body Unreadable h = λ limits before asked. refuses_headers limits before asked body Unreadable h
+judges_fault body Policy h = λ limits before asked. refuses_headers limits before asked body Policy h
+judges_fault body OutOfMemory h = λ limits before asked. tt
+
+-- what a fault of the headers comes to
+pub judges_headers : (body : List ℕ) (fault : OpenFault) (e : Stop) → open_refusal body ≡ Some fault → e ≡ of_open_fault fault → JudgesAnswer (opening_of body) (Err e)
+judges_headers body fault e h is = subst (λ (x : Stop). JudgesAnswer (opening_of body) (Err x)) (sym is) (judges_fault body fault h)
+
+-- ---- headers that read
+
+-- the body of an OPN has headers under the policy None, and behind them these octets
+pub record HasHeaders (body : List ℕ) (sequence request : ℕ) (behind : List ℕ) : Type 0 where
+  pub header : SecurityHeader
+  pub policy : is_none_policy (policy_of header) ≡ true
+  pub opening_is : opening_of body ≡ record { security = Some header; numbers = Some (sequence, request); body = behind }
+
+abbrev found_chunk : SecurityHeader → (ℕ × ℕ) × List ℕ → OpenChunk
+found_chunk header found = record { channel = channel_of header; sequence = found.0.0; request = found.0.1; body = found.1 }
+
+abbrev opening_with_chunk : SecurityHeader → OpenChunk → Opening
+opening_with_chunk header c = record { security = Some header; numbers = Some (c.sequence, c.request); body = c.body }
+
+headers_behind : (header : SecurityHeader) (octets : List ℕ) (found : Option ((ℕ × ℕ) × List ℕ)) (b : Bool) (c : OpenChunk) → is_none_policy (policy_of header) ≡ b → opening_behind b (channel_of header) found ≡ Some c
+    → (b ≡ true) × (opening_numbered header octets found ≡ record { security = Some header; numbers = Some (c.sequence, c.request); body = c.body })
+headers_behind header octets found false c e h = absurd cc
+headers_behind header octets None true c e h = absurd cc
+headers_behind header octets (Some found) true c e h =
+    let is : found_chunk header found ≡ c = some_is (found_chunk header found) c h in
+    (refl, ap (opening_with_chunk header) is)
+
+headers_with : (body : List ℕ) (found : Option (SecurityHeader × List ℕ)) (c : OpenChunk) → policy_header.decode body ≡ found → opening_with found ≡ Some c → HasHeaders body c.sequence c.request c.body
+unfolding opening_of
+headers_with body None c e h = absurd cc
+headers_with body (Some found) c e h =
+    let b = headers_behind found.0 found.1 (sequence_header.decode found.1) (is_none_policy (policy_of found.0)) c refl h in
+    record { header = found.0; policy = b.0; opening_is = ap (opening_secured body) e ∙ b.1 }
+
+-- the headers that were read
+pub has_headers : (f : Frame) (c : OpenChunk) → opening_in f ≡ Some c → HasHeaders f.body c.sequence c.request c.body
+unfolding opening_in
+has_headers f c h = headers_with f.body (policy_header.decode f.body) c refl h
+
+-- ---- what is behind them
+
+module _ (sequence request : ℕ) (body behind : List ℕ) (h : HasHeaders body sequence request behind) where
+  answer_is_read : answer_in (opening_of body) ≡ answer_read behind
+  unfolding answer_in
+  answer_is_read = rw h.opening_is refl
+
+  bad_response : (limits : Limits) (before : Received) (asked : List Asking) (r : OpenResponse) (why : Why) (b : Bool) → answer_read behind ≡ Some (Open r) → leb 0x8000_0000 r.response_header.service_result.code ≡ b
+      → first_reason ((ours r.response_header.service_result.code, b) ∷ []) ≡ Some why → first_reason (client_reasons limits before asked (Opens (opening_of body))) ≡ Some why
+  unfolding answer_in
+  bad_response limits before asked r why true is bad first = rw (h.opening_is, h.policy, is, bad) first
+  bad_response limits before asked r why false is bad first = absurd cc
+
+  refused_by : (limits : Limits) (before : Received) (asked : List Asking) (answer : Option OpenAnswer) (why : Why) → answer_read behind ≡ answer → first_reason (body_reasons answer) ≡ Some why
+      → first_reason (client_reasons limits before asked (Opens (opening_of body))) ≡ Some why
+  unfolding answer_in
+  refused_by limits before asked None why is first = rw (h.opening_is, h.policy, is) first
+  refused_by limits before asked (Some (Fault f)) why is first = rw (h.opening_is, h.policy, is) first
+  refused_by limits before asked (Some (Open r)) why is first = bad_response limits before asked r why (leb 0x8000_0000 r.response_header.service_result.code) is refl first
+
+  -- what a fault of the body comes to
+  pub judges_body : (e : Stop) → IsStopFor (body_reasons (answer_read behind)) e → JudgesAnswer (opening_of body) (Err e)
+  judges_body (stop.Refused code) r = λ limits before asked. refused_by limits before asked (answer_read behind) (ours code.code) refl r
+  judges_body (stop.Peer code) r = λ limits before asked. refused_by limits before asked (answer_read behind) (record { code = code.code; peer = true }) refl r
+  judges_body stop.OutOfMemory r = λ limits before asked. tt
+  judges_body stop.Closed r = λ limits before asked. r
+
+  good_bit : (r : OpenResponse) → first_reason (body_reasons (Some (Open r))) ≡ None → leb 0x8000_0000 r.response_header.service_result.code ≡ false
+  good_bit r e = first_unset (ours r.response_header.service_result.code) (leb 0x8000_0000 r.response_header.service_result.code) [] e
+
+  remains : (limits : Limits) (before : Received) (asked : List Asking) (r : OpenResponse) (a : Answer) → answer_read behind ≡ Some (Open r) → leb 0x8000_0000 r.response_header.service_result.code ≡ false
+      → a.sequence ≡ sequence → a.request ≡ request → r.channel_id ≡ a.channel → r.token_id ≡ a.token
+      → first_reason (client_reasons limits before asked (Opens (opening_of body))) ≡ first_reason (answer_reasons before asked a)
+  unfolding answer_in
+  remains limits before asked r a is good s q ch tk = rw (h.opening_is, h.policy, is, good, ch, tk, s, q) refl
+
+  -- a good answer
+  pub judges_good : (a : Answer) → a.sequence ≡ sequence → a.request ≡ request → Judged (body_reasons (answer_read behind)) (IsAnsweredBy (answer_read behind)) (Ok (a.channel, a.token)) → JudgesAnswer (opening_of body) (Ok a)
+  judges_good a s q found =
+      let by = found.1 in
+      record {
+        response = by.response;
+        answer_is = answer_is_read ∙ by.answer_is;
+        numbers_are = ap (λ (o : Opening). o.numbers) h.opening_is ∙ (ap (λ (n : ℕ). Some (n, request)) (sym s) ∙ ap (λ (n : ℕ). Some (a.sequence, n)) (sym q));
+        channel_is = by.ids_are.0;
+        token_is = by.ids_are.1;
+        remain = λ limits before asked. remains limits before asked by.response a by.answer_is (good_bit by.response (ap (λ (o : Option OpenAnswer). first_reason (body_reasons o)) (sym by.answer_is) ∙ found.0)) s q by.ids_are.0 by.ids_are.1;
+      }

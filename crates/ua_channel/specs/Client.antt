@@ -1,0 +1,182 @@
+-- Where a client's channel stands after octets and asks, and what it answers when it is asked.
+use Rattle.std.specs.Prelude.{◌≡◌, ℕ, ◌≤◌, ◌+◌, ◌*◌, ◌<◌, ◌⊎◌, length, List, [], ◌∷◌, ◌++◌, Option, Some, None, Result, Ok, Err}
+use Rattle.std.specs.List.{AllByRecursion}
+use Rattle.ua_builtin.specs.Reasons.{first_reason}
+use Rattle.ua_builtin.specs.declared.date_time.DateTime.{DateTime}
+use Rattle.ua_frame.specs.declared.ack.Ack.{Ack}
+use Rattle.ua_frame.specs.declared.frame.Frame.{Frame}
+use Rattle.ua_frame.specs.declared.gate.Gate.{Gate}
+use Rattle.ua_frame.specs.declared.limits.Limits.{Limits}
+use Rattle.ua_frame.specs.Frames.{frame_octets}
+use Rattle.ua_frame.specs.Reader.{open_reader}
+use Rattle.ua_frame.specs.Run.{Rules, Run, Going, Stopped, WrongHeader, WrongFrame, events}
+use Rattle.ua_chunk.specs.Open.{open_octets}
+use Rattle.ua_channel.specs.Asks.{Asking, Placed, asked_in}
+use Rattle.ua_channel.specs.ClientAsks.{Talks, ask_reasons, renew_reasons, Calls, Renews, closing_octets, AnswersFor}
+use Rattle.ua_channel.specs.ClientTable.{client_gate, client_rules, ack_gate, answer_gate, reply_gate}
+use Rattle.ua_channel.specs.ClientTold.{Told, Why}
+use Rattle.ua_channel.specs.Received.{Received, received, nothing_received}
+use Rattle.ua_channel.specs.declared.client.channel.ClientChannel.{ClientChannel}
+use Rattle.ua_channel.specs.declared.client.fault.AskFault.{AskFault}
+use Rattle.ua_channel.specs.declared.client.fault.AskFault.TheVariants.{NotOpen}
+use Rattle.ua_channel.specs.declared.client.phase.Phase.{Phase}
+use Rattle.ua_channel.specs.declared.client.phase.Phase.TheVariants.{Waiting, Agreed, Open, Done}
+
+-- ---- what a channel was made with, and what it sends next
+
+-- the limits of the client
+abbrev pub limits_of : ClientChannel → Limits
+limits_of x = x.limits
+
+-- the URL of the server
+abbrev pub url_of : ClientChannel → Option (List ℕ)
+url_of x = x.address.url
+
+-- the sequence number that is sent next behind the first OPN, whose number is 1
+abbrev pub next_of : ClientChannel → ℕ
+next_of x = x.numbers.next
+
+-- how far the channel is
+abbrev pub phase_of : ClientChannel → Phase
+phase_of x = x.phase
+
+-- the most octets that the channel may hold
+abbrev pub bound_of : ClientChannel → ℕ
+bound_of x = x.bound
+
+-- the same channel but for where it stands: its limits and its URL
+pub record SameClient (a b : ClientChannel) : Type 0 where
+  pub limits : limits_of a ≡ limits_of b
+  pub url : url_of a ≡ url_of b
+
+-- ---- memory
+
+-- the most octets that a client with these limits may hold: 8192 before the ACK; then a frame, of what the server sends, and 4 unfinished
+-- messages
+abbrev pub bound_behind : Limits → Option Ack → ℕ
+bound_behind limits None = 8192
+bound_behind limits (Some a) = a.send_buffer_size + 4 * limits.max_message_size
+
+-- the octets that are held: of a frame that is not whole, and of the messages that are unfinished
+abbrev pub held_octets : List Frame → List ℕ → ℕ
+held_octets frames rest = length rest + open_octets (received frames).messages
+
+-- ---- phases
+
+-- a phase is that of a client with these limits where this was received and asked
+abbrev pub InPhase : Limits → Phase → Received → List Asking → Type 0
+InPhase limits Waiting before asked = (before ≡ nothing_received) × (asked ≡ [])
+InPhase limits (Agreed a) before asked = (before ≡ record nothing_received { ack = Some a.ack }) × (asked ≡ [])
+InPhase limits (Open t) before asked = Talks limits t before asked
+InPhase limits Done before asked = ⊥
+
+-- the gate of a phase
+abbrev pub phase_gate : Phase → Gate
+phase_gate Waiting = ack_gate
+phase_gate (Agreed a) = answer_gate a.ack.send_buffer_size
+phase_gate (Open t) = reply_gate t.agreed.ack.send_buffer_size
+phase_gate Done = ack_gate
+
+-- ---- after octets and asks
+
+-- the rules of a channel that asked so
+abbrev pub rules_of : ClientChannel → List Placed → Rules Told Why
+rules_of x asks = client_rules (limits_of x) asks
+
+-- a channel is where these asks and octets leave it: these are the frames of the octets, and this is the rest
+pub record Stands (x : ClientChannel) (asks : List Placed) (octets : List ℕ) (frames : List Frame) (rest : List ℕ) : Type 0 where
+  pub run : Run (rules_of x asks) octets frames rest Going
+  pub placed : AllByRecursion (λ (a : Placed). a.0 ≤ length octets) asks
+  pub reader_is : x.reader ≡ open_reader (client_gate (received frames)) rest
+  pub phase_is : InPhase (limits_of x) (phase_of x) (received frames) (asked_in asks)
+  pub bound_is : bound_of x ≡ bound_behind (limits_of x) (received frames).ack
+
+-- a channel that failed or was closed, and holds nothing
+pub record IsDone (x : ClientChannel) : Type 0 where
+  pub phase : phase_of x ≡ Done
+  pub empty : x.reader.held ≡ []
+
+-- it goes on after these asks and octets, whose frames told this
+pub record Goes (x : ClientChannel) (asks : List Placed) (octets : List ℕ) (told : List Told) : Type 0 where
+  pub frames : List Frame
+  pub rest : List ℕ
+  pub stands : Stands x asks octets frames rest
+  pub told_is : events (rules_of x asks) frames ≡ told
+
+-- the last of the frames of these octets is the one that tells this, after what the others told, and nothing stands behind it
+pub record GoesTelling (x : ClientChannel) (asks : List Placed) (octets : List ℕ) (told : List Told) (e : Told) : Type 0 where
+  pub frames : List Frame
+  pub frame : Frame
+  pub stands : Stands x asks octets (frames ++ frame ∷ []) []
+  pub told_is : events (rules_of x asks) frames ≡ told
+  pub tells : (rules_of x asks).tells frames frame ≡ e ∷ []
+
+-- octets stop at what is refused: at the eighth octet of a header, or at the end of a frame
+abbrev pub StopsAt : Rules Told Why → List Frame → List ℕ → Why → Type 0
+StopsAt R frames rest why = (WrongHeader R frames rest why × (length rest ≡ 8)) ⊎ ((wrong : WrongFrame R frames rest why) × (wrong.more ≡ []))
+
+-- it ended after these asks and octets, whose good frames told this, and what stands behind them is refused for this
+pub record Ended (x : ClientChannel) (asks : List Placed) (octets : List ℕ) (told : List Told) (why : Why) : Type 0 where
+  pub done : IsDone x
+  pub frames : List Frame
+  pub rest : List ℕ
+  pub run : Run (rules_of x asks) octets frames rest (Stopped why)
+  pub stops : StopsAt (rules_of x asks) frames rest why
+  pub told_is : events (rules_of x asks) frames ≡ told
+  pub bound_is : bound_of x ≡ bound_behind (limits_of x) (received frames).ack
+
+-- ---- asks in a phase
+
+-- no channel is open
+abbrev pub IsNotOpen : Phase → Type 0
+IsNotOpen Waiting = Unit {0}
+IsNotOpen (Agreed a) = Unit {0}
+IsNotOpen (Open t) = ⊥
+IsNotOpen Done = Unit {0}
+
+-- why a call of this body is not asked after so many more calls in this phase
+abbrev pub ask_refusal : Phase → ℕ → List ℕ → Option AskFault
+ask_refusal Waiting more body = Some NotOpen
+ask_refusal (Agreed a) more body = Some NotOpen
+ask_refusal (Open t) more body = first_reason (ask_reasons t more body)
+ask_refusal Done more body = Some NotOpen
+
+-- the octets of a call of this body, its request id, and the number that is sent next
+abbrev pub IsCall : Phase → ℕ → List ℕ → ℕ → List ℕ → ℕ → Type 0
+IsCall Waiting number body id out next = ⊥
+IsCall (Agreed a) number body id out next = ⊥
+IsCall (Open t) number body id out next = Calls t number body id out next
+IsCall Done number body id out next = ⊥
+
+-- what is judged of any body of this length, without memory
+abbrev pub Judges : Phase → ℕ → ℕ → Result (Unit {0}) AskFault → Type 0
+Judges phase more len (Ok found) = (body : List ℕ) → length body ≡ len → ask_refusal phase more body ≡ None
+Judges phase more len (Err fault) = (body : List ℕ) → length body ≡ len → ask_refusal phase more body ≡ Some fault
+
+-- why a renewal is not asked in this phase
+abbrev pub renew_refusal : Phase → Option AskFault
+renew_refusal Waiting = Some NotOpen
+renew_refusal (Agreed a) = Some NotOpen
+renew_refusal (Open t) = first_reason (renew_reasons t)
+renew_refusal Done = Some NotOpen
+
+-- the octets of a renewal, its request id, and the number that is sent next
+abbrev pub IsRenewal : Phase → ℕ → DateTime → ℕ → List ℕ → ℕ → Type 0
+IsRenewal Waiting number moment id out next = ⊥
+IsRenewal (Agreed a) number moment id out next = ⊥
+IsRenewal (Open t) number moment id out next = Renews t number moment id out next
+IsRenewal Done number moment id out next = ⊥
+
+-- why a channel is not closed in this phase
+abbrev pub close_refusal : Phase → Option AskFault
+close_refusal Waiting = Some NotOpen
+close_refusal (Agreed a) = Some NotOpen
+close_refusal (Open t) = None
+close_refusal Done = Some NotOpen
+
+-- the octets of the close
+abbrev pub IsClosing : Phase → ℕ → DateTime → List ℕ → Type 0
+IsClosing Waiting number moment out = ⊥
+IsClosing (Agreed a) number moment out = ⊥
+IsClosing (Open t) number moment out = out ≡ closing_octets t number moment
+IsClosing Done number moment out = ⊥

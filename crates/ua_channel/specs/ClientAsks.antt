@@ -1,0 +1,145 @@
+-- A client's channel that is open: where it stands, and what it answers when it is asked.
+use Rattle.std.specs.Prelude.{◌≡◌, ℕ, ◌+◌, ◌-◌, ◌<◌, ◌≤◌, ◌==◌, nat_lt, nat_le, Bool, ◌&&◌, not, ◌||◌, is_some, length, List, [], ◌∷◌, ◌++◌, Option, Some, None, Result, Ok, Err}
+use Rattle.std.specs.List.{AllByRecursion}
+use Rattle.ua_builtin.specs.Reasons.{first_reason}
+use Rattle.ua_builtin.specs.declared.date_time.DateTime.{DateTime}
+use Rattle.ua_frame.specs.declared.ack.Ack.{Ack}
+use Rattle.ua_frame.specs.declared.limits.Limits.{Limits}
+use Rattle.ua_frame.specs.Frames.{frame_octets}
+use Rattle.ua_chunk.specs.Assembling.{Stands, octet_limit, chunk_limit, last_number}
+use Rattle.ua_chunk.specs.Cutting.{pieces, chunks_of, chunks_octets, number_after}
+use Rattle.ua_chunk.specs.Refusal.{passes}
+use Rattle.ua_chunk.specs.Sequence.{next_number}
+use Rattle.ua_chunk.specs.declared.chunk.Chunk.{Chunk}
+use Rattle.ua_chunk.specs.declared.fault.CutFault.{CutFault}
+use Rattle.ua_chunk.specs.declared.fault.CutFault.TheVariants.{TooManyOctets, TooManyChunks}
+use Rattle.ua_chunk.specs.declared.fault.CutFault.TheVariants as cut_fault
+use Rattle.ua_chunk.specs.declared.lane.Lane.{Lane}
+use Rattle.ua_channel.specs.Asks.{Asking, id_of, next_id, pending_calls, pending_renewals}
+use Rattle.ua_channel.specs.ClientSends.{renewal_frame, close_frame}
+use Rattle.ua_channel.specs.ClientTokens.{responses, opened_ids, channel_in, held_tokens}
+use Rattle.ua_channel.specs.Received.{Received, latest, listed}
+use Rattle.ua_channel.specs.declared.client.fault.AskFault.{AskFault}
+use Rattle.ua_channel.specs.declared.client.fault.AskFault.TheVariants.{NotOpen, TooManyPending, RenewPending, TooManyTokens, Exhausted, RequestTooLarge, OutOfMemory}
+use Rattle.ua_channel.specs.declared.client.talking.Talking.{Talking}
+
+-- ---- where an open channel stands
+
+-- the most calls that may be unanswered
+abbrev pub most_pending : ℕ
+most_pending = 64
+
+-- the most tokens that are held where a further one is asked for
+abbrev pub most_tokens : ℕ
+most_tokens = 16
+
+-- the first number that no request id is
+abbrev pub no_id : ℕ
+no_id = 4294967295
+
+-- an open channel stands where this was received and asked
+pub record Talks (limits : Limits) (t : Talking) (before : Received) (asked : List Asking) : Type 0 where
+  pub ack_is : before.ack ≡ Some t.agreed.ack
+  pub channel_is : channel_in (responses before.openings) ≡ Some t.channel
+  pub tokens_are : t.tokens.items ≡ held_tokens before
+  pub newest_is : latest (held_tokens before) ≡ Some t.newest
+  pub pending_are : t.pending.items ≡ pending_calls before.messages asked
+  pub few_pending : length t.pending.items ≤ most_pending
+  pub renewal_is : listed t.renewal ≡ pending_renewals (opened_ids before.openings) asked
+  pub next_is : t.next ≡ next_id asked
+  pub asked_below : AllByRecursion (λ (a : Asking). id_of a < t.next) asked
+  pub sent_below : AllByRecursion (λ (c : Chunk). c.request < t.next) before.messages
+  pub opened_below : AllByRecursion (λ (id : ℕ). id < t.next) (opened_ids before.openings)
+  pub last_is : before.last ≡ last_number t.assembler
+  pub assembles : Stands t.assembler before.messages
+  pub octets : octet_limit t.assembler ≡ limits.max_message_size
+  pub chunks : chunk_limit t.assembler ≡ limits.max_chunk_count
+
+-- ---- calls
+
+-- the octets of a body that a chunk has room for: what the server receives less the headers
+abbrev pub room_of : Ack → ℕ
+room_of a = a.receive_buffer_size - 24
+
+-- where calls go: under the newest token, with the limits of the ACK
+abbrev pub lane_of : Talking → Lane
+lane_of t = record {
+  channel = t.channel;
+  token = t.newest;
+  room = room_of t.agreed.ack;
+  octets = t.agreed.ack.max_message_size;
+  chunks = t.agreed.ack.max_chunk_count;
+}
+
+-- why no call may be asked after so many more calls, whatever its body, in the order in which it is judged
+abbrev pub more_reasons : Talking → ℕ → List (AskFault × Bool)
+more_reasons t more = (TooManyPending, nat_le most_pending (length t.pending.items + more)) ∷ (Exhausted, nat_le no_id (t.next + more)) ∷ []
+
+-- the server does not take a message of this body: it has too many octets, or too many chunks (OPC 10000-6, 7.1.2.4)
+abbrev pub is_too_large : Ack → List ℕ → Bool
+is_too_large a body = passes a.max_message_size (length body) || passes a.max_chunk_count (length (pieces (room_of a) body))
+
+-- why a call of this body is refused after so many more calls, in the order in which it is judged
+abbrev pub ask_reasons : Talking → ℕ → List ℕ → List (AskFault × Bool)
+ask_reasons t more body = more_reasons t more ++ (RequestTooLarge, is_too_large t.agreed.ack body) ∷ []
+
+-- the octets of a call of this body, its request id, and the number that is sent next
+pub record Calls (t : Talking) (number : ℕ) (body : List ℕ) (id : ℕ) (out : List ℕ) (next : ℕ) : Type 0 where
+  pub id_is : id ≡ t.next
+  pub out_is : out ≡ chunks_octets (chunks_of (lane_of t) body number id)
+  pub next_is : next ≡ number_after number (pieces (room_of t.agreed.ack) body)
+
+-- why a renewal is not asked, in the order in which it is judged
+abbrev pub renew_reasons : Talking → List (AskFault × Bool)
+renew_reasons t =
+    (RenewPending, is_some t.renewal)
+    ∷ (TooManyTokens, nat_le most_tokens (length t.tokens.items))
+    ∷ (Exhausted, nat_le no_id t.next)
+    ∷ []
+
+-- the octets of a renewal, its request id, and the number that is sent next
+pub record Renews (t : Talking) (number : ℕ) (moment : DateTime) (id : ℕ) (out : List ℕ) (next : ℕ) : Type 0 where
+  pub id_is : id ≡ t.next
+  pub out_is : out ≡ frame_octets (renewal_frame t.channel number id moment)
+  pub next_is : next ≡ next_number number
+
+-- the octets of the close
+abbrev pub closing_octets : Talking → ℕ → DateTime → List ℕ
+closing_octets t number moment = frame_octets (close_frame t.channel t.newest number t.next moment)
+
+-- ---- faults
+
+-- what a fault of cutting comes to
+abbrev pub of_cut_fault : CutFault → AskFault
+of_cut_fault TooManyOctets = RequestTooLarge
+of_cut_fault TooManyChunks = RequestTooLarge
+of_cut_fault cut_fault.OutOfMemory = OutOfMemory
+
+-- the fault is this reason, or memory was refused where there is no reason
+abbrev pub IsFor : Option AskFault → AskFault → Type 0
+IsFor reason NotOpen = reason ≡ Some NotOpen
+IsFor reason TooManyPending = reason ≡ Some TooManyPending
+IsFor reason RenewPending = reason ≡ Some RenewPending
+IsFor reason TooManyTokens = reason ≡ Some TooManyTokens
+IsFor reason Exhausted = reason ≡ Some Exhausted
+IsFor reason RequestTooLarge = reason ≡ Some RequestTooLarge
+IsFor reason OutOfMemory = reason ≡ None
+
+-- nothing changed, but that room may have been made for pending calls
+pub record AsBefore (old new : Talking) : Type 0 where
+  pub rest : new ≡ record old { pending = new.pending }
+  pub pending : new.pending.items ≡ old.pending.items
+
+-- what is answered, by why it may be refused
+abbrev pub AnswersFor : {A : Type 0} → Option AskFault → Result A AskFault → Type 0
+AnswersFor reason (Ok found) = reason ≡ None
+AnswersFor reason (Err fault) = IsFor reason fault
+
+-- what an ask of this body answers
+abbrev pub AnswersCall : {A : Type 0} → Talking → List ℕ → Result A AskFault → Type 0
+AnswersCall t body result = AnswersFor (first_reason (ask_reasons t 0 body)) result
+
+-- what is judged of any body of this length, without memory
+abbrev pub JudgesCall : Talking → ℕ → ℕ → Result (Unit {0}) AskFault → Type 0
+JudgesCall t more len (Ok found) = (body : List ℕ) → length body ≡ len → first_reason (ask_reasons t more body) ≡ None
+JudgesCall t more len (Err fault) = (body : List ℕ) → length body ≡ len → first_reason (ask_reasons t more body) ≡ Some fault

@@ -1,0 +1,400 @@
+-- What the parts of a client make of a frame.
+use Rattle.std.specs.Prelude.{◌≡◌, ℕ, ◌≤◌, ◌<◌, ◌==◌, Bool, true, false, ◌||◌, if◌then◌else◌, not, map, nat_le, is_none, length, take, List, [], ◌∷◌, ◌++◌, IsTrue, Option, Some, None, Result, Ok, Err}
+use Rattle.std.specs.List.{concat, filter}
+use Rattle.ua_builtin.specs.Reasons.{first_reason, renamed_reason}
+use Rattle.ua_builtin.specs.Status.{of_code}
+use Rattle.ua_builtin.specs.declared.status_code.StatusCode.{StatusCode}
+use Rattle.ua_frame.specs.declared.ack.Ack.{Ack}
+use Rattle.ua_frame.specs.declared.error.ErrorFrame.{ErrorFrame}
+use Rattle.ua_frame.specs.declared.fault.FrameFault.{FrameFault}
+use Rattle.ua_frame.specs.declared.frame.Frame.{Frame}
+use Rattle.ua_frame.specs.declared.limits.Limits.{Limits}
+use Rattle.ua_frame.specs.Frames.{frame_size, header_code}
+use Rattle.ua_frame.specs.Kinds.{has_flag, least_size}
+use Rattle.ua_frame.specs.Reader.{open_reader}
+use Rattle.ua_chunk.specs.Assembling.{Stands, SameLimits, octet_limit, chunk_limit, last_number}
+use Rattle.ua_chunk.specs.Delivered.{given}
+use Rattle.ua_chunk.specs.Gathered.{ends}
+use Rattle.ua_chunk.specs.Refusal.{reasons}
+use Rattle.ua_chunk.specs.Sequence.{may_follow}
+use Rattle.ua_chunk.specs.View.{items_of}
+use Rattle.ua_chunk.specs.declared.chunk.Chunk.{Chunk}
+use Rattle.ua_chunk.specs.declared.delivered.Delivered.{Delivered}
+use Rattle.ua_chunk.specs.declared.fault.AssembleFault.{AssembleFault}
+use Rattle.ua_chunk.specs.declared.fault.AssembleFault.TheVariants as chunk_fault
+use Rattle.ua_chunk.specs.declared.fault.OpenFault.{OpenFault}
+use Rattle.ua_chunk.specs.declared.fault.OpenFault.TheVariants as open_fault
+use Rattle.ua_services.specs.declared.open.OpenAnswer.{OpenAnswer}
+use Rattle.ua_services.specs.declared.open.OpenAnswer.TheVariants.{Open as Opened}
+use Rattle.ua_structures.specs.declared.secure_channel.OpenResponse.{OpenResponse}
+use Rattle.ua_channel.specs.Asks.{Asking, Placed, is_in}
+use Rattle.ua_channel.specs.Client.{InPhase, Goes, GoesTelling, Ended, IsDone, phase_of, bound_of, bound_behind}
+use Rattle.ua_channel.specs.ClientAsks.{Talks}
+use Rattle.ua_channel.specs.ClientTable.{client_gate, client_reasons, is_other, is_awaited, is_bad, result_of, code_in, is_outside, of_ack}
+use Rattle.ua_channel.specs.ClientTokens.{answer_in, responses, opened_ids, channel_in, held_tokens, from_last}
+use Rattle.ua_channel.specs.ClientTold.{Told, Told as told, Why, ours, peers, client_tells, told_item}
+use Rattle.ua_channel.specs.Content.{Opening, Content}
+use Rattle.ua_channel.specs.Content.Content.{Opens}
+use Rattle.ua_channel.specs.Received.{Received, after, nothing_received, listed}
+use Rattle.ua_channel.specs.declared.client.agreed.Agreed.{Agreed}
+use Rattle.ua_channel.specs.declared.client.answer.Answer.{Answer}
+use Rattle.ua_channel.specs.declared.client.channel.ClientChannel.{ClientChannel}
+use Rattle.ua_channel.specs.declared.client.event.Event.{Event}
+use Rattle.ua_channel.specs.declared.client.event.Event.TheVariants as event
+use Rattle.ua_channel.specs.declared.client.fault.ClientTakeFault.{ClientTakeFault}
+use Rattle.ua_channel.specs.declared.client.fault.ClientTakeFault.TheVariants as take_fault
+use Rattle.ua_channel.specs.declared.client.talking.Talking.{Talking}
+use Rattle.ua_channel.specs.declared.client.fault.Stop.{Stop}
+use Rattle.ua_channel.specs.declared.client.fault.Stop.TheVariants.{Refused, Peer, OutOfMemory, Closed}
+
+-- ---- faults
+
+-- what a fault of an assembler comes to
+abbrev pub of_chunk_fault : AssembleFault → Stop
+of_chunk_fault chunk_fault.Sequence = Refused (of_code 0x8088_0000)
+of_chunk_fault chunk_fault.Unreadable = Refused (of_code 0x8007_0000)
+of_chunk_fault chunk_fault.TooManyOpen = Refused (of_code 0x8081_0000)
+of_chunk_fault chunk_fault.MessageTooLarge = Refused (of_code 0x80B9_0000)
+of_chunk_fault chunk_fault.TooManyChunks = Refused (of_code 0x80B9_0000)
+of_chunk_fault chunk_fault.OutOfMemory = OutOfMemory
+of_chunk_fault chunk_fault.Closed = Closed
+
+-- what a fault of an OPN frame comes to
+abbrev pub of_open_fault : OpenFault → Stop
+of_open_fault open_fault.Unreadable = Refused (of_code 0x8007_0000)
+of_open_fault open_fault.Policy = Refused (of_code 0x8055_0000)
+of_open_fault open_fault.OutOfMemory = OutOfMemory
+
+-- a channel stops for the first of these reasons, or for want of memory
+abbrev pub IsStopFor : List (Why × Bool) → Stop → Type 0
+IsStopFor reasons (Refused code) = first_reason reasons ≡ Some (ours code.code)
+IsStopFor reasons (Peer code) = first_reason reasons ≡ Some (peers code.code)
+IsStopFor reasons OutOfMemory = Unit {0}
+IsStopFor reasons Closed = ⊥
+
+-- what is made of a frame with these reasons against it: it is taken, and then this holds, or it stops the channel for the first of them
+abbrev pub Judged : {A : Type 0} → List (Why × Bool) → (A → Type 0) → Result A Stop → Type 0
+Judged reasons Good (Ok a) = (first_reason reasons ≡ None) × Good a
+Judged reasons Good (Err stop) = IsStopFor reasons stop
+
+-- a frame that a gate let in has a flag of its kind, and the least size of its kind
+pub record HasRoom (f : Frame) : Type 0 where
+  pub flag : IsTrue (has_flag f.kind f.flag)
+  pub least : least_size f.kind ≤ frame_size f
+
+-- ---- ACK and ERR
+
+-- why the body of an ERR stops a channel, by the Error that it is
+abbrev pub error_reasons : Option ErrorFrame → List (Why × Bool)
+error_reasons e = (ours 0x8007_0000, is_none e) ∷ (peers (code_in e), true) ∷ []
+
+-- why the body of an ACK is refused, by the Acknowledge that it is
+abbrev pub ack_reasons : Limits → Option Ack → List (Why × Bool)
+ack_reasons limits a = (ours 0x8007_0000, is_none a) ∷ (ours 0x8081_0000, of_ack (is_outside limits) a) ∷ []
+
+-- this Acknowledge was agreed to
+abbrev pub IsAgreed : Option Ack → Agreed → Type 0
+IsAgreed found a = found ≡ Some a.ack
+
+-- ---- the answer to an OPN
+
+-- why a response is refused
+abbrev pub response_reasons : OpenResponse → List (Why × Bool)
+response_reasons r = (ours r.response_header.service_result.code, nat_le 0x8000_0000 r.response_header.service_result.code) ∷ []
+
+-- these are the channel and the token of a response
+abbrev pub IsResponse : OpenResponse → ℕ × ℕ → Type 0
+IsResponse r ids = (r.channel_id ≡ ids.0) × (r.token_id ≡ ids.1)
+
+-- why the body of an OPN is refused, by the answer that it is
+abbrev pub body_reasons : Option OpenAnswer → List (Why × Bool)
+body_reasons answer = (ours 0x8007_0000, is_none answer) ∷ (ours (result_of answer), is_bad answer) ∷ []
+
+-- the answer is a response with this channel and token
+pub record IsAnsweredBy (answer : Option OpenAnswer) (ids : ℕ × ℕ) : Type 0 where
+  pub response : OpenResponse
+  pub answer_is : answer ≡ Some (Opened response)
+  pub ids_are : IsResponse response ids
+
+-- what remains to be judged of an answer: its channel, its token, its number, its request id
+abbrev pub answer_reasons : Received → List Asking → Answer → List (Why × Bool)
+answer_reasons before asked a =
+    (ours 0x807F_0000, is_other (channel_in (responses before.openings)) a.channel)
+    ∷ (ours 0x8087_0000, is_in a.token (held_tokens before))
+    ∷ (ours 0x8088_0000, not (may_follow before.last a.sequence))
+    ∷ (ours 0x8009_0000, not (is_awaited (responses before.openings) (opened_ids before.openings) asked a.request))
+    ∷ []
+
+-- the answer is that of an opening, a good response, and only what remains is against it
+pub record IsAnswerOf (o : Opening) (a : Answer) : Type 0 where
+  pub response : OpenResponse
+  pub answer_is : answer_in o ≡ Some (Opened response)
+  pub numbers_are : o.numbers ≡ Some (a.sequence, a.request)
+  pub channel_is : response.channel_id ≡ a.channel
+  pub token_is : response.token_id ≡ a.token
+  pub remain : (limits : Limits) (before : Received) (asked : List Asking) → first_reason (client_reasons limits before asked (Opens o)) ≡ first_reason (answer_reasons before asked a)
+
+-- what is made of an opening, whatever was received and asked before
+abbrev pub JudgesAnswer : Opening → Result Answer Stop → Type 0
+JudgesAnswer o (Ok a) = IsAnswerOf o a
+JudgesAnswer o (Err stop) = (limits : Limits) (before : Received) (asked : List Asking) → IsStopFor (client_reasons limits before asked (Opens o)) stop
+
+-- ---- events
+
+-- an event as what frames tell; a failure tells nothing
+abbrev pub told_by : Event → List Told
+told_by (event.Agreed ack) = told.Agreed ack ∷ []
+told_by (event.Opened channel token) = told.Opened channel token ∷ []
+told_by (event.Answered id message) = told.Answered id (concat message) ∷ []
+told_by (event.Aborted id code) = told.GaveUp id code ∷ []
+told_by (event.Renewed token) = told.Renewed token ∷ []
+told_by (event.Failed code peer) = []
+
+-- what is told, if something is
+abbrev pub told_list : Option Event → List Told
+told_list None = []
+told_list (Some e) = told_by e
+
+-- it is no failure
+abbrev pub IsGood : Option Event → Type 0
+IsGood None = Unit {0}
+IsGood (Some (event.Agreed ack)) = Unit {0}
+IsGood (Some (event.Opened channel token)) = Unit {0}
+IsGood (Some (event.Answered id message)) = Unit {0}
+IsGood (Some (event.Aborted id code)) = Unit {0}
+IsGood (Some (event.Renewed token)) = Unit {0}
+IsGood (Some (event.Failed code peer)) = ⊥
+
+-- ---- an open channel
+
+-- a client that agreed so has received an ACK, and nothing else
+abbrev pub greeted : Agreed → Received
+greeted a = record nothing_received { ack = Some a.ack }
+
+-- why the first answer is refused, where it is good: its request id
+abbrev pub first_reasons : Answer → List (Why × Bool)
+first_reasons a = (ours 0x8009_0000, not (a.request == 1)) ∷ []
+
+-- what is kept of a channel that this answer opened
+pub record IsOpenedWith (limits : Limits) (agreed : Agreed) (a : Answer) (t : Talking) : Type 0 where
+  pub agreed_is : t.agreed ≡ agreed
+  pub channel_is : t.channel ≡ a.channel
+  pub tokens_are : t.tokens.items ≡ a.token ∷ []
+  pub newest_is : t.newest ≡ a.token
+  pub pending_are : t.pending.items ≡ []
+  pub renewal_is : t.renewal ≡ None
+  pub next_is : t.next ≡ 2
+  pub stands : Stands t.assembler []
+  pub last_is : last_number t.assembler ≡ Some a.sequence
+  pub octets : octet_limit t.assembler ≡ limits.max_message_size
+  pub chunks : chunk_limit t.assembler ≡ limits.max_chunk_count
+
+-- a frame that carries this opened a channel, and tells it
+pub record IsOpenedBy (limits : Limits) (agreed : Agreed) (c : Content) (t : Talking) : Type 0 where
+  pub tells : client_tells (greeted agreed) c ≡ told.Opened t.channel t.newest ∷ []
+  pub talks : Talks limits t (after (greeted agreed) c) []
+  pub ack_is : (after (greeted agreed) c).ack ≡ Some agreed.ack
+
+-- why an open channel refuses a good answer, by what is kept of it
+abbrev pub renewal_reasons : Talking → Answer → List (Why × Bool)
+renewal_reasons t a =
+    (ours 0x807F_0000, not (a.channel == t.channel))
+    ∷ (ours 0x8087_0000, is_in a.token t.tokens.items)
+    ∷ (ours 0x8088_0000, not (may_follow (last_number t.assembler) a.sequence))
+    ∷ (ours 0x8009_0000, not (is_in a.request (listed t.renewal)))
+    ∷ []
+
+-- what is kept of a channel whose assembler stands after these chunks, with the answer to a renewal
+pub record IsRenewedWith (old : Talking) (a : Answer) (cs : List Chunk) (new : Talking) : Type 0 where
+  pub new_is : new ≡ record old { tokens = new.tokens; newest = a.token; renewal = None; assembler = new.assembler }
+  pub tokens_are : new.tokens.items ≡ old.tokens.items ++ a.token ∷ []
+  pub stands : Stands new.assembler cs
+  pub last_is : last_number new.assembler ≡ Some a.sequence
+  pub limits : SameLimits old.assembler new.assembler
+
+-- the same, and its token is told
+abbrev pub TellsRenewal : Talking → Answer → List Chunk → Talking → Option Event → Type 0
+TellsRenewal old a cs new e = (e ≡ Some (event.Renewed a.token)) × IsRenewedWith old a cs new
+
+-- the channel and the token of a chunk, as far as they may be wrong
+abbrev pub token_reasons : Talking → Chunk → List (Why × Bool)
+token_reasons t c = (ours 0x807F_0000, not (c.channel == t.channel)) ∷ (ours 0x8087_0000, not (is_in c.token t.tokens.items)) ∷ []
+
+-- why a client's channel stops for what an assembler refuses
+abbrev pub why_of : AssembleFault → Why
+why_of chunk_fault.Sequence = ours 0x8088_0000
+why_of chunk_fault.Unreadable = ours 0x8007_0000
+why_of chunk_fault.TooManyOpen = ours 0x8081_0000
+why_of chunk_fault.MessageTooLarge = ours 0x80B9_0000
+why_of chunk_fault.TooManyChunks = ours 0x80B9_0000
+why_of chunk_fault.OutOfMemory = ours 0
+why_of chunk_fault.Closed = ours 0
+
+-- why its assembler refuses a chunk behind these
+abbrev pub refused_reasons : Talking → List Chunk → Chunk → List (Why × Bool)
+refused_reasons t cs c = map (renamed_reason why_of) (reasons (octet_limit t.assembler) (chunk_limit t.assembler) (last_number t.assembler) cs c)
+
+-- why what is delivered under a request id is refused
+abbrev pub unasked_reasons : Talking → ℕ → List (Why × Bool)
+unasked_reasons t request = (ours 0x8009_0000, not (is_in request t.pending.items)) ∷ []
+
+-- why an open channel refuses a chunk behind these whose channel and token are right
+abbrev pub known_reasons : Talking → List Chunk → Chunk → List (Why × Bool)
+known_reasons t cs c = refused_reasons t cs c ++ unasked_reasons t c.request
+
+-- why an open channel refuses a chunk behind these, by what is kept of it
+abbrev pub chunk_reasons : Talking → List Chunk → Chunk → List (Why × Bool)
+chunk_reasons t cs c = token_reasons t c ++ known_reasons t cs c
+
+-- the first of the tokens stands before the last place of n, or n has no place
+abbrev pub drops_first : ℕ → List ℕ → Bool
+drops_first n [] = false
+drops_first n (m ∷ ms) = not (m == n) || is_in n ms
+
+-- the calls that stay pending behind a chunk of a request that it ends or not
+abbrev pub left_behind : Bool → ℕ → List ℕ → List ℕ
+left_behind ending request ids = if ending then filter (λ (id : ℕ). not (id == request)) ids else ids
+
+-- the calls that stay pending behind a chunk
+abbrev pub left_pending : Chunk → List ℕ → List ℕ
+left_pending c ids = left_behind (ends c) c.request ids
+
+-- what is kept of a channel whose assembler accepted a chunk behind these
+pub record IsAccepted (old : Talking) (cs : List Chunk) (c : Chunk) (new : Talking) (d : Option Delivered) : Type 0 where
+  pub new_is : new ≡ record old { assembler = new.assembler }
+  pub stands : Stands new.assembler (cs ++ c ∷ [])
+  pub last_is : last_number new.assembler ≡ Some c.sequence
+  pub limits : SameLimits old.assembler new.assembler
+  pub items_are : given cs c ≡ items_of d
+
+-- an event is what was delivered
+pub record DeliversEvent (d : Option Delivered) (e : Option Event) : Type 0 where
+  pub tells : map told_item (items_of d) ≡ told_list e
+  pub good : IsGood e
+
+-- what is kept of a channel with what a chunk of this request and token delivered, which it ended or not
+pub record IsDeliveredWith (old : Talking) (request token : ℕ) (ending : Bool) (d : Option Delivered) (new : Talking) (e : Option Event) : Type 0 where
+  pub new_is : new ≡ record old { tokens = new.tokens; pending = new.pending }
+  pub tokens_are : new.tokens.items ≡ from_last token old.tokens.items
+  pub pending_are : new.pending.items ≡ left_behind ending request old.pending.items
+  pub event_is : DeliversEvent d e
+
+-- what is kept of a channel whose assembler stands after these chunks, with one more, and what that tells
+pub record IsTakenWith (old : Talking) (cs : List Chunk) (c : Chunk) (new : Talking) (e : Option Event) : Type 0 where
+  pub new_is : new ≡ record old { tokens = new.tokens; pending = new.pending; assembler = new.assembler }
+  pub tokens_are : new.tokens.items ≡ from_last c.token old.tokens.items
+  pub pending_are : new.pending.items ≡ left_pending c old.pending.items
+  pub stands : Stands new.assembler (cs ++ c ∷ [])
+  pub last_is : last_number new.assembler ≡ Some c.sequence
+  pub limits : SameLimits old.assembler new.assembler
+  pub tells : map told_item (given cs c) ≡ told_list e
+  pub good : IsGood e
+
+-- whatever comes of it
+abbrev pub any_event : Unit {0} → Type 0
+any_event e = Unit {0}
+
+-- ---- what a channel makes of a frame
+
+-- an open channel took a frame that carries this, and tells this
+pub record TakesFrame (limits : Limits) (before : Received) (asked : List Asking) (c : Content) (new : Talking) (e : Option Event) : Type 0 where
+  pub tells : client_tells before c ≡ told_list e
+  pub good : IsGood e
+  pub talks : Talks limits new (after before c) asked
+  pub ack_is : (after before c).ack ≡ before.ack
+
+-- a frame that carries this was taken, and tells this; where the channel then is
+pub record Takes (limits : Limits) (before : Received) (asked : List Asking) (c : Content) (new : ClientChannel) (e : Option Event) : Type 0 where
+  pub tells : client_tells before c ≡ told_list e
+  pub good : IsGood e
+  pub phase_is : InPhase limits (phase_of new) (after before c) asked
+  pub bound_is : bound_of new ≡ bound_behind limits (after before c).ack
+
+-- a frame that carries this opened the channel, and tells it
+pub record OpensChannel (limits : Limits) (agreed : Agreed) (c : Content) (new : ClientChannel) (e : Option Event) : Type 0 where
+  pub tells : client_tells (greeted agreed) c ≡ told_list e
+  pub good : IsGood e
+  pub phase_is : InPhase limits (phase_of new) (after (greeted agreed) c) []
+  pub ack_is : (after (greeted agreed) c).ack ≡ Some agreed.ack
+
+-- a frame that carries this was taken by an open channel, and tells this
+pub record StaysOpen (limits : Limits) (before : Received) (asked : List Asking) (c : Content) (new : ClientChannel) (e : Option Event) : Type 0 where
+  pub tells : client_tells before c ≡ told_list e
+  pub good : IsGood e
+  pub phase_is : InPhase limits (phase_of new) (after before c) asked
+  pub ack_is : (after before c).ack ≡ before.ack
+
+-- the event or the fault of a channel that is stopped
+abbrev pub failure_of : Stop → Result (Option Event) ClientTakeFault
+failure_of (Refused code) = Ok (Some (event.Failed code false))
+failure_of (Peer code) = Ok (Some (event.Failed code true))
+failure_of OutOfMemory = Err take_fault.OutOfMemory
+failure_of Closed = Err take_fault.Closed
+
+-- the channel stopped for this, and holds nothing
+pub record Stopped (limits : Limits) (before : Received) (asked : List Asking) (c : Content) (new : ClientChannel) (why : Why) : Type 0 where
+  pub refused : first_reason (client_reasons limits before asked c) ≡ Some why
+  pub done : IsDone new
+  pub bound_is : bound_of new ≡ bound_behind limits before.ack
+
+-- the channel goes on behind a frame that carries this, whose event this is
+pub record GoesOn (limits : Limits) (before : Received) (asked : List Asking) (c : Content) (new : ClientChannel) (e : Option Event) : Type 0 where
+  pub accepted : first_reason (client_reasons limits before asked c) ≡ None
+  pub takes : Takes limits before asked c new e
+  pub reader_is : new.reader ≡ open_reader (client_gate (after before c)) []
+
+-- what a whole frame that carries this comes to
+abbrev pub JudgesWhole : Limits → Received → List Asking → Content → ClientChannel → Result (Option Event) ClientTakeFault → Type 0
+JudgesWhole limits before asked c new (Ok None) = GoesOn limits before asked c new None
+JudgesWhole limits before asked c new (Ok (Some (event.Agreed ack))) = GoesOn limits before asked c new (Some (event.Agreed ack))
+JudgesWhole limits before asked c new (Ok (Some (event.Opened channel token))) = GoesOn limits before asked c new (Some (event.Opened channel token))
+JudgesWhole limits before asked c new (Ok (Some (event.Answered id message))) = GoesOn limits before asked c new (Some (event.Answered id message))
+JudgesWhole limits before asked c new (Ok (Some (event.Aborted id code))) = GoesOn limits before asked c new (Some (event.Aborted id code))
+JudgesWhole limits before asked c new (Ok (Some (event.Renewed token))) = GoesOn limits before asked c new (Some (event.Renewed token))
+JudgesWhole limits before asked c new (Ok (Some (event.Failed code peer))) = Stopped limits before asked c new (record { code = code.code; peer = peer })
+JudgesWhole limits before asked c new (Err take_fault.OutOfMemory) = IsDone new
+JudgesWhole limits before asked c new (Err take_fault.Closed) = ⊥
+
+-- what a fault of the reader comes to
+abbrev pub FailsBy : FrameFault → Result (Option Event) ClientTakeFault → Type 0
+FailsBy fault (Ok None) = ⊥
+FailsBy fault (Ok (Some (event.Agreed ack))) = ⊥
+FailsBy fault (Ok (Some (event.Opened channel token))) = ⊥
+FailsBy fault (Ok (Some (event.Answered id message))) = ⊥
+FailsBy fault (Ok (Some (event.Aborted id code))) = ⊥
+FailsBy fault (Ok (Some (event.Renewed token))) = ⊥
+FailsBy fault (Ok (Some (event.Failed code peer))) = (header_code fault ≡ Some code.code) × (peer ≡ false)
+FailsBy fault (Err take_fault.OutOfMemory) = header_code fault ≡ None
+FailsBy fault (Err take_fault.Closed) = ⊥
+
+-- this is the front of a piece: it doesn't go past the eighth octet of a frame, where that is still to come
+pub record IsFront (held piece front : List ℕ) : Type 0 where
+  pub within : length front ≤ length piece
+  pub parts : front ≡ take (length front) piece
+  pub some : 0 < length piece → 0 < length front
+  pub eighth : length held < 8 → length (held ++ front) ≤ 8
+
+-- ---- a step
+
+-- what is told where the octets end with the frame that tells it
+abbrev pub TellsEvent : Event → ClientChannel → List Placed → List ℕ → List Told → Type 0
+TellsEvent (event.Agreed ack) new asks octets before = GoesTelling new asks octets before (told.Agreed ack)
+TellsEvent (event.Opened channel token) new asks octets before = GoesTelling new asks octets before (told.Opened channel token)
+TellsEvent (event.Answered id message) new asks octets before = GoesTelling new asks octets before (told.Answered id (concat message))
+TellsEvent (event.Aborted id code) new asks octets before = GoesTelling new asks octets before (told.GaveUp id code)
+TellsEvent (event.Renewed token) new asks octets before = GoesTelling new asks octets before (told.Renewed token)
+TellsEvent (event.Failed code peer) new asks octets before = Ended new asks octets before (record { code = code.code; peer = peer })
+
+-- what one step answers
+abbrev pub Steps : List ℕ → Result (ℕ × Option Event) ClientTakeFault → ClientChannel → List Placed → List ℕ → List Told → Type 0
+Steps piece (Ok (n, None)) new asks octets before = Goes new asks (octets ++ take n piece) before
+Steps piece (Ok (n, Some e)) new asks octets before = TellsEvent e new asks (octets ++ take n piece) before
+Steps piece (Err take_fault.OutOfMemory) new asks octets before = IsDone new
+Steps piece (Err take_fault.Closed) new asks octets before = ⊥
+
+-- what the steps up to an event answer: the event, or the whole piece was taken
+abbrev pub Advances : List ℕ → Result (ℕ × Option Event) ClientTakeFault → ClientChannel → List Placed → List ℕ → List Told → Type 0
+Advances piece (Ok (n, None)) new asks octets before = (n ≡ length piece) × Goes new asks (octets ++ piece) before
+Advances piece (Ok (n, Some e)) new asks octets before = TellsEvent e new asks (octets ++ take n piece) before
+Advances piece (Err take_fault.OutOfMemory) new asks octets before = IsDone new
+Advances piece (Err take_fault.Closed) new asks octets before = ⊥

@@ -1,0 +1,308 @@
+-- Which frames a client refuses (the table of refusals), which come next, and a client's rules.
+use Rattle.std.specs.Prelude.{ℕ, ◌==◌, nat_lt, nat_le, Bool, true, false, ◌&&◌, ◌||◌, not, is_none, length, List, [], ◌∷◌, ◌++◌, Option, Some, None}
+use Rattle.std.specs.List.{list_any}
+use Rattle.ua_frame.specs.declared.ack.Ack.{Ack}
+use Rattle.ua_frame.specs.declared.error.ErrorFrame.{ErrorFrame}
+use Rattle.ua_frame.specs.declared.gate.Gate.{Gate}
+use Rattle.ua_frame.specs.declared.kind.Kind.TheVariants.{Msg, Opn}
+use Rattle.ua_frame.specs.declared.kind.Kind.TheVariants as kind
+use Rattle.ua_frame.specs.declared.limits.Limits.{Limits}
+use Rattle.ua_frame.specs.Kinds.{closed_gate, gate_with}
+use Rattle.ua_frame.specs.Run.{Rules}
+use Rattle.ua_chunk.specs.Abort.{is_readable_abort}
+use Rattle.ua_chunk.specs.Flag.{is_abort_flag}
+use Rattle.ua_chunk.specs.Gathered.{gathered, joined}
+use Rattle.ua_chunk.specs.Open.{open_ids}
+use Rattle.ua_chunk.specs.Opening.{SecurityHeader, is_none_policy, policy_of}
+use Rattle.ua_chunk.specs.Refusal.{passes, most_open}
+use Rattle.ua_chunk.specs.Sequence.{may_follow}
+use Rattle.ua_services.specs.declared.open.OpenAnswer.{OpenAnswer}
+use Rattle.ua_services.specs.declared.open.OpenAnswer.TheVariants.{Open, Fault}
+use Rattle.ua_structures.specs.declared.secure_channel.OpenResponse.{OpenResponse}
+use Rattle.ua_channel.specs.Asks.{Asking, Placed, asked_before, end_of, is_in, pending_calls, pending_renewals}
+use Rattle.ua_channel.specs.ClientTokens.{answer_in, response_listed, responses, opened_ids, channel_in, held_tokens}
+use Rattle.ua_channel.specs.ClientTold.{Told, Why, ours, peers, client_tells}
+use Rattle.ua_channel.specs.Content.{Content, content}
+use Rattle.ua_channel.specs.Content.Content.{Greets, Acks, Fails, Opens, Sends, Closes, Nothing}
+use Rattle.ua_channel.specs.Received.{Received, received}
+
+-- ---- tests of what a frame carries, false where it carries no such thing
+
+-- of an Acknowledge
+abbrev pub of_ack : (Ack → Bool) → Option Ack → Bool
+of_ack test None = false
+of_ack test (Some a) = test a
+
+-- of the security header of an OPN
+abbrev pub of_security : (SecurityHeader → Bool) → Option SecurityHeader → Bool
+of_security test None = false
+of_security test (Some header) = test header
+
+-- of the sequence number and the request id of an OPN
+abbrev pub of_numbers : (ℕ × ℕ → Bool) → Option (ℕ × ℕ) → Bool
+of_numbers test None = false
+of_numbers test (Some numbers) = test numbers
+
+-- of the response of an OPN
+abbrev pub of_response : (OpenResponse → Bool) → Option OpenAnswer → Bool
+of_response test None = false
+of_response test (Some (Open r)) = test r
+of_response test (Some (Fault f)) = false
+
+-- ---- the reasons
+
+-- an ACK, an ERR or the security header of an OPN is unreadable
+abbrev pub is_unreadable : Content → Bool
+is_unreadable (Greets hello) = false
+is_unreadable (Acks ack) = is_none ack
+is_unreadable (Fails error) = is_none error
+is_unreadable (Opens o) = is_none o.security
+is_unreadable (Sends c) = false
+is_unreadable (Closes c) = false
+is_unreadable Nothing = false
+
+-- a size is below 8192, or above what the Hello of a client with these limits allows: the server receives at most what the client
+-- sends, and sends at most what the client receives (OPC 10000-6, 7.1.2.4)
+abbrev pub is_outside : Limits → Ack → Bool
+is_outside limits a =
+    nat_lt a.receive_buffer_size 8192
+    || nat_lt a.send_buffer_size 8192
+    || nat_lt limits.send_buffer_size a.receive_buffer_size
+    || nat_lt limits.receive_buffer_size a.send_buffer_size
+
+-- an ACK with such a size
+abbrev pub has_other_sizes : Limits → Content → Bool
+has_other_sizes limits (Greets hello) = false
+has_other_sizes limits (Acks ack) = of_ack (is_outside limits) ack
+has_other_sizes limits (Fails error) = false
+has_other_sizes limits (Opens o) = false
+has_other_sizes limits (Sends c) = false
+has_other_sizes limits (Closes c) = false
+has_other_sizes limits Nothing = false
+
+-- an OPN under another policy than None
+abbrev pub has_other_policy : Content → Bool
+has_other_policy (Greets hello) = false
+has_other_policy (Acks ack) = false
+has_other_policy (Fails error) = false
+has_other_policy (Opens o) = of_security (λ header. not (is_none_policy (policy_of header))) o.security
+has_other_policy (Sends c) = false
+has_other_policy (Closes c) = false
+has_other_policy Nothing = false
+
+-- an OPN whose sequence header or body is unreadable
+abbrev pub has_no_answer : Content → Bool
+has_no_answer (Greets hello) = false
+has_no_answer (Acks ack) = false
+has_no_answer (Fails error) = false
+has_no_answer (Opens o) = is_none (answer_in o)
+has_no_answer (Sends c) = false
+has_no_answer (Closes c) = false
+has_no_answer Nothing = false
+
+-- the ServiceResult of an answer
+abbrev pub result_of : Option OpenAnswer → ℕ
+result_of None = 0
+result_of (Some (Open r)) = r.response_header.service_result.code
+result_of (Some (Fault f)) = f.response_header.service_result.code
+
+-- the ServiceResult of an OPN
+abbrev pub opening_code : Content → ℕ
+opening_code (Greets hello) = 0
+opening_code (Acks ack) = 0
+opening_code (Fails error) = 0
+opening_code (Opens o) = result_of (answer_in o)
+opening_code (Sends c) = 0
+opening_code (Closes c) = 0
+opening_code Nothing = 0
+
+-- the answer is a ServiceFault, or a response whose ServiceResult has its top bit set (OPC 10000-4, 7.38)
+abbrev pub is_bad : Option OpenAnswer → Bool
+is_bad None = false
+is_bad (Some (Open r)) = nat_le 0x8000_0000 r.response_header.service_result.code
+is_bad (Some (Fault f)) = true
+
+-- an OPN with such an answer
+abbrev pub has_bad_answer : Content → Bool
+has_bad_answer (Greets hello) = false
+has_bad_answer (Acks ack) = false
+has_bad_answer (Fails error) = false
+has_bad_answer (Opens o) = is_bad (answer_in o)
+has_bad_answer (Sends c) = false
+has_bad_answer (Closes c) = false
+has_bad_answer Nothing = false
+
+-- there is a channel, and it is another one than this
+abbrev pub is_other : Option ℕ → ℕ → Bool
+is_other None channel = false
+is_other (Some n) channel = not (channel == n)
+
+-- a MSG on another channel, or an OPN that answers for another one
+abbrev pub is_on_other_channel : Received → Content → Bool
+is_on_other_channel before (Greets hello) = false
+is_on_other_channel before (Acks ack) = false
+is_on_other_channel before (Fails error) = false
+is_on_other_channel before (Opens o) = of_response (λ r. is_other (channel_in (responses before.openings)) r.channel_id) (answer_in o)
+is_on_other_channel before (Sends c) = is_other (channel_in (responses before.openings)) c.channel
+is_on_other_channel before (Closes c) = false
+is_on_other_channel before Nothing = false
+
+-- a MSG under a token that is not held, or an OPN that brings one which is
+abbrev pub has_other_token : Received → Content → Bool
+has_other_token before (Greets hello) = false
+has_other_token before (Acks ack) = false
+has_other_token before (Fails error) = false
+has_other_token before (Opens o) = of_response (λ r. is_in r.token_id (held_tokens before)) (answer_in o)
+has_other_token before (Sends c) = not (is_in c.token (held_tokens before))
+has_other_token before (Closes c) = false
+has_other_token before Nothing = false
+
+-- the sequence number does not follow
+abbrev pub breaks_order : Received → Content → Bool
+breaks_order before (Greets hello) = false
+breaks_order before (Acks ack) = false
+breaks_order before (Fails error) = false
+breaks_order before (Opens o) = of_numbers (λ n. not (may_follow before.last n.0)) o.numbers
+breaks_order before (Sends c) = not (may_follow before.last c.sequence)
+breaks_order before (Closes c) = false
+breaks_order before Nothing = false
+
+-- the body of an abort is unreadable
+abbrev pub aborts_unreadably : Content → Bool
+aborts_unreadably (Greets hello) = false
+aborts_unreadably (Acks ack) = false
+aborts_unreadably (Fails error) = false
+aborts_unreadably (Opens o) = false
+aborts_unreadably (Sends c) = is_abort_flag c.flag && not (is_readable_abort c.body)
+aborts_unreadably (Closes c) = false
+aborts_unreadably Nothing = false
+
+-- more messages would be unfinished than may be
+abbrev pub opens_too_many : Received → Content → Bool
+opens_too_many before (Greets hello) = false
+opens_too_many before (Acks ack) = false
+opens_too_many before (Fails error) = false
+opens_too_many before (Opens o) = false
+opens_too_many before (Sends c) = nat_lt most_open (length (open_ids (before.messages ++ c ∷ [])))
+opens_too_many before (Closes c) = false
+opens_too_many before Nothing = false
+
+-- the message has more octets than the client takes
+abbrev pub has_too_many_octets : Limits → Received → Content → Bool
+has_too_many_octets limits before (Greets hello) = false
+has_too_many_octets limits before (Acks ack) = false
+has_too_many_octets limits before (Fails error) = false
+has_too_many_octets limits before (Opens o) = false
+has_too_many_octets limits before (Sends c) = not (is_abort_flag c.flag) && passes limits.max_message_size (length (joined (gathered before.messages c)))
+has_too_many_octets limits before (Closes c) = false
+has_too_many_octets limits before Nothing = false
+
+-- the message has more chunks than the client takes
+abbrev pub has_too_many_chunks : Limits → Received → Content → Bool
+has_too_many_chunks limits before (Greets hello) = false
+has_too_many_chunks limits before (Acks ack) = false
+has_too_many_chunks limits before (Fails error) = false
+has_too_many_chunks limits before (Opens o) = false
+has_too_many_chunks limits before (Sends c) = not (is_abort_flag c.flag) && passes limits.max_chunk_count (length (gathered before.messages c))
+has_too_many_chunks limits before (Closes c) = false
+has_too_many_chunks limits before Nothing = false
+
+-- the request id of an OPN is waited for: the first one answers under 1, a later one the renewal that is unanswered
+abbrev pub is_awaited : List OpenResponse → List ℕ → List Asking → ℕ → Bool
+is_awaited [] opened asked id = id == 1
+is_awaited (r ∷ rs) opened asked id = is_in id (pending_renewals opened asked)
+
+-- the request id is not pending, where this was asked before
+abbrev pub is_unasked : Received → List Asking → Content → Bool
+is_unasked before asked (Greets hello) = false
+is_unasked before asked (Acks ack) = false
+is_unasked before asked (Fails error) = false
+is_unasked before asked (Opens o) = of_numbers (λ n. not (is_awaited (responses before.openings) (opened_ids before.openings) asked n.1)) o.numbers
+is_unasked before asked (Sends c) = not (is_in c.request (pending_calls before.messages asked))
+is_unasked before asked (Closes c) = false
+is_unasked before asked Nothing = false
+
+-- the code of an Error
+abbrev pub code_in : Option ErrorFrame → ℕ
+code_in None = 0
+code_in (Some e) = e.error.code
+
+-- the code of an ERR
+abbrev pub error_code : Content → ℕ
+error_code (Greets hello) = 0
+error_code (Acks ack) = 0
+error_code (Fails error) = code_in error
+error_code (Opens o) = 0
+error_code (Sends c) = 0
+error_code (Closes c) = 0
+error_code Nothing = 0
+
+-- an ERR
+abbrev pub is_error : Content → Bool
+is_error (Greets hello) = false
+is_error (Acks ack) = false
+is_error (Fails error) = true
+is_error (Opens o) = false
+is_error (Sends c) = false
+is_error (Closes c) = false
+is_error Nothing = false
+
+-- the reasons, in the order in which they are judged, behind those of the header: the client's own, BadDecodingError,
+-- BadTcpNotEnoughResources, BadSecurityPolicyRejected, BadDecodingError, the ServiceResult, BadTcpSecureChannelUnknown,
+-- BadSecureChannelTokenUnknown, BadSequenceNumberInvalid, BadDecodingError, BadTcpNotEnoughResources, BadResponseTooLarge twice,
+-- BadUnknownResponse; and last that the server refused, with its code
+abbrev pub client_reasons : Limits → Received → List Asking → Content → List (Why × Bool)
+client_reasons limits before asked c =
+    (ours 0x8007_0000, is_unreadable c)
+    ∷ (ours 0x8081_0000, has_other_sizes limits c)
+    ∷ (ours 0x8055_0000, has_other_policy c)
+    ∷ (ours 0x8007_0000, has_no_answer c)
+    ∷ (ours (opening_code c), has_bad_answer c)
+    ∷ (ours 0x807F_0000, is_on_other_channel before c)
+    ∷ (ours 0x8087_0000, has_other_token before c)
+    ∷ (ours 0x8088_0000, breaks_order before c)
+    ∷ (ours 0x8007_0000, aborts_unreadably c)
+    ∷ (ours 0x8081_0000, opens_too_many before c)
+    ∷ (ours 0x80B9_0000, has_too_many_octets limits before c)
+    ∷ (ours 0x80B9_0000, has_too_many_chunks limits before c)
+    ∷ (ours 0x8009_0000, is_unasked before asked c)
+    ∷ (peers (error_code c), is_error c)
+    ∷ []
+
+-- ---- which frames come next
+
+-- ACK and ERR of at most 8192 octets
+abbrev pub ack_gate : Gate
+ack_gate = gate_with (gate_with (closed_gate 8192) kind.Ack) kind.Err
+
+-- OPN and ERR of at most so many octets
+abbrev pub answer_gate : ℕ → Gate
+answer_gate size = gate_with (gate_with (closed_gate size) Opn) kind.Err
+
+-- OPN, MSG and ERR of at most so many octets
+abbrev pub reply_gate : ℕ → Gate
+reply_gate size = gate_with (gate_with (gate_with (closed_gate size) Opn) Msg) kind.Err
+
+-- after an ACK, by the responses of the OPNs
+abbrev pub gate_agreed : ℕ → List OpenResponse → Gate
+gate_agreed size [] = answer_gate size
+gate_agreed size (r ∷ rs) = reply_gate size
+
+-- by the ACK and the responses of the OPNs
+abbrev pub gate_behind : Option Ack → List OpenResponse → Gate
+gate_behind None rs = ack_gate
+gate_behind (Some a) rs = gate_agreed a.send_buffer_size rs
+
+-- an ACK first, then an OPN, then OPN and MSG, and ERR always; behind the ACK of at most what the server sends
+abbrev pub client_gate : Received → Gate
+client_gate before = gate_behind before.ack (responses before.openings)
+
+-- the rules of a client with these limits that asked so
+abbrev pub client_rules : Limits → List Placed → Rules Told Why
+client_rules limits asks = record {
+  gate = λ before. client_gate (received before);
+  reasons = λ before f. client_reasons limits (received before) (asked_before (end_of before f) asks) (content f);
+  of_header = ours;
+  tells = λ before f. client_tells (received before) (content f);
+  over = λ before. false;
+}

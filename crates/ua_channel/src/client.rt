@@ -1,0 +1,16 @@
+//! The client's end of a secure channel.
+
+mod address;
+mod agreed;
+mod answer;
+mod channel;
+mod event;
+mod fault;
+mod greeting;
+mod octets;
+mod phase;
+mod talking;
+
+pub use channel::ClientChannel;
+pub use event::ClientEvent;
+pub use fault::{AskFault, ClientTakeFault};

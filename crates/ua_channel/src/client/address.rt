@@ -1,0 +1,13 @@
+//! The server that a client asks for.
+
+ghost use Rattle.std.specs.Prelude.{IsTrue};
+ghost use Rattle.ua_octets.specs.Counted.{text};
+
+use ua_builtin::UaString;
+
+/// The URL of an endpoint, of which a Hello can be made.
+#[derive(Drop)]
+pub struct Address {
+    pub url: UaString,
+    ghost writable: { IsTrue (text.encodable url) },
+}

@@ -1,0 +1,68 @@
+//! The answers to OPNs.
+
+ghost use Rattle.std.specs.Prelude.{◌≡◌};
+ghost use Rattle.ua_services.specs.Open.{answer_read};
+ghost use Rattle.ua_channel.specs.ClientParts.{Judged, JudgesAnswer, body_reasons, response_reasons, IsResponse, IsAnsweredBy};
+ghost use Rattle.ua_channel.specs.Content.{opening_of};
+
+use crate::client::fault::Stop;
+use std::alloc::Global;
+use ua_builtin::{Octets, ReadFault, StatusCode};
+use ua_chunk::read_open;
+use ua_frame::Frame;
+use ua_services::{OpenAnswer, OpenResponse, read_open_response};
+
+/// The least code whose top bit is set: that of a bad result (OPC 10000-4, 7.38).
+const FIRST_BAD: u32 = 0x8000_0000;
+
+/// A good response to an OPN: its numbers, and the channel and the token that it brings.
+#[derive(Clone, Copy, Debug)]
+pub struct Answer {
+    pub sequence: u32,
+    pub request: u32,
+    pub channel: u32,
+    pub token: u32,
+}
+
+/// The channel and the token of a good response.
+fn judge_response(response: OpenResponse) -> Result<(u32, u32), Stop>
+    ensures { Judged (response_reasons response) (IsResponse response) result }
+{
+    let code = response.response_header.service_result;
+    if code.code >= FIRST_BAD {
+        return Err(Stop::Refused(code));
+    }
+    Ok((response.channel_id, response.token_id))
+}
+
+/// The channel and the token of the body of an OPN.
+fn judge_body(alloc: Global, body: &[u8]) -> Result<(u32, u32), Stop>
+    ensures { Judged (body_reasons (answer_read body.now)) (λ ids. IsAnsweredBy (answer_read body.now) ids) result }
+{
+    let mut src = Octets::new(body);
+    match read_open_response(alloc, &mut src) {
+        Ok(OpenAnswer::Open(response)) => judge_response(response),
+        Ok(OpenAnswer::Fault(fault)) => Err(Stop::Refused(fault.response_header.service_result)),
+        Err(ReadFault::NoValue) => Err(Stop::Refused(StatusCode::BAD_DECODING_ERROR)),
+        Err(ReadFault::OutOfMemory) => Err(Stop::OutOfMemory),
+    }
+}
+
+/// What an OPN frame answers, but for what depends on the frames before it.
+pub fn judge_answer(alloc: Global, frame: Frame) -> Result<Answer, Stop>
+    ensures { JudgesAnswer (opening_of frame.body) result }
+{
+    let opening = match read_open(frame) {
+        Ok(opening) => opening,
+        Err(fault) => return Err(Stop::of_open(fault)),
+    };
+    match judge_body(alloc, &opening.body) {
+        Ok((channel, token)) => Ok(Answer {
+            sequence: opening.sequence,
+            request: opening.request,
+            channel,
+            token,
+        }),
+        Err(stop) => Err(stop),
+    }
+}

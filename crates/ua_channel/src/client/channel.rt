@@ -1,0 +1,426 @@
+//! A client's channel.
+
+ghost use Rattle.std.specs.Prelude.{◌≡◌, ◌≤◌, ◌<◌, ◌++◌, ◌∷◌, [], List, ℕ, length, IsTrue, Err, IfOk, OnOk, OnErr};
+ghost use Rattle.ua_octets.specs.Counted.{text};
+ghost use Rattle.ua_frame.specs.Frames.{LetsIn, frame_octets};
+ghost use Rattle.ua_frame.specs.Reader.{open_reader};
+ghost use Rattle.ua_frame.specs.declared.frame.Frame.{Frame};
+ghost use Rattle.ua_channel.specs.Asks.{Asking, Placed};
+ghost use Rattle.ua_channel.specs.Asks.Asking.{Call, Renewal};
+ghost use Rattle.ua_channel.specs.Client.{Stands, Goes, IsDone, InPhase, SameClient, limits_of, url_of, next_of, phase_of, bound_of, bound_behind, held_octets, ask_refusal, IsCall, Judges, renew_refusal, IsRenewal, close_refusal, IsClosing};
+ghost use Rattle.ua_channel.specs.ClientAnswers.{ClientAnswers, AnswersEvent, Progress};
+ghost use Rattle.ua_channel.specs.ClientAsks.{Talks, AnswersFor};
+ghost use Rattle.ua_channel.specs.ClientParts.{Judged, JudgesWhole, HasRoom, Takes, OpensChannel, StaysOpen, FailsBy, IsFront, Steps, Advances, TellsEvent, greeted};
+ghost use Rattle.ua_channel.specs.ClientSends.{hello_frame, hello_to};
+ghost use Rattle.ua_channel.specs.ClientTable.{client_gate, client_reasons, ack_gate, answer_gate, reply_gate};
+ghost use Rattle.ua_channel.specs.ClientTold.{Told};
+ghost use Rattle.ua_channel.specs.Content.{content};
+ghost use Rattle.ua_channel.specs.Received.{Received, nothing_received};
+ghost use Rattle.ua_channel.specs.declared.client.fault.AskFault.TheVariants.{NotOpen};
+ghost use Rattle.ua_channel.specs.declared.client.fault.ClientTakeFault.TheVariants.{Closed};
+
+use crate::client::address::Address;
+use crate::client::agreed::Agreed;
+use crate::client::event::{ClientEvent, Event};
+use crate::client::fault::{AskFault, ClientTakeFault, Stop};
+use crate::client::greeting::greet;
+use crate::client::octets::{close_octets, hello_octets, open_octets};
+use crate::client::phase::Phase;
+use crate::client::talking::Talking;
+use crate::numbers::Numbers;
+use std::alloc::{AllocError, Global};
+use std::mem;
+use ua_builtin::{DateTime, UaString};
+use ua_frame::{Frame, FrameFault, FrameReader, Gate, HEADER_LEN, Kind, Limits};
+
+/// The most octets of a frame before sizes are agreed to.
+const FIRST_SIZE: u32 = 8192;
+
+/// The most messages that may be unfinished.
+const MOST_OPEN: usize = 4;
+
+/// The client's end of a connection and its secure channel (OPC 10000-6, 6.7 and 7.1), with no IO:
+/// octets that came go in, octets to be sent come out.
+///
+/// First [`hello`](ClientChannel::hello) is to be sent, then what [`take`](ClientChannel::take)
+/// answers by `Send`; after `Open` calls may be asked.
+#[derive(Drop)]
+pub struct ClientChannel {
+    alloc: Global,
+    limits: Limits,
+    address: Address,
+    reader: FrameReader,
+    phase: Phase,
+    numbers: Numbers,
+    bound: usize,
+}
+
+impl ClientChannel {
+    /// A client with these limits, to the server of this URL, that has sent and received nothing.
+    pub fn new(alloc: Global, limits: Limits, url: UaString) -> ClientChannel
+        requires { IsTrue (text.encodable url) }
+        ensures stands { Stands result [] [] [] [] }
+        ensures limits { limits_of result ≡ limits }
+        ensures url { url_of result ≡ url }
+        ensures next { next_of result ≡ 2 }
+    {
+        let gate = Gate::new(FIRST_SIZE).taking(Kind::Ack).taking(Kind::Err);
+        let mut numbers = Numbers::new();
+        numbers.step(); // The OPN takes the first one.
+        ClientChannel {
+            alloc,
+            limits,
+            address: Address { url },
+            reader: FrameReader::new(alloc, gate),
+            phase: Phase::Waiting,
+            numbers,
+            bound: FIRST_SIZE as usize,
+        }
+    }
+
+    // ---- memory
+
+    /// How many octets are held of what is not whole yet: of a frame, and of unfinished messages.
+    pub fn held(&self) -> usize
+        ensures held { (asks : List Placed) (octets : List ℕ) (frames : List Frame) (rest : List ℕ) → Stands self.now asks octets frames rest
+            → result ≡ held_octets frames rest }
+        ensures bound { (asks : List Placed) (octets : List ℕ) (frames : List Frame) (rest : List ℕ) → Stands self.now asks octets frames rest
+            → result ≤ bound_of self.now }
+        ensures done { IsDone self.now → result ≡ 0 }
+    {
+        let _bound = self.bound();
+        match &self.phase {
+            Phase::Open(talking) => self.reader.held().saturating_add(talking.assembler.held()),
+            _ => self.reader.held(),
+        }
+    }
+
+    /// The most octets that may be held: 8192 before the ACK; then the largest frame that the server
+    /// sends, and 4 times the largest message that this end takes.
+    #[inline]
+    pub fn bound(&self) -> usize
+        ensures { result ≡ bound_of self.now }
+    {
+        self.bound
+    }
+
+    // ---- what is sent
+
+    /// The HEL that begins the connection, whatever came so far.
+    pub fn hello(&self) -> Result<Vec<u8>, AllocError>
+        ensures { IfOk result (λ out. out.items ≡ frame_octets (hello_frame (hello_to (limits_of self.now) (url_of self.now)))) }
+    {
+        hello_octets(self.alloc, &self.limits, &self.address.url)
+    }
+
+    /// Why a call of a body of so many octets would be refused after so many more calls, but for
+    /// memory. It takes none.
+    pub fn judge(&self, before: usize, len: usize) -> Result<(), AskFault>
+        ensures { Judges (phase_of self.now) before len result }
+    {
+        match &self.phase {
+            Phase::Open(talking) => talking.judge(before, len),
+            _ => Err(AskFault::NotOpen),
+        }
+    }
+
+    /// The chunks of a call with this body, and the request id under which it is answered.
+    pub fn ask(&mut self, body: &[u8]) -> Result<(u32, Vec<u8>), AskFault>
+        requires { 0 < length body.now }
+        ensures answers { AnswersFor (ask_refusal (phase_of self.old) 0 body.now) result }
+        ensures sent { IfOk result (λ r. IsCall (phase_of self.old) (next_of self.old) body.now r.0 r.1.items (next_of self.new)) }
+        ensures stands { (asks : List Placed) (octets : List ℕ) (frames : List Frame) (rest : List ℕ) → Stands self.old asks octets frames rest
+            → IfOk result (λ r. Stands self.new (asks ++ (length octets, Call r.0) ∷ []) octets frames rest) }
+
+        // After a fault the channel stands as before, and sends next what it would have sent.
+        ensures kept { (asks : List Placed) (octets : List ℕ) (frames : List Frame) (rest : List ℕ) → Stands self.old asks octets frames rest
+            → OnErr result (Stands self.new asks octets frames rest) }
+        ensures next { OnErr result (next_of self.new ≡ next_of self.old) }
+        ensures done { IsDone self.old → (result ≡ Err NotOpen) × (self.new ≡ self.old) }
+        ensures same { SameClient self.old self.new }
+        ensures bound { bound_of self.new ≡ bound_of self.old }
+    {
+        match &mut self.phase {
+            Phase::Open(talking) => talking.ask(self.alloc, body, &mut self.numbers),
+            _ => Err(AskFault::NotOpen),
+        }
+    }
+
+    /// The OPN that asks for a further token (OPC 10000-4, 5.6.2), and its request id.
+    pub fn renew(&mut self, moment: DateTime) -> Result<(u32, Vec<u8>), AskFault>
+        ensures answers { AnswersFor (renew_refusal (phase_of self.old)) result }
+        ensures sent { IfOk result (λ r. IsRenewal (phase_of self.old) (next_of self.old) moment r.0 r.1.items (next_of self.new)) }
+        ensures stands { (asks : List Placed) (octets : List ℕ) (frames : List Frame) (rest : List ℕ) → Stands self.old asks octets frames rest
+            → IfOk result (λ r. Stands self.new (asks ++ (length octets, Renewal r.0) ∷ []) octets frames rest) }
+        ensures unchanged { OnErr result (self.new ≡ self.old) }
+        ensures same { SameClient self.old self.new }
+        ensures bound { bound_of self.new ≡ bound_of self.old }
+    {
+        match &mut self.phase {
+            Phase::Open(talking) => talking.renew(self.alloc, moment, &mut self.numbers),
+            _ => Err(AskFault::NotOpen),
+        }
+    }
+
+    /// The CLO, after which the channel is closed.
+    pub fn close(&mut self, moment: DateTime) -> Result<Vec<u8>, AskFault>
+        ensures answers { AnswersFor (close_refusal (phase_of self.old)) result }
+        ensures sent { IfOk result (λ out. IsClosing (phase_of self.old) (next_of self.old) moment out.items) }
+        ensures done { OnOk result (IsDone self.new) }
+        ensures unchanged { OnErr result (self.new ≡ self.old) }
+        ensures same { SameClient self.old self.new }
+        ensures bound { bound_of self.new ≡ bound_of self.old }
+    {
+        let out = self.closing(moment)?;
+        self.end();
+        Ok(out)
+    }
+
+    fn closing(&self, moment: DateTime) -> Result<Vec<u8>, AskFault>
+        ensures answers { AnswersFor (close_refusal (phase_of self.now)) result }
+        ensures sent { IfOk result (λ out. IsClosing (phase_of self.now) (next_of self.now) moment out.items) }
+    {
+        match &self.phase {
+            Phase::Open(talking) => {
+                let (channel, token, id) = (talking.channel, talking.newest, talking.next);
+                let out = close_octets(
+                    self.alloc,
+                    channel,
+                    token,
+                    self.numbers.number(),
+                    id,
+                    moment,
+                )?;
+                Ok(out)
+            }
+            _ => Err(AskFault::NotOpen),
+        }
+    }
+
+    // ---- what comes
+
+    /// Ends the channel, which then holds nothing.
+    fn end(&mut self)
+        ensures done { IsDone self.new }
+        ensures same { SameClient self.old self.new }
+        ensures bound { bound_of self.new ≡ bound_of self.old }
+        ensures next { next_of self.new ≡ next_of self.old }
+    {
+        self.phase = Phase::Done;
+        self.reader.close();
+    }
+
+    /// Takes the frame behind a HEL.
+    fn on_greeting(&mut self, frame: Frame) -> Result<Option<Event>, Stop>
+        ensures judges { LetsIn ack_gate frame → Judged (client_reasons (limits_of self.old) nothing_received [] (content frame))
+            (Takes (limits_of self.old) nothing_received [] (content frame) self.new) result }
+        ensures kept { self.new ≡ record self.old { phase = phase_of self.new; bound = bound_of self.new } }
+        ensures failed { OnErr result (self.new ≡ self.old) }
+    {
+        match greet(self.alloc, &self.limits, frame) {
+            Ok(agreed) => {
+                let size = agreed.ack.send_buffer_size as usize;
+                self.bound = size + MOST_OPEN * self.limits.max_message_size as usize;
+                self.phase = Phase::Agreed(agreed);
+                Ok(Some(Event::Agreed(agreed.ack)))
+            }
+            Err(stop) => Err(stop),
+        }
+    }
+
+    /// Takes the frame behind an ACK.
+    fn on_opening(&mut self, agreed: Agreed, frame: Frame) -> Result<Option<Event>, Stop>
+        ensures judges { LetsIn (answer_gate agreed.ack.send_buffer_size) frame → Judged (client_reasons (limits_of self.old) (greeted agreed) [] (content frame))
+            (OpensChannel (limits_of self.old) agreed (content frame) self.new) result }
+        ensures kept { self.new ≡ record self.old { phase = phase_of self.new } }
+        ensures failed { OnErr result (self.new ≡ self.old) }
+    {
+        match Talking::on_first(self.alloc, &self.limits, agreed, frame) {
+            Ok(talking) => {
+                let event = Event::Opened(talking.channel, talking.newest);
+                self.phase = Phase::Open(talking);
+                Ok(Some(event))
+            }
+            Err(stop) => Err(stop),
+        }
+    }
+
+    /// Takes a frame of an open channel.
+    fn on_reply(&mut self, mut talking: Talking, frame: Frame) -> Result<Option<Event>, Stop>
+        requires { HasRoom frame }
+        ensures judges { (before : Received) (asked : List Asking) → Talks (limits_of self.old) talking before asked
+            → LetsIn (reply_gate talking.agreed.ack.send_buffer_size) frame
+            → Judged (client_reasons (limits_of self.old) before asked (content frame)) (StaysOpen (limits_of self.old) before asked (content frame) self.new) result }
+        ensures kept { self.new ≡ record self.old { phase = phase_of self.new } }
+        ensures failed { OnErr result (self.new ≡ self.old) }
+    {
+        match talking.on_frame(self.alloc, frame) {
+            Ok(event) => {
+                self.phase = Phase::Open(talking);
+                Ok(event)
+            }
+            Err(stop) => Err(stop),
+        }
+    }
+
+    /// Goes on by a frame.
+    fn on_frame(&mut self, frame: Frame) -> Result<Option<Event>, Stop>
+        requires { HasRoom frame }
+        ensures judges { (before : Received) (asked : List Asking) → InPhase (limits_of self.old) (phase_of self.old) before asked
+            → bound_of self.old ≡ bound_behind (limits_of self.old) before.ack → LetsIn (client_gate before) frame
+            → Judged (client_reasons (limits_of self.old) before asked (content frame)) (Takes (limits_of self.old) before asked (content frame) self.new) result }
+        ensures kept { self.new ≡ record self.old { phase = phase_of self.new; bound = bound_of self.new } }
+        ensures failed { OnErr result (bound_of self.new ≡ bound_of self.old) }
+    {
+        match mem::replace(&mut self.phase, Phase::Done) {
+            Phase::Waiting => self.on_greeting(frame),
+            Phase::Agreed(agreed) => self.on_opening(agreed, frame),
+            Phase::Open(talking) => self.on_reply(talking, frame),
+            Phase::Done => Err(Stop::Closed),
+        }
+    }
+
+    /// What a frame comes to, and the gate for the next one.
+    fn on_whole(&mut self, frame: Frame) -> Result<Option<Event>, ClientTakeFault>
+        requires room { HasRoom frame }
+        requires empty { self.old.reader.held ≡ [] }
+        ensures judges { (before : Received) (asked : List Asking) → InPhase (limits_of self.old) (phase_of self.old) before asked
+            → bound_of self.old ≡ bound_behind (limits_of self.old) before.ack → self.old.reader ≡ open_reader (client_gate before) [] → LetsIn (client_gate before) frame
+            → JudgesWhole (limits_of self.old) before asked (content frame) self.new result }
+        ensures same { SameClient self.old self.new }
+        ensures next { next_of self.new ≡ next_of self.old }
+    {
+        match self.on_frame(frame) {
+            Ok(event) => {
+                self.reader.set_gate(self.phase.gate());
+                Ok(event)
+            }
+            Err(stop) => {
+                self.end();
+                stop.failure()
+            }
+        }
+    }
+
+    /// What a fault of the reader comes to.
+    fn on_fault(&mut self, fault: FrameFault) -> Result<Option<Event>, ClientTakeFault>
+        ensures failure { FailsBy fault result }
+        ensures done { IsDone self.new }
+        ensures same { SameClient self.old self.new }
+        ensures bound { bound_of self.new ≡ bound_of self.old }
+        ensures next { next_of self.new ≡ next_of self.old }
+    {
+        self.end();
+        match fault.code() {
+            Some(code) => Ok(Some(Event::Failed(code, false))),
+            None => Err(ClientTakeFault::OutOfMemory),
+        }
+    }
+
+    /// The front of a piece up to the eighth octet of a frame, or all of it where that is behind.
+    fn front<'a>(&self, piece: &'a [u8]) -> &'a [u8]
+        ensures { IsFront self.now.reader.held piece.now result.now }
+    {
+        let missing = HEADER_LEN.saturating_sub(self.reader.held());
+        if 0 < missing && missing < piece.len() {
+            &piece[..missing]
+        } else {
+            piece
+        }
+    }
+
+    /// One call of the reader, and what its frame comes to.
+    fn step(&mut self, piece: &[u8]) -> Result<(usize, Option<Event>), ClientTakeFault>
+        ensures steps { (asks : List Placed) (octets : List ℕ) (told : List Told) → Goes self.old asks octets told → Steps piece.now result self.new asks octets told }
+        ensures progress { Progress piece.now result }
+        ensures same { SameClient self.old self.new }
+        ensures next { next_of self.new ≡ next_of self.old }
+    {
+        let front = self.front(piece);
+        match self.reader.take(front) {
+            Ok((n, found)) => match found {
+                None => Ok((n, None)),
+                Some(frame) => match self.on_whole(frame) {
+                    Ok(event) => Ok((n, event)),
+                    Err(fault) => Err(fault),
+                },
+            },
+            Err(fault) => match self.on_fault(fault) {
+                Ok(event) => Ok((front.len(), event)),
+                Err(fault) => Err(fault),
+            },
+        }
+    }
+
+    /// Takes octets up to the end of the first frame that tells something, else the whole piece.
+    fn advance(&mut self, piece: &[u8]) -> Result<(usize, Option<Event>), ClientTakeFault>
+        ensures advances { (asks : List Placed) (octets : List ℕ) (told : List Told) → Goes self.old asks octets told → Advances piece.now result self.new asks octets told }
+        ensures progress { Progress piece.now result }
+        ensures closed { IsDone self.old → (result ≡ Err Closed) × (self.new ≡ self.old) }
+        ensures same { SameClient self.old self.new }
+        ensures next { next_of self.new ≡ next_of self.old }
+    {
+        if let Phase::Done = self.phase {
+            return Err(ClientTakeFault::Closed);
+        }
+        let mut at = 0;
+        while at < piece.len() {
+            match self.step(&piece[at..]) {
+                Ok((n, None)) => at += n,
+                Ok((n, Some(event))) => return Ok((at + n, Some(event))),
+                Err(fault) => return Err(fault),
+            }
+        }
+        Ok((at, None))
+    }
+
+    /// What is answered at an event. The moment is that of the OPN.
+    fn answer(&mut self, event: Event, moment: DateTime) -> Result<ClientEvent, ClientTakeFault>
+        ensures answers { (asks : List Placed) (octets : List ℕ) (told : List Told) → TellsEvent event self.old asks octets told
+            → AnswersEvent moment result self.new asks octets told }
+        ensures same { SameClient self.old self.new }
+        ensures next { next_of self.new ≡ next_of self.old }
+    {
+        match event {
+            Event::Agreed(_) => match open_octets(self.alloc, moment) {
+                Ok(out) => Ok(ClientEvent::Send(out)),
+                Err(_) => {
+                    self.end();
+                    Err(ClientTakeFault::OutOfMemory)
+                }
+            },
+            Event::Opened(_, _) => Ok(ClientEvent::Open),
+            Event::Answered(id, message) => Ok(ClientEvent::Answered(id, message)),
+            Event::Aborted(id, code) => Ok(ClientEvent::Aborted(id, code)),
+            Event::Renewed(token) => Ok(ClientEvent::Renewed(token)),
+            Event::Failed(code, peer) => Ok(ClientEvent::Failed { code, peer }),
+        }
+    }
+
+    /// Takes octets up to the end of the first frame at which there is something to be sent or to be
+    /// told, else the whole piece. The moment is that of the OPN. A header that is refused ends at its
+    /// eighth octet. After a failure the channel is closed.
+    pub fn take(
+        &mut self,
+        piece: &[u8],
+        moment: DateTime,
+    ) -> Result<(usize, ClientEvent), ClientTakeFault>
+        ensures answers { (asks : List Placed) (octets : List ℕ) (told : List Told) → Goes self.old asks octets told
+            → ClientAnswers moment piece.now result self.new asks octets told }
+        ensures progress { Progress piece.now result }
+        ensures closed { IsDone self.old → (result ≡ Err Closed) × (self.new ≡ self.old) }
+        ensures same { SameClient self.old self.new }
+        ensures next { next_of self.new ≡ next_of self.old }
+    {
+        match self.advance(piece) {
+            Ok((n, found)) => match found {
+                None => Ok((n, ClientEvent::NeedMore)),
+                Some(event) => match self.answer(event, moment) {
+                    Ok(answer) => Ok((n, answer)),
+                    Err(fault) => Err(fault),
+                },
+            },
+            Err(fault) => Err(fault),
+        }
+    }
+}

@@ -1,0 +1,177 @@
+//! The frames that a client sends beside the chunks of calls.
+
+ghost use Rattle.std.specs.Prelude.{◌≡◌, ◌<◌, ◌^◌, ◌++◌, IsTrue, IfOk, OnOk};
+ghost use Rattle.ua_octets.specs.Counted.{text};
+ghost use Rattle.ua_frame.specs.Agreement.{url_length};
+ghost use Rattle.ua_frame.specs.Frames.{frame_octets};
+ghost use Rattle.ua_frame.specs.Messages.{hello};
+ghost use Rattle.ua_channel.specs.ClientSends.{hello_to, hello_frame, open_frame, close_frame, first_open, renewal_frame, opening_front, policy_octets, closing_front};
+
+use std::alloc::{AllocError, Global};
+use ua_builtin::{DateTime, UaString, Wire};
+use ua_chunk::NONE_POLICY;
+use ua_frame::{Kind, Limits, header_octets};
+use ua_octets::NULL_COUNT;
+use ua_services::laws::bodies_of_the_channel_have_lengths;
+use ua_services::{CloseRequest, OpenRequest, write_close_request, write_open_request};
+
+/// The octets of a Hello whose URL is null.
+const SHORT_HELLO: usize = 32;
+
+/// The octets of an OPN frame with a request in it.
+const OPEN_SIZE: u32 = 132;
+
+/// The octets of a CLO frame with a request in it.
+const CLOSE_SIZE: u32 = 57;
+
+/// How long a token is asked to live, in milliseconds: an hour.
+const TOKEN_LIFETIME: u32 = 3_600_000;
+
+/// Adds the Hello of a client with these limits to the server of this URL.
+#[tactic(auto, unfolding(ua_frame::specs::Messages::hello))]
+fn append_hello(limits: &Limits, url: &UaString, out: &mut Vec<u8>) -> Result<(), AllocError>
+    requires { IsTrue (text.encodable url.now) }
+    ensures { OnOk result (out.new.items ≡ out.old.items ++ hello.canonical (hello_to limits.now url.now)) }
+{
+    let Limits {
+        receive_buffer_size,
+        send_buffer_size,
+        max_message_size,
+        max_chunk_count,
+    } = *limits;
+    0u32.append(out)?;
+    receive_buffer_size.append(out)?;
+    send_buffer_size.append(out)?;
+    max_message_size.append(out)?;
+    max_chunk_count.append(out)?;
+    url.append(out)?;
+    Ok(())
+}
+
+/// The number of octets of a URL.
+#[tactic(auto, using(crate::proofs::ClientFrames::url_short))]
+fn url_len(url: &UaString) -> usize
+    requires { IsTrue (text.encodable url.now) }
+    ensures len { result ≡ url_length url.now }
+    ensures short { result < 2 ^ 31 }
+{
+    match url.as_str() {
+        Some(url) => url.len(),
+        None => 0,
+    }
+}
+
+/// The HEL of a client with these limits to the server of this URL.
+#[tactic(auto, using(crate::proofs::ClientFrames::hello_framed))]
+pub fn hello_octets(alloc: Global, limits: &Limits, url: &UaString) -> Result<Vec<u8>, AllocError>
+    requires { IsTrue (text.encodable url.now) }
+    ensures { IfOk result (λ out. out.items ≡ frame_octets (hello_frame (hello_to limits.now url.now))) }
+{
+    let size = SHORT_HELLO + url_len(url);
+    let mut out = Vec::with_capacity(alloc, size)?;
+    out.extend_from_slice(&header_octets(Kind::Hel, b'F', size as u32))?;
+    append_hello(limits, url, &mut out)?;
+    Ok(out)
+}
+
+/// Adds the security header of the policy None on a channel.
+fn append_policy(channel: u32, out: &mut Vec<u8>) -> Result<(), AllocError>
+    ensures { OnOk result (out.new.items ≡ out.old.items ++ policy_octets channel) }
+{
+    channel.append(out)?;
+    (NONE_POLICY.len() as u32).append(out)?;
+    out.extend_from_slice(NONE_POLICY.as_bytes())?;
+    NULL_COUNT.append(out)?;
+    NULL_COUNT.append(out)?;
+    Ok(())
+}
+
+/// Adds what stands in front of the request of an OPN.
+fn append_opening(channel: u32, number: u32, id: u32, out: &mut Vec<u8>) -> Result<(), AllocError>
+    ensures { OnOk result (out.new.items ≡ out.old.items ++ opening_front channel number id) }
+{
+    out.extend_from_slice(&header_octets(Kind::Opn, b'F', OPEN_SIZE))?;
+    append_policy(channel, out)?;
+    number.append(out)?;
+    id.append(out)?;
+    Ok(())
+}
+
+/// The OPN that issues the first token, on no channel yet.
+#[tactic(auto, using(crate::proofs::ClientFrames::opening_framed))]
+pub fn open_octets(alloc: Global, moment: DateTime) -> Result<Vec<u8>, AllocError>
+    ensures { IfOk result (λ out. out.items ≡ frame_octets (first_open moment)) }
+{
+    let mut out = Vec::with_capacity(alloc, OPEN_SIZE as usize)?;
+    append_opening(0, 1, 1, &mut out)?;
+    let request = OpenRequest::issue(moment, 0, TOKEN_LIFETIME);
+    bodies_of_the_channel_have_lengths();
+    // The request can be encoded, so a fault is want of memory.
+    match write_open_request(&request, &mut out) {
+        Ok(()) => Ok(out),
+        Err(_) => Err(AllocError),
+    }
+}
+
+/// The OPN that renews the token of a channel.
+#[tactic(auto, using(crate::proofs::ClientFrames::opening_framed))]
+pub fn renewal_octets(
+    alloc: Global,
+    channel: u32,
+    number: u32,
+    id: u32,
+    moment: DateTime,
+) -> Result<Vec<u8>, AllocError>
+    ensures { IfOk result (λ out. out.items ≡ frame_octets (renewal_frame channel number id moment)) }
+{
+    let mut out = Vec::with_capacity(alloc, OPEN_SIZE as usize)?;
+    append_opening(channel, number, id, &mut out)?;
+    let request = OpenRequest::renew(moment, 0, TOKEN_LIFETIME);
+    bodies_of_the_channel_have_lengths();
+    // The request can be encoded, so a fault is want of memory.
+    match write_open_request(&request, &mut out) {
+        Ok(()) => Ok(out),
+        Err(_) => Err(AllocError),
+    }
+}
+
+/// Adds what stands in front of the request of a CLO.
+fn append_closing(
+    channel: u32,
+    token: u32,
+    number: u32,
+    id: u32,
+    out: &mut Vec<u8>,
+) -> Result<(), AllocError>
+    ensures { OnOk result (out.new.items ≡ out.old.items ++ closing_front channel token number id) }
+{
+    out.extend_from_slice(&header_octets(Kind::Clo, b'F', CLOSE_SIZE))?;
+    channel.append(out)?;
+    token.append(out)?;
+    number.append(out)?;
+    id.append(out)?;
+    Ok(())
+}
+
+/// The CLO of a channel.
+#[tactic(auto, using(crate::proofs::ClientFrames::closing_framed))]
+pub fn close_octets(
+    alloc: Global,
+    channel: u32,
+    token: u32,
+    number: u32,
+    id: u32,
+    moment: DateTime,
+) -> Result<Vec<u8>, AllocError>
+    ensures { IfOk result (λ out. out.items ≡ frame_octets (close_frame channel token number id moment)) }
+{
+    let mut out = Vec::with_capacity(alloc, CLOSE_SIZE as usize)?;
+    append_closing(channel, token, number, id, &mut out)?;
+    let request = CloseRequest::new(moment, 0);
+    bodies_of_the_channel_have_lengths();
+    // The request can be encoded, so a fault is want of memory.
+    match write_close_request(&request, &mut out) {
+        Ok(()) => Ok(out),
+        Err(_) => Err(AllocError),
+    }
+}

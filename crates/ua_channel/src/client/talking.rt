@@ -1,0 +1,408 @@
+//! A client's channel that is open.
+
+ghost use Rattle.std.specs.Prelude.{true, ◌≡◌, ◌≤◌, ◌<◌, ◌+◌, ◌^◌, ◌++◌, ◌∷◌, [], List, ℕ, length, OnErr, IfOk};
+ghost use Rattle.ua_builtin.specs.Reasons.{first_reason};
+ghost use Rattle.ua_frame.specs.Frames.{LetsIn};
+ghost use Rattle.ua_frame.specs.declared.limits.Limits.{Limits};
+ghost use Rattle.ua_chunk.specs.Assembling.{Stands};
+ghost use Rattle.ua_chunk.specs.declared.chunk.Chunk.{Chunk};
+ghost use Rattle.ua_chunk.specs.Cutting.{pieces};
+ghost use Rattle.ua_chunk.specs.Refusal.{passes};
+ghost use Rattle.ua_channel.specs.Asks.{Asking};
+ghost use Rattle.ua_channel.specs.Asks.Asking.{Call, Renewal};
+ghost use Rattle.ua_channel.specs.ClientAsks.{Talks, lane_of, more_reasons, renew_reasons, is_too_large, Calls, Renews, AnswersCall, JudgesCall, AnswersFor, AsBefore};
+ghost use Rattle.ua_channel.specs.ClientParts.{Judged, HasRoom, greeted, first_reasons, IsOpenedWith, IsOpenedBy, renewal_reasons, IsRenewedWith, TellsRenewal, token_reasons, chunk_reasons, refused_reasons, unasked_reasons, known_reasons, any_event, drops_first, left_behind, IsAccepted, IsDeliveredWith, IsTakenWith, TakesFrame, DeliversEvent};
+ghost use Rattle.ua_channel.specs.ClientTable.{client_reasons, answer_gate, reply_gate};
+ghost use Rattle.ua_channel.specs.ClientTokens.{from_last};
+ghost use Rattle.ua_channel.specs.Content.{content};
+ghost use Rattle.ua_channel.specs.Received.{Received};
+
+use crate::client::agreed::Agreed;
+use crate::client::answer::{Answer, judge_answer};
+use crate::client::event::Event;
+use crate::client::fault::{AskFault, Stop};
+use crate::client::greeting::stop_of_error;
+use crate::client::octets::renewal_octets;
+use crate::numbers::Numbers;
+use std::alloc::Global;
+use ua_builtin::{DateTime, StatusCode};
+use ua_chunk::{Assembler, Chunk, Delivered, Lane, cut, read_chunk};
+use ua_frame::{Frame, Kind, Limits};
+
+/// The most calls that may be unanswered.
+const MOST_PENDING: usize = 64;
+
+/// The most tokens that are held where a further one is asked for.
+const MOST_TOKENS: usize = 16;
+
+/// The first number that no request id is.
+const NO_ID: usize = 4_294_967_295;
+
+/// The octets of a chunk in front of its body.
+const CHUNK_HEADERS: u32 = 24;
+
+/// What a client keeps of an open channel.
+#[derive(Drop)]
+pub struct Talking {
+    pub agreed: Agreed,
+    pub channel: u32,
+    /// The tokens that the server may use: from the last one that it used to the newest.
+    pub tokens: Vec<u32>,
+    /// The newest token, under which calls go out.
+    pub newest: u32,
+    /// The request ids of the calls that are unanswered.
+    pub pending: Vec<u32>,
+    /// The request id of the renewal that is unanswered.
+    pub renewal: Option<u32>,
+    /// The request id that the next call gets.
+    pub next: u32,
+    pub assembler: Assembler,
+}
+
+/// Whether the first of the tokens stands before the last place of one, or that has no place.
+fn drops_first(tokens: &[u32], token: u32) -> bool
+    ensures { result ≡ drops_first token tokens.now }
+{
+    match tokens.split_first() {
+        None => false,
+        Some((first, rest)) => *first != token || rest.contains(&token),
+    }
+}
+
+/// Drops the tokens before the last place of one, and all where it has none.
+fn release_before(tokens: &mut Vec<u32>, token: u32)
+    ensures { tokens.new.items ≡ from_last token tokens.old.items }
+{
+    while drops_first(tokens.as_slice(), token) {
+        tokens.remove(0);
+    }
+}
+
+/// Drops a request id.
+fn forget(ids: &mut Vec<u32>, request: u32)
+    ensures { ids.new.items ≡ left_behind true request ids.old.items }
+{
+    ids.retain(|id| *id != request);
+}
+
+/// Whether a body of so many octets has more pieces of this size than a limit, of which 0 is none.
+fn has_more_pieces(limit: u32, room: u32, len: usize) -> bool
+    requires { 0 < room }
+    ensures { (body : List ℕ) → length body ≡ len → result ≡ passes limit (length (pieces room body)) }
+{
+    limit != 0 && len as u128 > u128::from(limit) * u128::from(room)
+}
+
+/// What a delivered message tells.
+fn event_of(delivered: Option<Delivered>) -> Option<Event>
+    ensures { DeliversEvent delivered result }
+{
+    match delivered {
+        None => None,
+        Some(Delivered::Whole(id, message)) => Some(Event::Answered(id, message)),
+        Some(Delivered::Aborted(id, code, _)) => Some(Event::Aborted(id, code)),
+    }
+}
+
+impl Talking {
+    /// The channel that the first answer opens.
+    pub fn open(
+        alloc: Global,
+        limits: &Limits,
+        agreed: Agreed,
+        answer: Answer,
+    ) -> Result<Talking, Stop>
+        ensures { Judged (first_reasons answer) (IsOpenedWith limits.now agreed answer) result }
+    {
+        if answer.request != 1 {
+            return Err(Stop::Refused(StatusCode::BAD_UNKNOWN_RESPONSE));
+        }
+        let mut tokens = Vec::new(alloc);
+        let Ok(()) = tokens.push(answer.token) else {
+            return Err(Stop::OutOfMemory);
+        };
+        Ok(Talking {
+            agreed,
+            channel: answer.channel,
+            tokens,
+            newest: answer.token,
+            pending: Vec::new(alloc),
+            renewal: None,
+            next: 2,
+            assembler: Assembler::new(
+                alloc,
+                limits.max_message_size,
+                limits.max_chunk_count,
+                Some(answer.sequence),
+            ),
+        })
+    }
+
+    /// The channel that the first frame behind an ACK opens.
+    pub fn on_first(
+        alloc: Global,
+        limits: &Limits,
+        agreed: Agreed,
+        frame: Frame,
+    ) -> Result<Talking, Stop>
+        ensures { LetsIn (answer_gate agreed.ack.send_buffer_size) frame
+            → Judged (client_reasons limits.now (greeted agreed) [] (content frame)) (IsOpenedBy limits.now agreed (content frame)) result }
+    {
+        match frame.kind {
+            Kind::Opn => match judge_answer(alloc, frame) {
+                Ok(answer) => Talking::open(alloc, limits, agreed, answer),
+                Err(stop) => Err(stop),
+            },
+            Kind::Err => Err(stop_of_error(alloc, &frame.body)),
+            _ => Err(Stop::Closed),
+        }
+    }
+
+    // ---- what comes
+
+    /// Takes the answer to a renewal.
+    fn on_answer(&mut self, answer: Answer) -> Result<(), Stop>
+        ensures { (cs : List Chunk) → Stands self.old.assembler cs → Judged (renewal_reasons self.old answer) (λ _. IsRenewedWith self.old answer cs self.new) result }
+    {
+        if answer.channel != self.channel {
+            return Err(Stop::Refused(StatusCode::BAD_TCP_SECURE_CHANNEL_UNKNOWN));
+        }
+        if self.tokens.contains(&answer.token) {
+            return Err(Stop::Refused(StatusCode::BAD_SECURE_CHANNEL_TOKEN_UNKNOWN));
+        }
+        if let Err(fault) = self.assembler.step(answer.sequence) {
+            return Err(Stop::of_chunk(fault));
+        }
+        if self.renewal != Some(answer.request) {
+            return Err(Stop::Refused(StatusCode::BAD_UNKNOWN_RESPONSE));
+        }
+        let Ok(()) = self.tokens.push(answer.token) else {
+            return Err(Stop::OutOfMemory);
+        };
+        self.newest = answer.token;
+        self.renewal = None;
+        Ok(())
+    }
+
+    /// Takes the answer to a renewal, and tells the token.
+    fn on_renewed(&mut self, answer: Answer) -> Result<Option<Event>, Stop>
+        ensures { (cs : List Chunk) → Stands self.old.assembler cs → Judged (renewal_reasons self.old answer) (TellsRenewal self.old answer cs self.new) result }
+    {
+        match self.on_answer(answer) {
+            Ok(()) => Ok(Some(Event::Renewed(answer.token))),
+            Err(stop) => Err(stop),
+        }
+    }
+
+    /// Whether a chunk is on this channel, under a token that is held.
+    fn judge_chunk(&self, chunk: &Chunk) -> Result<(), Stop>
+        ensures { Judged (token_reasons self.now chunk.now) any_event result }
+    {
+        if chunk.channel != self.channel {
+            return Err(Stop::Refused(StatusCode::BAD_TCP_SECURE_CHANNEL_UNKNOWN));
+        }
+        if !self.tokens.contains(&chunk.token) {
+            return Err(Stop::Refused(StatusCode::BAD_SECURE_CHANNEL_TOKEN_UNKNOWN));
+        }
+        Ok(())
+    }
+
+    /// Takes what the assembler makes of a chunk.
+    fn accept(&mut self, chunk: Chunk) -> Result<Option<Delivered>, Stop>
+        ensures { (cs : List Chunk) → Stands self.old.assembler cs → Judged (refused_reasons self.old cs chunk) (IsAccepted self.old cs chunk self.new) result }
+    {
+        match self.assembler.accept(chunk) {
+            Ok(delivered) => Ok(delivered),
+            Err(fault) => Err(Stop::of_chunk(fault)),
+        }
+    }
+
+    /// Takes what a chunk of this request and token delivered, which it ended or not.
+    fn on_delivered(
+        &mut self,
+        request: u32,
+        token: u32,
+        ends: bool,
+        delivered: Option<Delivered>,
+    ) -> Result<Option<Event>, Stop>
+        ensures { Judged (unasked_reasons self.old request) (IsDeliveredWith self.old request token ends delivered self.new) result }
+    {
+        if !self.pending.contains(&request) {
+            drop(delivered);
+            return Err(Stop::Refused(StatusCode::BAD_UNKNOWN_RESPONSE));
+        }
+        release_before(&mut self.tokens, token);
+        if ends {
+            forget(&mut self.pending, request);
+        }
+        Ok(event_of(delivered))
+    }
+
+    /// Takes a chunk of this channel under a token that is held.
+    fn on_known(&mut self, chunk: Chunk) -> Result<Option<Event>, Stop>
+        ensures { (cs : List Chunk) → Stands self.old.assembler cs → Judged (known_reasons self.old cs chunk) (IsTakenWith self.old cs chunk self.new) result }
+    {
+        let (request, token, ends) = (chunk.request, chunk.token, !chunk.flag.is_more());
+        match self.accept(chunk) {
+            Ok(delivered) => self.on_delivered(request, token, ends, delivered),
+            Err(stop) => Err(stop),
+        }
+    }
+
+    /// Takes a chunk of a message.
+    fn on_chunk(&mut self, chunk: Chunk) -> Result<Option<Event>, Stop>
+        ensures { (cs : List Chunk) → Stands self.old.assembler cs → Judged (chunk_reasons self.old cs chunk) (IsTakenWith self.old cs chunk self.new) result }
+    {
+        match self.judge_chunk(&chunk) {
+            Ok(()) => self.on_known(chunk),
+            Err(stop) => Err(stop),
+        }
+    }
+
+    /// Takes a frame.
+    pub fn on_frame(&mut self, alloc: Global, frame: Frame) -> Result<Option<Event>, Stop>
+        requires { HasRoom frame }
+        ensures { (limits : Limits) (before : Received) (asked : List Asking) → Talks limits self.old before asked
+            → LetsIn (reply_gate self.old.agreed.ack.send_buffer_size) frame
+            → Judged (client_reasons limits before asked (content frame)) (TakesFrame limits before asked (content frame) self.new) result }
+    {
+        match frame.kind {
+            Kind::Msg => self.on_chunk(read_chunk(frame)),
+            Kind::Opn => match judge_answer(alloc, frame) {
+                Ok(answer) => self.on_renewed(answer),
+                Err(stop) => Err(stop),
+            },
+            Kind::Err => Err(stop_of_error(alloc, &frame.body)),
+            _ => Err(Stop::Closed),
+        }
+    }
+
+    // ---- what is asked
+
+    /// Where calls go.
+    fn lane(&self) -> Lane
+        ensures lane { result ≡ lane_of self.now }
+        ensures room { 0 < result.room }
+        ensures size { result.room + 24 < 2 ^ 32 }
+    {
+        let ack = self.agreed.ack;
+        Lane {
+            channel: self.channel,
+            token: self.newest,
+            room: ack.receive_buffer_size - CHUNK_HEADERS,
+            octets: ack.max_message_size,
+            chunks: ack.max_chunk_count,
+        }
+    }
+
+    /// Why no call may be asked after so many more calls, whatever its body.
+    fn full(&self, more: usize) -> Option<AskFault>
+        ensures { result ≡ first_reason (more_reasons self.now more) }
+    {
+        if self.pending.len().saturating_add(more) >= MOST_PENDING {
+            return Some(AskFault::TooManyPending);
+        }
+        if (self.next as usize).saturating_add(more) >= NO_ID {
+            return Some(AskFault::Exhausted);
+        }
+        None
+    }
+
+    /// Whether the server does not take a body of so many octets.
+    fn is_too_large(&self, len: usize) -> bool
+        ensures { (body : List ℕ) → length body ≡ len → result ≡ is_too_large self.now.agreed.ack body }
+    {
+        let ack = self.agreed.ack;
+        let room = ack.receive_buffer_size - CHUNK_HEADERS;
+        (ack.max_message_size != 0 && len > ack.max_message_size as usize)
+            || has_more_pieces(ack.max_chunk_count, room, len)
+    }
+
+    /// Why a call of a body of so many octets is refused after so many more calls.
+    pub fn judge(&self, more: usize, len: usize) -> Result<(), AskFault>
+        ensures { JudgesCall self.now more len result }
+    {
+        if let Some(fault) = self.full(more) {
+            return Err(fault);
+        }
+        if self.is_too_large(len) {
+            return Err(AskFault::RequestTooLarge);
+        }
+        Ok(())
+    }
+
+    /// The chunks of a call under the next request id.
+    pub fn ask(
+        &mut self,
+        alloc: Global,
+        body: &[u8],
+        numbers: &mut Numbers,
+    ) -> Result<(u32, Vec<u8>), AskFault>
+        requires { 0 < length body.now }
+        ensures answers { AnswersCall self.old body.now result }
+        ensures asked { IfOk result (λ r. Calls self.old numbers.old.next body.now r.0 r.1.items numbers.new.next) }
+        ensures talks { (limits : Limits) (before : Received) (asked : List Asking) → Talks limits self.old before asked
+            → IfOk result (λ r. Talks limits self.new before (asked ++ Call r.0 ∷ [])) }
+        ensures agreed { self.new.agreed ≡ self.old.agreed }
+        ensures unchanged { OnErr result (AsBefore self.old self.new × (numbers.new ≡ numbers.old)) }
+    {
+        if let Some(fault) = self.full(0) {
+            return Err(fault);
+        }
+        let id = self.next;
+        let mut out = Vec::new(alloc);
+        let next = match cut(&self.lane(), body, numbers.number(), id, &mut out) {
+            Ok(next) => next,
+            Err(fault) => return Err(AskFault::of_cut(fault)),
+        };
+        match self.pending.push(id) {
+            Ok(()) => {
+                self.next = id + 1;
+                numbers.go_on(next);
+                Ok((id, out))
+            }
+            Err(_) => Err(AskFault::OutOfMemory),
+        }
+    }
+
+    /// Why a renewal is not asked.
+    fn renew_refusal(&self) -> Option<AskFault>
+        ensures { result ≡ first_reason (renew_reasons self.now) }
+    {
+        if self.renewal.is_some() {
+            return Some(AskFault::RenewPending);
+        }
+        if self.tokens.len() >= MOST_TOKENS {
+            return Some(AskFault::TooManyTokens);
+        }
+        if self.next as usize >= NO_ID {
+            return Some(AskFault::Exhausted);
+        }
+        None
+    }
+
+    /// The OPN that asks for a further token under the next request id.
+    pub fn renew(
+        &mut self,
+        alloc: Global,
+        moment: DateTime,
+        numbers: &mut Numbers,
+    ) -> Result<(u32, Vec<u8>), AskFault>
+        ensures answers { AnswersFor (first_reason (renew_reasons self.old)) result }
+        ensures asked { IfOk result (λ r. Renews self.old numbers.old.next moment r.0 r.1.items numbers.new.next) }
+        ensures talks { (limits : Limits) (before : Received) (asked : List Asking) → Talks limits self.old before asked
+            → IfOk result (λ r. Talks limits self.new before (asked ++ Renewal r.0 ∷ [])) }
+        ensures agreed { self.new.agreed ≡ self.old.agreed }
+        ensures unchanged { OnErr result ((self.new ≡ self.old) × (numbers.new ≡ numbers.old)) }
+    {
+        if let Some(fault) = self.renew_refusal() {
+            return Err(fault);
+        }
+        let id = self.next;
+        let out = renewal_octets(alloc, self.channel, numbers.number(), id, moment)?;
+        self.renewal = Some(id);
+        self.next = id + 1;
+        numbers.step();
+        Ok((id, out))
+    }
+}
