@@ -25,3 +25,4 @@ pub mod ClientPhases
 pub mod ClientChunks
 pub mod ClientSteps
 pub mod ClientAdvances
+mod MemoryLines

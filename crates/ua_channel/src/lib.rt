@@ -20,6 +20,9 @@
 mod agreement;
 mod client;
 pub mod laws;
+mod line;
+mod memory_line;
+mod moments;
 mod numbers;
 mod running;
 mod sending;
@@ -29,6 +32,9 @@ mod server_fault;
 mod server_opening;
 
 pub use client::{AskFault, ClientChannel, ClientEvent, ClientTakeFault};
+pub use line::{Line, LineFault};
+pub use memory_line::MemoryLine;
+pub use moments::{ListMoments, Moments};
 pub use server::ServerChannel;
 pub use server_event::ServerEvent;
 pub use server_fault::{ChannelFault, ReplyFault};

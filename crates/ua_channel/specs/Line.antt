@@ -1,0 +1,41 @@
+-- What the calls of a line do: octets come from it and go to it, in pieces of the line's own choice.
+use Rattle.std.specs.Prelude.{◌≡◌, ◌++◌, ◌+◌, ◌<◌, ℕ, List, [], Bool, cond, nat_eq, length, take, Option, Some, None, Result, Ok, Err}
+use Rattle.ua_channel.specs.declared.line.LineFault.{LineFault}
+
+-- the octets of a line that tells them: those to come, and those written so far
+pub record Traffic : Type 0 where
+  pub coming : List ℕ
+  pub written : List ℕ
+
+-- ---- failures
+
+-- the greatest count of failures, that of 64 bits
+abbrev pub most_failures : ℕ
+most_failures = 0xFFFF_FFFF_FFFF_FFFF
+
+-- the count after one failure more: from the greatest it goes to 0
+abbrev pub one_more : ℕ → ℕ
+one_more n = cond (nat_eq n most_failures) 0 (n + 1)
+
+-- the count after a call: an Err is one failure more
+abbrev pub failures_after : ℕ → Result ℕ LineFault → ℕ
+failures_after before (Ok n) = before
+failures_after before (Err fault) = one_more before
+
+-- ---- octets
+
+-- what a read did: it handed out the next octets, and none into a buffer with room only where none are to come; a failure moved nothing
+abbrev pub Hands : Result ℕ LineFault → List ℕ → Traffic → Traffic → Type 0
+Hands (Ok n) buffer before after = (before.coming ≡ take n buffer ++ after.coming) × (after.written ≡ before.written) × (n ≡ 0 → 0 < length buffer → before.coming ≡ [])
+Hands (Err fault) buffer before after = after ≡ before
+
+-- what a write did: it took the first of the octets offered; a failure moved nothing
+abbrev pub Takes : Result ℕ LineFault → List ℕ → Traffic → Traffic → Type 0
+Takes (Ok n) octets before after = (after.written ≡ before.written ++ take n octets) × (after.coming ≡ before.coming)
+Takes (Err fault) octets before after = after ≡ before
+
+-- a line that told its octets goes on telling them, and this is what became of them; of a line that does not, nothing is said
+abbrev pub WhereTold : (Traffic → Traffic → Type 0) → Option Traffic → Option Traffic → Type 0
+WhereTold P (Some before) (Some after) = P before after
+WhereTold P (Some before) None = ⊥
+WhereTold P None after = after ≡ None

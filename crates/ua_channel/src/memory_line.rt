@@ -1,0 +1,161 @@
+//! A line over memory.
+
+ghost use Rattle.std.specs.Prelude.{◌≡◌, ◌≤◌, ◌<◌, ◌++◌, ℕ, List, [], Some, Option, length, drop, take, min, IfOk, Ok, option_map};
+ghost use Rattle.ua_channel.specs.Line.{Traffic, Hands, Takes, WhereTold, failures_after};
+ghost use Rattle.ua_channel.specs.MemoryLine.{Pace as Calls, Memory, moves, after_call};
+
+use crate::line::{Line, LineFault};
+use std::alloc::Global;
+use std::marker::Model;
+
+/// The calls of one direction: the most that each moves, and which of them fails.
+#[derive(Drop)]
+struct Pace {
+    limits: Vec<usize>,
+    fails: Option<usize>,
+}
+
+impl Model for Pace {
+    ghost Value = { Calls };
+
+    ghost view = { λ p. record { limits = p.limits.items; fails = p.fails } };
+}
+
+impl Pace {
+    /// How many of so many octets the next call moves, unless it fails.
+    fn step(&mut self, octets: usize) -> Result<usize, LineFault>
+        ensures moves { result ≡ moves self.old octets }
+        ensures behind { self.new ≡ after_call self.old }
+    {
+        let count = match self.limits.first() {
+            Some(most) => octets.min((*most).max(1)),
+            None => octets,
+        };
+        if !self.limits.is_empty() {
+            self.limits.rotate_left(1);
+        }
+        if self.fails == Some(1) {
+            self.fails = None;
+            return Err(LineFault::Failed);
+        }
+        self.fails = match self.fails {
+            Some(n) => Some(n.saturating_sub(1)),
+            None => None,
+        };
+        Ok(count)
+    }
+}
+
+/// A line over memory, for tests: it hands out given octets and keeps those written, in pieces of
+/// the lengths that it is told, and fails where it is told to.
+#[derive(Drop)]
+pub struct MemoryLine {
+    octets: Vec<u8>,
+    read: usize,
+    written: Vec<u8>,
+    failures: u64,
+    reads: Pace,
+    writes: Pace,
+}
+
+impl Model for MemoryLine {
+    ghost Value = { Memory };
+
+    ghost view = { λ l. record { traffic = record { coming = drop l.read l.octets.items; written = l.written.items }; failures = l.failures; reads = l.reads; writes = l.writes } };
+
+    ghost invariant = { λ l. l.read ≤ length l.octets.items };
+}
+
+impl MemoryLine {
+    /// A line from which these octets come, in this order, and then the end.
+    ///
+    /// `reads` and `writes` are the most octets that each read gives and each write takes, in turn
+    /// and again from the first; 0 counts as 1, and an empty list sets no limit. The read and the
+    /// write that `fail_read` and `fail_write` name, counted from 1, fail once.
+    pub fn new(
+        alloc: Global,
+        octets: Vec<u8>,
+        reads: Vec<usize>,
+        writes: Vec<usize>,
+        fail_read: Option<usize>,
+        fail_write: Option<usize>,
+    ) -> MemoryLine
+        ensures traffic { result.traffic ≡ record { coming = octets.items; written = [] } }
+        ensures failures { result.failures ≡ 0 }
+        ensures reads { result.reads ≡ record { limits = reads.items; fails = fail_read } }
+        ensures writes { result.writes ≡ record { limits = writes.items; fails = fail_write } }
+    {
+        MemoryLine {
+            octets,
+            read: 0,
+            written: Vec::new(alloc),
+            failures: 0,
+            reads: Pace {
+                limits: reads,
+                fails: fail_read,
+            },
+            writes: Pace {
+                limits: writes,
+                fails: fail_write,
+            },
+        }
+    }
+
+    /// The octets written so far.
+    pub fn written(&self) -> &[u8]
+        ensures { result.now ≡ self.now.traffic.written }
+    {
+        &self.written
+    }
+}
+
+impl Line for MemoryLine {
+    ghost traffic = { λ l. Some l.traffic };
+
+    ghost failures = { λ l. l.failures };
+
+    fn read(&mut self, buffer: &mut [u8]) -> Result<usize, LineFault>
+        ensures within { IfOk result (λ n. n ≤ length buffer.new) }
+        ensures failed { self.new.failures ≡ failures_after self.old.failures result }
+        ensures octets { Hands result buffer.new self.old.traffic self.new.traffic }
+        ensures paced { result ≡ moves self.old.reads (min (length self.old.traffic.coming) (length buffer.old)) }
+        ensures reads { self.new.reads ≡ after_call self.old.reads }
+        ensures writes { self.new.writes ≡ self.old.writes }
+    {
+        let left = self.octets.len() - self.read;
+        match self.reads.step(left.min(buffer.len())) {
+            Ok(n) => {
+                buffer[..n].copy_from_slice(&self.octets[self.read..self.read + n]);
+                self.read += n;
+                Ok(n)
+            }
+            Err(_) => {
+                self.failures = self.failures.wrapping_add(1);
+                Err(LineFault::Failed)
+            }
+        }
+    }
+
+    /// A write that finds no memory fails.
+    fn write(&mut self, octets: &[u8]) -> Result<usize, LineFault>
+        ensures within { IfOk result (λ n. n ≤ length octets.now) }
+        ensures some { 0 < length octets.now → IfOk result (λ n. 0 < n) }
+        ensures failed { self.new.failures ≡ failures_after self.old.failures result }
+        ensures octets { Takes result octets.now self.old.traffic self.new.traffic }
+        ensures paced { IfOk result (λ n. Ok n ≡ moves self.old.writes (length octets.now)) }
+        ensures writes { self.new.writes ≡ after_call self.old.writes }
+        ensures reads { self.new.reads ≡ self.old.reads }
+    {
+        let Ok(n) = self.writes.step(octets.len()) else {
+            self.failures = self.failures.wrapping_add(1);
+            return Err(LineFault::Failed);
+        };
+        match self.written.extend_from_slice(&octets[..n]) {
+            Ok(()) => Ok(n),
+            Err(_) => {
+                self.failures = self.failures.wrapping_add(1);
+                Err(LineFault::Failed)
+            }
+        }
+    }
+}
