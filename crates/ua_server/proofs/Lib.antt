@@ -1,0 +1,4 @@
+mod EndpointFits
+mod Answered
+mod Identities
+mod Statuses

@@ -1,0 +1,32 @@
+-- What a server answers to a request at a moment, and the state that this leaves.
+use Rattle.std.specs.Prelude.{ℕ, List, Bool, Option, Some, None}
+use Rattle.ua_builtin.specs.Reasons.{first_reason}
+use Rattle.ua_builtin.specs.Status.{of_code}
+use Rattle.ua_builtin.specs.declared.date_time.DateTime.{DateTime}
+use Rattle.ua_services.specs.declared.request.Request.{Request}
+use Rattle.ua_services.specs.declared.request.Request.TheVariants.{GetEndpoints, CreateSession, ActivateSession, CloseSession, Read, Write}
+use Rattle.ua_services.specs.declared.response.Response.{Response}
+use Rattle.ua_services.specs.declared.response.Response.TheVariants.{ServiceFault}
+use Rattle.ua_structures.specs.Plain.{service_fault_of}
+use Rattle.ua_structures.specs.declared.header.RequestHeader.{RequestHeader}
+use Rattle.ua_server.specs.Attributes.{read_reasons, values_given, write_reasons, with_written, statuses_given}
+use Rattle.ua_server.specs.Sessions.{endpoints_given, create_reasons, session_given, activate_reasons, with_activated, activation_given, close_reasons, close_given}
+use Rattle.ua_server.specs.State.{State, begun, with_next_session}
+
+-- the ServiceFault of this code under this RequestHandle
+abbrev pub fault_of : ℕ → ℕ → DateTime → Response
+fault_of handle code moment = ServiceFault (service_fault_of moment handle (of_code code))
+
+-- a fault where there is a reason, which leaves the state as it was; else what the service leaves and answers
+abbrev pub unless : Option ℕ → State → DateTime → RequestHeader → State × Response → State × Response
+unless None s moment asking given = given
+unless (Some code) s moment asking given = (s, fault_of asking.request_handle code moment)
+
+-- the state that a request leaves, and the response to it
+abbrev pub answer : State → DateTime → Request → State × Response
+answer s moment (GetEndpoints m) = (s, endpoints_given s moment m)
+answer s moment (CreateSession m) = unless (first_reason (create_reasons s)) s moment m.request_header (with_next_session s, session_given s moment m)
+answer s moment (ActivateSession m) = unless (first_reason (activate_reasons s m)) s moment m.request_header (with_activated s, activation_given moment m)
+answer s moment (CloseSession m) = unless (first_reason (close_reasons s m)) s moment m.request_header (begun s, close_given moment m)
+answer s moment (Read m) = unless (first_reason (read_reasons s m)) s moment m.request_header (s, values_given s moment m)
+answer s moment (Write m) = unless (first_reason (write_reasons s m)) s moment m.request_header (with_written s moment m, statuses_given s moment m)

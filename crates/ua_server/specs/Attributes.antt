@@ -1,0 +1,94 @@
+-- The answers of Read and Write (OPC 10000-4, 5.11).
+use Rattle.std.specs.Prelude.{ℕ, Bool, nat_eq, nat_lt, not, is_none, map, length, List, [], ◌∷◌, Option, Some, None}
+use Rattle.ua_builtin.specs.declared.date_time.DateTime.{DateTime}
+use Rattle.ua_nodes.specs.Read.{read_answer, stamps_numbered}
+use Rattle.ua_nodes.specs.Table.{Nodes, node_at}
+use Rattle.ua_nodes.specs.Write.{write_answers, after_write}
+use Rattle.ua_nodes.specs.declared.stamps.Stamps.{Stamps}
+use Rattle.ua_nodes.specs.declared.stamps.Stamps.TheVariants.{Neither}
+use Rattle.ua_services.specs.declared.response.Response.{Response}
+use Rattle.ua_services.specs.declared.response.Response.TheVariants.{Read, Write}
+use Rattle.ua_structures.specs.Plain.{values_of, statuses_of}
+use Rattle.ua_structures.specs.declared.attribute.ReadRequest.{ReadRequest}
+use Rattle.ua_structures.specs.declared.attribute.ReadValueId.{ReadValueId}
+use Rattle.ua_structures.specs.declared.attribute.WriteRequest.{WriteRequest}
+use Rattle.ua_structures.specs.declared.header.RequestHeader.{RequestHeader}
+use Rattle.ua_variant.specs.Data.{DataFields, DataValueData, VariantData, bare, valued}
+use Rattle.ua_variant.specs.declared.values.DataValue.{DataValue}
+use Rattle.ua_server.specs.Sessions.{good_header}
+use Rattle.ua_server.specs.State.{State, is_own, is_activated, with_nodes}
+
+-- the items of an array, none of null
+abbrev pub items_of : {A : Type 0} → Option (List A) → List A
+items_of None = []
+items_of (Some items) = items
+
+-- the most items of a request
+abbrev pub most_items : ℕ
+most_items = 1000
+
+-- the most that a MaxAge may be, as the pattern of a Double: -0, above which are negative numbers and what is no number but for a top bit that is not set
+abbrev pub most_age : ℕ
+most_age = 0x8000_0000_0000_0000
+
+-- why no item is looked at
+--   Bad_SessionIdInvalid               there is no session, or the token is not its own
+--   Bad_SessionNotActivated            it is not activated
+abbrev pub session_reasons : State → RequestHeader → List (ℕ × Bool)
+session_reasons s asking =
+    (0x8025_0000, not (is_own asking.authentication_token s.session))
+    ∷ (0x8027_0000, not (is_activated s.session))
+    ∷ []
+
+--   Bad_NothingToDo                    there are no items
+--   Bad_TooManyOperations              there are more than 1000
+abbrev pub count_reasons : ℕ → List (ℕ × Bool)
+count_reasons n = (0x800F_0000, nat_eq n 0) ∷ (0x8010_0000, nat_lt most_items n) ∷ []
+
+-- why a Read is refused, in the order in which it is judged (OPC 10000-4, 5.11.2)
+--   Bad_SessionIdInvalid, Bad_SessionNotActivated
+--   Bad_TimestampsToReturnInvalid      the number names no times
+--   Bad_MaxAgeInvalid                  the age is negative
+--   Bad_NothingToDo, Bad_TooManyOperations
+abbrev pub read_reasons : State → ReadRequest → List (ℕ × Bool)
+read_reasons s m =
+    (0x8025_0000, not (is_own m.request_header.authentication_token s.session))
+    ∷ (0x8027_0000, not (is_activated s.session))
+    ∷ (0x802B_0000, is_none (stamps_numbered m.timestamps_to_return))
+    ∷ (0x8070_0000, nat_lt most_age m.max_age.bits)
+    ∷ count_reasons (length (items_of m.nodes_to_read))
+
+-- the times that are asked for; none where the number names none
+abbrev pub stamps_or : Option Stamps → Stamps
+stamps_or None = Neither
+stamps_or (Some stamps) = stamps
+
+-- the DataValue of the code that stands for the data
+abbrev pub data_value_with : Option VariantData → DataFields → DataValue
+data_value_with v f = record { value = v; status = f.status; source_timestamp = f.source_timestamp; source_picoseconds = f.source_picoseconds; server_timestamp = f.server_timestamp; server_picoseconds = f.server_picoseconds }
+
+abbrev pub value_from : DataValueData → DataValue
+value_from (bare f) = data_value_with None f
+value_from (valued v f) = data_value_with (Some v) f
+
+-- the answers to the items, each its own function of the nodes
+abbrev pub read_answers : Nodes → List ReadValueId → Stamps → DateTime → List DataValue
+read_answers nodes items stamps moment = map (λ item. value_from (read_answer (node_at nodes item.node_id) item stamps moment)) items
+
+abbrev pub values_given : State → DateTime → ReadRequest → Response
+values_given s moment m = Read (values_of (good_header moment m.request_header) (read_answers s.nodes (items_of m.nodes_to_read) (stamps_or (stamps_numbered m.timestamps_to_return)) moment))
+
+-- why a Write is refused, in the order in which it is judged (OPC 10000-4, 5.11.4)
+--   Bad_SessionIdInvalid, Bad_SessionNotActivated, Bad_NothingToDo, Bad_TooManyOperations
+abbrev pub write_reasons : State → WriteRequest → List (ℕ × Bool)
+write_reasons s m =
+    (0x8025_0000, not (is_own m.request_header.authentication_token s.session))
+    ∷ (0x8027_0000, not (is_activated s.session))
+    ∷ count_reasons (length (items_of m.nodes_to_write))
+
+-- the state with what the items of a Write leave of its nodes
+abbrev pub with_written : State → DateTime → WriteRequest → State
+with_written s moment m = with_nodes s (after_write (items_of m.nodes_to_write) moment s.nodes)
+
+abbrev pub statuses_given : State → DateTime → WriteRequest → Response
+statuses_given s moment m = Write (statuses_of (good_header moment m.request_header) (write_answers s.nodes (items_of m.nodes_to_write)))

@@ -1,0 +1,5 @@
+pub mod Endpoint
+pub mod State
+pub mod Sessions
+pub mod Attributes
+pub mod Answer

@@ -1,0 +1,65 @@
+-- The state of a server: its nodes, what it says of itself, how many sessions it made, and at most one session (OPC 10000-4, 5.7).
+use Rattle.std.specs.Prelude.{ℕ, ◌+◌, Bool, true, false, IsTrue, Option, Some, None}
+use Rattle.ua_builtin.specs.NodeId.{node}
+use Rattle.ua_builtin.specs.declared.node_id.NodeId.{NodeId}
+use Rattle.ua_builtin.specs.declared.node_id.Identifier.TheVariants.{Numeric}
+use Rattle.ua_nodes.specs.Sound.{IsSound}
+use Rattle.ua_nodes.specs.Table.{Nodes, same_id}
+use Rattle.ua_server.specs.Endpoint.{Fits}
+use Rattle.ua_server.specs.declared.endpoint.Endpoint.{Endpoint}
+use Rattle.ua_server.specs.declared.session.Session.{Session}
+
+-- the nodes as a finite map, the endpoint, the number of sessions made, and the session, if there is one
+pub record State : Type 0 where
+  pub nodes : Nodes
+  pub endpoint : Endpoint
+  pub made : ℕ
+  pub session : Option Session
+
+-- the state before any session
+abbrev pub fresh : Nodes → Endpoint → State
+fresh nodes endpoint = record { nodes = nodes; endpoint = endpoint; made = 0; session = None }
+
+-- the state as a connection begins: without a session
+abbrev pub begun : State → State
+begun s = record { nodes = s.nodes; endpoint = s.endpoint; made = s.made; session = None }
+
+-- the state with this session
+abbrev pub with_session : State → Session → State
+with_session s session = record { nodes = s.nodes; endpoint = s.endpoint; made = s.made; session = Some session }
+
+-- the state with a session more, that is not activated yet
+abbrev pub with_next_session : State → State
+with_next_session s = record { nodes = s.nodes; endpoint = s.endpoint; made = s.made + 1; session = Some (record { number = s.made + 1; activated = false }) }
+
+-- the state with these nodes
+abbrev pub with_nodes : State → Nodes → State
+with_nodes s nodes = record { nodes = nodes; endpoint = s.endpoint; made = s.made; session = s.session }
+
+-- the SessionId of the nth session: ns=1;i=n
+abbrev pub session_id : ℕ → NodeId
+session_id n = node 1 (Numeric n)
+
+-- the AuthenticationToken of the nth session, which is no secret: ns=2;i=n
+abbrev pub session_token : ℕ → NodeId
+session_token n = node 2 (Numeric n)
+
+-- there is a session, and this is its token
+abbrev pub is_own : NodeId → Option Session → Bool
+is_own token None = false
+is_own token (Some session) = same_id token (session_token session.number)
+
+-- there is a session, and it is activated
+abbrev pub is_activated : Option Session → Bool
+is_activated None = false
+is_activated (Some session) = session.activated
+
+-- the session, activated, if there is one
+abbrev pub activated : Option Session → Option Session
+activated None = None
+activated (Some session) = Some (record { number = session.number; activated = true })
+
+-- whatever the state answers can be written: its nodes are sound, and the texts of its endpoint fit
+pub record IsSoundState (s : State) : Type 0 where
+  pub nodes : IsSound s.nodes
+  pub endpoint : Fits s.endpoint

@@ -1,0 +1,201 @@
+//! The services Read and Write.
+
+ghost use Rattle.std.specs.Prelude.{◌≡◌, ◌≤◌, IsTrue, IfOk, OnErr, None, option_map, length};
+ghost use Rattle.std.specs.List.{list_all};
+ghost use Rattle.ua_builtin.specs.Reasons.{first_reason};
+ghost use Rattle.ua_services.specs.Response.{response};
+ghost use Rattle.ua_builtin.specs.Status.{status_code};
+ghost use Rattle.ua_nodes.specs.Read.{read_answer};
+ghost use Rattle.ua_nodes.specs.Table.{node_at};
+ghost use Rattle.ua_nodes.specs.Write.{write_answers, after_write};
+ghost use Rattle.ua_structures.specs.declared.attribute.WriteRequest.{WriteRequest};
+ghost use Rattle.ua_variant.specs.Formats.{data_value_format};
+ghost use Rattle.ua_server.specs.State.{with_nodes};
+ghost use Rattle.ua_server.specs.Answer.{unless};
+ghost use Rattle.ua_server.specs.Attributes.{items_of, most_items, value_from, session_reasons, count_reasons, read_reasons, read_answers, values_given, write_reasons, with_written, statuses_given};
+
+use crate::services::Services;
+use crate::sessions::good_header;
+use std::alloc::{AllocError, Global};
+use ua_builtin::{DateTime, StatusCode};
+use ua_nodes::Stamps;
+use ua_services::{
+    ReadRequest, ReadResponse, ReadValueId, RequestHeader, Response, UaArray, WriteRequest,
+    WriteResponse, WriteValue,
+};
+use ua_variant::DataValue;
+
+/// The most items of a request.
+const MOST_ITEMS: usize = 1000;
+
+/// The greatest MaxAge, as the pattern of a Double: that of -0.
+const MOST_AGE: u64 = 0x8000_0000_0000_0000;
+
+/// Why so many items are not looked at.
+fn count_refusal(items: usize) -> Option<StatusCode>
+    ensures refusal { option_map (λ s. s.code) result ≡ first_reason (count_reasons items) }
+    ensures few { result ≡ None → items ≤ most_items }
+{
+    if items == 0 {
+        return Some(StatusCode::BAD_NOTHING_TO_DO);
+    }
+    if items > MOST_ITEMS {
+        return Some(StatusCode::BAD_TOO_MANY_OPERATIONS);
+    }
+    None
+}
+
+impl Services {
+    /// Why the items of a request are not looked at: for its session.
+    fn session_refusal(&self, asking: &RequestHeader) -> Option<StatusCode>
+        ensures { option_map (λ s. s.code) result ≡ first_reason (session_reasons self.now asking.now) }
+    {
+        if !self.is_own(&asking.authentication_token) {
+            return Some(StatusCode::BAD_SESSION_ID_INVALID);
+        }
+        if !self.is_activated() {
+            return Some(StatusCode::BAD_SESSION_NOT_ACTIVATED);
+        }
+        None
+    }
+
+    /// Why a Read is refused.
+    fn read_refusal(&self, request: &ReadRequest) -> Option<StatusCode>
+        ensures refusal { option_map (λ s. s.code) result ≡ first_reason (read_reasons self.now request.now) }
+        ensures few { result ≡ None → length (items_of request.now.nodes_to_read) ≤ most_items }
+    {
+        if let Some(code) = self.session_refusal(&request.request_header) {
+            return Some(code);
+        }
+        if Stamps::of_number(request.timestamps_to_return).is_none() {
+            return Some(StatusCode::BAD_TIMESTAMPS_TO_RETURN_INVALID);
+        }
+        if request.max_age.bits > MOST_AGE {
+            return Some(StatusCode::BAD_MAX_AGE_INVALID);
+        }
+        count_refusal(request.nodes_to_read.as_items().unwrap_or(&[]).len())
+    }
+
+    /// The answer to an item.
+    #[tactic(auto, using(crate::proofs::Answered::value_is), unfolding(ua_variant::specs::Formats::data_value_format))]
+    fn read_item(
+        &self,
+        alloc: Global,
+        item: &ReadValueId,
+        stamps: Stamps,
+        moment: DateTime,
+    ) -> Result<DataValue, AllocError>
+        ensures value { IfOk result (λ d. d ≡ value_from (read_answer (node_at self.now.nodes item.now.node_id) item.now stamps moment)) }
+        ensures encodable { IfOk result (λ d. IsTrue (data_value_format.encodable d)) }
+    {
+        self.nodes.read_item(alloc, item, stamps, moment)
+    }
+
+    /// The answers to items, one by one.
+    fn read_items(
+        &self,
+        alloc: Global,
+        items: &[ReadValueId],
+        stamps: Stamps,
+        moment: DateTime,
+    ) -> Result<Vec<DataValue>, AllocError>
+        ensures values { IfOk result (λ v. v.items ≡ read_answers self.now.nodes items.now stamps moment) }
+        ensures count { IfOk result (λ v. length v.items ≡ length items.now) }
+        ensures encodable { IfOk result (λ v. IsTrue (list_all data_value_format.encodable v.items)) }
+    {
+        let mut results = Vec::with_capacity(alloc, items.len())?;
+        for item in items {
+            results.push(self.read_item(alloc, item, stamps, moment)?)?;
+        }
+        Ok(results)
+    }
+
+    /// Read (OPC 10000-4, 5.11.2).
+    #[tactic(auto, using(crate::proofs::Answered::values_fit))]
+    pub(crate) fn read(
+        &self,
+        alloc: Global,
+        request: &ReadRequest,
+        moment: DateTime,
+    ) -> Result<Response, AllocError>
+        ensures response { IfOk result (λ r. r ≡ (unless (first_reason (read_reasons self.now request.now)) self.now moment request.now.request_header (self.now, values_given self.now moment request.now)).1) }
+        ensures encodable { IfOk result (λ r. IsTrue (response.encodable r)) }
+    {
+        let handle = request.request_header.request_handle;
+        if let Some(code) = self.read_refusal(request) {
+            return Ok(self.fault(handle, code, moment));
+        }
+        let stamps = Stamps::of_number(request.timestamps_to_return).unwrap_or(Stamps::Neither);
+        let items = request.nodes_to_read.as_items().unwrap_or(&[]);
+        let results = self.read_items(alloc, items, stamps, moment)?;
+        Ok(Response::Read(ReadResponse::of_results(good_header(moment, handle), results)))
+    }
+
+    /// Why a Write is refused: for its session, or for how many items it has.
+    fn write_refusal(
+        &self,
+        asking: &RequestHeader,
+        items: &UaArray<WriteValue>,
+    ) -> Option<StatusCode>
+        ensures refusal { (m : WriteRequest) → m.request_header ≡ asking.now → m.nodes_to_write ≡ items.now
+            → option_map (λ s. s.code) result ≡ first_reason (write_reasons self.now m) }
+        ensures few { result ≡ None → length (items_of items.now) ≤ most_items }
+    {
+        if let Some(code) = self.session_refusal(asking) {
+            return Some(code);
+        }
+        count_refusal(items.as_items().unwrap_or(&[]).len())
+    }
+
+    /// Writes items in order, and answers each. All memory is asked for first.
+    #[tactic(auto, using(crate::proofs::Statuses::answers_fit, crate::proofs::Statuses::answers_count))]
+    fn write_items(
+        &mut self,
+        alloc: Global,
+        items: UaArray<WriteValue>,
+        moment: DateTime,
+    ) -> Result<Vec<StatusCode>, AllocError>
+        ensures answers { IfOk result (λ v. v.items ≡ write_answers self.old.nodes (items_of items)) }
+        ensures state { IfOk result (λ v. self.new ≡ with_nodes self.old (after_write (items_of items) moment self.old.nodes)) }
+        ensures kept { OnErr result (self.new ≡ self.old) }
+        ensures count { IfOk result (λ v. length v.items ≡ length (items_of items)) }
+        ensures encodable { IfOk result (λ v. IsTrue (list_all status_code.encodable v.items)) }
+    {
+        let items = match items.into_items() {
+            Some(items) => items,
+            None => Vec::new(alloc),
+        };
+        let mut statuses = Vec::with_capacity(alloc, items.len())?;
+        self.nodes.write_items(items, moment, &mut statuses);
+        Ok(statuses)
+    }
+
+    /// Write (OPC 10000-4, 5.11.4).
+    #[tactic(auto, using(crate::proofs::Answered::statuses_fit))]
+    pub(crate) fn write(
+        &mut self,
+        alloc: Global,
+        request: WriteRequest,
+        moment: DateTime,
+    ) -> Result<Response, AllocError>
+        ensures response { IfOk result (λ r. r ≡ (unless (first_reason (write_reasons self.old request)) self.old moment request.request_header (with_written self.old moment request, statuses_given self.old moment request)).1) }
+        ensures state { IfOk result (λ r. self.new ≡ (unless (first_reason (write_reasons self.old request)) self.old moment request.request_header (with_written self.old moment request, statuses_given self.old moment request)).0) }
+        ensures kept { OnErr result (self.new ≡ self.old) }
+        ensures encodable { IfOk result (λ r. IsTrue (response.encodable r)) }
+    {
+        let WriteRequest {
+            request_header,
+            nodes_to_write,
+        } = request;
+        let handle = request_header.request_handle;
+        let refusal = self.write_refusal(&request_header, &nodes_to_write);
+        drop(request_header);
+        if let Some(code) = refusal {
+            drop(nodes_to_write);
+            return Ok(self.fault(handle, code, moment));
+        }
+        let statuses = self.write_items(alloc, nodes_to_write, moment)?;
+        let header = good_header(moment, handle);
+        Ok(Response::Write(WriteResponse::of_results(header, statuses)))
+    }
+}

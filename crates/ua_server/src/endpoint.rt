@@ -1,0 +1,121 @@
+//! What a server says of itself.
+
+ghost use Rattle.std.specs.Prelude.{◌≡◌, ◌∷◌, [], Some, IfOk};
+ghost use Rattle.std.specs.List.{list_any};
+ghost use Rattle.ua_server.specs.Sessions.{endpoints_for};
+ghost use Rattle.ua_server.specs.Endpoint.{anonymous, description_of, is_served, are_served};
+
+use std::alloc::{AllocError, Global};
+use ua_builtin::{UaBytes, UaString};
+use ua_structures::{ApplicationDescription, EndpointDescription, UaArray, UserTokenPolicy};
+
+/// The SecurityPolicy None (OPC 10000-7, 6.2).
+const NONE_POLICY: &str = "http://opcfoundation.org/UA/SecurityPolicy#None";
+
+/// UA TCP with secure conversation and binary encoding (OPC 10000-7, 6.6).
+const TRANSPORT_PROFILE: &str = "http://opcfoundation.org/UA-Profile/Transport/uatcp-uasc-uabinary";
+
+/// What a server says of itself. Its texts have to be ones that can be written.
+#[derive(Drop)]
+pub struct Endpoint {
+    /// Where the server is found.
+    pub url: UaString,
+    pub application_uri: UaString,
+    /// The name of the application, without a locale.
+    pub name: UaString,
+    /// The most octets of a request; 0 is no limit.
+    pub message_limit: u32,
+}
+
+impl Endpoint {
+    /// The one endpoint, which has no security (OPC 10000-4, 7.14).
+    fn description(&self, alloc: Global) -> Result<EndpointDescription, AllocError>
+        ensures { IfOk result (λ e. e ≡ description_of self.now) }
+    {
+        let server = self.application(alloc)?;
+        let user_identity_tokens = policies(alloc)?;
+        Ok(EndpointDescription {
+            endpoint_url: self.url.try_clone()?,
+            server,
+            server_certificate: UaBytes::null(),
+            security_mode: 1,
+            security_policy_uri: UaString::from_str(alloc, NONE_POLICY)?,
+            user_identity_tokens,
+            transport_profile_uri: UaString::from_str(alloc, TRANSPORT_PROFILE)?,
+            security_level: 0,
+        })
+    }
+
+    /// The one endpoint, or none where it is not asked for.
+    pub(crate) fn endpoints(
+        &self,
+        alloc: Global,
+        asked: bool,
+    ) -> Result<Vec<EndpointDescription>, AllocError>
+        ensures { IfOk result (λ v. v.items ≡ endpoints_for asked (description_of self.now)) }
+    {
+        let mut endpoints = Vec::new(alloc);
+        if !asked {
+            return Ok(endpoints);
+        }
+        endpoints.push(self.description(alloc)?)?;
+        Ok(endpoints)
+    }
+
+    fn application(&self, alloc: Global) -> Result<ApplicationDescription, AllocError>
+        ensures { IfOk result (λ a. a ≡ (description_of self.now).server) }
+    {
+        let mut urls = Vec::new(alloc);
+        urls.push(self.url.try_clone()?)?;
+        Ok(ApplicationDescription::server(
+            self.application_uri.try_clone()?,
+            self.name.try_clone()?,
+            UaArray::new(Some(urls)),
+        ))
+    }
+}
+
+/// The one way to say who one is.
+fn policies(alloc: Global) -> Result<UaArray<UserTokenPolicy>, AllocError>
+    ensures { IfOk result (λ p. p ≡ Some (anonymous ∷ [])) }
+{
+    let mut policies = Vec::new(alloc);
+    policies.push(UserTokenPolicy {
+        policy_id: UaString::from_str(alloc, "anonymous")?,
+        token_type: 0,
+        issued_token_type: UaString::null(),
+        issuer_endpoint_url: UaString::null(),
+        security_policy_uri: UaString::null(),
+    })?;
+    Ok(UaArray::new(Some(policies)))
+}
+
+/// Whether profiles ask for the endpoint: there are none, or one of them is its own.
+pub(crate) fn serves(profiles: &UaArray<UaString>) -> bool
+    ensures { result ≡ are_served profiles.now }
+{
+    match profiles.as_items() {
+        None => true,
+        Some(profiles) => profiles.is_empty() || has_own(profiles),
+    }
+}
+
+fn has_own(profiles: &[UaString]) -> bool
+    ensures { result ≡ list_any is_served profiles.now }
+{
+    for profile in profiles {
+        if is_own(profile) {
+            return true;
+        }
+    }
+    false
+}
+
+fn is_own(profile: &UaString) -> bool
+    ensures { result ≡ is_served profile.now }
+{
+    match profile.as_str() {
+        Some(profile) => profile == TRANSPORT_PROFILE,
+        None => false,
+    }
+}

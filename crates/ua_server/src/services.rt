@@ -1,0 +1,125 @@
+//! The services of a server.
+
+ghost use Rattle.std.specs.Prelude.{◌≡◌, ◌≢◌, IsTrue, IfOk, OnErr};
+ghost use Rattle.ua_nodes.specs.Sound.{IsSound};
+ghost use Rattle.ua_services.specs.Request.{kind_of};
+ghost use Rattle.ua_services.specs.Response.{response};
+ghost use Rattle.ua_services.specs.declared.request.RequestKind.TheVariants.{Write};
+ghost use Rattle.ua_server.specs.Answer.{fault_of, answer};
+ghost use Rattle.ua_server.specs.Endpoint.{Fits};
+ghost use Rattle.ua_server.specs.State.{fresh, begun};
+
+use crate::endpoint::Endpoint;
+use crate::session::Session;
+use std::alloc::{AllocError, Global};
+use std::marker::Model;
+use ua_builtin::{DateTime, StatusCode};
+use ua_nodes::NodeTable;
+use ua_services::{Request, Response, ServiceFault};
+
+/// The state of a server, and what it answers: its nodes, what it says of itself, how many sessions
+/// it made, and at most one session.
+#[derive(Drop)]
+pub struct Services {
+    pub(crate) nodes: NodeTable,
+    pub(crate) endpoint: Endpoint,
+    /// How many sessions were made.
+    pub(crate) made: u32,
+    pub(crate) session: Option<Session>,
+}
+
+impl Model for Services {
+    ghost use Rattle.std.specs.Coded.{codes};
+    ghost use Rattle.ua_nodes.specs.Sound.{IsSound};
+    ghost use Rattle.ua_nodes.specs.contracts.node.NodeValue as value;
+    ghost use Rattle.ua_server.specs.Endpoint.{Fits};
+    ghost use Rattle.ua_server.specs.State.{State};
+
+    ghost Value = { State };
+
+    ghost coded = { Prim.hlevel (codes, value.the_row.coded) };
+
+    ghost view = { λ s. record { nodes = s.nodes; endpoint = s.endpoint; made = s.made; session = s.session } };
+
+    ghost invariant = { λ s. IsSound s.nodes × Fits s.endpoint };
+}
+
+impl Services {
+    /// The services over these nodes, under this endpoint, before any session. Takes no memory.
+    pub fn new(nodes: NodeTable, endpoint: Endpoint) -> Services
+        requires sound { IsSound nodes }
+        requires fits { Fits endpoint }
+        ensures { result ≡ fresh nodes endpoint }
+    {
+        Services {
+            nodes,
+            endpoint,
+            made: 0,
+            session: None,
+        }
+    }
+
+    /// A connection begins: ends the session, if there is one. Takes no memory.
+    pub fn begin(&mut self)
+        ensures { self.new ≡ begun self.old }
+    {
+        self.session = None;
+    }
+
+    /// The ServiceFault of this code, to the request with this RequestHandle, at a moment
+    /// (OPC 10000-4, 7.35). Takes no memory.
+    #[tactic(auto, using(crate::proofs::Answered::fault_fits))]
+    pub fn fault(&self, request_handle: u32, code: StatusCode, moment: DateTime) -> Response
+        ensures value { result ≡ fault_of request_handle code.code moment }
+        ensures encodable { IsTrue (response.encodable result) }
+    {
+        Response::ServiceFault(ServiceFault::new(moment, request_handle, code))
+    }
+
+    /// The response to a request at a moment. All memory is asked for before anything changes, so
+    /// that a refusal leaves everything as it was.
+    pub fn answer(
+        &mut self,
+        alloc: Global,
+        request: Request,
+        moment: DateTime,
+    ) -> Result<Response, AllocError>
+        ensures response { IfOk result (λ r. r ≡ (answer self.old moment request).1) }
+        ensures state { IfOk result (λ r. self.new ≡ (answer self.old moment request).0) }
+        ensures kept { OnErr result (self.new ≡ self.old) }
+        ensures encodable { IfOk result (λ r. IsTrue (response.encodable r)) }
+    {
+        match request {
+            Request::Write(message) => self.write(alloc, message, moment),
+            other => {
+                let response = self.respond(alloc, &other, moment);
+                drop(other);
+                response
+            }
+        }
+    }
+
+    /// The response to a request that keeps its values.
+    #[tactic(auto, using(crate::proofs::Answered::kept_by))]
+    fn respond(
+        &mut self,
+        alloc: Global,
+        request: &Request,
+        moment: DateTime,
+    ) -> Result<Response, AllocError>
+        requires { kind_of request.now ≢ Write }
+        ensures response { IfOk result (λ r. r ≡ (answer self.old moment request.now).1) }
+        ensures state { IfOk result (λ r. self.new ≡ (answer self.old moment request.now).0) }
+        ensures kept { OnErr result (self.new ≡ self.old) }
+        ensures encodable { IfOk result (λ r. IsTrue (response.encodable r)) }
+    {
+        match request {
+            Request::GetEndpoints(message) => self.get_endpoints(alloc, message, moment),
+            Request::CreateSession(message) => self.create_session(alloc, message, moment),
+            Request::ActivateSession(message) => self.activate_session(alloc, message, moment),
+            Request::CloseSession(message) => Ok(self.close_session(message, moment)),
+            Request::Read(message) => self.read(alloc, message, moment),
+            Request::Write(_) => unreachable!(),
+        }
+    }
+}

@@ -1,0 +1,35 @@
+//! A session.
+
+ghost use Rattle.std.specs.Prelude.{◌≡◌};
+ghost use Rattle.ua_server.specs.State.{session_id, session_token};
+
+use ua_builtin::{Identifier, NodeId};
+
+/// A session, by its number; the first has the number 1.
+#[derive(Clone, Copy)]
+pub struct Session {
+    pub number: u32,
+    pub activated: bool,
+}
+
+/// The namespace of SessionIds.
+const SESSION_IDS: u16 = 1;
+
+/// The namespace of AuthenticationTokens.
+const TOKENS: u16 = 2;
+
+impl Session {
+    /// The SessionId.
+    pub fn id(self) -> NodeId
+        ensures { result ≡ session_id self.number }
+    {
+        NodeId::new(SESSION_IDS, Identifier::Numeric(self.number))
+    }
+
+    /// The AuthenticationToken, which is no secret.
+    pub fn token(self) -> NodeId
+        ensures { result ≡ session_token self.number }
+    {
+        NodeId::new(TOKENS, Identifier::Numeric(self.number))
+    }
+}

@@ -1,0 +1,42 @@
+//! Faults, and the beginning of a connection.
+
+use crate::fixture::{
+    ACTIVATE, ACTIVATED, BOTH, CREATE, MOMENT, NOW, PUMP, TOKEN, body_of, converse, fault, octets,
+    read, services, session,
+};
+use ua_builtin::StatusCode;
+
+#[test]
+fn a_fault_says_its_code_under_the_handle(rt: HostRuntime) {
+    let alloc = rt.alloc();
+    let services = services(&rt, alloc);
+    let fault = services.fault(9, StatusCode::BAD_SERVICE_UNSUPPORTED, MOMENT);
+    let want = octets(
+        &rt,
+        alloc,
+        &["01 00 8D 01 00 80 3E D5 DE B1 9D 01 09 00 00 00 00 00 0B 80 00 FF FF FF FF 00 00 00"],
+    );
+    assert_eq!(&rt; body_of(&rt, alloc, fault), want);
+}
+
+#[test]
+fn a_connection_begins_without_a_session(rt: HostRuntime) {
+    let alloc = rt.alloc();
+    let mut services = services(&rt, alloc);
+    let opening: &[(&[&str], &[&str])] = &[
+        (CREATE, &session("01 01 01 00", "01 02 01 00")),
+        (ACTIVATE, ACTIVATED),
+    ];
+    converse(&rt, alloc, &mut services, opening);
+    services.begin();
+    converse(
+        &rt,
+        alloc,
+        &mut services,
+        &[
+            (&read(TOKEN, NOW, BOTH, PUMP), &fault("00 00 25 80")),
+            (CREATE, &session("01 01 02 00", "01 02 02 00")),
+            (&read(TOKEN, NOW, BOTH, PUMP), &fault("00 00 25 80")),
+        ],
+    );
+}
