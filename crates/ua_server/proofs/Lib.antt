@@ -2,3 +2,4 @@ mod EndpointFits
 mod Answered
 mod Identities
 mod Statuses
+mod Replies

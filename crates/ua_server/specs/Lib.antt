@@ -3,3 +3,4 @@ pub mod State
 pub mod Sessions
 pub mod Attributes
 pub mod Answer
+pub mod Reply

@@ -21,6 +21,7 @@
 
 mod attributes;
 mod endpoint;
+mod reply;
 mod services;
 mod session;
 mod sessions;

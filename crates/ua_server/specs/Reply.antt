@@ -1,0 +1,25 @@
+-- The reply to a message, whatever its body is (OPC 10000-4, 7.35; OPC 10000-6, 6.7.2).
+use Rattle.std.specs.Prelude.{ℕ, List, Result, Ok, Err}
+use Rattle.ua_builtin.specs.declared.date_time.DateTime.{DateTime}
+use Rattle.ua_services.specs.Request.{request_read}
+use Rattle.ua_services.specs.declared.fault.RequestFault.{RequestFault}
+use Rattle.ua_services.specs.declared.fault.RequestFault.TheVariants.{Unsupported, Unreadable, OutOfMemory}
+use Rattle.ua_services.specs.declared.request.Request.{Request}
+use Rattle.ua_services.specs.declared.response.Response.{Response}
+use Rattle.ua_server.specs.Answer.{fault_of, answer}
+use Rattle.ua_server.specs.State.{State}
+
+-- the fault that answers octets that are no request, under their RequestHandle: Bad_ServiceUnsupported where their NodeId announces none, else Bad_DecodingError; octets are never want of memory
+abbrev pub misread_answer : RequestFault → DateTime → Response
+misread_answer (Unsupported handle) moment = fault_of handle 0x800B_0000 moment
+misread_answer (Unreadable handle) moment = fault_of handle 0x8007_0000 moment
+misread_answer OutOfMemory moment = fault_of 0 0x8007_0000 moment
+
+-- the state that is left, and the response, by the request that octets are, or the fault that says why they are none
+abbrev pub answered_by : Result Request RequestFault → State → DateTime → State × Response
+answered_by (Ok m) s moment = answer s moment m
+answered_by (Err fault) s moment = (s, misread_answer fault moment)
+
+-- the state that a message leaves, and the response to it
+abbrev pub answered : State → DateTime → List ℕ → State × Response
+answered s moment octets = answered_by (request_read octets) s moment
