@@ -7,4 +7,6 @@
 #[cfg(test)]
 mod client;
 #[cfg(test)]
+mod line;
+#[cfg(test)]
 mod server;
