@@ -3,3 +3,5 @@ mod Answered
 mod Identities
 mod Statuses
 mod Replies
+mod SaidInParts
+mod Lanes

@@ -4,3 +4,4 @@ pub mod Sessions
 pub mod Attributes
 pub mod Answer
 pub mod Reply
+pub mod Said

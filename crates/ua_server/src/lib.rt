@@ -21,6 +21,7 @@
 
 mod attributes;
 mod endpoint;
+pub mod laws;
 mod reply;
 mod services;
 mod session;

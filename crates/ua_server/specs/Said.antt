@@ -1,0 +1,127 @@
+-- What a server says of what it is told, and the state that it leaves.
+use Rattle.std.specs.Prelude.{ℕ, ◌+◌, pos, Bool, true, false, List, [], ◌∷◌, ◌++◌, Option, Some, None}
+use Rattle.ua_builtin.specs.Status.{of_code}
+use Rattle.ua_builtin.specs.declared.date_time.DateTime.{DateTime}
+use Rattle.ua_chunk.specs.declared.lane.Lane.{Lane}
+use Rattle.ua_chunk.specs.Sequence.{next_number}
+use Rattle.ua_frame.specs.Frames.{frame_octets}
+use Rattle.ua_frame.specs.Messages.{ack_frame, err_frame}
+use Rattle.ua_frame.specs.Run.{End, Going, Stopped, Over}
+use Rattle.ua_channel.specs.Agreement.{Agreement, lane_of}
+use Rattle.ua_channel.specs.ServerSends.{opened_frame, replied}
+use Rattle.ua_channel.specs.ServerTold.{Told, Agreed, Opened, Asked, GaveUp, Closed}
+use Rattle.ua_services.specs.Response.{response}
+use Rattle.ua_services.specs.declared.response.Response.{Response}
+use Rattle.ua_server.specs.Reply.{answered}
+use Rattle.ua_server.specs.State.{State}
+
+-- ---- what is said
+
+-- how far a server is: its state, the number of the chunk that it sends next, the moments that are not used yet, and what was agreed to
+pub record Course : Type 0 where
+  pub state : State
+  pub number : ℕ
+  pub moments : List DateTime
+  pub agreement : Option Agreement
+
+-- the first of the moments, 0 where there is none
+abbrev pub first_of : List DateTime → DateTime
+first_of [] = record { ticks = pos 0 }
+first_of (moment ∷ moments) = moment
+
+-- the moments behind the first
+abbrev pub behind_first : List DateTime → List DateTime
+behind_first [] = []
+behind_first (moment ∷ moments) = moments
+
+-- as a connection begins
+abbrev pub start : State → List DateTime → Course
+start s moments = record { state = s; number = 1; moments = moments; agreement = None }
+
+-- where a reply under this token goes, once there is an agreement
+abbrev pub lane_at : ℕ → ℕ → Option Agreement → Option Lane
+lane_at channel token None = None
+lane_at channel token (Some agreement) = Some (lane_of channel token agreement)
+
+-- the octets of a reply, and the number behind them; none where nothing was agreed to
+abbrev pub replied_at : Option Lane → List ℕ → ℕ → ℕ → List ℕ × ℕ
+replied_at None body number id = ([], number)
+replied_at (Some lane) body number id = replied lane body number id
+
+-- the course behind a reply
+abbrev pub replying : Course → State → ℕ → Course
+replying c s number = record { state = s; number = number; moments = behind_first c.moments; agreement = c.agreement }
+
+-- a reply with this response under this request id: its octets, and the course behind it
+abbrev pub reply_with : ℕ → ℕ → ℕ → Course → State × Response → List ℕ × Course
+reply_with channel token id c given =
+    let out = replied_at (lane_at channel token c.agreement) (response.canonical given.1) c.number id in
+    (out.0, replying c given.0 out.1)
+
+-- the course with these moments more
+abbrev pub with_more : Course → List DateTime → Course
+with_more c more = record { state = c.state; number = c.number; moments = c.moments ++ more; agreement = c.agreement }
+
+-- what is said of one thing, and the course behind it: the ACK, the OPN response, the reply to a whole message; nothing of the rest
+abbrev pub say : ℕ → Course → Told → List ℕ × Course
+say channel c (Agreed agreement) = (frame_octets (ack_frame agreement.ack), record { state = c.state; number = c.number; moments = c.moments; agreement = Some agreement })
+say channel c (Opened id handle token lifetime) =
+    (frame_octets (opened_frame channel c.number id handle token lifetime (first_of c.moments)), record { state = c.state; number = next_number c.number; moments = behind_first c.moments; agreement = c.agreement })
+say channel c (Asked id token octets) = reply_with channel token id c (answered c.state (first_of c.moments) octets)
+say channel c (GaveUp id) = ([], c)
+say channel c Closed = ([], c)
+
+-- what is said of what is told, in order
+abbrev pub said_of : ℕ → Course → List Told → List ℕ
+said_of channel c [] = []
+said_of channel c (t ∷ told) = (say channel c t).0 ++ said_of channel (say channel c t).1 told
+
+-- the course behind what is told
+abbrev pub left_by : ℕ → Course → List Told → Course
+left_by channel c [] = c
+left_by channel c (t ∷ told) = left_by channel (say channel c t).1 told
+
+-- the ERR frame where the stream is refused
+abbrev pub last_words : End ℕ → List ℕ
+last_words Going = []
+last_words Over = []
+last_words (Stopped code) = frame_octets (err_frame (of_code code))
+
+-- what a server in this state says of what it is told by frames that end so, at these moments
+unfoldable pub said : ℕ → State → List Told → End ℕ → List DateTime → List ℕ
+said channel s told end moments = said_of channel (start s moments) told ++ last_words end
+
+-- how far it is then, and the state that it is left in
+unfoldable pub left : ℕ → State → List Told → List DateTime → Course
+left channel s told moments = left_by channel (start s moments) told
+
+-- what was agreed to last, behind what is told
+abbrev pub agreed_by : Option Agreement → List Told → Option Agreement
+agreed_by a [] = a
+agreed_by a (Agreed agreement ∷ told) = agreed_by (Some agreement) told
+agreed_by a (Opened id handle token lifetime ∷ told) = agreed_by a told
+agreed_by a (Asked id token octets ∷ told) = agreed_by a told
+agreed_by a (GaveUp id ∷ told) = agreed_by a told
+agreed_by a (Closed ∷ told) = agreed_by a told
+
+-- ---- moments
+
+-- how many moments this uses: an OPN response and a reply use one each
+abbrev pub uses : Told → ℕ
+uses (Agreed agreement) = 0
+uses (Opened id handle token lifetime) = 1
+uses (Asked id token octets) = 1
+uses (GaveUp id) = 0
+uses Closed = 0
+
+abbrev pub used_in : List Told → ℕ
+used_in [] = 0
+used_in (t ∷ told) = uses t + used_in told
+
+-- there is an answer to this: the ACK, an OPN response or a reply
+abbrev pub is_answered : Told → Bool
+is_answered (Agreed agreement) = true
+is_answered (Opened id handle token lifetime) = true
+is_answered (Asked id token octets) = true
+is_answered (GaveUp id) = false
+is_answered Closed = false
