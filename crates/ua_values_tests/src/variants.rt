@@ -3,7 +3,7 @@
 use crate::checks::{assert_written, is_refused, nested, value_of};
 use std::alloc::Global;
 use std::process::Abort;
-use ua_variant::{BoxedVariant, DataValue, Dimensions, Scalar, Scalars, Variant};
+use ua_variant::{BoxedVariant, DataValue, Dimensions, Elements, Scalar, Scalars, Variant};
 
 /// The depth and count of what octets encode, and what is written for a clone of it.
 pub fn reads(rt: &impl Abort, alloc: Global, octets: &[u8], size: (u32, u64), written: &[u8]) {
@@ -199,5 +199,9 @@ fn takes_a_value_apart(rt: HostRuntime) {
         panic!(rt; "no array");
     };
     let items = items.expect(&rt, "elements");
-    assert_eq!(rt; items.into_vec().len(), 2);
+    assert_eq!(rt; items.len(), 2);
+    let Elements::Mixed(scalars) = items.into_elements() else {
+        panic!(rt; "elements of one type");
+    };
+    assert_eq!(rt; scalars.len(), 2);
 }
