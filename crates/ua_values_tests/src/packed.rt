@@ -1,0 +1,122 @@
+//! Arrays that are held in a vector of their own type.
+
+use crate::checks::{assert_written, is_refused, value_of};
+use std::alloc::Global;
+use std::process::Abort;
+use ua_builtin::{DateTime, FloatBits, StatusCode};
+use ua_variant::{Dimensions, Pack, Scalar, Scalars, Variant};
+
+/// The elements of the array that the octets encode.
+fn array_in(rt: &impl Abort, alloc: Global, octets: &[u8]) -> Scalars {
+    let Variant::Many { items, .. } = value_of::<Variant>(rt, alloc, octets) else {
+        panic!(rt; "no array");
+    };
+    items.expect(rt, "elements")
+}
+
+/// That octets are read as an array of these elements, which is written as these octets again.
+fn reads_items<T: Pack + PartialEq>(
+    rt: &impl Abort,
+    alloc: Global,
+    kind: u8,
+    octets: &[u8],
+    items: &[T],
+    written: &[u8],
+) {
+    let array = array_in(rt, alloc, octets);
+    let held = array.as_items::<T>().expect(rt, "one type");
+    assert!(rt; held == items);
+    let made = Variant::Many {
+        kind,
+        items: Some(Scalars::from_items(Vec::from_slice(alloc, items).expect(rt, "memory"))),
+        dims: Dimensions::none(alloc),
+    };
+    assert_written(rt, alloc, &made, written);
+}
+
+#[test]
+fn holds_elements_of_one_type_in_a_vector_of_it(rt: HostRuntime) {
+    let alloc = rt.alloc();
+    let flags = [0x81, 3, 0, 0, 0, 2, 0, 1];
+    let written = [0x81, 3, 0, 0, 0, 1, 0, 1];
+    reads_items::<bool>(&rt, alloc, 1, &flags, &[true, false, true], &written);
+    let bytes = [0x83, 2, 0, 0, 0, 0xFE, 1];
+    reads_items::<u8>(&rt, alloc, 3, &bytes, &[254, 1], &bytes);
+    let numbers = [0x86, 2, 0, 0, 0, 0xFE, 0xFF, 0xFF, 0xFF, 7, 0, 0, 0];
+    reads_items::<i32>(&rt, alloc, 6, &numbers, &[-2, 7], &numbers);
+    let floats = [0x8A, 1, 0, 0, 0, 1, 0, 0x80, 0x7F];
+    reads_items::<FloatBits>(
+        &rt,
+        alloc,
+        10,
+        &floats,
+        &[FloatBits { bits: 0x7F80_0001 }],
+        &floats,
+    );
+    let times = [0x8D, 1, 0, 0, 0, 0x80, 0x96, 0x98, 0, 0, 0, 0, 0];
+    reads_items::<DateTime>(
+        &rt,
+        alloc,
+        13,
+        &times,
+        &[DateTime { ticks: 10_000_000 }],
+        &times,
+    );
+    let codes = [0x93, 1, 0, 0, 0, 0, 0, 7, 0x80];
+    reads_items::<StatusCode>(
+        &rt,
+        alloc,
+        19,
+        &codes,
+        &[StatusCode { code: 0x8007_0000 }],
+        &codes,
+    );
+}
+
+#[test]
+fn holds_no_other_elements_so(rt: HostRuntime) {
+    let alloc = rt.alloc();
+    let bytes = array_in(&rt, alloc, &[0x83, 1, 0, 0, 0, 0xFE]);
+    assert!(rt; bytes.as_items::<i8>().is_none());
+    let texts = array_in(&rt, alloc, &[0x8C, 1, 0, 0, 0, 1, 0, 0, 0, 0x41]);
+    assert!(rt; texts.as_items::<u8>().is_none());
+}
+
+#[test]
+fn reads_arrays_longer_than_a_block(rt: HostRuntime) {
+    let alloc = rt.alloc();
+    let mut octets = Vec::new(alloc);
+    octets
+        .extend_from_slice(&[0x85, 0xE8, 3, 0, 0])
+        .expect(&rt, "memory");
+    for n in 0..1000u16 {
+        octets
+            .extend_from_slice(&[(n % 256) as u8, (n / 256) as u8])
+            .expect(&rt, "memory");
+    }
+    let array = array_in(&rt, alloc, &octets);
+    let items = array.as_items::<u16>().expect(&rt, "one type");
+    let places = [0, 1, 255, 256, 257, 511, 512, 999];
+    for place in places {
+        assert!(rt; items.get(place).copied() == Some(place as u16));
+    }
+    let part = array.part(alloc, 255, 258).expect(&rt, "memory");
+    assert_eq!(rt; part.as_items::<u16>(), Some([255, 256, 257].as_slice()));
+    octets.pop();
+    assert!(rt; is_refused::<Variant>(alloc, &octets));
+}
+
+// Each level claims a million elements, and a million octets follow: 98 times room for them all
+// would be some ten gigabytes.
+#[test]
+fn makes_no_room_for_elements_that_nested_arrays_claim(rt: HostRuntime) {
+    let alloc = rt.alloc();
+    let mut octets = Vec::new(alloc);
+    for _ in 0..98 {
+        octets
+            .extend_from_slice(&[0x98, 0x40, 0x42, 0x0F, 0])
+            .expect(&rt, "memory");
+    }
+    octets.resize(1_000_490, 0).expect(&rt, "memory");
+    assert!(rt; is_refused::<Variant>(alloc, &octets));
+}
