@@ -1,4 +1,5 @@
 pub mod PartsRead
+pub mod Weights
 pub mod PartsLawful
 pub mod Masks
 pub mod DimensionsRead
