@@ -26,3 +26,4 @@ pub mod ClientChunks
 pub mod ClientSteps
 pub mod ClientAdvances
 mod MemoryLines
+pub mod ClientReadings

@@ -19,6 +19,7 @@
 
 mod agreement;
 mod client;
+pub mod client_laws;
 pub mod laws;
 mod line;
 mod memory_line;
