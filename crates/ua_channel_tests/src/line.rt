@@ -60,11 +60,23 @@ fn writes(rt: &impl Abort, line: &mut MemoryLine, rows: &[Result<usize, LineFaul
 fn reads_go_in_turn_and_fail_once(rt: HostRuntime) {
     let alloc = rt.alloc();
     let mut plain = line(&rt, alloc, &[], &[], None, None);
-    reads(&rt, &mut plain, &[Some(&[1, 2, 3, 4]), Some(&[5, 6, 7]), Some(&[]), Some(&[])]);
+    reads(
+        &rt,
+        &mut plain,
+        &[Some(&[1, 2, 3, 4]), Some(&[5, 6, 7]), Some(&[]), Some(&[])],
+    );
     let mut paced = line(&rt, alloc, &[3, 0], &[], None, None);
-    reads(&rt, &mut paced, &[Some(&[1, 2, 3]), Some(&[4]), Some(&[5, 6, 7]), Some(&[])]);
+    reads(
+        &rt,
+        &mut paced,
+        &[Some(&[1, 2, 3]), Some(&[4]), Some(&[5, 6, 7]), Some(&[])],
+    );
     let mut failing = line(&rt, alloc, &[], &[], Some(2), None);
-    reads(&rt, &mut failing, &[Some(&[1, 2, 3, 4]), None, Some(&[5, 6, 7])]);
+    reads(
+        &rt,
+        &mut failing,
+        &[Some(&[1, 2, 3, 4]), None, Some(&[5, 6, 7])],
+    );
     let mut first = line(&rt, alloc, &[2], &[], Some(1), None);
     reads(&rt, &mut first, &[None, Some(&[1, 2]), Some(&[3, 4])]);
 }
@@ -74,10 +86,12 @@ fn writes_go_in_turn_and_fail_once(rt: HostRuntime) {
     let alloc = rt.alloc();
     let mut plain = line(&rt, alloc, &[], &[], None, None);
     writes(&rt, &mut plain, &[Ok(5), Ok(5)]);
-    assert_eq!(&rt; plain.written(), &[10, 11, 12, 13, 14, 10, 11, 12, 13, 14]);
+    let twice: &[u8] = &[10, 11, 12, 13, 14, 10, 11, 12, 13, 14];
+    assert_eq!(&rt; plain.written(), twice);
     let mut paced = line(&rt, alloc, &[], &[2, 0, 9], None, Some(3));
     writes(&rt, &mut paced, &[Ok(2), Ok(1), Err(FAILED), Ok(2)]);
-    assert_eq!(&rt; paced.written(), &[10, 11, 10, 10, 11]);
+    let parts: &[u8] = &[10, 11, 10, 10, 11];
+    assert_eq!(&rt; paced.written(), parts);
 }
 
 #[test]

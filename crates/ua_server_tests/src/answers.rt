@@ -60,11 +60,15 @@ fn a_message_that_is_no_request_is_answered_by_a_fault(rt: HostRuntime) {
     // and no NodeId.
     let rows: [(&[&str], &str); 4] = [
         (
-            &["01 00 0F 02 00 00 00 80 3E D5 DE B1 9D 01 09 00 00 00 00 00 00 00 FF FF FF FF 00 00 00 00 00 00 00"],
+            &[
+                "01 00 0F 02 00 00 00 80 3E D5 DE B1 9D 01 09 00 00 00 00 00 00 00 FF FF FF FF 00 00 00 00 00 00 00",
+            ],
             "09 00 00 00 00 00 0B 80",
         ),
         (
-            &["01 00 77 02 00 00 00 80 3E D5 DE B1 9D 01 09 00 00 00 00 00 00 00 FF FF FF FF 00 00 00 00 00 00 00"],
+            &[
+                "01 00 77 02 00 00 00 80 3E D5 DE B1 9D 01 09 00 00 00 00 00 00 00 FF FF FF FF 00 00 00 00 00 00 00",
+            ],
             "09 00 00 00 00 00 07 80",
         ),
         (&["01 00 77 02"], "00 00 00 00 00 00 07 80"),
@@ -74,10 +78,17 @@ fn a_message_that_is_no_request_is_answered_by_a_fault(rt: HostRuntime) {
         let want = octets(
             &rt,
             alloc,
-            &["01 00 8D 01 00 80 3E D5 DE B1 9D 01", fault, "00 FF FF FF FF 00 00 00"],
+            &[
+                "01 00 8D 01 00 80 3E D5 DE B1 9D 01",
+                fault,
+                "00 FF FF FF FF 00 00 00",
+            ],
         );
         assert_eq!(&rt; replied(&rt, alloc, &mut services, body), want);
     }
     let said = replied(&rt, alloc, &mut services, CREATE);
-    assert_eq!(&rt; said, octets(&rt, alloc, &session("01 01 01 00", "01 02 01 00")));
+    assert_eq!(&rt;
+        said,
+        octets(&rt, alloc, &session("01 01 01 00", "01 02 01 00"))
+    );
 }

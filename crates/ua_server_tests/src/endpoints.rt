@@ -25,7 +25,12 @@ fn the_one_endpoint_is_given_unless_other_profiles_are_asked_for(rt: HostRuntime
             ),
         ],
     );
-    let given = answer(&rt, alloc, &mut services, &octets(&rt, alloc, &endpoints("FF FF FF FF")));
+    let given = answer(
+        &rt,
+        alloc,
+        &mut services,
+        &octets(&rt, alloc, &endpoints("FF FF FF FF")),
+    );
     assert_eq!(&rt; given.len(), 294);
     let asked = octets(&rt, alloc, &endpoints("01 00 00 00 01 00 00 00 'x'"));
     assert_eq!(&rt; answer(&rt, alloc, &mut services, &asked).len(), 32);

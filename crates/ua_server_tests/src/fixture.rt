@@ -94,7 +94,8 @@ pub fn converse(
 
 // Behind the token: moment, RequestHandle 2, no diagnostics, no audit entry, no timeout hint, nothing
 // added.
-const ASKING: &str = "00 80 3E D5 DE B1 9D 01 02 00 00 00 00 00 00 00 FF FF FF FF 00 00 00 00 00 00 00";
+const ASKING: &str =
+    "00 80 3E D5 DE B1 9D 01 02 00 00 00 00 00 00 00 FF FF FF FF 00 00 00 00 00 00 00";
 
 pub const CREATE: &[&str] = &[
     "01 00 CD 01", // i=461
@@ -147,7 +148,13 @@ pub fn write<'a>(token: &'a str, items: &'a str) -> [&'a str; 4] {
 
 /// A GetEndpoints for these profiles.
 pub fn endpoints(profiles: &str) -> [&str; 5] {
-    ["01 00 AC 01", "00 00", ASKING, "FF FF FF FF FF FF FF FF", profiles]
+    [
+        "01 00 AC 01",
+        "00 00",
+        ASKING,
+        "FF FF FF FF FF FF FF FF",
+        profiles,
+    ]
 }
 
 /// The token of the first session.
@@ -155,10 +162,12 @@ pub const TOKEN: &str = "01 02 01 00";
 
 /// Any age, both times.
 pub const NOW: &str = "00 00 00 00 00 00 00 00";
+
 pub const BOTH: &str = "02 00 00 00";
 
 /// One item: the Value of ns=1;s=Pump.
-pub const PUMP: &str = "01 00 00 00 03 01 00 04 00 00 00 'Pump' 0D 00 00 00 FF FF FF FF 00 00 FF FF FF FF";
+pub const PUMP: &str =
+    "01 00 00 00 03 01 00 04 00 00 00 'Pump' 0D 00 00 00 FF FF FF FF 00 00 FF FF FF FF";
 
 // ---- responses
 
@@ -176,7 +185,8 @@ pub fn fault(code: &str) -> [&str; 4] {
 }
 
 /// The one endpoint.
-pub const ENDPOINT: &str = "01 00 00 00 18 00 00 00 'opc.tcp://localhost:4840' 0D 00 00 00 'urn:ua:server' FF FF FF FF 02 02 00 00 00 'ua' 00 00 00 00 FF FF FF FF FF FF FF FF 01 00 00 00 18 00 00 00 'opc.tcp://localhost:4840' FF FF FF FF 01 00 00 00 2F 00 00 00 'http://opcfoundation.org/UA/SecurityPolicy#None' 01 00 00 00 09 00 00 00 'anonymous' 00 00 00 00 FF FF FF FF FF FF FF FF FF FF FF FF 41 00 00 00 'http://opcfoundation.org/UA-Profile/Transport/uatcp-uasc-uabinary' 00";
+pub const ENDPOINT: &str =
+    "01 00 00 00 18 00 00 00 'opc.tcp://localhost:4840' 0D 00 00 00 'urn:ua:server' FF FF FF FF 02 02 00 00 00 'ua' 00 00 00 00 FF FF FF FF FF FF FF FF 01 00 00 00 18 00 00 00 'opc.tcp://localhost:4840' FF FF FF FF 01 00 00 00 2F 00 00 00 'http://opcfoundation.org/UA/SecurityPolicy#None' 01 00 00 00 09 00 00 00 'anonymous' 00 00 00 00 FF FF FF FF FF FF FF FF FF FF FF FF 41 00 00 00 'http://opcfoundation.org/UA-Profile/Transport/uatcp-uasc-uabinary' 00";
 
 /// A session with this id and token.
 pub fn session<'a>(id: &'a str, token: &'a str) -> [&'a str; 8] {
@@ -194,4 +204,5 @@ pub fn session<'a>(id: &'a str, token: &'a str) -> [&'a str; 8] {
 
 /// A session that is activated, and one that is closed.
 pub const ACTIVATED: &[&str] = &["01 00 D6 01", GOOD, "FF FF FF FF FF FF FF FF FF FF FF FF"];
+
 pub const CLOSED: &[&str] = &["01 00 DC 01", GOOD];

@@ -1,15 +1,18 @@
 //! Why the items of a Read or a Write are not looked at, and how many are.
 
 use crate::fixture::{
-    ACTIVATE, ACTIVATED, BOTH, CREATE, GOOD, NOW, PUMP, TOKEN, answer, converse, fault, octets, read,
-    services, session, write,
+    ACTIVATE, ACTIVATED, BOTH, CREATE, GOOD, NOW, PUMP, TOKEN, answer, converse, fault, octets,
+    read, services, session, write,
 };
 use std::alloc::Global;
 use std::process::Abort;
 
 const NONE: &str = "00 00 00 00";
+
 const NULL: &str = "FF FF FF FF";
+
 const MINUS_ZERO: &str = "00 00 00 00 00 00 00 80";
+
 const BELOW_ZERO: &str = "01 00 00 00 00 00 00 80";
 
 // The Int32 5 as it was loaded, with a moment as the server's time.
@@ -26,8 +29,14 @@ fn items_are_refused_before_they_are_looked_at(rt: HostRuntime) {
         &[
             (CREATE, &session("01 01 01 00", "01 02 01 00")),
             (ACTIVATE, ACTIVATED),
-            (&read(TOKEN, NOW, "04 00 00 00", NONE), &fault("00 00 2B 80")),
-            (&read(TOKEN, NOW, "FF FF FF FF", PUMP), &fault("00 00 2B 80")),
+            (
+                &read(TOKEN, NOW, "04 00 00 00", NONE),
+                &fault("00 00 2B 80"),
+            ),
+            (
+                &read(TOKEN, NOW, "FF FF FF FF", PUMP),
+                &fault("00 00 2B 80"),
+            ),
             (&read(TOKEN, BELOW_ZERO, BOTH, NONE), &fault("00 00 70 80")),
             (&read(TOKEN, BELOW_ZERO, BOTH, PUMP), &fault("00 00 70 80")),
             (&read(TOKEN, NOW, BOTH, NONE), &fault("00 00 0F 80")),
@@ -69,9 +78,19 @@ fn a_thousand_items_are_answered_and_one_more_is_refused(rt: HostRuntime) {
             (ACTIVATE, ACTIVATED),
         ],
     );
-    let thousand = answer(&rt, alloc, &mut services, &many(&rt, alloc, 1000, "E8 03 00 00"));
+    let thousand = answer(
+        &rt,
+        alloc,
+        &mut services,
+        &many(&rt, alloc, 1000, "E8 03 00 00"),
+    );
     // A C of 8192 octets and an F of 5892 have room for 8168 and 5868.
     assert_eq!(&rt; thousand.len(), 8168 + 5868);
-    let more = answer(&rt, alloc, &mut services, &many(&rt, alloc, 1001, "E9 03 00 00"));
+    let more = answer(
+        &rt,
+        alloc,
+        &mut services,
+        &many(&rt, alloc, 1001, "E9 03 00 00"),
+    );
     assert_eq!(&rt; more, octets(&rt, alloc, &fault("00 00 10 80")));
 }

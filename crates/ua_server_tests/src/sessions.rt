@@ -8,10 +8,12 @@ use crate::fixture::{
 const OTHER: &str = "01 02 02 00";
 
 // Two Int32 for ns=1;s=Pump: 6, then 7.
-const SIX_SEVEN: &str = "02 00 00 00 03 01 00 04 00 00 00 'Pump' 0D 00 00 00 FF FF FF FF 01 06 06 00 00 00 03 01 00 04 00 00 00 'Pump' 0D 00 00 00 FF FF FF FF 01 06 07 00 00 00";
+const SIX_SEVEN: &str =
+    "02 00 00 00 03 01 00 04 00 00 00 'Pump' 0D 00 00 00 FF FF FF FF 01 06 06 00 00 00 03 01 00 04 00 00 00 'Pump' 0D 00 00 00 FF FF FF FF 01 06 07 00 00 00";
 
 // The Values of ns=1;s=Pump and of i=9999, which is no node.
-const PUMP_AND_NONE: &str = "02 00 00 00 03 01 00 04 00 00 00 'Pump' 0D 00 00 00 FF FF FF FF 00 00 FF FF FF FF 01 00 0F 27 0D 00 00 00 FF FF FF FF 00 00 FF FF FF FF";
+const PUMP_AND_NONE: &str =
+    "02 00 00 00 03 01 00 04 00 00 00 'Pump' 0D 00 00 00 FF FF FF FF 00 00 FF FF FF FF 01 00 0F 27 0D 00 00 00 FF FF FF FF 00 00 FF FF FF FF";
 
 #[test]
 fn a_session_is_made_and_activated_and_closed(rt: HostRuntime) {
@@ -28,12 +30,27 @@ fn a_session_is_made_and_activated_and_closed(rt: HostRuntime) {
             (&read(TOKEN, NOW, BOTH, PUMP), &fault("00 00 27 80")),
             (&write(TOKEN, SIX_SEVEN), &fault("00 00 27 80")),
             (&activate(OTHER, "00 00 00"), &fault("00 00 25 80")),
-            (&activate(TOKEN, "00 00 01 FF FF FF FF"), &fault("00 00 21 80")),
-            (&activate(TOKEN, "01 00 41 01 01 FF FF FF FF"), &fault("00 00 21 80")),
-            (&activate(TOKEN, "01 00 42 01 01 04 00 00 00 FF FF FF FF"), &fault("00 00 21 80")),
-            (&activate(TOKEN, "01 00 41 01 01 05 00 00 00 FF FF FF FF 00"), &fault("00 00 21 80")),
+            (
+                &activate(TOKEN, "00 00 01 FF FF FF FF"),
+                &fault("00 00 21 80"),
+            ),
+            (
+                &activate(TOKEN, "01 00 41 01 01 FF FF FF FF"),
+                &fault("00 00 21 80"),
+            ),
+            (
+                &activate(TOKEN, "01 00 42 01 01 04 00 00 00 FF FF FF FF"),
+                &fault("00 00 21 80"),
+            ),
+            (
+                &activate(TOKEN, "01 00 41 01 01 05 00 00 00 FF FF FF FF 00"),
+                &fault("00 00 21 80"),
+            ),
             (ACTIVATE, ACTIVATED),
-            (&activate(TOKEN, "01 00 41 01 01 04 00 00 00 FF FF FF FF"), ACTIVATED),
+            (
+                &activate(TOKEN, "01 00 41 01 01 04 00 00 00 FF FF FF FF"),
+                ACTIVATED,
+            ),
             (&activate(TOKEN, "00 00 00"), ACTIVATED),
             (&close(OTHER), &fault("00 00 25 80")),
             (&close(TOKEN), CLOSED),
@@ -57,7 +74,12 @@ fn items_of_a_write_apply_in_order(rt: HostRuntime) {
             (ACTIVATE, ACTIVATED),
             (
                 &write(TOKEN, SIX_SEVEN),
-                &["01 00 A4 02", GOOD, "02 00 00 00 00 00 00 00 00 00 00 00", "FF FF FF FF"],
+                &[
+                    "01 00 A4 02",
+                    GOOD,
+                    "02 00 00 00 00 00 00 00 00 00 00 00",
+                    "FF FF FF FF",
+                ],
             ),
             (
                 &read(TOKEN, NOW, BOTH, PUMP_AND_NONE),
