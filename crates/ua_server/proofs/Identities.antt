@@ -9,7 +9,7 @@ use Rattle.ua_builtin.specs.declared.extension_object.ExtensionObject.{Extension
 use Rattle.ua_builtin.specs.declared.node_id.NodeId.{NodeId}
 use Rattle.ua_builtin.specs.declared.node_id.Identifier.{Identifier}
 use Rattle.ua_builtin.specs.declared.node_id.Identifier.TheVariants.{Numeric, Text, Guid as Global, Opaque}
-use Rattle.ua_structures.specs.Plain.{null_id}
+use Rattle.ua_builtin.specs.NodeId.{null_id}
 use Rattle.ua_structures.specs.Session.{anonymous_identity_token}
 use Rattle.ua_structures.specs.declared.session.AnonymousIdentityToken.{AnonymousIdentityToken}
 use Rattle.ua_structures.proofs.SessionLawful.{lawful_anonymous_identity_token}

@@ -1,11 +1,12 @@
 //! The services of endpoints and sessions.
 
 ghost use Rattle.std.specs.Prelude.{◌≡◌, ◌↔◌, IsTrue, IfOk, OnErr, option_map};
+ghost use Rattle.ua_builtin.specs.NodeId.{null_id as no_node};
 ghost use Rattle.ua_builtin.specs.Reasons.{first_reason};
 ghost use Rattle.ua_services.specs.Response.{response};
 ghost use Rattle.ua_builtin.specs.Status.{of_code};
 ghost use Rattle.ua_structures.specs.Header.{response_header};
-ghost use Rattle.ua_structures.specs.Plain.{null_id as no_node, response_header_of};
+ghost use Rattle.ua_structures.specs.Plain.{response_header_of};
 ghost use Rattle.ua_server.specs.Answer.{unless};
 ghost use Rattle.ua_server.specs.Sessions.{endpoints_given, create_reasons, session_given, is_anonymous, activate_reasons, with_activated, activation_given, close_reasons, close_given};
 ghost use Rattle.ua_server.specs.State.{begun, with_next_session, is_own, is_activated};
@@ -20,7 +21,6 @@ use ua_services::{
     CreateSessionRequest, CreateSessionResponse, GetEndpointsRequest, GetEndpointsResponse,
     Response, ResponseHeader, UaArray, read_identity,
 };
-use ua_structures::null_id;
 
 /// The header of a good response.
 pub(crate) fn good_header(moment: DateTime, request_handle: u32) -> ResponseHeader
@@ -33,7 +33,7 @@ pub(crate) fn good_header(moment: DateTime, request_handle: u32) -> ResponseHead
 fn is_null(id: &NodeId) -> bool
     ensures { IsTrue result ↔ (id.now ≡ no_node) }
 {
-    *id == null_id()
+    *id == NodeId::null()
 }
 
 /// Whether an object says nothing of who one is: it holds nothing, or an AnonymousIdentityToken.
