@@ -56,6 +56,7 @@ const REPLY_TO_9: &[u8] = b"MSGF\x18\0\0\0\x07\0\0\0\x01\0\0\0\x02\0\0\0\x09\0\0
 fn client(rt: &impl Abort, alloc: Global) -> ClientChannel {
     let limits = Limits::new(65535, 65535, 1_048_576, 256).expect(rt, "limits");
     let url = UaString::from_str(alloc, "opc.tcp://localhost:4840").expect(rt, "a URL");
+    assert!(rt; ua_builtin::Wire::is_encodable(&url));
     ClientChannel::new(alloc, limits, url)
 }
 

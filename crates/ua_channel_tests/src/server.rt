@@ -432,22 +432,18 @@ fn takes_numbers_that_start_again(rt: HostRuntime) {
     }
 }
 
-/// Zeros, as many as a chunk of the agreed size has room for.
-const ZEROS: [u8; 65511] = [0; 65511];
-
 // The frame of a chunk of zeros on channel 7 under token 1.
 fn chunk(rt: &impl Abort, alloc: Global, flag: u8, numbers: (u32, u32), len: usize) -> Vec<u8> {
     let mut out = Vec::new(alloc);
-    let body = ZEROS.get(..len).expect(rt, "zeros");
-    let len = u32::try_from(len).expect(rt, "a length");
-    let size = len.saturating_add(24);
+    let whole = len.saturating_add(24);
+    let size = u32::try_from(whole).expect(rt, "a size");
     out.extend_from_slice(b"MSG").expect(rt, "memory");
     out.push(flag).expect(rt, "memory");
     for number in [size, 7, 1, numbers.0, numbers.1] {
         let octets = number.to_le_bytes();
         out.extend_from_slice(&octets).expect(rt, "memory");
     }
-    out.extend_from_slice(body).expect(rt, "memory");
+    out.resize(whole, 0).expect(rt, "memory");
     out
 }
 
@@ -493,7 +489,10 @@ fn holds_up_to_its_bound(rt: HostRuntime) {
 fn counts_empty_chunks(rt: HostRuntime) {
     for flag in [b'C', b'F'] {
         let mut channel = opened(&rt, rt.alloc(), 1_048_576);
-        let sequence = goes_on(&rt, rt.alloc(), &mut channel, (2, 2), &[0; 256]);
+        let mut sequence = 2;
+        for _ in 0..16 {
+            sequence = goes_on(&rt, rt.alloc(), &mut channel, (sequence, 2), &[0; 16]);
+        }
         let octets = chunk(&rt, rt.alloc(), flag, (sequence, 2), 0);
         let row = (octets.as_slice(), Answer::Refuses(0x80B8_0000));
         takes(&rt, rt.alloc(), &mut channel, row);
