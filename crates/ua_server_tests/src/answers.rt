@@ -1,8 +1,8 @@
 //! Faults, and the beginning of a connection.
 
 use crate::fixture::{
-    ACTIVATE, ACTIVATED, BOTH, CREATE, MOMENT, NOW, PUMP, TOKEN, body_of, converse, fault, octets,
-    read, services, session,
+    ACTIVATE, ACTIVATED, BOTH, CREATE, MOMENT, NOW, PUMP, TOKEN, body_of, fault, octets, read,
+    services, session, turn,
 };
 use std::alloc::Global;
 use std::process::Abort;
@@ -26,21 +26,35 @@ fn a_fault_says_its_code_under_the_handle(rt: HostRuntime) {
 fn a_connection_begins_without_a_session(rt: HostRuntime) {
     let alloc = rt.alloc();
     let mut services = services(&rt, alloc);
-    let opening: &[(&[&str], &[&str])] = &[
-        (CREATE, &session("01 01 01 00", "01 02 01 00")),
-        (ACTIVATE, ACTIVATED),
-    ];
-    converse(&rt, alloc, &mut services, opening);
-    services.begin();
-    converse(
+    turn(
         &rt,
         alloc,
         &mut services,
-        &[
-            (&read(TOKEN, NOW, BOTH, PUMP), &fault("00 00 25 80")),
-            (CREATE, &session("01 01 02 00", "01 02 02 00")),
-            (&read(TOKEN, NOW, BOTH, PUMP), &fault("00 00 25 80")),
-        ],
+        CREATE,
+        &session("01 01 01 00", "01 02 01 00"),
+    );
+    turn(&rt, alloc, &mut services, ACTIVATE, ACTIVATED);
+    services.begin();
+    turn(
+        &rt,
+        alloc,
+        &mut services,
+        &read(TOKEN, NOW, BOTH, PUMP),
+        &fault("00 00 25 80"),
+    );
+    turn(
+        &rt,
+        alloc,
+        &mut services,
+        CREATE,
+        &session("01 01 02 00", "01 02 02 00"),
+    );
+    turn(
+        &rt,
+        alloc,
+        &mut services,
+        &read(TOKEN, NOW, BOTH, PUMP),
+        &fault("00 00 25 80"),
     );
 }
 

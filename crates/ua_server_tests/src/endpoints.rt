@@ -1,6 +1,6 @@
 //! GetEndpoints.
 
-use crate::fixture::{ENDPOINT, GOOD, answer, converse, endpoints, octets, services};
+use crate::fixture::{ENDPOINT, GOOD, answer, endpoints, octets, services, turn};
 
 #[test]
 fn the_one_endpoint_is_given_unless_other_profiles_are_asked_for(rt: HostRuntime) {
@@ -8,22 +8,30 @@ fn the_one_endpoint_is_given_unless_other_profiles_are_asked_for(rt: HostRuntime
     let mut services = services(&rt, alloc);
     let given: &[&str] = &["01 00 AF 01", GOOD, ENDPOINT];
     let none: &[&str] = &["01 00 AF 01", GOOD, "00 00 00 00"];
-    converse(
+    turn(&rt, alloc, &mut services, &endpoints("FF FF FF FF"), given);
+    turn(&rt, alloc, &mut services, &endpoints("00 00 00 00"), given);
+    turn(
         &rt,
         alloc,
         &mut services,
-        &[
-            (&endpoints("FF FF FF FF"), given),
-            (&endpoints("00 00 00 00"), given),
-            (&endpoints("01 00 00 00 01 00 00 00 'x'"), none),
-            (&endpoints("01 00 00 00 FF FF FF FF"), none),
-            (
-                &endpoints(
-                    "02 00 00 00 01 00 00 00 'x' 41 00 00 00 'http://opcfoundation.org/UA-Profile/Transport/uatcp-uasc-uabinary'",
-                ),
-                given,
-            ),
-        ],
+        &endpoints("01 00 00 00 01 00 00 00 'x'"),
+        none,
+    );
+    turn(
+        &rt,
+        alloc,
+        &mut services,
+        &endpoints("01 00 00 00 FF FF FF FF"),
+        none,
+    );
+    turn(
+        &rt,
+        alloc,
+        &mut services,
+        &endpoints(
+            "02 00 00 00 01 00 00 00 'x' 41 00 00 00 'http://opcfoundation.org/UA-Profile/Transport/uatcp-uasc-uabinary'",
+        ),
+        given,
     );
     let given = answer(
         &rt,

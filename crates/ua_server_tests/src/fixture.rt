@@ -76,18 +76,17 @@ pub fn answer(rt: &impl Abort, alloc: Global, services: &mut Services, request: 
     body_of(rt, alloc, response)
 }
 
-/// Requests and the responses to them, in turn.
-pub fn converse(
+/// A request, and the response to it.
+pub fn turn(
     rt: &impl Abort,
     alloc: Global,
     services: &mut Services,
-    rows: &[(&[&str], &[&str])],
+    request: &[&str],
+    response: &[&str],
 ) {
-    for (request, response) in rows {
-        let said = answer(rt, alloc, services, &octets(rt, alloc, request));
-        let want = octets(rt, alloc, response);
-        assert_eq!(rt; said, want);
-    }
+    let said = answer(rt, alloc, services, &octets(rt, alloc, request));
+    let want = octets(rt, alloc, response);
+    assert_eq!(rt; said, want);
 }
 
 // ---- requests

@@ -1,8 +1,8 @@
 //! Why the items of a Read or a Write are not looked at, and how many are.
 
 use crate::fixture::{
-    ACTIVATE, ACTIVATED, BOTH, CREATE, GOOD, NOW, PUMP, TOKEN, answer, converse, fault, octets,
-    read, services, session, write,
+    ACTIVATE, ACTIVATED, BOTH, CREATE, GOOD, NOW, PUMP, TOKEN, answer, fault, octets, read,
+    services, session, turn, write,
 };
 use std::alloc::Global;
 use std::process::Abort;
@@ -22,32 +22,76 @@ const FIVE: &str = "01 00 00 00 09 06 05 00 00 00 00 80 3E D5 DE B1 9D 01";
 fn items_are_refused_before_they_are_looked_at(rt: HostRuntime) {
     let alloc = rt.alloc();
     let mut services = services(&rt, alloc);
-    converse(
+    turn(
         &rt,
         alloc,
         &mut services,
-        &[
-            (CREATE, &session("01 01 01 00", "01 02 01 00")),
-            (ACTIVATE, ACTIVATED),
-            (
-                &read(TOKEN, NOW, "04 00 00 00", NONE),
-                &fault("00 00 2B 80"),
-            ),
-            (
-                &read(TOKEN, NOW, "FF FF FF FF", PUMP),
-                &fault("00 00 2B 80"),
-            ),
-            (&read(TOKEN, BELOW_ZERO, BOTH, NONE), &fault("00 00 70 80")),
-            (&read(TOKEN, BELOW_ZERO, BOTH, PUMP), &fault("00 00 70 80")),
-            (&read(TOKEN, NOW, BOTH, NONE), &fault("00 00 0F 80")),
-            (&read(TOKEN, NOW, BOTH, NULL), &fault("00 00 0F 80")),
-            (&write(TOKEN, NONE), &fault("00 00 0F 80")),
-            (&write(TOKEN, NULL), &fault("00 00 0F 80")),
-            (
-                &read(TOKEN, MINUS_ZERO, BOTH, PUMP),
-                &["01 00 7A 02", GOOD, FIVE, "FF FF FF FF"],
-            ),
-        ],
+        CREATE,
+        &session("01 01 01 00", "01 02 01 00"),
+    );
+    turn(&rt, alloc, &mut services, ACTIVATE, ACTIVATED);
+    turn(
+        &rt,
+        alloc,
+        &mut services,
+        &read(TOKEN, NOW, "04 00 00 00", NONE),
+        &fault("00 00 2B 80"),
+    );
+    turn(
+        &rt,
+        alloc,
+        &mut services,
+        &read(TOKEN, NOW, "FF FF FF FF", PUMP),
+        &fault("00 00 2B 80"),
+    );
+    turn(
+        &rt,
+        alloc,
+        &mut services,
+        &read(TOKEN, BELOW_ZERO, BOTH, NONE),
+        &fault("00 00 70 80"),
+    );
+    turn(
+        &rt,
+        alloc,
+        &mut services,
+        &read(TOKEN, BELOW_ZERO, BOTH, PUMP),
+        &fault("00 00 70 80"),
+    );
+    turn(
+        &rt,
+        alloc,
+        &mut services,
+        &read(TOKEN, NOW, BOTH, NONE),
+        &fault("00 00 0F 80"),
+    );
+    turn(
+        &rt,
+        alloc,
+        &mut services,
+        &read(TOKEN, NOW, BOTH, NULL),
+        &fault("00 00 0F 80"),
+    );
+    turn(
+        &rt,
+        alloc,
+        &mut services,
+        &write(TOKEN, NONE),
+        &fault("00 00 0F 80"),
+    );
+    turn(
+        &rt,
+        alloc,
+        &mut services,
+        &write(TOKEN, NULL),
+        &fault("00 00 0F 80"),
+    );
+    turn(
+        &rt,
+        alloc,
+        &mut services,
+        &read(TOKEN, MINUS_ZERO, BOTH, PUMP),
+        &["01 00 7A 02", GOOD, FIVE, "FF FF FF FF"],
     );
 }
 
@@ -69,15 +113,14 @@ fn many(rt: &impl Abort, alloc: Global, count: usize, header: &str) -> Vec<u8> {
 fn a_thousand_items_are_answered_and_one_more_is_refused(rt: HostRuntime) {
     let alloc = rt.alloc();
     let mut services = services(&rt, alloc);
-    converse(
+    turn(
         &rt,
         alloc,
         &mut services,
-        &[
-            (CREATE, &session("01 01 01 00", "01 02 01 00")),
-            (ACTIVATE, ACTIVATED),
-        ],
+        CREATE,
+        &session("01 01 01 00", "01 02 01 00"),
     );
+    turn(&rt, alloc, &mut services, ACTIVATE, ACTIVATED);
     let thousand = answer(
         &rt,
         alloc,
