@@ -96,7 +96,7 @@ kept_or kept true within id j ids is more e = refl
 kept_or true false within id j ids is more e = more (ap (λ (b : Bool). b || is_in id ids) (sym is) ∙ e)
 kept_or false false within id j ids is more e = more e
 
-within_filter : (test : ℕ → Bool) (id : ℕ) (ids : List ℕ) → is_in id (filter test ids) ≡ true → is_in id ids ≡ true
+pub within_filter : (test : ℕ → Bool) (id : ℕ) (ids : List ℕ) → is_in id (filter test ids) ≡ true → is_in id ids ≡ true
 within_filter test id [] e = e
 within_filter test id (j ∷ ids) e = kept_or (test j) (eqb j id) (is_in id ids) id j (filter test ids) refl (within_filter test id ids) e
 

@@ -27,3 +27,4 @@ pub mod ClientSteps
 pub mod ClientAdvances
 mod MemoryLines
 pub mod ClientReadings
+mod PairedCalls

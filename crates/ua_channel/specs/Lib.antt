@@ -24,6 +24,7 @@ pub mod ClientAsks
 pub mod Client
 pub mod ClientAnswers
 pub mod ClientParts
+pub mod Paired
 -- The line under a connection, and moments.
 pub mod Line
 pub mod MemoryLine

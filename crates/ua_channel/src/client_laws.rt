@@ -2,14 +2,19 @@
 //!
 //! Each function does nothing; its contract is the law.
 
-ghost use Rattle.std.specs.Prelude.{◌≡◌, ◌∷◌, ◌++◌, [], ℕ, List};
+ghost use Rattle.std.specs.Prelude.{◌≡◌, ◌∷◌, ◌++◌, [], ℕ, List, map, false};
+ghost use Rattle.ua_frame.specs.After.{AllAfter};
 ghost use Rattle.ua_frame.specs.Laws.{HasOneReading, HasReadings, StopsAtFirstWrong};
 ghost use Rattle.ua_frame.specs.declared.frame.Frame.{Frame};
 ghost use Rattle.ua_frame.specs.declared.limits.Limits.{Limits};
-ghost use Rattle.ua_channel.specs.Asks.{Placed};
+ghost use Rattle.ua_frame.specs.Run.{Fits, events};
+ghost use Rattle.ua_chunk.specs.Delivered.{delivered};
+ghost use Rattle.ua_channel.specs.Asks.{Placed, asked_in, calls, is_in};
 ghost use Rattle.ua_channel.specs.Client.{Stands, Goes, GoesTelling};
 ghost use Rattle.ua_channel.specs.ClientTable.{client_rules};
-ghost use Rattle.ua_channel.specs.ClientTold.{Told};
+ghost use Rattle.ua_channel.specs.ClientTold.{Told, told_item};
+ghost use Rattle.ua_channel.specs.Paired.{as_list, delivered_under, paired, told_of_calls, with_all};
+ghost use Rattle.ua_channel.specs.Received.{received};
 ghost use Rattle.ua_channel.specs.declared.client.channel.ClientChannel.{ClientChannel};
 
 /// Any octets, with what was asked among them, have just one reading at a client, whatever the pieces
@@ -32,4 +37,19 @@ pub fn client_stands_once()
 /// A channel that stands behind a frame which tells something goes on with that told.
 pub fn client_goes_on()
     ensures { (x : ClientChannel) (asks : List Placed) (octets : List ℕ) (told : List Told) (e : Told) → GoesTelling x asks octets told e → Goes x asks octets (told ++ e ∷ []) }
+{}
+
+/// What frames tell a client of its calls is what their chunks deliver, in that order.
+pub fn client_tells_delivered()
+    ensures { (limits : Limits) (asks : List Placed) (frames : List Frame) →
+        told_of_calls (events (client_rules limits asks) frames) ≡ map told_item (delivered (received frames).messages) }
+{}
+
+/// Of frames that a client takes, all that is delivered under the request id of a call is the one item
+/// with which it is paired, or nothing; and nothing is delivered under another id.
+pub fn client_pairs()
+    ensures once { (limits : Limits) (asks : List Placed) (frames : List Frame) → AllAfter (Fits (client_rules limits asks)) frames →
+        map (with_all (received frames).messages) (calls (asked_in asks)) ≡ map as_list (paired (asked_in asks) (received frames).messages) }
+    ensures no_other { (limits : Limits) (asks : List Placed) (frames : List Frame) (id : ℕ) → AllAfter (Fits (client_rules limits asks)) frames →
+        is_in id (calls (asked_in asks)) ≡ false → delivered_under id (received frames).messages ≡ [] }
 {}
