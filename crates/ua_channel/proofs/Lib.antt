@@ -28,3 +28,4 @@ pub mod ClientAdvances
 mod MemoryLines
 pub mod ClientReadings
 mod PairedCalls
+mod Opened

@@ -2,7 +2,7 @@
 //!
 //! Each function does nothing; its contract is the law.
 
-ghost use Rattle.std.specs.Prelude.{◌≡◌, ◌∷◌, ◌++◌, [], ℕ, List, map, false};
+ghost use Rattle.std.specs.Prelude.{◌≡◌, ◌↔◌, ◌∷◌, ◌++◌, [], ℕ, List, Some, map, false};
 ghost use Rattle.ua_frame.specs.After.{AllAfter};
 ghost use Rattle.ua_frame.specs.Laws.{HasOneReading, HasReadings, StopsAtFirstWrong};
 ghost use Rattle.ua_frame.specs.declared.frame.Frame.{Frame};
@@ -10,12 +10,14 @@ ghost use Rattle.ua_frame.specs.declared.limits.Limits.{Limits};
 ghost use Rattle.ua_frame.specs.Run.{Fits, events};
 ghost use Rattle.ua_chunk.specs.Delivered.{delivered};
 ghost use Rattle.ua_channel.specs.Asks.{Placed, asked_in, calls, is_in};
-ghost use Rattle.ua_channel.specs.Client.{Stands, Goes, GoesTelling};
+ghost use Rattle.ua_channel.specs.Client.{ask_refusal, close_refusal, phase_of, renew_refusal, Goes, GoesTelling, IsDone, IsNotOpen, Stands};
 ghost use Rattle.ua_channel.specs.ClientTable.{client_rules};
+ghost use Rattle.ua_channel.specs.ClientTokens.{responses};
 ghost use Rattle.ua_channel.specs.ClientTold.{Told, told_item};
 ghost use Rattle.ua_channel.specs.Paired.{as_list, delivered_under, paired, told_of_calls, with_all};
 ghost use Rattle.ua_channel.specs.Received.{received};
 ghost use Rattle.ua_channel.specs.declared.client.channel.ClientChannel.{ClientChannel};
+ghost use Rattle.ua_channel.specs.declared.client.fault.AskFault.TheVariants.{NotOpen};
 
 /// Any octets, with what was asked among them, have just one reading at a client, whatever the pieces
 /// in which they come, and it stops at the first frame that is wrong, for the first reason of the table
@@ -52,4 +54,15 @@ pub fn client_pairs()
         map (with_all (received frames).messages) (calls (asked_in asks)) ≡ map as_list (paired (asked_in asks) (received frames).messages) }
     ensures no_other { (limits : Limits) (asks : List Placed) (frames : List Frame) (id : ℕ) → AllAfter (Fits (client_rules limits asks)) frames →
         is_in id (calls (asked_in asks)) ≡ false → delivered_under id (received frames).messages ≡ [] }
+{}
+
+/// No channel is open before the first good OPN response, and once the channel failed or was closed;
+/// then nothing can be asked.
+pub fn client_is_open()
+    ensures stands { (x : ClientChannel) (asks : List Placed) (octets : List ℕ) (frames : List Frame) (rest : List ℕ) →
+        Stands x asks octets frames rest → IsNotOpen (phase_of x) ↔ (responses (received frames).openings ≡ []) }
+    ensures done { (x : ClientChannel) → IsDone x → IsNotOpen (phase_of x) }
+    ensures asks { (x : ClientChannel) (more : ℕ) (body : List ℕ) → IsNotOpen (phase_of x) → ask_refusal (phase_of x) more body ≡ Some NotOpen }
+    ensures renews { (x : ClientChannel) → IsNotOpen (phase_of x) → renew_refusal (phase_of x) ≡ Some NotOpen }
+    ensures closes { (x : ClientChannel) → IsNotOpen (phase_of x) ↔ (close_refusal (phase_of x) ≡ Some NotOpen) }
 {}

@@ -2,7 +2,7 @@
 //!
 //! Each function does nothing; its contract is the law.
 
-ghost use Rattle.std.specs.Prelude.{◌≡◌, ◌∷◌, ◌++◌, [], ℕ, List, Some};
+ghost use Rattle.std.specs.Prelude.{◌≡◌, ◌↔◌, ◌∷◌, ◌++◌, [], ℕ, List, Some};
 ghost use Rattle.ua_frame.specs.Laws.{HasOneReading, HasReadings, StopsAtFirstWrong};
 ghost use Rattle.ua_frame.specs.declared.frame.Frame.{Frame};
 ghost use Rattle.ua_frame.specs.declared.limits.Limits.{Limits};
@@ -13,7 +13,7 @@ ghost use Rattle.ua_channel.specs.Received.{after, nothing_received, received};
 ghost use Rattle.ua_channel.specs.ServerPlaces.{agreed_by};
 ghost use Rattle.ua_channel.specs.ServerRules.{server_rules};
 ghost use Rattle.ua_channel.specs.ServerSends.{RepliesGo};
-ghost use Rattle.ua_channel.specs.ServerStands.{channel_of, limits_of, Goes, GoesTelling, Stands};
+ghost use Rattle.ua_channel.specs.ServerStands.{channel_of, limits_of, Goes, GoesTelling, IsDone, IsNotOpen, Stands};
 ghost use Rattle.ua_channel.specs.ServerTold.{Told, Told as told};
 ghost use Rattle.ua_channel.specs.declared.server.ServerChannel.{ServerChannel};
 
@@ -48,4 +48,11 @@ pub fn server_replies()
     ensures { (x : ServerChannel) (octets : List ℕ) (before : List Told) (id token : ℕ) (message : List ℕ) (frames : List Frame) (rest : List ℕ) (lane : Lane) →
         GoesTelling x octets before (told.Asked id token message) → Stands x octets frames rest → RepliesGo (limits_of x) (channel_of x) (received frames) lane →
         (a : Agreement) × (agreed_by before ≡ Some a) × (lane ≡ lane_of (channel_of x) token a) }
+{}
+
+/// No channel is open before the first OPN, and once the channel ended.
+pub fn server_is_open()
+    ensures stands { (x : ServerChannel) (octets : List ℕ) (frames : List Frame) (rest : List ℕ) →
+        Stands x octets frames rest → IsNotOpen x ↔ ((received frames).openings ≡ []) }
+    ensures done { (x : ServerChannel) → IsDone x → IsNotOpen x }
 {}

@@ -1,0 +1,72 @@
+-- When a channel is open.
+use Rattle.std.proofs.Common.{◌≡◌, ◌↔◌, ℕ, ◌<◌, List, [], ◌∷◌, Some, length, refl, sym, ap, subst, arith}
+use Rattle.ua_frame.specs.declared.frame.Frame.{Frame}
+use Rattle.ua_frame.specs.declared.limits.Limits.{Limits}
+use Rattle.ua_structures.specs.declared.secure_channel.OpenResponse.{OpenResponse}
+use Rattle.ua_channel.specs.Asks.{Asking, Placed, asked_in}
+use Rattle.ua_channel.specs.Client as client
+use Rattle.ua_channel.specs.ClientTokens.{channel_in, responses}
+use Rattle.ua_channel.specs.Content.{Opening}
+use Rattle.ua_channel.specs.Received.{Received, received}
+use Rattle.ua_channel.specs.ServerStands as server
+use Rattle.ua_channel.specs.declared.client.channel.ClientChannel.{ClientChannel}
+use Rattle.ua_channel.specs.declared.client.fault.AskFault.TheVariants.{NotOpen}
+use Rattle.ua_channel.specs.declared.client.phase.Phase.{Phase as ClientPhase}
+use Rattle.ua_channel.specs.declared.client.phase.Phase.TheVariants as asking
+use Rattle.ua_channel.specs.declared.server.Phase.{Phase}
+use Rattle.ua_channel.specs.declared.server.Phase.TheVariants.{Waiting, Greeted, Open, Done}
+use Rattle.ua_channel.specs.declared.server.ServerChannel.{ServerChannel}
+
+-- ---- at a server
+
+none_issued : (os : List Opening) (issued : ℕ) → length os ≡ issued → 0 < issued → os ≡ [] → ⊥
+none_issued os issued count some none = grind (ap (λ (xs : List Opening). length xs) none, count, some, arith)
+
+in_phase : (limits : Limits) (p : Phase) (before : Received) → server.InPhase limits p before → server.HasNoToken p ↔ (before.openings ≡ [])
+in_phase limits Waiting before h = (λ t. ap (λ (b : Received). b.openings) h, λ e. tt)
+in_phase limits (Greeted a) before h = (λ t. ap (λ (b : Received). b.openings) h.before_is, λ e. tt)
+in_phase limits (Open r) before h = (λ t. absurd t, λ e. none_issued before.openings r.issued h.issued_is h.some e)
+in_phase limits Done before h = absurd h
+
+pub server_open : (x : ServerChannel) (octets : List ℕ) (frames : List Frame) (rest : List ℕ) → server.Stands x octets frames rest → server.IsNotOpen x ↔ ((received frames).openings ≡ [])
+server_open x octets frames rest s = in_phase (server.limits_of x) x.phase (received frames) s.holds.phase_is
+
+pub server_done : (x : ServerChannel) → server.IsDone x → server.IsNotOpen x
+server_done x d = subst server.HasNoToken (sym d.phase) tt
+
+-- ---- at a client
+
+no_channel : (rs : List OpenResponse) (n : ℕ) → channel_in rs ≡ Some n → rs ≡ [] → ⊥
+no_channel [] n e none = absurd cc
+no_channel (r ∷ rs) n e none = absurd cc
+
+client_phase : (limits : Limits) (p : ClientPhase) (before : Received) (asked : List Asking) → client.InPhase limits p before asked → client.IsNotOpen p ↔ (responses before.openings ≡ [])
+unfolding responses
+client_phase limits asking.Waiting before asked h = (λ t. ap (λ (b : Received). responses b.openings) h.0, λ e. tt)
+client_phase limits (asking.Agreed a) before asked h = (λ t. ap (λ (b : Received). responses b.openings) h.0, λ e. tt)
+client_phase limits (asking.Open t) before asked h = (λ n. absurd n, λ e. no_channel (responses before.openings) t.channel h.channel_is e)
+client_phase limits asking.Done before asked h = absurd h
+
+pub client_open : (x : ClientChannel) (asks : List Placed) (octets : List ℕ) (frames : List Frame) (rest : List ℕ) → client.Stands x asks octets frames rest → client.IsNotOpen (client.phase_of x) ↔ (responses (received frames).openings ≡ [])
+client_open x asks octets frames rest s = client_phase (client.limits_of x) (client.phase_of x) (received frames) (asked_in asks) s.phase_is
+
+pub client_done : (x : ClientChannel) → client.IsDone x → client.IsNotOpen (client.phase_of x)
+client_done x d = subst client.IsNotOpen (sym d.phase) tt
+
+pub asks_nothing : (p : ClientPhase) (more : ℕ) (body : List ℕ) → client.IsNotOpen p → client.ask_refusal p more body ≡ Some NotOpen
+asks_nothing asking.Waiting more body n = refl
+asks_nothing (asking.Agreed a) more body n = refl
+asks_nothing (asking.Open t) more body n = absurd n
+asks_nothing asking.Done more body n = refl
+
+pub renews_nothing : (p : ClientPhase) → client.IsNotOpen p → client.renew_refusal p ≡ Some NotOpen
+renews_nothing asking.Waiting n = refl
+renews_nothing (asking.Agreed a) n = refl
+renews_nothing (asking.Open t) n = absurd n
+renews_nothing asking.Done n = refl
+
+pub closes_nothing : (p : ClientPhase) → client.IsNotOpen p ↔ (client.close_refusal p ≡ Some NotOpen)
+closes_nothing asking.Waiting = (λ n. refl, λ e. tt)
+closes_nothing (asking.Agreed a) = (λ n. refl, λ e. tt)
+closes_nothing (asking.Open t) = (λ n. absurd n, λ e. absurd cc)
+closes_nothing asking.Done = (λ n. refl, λ e. tt)

@@ -1,0 +1,8 @@
+use Rattle.ua_channel.proofs.Opened.{server_open, server_done}
+use Rattle.ua_channel.proofs.laws.server_is_open.Goals as goal
+
+pub returns-clause-stands : goal.returns-clause-stands
+returns-clause-stands c = server_open
+
+pub returns-clause-done : goal.returns-clause-done
+returns-clause-done c = server_done
