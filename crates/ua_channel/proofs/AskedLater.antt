@@ -1,7 +1,6 @@
 -- What is asked behind the octets that came changes nothing of how they are read.
-use Rattle.std.proofs.Common.{◌≡◌, ℕ, ◌≤◌, ◌+◌, List, [], ◌∷◌, ◌++◌, length, refl, sym, ◌∙◌, ap, arith, append_assoc, length-append}
+use Rattle.std.proofs.Common.{◌≡◌, ℕ, ◌≤◌, List, [], ◌∷◌, ◌++◌, length, refl, sym, ◌∙◌, ap, arith, append_assoc, length-append}
 use Rattle.std.proofs.lemmas.Grind.{flat_map-append}
-use Rattle.std.specs.List.{flat_map}
 use Rattle.ua_frame.specs.declared.frame.Frame.{Frame}
 use Rattle.ua_frame.specs.declared.limits.Limits.{Limits}
 use Rattle.ua_frame.specs.After.{AllFrom, AllAfter}
@@ -9,7 +8,7 @@ use Rattle.ua_frame.specs.Frames.{frame_octets, frames_octets}
 use Rattle.ua_frame.specs.Run.{Run, Going}
 use Rattle.ua_frame.specs.Same.{SameAt, SameOn}
 use Rattle.ua_frame.proofs.SameRules.{same_going}
-use Rattle.ua_channel.specs.Asks.{Asking, Placed, asked_before, end_of}
+use Rattle.ua_channel.specs.Asks.{Asking, Placed, end_of}
 use Rattle.ua_channel.specs.ClientTable.{client_rules, client_reasons}
 use Rattle.ua_channel.specs.Content.{content}
 use Rattle.ua_channel.specs.Received.{received}

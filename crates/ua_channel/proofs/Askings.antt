@@ -1,6 +1,6 @@
 -- What is pending, with one ask more, and with one frame more.
-use Rattle.std.proofs.Common.{◌≡◌, inl, inr, ℕ, ◌≤◌, ◌<◌, List, [], ◌∷◌, ◌++◌, Bool, true, false, ◌&&◌, ◌||◌, not, length, map, refl, sym, ◌∙◌, ap, arith, ltb, eqb, append_assoc, append-nil}
-use Rattle.std.specs.List.{AllByRecursion, filter, flat_map, list_any}
+use Rattle.std.proofs.Common.{◌≡◌, inl, inr, ℕ, ◌≤◌, ◌<◌, List, [], ◌∷◌, ◌++◌, Bool, true, false, ◌&&◌, ◌||◌, not, map, refl, sym, ◌∙◌, ap, arith, ltb, eqb, append-nil}
+use Rattle.std.specs.List.{AllByRecursion, filter}
 use Rattle.std.specs.Prelude.{if◌then◌else◌}
 use Rattle.std.proofs.lemmas.Bool.{cases_Bool}
 use Rattle.std.proofs.lemmas.List.{flat_map_more, map-append}

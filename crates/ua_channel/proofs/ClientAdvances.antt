@@ -1,8 +1,8 @@
 -- What the steps of a client's channel over a piece come to.
-use Rattle.std.proofs.Common.{◌≡◌, ℕ, zero, suc, ◌∷◌, ◌<◌, ◌≤◌, ◌+◌, ◌-◌, List, [], ◌++◌, Option, Some, None, Result, Ok, Err, length, take, drop, refl, sym, ◌∙◌, ap, subst, arith, append-nil, append_assoc, length-drop}
+use Rattle.std.proofs.Common.{◌≡◌, ℕ, zero, suc, ◌∷◌, ◌<◌, ◌≤◌, ◌+◌, ◌-◌, List, [], ◌++◌, Option, Some, None, Ok, Err, length, take, drop, refl, sym, ◌∙◌, ap, subst, arith, append-nil, append_assoc, length-drop}
 use Rattle.std.proofs.lemmas.List.{take_all}
 use Rattle.ua_channel.specs.Asks.{Placed}
-use Rattle.ua_channel.specs.Client.{SameClient, Goes, GoesTelling, Ended, IsDone, next_of}
+use Rattle.ua_channel.specs.Client.{SameClient, Goes, next_of}
 use Rattle.ua_channel.specs.ClientParts.{Steps, Advances, TellsEvent}
 use Rattle.ua_builtin.specs.declared.date_time.DateTime.{DateTime}
 use Rattle.ua_channel.specs.ClientAnswers.{ClientAnswers, AnswersEvent}

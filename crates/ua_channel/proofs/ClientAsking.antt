@@ -1,5 +1,5 @@
 -- What a client's channel that is open answers when it is asked, and where it then stands.
-use Rattle.std.proofs.Common.{◌≡◌, ℕ, ◌<◌, ◌≤◌, ◌+◌, ◌*◌, List, [], ◌∷◌, ◌++◌, Bool, true, false, ◌&&◌, not, Option, Some, None, length, refl, sym, ◌∙◌, ap, subst, arith, eqb, ltb, leb, length-append}
+use Rattle.std.proofs.Common.{◌≡◌, ℕ, ◌<◌, ◌+◌, ◌*◌, List, [], ◌∷◌, ◌++◌, Bool, true, false, ◌&&◌, not, Option, Some, None, length, refl, sym, ◌∙◌, ap, subst, arith, eqb, ltb, leb, length-append}
 use Rattle.std.specs.List.{AllByRecursion}
 use Rattle.ua_chunk.specs.Cutting.{pieces}
 use Rattle.ua_chunk.specs.Refusal.{passes}

@@ -1,14 +1,10 @@
 -- What an open channel of a client makes of a chunk.
-use Rattle.std.proofs.Common.{◌≡◌, ℕ, Bool, true, false, not, eqb, List, [], ◌∷◌, ◌++◌, Option, Some, None, Result, Ok, Err, option_map, map, refl, sym, ◌∙◌, ap, subst}
-use Rattle.std.specs.List.{filter}
+use Rattle.std.proofs.Common.{◌≡◌, Bool, true, false, List, [], ◌∷◌, ◌++◌, Option, None, Result, option_map, map, sym, ◌∙◌, ap, subst}
 use Rattle.ua_builtin.specs.Reasons.{first_reason, renamed_reason}
 use Rattle.ua_builtin.proofs.FirstReasons.{first_reason-map, first_among, first_behind}
-use Rattle.ua_chunk.specs.Assembling.{Stands, SameLimits, octet_limit, chunk_limit, last_number}
-use Rattle.ua_chunk.specs.Delivered.{given}
+use Rattle.ua_chunk.specs.Assembling.{Stands, SameLimits, last_number}
 use Rattle.ua_chunk.specs.Gathered.{ends}
-use Rattle.ua_chunk.specs.Item.{Item}
-use Rattle.ua_chunk.specs.Refusal.{IsFor, reasons}
-use Rattle.ua_chunk.specs.View.{items_of}
+use Rattle.ua_chunk.specs.Refusal.{IsFor}
 use Rattle.ua_chunk.specs.declared.assembler.Assembler.{Assembler}
 use Rattle.ua_chunk.specs.declared.chunk.Chunk.{Chunk}
 use Rattle.ua_chunk.specs.declared.delivered.Delivered.{Delivered}

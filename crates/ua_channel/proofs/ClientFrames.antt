@@ -1,6 +1,5 @@
 -- The frames that a client sends, as what stands in front of them and what is in them.
-use Rattle.std.proofs.Common.{◌≡◌, ℕ, ◌<◌, ◌+◌, ◌^◌, Bool, true, false, ◌&&◌, List, [], ◌∷◌, ◌++◌, Option, Some, None, IsTrue, length, refl, sym, ◌∙◌, ap, arith, ltb, append_assoc, length-append}
-use Rattle.std.proofs.lemmas.Bool.{ltb-true}
+use Rattle.std.proofs.Common.{◌≡◌, ℕ, ◌<◌, ◌+◌, ◌^◌, Bool, true, false, ◌&&◌, List, ◌∷◌, ◌++◌, Option, Some, None, IsTrue, length, refl, sym, ◌∙◌, ap, arith, ltb, append_assoc, length-append}
 use Rattle.std.specs.Str.{is_utf8}
 use Rattle.ua_octets.specs.Counted.{counted, text, null_count}
 use Rattle.ua_octets.specs.Number.{number_octets}
@@ -15,7 +14,6 @@ use Rattle.ua_chunk.specs.Layout.{token_header, sequence_header}
 use Rattle.ua_chunk.specs.Opening.{policy_header, none_policy}
 use Rattle.ua_services.specs.Message.{message}
 use Rattle.ua_structures.specs.SecureChannel.{open_request, close_request}
-use Rattle.ua_structures.specs.declared.secure_channel.CloseRequest.{CloseRequest}
 use Rattle.ua_structures.specs.declared.secure_channel.OpenRequest.{OpenRequest}
 use Rattle.ua_structures.specs.Plain.{close_request_of}
 use Rattle.ua_builtin.specs.declared.date_time.DateTime.{DateTime}

@@ -1,5 +1,5 @@
 -- What a client makes of an OPN.
-use Rattle.std.proofs.Common.{◌≡◌, ℕ, Bool, true, false, not, ◌||◌, eqb, leb, List, [], ◌∷◌, ◌++◌, Option, Some, None, Result, Ok, Err, refl, sym, ◌∙◌, ap, subst}
+use Rattle.std.proofs.Common.{◌≡◌, ℕ, Bool, true, false, leb, List, [], ◌∷◌, Option, Some, None, Ok, Err, refl, sym, ◌∙◌, ap, subst}
 use Rattle.ua_octets.proofs.Readers.{some_is}
 use Rattle.ua_builtin.specs.Reasons.{first_reason}
 use Rattle.ua_frame.specs.declared.frame.Frame.{Frame}
@@ -14,8 +14,8 @@ use Rattle.ua_services.specs.declared.open.OpenAnswer.{OpenAnswer}
 use Rattle.ua_services.specs.declared.open.OpenAnswer.TheVariants.{Open, Fault}
 use Rattle.ua_structures.specs.declared.secure_channel.OpenResponse.{OpenResponse}
 use Rattle.ua_channel.specs.Asks.{Asking}
-use Rattle.ua_channel.specs.ClientParts.{of_open_fault, IsStopFor, Judged, JudgesAnswer, IsAnswerOf, IsAnsweredBy, body_reasons, answer_reasons}
-use Rattle.ua_channel.specs.ClientTable.{client_reasons, is_bad}
+use Rattle.ua_channel.specs.ClientParts.{of_open_fault, IsStopFor, Judged, JudgesAnswer, IsAnsweredBy, body_reasons, answer_reasons}
+use Rattle.ua_channel.specs.ClientTable.{client_reasons}
 use Rattle.ua_channel.specs.ClientTokens.{answer_in}
 use Rattle.ua_channel.specs.ClientTold.{Why, ours}
 use Rattle.ua_channel.specs.Content.{Opening, opening_numbered, opening_secured, opening_of}

@@ -1,19 +1,16 @@
 -- What a client's channel makes of a frame in each of its phases.
-use Rattle.std.proofs.Common.{◌≡◌, ℕ, ◌+◌, ◌*◌, Bool, true, false, List, [], ◌∷◌, ◌++◌, Option, Some, None, Result, Ok, Err, refl, sym, ◌∙◌, ap, subst}
-use Rattle.ua_builtin.specs.Reasons.{first_reason}
-use Rattle.ua_frame.specs.declared.ack.Ack.{Ack}
+use Rattle.std.proofs.Common.{◌≡◌, ◌+◌, ◌*◌, List, [], Option, Some, None, Result, Ok, refl, sym, ◌∙◌, ap, subst}
 use Rattle.ua_frame.specs.declared.frame.Frame.{Frame}
 use Rattle.ua_frame.specs.declared.gate.Gate.{Gate}
 use Rattle.ua_frame.specs.declared.limits.Limits.{Limits}
 use Rattle.ua_frame.specs.Frames.{LetsIn}
-use Rattle.ua_frame.specs.Reader.{Reader, open_reader}
+use Rattle.ua_frame.specs.Reader.{open_reader}
 use Rattle.ua_channel.specs.Asks.{Asking}
-use Rattle.ua_channel.specs.Client.{InPhase, IsDone, limits_of, phase_of, bound_of, bound_behind, phase_gate}
+use Rattle.ua_channel.specs.Client.{InPhase, IsDone, bound_behind, phase_gate}
 use Rattle.ua_channel.specs.ClientAsks.{Talks}
-use Rattle.ua_channel.specs.ClientParts.{IsStopFor, Judged, JudgesWhole, GoesOn, Stopped, Takes, OpensChannel, StaysOpen, IsOpenedBy, TakesFrame, IsGood, greeted, failure_of, told_list}
-use Rattle.ua_channel.specs.ClientTable.{client_gate, client_reasons, gate_behind, gate_agreed, ack_gate, answer_gate, reply_gate}
+use Rattle.ua_channel.specs.ClientParts.{IsStopFor, Judged, JudgesWhole, GoesOn, Takes, OpensChannel, StaysOpen, IsOpenedBy, TakesFrame, greeted, failure_of}
+use Rattle.ua_channel.specs.ClientTable.{client_gate, client_reasons, gate_agreed, ack_gate, answer_gate, reply_gate}
 use Rattle.ua_channel.specs.ClientTokens.{responses}
-use Rattle.ua_channel.specs.ClientTold.{Told, Told as told, Why, client_tells}
 use Rattle.ua_channel.specs.Content.{Content, content}
 use Rattle.ua_channel.specs.Content.Content.{Acks}
 use Rattle.ua_channel.specs.Received.{Received, after, nothing_received}

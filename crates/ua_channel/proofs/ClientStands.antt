@@ -1,5 +1,5 @@
 -- Where a client's channel stands, when it is made and when it is asked.
-use Rattle.std.proofs.Common.{◌≡◌, ℕ, ◌≤◌, ◌<◌, ◌+◌, ◌*◌, List, [], ◌∷◌, ◌++◌, Option, Some, None, length, refl, sym, ◌∙◌, ap, subst, arith}
+use Rattle.std.proofs.Common.{◌≡◌, ℕ, ◌≤◌, ◌<◌, ◌+◌, ◌*◌, List, [], ◌∷◌, ◌++◌, Option, Some, length, refl, sym, ◌∙◌, ap, subst, arith}
 use Rattle.ua_frame.specs.declared.frame.Frame.{Frame}
 use Rattle.ua_frame.specs.declared.gate.Gate.{Gate}
 use Rattle.std.specs.Prelude.{min, max}
@@ -12,15 +12,15 @@ use Rattle.ua_chunk.specs.Assembling.{octet_limit}
 use Rattle.ua_chunk.specs.Open.{open_octets}
 use Rattle.ua_frame.proofs.Streams.{run_nil}
 use Rattle.ua_channel.specs.Asks.{Asking, Placed, asked_in}
-use Rattle.ua_channel.specs.Client.{Stands, InPhase, limits_of, phase_of, bound_of, bound_behind, held_octets}
+use Rattle.ua_channel.specs.Client.{Stands, InPhase, limits_of, bound_behind, held_octets}
 use Rattle.ua_channel.specs.ClientAsks.{Talks, AsBefore}
 use Rattle.ua_channel.specs.ClientTable.{client_gate, client_rules, gate_behind, gate_agreed, reply_gate, ack_gate}
 use Rattle.ua_channel.specs.ClientTokens.{responses, channel_in}
 use Rattle.ua_structures.specs.declared.secure_channel.OpenResponse.{OpenResponse}
-use Rattle.ua_channel.specs.Received.{Received, received, nothing_received}
+use Rattle.ua_channel.specs.Received.{Received, received}
 use Rattle.ua_channel.specs.declared.client.channel.ClientChannel.{ClientChannel}
 use Rattle.ua_channel.specs.declared.client.phase.Phase.{Phase}
-use Rattle.ua_channel.specs.declared.client.phase.Phase.TheVariants.{Waiting, Agreed, Open, Done}
+use Rattle.ua_channel.specs.declared.client.phase.Phase.TheVariants.{Waiting, Open}
 use Rattle.ua_channel.specs.declared.client.talking.Talking.{Talking}
 use Rattle.ua_channel.proofs.Askings.{asked_in-push, all-push}
 use Rattle.ua_channel.proofs.AskedLater.{asked_later}

@@ -1,9 +1,8 @@
 -- What one step of a client's channel comes to.
-use Rattle.std.proofs.Common.{◌≡◌, ℕ, ◌<◌, ◌≤◌, ◌+◌, inl, inr, Bool, true, false, List, [], ◌∷◌, ◌++◌, Option, Some, None, Result, Ok, Err, length, take, refl, sym, ◌∙◌, ap, subst, arith, append-nil, append_assoc, length-append}
+use Rattle.std.proofs.Common.{◌≡◌, ℕ, ◌<◌, ◌≤◌, inl, inr, Bool, List, [], ◌∷◌, ◌++◌, Option, Some, None, Result, Ok, Err, length, take, refl, sym, ◌∙◌, ap, subst, arith, append-nil, append_assoc, length-append}
 use Rattle.std.specs.List.{AllByRecursion, concat}
 use Rattle.std.proofs.lemmas.Bool.{cases_lt}
 use Rattle.std.proofs.lemmas.List.{take-take, length-take-le}
-use Rattle.ua_octets.proofs.Readers.{some_is}
 use Rattle.ua_builtin.specs.Reasons.{first_reason}
 use Rattle.ua_frame.specs.declared.fault.FrameFault.{FrameFault}
 use Rattle.ua_frame.specs.declared.fault.FrameFault.TheVariants as frame_fault
@@ -12,16 +11,16 @@ use Rattle.ua_frame.specs.declared.gate.Gate.{Gate}
 use Rattle.ua_frame.specs.declared.limits.Limits.{Limits}
 use Rattle.ua_frame.specs.Frames.{frame_octets, frames_octets, IsSized, LetsIn, IsPartial, header_fault, header_code}
 use Rattle.ua_frame.specs.Reader.{Reader, open_reader, TakesAll, TakesFrame, Refuses, Takes as ReaderTakes}
-use Rattle.ua_frame.specs.Run.{Rules, refusal, events, Run, Going, Stopped, WrongHeader, WrongFrame}
+use Rattle.ua_frame.specs.Run.{refusal, events, Run, Going, Stopped, WrongHeader, WrongFrame}
 use Rattle.ua_frame.proofs.Fronts.{fault_front}
 use Rattle.ua_frame.proofs.Streams.{frames_octets-push, run_part, run_frame, events-push}
 use Rattle.ua_channel.specs.Asks.{Asking, Placed, asked_before, asked_in, end_of}
 use Rattle.ua_channel.specs.Client.{SameClient, Stands, Goes, GoesTelling, Ended, StopsAt, IsDone, InPhase, rules_of, limits_of, phase_of, bound_of, bound_behind}
-use Rattle.ua_channel.specs.ClientParts.{JudgesWhole, GoesOn, Stopped as StoppedBy, FailsBy, IsFront, Steps, TellsEvent, told_list}
+use Rattle.ua_channel.specs.ClientParts.{JudgesWhole, GoesOn, Stopped as StoppedBy, FailsBy, IsFront, Steps, told_list}
 use Rattle.ua_channel.specs.ClientTable.{client_gate, client_rules, client_reasons}
 use Rattle.ua_channel.specs.ClientTold.{Told, Told as told, Why, ours}
 use Rattle.ua_channel.specs.Content.{content}
-use Rattle.ua_channel.specs.Received.{Received, received, after}
+use Rattle.ua_channel.specs.Received.{Received, received}
 use Rattle.ua_channel.specs.declared.client.channel.ClientChannel.{ClientChannel}
 use Rattle.ua_channel.specs.declared.client.event.Event.{Event}
 use Rattle.ua_channel.specs.declared.client.event.Event.TheVariants as event

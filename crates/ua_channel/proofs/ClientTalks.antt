@@ -1,11 +1,10 @@
 -- Where an open channel of a client stands with one frame more.
-use Rattle.std.proofs.Common.{◌≡◌, ℕ, suc, ◌<◌, ◌≤◌, ◌+◌, Bool, true, false, not, ◌||◌, eqb, leb, ltb, List, [], ◌∷◌, ◌++◌, Option, Some, None, Result, Ok, Err, length, map, refl, sym, ◌∙◌, ap, subst, arith, append-nil, length-append}
+use Rattle.std.proofs.Common.{◌≡◌, ℕ, suc, ◌<◌, ◌≤◌, Bool, true, false, not, ◌||◌, eqb, List, [], ◌∷◌, ◌++◌, Option, Some, None, Result, length, map, refl, sym, ◌∙◌, ap, subst, arith}
 use Rattle.std.specs.Prelude.{if◌then◌else◌}
 use Rattle.std.specs.List.{AllByRecursion, filter, flat_map}
 use Rattle.std.proofs.lemmas.Bool.{eqb-true}
 use Rattle.std.proofs.lemmas.List.{map-append}
 use Rattle.std.proofs.lemmas.Grind.{flat_map-append}
-use Rattle.ua_octets.proofs.Readers.{some_is}
 use Rattle.ua_builtin.specs.Reasons.{first_reason, renamed_reason}
 use Rattle.ua_chunk.specs.Refusal.{reasons}
 use Rattle.ua_frame.specs.declared.frame.Frame.{Frame}
@@ -18,14 +17,14 @@ use Rattle.ua_chunk.specs.Sequence.{may_follow}
 use Rattle.ua_chunk.specs.declared.chunk.Chunk.{Chunk}
 use Rattle.ua_chunk.specs.Assembling.{octet_limit, chunk_limit, last_number}
 use Rattle.ua_services.specs.declared.open.OpenAnswer.{OpenAnswer}
-use Rattle.ua_services.specs.declared.open.OpenAnswer.TheVariants.{Open, Fault}
+use Rattle.ua_services.specs.declared.open.OpenAnswer.TheVariants.{Open}
 use Rattle.ua_structures.specs.declared.secure_channel.OpenResponse.{OpenResponse}
 use Rattle.ua_channel.specs.Asks.{Asking, is_in, calls, renewals, pending_calls, pending_renewals}
 use Rattle.ua_channel.specs.ClientAsks.{Talks}
 use Rattle.ua_channel.specs.ClientParts.{why_of, IsStopFor, Judged, IsOpenedBy, TellsRenewal, TakesFrame, IsGood, told_list, IsAnswerOf, IsOpenedWith, IsRenewedWith, IsTakenWith, answer_reasons, first_reasons, renewal_reasons, chunk_reasons, greeted, left_pending}
 use Rattle.ua_channel.specs.ClientTable.{client_reasons, is_awaited}
 use Rattle.ua_channel.specs.ClientTokens.{answer_in, response_listed, id_listed, responses, opened_ids, channel_in, tokens_of, from_last, held_by, held_tokens}
-use Rattle.ua_channel.specs.ClientTold.{Told, Told as told, Why, ours, client_tells, told_response}
+use Rattle.ua_channel.specs.ClientTold.{Told, Told as told, ours, client_tells, told_response}
 use Rattle.ua_channel.specs.Content.{Opening, Content, content, content_by, opening_of, sends}
 use Rattle.ua_channel.specs.Content.Content.{Opens, Sends}
 use Rattle.ua_channel.specs.Received.{Received, after, listed, latest, number_or}

@@ -1,9 +1,8 @@
 -- What a line over memory hands out.
-use Rattle.std.proofs.Common.{◌≡◌, ℕ, zero, suc, ◌+◌, ◌-◌, ◌≤◌, ◌<◌, List, [], ◌∷◌, ◌++◌, length, take, drop, min, max, Bool, true, false, cond, Option, Some, None, Result, Ok, Err, refl, sym, ◌∙◌, ap, subst, arith}
+use Rattle.std.proofs.Common.{◌≡◌, ℕ, ◌+◌, ◌-◌, ◌≤◌, ◌<◌, List, [], ◌∷◌, ◌++◌, length, take, drop, min, Bool, true, false, cond, Ok, Err, sym, ◌∙◌, ap, subst, arith}
 use Rattle.std.proofs.lemmas.List.{nil_from_length, length-drop, take-append-drop, drop-drop, length-take-le}
 use Rattle.std.proofs.Math.Seq.{take-append_seam}
 use Rattle.ua_channel.specs.MemoryLine.{Pace, within_limit, fails_next, moves}
-use Rattle.ua_channel.specs.declared.line.LineFault.{LineFault}
 use Rattle.ua_channel.specs.declared.line.LineFault.TheVariants.{Failed}
 
 pub handed : (octets buffer : List ℕ) (read n : ℕ) → read + n ≤ length octets → drop read octets ≡ take n (take n (drop read octets) ++ drop n buffer) ++ drop (read + n) octets

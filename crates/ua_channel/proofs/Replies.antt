@@ -1,12 +1,11 @@
 -- Where replies go, by what was told.
-use Rattle.std.proofs.Common.{◌≡◌, ℕ, ◌+◌, List, [], ◌∷◌, ◌++◌, Option, Some, None, option_map, map, refl, sym, ◌∙◌, ap, subst, append_assoc, append-nil}
+use Rattle.std.proofs.Common.{◌≡◌, ℕ, ◌+◌, List, [], ◌∷◌, ◌++◌, Option, Some, None, option_map, map, refl, sym, ◌∙◌, ap, append_assoc, append-nil}
 use Rattle.std.specs.List.{flat_map}
 use Rattle.std.proofs.lemmas.Grind.{flat_map-append}
 use Rattle.ua_frame.specs.After.{each_from, each_after}
 use Rattle.ua_frame.specs.declared.frame.Frame.{Frame}
-use Rattle.ua_frame.specs.declared.hello.Hello.{Hello}
 use Rattle.ua_frame.specs.declared.limits.Limits.{Limits}
-use Rattle.ua_frame.specs.Run.{events, Going}
+use Rattle.ua_frame.specs.Run.{events}
 use Rattle.ua_chunk.specs.Delivered.{given}
 use Rattle.ua_chunk.specs.Item.{Item}
 use Rattle.ua_chunk.specs.Item.Item.{Whole, Aborted}
@@ -18,10 +17,10 @@ use Rattle.ua_channel.specs.Content.{Content, content}
 use Rattle.ua_channel.specs.Content.Content.{Greets, Acks, Fails, Opens, Sends, Closes, Nothing}
 use Rattle.ua_channel.specs.Received.{latest_behind, Received, received, after}
 use Rattle.ua_channel.specs.ServerPlaces.{agreements_in, agreed_by}
-use Rattle.ua_channel.specs.ServerRefusals.{last_used, or_first}
+use Rattle.ua_channel.specs.ServerRefusals.{last_used}
 use Rattle.ua_channel.specs.ServerRules.{server_rules}
 use Rattle.ua_channel.specs.ServerSends.{RepliesGo}
-use Rattle.ua_channel.specs.ServerStands.{limits_of, channel_of, rules_of, Stands, GoesTelling}
+use Rattle.ua_channel.specs.ServerStands.{limits_of, channel_of, Stands, GoesTelling}
 use Rattle.ua_channel.specs.ServerTold.{Told, request_of, opened_by, told_item, issued, server_tells}
 use Rattle.ua_channel.specs.ServerTold.Told.{Agreed, Opened, Asked, GaveUp, Closed}
 use Rattle.ua_channel.proofs.OneFrameMore.{received-push, received-nil}

@@ -1,5 +1,5 @@
 -- What a client's channel answers to a piece.
-use Rattle.std.specs.Prelude.{◌≡◌, ℕ, ◌≤◌, ◌<◌, length, take, List, [], ◌∷◌, ◌++◌, Result, Ok, Err}
+use Rattle.std.specs.Prelude.{◌≡◌, ℕ, ◌≤◌, ◌<◌, length, take, List, ◌++◌, Result, Ok, Err}
 use Rattle.std.specs.List.{concat}
 use Rattle.ua_builtin.specs.declared.date_time.DateTime.{DateTime}
 use Rattle.ua_frame.specs.declared.ack.Ack.{Ack}
@@ -7,7 +7,7 @@ use Rattle.ua_frame.specs.Frames.{frame_octets}
 use Rattle.ua_channel.specs.Asks.{Placed}
 use Rattle.ua_channel.specs.Client.{Goes, GoesTelling, Ended, IsDone}
 use Rattle.ua_channel.specs.ClientSends.{first_open}
-use Rattle.ua_channel.specs.ClientTold.{Told, Told as told, Why}
+use Rattle.ua_channel.specs.ClientTold.{Told, Told as told}
 use Rattle.ua_channel.specs.declared.client.channel.ClientChannel.{ClientChannel}
 use Rattle.ua_channel.specs.declared.client.event.ClientEvent.{ClientEvent}
 use Rattle.ua_channel.specs.declared.client.event.ClientEvent.TheVariants as event

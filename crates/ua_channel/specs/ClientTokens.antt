@@ -1,5 +1,5 @@
 -- What the openings that a client received have brought: the channel, and its tokens.
-use Rattle.std.specs.Prelude.{ℕ, ◌==◌, Bool, true, false, ◌&&◌, not, if◌then◌else◌, List, [], ◌∷◌, Option, Some, None, map}
+use Rattle.std.specs.Prelude.{ℕ, ◌==◌, ◌&&◌, not, if◌then◌else◌, List, [], ◌∷◌, Option, Some, None, map}
 use Rattle.std.specs.List.{flat_map}
 use Rattle.ua_services.specs.Open.{answer_read}
 use Rattle.ua_services.specs.declared.open.OpenAnswer.{OpenAnswer}

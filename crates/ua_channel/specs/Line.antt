@@ -1,5 +1,5 @@
 -- What the calls of a line do: octets come from it and go to it, in pieces of the line's own choice.
-use Rattle.std.specs.Prelude.{◌≡◌, ◌++◌, ◌+◌, ◌<◌, ℕ, List, [], Bool, cond, nat_eq, length, take, Option, Some, None, Result, Ok, Err}
+use Rattle.std.specs.Prelude.{◌≡◌, ◌++◌, ◌+◌, ◌<◌, ℕ, List, [], cond, nat_eq, length, take, Option, Some, None, Result, Ok, Err}
 use Rattle.ua_channel.specs.declared.line.LineFault.{LineFault}
 
 -- the octets of a line that tells them: those to come, and those written so far

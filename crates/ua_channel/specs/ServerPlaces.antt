@@ -1,5 +1,5 @@
 -- What a server was told, as far as replies need it.
-use Rattle.std.specs.Prelude.{◌≡◌, List, [], ◌∷◌, Option, Some, None}
+use Rattle.std.specs.Prelude.{List, [], ◌∷◌, Option}
 use Rattle.std.specs.List.{flat_map}
 use Rattle.ua_channel.specs.Agreement.{Agreement}
 use Rattle.ua_channel.specs.Received.{latest}

@@ -1,4 +1,3 @@
-use Rattle.std.proofs.Common.{rules, refl}
 use Rattle.ua_channel.proofs.ClientFrames.{policy_appended}
 use Rattle.ua_channel.proofs.client.octets.append_policy.Goals as goal
 

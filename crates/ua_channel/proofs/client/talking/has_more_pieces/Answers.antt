@@ -1,4 +1,4 @@
-use Rattle.std.proofs.Common.{ℕ, ◌*◌, Bool, not, ◌&&◌, ltb, length, sym, ◌∙◌, ap}
+use Rattle.std.proofs.Common.{ℕ, ◌*◌, Bool, not, ◌&&◌, ltb, sym, ◌∙◌, ap}
 use Rattle.std.proofs.lemmas.Bool.{ne_eqb}
 use Rattle.ua_channel.proofs.ClientAsking.{more_pieces}
 use Rattle.ua_channel.proofs.client.talking.has_more_pieces.Goals as goal

@@ -1,6 +1,5 @@
-use Rattle.std.proofs.Common.{rules, ◌≡◌, ◌≤◌, ◌<◌, ◌++◌, ◌+◌, ◌-◌, ℕ, List, [], Some, Option, length, drop, take, min, Ok, refl, sym, ◌∙◌, ap, subst}
-use Rattle.ua_channel.specs.Line.{Traffic, Hands}
-use Rattle.ua_channel.specs.MemoryLine.{Memory, moves, after_call}
+use Rattle.std.proofs.Common.{rules, ◌≡◌, ◌≤◌, ◌<◌, ◌++◌, ◌+◌, ◌-◌, ℕ, List, length, drop, take, min, Ok, sym, ◌∙◌, ap, subst}
+use Rattle.ua_channel.specs.MemoryLine.{moves}
 use Rattle.ua_channel.proofs.MemoryLines.{handed, none_moved}
 use Rattle.ua_channel.proofs.memory_line.MemoryLineLine.read.Goals as goal
 

@@ -1,6 +1,6 @@
 use Rattle.std.proofs.Common.{◌-◌, length, take, drop, ◌∙◌}
 use Rattle.std.proofs.lemmas.List.{take_rest}
-use Rattle.ua_channel.proofs.ClientAdvances.{far_none, far_some, far_err, far_all, smaller, within_piece}
+use Rattle.ua_channel.proofs.ClientAdvances.{far_none, far_some, far_err, smaller, within_piece}
 use Rattle.ua_channel.proofs.client.channel.ClientChannel.advance.Goals as goal
 
 pub loop-at-smaller : goal.loop-at-smaller

@@ -1,7 +1,7 @@
 use Rattle.std.proofs.Common.{sym, ◌∙◌, ap}
 use Rattle.ua_channel.specs.Client.{limits_of}
 use Rattle.ua_channel.specs.declared.client.channel.ClientChannel.{ClientChannel}
-use Rattle.ua_channel.proofs.ClientPhases.{waiting_judged, agreed_judged, open_judged}
+use Rattle.ua_channel.proofs.ClientPhases.{agreed_judged}
 use Rattle.ua_channel.proofs.client.channel.ClientChannel.on_frame.Goals as goal
 
 pub returns-in-Agreed-clause-judges : goal.returns-in-Agreed-clause-judges

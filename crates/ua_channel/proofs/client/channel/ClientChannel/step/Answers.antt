@@ -1,4 +1,4 @@
-use Rattle.std.proofs.Common.{ℕ, Option, Ok, refl, subst, sym}
+use Rattle.std.proofs.Common.{Option, Ok, refl, subst, sym}
 use Rattle.ua_frame.specs.declared.frame.Frame.{Frame}
 use Rattle.ua_frame.specs.Reader.{Takes}
 use Rattle.ua_channel.proofs.ClientSteps.{goes_part, goes_frame, goes_fault}

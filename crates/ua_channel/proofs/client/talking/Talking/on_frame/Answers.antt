@@ -1,4 +1,3 @@
-use Rattle.std.proofs.Common.{sym, ap}
 use Rattle.ua_channel.proofs.ClientTalks.{renewal_judged, chunk_judged, stopped_opn}
 use Rattle.ua_channel.proofs.ClientGreets.{stopped_err}
 use Rattle.ua_channel.proofs.client.talking.Talking.on_frame.Goals as goal
