@@ -5,7 +5,6 @@ use std::process::Abort;
 use ua_builtin::{DateTime, Octets, UaString};
 use ua_nodes::NodeTable;
 use ua_server::{Endpoint, Services};
-use ua_services::{Response, read_request, write_response};
 
 /// 1970-01-01, which is written as 00 80 3E D5 DE B1 9D 01.
 pub const MOMENT: DateTime = DateTime {
@@ -61,19 +60,11 @@ pub fn services(rt: &impl Abort, alloc: Global) -> Services {
     )
 }
 
-/// The body of a response.
-pub fn body_of(rt: &impl Abort, alloc: Global, response: Response) -> Vec<u8> {
-    let mut out = Vec::new(alloc);
-    write_response(&response, &mut out).expect(rt, "an encoding");
-    drop(response);
-    out
-}
-
 /// The body of the response to the request with this body.
 pub fn answer(rt: &impl Abort, alloc: Global, services: &mut Services, request: &[u8]) -> Vec<u8> {
-    let request = read_request(alloc, &mut Octets::new(request)).expect(rt, "a request");
-    let response = services.answer(alloc, request, MOMENT).expect(rt, "memory");
-    body_of(rt, alloc, response)
+    services
+        .reply(alloc, &mut Octets::new(request), MOMENT)
+        .expect(rt, "memory")
 }
 
 /// A request, and the response to it.
