@@ -100,6 +100,7 @@ fn reads_arrays_longer_than_a_block(rt: HostRuntime) {
     for place in places {
         assert!(rt; items.get(place).copied() == Some(place as u16));
     }
+    assert!(rt; array.len() >= 258);
     let part = array.part(alloc, 255, 258).expect(&rt, "memory");
     assert_eq!(rt; part.as_items::<u16>(), Some([255, 256, 257].as_slice()));
     octets.pop();
