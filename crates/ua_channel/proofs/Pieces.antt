@@ -21,6 +21,14 @@ module _ (old now next : ServerChannel) (piece : List ℕ) (taken n : ℕ) (answ
   rest_length : length (take (length piece - taken) (drop taken piece)) ≡ length piece - taken
   rest_length = ap length rest_is ∙ length-drop taken piece
 
+  moved : (a : Result (Option Event) StepFault) → Progress (take (length piece - taken) (drop taken piece)) n a → Progress piece (taken + n) a
+  moved (Ok e) p = let within = p.0 in let some = p.1 (omega (arith, rest_length, room)) in (omega (arith, within, rest_length, room), λ h. omega (arith, some))
+  moved (Err fault) p = omega (arith, p, rest_length, room)
+
+  -- a step is one of the piece
+  pub progress_there : Progress piece (taken + n) answer
+  progress_there = moved answer progress
+
   joined : (octets : List ℕ) → (octets ++ take taken piece) ++ take n (take (length piece - taken) (drop taken piece)) ≡ octets ++ take (taken + n) piece
   joined octets =
       ap (λ (z : List ℕ). (octets ++ take taken piece) ++ take n z) rest_is
@@ -33,7 +41,7 @@ module _ (old now next : ServerChannel) (piece : List ℕ) (taken n : ℕ) (answ
   -- a step that tells nothing
   pub took_more : answer ≡ Ok None → limits_of next ≡ limits_of now → channel_of next ≡ channel_of now → next.numbers ≡ now.numbers → Took old next piece (taken + n)
   took_more is limits channel numbers =
-      let p : Progress (take (length piece - taken) (drop taken piece)) n (Ok None) = subst (λ (a : Result (Option Event) StepFault). Progress (take (length piece - taken) (drop taken piece)) n a) is progress in
+      let p : Progress {A = Option Event} {E = StepFault} (take (length piece - taken) (drop taken piece)) n (Ok None) = subst (λ (a : Result (Option Event) StepFault). Progress (take (length piece - taken) (drop taken piece)) n a) is progress in
       record {
         within = omega (arith, p.0, rest_length, room);
         goes = λ octets told g.
@@ -50,7 +58,7 @@ module _ (old now next : ServerChannel) (piece : List ℕ) (taken n : ℕ) (answ
   -- a step that tells something
   pub nexts_told : (e : Event) → answer ≡ Ok (Some e) → (octets : List ℕ) (told : List Told) → Goes old octets told → Nexts piece (taken + n) (Ok (Some e)) next octets told
   nexts_told e is octets told g =
-      let p : Progress (take (length piece - taken) (drop taken piece)) n (Ok (Some e)) = subst (λ (a : Result (Option Event) StepFault). Progress (take (length piece - taken) (drop taken piece)) n a) is progress in
+      let p : Progress {A = Option Event} {E = StepFault} (take (length piece - taken) (drop taken piece)) n (Ok (Some e)) = subst (λ (a : Result (Option Event) StepFault). Progress (take (length piece - taken) (drop taken piece)) n a) is progress in
       let some : 0 < n = p.1 (omega (arith, rest_length, room)) in
       (omega (arith, some), omega (arith, p.0, rest_length, room), tells_there e _ _ told (joined octets) (subst (λ (a : Result (Option Event) StepFault). Steps (take (length piece - taken) (drop taken piece)) n a next (octets ++ take taken piece) told) is (step_from octets told g)))
 
@@ -70,3 +78,6 @@ pub nexts_nothing : (old now : ServerChannel) (piece : List ℕ) (taken : ℕ) �
 nexts_nothing old now piece taken t all octets told g =
     let whole : taken ≡ length piece = omega (arith, t.within, all) in
     (whole, subst (λ (z : List ℕ). Goes now (octets ++ z) told) (ap (λ (k : ℕ). take k piece) whole ∙ take-length piece) (t.goes octets told g))
+
+pub progress_nothing : (old now : ServerChannel) (piece : List ℕ) (taken : ℕ) → Took old now piece taken → length piece ≤ taken → Progress {A = Option Event} {E = StepFault} piece taken (Ok None)
+progress_nothing old now piece taken t all = (t.within, λ some. omega (arith, some, all))

@@ -83,7 +83,7 @@ Steps piece n (Err step.OutOfMemory) new octets before = IsDone new
 Steps piece n (Err step.Closed) new octets before = ⊥
 
 -- what is taken is within the piece, and is something, where no fault comes, unless the piece is empty
-abbrev pub Progress : List ℕ → ℕ → Result (Option Event) StepFault → Type 0
+abbrev pub Progress : {A E : Type 0} → List ℕ → ℕ → Result A E → Type 0
 Progress piece n (Ok e) = (n ≤ length piece) × (0 < length piece → 0 < n)
 Progress piece n (Err fault) = n ≤ length piece
 

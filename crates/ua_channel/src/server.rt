@@ -220,6 +220,7 @@ impl ServerChannel {
     /// and says how many it took.
     fn next_event(&mut self, piece: &[u8]) -> (usize, Result<Option<Event>, StepFault>)
         ensures nexts { (octets : List ℕ) (told : List Told) → Goes self.old octets told → Nexts piece.now result.0 result.1 self.new octets told }
+        ensures progress { Progress piece.now result.0 result.1 }
         ensures limits { limits_of self.new ≡ limits_of self.old }
         ensures channel { channel_of self.new ≡ channel_of self.old }
         ensures numbers { self.new.numbers ≡ self.old.numbers }
@@ -306,6 +307,8 @@ impl ServerChannel {
     ) -> (usize, Result<ServerEvent, ChannelFault>)
         ensures answers { (octets : List ℕ) (told : List Told) → Goes self.old octets told
             → AnswersAt (channel_of self.old) (next_of self.old) moment piece.now result.0 result.1 self.new octets told }
+        ensures progress { Progress piece.now result.0 result.1 }
+        ensures within { result.0 ≤ length piece.now }
         ensures closed { IsDone self.old → (result.0 ≡ 0) × (result.1 ≡ Err fault.Closed) × (self.new ≡ self.old) }
         ensures limits { limits_of self.new ≡ limits_of self.old }
         ensures channel { channel_of self.new ≡ channel_of self.old }
@@ -384,6 +387,16 @@ impl ServerChannel {
                 Err(ReplyFault::OutOfMemory)
             }
         }
+    }
+
+    /// Ends the channel where no reply can be made: it then holds nothing and takes nothing more.
+    pub fn end(&mut self)
+        ensures done { IsDone self.new }
+        ensures limits { limits_of self.new ≡ limits_of self.old }
+        ensures channel { channel_of self.new ≡ channel_of self.old }
+        ensures bound { bound_of self.new ≡ bound_of self.old }
+    {
+        self.fail();
     }
 
     /// How many octets are held of unfinished messages.
