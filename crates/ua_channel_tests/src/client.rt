@@ -151,3 +151,50 @@ fn renews_a_token(rt: HostRuntime) {
         b"MSGF\x1A\0\0\0\x07\0\0\0\x02\0\0\0\x03\0\0\0\x03\0\0\0ab".as_slice()
     );
 }
+
+#[test]
+fn asks_at_most_sixty_four_calls_at_once(rt: HostRuntime) {
+    let mut channel = opened(&rt, rt.alloc());
+    assert!(rt; channel.judge(63, 1).is_ok());
+    assert!(rt; matches!(channel.judge(64, 1), Err(AskFault::TooManyPending)));
+    for wanted in 2..66u32 {
+        assert!(rt; matches!(channel.ask(b"ab"), Ok((id, _)) if id == wanted));
+    }
+    assert!(rt; matches!(channel.ask(b"ab"), Err(AskFault::TooManyPending)));
+    let reply = b"MSGF\x1A\0\0\0\x07\0\0\0\x01\0\0\0\x02\0\0\0\x02\0\0\0cd";
+    let (_, event) = channel.take(reply, MOMENT).expect(&rt, "an event");
+    drop(event);
+    assert!(rt; matches!(channel.ask(b"ab"), Ok((66, _))));
+}
+
+// The answer to a renewal under this request id and number, which issues this token.
+fn renewed(rt: &impl Abort, alloc: Global, request: u32, token: u32) -> Vec<u8> {
+    let mut out = Vec::new(alloc);
+    out.extend_from_slice(RENEWED).expect(rt, "memory");
+    for (place, number) in [(71usize, request), (75, request), (115, token)] {
+        let octets = number.to_le_bytes();
+        let field = out
+            .as_mut_slice()
+            .get_mut(place..place.saturating_add(4))
+            .expect(rt, "a field");
+        field.copy_from_slice(&octets);
+    }
+    out
+}
+
+// Tokens 1 to 16, of which the server has used none.
+#[test]
+fn holds_at_most_sixteen_tokens(rt: HostRuntime) {
+    let mut channel = opened(&rt, rt.alloc());
+    for token in 2..17u32 {
+        let (id, out) = channel.renew(MOMENT).expect(&rt, "an OPN");
+        drop(out);
+        assert_eq!(rt; id, token);
+        let octets = renewed(&rt, rt.alloc(), id, token);
+        let (_, event) = channel
+            .take(octets.as_slice(), MOMENT)
+            .expect(&rt, "an event");
+        assert!(rt; matches!(&event, ClientEvent::Renewed(it) if *it == token));
+    }
+    assert!(rt; matches!(channel.renew(MOMENT), Err(AskFault::TooManyTokens)));
+}

@@ -485,18 +485,49 @@ fn holds_up_to_its_bound(rt: HostRuntime) {
     assert_eq!(rt; channel.held(), 4_259_838);
 }
 
+// A channel that holds 256 empty chunks of the request id 2, and the next sequence number.
+fn full_of_empty_chunks(rt: &impl Abort, alloc: Global) -> (ServerChannel, u32) {
+    let mut channel = opened(rt, alloc, 1_048_576);
+    let mut sequence = 2;
+    for _ in 0..16 {
+        sequence = goes_on(rt, alloc, &mut channel, (sequence, 2), &[0; 16]);
+    }
+    (channel, sequence)
+}
+
 #[test]
 fn counts_empty_chunks(rt: HostRuntime) {
     for flag in [b'C', b'F'] {
-        let mut channel = opened(&rt, rt.alloc(), 1_048_576);
-        let mut sequence = 2;
-        for _ in 0..16 {
-            sequence = goes_on(&rt, rt.alloc(), &mut channel, (sequence, 2), &[0; 16]);
-        }
+        let (mut channel, sequence) = full_of_empty_chunks(&rt, rt.alloc());
         let octets = chunk(&rt, rt.alloc(), flag, (sequence, 2), 0);
         let row = (octets.as_slice(), Answer::Refuses(0x80B8_0000));
         takes(&rt, rt.alloc(), &mut channel, row);
     }
+}
+
+// The body of the abort is the StatusCode 0 and an empty Reason.
+#[test]
+fn takes_an_abort_behind_the_most_chunks(rt: HostRuntime) {
+    let (mut channel, sequence) = full_of_empty_chunks(&rt, rt.alloc());
+    let octets = chunk(&rt, rt.alloc(), b'A', (sequence, 2), 8);
+    let row = (octets.as_slice(), Answer::Aborts(2));
+    takes(&rt, rt.alloc(), &mut channel, row);
+    assert_eq!(rt; (channel.held(), channel.open_count()), (0, 0));
+}
+
+/// A message under the greatest request id of a call, and the reply to it.
+const LAST_CALL: Row<'static> = (
+    b"MSGF\x19\0\0\0\x07\0\0\0\x01\0\0\0\x02\0\0\0\xFE\xFF\xFF\xFF\xAA",
+    Answer::Asks(4_294_967_294, b"\xAA"),
+);
+
+const LAST_REPLY: &[u8] = b"MSGF\x19\0\0\0\x07\0\0\0\x01\0\0\0\x02\0\0\0\xFE\xFF\xFF\xFF\xEE";
+
+#[test]
+fn takes_the_greatest_request_id_of_a_call(rt: HostRuntime) {
+    let mut channel = opened(&rt, rt.alloc(), 1_048_576);
+    takes(&rt, rt.alloc(), &mut channel, LAST_CALL);
+    replies(&rt, &mut channel, 4_294_967_294, &[0xEE], LAST_REPLY);
 }
 
 #[test]
