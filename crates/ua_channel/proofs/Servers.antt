@@ -30,7 +30,7 @@ use Rattle.ua_channel.specs.ServerFaults.{of_frame_fault}
 use Rattle.ua_channel.specs.ServerParts.{Takes as TakesIt}
 use Rattle.ua_channel.specs.ServerRefusals.{server_reasons}
 use Rattle.ua_channel.specs.ServerRules.{server_gate}
-use Rattle.ua_channel.specs.ServerStands.{limits_of, channel_of, rules_of, phase_gate, bound_after, Holds, Stands, IsDone, Goes, GoesTelling, Ended, AtFrame, AtHeader, RefusedAt, GoesOn, JudgesFrame}
+use Rattle.ua_channel.specs.ServerStands.{limits_of, channel_of, rules_of, phase_gate, bound_after, Holds, Stands, IsDone, Goes, GoesTelling, ClosedAt, AtFrame, AtHeader, RefusedAt, GoesOn, JudgesFrame}
 use Rattle.ua_channel.specs.ServerTold.{Told}
 use Rattle.ua_channel.specs.ServerTold.Told.{Closed}
 use Rattle.ua_channel.proofs.OneFrameMore.{received-push}
@@ -119,7 +119,7 @@ module _ (x : ServerChannel) (octets piece : List ℕ) (n : ℕ) (told : List To
   empty_now = ap (λ (o : Reader). o.held) reader_at
 
   -- a close
-  closes : TakesIt (limits_of x) (channel_of x) (received g.frames) (content f) (Some inner.Closed) → GoesOn (after (received g.frames) (content f)).closed new (after (received g.frames) (content f)) → Ended new (octets ++ take n piece) (told ++ Closed ∷ []) Over
+  closes : TakesIt (limits_of x) (channel_of x) (received g.frames) (content f) (Some inner.Closed) → GoesOn (after (received g.frames) (content f)).closed new (after (received g.frames) (content f)) → ClosedAt new (octets ++ take n piece) (told ++ Closed ∷ [])
   unfolding new
   closes takes on =
       let last : (after (received g.frames) (content f)).closed ≡ true = closing (limits_of x) (received g.frames) (content f) takes.tells in
@@ -127,7 +127,6 @@ module _ (x : ServerChannel) (octets piece : List ℕ) (n : ℕ) (told : List To
       record {
         done = record { phase = done.0; empty = empty_now };
         frames = g.frames ++ f ∷ [];
-        rest = [];
         run = run_more Over takes.accepted (sym closed_now ∙ last);
         told_is = events-push (rules_of x) g.frames f ∙ (ap (λ (z : List Told). events (rules_of x) g.frames ++ z) takes.tells ∙ ap (λ (z : List Told). z ++ Closed ∷ []) g.told_is);
         bound_is = done.1 ∙ ap (bound_after (limits_of x)) (sym (received-push g.frames f));

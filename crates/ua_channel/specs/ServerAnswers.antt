@@ -4,7 +4,7 @@ use Rattle.std.specs.List.{concat}
 use Rattle.ua_builtin.specs.declared.date_time.DateTime.{DateTime}
 use Rattle.ua_frame.specs.Frames.{frame_octets}
 use Rattle.ua_frame.specs.Messages.{err_frame}
-use Rattle.ua_frame.specs.Run.{Stopped, Over}
+use Rattle.ua_frame.specs.Run.{Stopped}
 use Rattle.ua_channel.specs.declared.server.ServerChannel.{ServerChannel}
 use Rattle.ua_channel.specs.declared.server_event.Event.{Event}
 use Rattle.ua_channel.specs.declared.server_event.Event.TheVariants as inner
@@ -17,7 +17,7 @@ use Rattle.ua_channel.specs.declared.server_fault.StepFault.{StepFault}
 use Rattle.ua_channel.specs.declared.server_fault.StepFault.TheVariants as step
 use Rattle.ua_channel.specs.ServerEvents.{told_of}
 use Rattle.ua_channel.specs.ServerSends.{AreSent, counted_by}
-use Rattle.ua_channel.specs.ServerStands.{limits_of, channel_of, next_of, IsDone, Goes, GoesTelling, Ended, RefusedAt}
+use Rattle.ua_channel.specs.ServerStands.{limits_of, channel_of, next_of, IsDone, Goes, GoesTelling, Ended, ClosedAt, RefusedAt}
 use Rattle.ua_channel.specs.ServerTold.{Told}
 use Rattle.ua_channel.specs.ServerTold.{Told as told}
 
@@ -42,7 +42,7 @@ Hands channel number moment NeedMore new octets before = Goes new octets before 
 Hands channel number moment (Send sent) new octets before = Sends channel number moment sent.items new octets before
 Hands channel number moment (Asked id message) new octets before = Asks id message new octets before × (next_of new ≡ number)
 Hands channel number moment (Aborted id) new octets before = GoesTelling new octets before (told.GaveUp id) × (next_of new ≡ number)
-Hands channel number moment event.Closed new octets before = Ended new octets (before ++ told.Closed ∷ []) Over
+Hands channel number moment event.Closed new octets before = ClosedAt new octets (before ++ told.Closed ∷ [])
 
 -- how many octets of a piece are taken with an event: all where nothing came, else some
 abbrev pub Counts : List ℕ → ℕ → ServerEvent → Type 0
@@ -72,7 +72,7 @@ Tells (inner.Agreed a) new octets before = GoesTelling new octets before (told_o
 Tells (inner.Opened id handle token lifetime) new octets before = GoesTelling new octets before (told_of (inner.Opened id handle token lifetime))
 Tells (inner.Asked id token message) new octets before = GoesTelling new octets before (told_of (inner.Asked id token message))
 Tells (inner.Aborted id) new octets before = GoesTelling new octets before (told_of (inner.Aborted id))
-Tells inner.Closed new octets before = Ended new octets (before ++ told.Closed ∷ []) Over
+Tells inner.Closed new octets before = ClosedAt new octets (before ++ told.Closed ∷ [])
 
 -- one call of the reader, and what its frame comes to
 abbrev pub Steps : List ℕ → ℕ → Result (Option Event) StepFault → ServerChannel → List ℕ → List Told → Type 0
@@ -109,7 +109,7 @@ Answered channel number moment (Ok NeedMore) new octets before = ⊥
 Answered channel number moment (Ok (Send sent)) new octets before = Sends channel number moment sent.items new octets before
 Answered channel number moment (Ok (Asked id message)) new octets before = Asks id message new octets before × (next_of new ≡ number)
 Answered channel number moment (Ok (Aborted id)) new octets before = GoesTelling new octets before (told.GaveUp id) × (next_of new ≡ number)
-Answered channel number moment (Ok event.Closed) new octets before = Ended new octets (before ++ told.Closed ∷ []) Over
+Answered channel number moment (Ok event.Closed) new octets before = ClosedAt new octets (before ++ told.Closed ∷ [])
 Answered channel number moment (Err OutOfMemory) new octets before = IsDone new
 Answered channel number moment (Err (Refused code err)) new octets before = ⊥
 Answered channel number moment (Err Closed) new octets before = ⊥

@@ -8,7 +8,7 @@ use Rattle.ua_frame.specs.Frames.{frame_octets}
 use Rattle.ua_frame.specs.Hello.{hello_gate}
 use Rattle.ua_frame.specs.Kinds.{closed_gate}
 use Rattle.ua_frame.specs.Reader.{open_reader}
-use Rattle.ua_frame.specs.Run.{Rules, Run, events, End, Going, Stopped}
+use Rattle.ua_frame.specs.Run.{Rules, Run, events, End, Going, Stopped, Over}
 use Rattle.ua_chunk.specs.declared.lane.Lane.{Lane}
 use Rattle.ua_chunk.specs.Open.{open_octets}
 use Rattle.ua_channel.specs.declared.server.Phase.{Phase}
@@ -133,6 +133,14 @@ pub record Ended (x : ServerChannel) (octets : List ℕ) (told : List Told) (end
   pub frames : List Frame
   pub rest : List ℕ
   pub run : Run (rules_of x) octets frames rest end
+  pub told_is : events (rules_of x) frames ≡ told
+  pub bound_is : x.bound ≡ bound_after (limits_of x) (received frames)
+
+-- it closed at the last octet of these, that of a CLO, and its frames told this
+pub record ClosedAt (x : ServerChannel) (octets : List ℕ) (told : List Told) : Type 0 where
+  pub done : IsDone x
+  pub frames : List Frame
+  pub run : Run (rules_of x) octets frames [] Over
   pub told_is : events (rules_of x) frames ≡ told
   pub bound_is : x.bound ≡ bound_after (limits_of x) (received frames)
 
