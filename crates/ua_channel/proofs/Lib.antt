@@ -28,4 +28,5 @@ pub mod ClientAdvances
 mod MemoryLines
 pub mod ClientReadings
 mod PairedCalls
-mod Opened
+pub mod AgreedFirst
+pub mod Opened

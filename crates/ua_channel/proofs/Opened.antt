@@ -1,14 +1,17 @@
 -- When a channel is open.
-use Rattle.std.proofs.Common.{◌≡◌, ◌↔◌, ℕ, ◌<◌, List, [], ◌∷◌, Some, length, refl, sym, ap, subst, arith}
+use Rattle.std.proofs.Common.{◌≡◌, ◌↔◌, ℕ, ◌<◌, List, [], ◌∷◌, ◌++◌, Some, length, refl, sym, ◌∙◌, ap, subst, arith}
 use Rattle.ua_frame.specs.declared.frame.Frame.{Frame}
 use Rattle.ua_frame.specs.declared.limits.Limits.{Limits}
 use Rattle.ua_structures.specs.declared.secure_channel.OpenResponse.{OpenResponse}
 use Rattle.ua_channel.specs.Asks.{Asking, Placed, asked_in}
 use Rattle.ua_channel.specs.Client as client
 use Rattle.ua_channel.specs.ClientTokens.{channel_in, responses}
-use Rattle.ua_channel.specs.Content.{Opening}
-use Rattle.ua_channel.specs.Received.{Received, received}
+use Rattle.ua_channel.specs.Content.{Opening, content}
+use Rattle.ua_channel.specs.Content.Content.{Sends}
+use Rattle.ua_channel.specs.Received.{Received, received, after}
 use Rattle.ua_channel.specs.ServerStands as server
+use Rattle.ua_channel.specs.ServerTold.{Told}
+use Rattle.ua_channel.specs.ServerTold.Told.{Asked}
 use Rattle.ua_channel.specs.declared.client.channel.ClientChannel.{ClientChannel}
 use Rattle.ua_channel.specs.declared.client.fault.AskFault.TheVariants.{NotOpen}
 use Rattle.ua_channel.specs.declared.client.phase.Phase.{Phase as ClientPhase}
@@ -16,6 +19,8 @@ use Rattle.ua_channel.specs.declared.client.phase.Phase.TheVariants as asking
 use Rattle.ua_channel.specs.declared.server.Phase.{Phase}
 use Rattle.ua_channel.specs.declared.server.Phase.TheVariants.{Waiting, Greeted, Open, Done}
 use Rattle.ua_channel.specs.declared.server.ServerChannel.{ServerChannel}
+use Rattle.ua_channel.proofs.OneFrameMore.{received-push}
+use Rattle.ua_channel.proofs.Replies.{asks_by}
 
 -- ---- at a server
 
@@ -33,6 +38,19 @@ server_open x octets frames rest s = in_phase (server.limits_of x) x.phase (rece
 
 pub server_done : (x : ServerChannel) → server.IsDone x → server.IsNotOpen x
 server_done x d = subst server.HasNoToken (sym d.phase) tt
+
+-- where nothing was received but a Hello, no token was used
+none_used : (limits : Limits) (p : Phase) (before : Received) (token : ℕ) → server.InPhase limits p before → server.HasNoToken p → before.used ≡ Some token → ⊥
+none_used limits Waiting before token h none used = let e = ap (λ (b : Received). b.used) h in absurd cc
+none_used limits (Greeted a) before token h none used = let e = ap (λ (b : Received). b.used) h.before_is in absurd cc
+none_used limits (Open r) before token h none used = none
+none_used limits Done before token h none used = h
+
+pub server_asked : (x : ServerChannel) (octets : List ℕ) (told : List Told) (id token : ℕ) (message : List ℕ) → server.GoesTelling x octets told (Asked id token message) → server.IsNotOpen x → ⊥
+server_asked x octets told id token message g none =
+    let chunk = asks_by (server.limits_of x) (received g.frames) (content g.frame) id token message g.tells in
+    let now : received (g.frames ++ g.frame ∷ []) ≡ after (received g.frames) (Sends chunk.0) = received-push g.frames g.frame ∙ ap (after (received g.frames)) chunk.1 in
+    none_used (server.limits_of x) x.phase (received (g.frames ++ g.frame ∷ [])) chunk.0.token g.stands.holds.phase_is none (ap (λ (b : Received). b.used) now)
 
 -- ---- at a client
 

@@ -9,6 +9,7 @@ use Rattle.ua_frame.specs.Run.{events}
 use Rattle.ua_chunk.specs.Delivered.{given}
 use Rattle.ua_chunk.specs.Item.{Item}
 use Rattle.ua_chunk.specs.Item.Item.{Whole, Aborted}
+use Rattle.ua_chunk.specs.declared.chunk.Chunk.{Chunk}
 use Rattle.ua_chunk.specs.declared.lane.Lane.{Lane}
 use Rattle.ua_structures.specs.declared.secure_channel.OpenRequest.{OpenRequest}
 use Rattle.ua_channel.specs.declared.server.ServerChannel.{ServerChannel}
@@ -103,6 +104,17 @@ used_there limits before (Opens o) id used octets e = absurd (opened_other (issu
 used_there limits before (Sends c) id used octets e = item_token c.token (given before.messages c) id used octets e
 used_there limits before (Closes c) id used octets e = let x = told_is Closed (Asked id used octets) [] e in absurd cc
 used_there limits before Nothing id used octets e = absurd cc
+
+-- a message is told by a chunk of its own
+pub asks_by : (limits : Limits) (before : Received) (c : Content) (id used : ℕ) (octets : List ℕ) → server_tells limits before c ≡ Asked id used octets ∷ [] → (d : Chunk) × (c ≡ Sends d)
+asks_by limits before (Greets None) id used octets e = absurd cc
+asks_by limits before (Greets (Some h)) id used octets e = let x = told_is (Agreed _) (Asked id used octets) [] e in absurd cc
+asks_by limits before (Acks ack) id used octets e = absurd cc
+asks_by limits before (Fails error) id used octets e = absurd cc
+asks_by limits before (Opens o) id used octets e = absurd (opened_other (issued before + 1) o.numbers (request_of o) id used octets e)
+asks_by limits before (Sends c) id used octets e = (c, refl)
+asks_by limits before (Closes c) id used octets e = let x = told_is Closed (Asked id used octets) [] e in absurd cc
+asks_by limits before Nothing id used octets e = absurd cc
 
 hello_there : (limits : Limits) (before : Received) (c : Content) (id used : ℕ) (octets : List ℕ) → server_tells limits before c ≡ Asked id used octets ∷ [] → (after before c).hello ≡ before.hello
 hello_there limits before (Greets None) id used octets e = absurd cc

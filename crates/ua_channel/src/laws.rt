@@ -2,7 +2,7 @@
 //!
 //! Each function does nothing; its contract is the law.
 
-ghost use Rattle.std.specs.Prelude.{◌≡◌, ◌↔◌, ◌∷◌, ◌++◌, [], ℕ, List, Some};
+ghost use Rattle.std.specs.Prelude.{◌≡◌, ◌↔◌, ◌∷◌, ◌++◌, [], ℕ, List, None, Some};
 ghost use Rattle.ua_frame.specs.Laws.{HasOneReading, HasReadings, StopsAtFirstWrong};
 ghost use Rattle.ua_frame.specs.declared.frame.Frame.{Frame};
 ghost use Rattle.ua_frame.specs.declared.limits.Limits.{Limits};
@@ -50,9 +50,18 @@ pub fn server_replies()
         (a : Agreement) × (agreed_by before ≡ Some a) × (lane ≡ lane_of (channel_of x) token a) }
 {}
 
-/// No channel is open before the first OPN, and once the channel ended.
+/// What is told first is what the client and the server agree to, and nothing later is.
+pub fn server_agrees_first()
+    ensures first { (x : ServerChannel) (octets : List ℕ) (before : List Told) (e : Told) → GoesTelling x octets before e → agreed_by before ≡ None → (a : Agreement) × (e ≡ told.Agreed a) }
+    ensures once { (x : ServerChannel) (octets : List ℕ) (before : List Told) (e : Told) → GoesTelling x octets before e → (a b : Agreement) → agreed_by before ≡ Some a → e ≡ told.Agreed b → ⊥ }
+{}
+
+/// No channel is open before the first OPN, and once the channel ended; one that was asked a message
+/// is open.
 pub fn server_is_open()
     ensures stands { (x : ServerChannel) (octets : List ℕ) (frames : List Frame) (rest : List ℕ) →
         Stands x octets frames rest → IsNotOpen x ↔ ((received frames).openings ≡ []) }
     ensures done { (x : ServerChannel) → IsDone x → IsNotOpen x }
+    ensures asked { (x : ServerChannel) (octets : List ℕ) (before : List Told) (id token : ℕ) (message : List ℕ) →
+        GoesTelling x octets before (told.Asked id token message) → IsNotOpen x → ⊥ }
 {}
