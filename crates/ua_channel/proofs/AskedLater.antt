@@ -14,7 +14,7 @@ use Rattle.ua_channel.specs.Content.{content}
 use Rattle.ua_channel.specs.Received.{received}
 use Rattle.ua_channel.proofs.Askings.{asked_before-push}
 
-frames_octets-append : (fs gs : List Frame) → frames_octets (fs ++ gs) ≡ frames_octets fs ++ frames_octets gs
+pub frames_octets-append : (fs gs : List Frame) → frames_octets (fs ++ gs) ≡ frames_octets fs ++ frames_octets gs
 unfolding frames_octets
 frames_octets-append fs gs = flat_map-append frame_octets fs gs
 

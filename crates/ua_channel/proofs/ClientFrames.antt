@@ -38,7 +38,7 @@ unfolding text counted
 text_length None = length-number_octets 4 null_count
 text_length (Some v) = length-append (number_octets 4 (length v)) v ∙ ap (λ (n : ℕ). n + length v) (length-number_octets 4 (length v))
 
-hello_length : (limits : Limits) (url : Option (List ℕ)) → length (hello.canonical (hello_to limits url)) ≡ 24 + url_length url
+pub hello_length : (limits : Limits) (url : Option (List ℕ)) → length (hello.canonical (hello_to limits url)) ≡ 24 + url_length url
 unfolding hello
 hello_length limits url =
     omega (

@@ -72,7 +72,7 @@ module _ (x y : ClientChannel) (t u : Talking) (asks : List Placed) (octets : Li
 
 -- ---- an open channel's gate, and what it holds
 
-gate_some : (size n : ℕ) (rs : List OpenResponse) → channel_in rs ≡ Some n → gate_agreed size rs ≡ reply_gate size
+pub gate_some : (size n : ℕ) (rs : List OpenResponse) → channel_in rs ≡ Some n → gate_agreed size rs ≡ reply_gate size
 gate_some size n [] e = absurd cc
 gate_some size n (r ∷ rs) e = refl
 

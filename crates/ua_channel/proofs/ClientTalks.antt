@@ -40,33 +40,33 @@ use Rattle.ua_channel.proofs.HeldTokens.{held_by-used, held_by-push, latest-push
 
 -- ---- what one opening adds
 
-responses-push : (os : List Opening) (o : Opening) (r : OpenResponse) → answer_in o ≡ Some (Open r) → responses (os ++ o ∷ []) ≡ responses os ++ r ∷ []
+pub responses-push : (os : List Opening) (o : Opening) (r : OpenResponse) → answer_in o ≡ Some (Open r) → responses (os ++ o ∷ []) ≡ responses os ++ r ∷ []
 unfolding responses
 responses-push os o r is = flat_map-append (λ (p : Opening). response_listed (answer_in p)) os (o ∷ []) ∙ ap (λ (a : Option OpenAnswer). flat_map (λ (p : Opening). response_listed (answer_in p)) os ++ (response_listed a ++ [])) is
 
-opened_ids-push : (os : List Opening) (o : Opening) (n : ℕ × ℕ) → o.numbers ≡ Some n → opened_ids (os ++ o ∷ []) ≡ opened_ids os ++ n.1 ∷ []
+pub opened_ids-push : (os : List Opening) (o : Opening) (n : ℕ × ℕ) → o.numbers ≡ Some n → opened_ids (os ++ o ∷ []) ≡ opened_ids os ++ n.1 ∷ []
 unfolding opened_ids
 opened_ids-push os o n is = flat_map-append (λ (p : Opening). id_listed p.numbers) os (o ∷ []) ∙ ap (λ (a : Option (ℕ × ℕ)). flat_map (λ (p : Opening). id_listed p.numbers) os ++ (id_listed a ++ [])) is
 
-tokens_of-push : (rs : List OpenResponse) (r : OpenResponse) → tokens_of (rs ++ r ∷ []) ≡ tokens_of rs ++ r.token_id ∷ []
+pub tokens_of-push : (rs : List OpenResponse) (r : OpenResponse) → tokens_of (rs ++ r ∷ []) ≡ tokens_of rs ++ r.token_id ∷ []
 unfolding tokens_of
 tokens_of-push rs r = map-append (λ (q : OpenResponse). q.token_id) rs (r ∷ [])
 
-channel_in-push : (rs : List OpenResponse) (r : OpenResponse) (n : ℕ) → channel_in rs ≡ Some n → channel_in (rs ++ r ∷ []) ≡ Some n
+pub channel_in-push : (rs : List OpenResponse) (r : OpenResponse) (n : ℕ) → channel_in rs ≡ Some n → channel_in (rs ++ r ∷ []) ≡ Some n
 channel_in-push [] r n e = absurd cc
 channel_in-push (q ∷ rs) r n e = e
 
 -- ---- the first answer
 
-no_responses : responses [] ≡ []
+pub no_responses : responses [] ≡ []
 unfolding responses
 no_responses = refl
 
-no_ids : opened_ids [] ≡ []
+pub no_ids : opened_ids [] ≡ []
 unfolding opened_ids
 no_ids = refl
 
-no_tokens : tokens_of [] ≡ []
+pub no_tokens : tokens_of [] ≡ []
 unfolding tokens_of
 no_tokens = refl
 
@@ -130,11 +130,11 @@ one_of None n e = absurd cc
 one_of (Some m) n e = same_one m n (eqb m n) refl e
 
 -- an opening that comes after another is awaited where it answers the renewal
-awaited_later : (rs : List OpenResponse) (opened : List ℕ) (asked : List Asking) (id n : ℕ) → channel_in rs ≡ Some n → is_awaited rs opened asked id ≡ is_in id (pending_renewals opened asked)
+pub awaited_later : (rs : List OpenResponse) (opened : List ℕ) (asked : List Asking) (id n : ℕ) → channel_in rs ≡ Some n → is_awaited rs opened asked id ≡ is_in id (pending_renewals opened asked)
 awaited_later [] opened asked id n e = absurd cc
 awaited_later (r ∷ rs) opened asked id n e = refl
 
-later_tells : (rs : List OpenResponse) (r : OpenResponse) (n : ℕ) → channel_in rs ≡ Some n → told_response rs r ≡ told.Renewed r.token_id
+pub later_tells : (rs : List OpenResponse) (r : OpenResponse) (n : ℕ) → channel_in rs ≡ Some n → told_response rs r ≡ told.Renewed r.token_id
 later_tells [] r n e = absurd cc
 later_tells (q ∷ rs) r n e = refl
 
@@ -247,7 +247,7 @@ module _ (limits : Limits) (t : Talking) (before : Received) (asked : List Askin
 
 -- ---- what frames come to
 
-first_tail : {A : Type 0} (a : A) (b : Bool) (rs : List (A × Bool)) → first_reason ((a, b) ∷ rs) ≡ None → first_reason rs ≡ None
+pub first_tail : {A : Type 0} (a : A) (b : Bool) (rs : List (A × Bool)) → first_reason ((a, b) ∷ rs) ≡ None → first_reason rs ≡ None
 first_tail a true rs e = absurd cc
 first_tail a false rs e = e
 

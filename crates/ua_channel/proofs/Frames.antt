@@ -8,6 +8,8 @@ use Rattle.ua_frame.specs.declared.kind.Kind.TheVariants as kind
 use Rattle.ua_frame.specs.declared.limits.Limits.{Limits}
 use Rattle.ua_frame.specs.Hello.{hello_gate, hello_in}
 use Rattle.ua_frame.specs.Kinds.{lets_in}
+use Rattle.ua_frame.specs.Messages.{ack}
+use Rattle.ua_frame.specs.Whole.{whole_of}
 use Rattle.ua_chunk.specs.declared.chunk.Chunk.{Chunk}
 use Rattle.ua_chunk.specs.Layout.{chunk_in}
 use Rattle.ua_channel.specs.declared.running.Running.{Running}
@@ -20,7 +22,7 @@ use Rattle.ua_channel.specs.declared.server_fault.StepFault.{StepFault}
 use Rattle.ua_channel.specs.declared.server_fault.StepFault.TheVariants.{Refused, Closed, OutOfMemory}
 use Rattle.ua_channel.specs.Agreement.{Agreement}
 use Rattle.ua_channel.specs.Content.{Content, sends, closes, opening_of, content_by, content}
-use Rattle.ua_channel.specs.Content.Content.{Greets, Opens, Sends, Closes}
+use Rattle.ua_channel.specs.Content.Content.{Greets, Acks, Opens, Sends, Closes}
 use Rattle.ua_channel.specs.Received.{Received, nothing_received, or_before, after}
 use Rattle.ua_channel.specs.ServerParts.{AgreesTo, JudgesHello, HasGreeted, JudgesFirst, Stays, Judges, JudgesClose}
 use Rattle.ua_channel.specs.ServerRules.{opening_gate}
@@ -54,19 +56,23 @@ placed x p k is h = subst (λ (q : Phase). IsTrue (lets_in (phase_gate q) k)) (s
 
 -- ---- what frames of a kind carry
 
-content_hel : (f : Frame) → f.kind ≡ Hel → content f ≡ Greets (hello_in f.body)
+pub content_hel : (f : Frame) → f.kind ≡ Hel → content f ≡ Greets (hello_in f.body)
 unfolding content
 content_hel f e = ap (λ (k : Kind). content_by k f) e
 
-content_opn : (f : Frame) → f.kind ≡ Opn → content f ≡ Opens (opening_of f.body)
+pub content_ack : (f : Frame) → f.kind ≡ kind.Ack → content f ≡ Acks (whole_of ack f.body)
+unfolding content
+content_ack f e = ap (λ (k : Kind). content_by k f) e
+
+pub content_opn : (f : Frame) → f.kind ≡ Opn → content f ≡ Opens (opening_of f.body)
 unfolding content
 content_opn f e = ap (λ (k : Kind). content_by k f) e
 
-content_msg : (f : Frame) (c : Chunk) → f.kind ≡ Msg → chunk_in f ≡ Some c → content f ≡ Sends c
+pub content_msg : (f : Frame) (c : Chunk) → f.kind ≡ Msg → chunk_in f ≡ Some c → content f ≡ Sends c
 unfolding content
 content_msg f c e h = ap (λ (k : Kind). content_by k f) e ∙ ap sends h
 
-content_clo : (f : Frame) (c : Chunk) → f.kind ≡ Clo → chunk_in f ≡ Some c → content f ≡ Closes c
+pub content_clo : (f : Frame) (c : Chunk) → f.kind ≡ Clo → chunk_in f ≡ Some c → content f ≡ Closes c
 unfolding content
 content_clo f c e h = ap (λ (k : Kind). content_by k f) e ∙ ap closes h
 

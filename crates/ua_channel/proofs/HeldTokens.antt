@@ -52,7 +52,7 @@ again_by true k n m ms more e = refl
 again_by false k n m ms more e =
     more e ∙ sym (ap (λ (t : Bool). if t then m ∷ ms else from_last k ms) (and_not (eqb m k) (is_in k ms) (in_from_last k n ms e)))
 
-from_last-again : (k n : ℕ) (ms : List ℕ) → is_in k (from_last n ms) ≡ true → from_last k (from_last n ms) ≡ from_last k ms
+pub from_last-again : (k n : ℕ) (ms : List ℕ) → is_in k (from_last n ms) ≡ true → from_last k (from_last n ms) ≡ from_last k ms
 from_last-again k n [] e = refl
 from_last-again k n (m ∷ ms) e = again_by (eqb m n && not (is_in n ms)) k n m ms (from_last-again k n ms) e
 
@@ -145,7 +145,7 @@ stays_by true false k m ms is rec e = ap (λ (b : Bool). b || is_in k ms) is
 stays_by false true k m ms is rec e = rec refl
 stays_by false false k m ms is rec e = absurd cc
 
-stays_in : (k : ℕ) (ms : List ℕ) → is_in k ms ≡ true → is_in k (from_last k ms) ≡ true
+pub stays_in : (k : ℕ) (ms : List ℕ) → is_in k ms ≡ true → is_in k (from_last k ms) ≡ true
 stays_in k [] e = e
 stays_in k (m ∷ ms) e = stays_by (eqb m k) (is_in k ms) k m ms refl (stays_in k ms) e
 

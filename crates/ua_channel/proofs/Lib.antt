@@ -27,6 +27,15 @@ pub mod ClientSteps
 pub mod ClientAdvances
 mod MemoryLines
 pub mod ClientReadings
+pub mod ReadOn
+pub mod Written
+pub mod WithChunks
+pub mod ServerTakes
+pub mod ServerReading
+pub mod ClientTakes
+pub mod ClientReading
+pub mod Following
+pub mod ClientSending
 mod PairedCalls
 pub mod AgreedFirst
 pub mod Opened

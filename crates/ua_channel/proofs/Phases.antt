@@ -21,7 +21,7 @@ use Rattle.ua_channel.specs.ServerTold.Told.{Agreed, Opened, Closed}
 
 -- ---- gates
 
-greeted_by : (size count : ℕ) → 0 < count → gate_greeted size count ≡ running_gate size
+pub greeted_by : (size count : ℕ) → 0 < count → gate_greeted size count ≡ running_gate size
 greeted_by size count some = ap (λ (b : Bool). if b then opening_gate size else running_gate size) (ne_eqb count 0 (λ e. omega (arith, e, some)))
 
 -- the gate of a phase is the one for what comes next

@@ -41,13 +41,13 @@ fault_code OutOfMemory = 0
 fault_code Closed = 0
 
 -- a MSG is judged by its ids, and then as the assembler judges its chunk
-judged_sends : (limits : Limits) (channel : ℕ) (before : Received) (c : Chunk) → first_reason (server_reasons limits channel before (Sends c))
+pub judged_sends : (limits : Limits) (channel : ℕ) (before : Received) (c : Chunk) → first_reason (server_reasons limits channel before (Sends c))
     ≡ first_reason (ids_reasons c channel (last_used before) (issued before) ++ map (renamed_reason fault_code) (reasons limits.max_message_size limits.max_chunk_count before.last before.messages c))
 unfolding fault_code
 judged_sends limits channel before c = refl
 
 -- a CLO is judged by its ids, and then by its number
-judged_closes : (limits : Limits) (channel : ℕ) (before : Received) (c : Chunk) → first_reason (server_reasons limits channel before (Closes c))
+pub judged_closes : (limits : Limits) (channel : ℕ) (before : Received) (c : Chunk) → first_reason (server_reasons limits channel before (Closes c))
     ≡ first_reason (ids_reasons c channel (last_used before) (issued before) ++ (0x8088_0000, not (may_follow before.last c.sequence)) ∷ [])
 judged_closes limits channel before c = refl
 

@@ -25,6 +25,9 @@ pub mod Client
 pub mod ClientAnswers
 pub mod ClientParts
 pub mod Paired
+-- What one end reads of what the other writes.
+pub mod ServerReads
+pub mod ClientReads
 -- The line under a connection, and moments.
 pub mod Line
 pub mod MemoryLine

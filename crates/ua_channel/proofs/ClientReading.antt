@@ -1,0 +1,685 @@
+-- That a client takes what a server writes, one message after the other.
+use Rattle.std.proofs.Common.{◌≡◌, ℕ, ◌+◌, ◌<◌, ◌≤◌, ◌^◌, min, Bool, true, false, IsTrue, ◌||◌, eqb, ltb, List, [], ◌∷◌, ◌++◌, Option, Some, None, length, map, refl, sym, ◌∙◌, ap, subst, arith, append_assoc, append-nil, length-append}
+use Rattle.std.specs.List.{AllByRecursion}
+use Rattle.std.proofs.lemmas.Bool.{and_from, and_parts, eq-eqb, le-ltb, ltb-true}
+use Rattle.ua_builtin.specs.NodeId.{node_id}
+use Rattle.ua_builtin.specs.Reasons.{first_reason}
+use Rattle.ua_builtin.specs.Status.{of_code, status_code}
+use Rattle.ua_builtin.specs.declared.status_code.StatusCode.{StatusCode}
+use Rattle.ua_octets.specs.Counted.{counted, text}
+use Rattle.ua_builtin.specs.declared.date_time.DateTime.{DateTime}
+use Rattle.ua_frame.specs.declared.ack.Ack.{Ack}
+use Rattle.ua_frame.specs.declared.frame.Frame.{Frame}
+use Rattle.ua_frame.specs.declared.gate.Gate.{Gate}
+use Rattle.ua_frame.specs.declared.limits.Limits.{Limits}
+use Rattle.ua_frame.specs.declared.kind.Kind.{Kind}
+use Rattle.ua_frame.specs.declared.kind.Kind.TheVariants as kind
+use Rattle.ua_frame.specs.Kinds.{has_flag, least_size, lets_in}
+use Rattle.ua_frame.specs.Agreement.{ack_to}
+use Rattle.ua_frame.specs.After.{AllFrom, each_from}
+use Rattle.ua_frame.specs.Frames.{LetsIn, frame_octets, frame_size, frames_octets}
+use Rattle.ua_frame.specs.Messages.{ack, ack_frame}
+use Rattle.ua_frame.specs.Run.{Fits, Going, Run}
+use Rattle.ua_frame.proofs.MessagesLawful.{sound_ack}
+use Rattle.ua_frame.proofs.Streams.{events-push, run_nil}
+use Rattle.ua_frame.proofs.Wholes.{whole_encodes}
+use Rattle.ua_octets.specs.Number.{number_octets}
+use Rattle.ua_octets.proofs.NumbersRead.{length-number_octets}
+use Rattle.ua_services.specs.Message.{message, standard}
+use Rattle.ua_services.specs.Open.{answer_read}
+use Rattle.ua_services.specs.declared.open.OpenAnswer.TheVariants.{Open}
+use Rattle.ua_services.proofs.BodyLaws.{body_reads_back}
+use Rattle.ua_services.proofs.Lengths.{open_response_length}
+use Rattle.ua_services.proofs.MessageRead.{answer_read-is}
+use Rattle.ua_services.proofs.MessagesLawful.{lawful_message}
+use Rattle.ua_structures.specs.Plain.{open_response_of}
+use Rattle.ua_structures.specs.SecureChannel.{open_response}
+use Rattle.ua_structures.specs.declared.secure_channel.OpenResponse.{OpenResponse}
+use Rattle.ua_structures.proofs.PlainFits.{open_response_fits}
+use Rattle.ua_structures.proofs.SecureChannelLawful.{lawful_open_response}
+use Rattle.ua_chunk.specs.declared.chunk.Chunk.{Chunk}
+use Rattle.ua_chunk.specs.declared.fault.CutFault.{CutFault}
+use Rattle.ua_chunk.specs.declared.fault.CutFault.TheVariants.{TooManyOctets, TooManyChunks}
+use Rattle.ua_chunk.specs.declared.flag.Flag.TheVariants.{F, C}
+use Rattle.ua_chunk.specs.declared.lane.Lane.{Lane}
+use Rattle.ua_chunk.specs.Abort.{abort_body}
+use Rattle.ua_chunk.specs.Cutting.{abort_chunk, chunk_of, chunks_octets, chunks_of, cut_refusal, numbered, number_after, pieces}
+use Rattle.ua_chunk.specs.Delivered.{aborted, delivered_behind}
+use Rattle.ua_chunk.specs.Item.{Item}
+use Rattle.ua_chunk.specs.Item.Item.{Whole, Aborted}
+use Rattle.ua_chunk.specs.Layout.{frame_of}
+use Rattle.ua_chunk.specs.Open.{open_ids}
+use Rattle.ua_chunk.specs.Pending.{without}
+use Rattle.ua_chunk.specs.Refusal.{TakesMessages, message_refusal, passes}
+use Rattle.ua_chunk.specs.Sequence.{may_follow, next_number, ordered}
+use Rattle.ua_chunk.proofs.CutLaws.{cut_messages, follows_next}
+use Rattle.ua_chunk.proofs.OneMore.{open_push}
+use Rattle.ua_chunk.proofs.Fresh.{some_pieces}
+use Rattle.ua_chunk.proofs.Pieces.{next_small}
+use Rattle.ua_chunk.proofs.ReaderLaws.{abort_written}
+use Rattle.ua_channel.specs.Asks.{Asking, Placed, asked_before, asked_in, calls, end_of, id_of, is_in, next_id, pending_calls, pending_renewals, renewals}
+use Rattle.ua_channel.specs.Asks.Asking.{Call, Renewal}
+use Rattle.ua_channel.specs.ClientReads.{AtClient, ClientAgrees, ClientReads, IsAnswered, IsLaneBack, told_reply, with_answer, with_call, with_renewal, with_reply, without_id}
+use Rattle.ua_channel.specs.ClientSends.{hello_to}
+use Rattle.ua_channel.specs.ClientTable.{answer_gate, client_gate, client_reasons, client_rules, gate_agreed, gate_behind, is_awaited, is_outside, reply_gate}
+use Rattle.ua_channel.specs.ClientTokens.{answer_in, channel_in, from_last, held_by, held_tokens, opened_ids, responses, tokens_of}
+use Rattle.ua_channel.specs.ClientTold.{Told, Told as event, client_tells, told_item}
+use Rattle.ua_channel.specs.Content.{Content, Opening, content}
+use Rattle.ua_channel.specs.Content.Content.{Acks, Opens, Sends}
+use Rattle.ua_channel.specs.Received.{Received, after, latest, nothing_received, number_or, received}
+use Rattle.ua_channel.specs.ServerReads.{IsBodyFor}
+use Rattle.ua_channel.specs.ServerSends.{opened_frame, replied, replied_by}
+use Rattle.ua_channel.proofs.AskedLater.{asked_later}
+use Rattle.ua_channel.proofs.Askings.{all-push, all-weaken, asked_in-push, pending_below, pending_calls-call, pending_calls-more, pending_calls-renewal, pending_renewals-call, pending_renewals-more, pending_renewals-renewal, renewal_below}
+use Rattle.ua_channel.proofs.ClientAsking.{first_unset}
+use Rattle.ua_channel.proofs.ClientTakes.{IsReady, IsSent, all_asked, fits_one, fits_pieces, told_chunks, tokens_used}
+use Rattle.ua_channel.proofs.ClientTalks.{first_tail, responses-push, opened_ids-push, tokens_of-push, channel_in-push, no_ids, no_responses, no_tokens, awaited_later, later_tells}
+use Rattle.ua_channel.proofs.Frames.{content_ack, content_opn}
+use Rattle.ua_channel.proofs.HeldTokens.{from_last-again, held_by-push, latest-from_last, latest-push, stays_in}
+use Rattle.ua_channel.proofs.OneFrameMore.{received-nil, received-push}
+use Rattle.ua_channel.proofs.ReadOn.{events_on, no_events, one_octets, run_on, run_one}
+use Rattle.ua_channel.proofs.ServerReading.{body_behind, body_delivered}
+use Rattle.ua_channel.proofs.WithChunks.{IsBehind, chunks_ack, cut_ordered, chunks_messages, chunks_openings, received_chunks, with_chunks}
+use Rattle.ua_channel.proofs.Written.{IsNumbered, IsOf, after_small, chunks_are, none_header, opening_carried, opening_size}
+
+-- ---- ACK
+
+outside_none : (a b c d : Bool) → a ≡ false → b ≡ false → c ≡ false → d ≡ false → (((a || b) || c) || d) ≡ false
+outside_none a b c d e f g h = rw (e, f, g, h) refl
+
+ack_sized : (a : Ack) → IsTrue (ack.encodable a) → a.send_buffer_size < 2 ^ 32
+unfolding ack
+ack_sized a e =
+    let x = and_parts (ltb a.protocol_version (256 ^ 4)) _ e in
+    let y = and_parts (ltb a.receive_buffer_size (256 ^ 4)) _ x.1 in
+    let z = and_parts (ltb a.send_buffer_size (256 ^ 4)) _ y.1 in
+    omega (arith, ltb-true a.send_buffer_size (256 ^ 4) z.0)
+
+ack_length : (a : Ack) → length (ack.canonical a) ≡ 20
+unfolding ack
+ack_length a =
+    let p = number_octets 4 a.protocol_version in
+    let q = number_octets 4 a.receive_buffer_size in
+    let r = number_octets 4 a.send_buffer_size in
+    let s = number_octets 4 a.max_message_size in
+    let t = number_octets 4 a.max_chunk_count in
+    omega (
+      arith,
+      length-append p (q ++ (r ++ (s ++ t))),
+      length-append q (r ++ (s ++ t)),
+      length-append r (s ++ t),
+      length-append s t,
+      length-number_octets 4 a.protocol_version,
+      length-number_octets 4 a.receive_buffer_size,
+      length-number_octets 4 a.send_buffer_size,
+      length-number_octets 4 a.max_message_size,
+      length-number_octets 4 a.max_chunk_count,
+    )
+
+module _ (limits : Limits) (a : Ack) (fits : IsTrue (ack.encodable a)) (inside : is_outside limits a ≡ false) (large : 8192 ≤ a.send_buffer_size) where
+  ack_carried : content (ack_frame a) ≡ Acks (Some a)
+  ack_carried = content_ack (ack_frame a) refl ∙ ap Acks (whole_encodes ack sound_ack (ack.canonical a) a (sound_ack.canonical_encodes a fits))
+
+  ack_good : (b : Received) (asked : List Asking) → first_reason (client_reasons limits b asked (Acks (Some a))) ≡ None
+  ack_good b asked = rw inside refl
+
+  ack_received : received (ack_frame a ∷ []) ≡ record nothing_received { ack = Some a }
+  ack_received = received-push [] (ack_frame a) ∙ (ap (λ (b : Received). after b (content (ack_frame a))) received-nil ∙ ap (after nothing_received) ack_carried)
+
+  ack_size : frame_size (ack_frame a) ≡ 28
+  ack_size = omega (arith, ack_length a)
+
+  reads_acknowledge : ClientAgrees limits (frame_octets (ack_frame a)) (event.Agreed a ∷ []) a
+  reads_acknowledge = record {
+    frames = ack_frame a ∷ [];
+    run =
+        run_one (client_rules limits []) [] [] (ack_frame a) (run_nil (client_rules limits []) refl) (record {
+          goes_on = refl;
+          sized = omega (arith, ack_size);
+          let_in = subst (λ (g : Gate). LetsIn g (ack_frame a)) (sym (ap client_gate received-nil)) (record { kind = refl; flag = refl; largest = omega (arith, ack_size); least = omega (arith, ack_size) });
+          accepted = ap (λ (k : Content). first_reason (client_reasons limits (received []) (asked_before (end_of [] (ack_frame a)) []) k)) ack_carried ∙ ack_good (received []) (asked_before (end_of [] (ack_frame a)) []);
+        }) refl;
+    told_is = events-push (client_rules limits []) [] (ack_frame a) ∙ (ap (λ (ts : List Told). ts ++ client_tells (received []) (content (ack_frame a))) (no_events (client_rules limits [])) ∙ ap (client_tells (received [])) ack_carried);
+    received_is = ack_received;
+    large = large;
+    sized = ack_sized a fits;
+  }
+
+-- the ACK of a server to this client's HEL
+pub reads_ack : (limits server : Limits) (url : Option (List ℕ)) → IsTrue (ack.encodable (ack_to (hello_to limits url) server))
+    → ClientAgrees limits (frame_octets (ack_frame (ack_to (hello_to limits url) server))) (event.Agreed (ack_to (hello_to limits url) server) ∷ []) (ack_to (hello_to limits url) server)
+reads_ack limits server url fits =
+    reads_acknowledge limits (ack_to (hello_to limits url) server) fits
+    (outside_none (ltb (min server.receive_buffer_size limits.send_buffer_size) 8192) (ltb (min server.send_buffer_size limits.receive_buffer_size) 8192)
+    (ltb limits.send_buffer_size (min server.receive_buffer_size limits.send_buffer_size)) (ltb limits.receive_buffer_size (min server.send_buffer_size limits.receive_buffer_size))
+    (le-ltb (min server.receive_buffer_size limits.send_buffer_size) 8192 (omega (arith, server.receives, limits.sends)))
+    (le-ltb (min server.send_buffer_size limits.receive_buffer_size) 8192 (omega (arith, server.sends, limits.receives)))
+    (le-ltb limits.send_buffer_size (min server.receive_buffer_size limits.send_buffer_size) (omega arith))
+    (le-ltb limits.receive_buffer_size (min server.send_buffer_size limits.receive_buffer_size) (omega arith)))
+    (omega (arith, server.sends, limits.receives))
+
+-- ---- OPN
+
+answer_fits : IsTrue (node_id.encodable (standard 449))
+unfolding node_id
+answer_fits = refl
+
+response_read : (m : OpenResponse) → IsTrue (open_response.encodable m) → answer_read ((message 449 open_response).canonical m) ≡ Some (Open m)
+response_read m fits =
+    (answer_read-is ((message 449 open_response).canonical m) (Open m)).1
+    (body_reads_back (message 449 open_response) (lawful_message 449 lawful_open_response) m (and_from (node_id.encodable (standard 449)) (open_response.encodable m) answer_fits fits)).0
+
+module _ (channel number id handle token lifetime : ℕ) (moment : DateTime) (is : IsAnswered channel number id handle token lifetime moment) where
+  response : OpenResponse
+  response = open_response_of moment handle channel token lifetime
+
+  answer : Opening
+  answer = record { security = Some (none_header channel); numbers = Some (number, id); body = (message 449 open_response).canonical (open_response_of moment handle channel token lifetime) }
+
+  opened_carried : content (opened_frame channel number id handle token lifetime moment) ≡ Opens answer
+  unfolding answer
+  opened_carried =
+      content_opn (opened_frame channel number id handle token lifetime moment) refl
+      ∙ ap Opens (opening_carried channel number id ((message 449 open_response).canonical (open_response_of moment handle channel token lifetime)) is.channel_small (omega (arith, is.number_small)) is.id_small)
+
+  answer_is : answer_in answer ≡ Some (Open response)
+  unfolding answer_in answer response
+  answer_is = response_read (open_response_of moment handle channel token lifetime) (open_response_fits moment handle channel token lifetime is.moment_fits is.handle_small is.channel_small is.token_small is.lifetime_small)
+
+  opened_size : frame_size (opened_frame channel number id handle token lifetime moment) ≡ 135
+  opened_size = omega (arith, opening_size channel number id ((message 449 open_response).canonical (open_response_of moment handle channel token lifetime)), open_response_length moment handle channel token lifetime)
+
+  -- the first answer
+  first_good : (limits : Limits) (a : Ack) (asked : List Asking) → id ≡ 1 → first_reason (client_reasons limits (record nothing_received { ack = Some a }) asked (Opens answer)) ≡ None
+  unfolding answer held_tokens response
+  first_good limits a asked one = rw (answer_is, no_responses, no_tokens, eq-eqb id 1 one) refl
+
+  first_tells : (a : Ack) → client_tells (record nothing_received { ack = Some a }) (Opens answer) ≡ event.Opened channel token ∷ []
+  unfolding response
+  first_tells a = rw (answer_is, no_responses) refl
+
+-- an OPN is let in behind an ACK
+lets_opn : (a : Ack) (rs : List OpenResponse) (f : Frame) → f.kind ≡ kind.Opn → f.flag ≡ 70 → frame_size f ≤ a.send_buffer_size → 32 ≤ frame_size f → LetsIn (gate_agreed a.send_buffer_size rs) f
+lets_opn a [] f is flag fits least = record {
+  kind = ap (lets_in (answer_gate a.send_buffer_size)) is;
+  flag = ap (λ (k : Kind). has_flag k f.flag) is ∙ ap (has_flag kind.Opn) flag;
+  largest = fits;
+  least = subst (λ (k : Kind). least_size k ≤ frame_size f) (sym is) least;
+}
+lets_opn a (r ∷ rs) f is flag fits least = record {
+  kind = ap (lets_in (reply_gate a.send_buffer_size)) is;
+  flag = ap (λ (k : Kind). has_flag k f.flag) is ∙ ap (has_flag kind.Opn) flag;
+  largest = fits;
+  least = subst (λ (k : Kind). least_size k ≤ frame_size f) (sym is) least;
+}
+
+no_asks : asked_in [] ≡ []
+unfolding asked_in
+no_asks = refl
+
+none_pending : (cs : List Chunk) → pending_calls cs [] ≡ []
+unfolding pending_calls calls
+none_pending cs = refl
+
+none_renewed : (ids : List ℕ) → pending_renewals ids [] ≡ []
+unfolding pending_renewals renewals
+none_renewed ids = refl
+
+module _ (limits : Limits) (octets : List ℕ) (told : List Told) (a : Ack) (channel number handle token lifetime : ℕ) (moment : DateTime)
+    (r : ClientAgrees limits octets told a) (is : IsAnswered channel number 1 handle token lifetime moment) where
+  o : Opening
+  o = answer channel number 1 handle token lifetime moment is
+
+  f : Frame
+  f = opened_frame channel number 1 handle token lifetime moment
+
+  before : Received
+  before = record nothing_received { ack = Some a }
+
+  o_carried : content f ≡ Opens o
+  unfolding f o
+  o_carried = opened_carried channel number 1 handle token lifetime moment is
+
+  o_answers : answer_in o ≡ Some (Open (open_response_of moment handle channel token lifetime))
+  unfolding o response
+  o_answers = answer_is channel number 1 handle token lifetime moment is
+
+  o_numbers : o.numbers ≡ Some (number, 1)
+  unfolding o answer
+  o_numbers = refl
+
+  now : received (r.frames ++ f ∷ []) ≡ after before (Opens o)
+  unfolding before
+  now = received-push r.frames f ∙ (ap (λ (b : Received). after b (content f)) r.received_is ∙ ap (after (record nothing_received { ack = Some a })) o_carried)
+
+  one_response : responses (o ∷ []) ≡ open_response_of moment handle channel token lifetime ∷ []
+  one_response = responses-push [] o (open_response_of moment handle channel token lifetime) o_answers ∙ ap (λ (rs : List OpenResponse). rs ++ open_response_of moment handle channel token lifetime ∷ []) no_responses
+
+  one_id : opened_ids (o ∷ []) ≡ 1 ∷ []
+  one_id = opened_ids-push [] o (number, 1) o_numbers ∙ ap (λ (ids : List ℕ). ids ++ 1 ∷ []) no_ids
+
+  one_token : held_tokens (after before (Opens o)) ≡ token ∷ []
+  unfolding held_tokens before
+  one_token = ap tokens_of one_response ∙ (tokens_of-push [] (open_response_of moment handle channel token lifetime) ∙ ap (λ (ts : List ℕ). ts ++ token ∷ []) no_tokens)
+
+  f_size : frame_size f ≡ 135
+  unfolding f
+  f_size = opened_size channel number 1 handle token lifetime moment is
+
+  f_in : LetsIn ((client_rules limits []).gate r.frames) f
+  unfolding f
+  f_in =
+      subst (λ (g : Gate). LetsIn g f) (sym (ap client_gate r.received_is))
+      (lets_opn a (responses []) f refl refl (omega (arith, f_size, r.large)) (omega (arith, f_size)))
+
+  pub reads_opened : ClientReads limits [] (octets ++ frame_octets (opened_frame channel number 1 handle token lifetime moment)) (told ++ event.Opened channel token ∷ [])
+      (record { ack = a; channel = channel; tokens = token ∷ []; newest = token; pending = []; renewals = []; next = next_number number })
+  unfolding f before o answer
+  reads_opened = record {
+    frames = r.frames ++ f ∷ [];
+    run =
+        run_one (client_rules limits []) octets r.frames f r.run (record {
+          goes_on = refl;
+          sized = omega (arith, f_size);
+          let_in = f_in;
+          accepted =
+              ap (λ (b : Received). first_reason (client_reasons limits b (asked_before (end_of r.frames f) []) (content f))) r.received_is
+              ∙ (ap (λ (k : Content). first_reason (client_reasons limits (record nothing_received { ack = Some a }) (asked_before (end_of r.frames f) []) k)) o_carried
+              ∙ first_good channel number 1 handle token lifetime moment is limits a (asked_before (end_of r.frames f) []) refl);
+        }) refl;
+    placed = tt;
+    told_is =
+        events-push (client_rules limits []) r.frames f
+        ∙ (ap (λ (ts : List Told). ts ++ client_tells (received r.frames) (content f)) r.told_is
+        ∙ ap (λ (ts : List Told). told ++ ts) (ap (λ (b : Received). client_tells b (content f)) r.received_is ∙ (ap (client_tells (record nothing_received { ack = Some a })) o_carried ∙ first_tells channel number 1 handle token lifetime moment is a)));
+    ack_is = ap (λ (b : Received). b.ack) now;
+    large = r.large;
+    sized = r.sized;
+    channel_is = ap (λ (b : Received). channel_in (responses b.openings)) now ∙ ap channel_in one_response;
+    tokens_are = ap held_tokens now ∙ one_token;
+    newest_is = refl;
+    pending_are = ap (λ (b : Received). pending_calls b.messages (asked_in [])) now ∙ (ap (pending_calls []) no_asks ∙ none_pending []);
+    renewals_are = ap (λ (b : Received). pending_renewals (opened_ids b.openings) (asked_in [])) now ∙ (ap (pending_renewals (opened_ids (o ∷ []))) no_asks ∙ none_renewed (opened_ids (o ∷ [])));
+    asked_below = subst (λ (ss : List Asking). AllByRecursion (λ (x : Asking). id_of x < next_id ss) ss) (sym no_asks) tt;
+    sent_below = subst (λ (b : Received). AllByRecursion (λ (c : Chunk). c.request < next_id (asked_in [])) b.messages) (sym now) tt;
+    opened_below =
+        subst (λ (b : Received). AllByRecursion (λ (id : ℕ). id < next_id (asked_in [])) (opened_ids b.openings)) (sym now)
+        (subst (λ (ids : List ℕ). AllByRecursion (λ (id : ℕ). id < next_id (asked_in [])) ids) (sym one_id) (omega arith, tt));
+    follows = ap (λ (b : Received). may_follow b.last (next_number number)) now ∙ (ap (λ (n : Option (ℕ × ℕ)). may_follow (number_or None n) (next_number number)) o_numbers ∙ follows_next number);
+    next_small = next_small number is.number_small;
+    none_open = ap (λ (b : Received). open_ids b.messages) now;
+  }
+
+-- ---- asks
+
+below_more : {X : Type 0} (id : X → ℕ) (n m : ℕ) (xs : List X) → n ≤ m → AllByRecursion (λ (x : X). id x < n) xs → AllByRecursion (λ (x : X). id x < m) xs
+below_more {X = X} id n m xs le all = all-weaken (λ (x : X). id x < n) (λ (x : X). id x < m) xs (λ x less. omega (arith, less, le)) all
+
+next_more : (asks : List Placed) (p : Placed) → next_id (asked_in (asks ++ p ∷ [])) ≡ next_id (asked_in asks) + 1
+next_more asks p = omega (arith, ap length (asked_in-push asks p), length-append (asked_in asks) (p.1 ∷ []))
+
+module _ (limits : Limits) (asks : List Placed) (octets : List ℕ) (told : List Told) (at : AtClient) (ask : Asking) (r : ClientReads limits asks octets told at) (id_is : id_of ask ≡ next_id (asked_in asks)) where
+  more : List Placed
+  more = asks ++ (length octets, ask) ∷ []
+
+  run_asked : Run (client_rules limits more) octets r.frames [] Going
+  unfolding more
+  run_asked = asked_later limits asks (length octets, ask) octets r.frames [] (omega arith) r.run
+
+  -- an ask behind the octets, where these calls and renewals are then unanswered
+  reads_asked : (pending waiting : List ℕ) → pending_calls (received r.frames).messages (asked_in asks ++ ask ∷ []) ≡ pending → pending_renewals (opened_ids (received r.frames).openings) (asked_in asks ++ ask ∷ []) ≡ waiting
+      → ClientReads limits (asks ++ (length octets, ask) ∷ []) octets told (record at { pending = pending; renewals = waiting })
+  unfolding more
+  reads_asked pending waiting calls_are answers_are = record {
+    frames = r.frames;
+    run = run_asked;
+    placed = all-push (λ (p : Placed). p.0 ≤ length octets) asks (length octets, ask) r.placed (omega arith);
+    told_is = r.told_is;
+    ack_is = r.ack_is;
+    large = r.large;
+    sized = r.sized;
+    channel_is = r.channel_is;
+    tokens_are = r.tokens_are;
+    newest_is = r.newest_is;
+    pending_are = ap (pending_calls (received r.frames).messages) (asked_in-push asks (length octets, ask)) ∙ calls_are;
+    renewals_are = ap (pending_renewals (opened_ids (received r.frames).openings)) (asked_in-push asks (length octets, ask)) ∙ answers_are;
+    asked_below =
+        subst (λ (ss : List Asking). AllByRecursion (λ (x : Asking). id_of x < next_id (asked_in (asks ++ (length octets, ask) ∷ []))) ss) (sym (asked_in-push asks (length octets, ask)))
+        (all-push (λ (x : Asking). id_of x < next_id (asked_in (asks ++ (length octets, ask) ∷ []))) (asked_in asks) ask
+        (below_more id_of (next_id (asked_in asks)) (next_id (asked_in (asks ++ (length octets, ask) ∷ []))) (asked_in asks) (omega (arith, next_more asks (length octets, ask))) r.asked_below)
+        (omega (arith, id_is, next_more asks (length octets, ask))));
+    sent_below = below_more (λ (c : Chunk). c.request) (next_id (asked_in asks)) (next_id (asked_in (asks ++ (length octets, ask) ∷ []))) (received r.frames).messages (omega (arith, next_more asks (length octets, ask))) r.sent_below;
+    opened_below = below_more (λ (id : ℕ). id) (next_id (asked_in asks)) (next_id (asked_in (asks ++ (length octets, ask) ∷ []))) (opened_ids (received r.frames).openings) (omega (arith, next_more asks (length octets, ask))) r.opened_below;
+    follows = r.follows;
+    next_small = r.next_small;
+    none_open = r.none_open;
+  }
+
+-- a call
+pub reads_call : (limits : Limits) (asks : List Placed) (octets : List ℕ) (told : List Told) (at : AtClient) → ClientReads limits asks octets told at
+    → ClientReads limits (asks ++ (length octets, Call (next_id (asked_in asks))) ∷ []) octets told (with_call at (next_id (asked_in asks)))
+reads_call limits asks octets told at r =
+    let id = next_id (asked_in asks) in
+    reads_asked limits asks octets told at (Call id) r refl (at.pending ++ id ∷ []) at.renewals
+    (pending_calls-call (received r.frames).messages (asked_in asks) id r.sent_below ∙ ap (λ (ids : List ℕ). ids ++ id ∷ []) r.pending_are)
+    (pending_renewals-call (opened_ids (received r.frames).openings) (asked_in asks) id ∙ r.renewals_are)
+
+-- a renewal
+pub reads_renewal : (limits : Limits) (asks : List Placed) (octets : List ℕ) (told : List Told) (at : AtClient) → ClientReads limits asks octets told at
+    → ClientReads limits (asks ++ (length octets, Renewal (next_id (asked_in asks))) ∷ []) octets told (with_renewal at (next_id (asked_in asks)))
+reads_renewal limits asks octets told at r =
+    let id = next_id (asked_in asks) in
+    reads_asked limits asks octets told at (Renewal id) r refl at.pending (at.renewals ++ id ∷ [])
+    (pending_calls-renewal (received r.frames).messages (asked_in asks) id ∙ r.pending_are)
+    (pending_renewals-renewal (opened_ids (received r.frames).openings) (asked_in asks) id r.opened_below ∙ ap (λ (ids : List ℕ). ids ++ id ∷ []) r.renewals_are)
+
+-- ---- replies
+
+-- chunks of which each but the last has more to come leave the calls as they were, and the last answers its own
+pending_left : (lane : Lane) (s id : ℕ) (p : List ℕ) (ps : List (List ℕ)) (cs : List Chunk) (asked : List Asking) → pending_calls (cs ++ numbered lane s id (p ∷ ps)) asked ≡ without_id id (pending_calls cs asked)
+pending_left lane s id p [] cs asked = pending_calls-more cs (chunk_of lane F s id p) asked
+pending_left lane s id p (q ∷ qs) cs asked =
+    ap (λ (us : List Chunk). pending_calls us asked) (sym (append_assoc cs (chunk_of lane C s id p ∷ []) (numbered lane (next_number s) id (q ∷ qs))))
+    ∙ (pending_left lane (next_number s) id q qs (cs ++ chunk_of lane C s id p ∷ []) asked ∙ ap (without_id id) (pending_calls-more cs (chunk_of lane C s id p) asked))
+
+-- the tokens that are held behind chunks under one of them
+tokens_left : (lane : Lane) (s id : ℕ) (p : List ℕ) (ps : List (List ℕ)) (b : Received) → is_in lane.token (held_tokens b) ≡ true → held_tokens (with_chunks b (numbered lane s id (p ∷ ps))) ≡ from_last lane.token (held_tokens b)
+unfolding with_chunks
+tokens_left lane s id p [] b held = tokens_used b (chunk_of lane F s id p) held
+tokens_left lane s id p (q ∷ qs) b held =
+    let c : Chunk = chunk_of lane C s id p in
+    let same : held_tokens (after b (Sends c)) ≡ from_last lane.token (held_tokens b) = tokens_used b c held in
+    tokens_left lane (next_number s) id q qs (after b (Sends c)) (ap (is_in lane.token) same ∙ stays_in lane.token (held_tokens b) held)
+    ∙ (ap (from_last lane.token) same ∙ from_last-again lane.token lane.token (held_tokens b) (stays_in lane.token (held_tokens b) held))
+
+all_append : {X : Type 0} (P : X → Type 0) (xs ys : List X) → AllByRecursion P xs → AllByRecursion P ys → AllByRecursion P (xs ++ ys)
+all_append P [] ys h k = k
+all_append P (x ∷ xs) ys h k = (h.0, all_append P xs ys h.1 k)
+
+module _ (limits : Limits) (asks : List Placed) (octets : List ℕ) (told : List Told) (at : AtClient) (lane : Lane) (id : ℕ) (r : ClientReads limits asks octets told at) (back : IsLaneBack limits at lane)
+    (awaited : is_in id at.pending ≡ true) (few : id < 2 ^ 32) where
+  id_below : id < next_id (asked_in asks)
+  id_below = pending_below (next_id (asked_in asks)) id (received r.frames).messages (asked_in asks) r.asked_below (ap (is_in id) r.pending_are ∙ awaited)
+
+  held_here : is_in lane.token (held_tokens (received r.frames)) ≡ true
+  held_here = ap (is_in lane.token) r.tokens_are ∙ back.held
+
+  ready : IsReady at.ack lane id (asked_in asks) (received r.frames).last (received r.frames).messages [] (received r.frames)
+  ready = record {
+    ack_is = r.ack_is;
+    channel_is = r.channel_is ∙ ap (λ (n : ℕ). Some n) (sym back.on);
+    held = held_here;
+    awaited = ap (is_in id) r.pending_are ∙ awaited;
+    last_is = refl;
+    messages_are = sym (append-nil (received r.frames).messages);
+  }
+
+  reached : length octets ≤ length (frames_octets r.frames)
+  reached = omega (arith, ap length (r.run.whole ∙ append-nil (frames_octets r.frames)))
+
+  placed_on : (n : ℕ) → length octets ≤ n → AllByRecursion (λ (p : Placed). p.0 ≤ n) asks
+  placed_on n le = all-weaken (λ (p : Placed). p.0 ≤ length octets) (λ (p : Placed). p.0 ≤ n) asks (λ p le'. omega (arith, le, le')) r.placed
+
+  newest_stays : latest (from_last lane.token at.tokens) ≡ Some at.newest
+  newest_stays = latest-from_last lane.token at.tokens back.held ∙ r.newest_is
+
+  sent_of : (c : Chunk) → IsOf lane id c → IsSent at.ack.send_buffer_size lane id c
+  sent_of c is = record {
+    numbers = record {
+      channel = omega (arith, is.channel, back.on_small);
+      token = omega (arith, is.token, back.token_small);
+      sequence = omega (arith, is.sequence);
+      request = omega (arith, is.request, few);
+    };
+    channel_is = is.channel;
+    token_is = is.token;
+    request_is = is.request;
+    fits = omega (arith, is.fits, back.fits);
+  }
+
+  -- frames of chunks of this reply that are taken, which deliver this, behind which this comes next
+  reads_chunks : (cs : List Chunk) (next : ℕ) (items : List Item) → AllFrom (Fits (client_rules limits asks)) r.frames (map frame_of cs) → AllByRecursion (IsSent at.ack.send_buffer_size lane id) cs
+      → delivered_behind (received r.frames).messages cs ≡ items → held_tokens (with_chunks (received r.frames) cs) ≡ from_last lane.token (held_tokens (received r.frames))
+      → pending_calls ((received r.frames).messages ++ cs) (asked_in asks) ≡ without_id id (pending_calls (received r.frames).messages (asked_in asks))
+      → may_follow (with_chunks (received r.frames) cs).last next ≡ true → next ≤ 4294966272 → open_ids ((received r.frames).messages ++ cs) ≡ []
+      → ClientReads limits asks (octets ++ chunks_octets cs) (told ++ map told_item items) (with_reply at lane.token id next)
+  reads_chunks cs next items fit sent delivers tokens pending follows small none =
+      let b : Received = received r.frames in
+      let now : received (r.frames ++ map frame_of cs) ≡ with_chunks (received r.frames) cs =
+      received_chunks r.frames cs (all-weaken (IsSent at.ack.send_buffer_size lane id) IsNumbered cs (λ c s. s.numbers) sent) in
+      record {
+        frames = r.frames ++ map frame_of cs;
+        run = run_on (client_rules limits asks) octets r.frames (map frame_of cs) r.run fit refl;
+        placed = placed_on (length (octets ++ chunks_octets cs)) (omega (arith, length-append octets (chunks_octets cs)));
+        told_is =
+            events_on (client_rules limits asks) r.frames (map frame_of cs)
+            ∙ (ap (λ (ts : List Told). ts ++ each_from (client_rules limits asks).tells r.frames (map frame_of cs)) r.told_is
+            ∙ ap (λ (ts : List Told). told ++ ts) (told_chunks limits asks at.ack.send_buffer_size lane id cs r.frames sent ∙ ap (map told_item) delivers));
+        ack_is = ap (λ (z : Received). z.ack) now ∙ (chunks_ack (received r.frames) cs ∙ r.ack_is);
+        large = r.large;
+        sized = r.sized;
+        channel_is = ap (λ (z : Received). channel_in (responses z.openings)) now ∙ (ap (λ (os : List Opening). channel_in (responses os)) (chunks_openings (received r.frames) cs) ∙ r.channel_is);
+        tokens_are = ap held_tokens now ∙ (tokens ∙ ap (from_last lane.token) r.tokens_are);
+        newest_is = newest_stays;
+        pending_are = ap (λ (z : Received). pending_calls z.messages (asked_in asks)) now ∙ (ap (λ (us : List Chunk). pending_calls us (asked_in asks)) (chunks_messages (received r.frames) cs) ∙ (pending ∙ ap (without_id id) r.pending_are));
+        renewals_are = ap (λ (z : Received). pending_renewals (opened_ids z.openings) (asked_in asks)) now ∙ (ap (λ (os : List Opening). pending_renewals (opened_ids os) (asked_in asks)) (chunks_openings (received r.frames) cs) ∙ r.renewals_are);
+        asked_below = r.asked_below;
+        sent_below =
+            subst (λ (us : List Chunk). AllByRecursion (λ (c : Chunk). c.request < next_id (asked_in asks)) us) (sym (ap (λ (z : Received). z.messages) now ∙ chunks_messages (received r.frames) cs))
+            (all_append (λ (c : Chunk). c.request < next_id (asked_in asks)) (received r.frames).messages cs r.sent_below
+            (all-weaken (IsSent at.ack.send_buffer_size lane id) (λ (c : Chunk). c.request < next_id (asked_in asks)) cs (λ c s. omega (arith, s.request_is, id_below)) sent));
+        opened_below =
+            subst (λ (os : List Opening). AllByRecursion (λ (n : ℕ). n < next_id (asked_in asks)) (opened_ids os)) (sym (ap (λ (z : Received). z.openings) now ∙ chunks_openings (received r.frames) cs)) r.opened_below;
+        follows = ap (λ (z : Received). may_follow z.last next) now ∙ follows;
+        next_small = small;
+        none_open = ap (λ (z : Received). open_ids z.messages) now ∙ (ap open_ids (chunks_messages (received r.frames) cs) ∙ none);
+      }
+
+  module _ (body : List ℕ) (w : IsBodyFor limits lane.room body) where
+    all_sent : AllByRecursion (IsSent at.ack.send_buffer_size lane id) (chunks_of lane body at.next id)
+    all_sent = all-weaken (IsOf lane id) (IsSent at.ack.send_buffer_size lane id) (chunks_of lane body at.next id) sent_of (chunks_are lane body at.next id r.next_small back.some w.some)
+
+    behind : IsBehind lane at.next id (pieces lane.room body) (received r.frames)
+    behind = body_behind lane body at.next id (received r.frames) w.some r.none_open
+
+    reply_fits : AllFrom (Fits (client_rules limits asks)) r.frames (map frame_of (chunks_of lane body at.next id))
+    reply_fits =
+        let ps = some_pieces lane.room body w.some in
+        subst (λ (t : List (List ℕ)). AllFrom (Fits (client_rules limits asks)) r.frames (map frame_of (numbered lane at.next id t))) (sym ps.are)
+        (fits_pieces limits asks (length octets) at.ack lane id (received r.frames).messages r.placed r.sized r.none_open (received r.frames).last [] at.next ps.first ps.others r.frames ready reached
+        (subst (λ (t : List (List ℕ)). AllByRecursion (IsSent at.ack.send_buffer_size lane id) (numbered lane at.next id t)) ps.are all_sent)
+        (ap (λ (t : List (List ℕ)). ordered (received r.frames).last (numbered lane at.next id t)) (sym ps.are) ∙ cut_ordered lane (received r.frames).last body at.next id w.some r.follows)
+        (subst (λ (t : List (List ℕ)). TakesMessages limits.max_message_size limits.max_chunk_count [] (numbered lane at.next id t)) ps.are
+        (cut_messages limits.max_message_size limits.max_chunk_count lane body at.next id back.some w.some w.octets_fit w.chunks_fit)))
+
+    -- a reply
+    pub reads_reply : ClientReads limits asks (octets ++ chunks_octets (chunks_of lane body at.next id)) (told ++ event.Answered id body ∷ []) (with_reply at lane.token id (number_after at.next (pieces lane.room body)))
+    reads_reply =
+        let ps = some_pieces lane.room body w.some in
+        reads_chunks (chunks_of lane body at.next id) (number_after at.next (pieces lane.room body)) (Whole id body ∷ []) reply_fits all_sent
+        (body_delivered lane body at.next id (received r.frames).messages back.some w.some r.none_open)
+        (ap (λ (t : List (List ℕ)). held_tokens (with_chunks (received r.frames) (numbered lane at.next id t))) ps.are ∙ tokens_left lane at.next id ps.first ps.others (received r.frames) held_here)
+        (ap (λ (t : List (List ℕ)). pending_calls ((received r.frames).messages ++ numbered lane at.next id t) (asked_in asks)) ps.are ∙ pending_left lane at.next id ps.first ps.others (received r.frames).messages (asked_in asks))
+        behind.follows (after_small at.next (pieces lane.room body) r.next_small) behind.none_open
+
+  -- ---- a reply that is given up
+
+  module _ (code : StatusCode) (code_small : code.code < 2 ^ 32) where
+    abort : Chunk
+    abort = abort_chunk lane at.next id code
+
+    abort_length : length (abort_body.canonical (code, None)) ≡ 8
+    unfolding abort_body status_code text counted
+    abort_length = omega (arith, length-append (number_octets 4 code.code) (number_octets 4 0xFFFF_FFFF), length-number_octets 4 code.code, length-number_octets 4 0xFFFF_FFFF)
+
+    abort_sent : IsSent at.ack.send_buffer_size lane id abort
+    unfolding abort
+    abort_sent = record {
+      numbers = record { channel = back.on_small; token = back.token_small; sequence = omega (arith, r.next_small); request = few };
+      channel_is = refl;
+      token_is = refl;
+      request_is = refl;
+      fits = omega (arith, abort_length, r.large);
+    }
+
+    abort_good : message_refusal limits.max_message_size limits.max_chunk_count [] abort ≡ None
+    unfolding abort
+    abort_good = rw (abort_written code code_small) refl
+
+    abort_delivers : delivered_behind (received r.frames).messages (abort ∷ []) ≡ Aborted id code None ∷ []
+    unfolding abort
+    abort_delivers = ap (λ (a : Option (StatusCode × Option (List ℕ))). aborted id a ++ []) (abort_written code code_small)
+
+    abort_closes : open_ids ((received r.frames).messages ++ abort ∷ []) ≡ []
+    unfolding abort
+    abort_closes = open_push (received r.frames).messages (abort_chunk lane at.next id code) ∙ ap (λ (ids : List ℕ). without (λ (j : ℕ). eqb j id) ids ++ []) r.none_open
+
+    pub reads_abort : ClientReads limits asks (octets ++ frame_octets (frame_of (abort_chunk lane at.next id code))) (told ++ event.GaveUp id code ∷ []) (with_reply at lane.token id (next_number at.next))
+    unfolding abort with_chunks
+    reads_abort =
+        subst (λ (t : List ℕ). ClientReads limits asks (octets ++ t) (told ++ event.GaveUp id code ∷ []) (with_reply at lane.token id (next_number at.next))) (one_octets (frame_of (abort_chunk lane at.next id code)))
+        (reads_chunks (abort_chunk lane at.next id code ∷ []) (next_number at.next) (Aborted id code None ∷ [])
+        (fits_one limits asks (length octets) at.ack lane id (received r.frames).messages r.placed r.sized r.none_open (received r.frames).last [] (abort_chunk lane at.next id code) r.frames abort_sent ready reached r.follows abort_good, tt)
+        (abort_sent, tt) abort_delivers
+        (tokens_used (received r.frames) (abort_chunk lane at.next id code) held_here)
+        (pending_calls-more (received r.frames).messages (abort_chunk lane at.next id code) (asked_in asks))
+        (follows_next at.next) (next_small at.next r.next_small) abort_closes)
+
+  -- ---- a reply, or its abort
+
+  cut_octets : (body : List ℕ) → cut_refusal lane body ≡ None → passes lane.octets (length body) ≡ false
+  cut_octets body e = first_unset TooManyOctets (passes lane.octets (length body)) ((TooManyChunks, passes lane.chunks (length (pieces lane.room body))) ∷ []) e
+
+  cut_chunks : (body : List ℕ) → cut_refusal lane body ≡ None → passes lane.chunks (length (pieces lane.room body)) ≡ false
+  cut_chunks body e = first_unset TooManyChunks (passes lane.chunks (length (pieces lane.room body))) [] (first_tail TooManyOctets (passes lane.octets (length body)) ((TooManyChunks, passes lane.chunks (length (pieces lane.room body))) ∷ []) e)
+
+  replied_so : (body : List ℕ) (o : Option CutFault) → 0 < length body → cut_refusal lane body ≡ o
+      → ClientReads limits asks (octets ++ (replied_by o lane body at.next id).0) (told ++ told_reply o id body ∷ []) (with_reply at lane.token id (replied_by o lane body at.next id).1)
+  replied_so body None some e =
+      reads_reply body (record {
+        some = some;
+        octets_fit = ap (λ (n : ℕ). passes n (length body)) (sym back.octets) ∙ cut_octets body e;
+        chunks_fit = ap (λ (n : ℕ). passes n (length (pieces lane.room body))) (sym back.chunks) ∙ cut_chunks body e;
+      })
+  replied_so body (Some fault) some e = reads_abort (of_code 0x80B9_0000) (omega arith)
+
+  pub reads_replied : (body : List ℕ) → 0 < length body
+      → ClientReads limits asks (octets ++ (replied lane body at.next id).0) (told ++ told_reply (cut_refusal lane body) id body ∷ []) (with_reply at lane.token id (replied lane body at.next id).1)
+  reads_replied body some = replied_so body (cut_refusal lane body) some refl
+
+-- ---- the answer to a renewal
+
+one_in : (id : ℕ) (ids : List ℕ) → ids ≡ id ∷ [] → is_in id ids ≡ true
+one_in id ids one = ap (is_in id) one ∙ ap (λ (b : Bool). b || false) (eq-eqb id id refl)
+
+module _ (limits : Limits) (asks : List Placed) (octets : List ℕ) (told : List Told) (at : AtClient) (id handle token lifetime : ℕ) (moment : DateTime) (r : ClientReads limits asks octets told at)
+    (is : IsAnswered at.channel at.next id handle token lifetime moment) (one : at.renewals ≡ id ∷ []) (fresh : is_in token at.tokens ≡ false) where
+  p : Opening
+  p = answer at.channel at.next id handle token lifetime moment is
+
+  g : Frame
+  g = opened_frame at.channel at.next id handle token lifetime moment
+
+  asked_here : asked_before (end_of r.frames g) asks ≡ asked_in asks
+  asked_here = all_asked asks (length octets) r.frames g r.placed (omega (arith, ap length (r.run.whole ∙ append-nil (frames_octets r.frames))))
+
+  p_carried : content g ≡ Opens p
+  unfolding g p
+  p_carried = opened_carried at.channel at.next id handle token lifetime moment is
+
+  p_answers : answer_in p ≡ Some (Open (open_response_of moment handle at.channel token lifetime))
+  unfolding p response
+  p_answers = answer_is at.channel at.next id handle token lifetime moment is
+
+  p_numbers : p.numbers ≡ Some (at.next, id)
+  unfolding p answer
+  p_numbers = refl
+
+  fresh_here : is_in token (held_tokens (received r.frames)) ≡ false
+  fresh_here = ap (is_in token) r.tokens_are ∙ fresh
+
+  awaited_here : is_awaited (responses (received r.frames).openings) (opened_ids (received r.frames).openings) (asked_in asks) id ≡ true
+  awaited_here = awaited_later (responses (received r.frames).openings) (opened_ids (received r.frames).openings) (asked_in asks) id at.channel r.channel_is ∙ one_in id _ (r.renewals_are ∙ one)
+
+  p_good : first_reason (client_reasons limits (received r.frames) (asked_in asks) (Opens p)) ≡ None
+  unfolding p answer
+  p_good = rw (p_answers, r.channel_is, eq-eqb at.channel at.channel refl, fresh_here, r.follows, awaited_here) refl
+
+  p_tells : client_tells (received r.frames) (Opens p) ≡ event.Renewed token ∷ []
+  p_tells = rw p_answers (ap (λ (e : Told). e ∷ []) (later_tells (responses (received r.frames).openings) (open_response_of moment handle at.channel token lifetime) at.channel r.channel_is))
+
+  g_size : frame_size g ≡ 135
+  unfolding g
+  g_size = opened_size at.channel at.next id handle token lifetime moment is
+
+  g_in : LetsIn ((client_rules limits asks).gate r.frames) g
+  unfolding g
+  g_in =
+      subst (λ (x : Gate). LetsIn x g) (sym (ap (λ (a : Option Ack). gate_behind a (responses (received r.frames).openings)) r.ack_is))
+      (lets_opn at.ack (responses (received r.frames).openings) g refl refl (omega (arith, g_size, r.large)) (omega (arith, g_size)))
+
+  later_now : received (r.frames ++ g ∷ []) ≡ after (received r.frames) (Opens p)
+  later_now = received-push r.frames g ∙ ap (after (received r.frames)) p_carried
+
+  more_responses : responses ((received r.frames).openings ++ p ∷ []) ≡ responses (received r.frames).openings ++ open_response_of moment handle at.channel token lifetime ∷ []
+  more_responses = responses-push (received r.frames).openings p (open_response_of moment handle at.channel token lifetime) p_answers
+
+  more_ids : opened_ids ((received r.frames).openings ++ p ∷ []) ≡ opened_ids (received r.frames).openings ++ id ∷ []
+  more_ids = opened_ids-push (received r.frames).openings p (at.next, id) p_numbers
+
+  held_as : held_tokens (received r.frames) ≡ held_by (received r.frames).used (tokens_of (responses (received r.frames).openings))
+  unfolding held_tokens
+  held_as = refl
+
+  held_more : held_tokens (after (received r.frames) (Opens p)) ≡ held_by (received r.frames).used (tokens_of (responses ((received r.frames).openings ++ p ∷ [])))
+  unfolding held_tokens
+  held_more = refl
+
+  tokens_more : held_tokens (after (received r.frames) (Opens p)) ≡ at.tokens ++ token ∷ []
+  tokens_more =
+      held_more
+      ∙ (ap (λ (rs : List OpenResponse). held_by (received r.frames).used (tokens_of rs)) more_responses
+      ∙ (ap (held_by (received r.frames).used) (tokens_of-push (responses (received r.frames).openings) (open_response_of moment handle at.channel token lifetime))
+      ∙ (held_by-push (received r.frames).used token at.newest (tokens_of (responses (received r.frames).openings)) (ap latest (sym held_as ∙ r.tokens_are) ∙ r.newest_is) (ap (is_in token) (sym held_as) ∙ fresh_here)
+      ∙ ap (λ (ts : List ℕ). ts ++ token ∷ []) (sym held_as ∙ r.tokens_are))))
+
+  id_before : id < next_id (asked_in asks)
+  id_before = renewal_below (next_id (asked_in asks)) id (opened_ids (received r.frames).openings) (asked_in asks) r.asked_below (one_in id _ (r.renewals_are ∙ one))
+
+  pub reads_renewed : ClientReads limits asks (octets ++ frame_octets (opened_frame at.channel at.next id handle token lifetime moment)) (told ++ event.Renewed token ∷ []) (with_answer at token (next_number at.next))
+  unfolding g
+  reads_renewed = record {
+    frames = r.frames ++ g ∷ [];
+    run =
+        run_one (client_rules limits asks) octets r.frames g r.run (record {
+          goes_on = refl;
+          sized = omega (arith, g_size);
+          let_in = g_in;
+          accepted =
+              ap (λ (ss : List Asking). first_reason (client_reasons limits (received r.frames) ss (content g))) asked_here
+              ∙ (ap (λ (k : Content). first_reason (client_reasons limits (received r.frames) (asked_in asks) k)) p_carried ∙ p_good);
+        }) refl;
+    placed = all-weaken (λ (q : Placed). q.0 ≤ length octets) (λ (q : Placed). q.0 ≤ length (octets ++ frame_octets g)) asks (λ q le. omega (arith, le, length-append octets (frame_octets g))) r.placed;
+    told_is =
+        events-push (client_rules limits asks) r.frames g
+        ∙ (ap (λ (ts : List Told). ts ++ client_tells (received r.frames) (content g)) r.told_is ∙ ap (λ (ts : List Told). told ++ ts) (ap (client_tells (received r.frames)) p_carried ∙ p_tells));
+    ack_is = ap (λ (b : Received). b.ack) later_now ∙ r.ack_is;
+    large = r.large;
+    sized = r.sized;
+    channel_is = ap (λ (b : Received). channel_in (responses b.openings)) later_now ∙ (ap channel_in more_responses ∙ channel_in-push (responses (received r.frames).openings) (open_response_of moment handle at.channel token lifetime) at.channel r.channel_is);
+    tokens_are = ap held_tokens later_now ∙ tokens_more;
+    newest_is = latest-push at.tokens token;
+    pending_are = ap (λ (b : Received). pending_calls b.messages (asked_in asks)) later_now ∙ r.pending_are;
+    renewals_are =
+        ap (λ (b : Received). pending_renewals (opened_ids b.openings) (asked_in asks)) later_now
+        ∙ (ap (λ (ids : List ℕ). pending_renewals ids (asked_in asks)) more_ids ∙ pending_renewals-more (opened_ids (received r.frames).openings) id (asked_in asks) (r.renewals_are ∙ one));
+    asked_below = r.asked_below;
+    sent_below = subst (λ (b : Received). AllByRecursion (λ (c : Chunk). c.request < next_id (asked_in asks)) b.messages) (sym later_now) r.sent_below;
+    opened_below =
+        subst (λ (b : Received). AllByRecursion (λ (n : ℕ). n < next_id (asked_in asks)) (opened_ids b.openings)) (sym later_now)
+        (subst (λ (ids : List ℕ). AllByRecursion (λ (n : ℕ). n < next_id (asked_in asks)) ids) (sym more_ids)
+        (all-push (λ (n : ℕ). n < next_id (asked_in asks)) (opened_ids (received r.frames).openings) id r.opened_below id_before));
+    follows = ap (λ (b : Received). may_follow b.last (next_number at.next)) later_now ∙ (ap (λ (n : Option (ℕ × ℕ)). may_follow (number_or (received r.frames).last n) (next_number at.next)) p_numbers ∙ follows_next at.next);
+    next_small = next_small at.next r.next_small;
+    none_open = ap (λ (b : Received). open_ids b.messages) later_now ∙ r.none_open;
+  }

@@ -1,0 +1,408 @@
+-- That a server takes what a client writes, one message after the other.
+use Rattle.std.proofs.Common.{◌≡◌, ℕ, ℤ, pos, ◌+◌, ◌<◌, ◌≤◌, ◌^◌, Bool, true, false, IsTrue, eqb, leb, ltb, List, [], ◌∷◌, ◌++◌, Option, Some, None, length, map, refl, sym, ◌∙◌, ap, subst, arith, append-nil, length-append}
+use Rattle.std.specs.List.{AllByRecursion, flat_map, list_any}
+use Rattle.std.specs.Prelude.{if◌then◌else◌}
+use Rattle.std.proofs.lemmas.Bool.{and_from, and_parts, eq-eqb, le-leb, le-ltb, lt-ltb, ltb-true, ne_eqb}
+use Rattle.ua_builtin.specs.DateTime.{date_time}
+use Rattle.ua_builtin.specs.NodeId.{node_id}
+use Rattle.ua_builtin.specs.Reasons.{first_reason}
+use Rattle.ua_builtin.specs.declared.date_time.DateTime.{DateTime}
+use Rattle.ua_frame.specs.declared.frame.Frame.{Frame}
+use Rattle.ua_frame.specs.declared.gate.Gate.{Gate}
+use Rattle.ua_frame.specs.declared.hello.Hello.{Hello}
+use Rattle.ua_frame.specs.declared.limits.Limits.{Limits}
+use Rattle.ua_frame.specs.Agreement.{url_length}
+use Rattle.ua_frame.specs.Frames.{LetsIn, frame_octets, frame_size}
+use Rattle.ua_frame.specs.declared.kind.Kind.{Kind}
+use Rattle.ua_frame.specs.declared.kind.Kind.TheVariants.{Opn}
+use Rattle.ua_frame.specs.Kinds.{has_flag, least_size, lets_in}
+use Rattle.ua_frame.specs.Hello.{hello_gate}
+use Rattle.ua_frame.specs.Messages.{hello}
+use Rattle.ua_frame.specs.Run.{Fits}
+use Rattle.ua_frame.specs.After.{AllFrom, each_from}
+use Rattle.ua_frame.proofs.MessagesLawful.{sound_hello}
+use Rattle.ua_frame.proofs.Streams.{events-push, run_nil}
+use Rattle.ua_frame.proofs.Wholes.{whole_encodes}
+use Rattle.ua_services.specs.Message.{body_of, message, standard}
+use Rattle.ua_services.proofs.BodyLaws.{body_reads_back}
+use Rattle.ua_services.proofs.Lengths.{open_request_length, close_request_length}
+use Rattle.ua_services.proofs.MessageRead.{body_of-found}
+use Rattle.ua_services.proofs.MessagesLawful.{lawful_message}
+use Rattle.ua_structures.specs.Plain.{close_request_of, open_request_of}
+use Rattle.ua_structures.specs.SecureChannel.{close_request, open_request}
+use Rattle.ua_structures.specs.declared.secure_channel.OpenRequest.{OpenRequest}
+use Rattle.ua_structures.proofs.PlainFits.{issue_fits, renew_fits}
+use Rattle.ua_structures.proofs.SecureChannelLawful.{lawful_open_request}
+use Rattle.ua_chunk.specs.declared.chunk.Chunk.{Chunk}
+use Rattle.ua_chunk.specs.declared.flag.Flag.TheVariants.{F}
+use Rattle.ua_chunk.specs.declared.lane.Lane.{Lane}
+use Rattle.ua_chunk.specs.Cutting.{chunks_octets, chunks_of, numbered, number_after, pieces}
+use Rattle.ua_chunk.specs.Delivered.{delivered_behind}
+use Rattle.ua_chunk.specs.Gathered.{joined, unfinished}
+use Rattle.ua_chunk.specs.Item.Item.{Whole}
+use Rattle.ua_chunk.specs.Layout.{chunk_in, frame_of}
+use Rattle.ua_chunk.specs.Open.{open_ids}
+use Rattle.ua_chunk.specs.Sequence.{may_follow, next_number}
+use Rattle.ua_chunk.proofs.Carried.{chunk_found}
+use Rattle.ua_chunk.proofs.CutLaws.{cut_messages, follows_next}
+use Rattle.ua_chunk.proofs.Fresh.{cut_behind, some_pieces}
+use Rattle.ua_chunk.proofs.OneMore.{not_open}
+use Rattle.ua_chunk.proofs.Pieces.{joined_pieces, next_small}
+use Rattle.ua_chunk.proofs.ReaderLaws.{frame_of_chunk}
+use Rattle.ua_channel.specs.Content.{Content, content, opening_of}
+use Rattle.ua_channel.specs.Content.Content.{Greets, Opens, Closes}
+use Rattle.ua_channel.specs.ClientSends.{first_open, hello_frame, hello_to, open_frame, renewal_frame, close_frame, token_lifetime}
+use Rattle.ua_channel.specs.Agreement.{agreement_of}
+use Rattle.ua_channel.specs.Received.{Received, after, nothing_received, number_or, received}
+use Rattle.ua_channel.specs.ServerReads.{AtServer, IsBodyFor, IsLaneTo, IsTakenAt, ServerCloses, ServerReads, with_message, with_token}
+use Rattle.ua_channel.specs.ServerRefusals.{is_taken, last_used, or_first, server_reasons, type_wanted}
+use Rattle.ua_channel.specs.ServerRules.{gate_behind, opening_gate, receive_size, running_gate, server_gate, server_rules}
+use Rattle.ua_channel.specs.ServerTold.{Told, Told as event, issued, server_tells, told_item}
+use Rattle.ua_channel.proofs.Askings.{all-weaken}
+use Rattle.ua_channel.proofs.Frames.{content_clo, content_hel, content_opn}
+use Rattle.ua_channel.proofs.OneFrameMore.{received-nil, received-push}
+use Rattle.ua_channel.proofs.ClientFrames.{hello_length}
+use Rattle.ua_channel.proofs.Openings.{HasHeaders, opens}
+use Rattle.ua_channel.proofs.Phases.{greeted_by}
+use Rattle.ua_channel.proofs.ReadOn.{events_on, no_events, run_last, run_on, run_one}
+use Rattle.ua_channel.proofs.ServerTakes.{IsReady, IsSent, fits_chunks, told_chunks}
+use Rattle.ua_channel.proofs.WithChunks.{IsBehind, behind_pieces, cut_ordered, chunks_closed, chunks_hello, chunks_messages, chunks_openings, received_chunks, with_chunks}
+use Rattle.ua_channel.proofs.Written.{IsNumbered, IsOf, after_small, chunks_are, header_sizes, none_header, none_is, opening_body, opening_carried, opening_size}
+use Rattle.ua_channel.specs.ServerParts.{IsAskedIn, OpensSo, asked_reasons}
+use Rattle.ua_channel.specs.declared.server_opening.Asked.{Asked}
+use Rattle.ua_channel.specs.declared.server_opening.Opened.{Opened}
+
+-- ---- a message
+
+-- what the chunks of a body deliver behind chunks that leave nothing unfinished
+pub body_delivered : (lane : Lane) (body : List ℕ) (s id : ℕ) (before : List Chunk) → 0 < lane.room → 0 < length body → open_ids before ≡ [] → delivered_behind before (chunks_of lane body s id) ≡ Whole id body ∷ []
+body_delivered lane body s id before room some none =
+    let ps = some_pieces lane.room body some in
+    ap (λ (t : List (List ℕ)). delivered_behind before (numbered lane s id t)) ps.are
+    ∙ (cut_behind lane s id ps.first ps.others before
+    ∙ (ap (λ (t : List (List ℕ)). Whole id (joined (unfinished id before) ++ flat_map (λ p. p) t) ∷ []) (sym ps.are)
+    ∙ (ap (λ (us : List Chunk). Whole id (joined us ++ flat_map (λ p. p) (pieces lane.room body)) ∷ []) (not_open id before (ap (list_any (λ (j : ℕ). eqb j id)) none))
+    ∙ ap (λ (t : List ℕ). Whole id t ∷ []) (joined_pieces lane.room body room some))))
+
+pub body_behind : (lane : Lane) (body : List ℕ) (s id : ℕ) (b : Received) → 0 < length body → open_ids b.messages ≡ [] → IsBehind lane s id (pieces lane.room body) b
+body_behind lane body s id b some none =
+    let ps = some_pieces lane.room body some in
+    subst (λ (t : List (List ℕ)). IsBehind lane s id t b) (sym ps.are) (behind_pieces lane s id ps.first ps.others b none)
+
+module _ (limits : Limits) (channel : ℕ) (octets : List ℕ) (told : List Told) (at : AtServer) (lane : Lane) (body : List ℕ) (id : ℕ) (on : channel < 2 ^ 32) (few : id < 2 ^ 32)
+    (r : ServerReads limits channel octets told at) (to : IsLaneTo limits channel at lane) (w : IsBodyFor limits lane.room body) where
+  before : Received
+  before = received r.frames
+
+  chunks : List Chunk
+  chunks = chunks_of lane body at.next id
+
+  sent_of : (c : Chunk) → IsOf lane id c → IsSent (receive_size limits (Some at.hello)) channel lane.token c
+  sent_of c is = record {
+    numbers = record {
+      channel = omega (arith, is.channel, to.on, on);
+      token = omega (arith, is.token, to.taken.issued, r.few_issued);
+      sequence = omega (arith, is.sequence);
+      request = omega (arith, is.request, few);
+    };
+    channel_is = is.channel ∙ to.on;
+    token_is = is.token;
+    fits = omega (arith, is.fits, to.fits);
+  }
+
+  all_sent : AllByRecursion (IsSent (receive_size limits (Some at.hello)) channel lane.token) chunks
+  unfolding chunks
+  all_sent = all-weaken (IsOf lane id) (IsSent (receive_size limits (Some at.hello)) channel lane.token) (chunks_of lane body at.next id) sent_of (chunks_are lane body at.next id r.next_small to.some w.some)
+
+  ready : IsReady at.hello lane.token before.last before.messages [] before
+  unfolding before
+  ready = record {
+    hello_is = r.hello_is;
+    some = omega (arith, r.issued_is, to.taken.issued, to.taken.not_before, r.some_used);
+    taken = and_from (leb (last_used (received r.frames)) lane.token) (leb lane.token (issued (received r.frames)))
+        (le-leb (last_used (received r.frames)) lane.token (omega (arith, r.used_is, to.taken.not_before))) (le-leb lane.token (issued (received r.frames)) (omega (arith, r.issued_is, to.taken.issued)));
+    last_is = refl;
+    messages_are = sym (append-nil (received r.frames).messages);
+    goes_on = r.run.ends.0;
+  }
+
+  all_fit : AllFrom (Fits (server_rules limits channel)) r.frames (map frame_of chunks)
+  unfolding before chunks
+  all_fit =
+      fits_chunks limits channel lane.token at.hello before.messages r.sized r.none_open before.last [] chunks r.frames ready all_sent
+      (cut_ordered lane before.last body at.next id w.some r.follows)
+      (cut_messages limits.max_message_size limits.max_chunk_count lane body at.next id to.some w.some w.octets_fit w.chunks_fit)
+
+  now : received (r.frames ++ map frame_of chunks) ≡ with_chunks before chunks
+  unfolding before
+  now = received_chunks r.frames chunks (all-weaken (IsSent (receive_size limits (Some at.hello)) channel lane.token) IsNumbered chunks (λ c s. s.numbers) all_sent)
+
+  behind : IsBehind lane at.next id (pieces lane.room body) before
+  unfolding before
+  behind = body_behind lane body at.next id before w.some r.none_open
+
+  tells : each_from (server_rules limits channel).tells r.frames (map frame_of chunks) ≡ event.Asked id lane.token body ∷ []
+  unfolding chunks
+  tells =
+      told_chunks limits channel (receive_size limits (Some at.hello)) lane.token chunks r.frames all_sent
+      ∙ ap (map (told_item lane.token)) (body_delivered lane body at.next id (received r.frames).messages to.some w.some r.none_open)
+
+  -- the chunks of a message are taken, and tell it
+  pub reads_message : ServerReads limits channel (octets ++ chunks_octets (chunks_of lane body at.next id)) (told ++ event.Asked id lane.token body ∷ []) (with_message at lane body)
+  unfolding before chunks
+  reads_message = record {
+    frames = r.frames ++ map frame_of chunks;
+    run = run_on (server_rules limits channel) octets r.frames (map frame_of chunks) r.run all_fit (ap (λ (b : Received). b.closed) now ∙ (chunks_closed before chunks ∙ r.run.ends.0));
+    told_is = events_on (server_rules limits channel) r.frames (map frame_of chunks) ∙ (ap (λ (ts : List Told). ts ++ each_from (server_rules limits channel).tells r.frames (map frame_of chunks)) r.told_is ∙ ap (λ (ts : List Told). told ++ ts) tells);
+    hello_is = ap (λ (b : Received). b.hello) now ∙ (chunks_hello before chunks ∙ r.hello_is);
+    large = r.large;
+    sized = r.sized;
+    issued_is = ap issued now ∙ (ap length (chunks_openings before chunks) ∙ r.issued_is);
+    few_issued = r.few_issued;
+    used_is = ap last_used now ∙ ap or_first behind.used;
+    some_used = omega (arith, to.taken.not_before, r.some_used);
+    follows = ap (λ (b : Received). may_follow b.last (number_after at.next (pieces lane.room body))) now ∙ behind.follows;
+    next_small = after_small at.next (pieces lane.room body) r.next_small;
+    none_open = ap (λ (b : Received). open_ids b.messages) now ∙ (ap open_ids (chunks_messages before chunks) ∙ behind.none_open);
+  }
+
+-- ---- one frame
+
+-- an OPN is let in where a HEL was said
+lets_opn : (first : Bool) (size : ℕ) (f : Frame) → f.kind ≡ Opn → f.flag ≡ 70 → frame_size f ≤ size → 32 ≤ frame_size f → LetsIn (if first then opening_gate size else running_gate size) f
+lets_opn true size f kind flag fits least = record {
+  kind = ap (lets_in (opening_gate size)) kind;
+  flag = ap (λ (k : Kind). has_flag k f.flag) kind ∙ ap (has_flag Opn) flag;
+  largest = fits;
+  least = subst (λ (k : Kind). least_size k ≤ frame_size f) (sym kind) least;
+}
+lets_opn false size f kind flag fits least = record {
+  kind = ap (lets_in (running_gate size)) kind;
+  flag = ap (λ (k : Kind). has_flag k f.flag) kind ∙ ap (has_flag Opn) flag;
+  largest = fits;
+  least = subst (λ (k : Kind). least_size k ≤ frame_size f) (sym kind) least;
+}
+
+-- ---- HEL
+
+send_fits : (h : Hello) → IsTrue (hello.encodable h) → h.send_buffer_size < 2 ^ 32
+unfolding hello
+send_fits h e =
+    let a = and_parts (ltb h.protocol_version (256 ^ 4)) _ e in
+    let b = and_parts (ltb h.receive_buffer_size (256 ^ 4)) _ a.1 in
+    let c = and_parts (ltb h.send_buffer_size (256 ^ 4)) _ b.1 in
+    omega (arith, ltb-true h.send_buffer_size (256 ^ 4) c.0)
+
+module _ (limits : Limits) (channel : ℕ) (client : Limits) (url : Option (List ℕ)) (fits : IsTrue (hello.encodable (hello_to client url))) (short : url_length url ≤ 4095) where
+  said : Hello
+  said = hello_to client url
+
+  hel : Frame
+  hel = hello_frame (hello_to client url)
+
+  hello_carried : content hel ≡ Greets (Some said)
+  unfolding hel said
+  hello_carried = content_hel (hello_frame (hello_to client url)) refl ∙ ap Greets (whole_encodes hello sound_hello (hello.canonical (hello_to client url)) (hello_to client url) (sound_hello.canonical_encodes (hello_to client url) fits))
+
+  hello_size : frame_size hel ≡ 32 + url_length url
+  unfolding hel
+  hello_size = omega (arith, hello_length client url)
+
+  hello_good : (b : Received) → first_reason (server_reasons limits channel b (Greets (Some said))) ≡ None
+  unfolding said
+  hello_good b = rw (le-ltb 4095 (url_length url) short, le-ltb client.receive_buffer_size 8192 client.receives, le-ltb client.send_buffer_size 8192 client.sends) refl
+
+  hello_received : received (hel ∷ []) ≡ record nothing_received { hello = Some said }
+  unfolding said
+  hello_received = received-push [] hel ∙ (ap (λ (b : Received). after b (content hel)) received-nil ∙ ap (after nothing_received) hello_carried)
+
+  hello_gate_is : (server_rules limits channel).gate [] ≡ hello_gate
+  hello_gate_is = ap (server_gate limits) received-nil
+
+  pub reads_hello : ServerReads limits channel (frame_octets (hello_frame (hello_to client url))) (event.Agreed (agreement_of limits (hello_to client url)) ∷ []) (record { hello = hello_to client url; issued = 0; used = 1; next = 1 })
+  unfolding hel said
+  reads_hello = record {
+    frames = hello_frame (hello_to client url) ∷ [];
+    run =
+        run_one (server_rules limits channel) [] [] (hello_frame (hello_to client url)) (run_nil (server_rules limits channel) (ap (λ (b : Received). b.closed) received-nil)) (record {
+          goes_on = ap (λ (b : Received). b.closed) received-nil;
+          sized = omega (arith, hello_size, short);
+          let_in = subst (λ (g : Gate). LetsIn g (hello_frame (hello_to client url))) (sym hello_gate_is) (record { kind = refl; flag = refl; largest = omega (arith, hello_size, short); least = omega (arith, hello_size) });
+          accepted = ap (λ (k : Content). first_reason (server_reasons limits channel (received []) k)) hello_carried ∙ hello_good (received []);
+        }) (ap (λ (b : Received). b.closed) hello_received);
+    told_is = events-push (server_rules limits channel) [] (hello_frame (hello_to client url)) ∙ (ap (λ (ts : List Told). ts ++ server_tells limits (received []) (content (hello_frame (hello_to client url)))) (no_events (server_rules limits channel)) ∙ ap (server_tells limits (received [])) hello_carried);
+    hello_is = ap (λ (b : Received). b.hello) hello_received;
+    large = omega (arith, limits.receives, client.sends);
+    sized = omega (arith, send_fits (hello_to client url) fits);
+    issued_is = ap issued hello_received;
+    few_issued = omega arith;
+    used_is = ap last_used hello_received;
+    some_used = omega arith;
+    follows = ap (λ (b : Received). may_follow b.last 1) hello_received;
+    next_small = omega arith;
+    none_open = ap (λ (b : Received). open_ids b.messages) hello_received;
+  }
+
+-- ---- OPN
+
+id_fits : IsTrue (node_id.encodable (standard 446))
+unfolding node_id
+id_fits = refl
+
+request_read : (r : OpenRequest) → IsTrue (open_request.encodable r) → body_of (message 446 open_request) ((message 446 open_request).canonical r) ≡ Some r
+request_read r fits =
+    (body_of-found (message 446 open_request) (lawful_message 446 lawful_open_request) ((message 446 open_request).canonical r) r).1
+    (body_reads_back (message 446 open_request) (lawful_message 446 lawful_open_request) r (and_from (node_id.encodable (standard 446)) (open_request.encodable r) id_fits fits)).0
+
+type_later : (count : ℕ) → 0 < count → type_wanted count ≡ 1
+type_later count some = ap (λ (b : Bool). if b then 0 else 1) (ne_eqb count 0 (λ e. omega (arith, e, some)))
+
+module _ (limits : Limits) (channel : ℕ) (octets : List ℕ) (told : List Told) (at : AtServer) (on id : ℕ) (kind : ℤ) (moment : DateTime) (r : ServerReads limits channel octets told at)
+    (on_small : on < 2 ^ 32) (few : id < 2 ^ 32) (fits : IsTrue (open_request.encodable (open_request_of kind moment 0 token_lifetime))) where
+  request : OpenRequest
+  request = open_request_of kind moment 0 token_lifetime
+
+  behind_headers : List ℕ
+  behind_headers = (message 446 open_request).canonical (open_request_of kind moment 0 token_lifetime)
+
+  opn : Frame
+  opn = open_frame on at.next id (open_request_of kind moment 0 token_lifetime)
+
+  asks : Asked
+  asks = record { kind = kind; mode = pos 1; handle = 0; lifetime = 3600000 }
+
+  found : IsAskedIn behind_headers asks
+  unfolding behind_headers asks
+  found = record {
+    request = open_request_of kind moment 0 token_lifetime;
+    reads = request_read (open_request_of kind moment 0 token_lifetime) fits;
+    asks = record { kind = refl; mode = refl; handle = refl; lifetime = refl };
+  }
+
+  headers : HasHeaders opn.body on at.next id behind_headers
+  unfolding opn behind_headers
+  headers = record {
+    header = none_header on;
+    on_is = refl;
+    policy = none_is;
+    opening_is = opening_carried on at.next id ((message 446 open_request).canonical (open_request_of kind moment 0 token_lifetime)) on_small (omega (arith, r.next_small)) few;
+  }
+
+  opened : Opened
+  opened = record { sequence = at.next; request = id; handle = 0; lifetime = 3600000 }
+
+  opn_size : frame_size opn ≡ 132
+  unfolding opn
+  opn_size = omega (arith, opening_size on at.next id ((message 446 open_request).canonical (open_request_of kind moment 0 token_lifetime)), open_request_length kind moment 0 token_lifetime)
+
+  module _ (left : at.issued < 4294967295) (so : OpensSo channel at.issued opn.body opened) where
+    opn_good : first_reason (server_reasons limits channel (received r.frames) (Opens (opening_of opn.body))) ≡ None
+    unfolding opened
+    opn_good = so.remain limits (received r.frames) r.issued_is ∙ rw (r.follows, ne_eqb (issued (received r.frames)) 4294967295 (λ e. omega (arith, e, r.issued_is, left))) refl
+
+    opn_now : received (r.frames ++ opn ∷ []) ≡ after (received r.frames) (Opens (opening_of opn.body))
+    unfolding opn
+    opn_now = received-push r.frames opn ∙ ap (after (received r.frames)) (content_opn opn refl)
+
+    opn_in : LetsIn ((server_rules limits channel).gate r.frames) opn
+    unfolding opn
+    opn_in = subst (λ (g : Gate). LetsIn g opn) (sym (ap (λ (o : Option Hello). gate_behind limits o (issued (received r.frames))) r.hello_is)) (lets_opn (eqb (issued (received r.frames)) 0) (receive_size limits (Some at.hello)) opn refl refl (omega (arith, opn_size, r.large)) (omega (arith, opn_size)))
+
+    reads_opn : ServerReads limits channel (octets ++ frame_octets opn) (told ++ event.Opened id 0 (at.issued + 1) 3600000 ∷ []) (with_token at)
+    unfolding opn opened
+    reads_opn = record {
+      frames = r.frames ++ opn ∷ [];
+      run =
+          run_one (server_rules limits channel) octets r.frames opn r.run (record {
+            goes_on = r.run.ends.0;
+            sized = omega (arith, opn_size);
+            let_in = opn_in;
+            accepted = ap (λ (k : Content). first_reason (server_reasons limits channel (received r.frames) k)) (content_opn opn refl) ∙ opn_good;
+          }) (ap (λ (b : Received). b.closed) opn_now ∙ r.run.ends.0);
+      told_is = events-push (server_rules limits channel) r.frames opn ∙ (ap (λ (ts : List Told). ts ++ server_tells limits (received r.frames) (content opn)) r.told_is ∙ ap (λ (ts : List Told). told ++ ts) (ap (server_tells limits (received r.frames)) (content_opn opn refl) ∙ so.tells limits (received r.frames) r.issued_is));
+      hello_is = ap (λ (b : Received). b.hello) opn_now ∙ r.hello_is;
+      large = r.large;
+      sized = r.sized;
+      issued_is = ap issued opn_now ∙ (length-append (received r.frames).openings (opening_of opn.body ∷ []) ∙ ap (λ (n : ℕ). n + 1) r.issued_is);
+      few_issued = omega (arith, left);
+      used_is = ap last_used opn_now ∙ r.used_is;
+      some_used = r.some_used;
+      follows = ap (λ (b : Received). may_follow b.last (next_number at.next)) opn_now ∙ (ap (λ (n : Option (ℕ × ℕ)). may_follow (number_or (received r.frames).last n) (next_number at.next)) so.numbers_are ∙ follows_next at.next);
+      next_small = next_small at.next r.next_small;
+      none_open = ap (λ (b : Received). open_ids b.messages) opn_now ∙ r.none_open;
+    }
+
+-- the first OPN, on no channel yet
+pub reads_first : (limits : Limits) (channel : ℕ) (octets : List ℕ) (told : List Told) (at : AtServer) (moment : DateTime) → ServerReads limits channel octets told at → at.issued ≡ 0 → at.next ≡ 1 → IsTrue (date_time.encodable moment)
+    → ServerReads limits channel (octets ++ frame_octets (first_open moment)) (told ++ event.Opened 1 0 1 3600000 ∷ []) (with_token at)
+unfolding asks found headers opened opn behind_headers
+reads_first limits channel octets told at moment r none one fits =
+    let enc = issue_fits moment 0 3600000 fits (omega arith) (omega arith) in
+    let so : OpensSo channel at.issued (opn limits channel octets told at 0 1 (pos 0) moment r (omega arith) (omega arith) enc).body (opened limits channel octets told at 0 1 (pos 0) moment r (omega arith) (omega arith) enc) =
+    subst (λ (n : ℕ). OpensSo channel n (opening_body 0 at.next 1 ((message 446 open_request).canonical (open_request_of (pos 0) moment 0 token_lifetime))) (record { sequence = at.next; request = 1; handle = 0; lifetime = 3600000 })) (sym none)
+    (opens channel 0 0 at.next 1 (opening_body 0 at.next 1 ((message 446 open_request).canonical (open_request_of (pos 0) moment 0 token_lifetime))) ((message 446 open_request).canonical (open_request_of (pos 0) moment 0 token_lifetime))
+    (headers limits channel octets told at 0 1 (pos 0) moment r (omega arith) (omega arith) enc) (asks limits channel octets told at 0 1 (pos 0) moment r (omega arith) (omega arith) enc) (found limits channel octets told at 0 1 (pos 0) moment r (omega arith) (omega arith) enc) refl) in
+    subst (λ (n : ℕ). ServerReads limits channel (octets ++ frame_octets (open_frame 0 n 1 (open_request_of (pos 0) moment 0 token_lifetime))) (told ++ event.Opened 1 0 1 3600000 ∷ []) (with_token at)) one
+    (subst (λ (n : ℕ). ServerReads limits channel (octets ++ frame_octets (open_frame 0 at.next 1 (open_request_of (pos 0) moment 0 token_lifetime))) (told ++ event.Opened 1 0 (n + 1) 3600000 ∷ []) (with_token at)) none
+    (reads_opn limits channel octets told at 0 1 (pos 0) moment r (omega arith) (omega arith) enc (omega (arith, none)) so))
+
+-- an OPN that renews the token
+pub reads_renewal : (limits : Limits) (channel : ℕ) (octets : List ℕ) (told : List Told) (at : AtServer) (id : ℕ) (moment : DateTime) → ServerReads limits channel octets told at → 0 < at.issued → at.issued < 4294967295 → channel < 2 ^ 32 → id < 2 ^ 32 → IsTrue (date_time.encodable moment)
+    → ServerReads limits channel (octets ++ frame_octets (renewal_frame channel at.next id moment)) (told ++ event.Opened id 0 (at.issued + 1) 3600000 ∷ []) (with_token at)
+unfolding asks found headers opened opn behind_headers
+reads_renewal limits channel octets told at id moment r some left on few fits =
+    let enc = renew_fits moment 0 3600000 fits (omega arith) (omega arith) in
+    let good : first_reason (asked_reasons (record { kind = pos 1; mode = pos 1; handle = 0; lifetime = 3600000 }) channel channel at.issued) ≡ None = rw (type_later at.issued some, eq-eqb channel channel refl, lt-ltb 0 at.issued some) refl in
+    let so : OpensSo channel at.issued (opn limits channel octets told at channel id (pos 1) moment r on few enc).body (opened limits channel octets told at channel id (pos 1) moment r on few enc) =
+    opens channel at.issued channel at.next id (opening_body channel at.next id ((message 446 open_request).canonical (open_request_of (pos 1) moment 0 token_lifetime))) ((message 446 open_request).canonical (open_request_of (pos 1) moment 0 token_lifetime))
+    (headers limits channel octets told at channel id (pos 1) moment r on few enc) (asks limits channel octets told at channel id (pos 1) moment r on few enc) (found limits channel octets told at channel id (pos 1) moment r on few enc) good in
+    reads_opn limits channel octets told at channel id (pos 1) moment r on few enc left so
+
+-- ---- CLO
+
+module _ (limits : Limits) (channel : ℕ) (octets : List ℕ) (told : List Told) (at : AtServer) (token id : ℕ) (moment : DateTime) (r : ServerReads limits channel octets told at) (taken : IsTakenAt at token)
+    (on : channel < 2 ^ 32) (few : id < 2 ^ 32) where
+  closing : Chunk
+  closing = record { channel = channel; token = token; flag = F; sequence = at.next; request = id; body = (message 452 close_request).canonical (close_request_of moment 0) }
+
+  closing_is : chunk_in (close_frame channel token at.next id moment) ≡ Some closing
+  unfolding closing
+  closing_is =
+      let k = frame_of_chunk (record { channel = channel; token = token; flag = F; sequence = at.next; request = id; body = (message 452 close_request).canonical (close_request_of moment 0) }) on (omega (arith, taken.issued, r.few_issued)) (omega (arith, r.next_small)) few in
+      chunk_found (close_frame channel token at.next id moment) (record { channel = channel; token = token; flag = F; sequence = at.next; request = id; body = (message 452 close_request).canonical (close_request_of moment 0) })
+      (record { flag = refl; security = k.security; sequence = k.sequence; octets = k.octets; security_encoded = k.security_encoded; sequence_encoded = k.sequence_encoded })
+
+  clo_carried : content (close_frame channel token at.next id moment) ≡ Closes closing
+  clo_carried = content_clo (close_frame channel token at.next id moment) closing refl closing_is
+
+  clo_size : frame_size (close_frame channel token at.next id moment) ≡ 57
+  clo_size = omega (arith, header_sizes channel token at.next id ((message 452 close_request).canonical (close_request_of moment 0)), close_request_length moment 0)
+
+  is_taken_here : is_taken (received r.frames) token ≡ true
+  is_taken_here = and_from (leb (last_used (received r.frames)) token) (leb token (issued (received r.frames)))
+      (le-leb (last_used (received r.frames)) token (omega (arith, r.used_is, taken.not_before))) (le-leb token (issued (received r.frames)) (omega (arith, r.issued_is, taken.issued)))
+
+  clo_good : first_reason (server_reasons limits channel (received r.frames) (Closes closing)) ≡ None
+  unfolding closing
+  clo_good = rw (eq-eqb channel channel refl, is_taken_here, r.follows) refl
+
+  clo_now : received (r.frames ++ close_frame channel token at.next id moment ∷ []) ≡ after (received r.frames) (Closes closing)
+  clo_now = received-push r.frames (close_frame channel token at.next id moment) ∙ ap (after (received r.frames)) clo_carried
+
+  clo_in : LetsIn ((server_rules limits channel).gate r.frames) (close_frame channel token at.next id moment)
+  clo_in = subst (λ (g : Gate). LetsIn g (close_frame channel token at.next id moment)) (sym (ap (λ (o : Option Hello). gate_behind limits o (issued (received r.frames))) r.hello_is ∙ greeted_by (receive_size limits (Some at.hello)) (issued (received r.frames)) (omega (arith, r.issued_is, taken.issued, taken.not_before, r.some_used))))
+      (record { kind = refl; flag = refl; largest = omega (arith, clo_size, r.large); least = omega (arith, clo_size) })
+
+  -- the CLO is taken, and is the last frame
+  pub reads_close : ServerCloses limits channel (octets ++ frame_octets (close_frame channel token at.next id moment)) (told ++ event.Closed ∷ [])
+  reads_close = record {
+    frames = r.frames ++ close_frame channel token at.next id moment ∷ [];
+    run =
+        run_last (server_rules limits channel) octets r.frames (close_frame channel token at.next id moment) r.run (record {
+          goes_on = r.run.ends.0;
+          sized = omega (arith, clo_size);
+          let_in = clo_in;
+          accepted = ap (λ (k : Content). first_reason (server_reasons limits channel (received r.frames) k)) clo_carried ∙ clo_good;
+        }) (ap (λ (b : Received). b.closed) clo_now);
+    told_is = events-push (server_rules limits channel) r.frames (close_frame channel token at.next id moment) ∙ (ap (λ (ts : List Told). ts ++ server_tells limits (received r.frames) (content (close_frame channel token at.next id moment))) r.told_is ∙ ap (λ (k : Content). told ++ server_tells limits (received r.frames) k) clo_carried);
+  }

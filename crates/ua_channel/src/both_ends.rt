@@ -1,0 +1,181 @@
+//! Laws of both ends: what a client writes is what a server takes, and what a server writes is what a
+//! client takes, one message after the other.
+//!
+//! Each function does nothing; its contract is the law. A connection of two ends is followed by them
+//! from the HEL to the CLO: `ServerReads` says where the server is behind what the client wrote,
+//! `ClientReads` where the client is behind what the server wrote, whatever the pieces in which it
+//! came.
+
+ghost use Rattle.std.specs.Prelude.{◌≡◌, ◌<◌, ◌≤◌, ◌+◌, ◌^◌, ◌∷◌, ◌++◌, [], ℕ, List, Option, None, IsTrue, IsFalse, length};
+ghost use Rattle.ua_builtin.specs.DateTime.{date_time};
+ghost use Rattle.ua_builtin.specs.Reasons.{first_reason};
+ghost use Rattle.ua_builtin.specs.declared.date_time.DateTime.{DateTime};
+ghost use Rattle.ua_frame.specs.Agreement.{ack_to, url_length};
+ghost use Rattle.ua_frame.specs.Frames.{frame_octets};
+ghost use Rattle.ua_frame.specs.Messages.{ack, ack_frame, hello};
+ghost use Rattle.ua_frame.specs.Run.{Over, Stopped};
+ghost use Rattle.ua_frame.specs.declared.ack.Ack.{Ack};
+ghost use Rattle.ua_frame.specs.declared.frame.Frame.{Frame};
+ghost use Rattle.ua_frame.specs.declared.limits.Limits.{Limits};
+ghost use Rattle.ua_chunk.specs.Cutting.{chunks_octets, chunks_of, cut_refusal, number_after, pieces};
+ghost use Rattle.ua_chunk.specs.Sequence.{next_number};
+ghost use Rattle.ua_chunk.specs.declared.lane.Lane.{Lane};
+ghost use Rattle.ua_channel.specs.Agreement.{agreement_of};
+ghost use Rattle.ua_channel.specs.Asks.{Placed, asked_in, is_in, next_id};
+ghost use Rattle.ua_channel.specs.Asks.Asking.{Call, Renewal};
+ghost use Rattle.ua_channel.specs.ClientReads.{AtClient, ClientAgrees, ClientReads, IsAnswered, IsLaneBack, lane_from, opened_at, reasons_here, renew_reasons_here, told_reply, with_answer, with_call, with_renewal, with_reply};
+ghost use Rattle.ua_channel.specs.ClientAsks.{room_of};
+ghost use Rattle.ua_channel.specs.ClientSends.{close_frame, first_open, hello_frame, hello_to, renewal_frame};
+ghost use Rattle.ua_channel.specs.Client as client;
+ghost use Rattle.ua_channel.specs.ClientTold.{Told as ClientTold, Told as client_told, Why};
+ghost use Rattle.ua_channel.specs.ServerReads.{AtServer, IsBodyFor, IsLaneTo, IsTakenAt, ServerCloses, ServerReads, greeted_at, with_message, with_token};
+ghost use Rattle.ua_channel.specs.ServerSends.{opened_frame, replied};
+ghost use Rattle.ua_channel.specs.ServerStands.{Ended, Goes, RefusedAt, channel_of, limits_of};
+ghost use Rattle.ua_channel.specs.ServerTold.{Told, Told as server_told};
+ghost use Rattle.ua_channel.specs.declared.client.channel.ClientChannel.{ClientChannel};
+ghost use Rattle.ua_channel.specs.declared.server.ServerChannel.{ServerChannel};
+
+/// A server takes the HEL of a client, and agrees.
+pub fn server_reads_hello()
+    ensures { (limits : Limits) (channel : ℕ) (client : Limits) (url : Option (List ℕ)) → IsTrue (hello.encodable (hello_to client url)) → url_length url ≤ 4095 →
+        ServerReads limits channel (frame_octets (hello_frame (hello_to client url))) (server_told.Agreed (agreement_of limits (hello_to client url)) ∷ []) (greeted_at (hello_to client url)) }
+{}
+
+/// Behind it a server takes the first OPN, and issues the first token.
+pub fn server_reads_opening()
+    ensures { (limits : Limits) (channel : ℕ) (octets : List ℕ) (told : List Told) (at : AtServer) (moment : DateTime) →
+        ServerReads limits channel octets told at → at.issued ≡ 0 → at.next ≡ 1 → IsTrue (date_time.encodable moment) →
+        ServerReads limits channel (octets ++ frame_octets (first_open moment)) (told ++ server_told.Opened 1 0 1 3600000 ∷ []) (with_token at) }
+{}
+
+/// A server takes the chunks of a call whose body is within its limits, and is asked it whole.
+pub fn server_reads_call()
+    ensures { (limits : Limits) (channel : ℕ) (octets : List ℕ) (told : List Told) (at : AtServer) (lane : Lane) (body : List ℕ) (id : ℕ) →
+        channel < 2 ^ 32 → id < 2 ^ 32 → ServerReads limits channel octets told at → IsLaneTo limits channel at lane → IsBodyFor limits lane.room body →
+        ServerReads limits channel (octets ++ chunks_octets (chunks_of lane body at.next id)) (told ++ server_told.Asked id lane.token body ∷ []) (with_message at lane body) }
+{}
+
+/// A server takes an OPN that renews the token, and issues the next one.
+pub fn server_reads_renewal()
+    ensures { (limits : Limits) (channel : ℕ) (octets : List ℕ) (told : List Told) (at : AtServer) (id : ℕ) (moment : DateTime) →
+        ServerReads limits channel octets told at → 0 < at.issued → at.issued < 4294967295 → channel < 2 ^ 32 → id < 2 ^ 32 → IsTrue (date_time.encodable moment) →
+        ServerReads limits channel (octets ++ frame_octets (renewal_frame channel at.next id moment)) (told ++ server_told.Opened id 0 (at.issued + 1) 3600000 ∷ []) (with_token at) }
+{}
+
+/// A server takes a CLO, and the channel is closed.
+pub fn server_reads_close()
+    ensures { (limits : Limits) (channel : ℕ) (octets : List ℕ) (told : List Told) (at : AtServer) (token id : ℕ) (moment : DateTime) →
+        ServerReads limits channel octets told at → IsTakenAt at token → channel < 2 ^ 32 → id < 2 ^ 32 →
+        ServerCloses limits channel (octets ++ frame_octets (close_frame channel token at.next id moment)) (told ++ server_told.Closed ∷ []) }
+{}
+
+/// A client takes the ACK of a server to its HEL.
+pub fn client_reads_ack()
+    ensures { (limits server : Limits) (url : Option (List ℕ)) → IsTrue (ack.encodable (ack_to (hello_to limits url) server)) →
+        ClientAgrees limits (frame_octets (ack_frame (ack_to (hello_to limits url) server))) (client_told.Agreed (ack_to (hello_to limits url) server) ∷ []) (ack_to (hello_to limits url) server) }
+{}
+
+/// Behind it a client takes the OPN response to its first OPN, and the channel is open.
+pub fn client_reads_opened()
+    ensures { (limits : Limits) (octets : List ℕ) (told : List ClientTold) (a : Ack) (channel number handle token lifetime : ℕ) (moment : DateTime) →
+        ClientAgrees limits octets told a → IsAnswered channel number 1 handle token lifetime moment →
+        ClientReads limits [] (octets ++ frame_octets (opened_frame channel number 1 handle token lifetime moment)) (told ++ client_told.Opened channel token ∷ [])
+        (opened_at a channel token (next_number number)) }
+{}
+
+/// A client may ask between two messages, a call or a renewal, each under the next request id; it is
+/// then unanswered.
+pub fn client_asks()
+    ensures call { (limits : Limits) (asks : List Placed) (octets : List ℕ) (told : List ClientTold) (at : AtClient) → ClientReads limits asks octets told at →
+        ClientReads limits (asks ++ (length octets, Call (next_id (asked_in asks))) ∷ []) octets told (with_call at (next_id (asked_in asks))) }
+    ensures renewal { (limits : Limits) (asks : List Placed) (octets : List ℕ) (told : List ClientTold) (at : AtClient) → ClientReads limits asks octets told at →
+        ClientReads limits (asks ++ (length octets, Renewal (next_id (asked_in asks))) ∷ []) octets told (with_renewal at (next_id (asked_in asks))) }
+{}
+
+/// A client takes what a server sends in reply to a call that is unanswered: the chunks of the reply,
+/// and is told it whole; or, where the reply is past the client's limits, the abort in its place.
+pub fn client_reads_reply()
+    ensures { (limits : Limits) (asks : List Placed) (octets : List ℕ) (told : List ClientTold) (at : AtClient) (lane : Lane) (id : ℕ) (body : List ℕ) →
+        ClientReads limits asks octets told at → IsLaneBack limits at lane → IsTrue (is_in id at.pending) → id < 2 ^ 32 → 0 < length body →
+        ClientReads limits asks (octets ++ (replied lane body at.next id).0) (told ++ told_reply (cut_refusal lane body) id body ∷ []) (with_reply at lane.token id (replied lane body at.next id).1) }
+{}
+
+/// A client takes the OPN response to the one renewal that is unanswered, which brings a token that
+/// it does not hold.
+pub fn client_reads_renewed()
+    ensures { (limits : Limits) (asks : List Placed) (octets : List ℕ) (told : List ClientTold) (at : AtClient) (id handle token lifetime : ℕ) (moment : DateTime) →
+        ClientReads limits asks octets told at → IsAnswered at.channel at.next id handle token lifetime moment → at.renewals ≡ id ∷ [] → IsFalse (is_in token at.tokens) →
+        ClientReads limits asks (octets ++ frame_octets (opened_frame at.channel at.next id handle token lifetime moment)) (told ++ client_told.Renewed token ∷ []) (with_answer at token (next_number at.next)) }
+{}
+
+/// Behind any beginning of octets that a server reads, in whatever pieces it came, its channel was
+/// told a beginning of what they tell, and behind all of them all of it. None of them is refused, and
+/// none closes the channel.
+pub fn server_follows()
+    ensures begins { (x : ServerChannel) (octets more : List ℕ) (told all : List Told) (at : AtServer) → Goes x octets told →
+        ServerReads (limits_of x) (channel_of x) (octets ++ more) all at → (later : List Told) × (all ≡ told ++ later) }
+    ensures all { (x : ServerChannel) (octets : List ℕ) (told all : List Told) (at : AtServer) → Goes x octets told →
+        ServerReads (limits_of x) (channel_of x) octets all at → told ≡ all }
+    ensures not_refused { (x : ServerChannel) (octets more : List ℕ) (told all : List Told) (at : AtServer) (code : ℕ) → Ended x octets told (Stopped code) →
+        ServerReads (limits_of x) (channel_of x) (octets ++ more) all at → ⊥ }
+    ensures not_refused_at { (x : ServerChannel) (octets more : List ℕ) (told all : List Told) (at : AtServer) (code : ℕ) → RefusedAt x octets told code →
+        ServerReads (limits_of x) (channel_of x) (octets ++ more) all at → ⊥ }
+    ensures not_closed { (x : ServerChannel) (octets more : List ℕ) (told all : List Told) (at : AtServer) → Ended x octets told Over →
+        ServerReads (limits_of x) (channel_of x) (octets ++ more) all at → ⊥ }
+{}
+
+/// The same of octets that end with a CLO: behind all of them the channel is closed, and it is closed
+/// behind no beginning that told it less.
+pub fn server_follows_to_the_close()
+    ensures begins { (x : ServerChannel) (octets more : List ℕ) (told all : List Told) → Goes x octets told →
+        ServerCloses (limits_of x) (channel_of x) (octets ++ more) all → (later : List Told) × (all ≡ told ++ later) }
+    ensures not_open { (x : ServerChannel) (octets : List ℕ) (told all : List Told) → Goes x octets told → ServerCloses (limits_of x) (channel_of x) octets all → ⊥ }
+    ensures closed { (x : ServerChannel) (octets more : List ℕ) (told all : List Told) → Ended x octets told Over →
+        ServerCloses (limits_of x) (channel_of x) (octets ++ more) all → told ≡ all }
+    ensures not_refused { (x : ServerChannel) (octets more : List ℕ) (told all : List Told) (code : ℕ) → Ended x octets told (Stopped code) →
+        ServerCloses (limits_of x) (channel_of x) (octets ++ more) all → ⊥ }
+    ensures not_refused_at { (x : ServerChannel) (octets more : List ℕ) (told all : List Told) (code : ℕ) → RefusedAt x octets told code →
+        ServerCloses (limits_of x) (channel_of x) (octets ++ more) all → ⊥ }
+{}
+
+/// Behind any beginning of octets that a client reads, in whatever pieces it came, its channel was
+/// told a beginning of what they tell, and behind all of them all of it. It does not fail.
+pub fn client_follows()
+    ensures begins { (x : ClientChannel) (asks : List Placed) (octets more : List ℕ) (told all : List ClientTold) (at : AtClient) → client.Goes x asks octets told →
+        ClientReads (client.limits_of x) asks (octets ++ more) all at → (later : List ClientTold) × (all ≡ told ++ later) }
+    ensures all { (x : ClientChannel) (asks : List Placed) (octets : List ℕ) (told all : List ClientTold) (at : AtClient) → client.Goes x asks octets told →
+        ClientReads (client.limits_of x) asks octets all at → told ≡ all }
+    ensures not_failed { (x : ClientChannel) (asks : List Placed) (octets more : List ℕ) (told all : List ClientTold) (at : AtClient) (why : Why) → client.Ended x asks octets told why →
+        ClientReads (client.limits_of x) asks (octets ++ more) all at → ⊥ }
+{}
+
+/// What a client sends between two messages: a call goes as chunks on the channel, under the newest
+/// token and the next request id; a renewal and the CLO likewise.
+pub fn client_sends()
+    ensures call { (x : ClientChannel) (asks : List Placed) (octets : List ℕ) (frames : List Frame) (rest : List ℕ) (told : List ClientTold) (at : AtClient) →
+        client.Stands x asks octets frames rest → ClientReads (client.limits_of x) asks octets told at →
+        (number : ℕ) (body : List ℕ) (id : ℕ) (out : List ℕ) (next : ℕ) → client.IsCall (client.phase_of x) number body id out next →
+        (id ≡ next_id (asked_in asks)) × (out ≡ chunks_octets (chunks_of (lane_from at) body number id)) × (next ≡ number_after number (pieces (room_of at.ack) body)) }
+    ensures renewal { (x : ClientChannel) (asks : List Placed) (octets : List ℕ) (frames : List Frame) (rest : List ℕ) (told : List ClientTold) (at : AtClient) →
+        client.Stands x asks octets frames rest → ClientReads (client.limits_of x) asks octets told at →
+        (number : ℕ) (moment : DateTime) (id : ℕ) (out : List ℕ) (next : ℕ) → client.IsRenewal (client.phase_of x) number moment id out next →
+        (id ≡ next_id (asked_in asks)) × (out ≡ frame_octets (renewal_frame at.channel number id moment)) × (next ≡ next_number number) }
+    ensures close { (x : ClientChannel) (asks : List Placed) (octets : List ℕ) (frames : List Frame) (rest : List ℕ) (told : List ClientTold) (at : AtClient) →
+        client.Stands x asks octets frames rest → ClientReads (client.limits_of x) asks octets told at →
+        (number : ℕ) (moment : DateTime) (out : List ℕ) → client.IsClosing (client.phase_of x) number moment out →
+        out ≡ frame_octets (close_frame at.channel at.newest number (next_id (asked_in asks)) moment) }
+{}
+
+/// Why a client refuses to ask between two messages: for too many unanswered calls or tokens, or
+/// request ids that are used up, or a body past the server's limits; it may always close.
+pub fn client_refuses()
+    ensures call { (x : ClientChannel) (asks : List Placed) (octets : List ℕ) (frames : List Frame) (rest : List ℕ) (told : List ClientTold) (at : AtClient) →
+        client.Stands x asks octets frames rest → ClientReads (client.limits_of x) asks octets told at →
+        (more : ℕ) (body : List ℕ) → client.ask_refusal (client.phase_of x) more body ≡ first_reason (reasons_here at (asked_in asks) more body) }
+    ensures renewal { (x : ClientChannel) (asks : List Placed) (octets : List ℕ) (frames : List Frame) (rest : List ℕ) (told : List ClientTold) (at : AtClient) →
+        client.Stands x asks octets frames rest → ClientReads (client.limits_of x) asks octets told at →
+        client.renew_refusal (client.phase_of x) ≡ first_reason (renew_reasons_here at (asked_in asks)) }
+    ensures close { (x : ClientChannel) (asks : List Placed) (octets : List ℕ) (frames : List Frame) (rest : List ℕ) (told : List ClientTold) (at : AtClient) →
+        client.Stands x asks octets frames rest → ClientReads (client.limits_of x) asks octets told at →
+        client.close_refusal (client.phase_of x) ≡ None }
+{}
