@@ -115,7 +115,7 @@ opening_code (Sends c) = 0
 opening_code (Closes c) = 0
 opening_code Nothing = 0
 
--- the answer is a ServiceFault, or a response whose ServiceResult has its top bit set (OPC 10000-4, 7.38)
+-- the answer is a ServiceFault, or a response whose ServiceResult has its top bit set (OPC 10000-4, 7.39)
 abbrev pub is_bad : Option OpenAnswer → Bool
 is_bad None = false
 is_bad (Some (Open r)) = nat_le 0x8000_0000 r.response_header.service_result.code

@@ -12,7 +12,7 @@ use ua_chunk::read_open;
 use ua_frame::Frame;
 use ua_services::{OpenAnswer, OpenResponse, read_open_response};
 
-/// The least code whose top bit is set: that of a bad result (OPC 10000-4, 7.38).
+/// The least code whose top bit is set: that of a bad result (OPC 10000-4, 7.39).
 const FIRST_BAD: u32 = 0x8000_0000;
 
 /// A good response to an OPN: its numbers, and the channel and the token that it brings.
