@@ -36,6 +36,7 @@ pub mod ClientTakes
 pub mod ClientReading
 pub mod Following
 pub mod ClientSending
+pub mod AllSent
 mod PairedCalls
 pub mod AgreedFirst
 pub mod Opened
