@@ -40,3 +40,5 @@ pub mod AllSent
 mod PairedCalls
 pub mod AgreedFirst
 pub mod Opened
+mod Conversing
+mod ServerConversing

@@ -237,12 +237,12 @@ module _ (asks : List Placed) (place : ℕ) (cs : List Chunk) (c : Chunk) (answe
 
 -- ---- the frames that a client takes
 
-none_holds : {A : Type 0} (rs : List (A × Bool)) → first_reason rs ≡ None → AllByRecursion (λ (r : A × Bool). r.1 ≡ false) rs
+pub none_holds : {A : Type 0} (rs : List (A × Bool)) → first_reason rs ≡ None → AllByRecursion (λ (r : A × Bool). r.1 ≡ false) rs
 none_holds [] e = tt
 none_holds ((a, true) ∷ rs) e = absurd cc
 none_holds ((a, false) ∷ rs) e = (refl, none_holds rs e)
 
-was_pending : (b : Bool) → not b ≡ false → b ≡ true
+pub was_pending : (b : Bool) → not b ≡ false → b ≡ true
 was_pending true e = refl
 was_pending false e = absurd cc
 

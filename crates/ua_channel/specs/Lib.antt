@@ -28,6 +28,8 @@ pub mod Paired
 -- What one end reads of what the other writes.
 pub mod ServerReads
 pub mod ClientReads
+-- What a conversation is, in plain words.
+pub mod Conversation
 -- The line under a connection, and moments.
 pub mod Line
 pub mod MemoryLine

@@ -3,12 +3,15 @@
 //! Each function does nothing; its contract is the law.
 
 ghost use Rattle.std.specs.Prelude.{◌≡◌, ◌↔◌, ◌∷◌, ◌++◌, [], ℕ, List, None, Some};
+ghost use Rattle.ua_frame.specs.After.{AllAfter};
+ghost use Rattle.ua_frame.specs.Run.{Fits, Going, Over, Run};
 ghost use Rattle.ua_frame.specs.Laws.{HasOneReading, HasReadings, StopsAtFirstWrong};
 ghost use Rattle.ua_frame.specs.declared.frame.Frame.{Frame};
 ghost use Rattle.ua_frame.specs.declared.limits.Limits.{Limits};
 ghost use Rattle.ua_chunk.specs.declared.lane.Lane.{Lane};
 ghost use Rattle.ua_channel.specs.Agreement.{Agreement, lane_of};
 ghost use Rattle.ua_channel.specs.Content.{content};
+ghost use Rattle.ua_channel.specs.Conversation.{Continues, HasEnded, ServerConversation};
 ghost use Rattle.ua_channel.specs.Received.{after, nothing_received, received};
 ghost use Rattle.ua_channel.specs.ServerPlaces.{agreed_by};
 ghost use Rattle.ua_channel.specs.ServerRules.{server_rules};
@@ -64,4 +67,16 @@ pub fn server_is_open()
     ensures done { (x : ServerChannel) → IsDone x → IsNotOpen x }
     ensures asked { (x : ServerChannel) (octets : List ℕ) (before : List Told) (id token : ℕ) (message : List ℕ) →
         GoesTelling x octets before (told.Asked id token message) → IsNotOpen x → ⊥ }
+{}
+
+/// The frames that a server takes, one after the other, are just those of a conversation in plain
+/// words, or of the beginning of one. So octets have no wrong frame exactly where their frames are a
+/// conversation, and what stands behind them is less than a frame with nothing wrong in its header,
+/// or they end with a CLO.
+pub fn server_converses()
+    ensures frames { (limits : Limits) (channel : ℕ) (frames : List Frame) → AllAfter (Fits (server_rules limits channel)) frames ↔ ServerConversation limits channel frames }
+    ensures going { (limits : Limits) (channel : ℕ) (octets : List ℕ) (frames : List Frame) (rest : List ℕ) →
+        Run (server_rules limits channel) octets frames rest Going ↔ Continues limits channel octets frames rest }
+    ensures over { (limits : Limits) (channel : ℕ) (octets : List ℕ) (frames : List Frame) (rest : List ℕ) →
+        Run (server_rules limits channel) octets frames rest Over ↔ HasEnded limits channel octets frames rest }
 {}

@@ -1,0 +1,135 @@
+-- Conversations: the frames that one end may receive of another that keeps to the protocol, or the beginning of them.
+use Rattle.std.specs.Prelude.{◌≡◌, ◌≤◌, ◌==◌, ◌||◌, ◌++◌, ℕ, pos, List, [], ◌∷◌, Option, Some, None, IsTrue, IsFalse, true, false, map}
+use Rattle.std.specs.List.{AllByRecursion}
+use Rattle.std.specs.Ordering.{int_eq}
+use Rattle.ua_frame.specs.Agreement.{is_buffer_small, is_url_long}
+use Rattle.ua_frame.specs.After.{AllAfter}
+use Rattle.ua_frame.specs.Frames.{IsPartial, IsSized, frame_size, frames_octets}
+use Rattle.ua_frame.specs.Kinds.{has_flag, least_size}
+use Rattle.ua_frame.specs.declared.frame.Frame.{Frame}
+use Rattle.ua_frame.specs.declared.hello.Hello.{Hello}
+use Rattle.ua_frame.specs.declared.limits.Limits.{Limits}
+use Rattle.ua_structures.specs.declared.secure_channel.OpenRequest.{OpenRequest}
+use Rattle.ua_chunk.specs.Opening.{SecurityHeader, channel_of, is_none_policy, policy_of}
+use Rattle.ua_chunk.specs.Refusal.{TakesMessages}
+use Rattle.ua_chunk.specs.Sequence.{may_follow}
+use Rattle.ua_chunk.specs.declared.chunk.Chunk.{Chunk}
+use Rattle.ua_channel.specs.Content.{Content, Opening, content}
+use Rattle.ua_channel.specs.Content.Content.{Greets, Acks, Fails, Opens, Sends, Closes, Nothing}
+use Rattle.ua_channel.specs.Received.{Received, messages, numbers, received}
+use Rattle.ua_channel.specs.ServerRefusals.{is_taken, type_wanted}
+use Rattle.ua_channel.specs.ServerRules.{receive_size, server_gate}
+use Rattle.ua_channel.specs.ServerTold.{issued, request_of}
+
+-- ---- frames of any conversation
+
+-- a frame as its header says: a size that it can name, no less than the least of the kind, and a flag of the kind
+pub record IsFramed (f : Frame) : Type 0 where
+  pub sized : IsSized f
+  pub flag : IsTrue (has_flag f.kind f.flag)
+  pub least : least_size f.kind ≤ frame_size f
+
+-- each number follows the one before it, and the first one the last before all, if there was one
+abbrev pub AreOrdered : Option ℕ → List ℕ → Type 0
+AreOrdered last [] = Unit {0}
+AreOrdered last (n ∷ ns) = IsTrue (may_follow last n) × AreOrdered (Some n) ns
+
+-- ---- what comes at a server
+
+-- behind the first OPN come OPNs and MSGs, and a CLO is the last; of octets each MSG and CLO carries a chunk
+abbrev pub IsOrderOpen : List Content → Type 0
+IsOrderOpen [] = Unit {0}
+IsOrderOpen (Greets hello ∷ cs) = ⊥
+IsOrderOpen (Acks ack ∷ cs) = ⊥
+IsOrderOpen (Fails error ∷ cs) = ⊥
+IsOrderOpen (Opens o ∷ cs) = IsOrderOpen cs
+IsOrderOpen (Sends c ∷ cs) = IsOrderOpen cs
+IsOrderOpen (Closes c ∷ cs) = cs ≡ []
+IsOrderOpen (Nothing ∷ cs) = IsOrderOpen cs
+
+-- behind the HEL comes an OPN
+abbrev pub IsOrderGreeted : List Content → Type 0
+IsOrderGreeted [] = Unit {0}
+IsOrderGreeted (Greets hello ∷ cs) = ⊥
+IsOrderGreeted (Acks ack ∷ cs) = ⊥
+IsOrderGreeted (Fails error ∷ cs) = ⊥
+IsOrderGreeted (Opens o ∷ cs) = IsOrderOpen cs
+IsOrderGreeted (Sends c ∷ cs) = ⊥
+IsOrderGreeted (Closes c ∷ cs) = ⊥
+IsOrderGreeted (Nothing ∷ cs) = ⊥
+
+-- a HEL comes first (OPC 10000-6, 7.1.3)
+abbrev pub IsServerOrder : List Content → Type 0
+IsServerOrder [] = Unit {0}
+IsServerOrder (Greets hello ∷ cs) = IsOrderGreeted cs
+IsServerOrder (Acks ack ∷ cs) = ⊥
+IsServerOrder (Fails error ∷ cs) = ⊥
+IsServerOrder (Opens o ∷ cs) = ⊥
+IsServerOrder (Sends c ∷ cs) = ⊥
+IsServerOrder (Closes c ∷ cs) = ⊥
+IsServerOrder (Nothing ∷ cs) = ⊥
+
+-- a Hello that a server agrees to: its URL has fewer than 4096 octets, and both its sizes are at least 8192
+pub record IsGoodHello (hello : Option Hello) : Type 0 where
+  pub said : Hello
+  pub reads : hello ≡ Some said
+  pub url : IsFalse (is_url_long said)
+  pub sizes : IsFalse (is_buffer_small said)
+
+-- an opening on this channel where so many tokens were issued: under the policy None, with a request that reads, of the type Issue first
+-- and Renew then, of the mode None, a later one on the channel, and there is a token left
+pub record IsGoodRequest (channel count : ℕ) (o : Opening) : Type 0 where
+  pub header : SecurityHeader
+  pub security_is : o.security ≡ Some header
+  pub policy : IsTrue (is_none_policy (policy_of header))
+  pub request : OpenRequest
+  pub request_is : request_of o ≡ Some request
+  pub type_is : IsTrue (int_eq request.request_type (pos (type_wanted count)))
+  pub mode_is : IsTrue (int_eq request.security_mode (pos 1))
+  pub on : IsTrue (count == 0 || channel_of header == channel)
+  pub left : IsFalse (count == 4294967295)
+
+-- a chunk of a message or of the close: on this channel, under a token that is taken at its place
+pub record IsGoodChunk (channel : ℕ) (before : Received) (c : Chunk) : Type 0 where
+  pub on : IsTrue (c.channel == channel)
+  pub taken : IsTrue (is_taken before c.token)
+
+-- what a frame that comes behind these may carry, but for its number and its message
+abbrev pub MayCarry : ℕ → Received → Content → Type 0
+MayCarry channel before (Greets hello) = IsGoodHello hello
+MayCarry channel before (Acks ack) = Unit {0}
+MayCarry channel before (Fails error) = Unit {0}
+MayCarry channel before (Opens o) = IsGoodRequest channel (issued before) o
+MayCarry channel before (Sends c) = IsGoodChunk channel before c
+MayCarry channel before (Closes c) = IsGoodChunk channel before c
+MayCarry channel before Nothing = Unit {0}
+
+-- a conversation at a server with these limits on this channel
+pub record ServerConversation (limits : Limits) (channel : ℕ) (frames : List Frame) : Type 0 where
+  -- a HEL, an OPN, then OPNs and MSGs, and at most one CLO, the last
+  pub order : IsServerOrder (map content frames)
+  -- each frame is as its header says
+  pub framed : AllByRecursion IsFramed frames
+  -- none is larger than what the server receives at its place
+  pub fits : AllAfter (λ before f. frame_size f ≤ receive_size limits (received before).hello) frames
+  -- the Hello agrees, each opening is good, and each chunk has this channel and a token that is taken
+  pub carries : AllAfter (λ before f. MayCarry channel (received before) (content f)) frames
+  -- all numbers are in order
+  pub ordered : AreOrdered None (numbers frames)
+  -- the messages are within the limits, at most 4 of them unfinished at a time, and each abort reads
+  pub messages_fit : TakesMessages limits.max_message_size limits.max_chunk_count [] (messages frames)
+
+-- ---- octets without a wrong frame
+
+-- these octets are the frames of a conversation that goes on, and behind them less than a frame, with nothing wrong in its header
+pub record Continues (limits : Limits) (channel : ℕ) (octets : List ℕ) (frames : List Frame) (rest : List ℕ) : Type 0 where
+  pub whole : octets ≡ frames_octets frames ++ rest
+  pub converses : ServerConversation limits channel frames
+  pub goes_on : (received frames).closed ≡ false
+  pub partial : IsPartial (server_gate limits (received frames)) rest
+
+-- these octets are the frames of a conversation that a CLO ends, and any octets behind them
+pub record HasEnded (limits : Limits) (channel : ℕ) (octets : List ℕ) (frames : List Frame) (rest : List ℕ) : Type 0 where
+  pub whole : octets ≡ frames_octets frames ++ rest
+  pub converses : ServerConversation limits channel frames
+  pub closed : (received frames).closed ≡ true
