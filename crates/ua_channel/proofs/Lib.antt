@@ -42,3 +42,4 @@ pub mod AgreedFirst
 pub mod Opened
 mod Conversing
 mod ServerConversing
+mod ClientConversing

@@ -30,6 +30,7 @@ pub mod ServerReads
 pub mod ClientReads
 -- What a conversation is, in plain words.
 pub mod Conversation
+pub mod ClientConversation
 -- The line under a connection, and moments.
 pub mod Line
 pub mod MemoryLine

@@ -7,10 +7,11 @@ ghost use Rattle.ua_frame.specs.After.{AllAfter};
 ghost use Rattle.ua_frame.specs.Laws.{HasOneReading, HasReadings, StopsAtFirstWrong};
 ghost use Rattle.ua_frame.specs.declared.frame.Frame.{Frame};
 ghost use Rattle.ua_frame.specs.declared.limits.Limits.{Limits};
-ghost use Rattle.ua_frame.specs.Run.{Fits, events};
+ghost use Rattle.ua_frame.specs.Run.{Fits, Going, Run, events};
 ghost use Rattle.ua_chunk.specs.Delivered.{delivered};
 ghost use Rattle.ua_channel.specs.Asks.{Placed, asked_in, calls, is_in};
 ghost use Rattle.ua_channel.specs.Client.{ask_refusal, close_refusal, phase_of, renew_refusal, Goes, GoesTelling, IsDone, IsNotOpen, Stands};
+ghost use Rattle.ua_channel.specs.ClientConversation.{ClientConversation, Continues};
 ghost use Rattle.ua_channel.specs.ClientTable.{client_rules};
 ghost use Rattle.ua_channel.specs.ClientTokens.{responses};
 ghost use Rattle.ua_channel.specs.ClientTold.{Told, told_item};
@@ -65,4 +66,13 @@ pub fn client_is_open()
     ensures asks { (x : ClientChannel) (more : ℕ) (body : List ℕ) → IsNotOpen (phase_of x) → ask_refusal (phase_of x) more body ≡ Some NotOpen }
     ensures renews { (x : ClientChannel) → IsNotOpen (phase_of x) → renew_refusal (phase_of x) ≡ Some NotOpen }
     ensures closes { (x : ClientChannel) → IsNotOpen (phase_of x) ↔ (close_refusal (phase_of x) ≡ Some NotOpen) }
+{}
+
+/// The frames that a client takes, one after the other, are just those of a conversation in plain
+/// words, or of the beginning of one. So octets have no wrong frame exactly where their frames are a
+/// conversation, and what stands behind them is less than a frame with nothing wrong in its header.
+pub fn client_converses()
+    ensures frames { (limits : Limits) (asks : List Placed) (frames : List Frame) → AllAfter (Fits (client_rules limits asks)) frames ↔ ClientConversation limits asks frames }
+    ensures going { (limits : Limits) (asks : List Placed) (octets : List ℕ) (frames : List Frame) (rest : List ℕ) →
+        Run (client_rules limits asks) octets frames rest Going ↔ Continues limits asks octets frames rest }
 {}

@@ -1,0 +1,451 @@
+-- That the frames which a client takes are those of a conversation.
+use Rattle.std.proofs.Common.{◌≡◌, ℕ, ◌≤◌, Bool, true, false, IsTrue, not, leb, List, [], ◌∷◌, ◌++◌, Option, Some, None, map, refl, sym, ◌∙◌, ap, subst, arith}
+use Rattle.std.specs.List.{AllByRecursion}
+use Rattle.std.specs.Prelude.{◌↔◌}
+use Rattle.ua_builtin.specs.Reasons.{first_reason, renamed_reason}
+use Rattle.ua_builtin.proofs.FirstReasons.{first_behind, first_reason-map}
+use Rattle.ua_frame.specs.declared.ack.Ack.{Ack}
+use Rattle.ua_frame.specs.declared.frame.Frame.{Frame}
+use Rattle.ua_frame.specs.declared.kind.Kind.{Kind}
+use Rattle.ua_frame.specs.declared.kind.Kind.TheVariants.{Hel, Msg, Opn, Clo}
+use Rattle.ua_frame.specs.declared.kind.Kind.TheVariants as kind
+use Rattle.ua_frame.specs.declared.limits.Limits.{Limits}
+use Rattle.ua_frame.specs.After.{AllAfter, AllFrom}
+use Rattle.ua_frame.specs.Frames.{frame_size}
+use Rattle.ua_frame.specs.Kinds.{lets_in}
+use Rattle.ua_frame.specs.Messages.{ack}
+use Rattle.ua_frame.specs.Run.{Fits, Going, Run}
+use Rattle.ua_frame.specs.Whole.{whole_of}
+use Rattle.ua_services.specs.declared.open.OpenAnswer.{OpenAnswer}
+use Rattle.ua_services.specs.declared.open.OpenAnswer.TheVariants.{Open, Fault}
+use Rattle.ua_structures.specs.declared.secure_channel.OpenResponse.{OpenResponse}
+use Rattle.ua_chunk.specs.declared.chunk.Chunk.{Chunk}
+use Rattle.ua_chunk.specs.Layout.{chunk_in}
+use Rattle.ua_chunk.specs.Opening.{is_none_policy, policy_of}
+use Rattle.ua_chunk.specs.Refusal.{TakesMessages, message_refusal, reasons, refusal}
+use Rattle.ua_chunk.specs.Sequence.{may_follow}
+use Rattle.ua_chunk.proofs.Numbers.{apart}
+use Rattle.ua_channel.specs.Asks.{Asking, Placed, asked_before, end_of, is_in, pending_calls}
+use Rattle.ua_channel.specs.ClientConversation.{ClientConversation, Continues, IsClientOrder, IsGoodReply, IsGoodResponse, IsOrderAgreed, IsOrderOpen, MayCarry, largest_taken}
+use Rattle.ua_channel.specs.ClientParts.{why_of}
+use Rattle.ua_channel.specs.ClientTable.{client_gate, client_reasons, client_rules, gate_behind, is_awaited, is_bad, is_other, of_numbers, of_response, of_security}
+use Rattle.ua_channel.specs.ClientTokens.{answer_behind, answer_in, channel_in, held_tokens, opened_ids, responses}
+use Rattle.ua_channel.specs.ClientTold.{Why, ours}
+use Rattle.ua_channel.specs.Content.{Content, Opening, content, content_by, opening_of, sends}
+use Rattle.ua_channel.specs.Content.Content.{Greets, Acks, Fails, Opens, Sends, Closes, Nothing}
+use Rattle.ua_channel.specs.Conversation.{AreOrdered, IsFramed}
+use Rattle.ua_channel.specs.Received.{Received, after, messages, number_listed, numbers, numbers_in, or_before, received}
+use Rattle.ua_channel.proofs.ClientChunks.{accepts}
+use Rattle.ua_channel.proofs.ClientTakes.{judged_reply}
+use Rattle.ua_channel.proofs.ClientTalks.{no_responses, responses-push}
+use Rattle.ua_channel.proofs.Conversing.{MessageFits, messages_join, messages_split, no_more, none_first, none_named, none_then, ordered_join, ordered_split, some_there}
+use Rattle.ua_channel.proofs.OneFrameMore.{received-nil, received-push}
+use Rattle.ua_channel.proofs.PairedCalls.{none_holds, was_pending}
+
+-- ---- an OPN
+
+good_answer : (a : OpenAnswer) → is_bad (Some a) ≡ false → (r : OpenResponse) × (a ≡ Open r) × (leb 0x8000_0000 r.response_header.service_result.code ≡ false)
+good_answer (Open r) e = (r, refl, e)
+good_answer (Fault f) e = absurd cc
+
+numbers_by : (n : Option (ℕ × ℕ)) (body : List ℕ) (a : OpenAnswer) → answer_behind n body ≡ Some a → (m : ℕ × ℕ) × (n ≡ Some m)
+numbers_by None body a e = absurd cc
+numbers_by (Some n) body a e = (n, refl)
+
+numbers_there : (o : Opening) (a : OpenAnswer) → answer_in o ≡ Some a → (n : ℕ × ℕ) × (o.numbers ≡ Some n)
+unfolding answer_in
+numbers_there o a e = numbers_by o.numbers o.body a e
+
+follow_row : (last : Option ℕ) (n : Option (ℕ × ℕ)) → of_numbers (λ m. not (may_follow last m.0)) n ≡ false → AreOrdered last (number_listed n)
+follow_row last None e = tt
+follow_row last (Some n) e = (was_pending (may_follow last n.0) e, tt)
+
+row_follows : (last : Option ℕ) (n : Option (ℕ × ℕ)) → AreOrdered last (number_listed n) → of_numbers (λ m. not (may_follow last m.0)) n ≡ false
+row_follows last None h = refl
+row_follows last (Some n) h = no_more (may_follow last n.0) h.0
+
+module _ (limits : Limits) (asked : List Asking) (b : Received) where
+  response_good : (o : Opening) → first_reason (client_reasons limits b asked (Opens o)) ≡ None → IsGoodResponse b asked o
+  response_good o e =
+      let all = none_holds (client_reasons limits b asked (Opens o)) e in
+      let header = some_there o.security all.0 in
+      let answer = some_there (answer_in o) all.1.1.1.0 in
+      let found = good_answer answer.0 (ap is_bad (sym answer.1) ∙ all.1.1.1.1.0) in
+      let is : answer_in o ≡ Some (Open found.0) = answer.1 ∙ ap (λ (a : OpenAnswer). Some a) found.1 in
+      let numbers = numbers_there o (Open found.0) is in
+      record {
+        header = header.0;
+        security_is = header.1;
+        policy = was_pending (is_none_policy (policy_of header.0)) (ap (of_security (λ h. not (is_none_policy (policy_of h)))) (sym header.1) ∙ all.1.1.0);
+        response = found.0;
+        answer_is = is;
+        good = found.2;
+        on = ap (of_response (λ r. is_other (channel_in (responses b.openings)) r.channel_id)) (sym is) ∙ all.1.1.1.1.1.0;
+        fresh = ap (of_response (λ r. is_in r.token_id (held_tokens b))) (sym is) ∙ all.1.1.1.1.1.1.0;
+        numbered = numbers.0;
+        numbers_are = numbers.1;
+        awaited =
+            was_pending (is_awaited (responses b.openings) (opened_ids b.openings) asked numbers.0.1)
+            (ap (of_numbers (λ n. not (is_awaited (responses b.openings) (opened_ids b.openings) asked n.1))) (sym numbers.1) ∙ all.1.1.1.1.1.1.1.1.1.1.1.1.0);
+      }
+
+  response_follows : (o : Opening) → first_reason (client_reasons limits b asked (Opens o)) ≡ None → AreOrdered b.last (number_listed o.numbers)
+  response_follows o e = follow_row b.last o.numbers (none_holds (client_reasons limits b asked (Opens o)) e).1.1.1.1.1.1.1.0
+
+  response_taken : (o : Opening) → IsGoodResponse b asked o → AreOrdered b.last (number_listed o.numbers) → first_reason (client_reasons limits b asked (Opens o)) ≡ None
+  unfolding answer_in
+  response_taken o g follow =
+      let waited : of_numbers (λ n. not (is_awaited (responses b.openings) (opened_ids b.openings) asked n.1)) o.numbers ≡ false =
+      ap (of_numbers (λ n. not (is_awaited (responses b.openings) (opened_ids b.openings) asked n.1))) g.numbers_are ∙ no_more (is_awaited (responses b.openings) (opened_ids b.openings) asked g.numbered.1) g.awaited in
+      rw (g.security_is, g.policy, g.answer_is, g.good, g.on, g.fresh, row_follows b.last o.numbers follow, waited) refl
+
+  -- ---- a chunk
+
+  ids_of : Chunk → List (Why × Bool)
+  ids_of c = (ours 0x807F_0000, is_other (channel_in (responses b.openings)) c.channel) ∷ (ours 0x8087_0000, not (is_in c.token (held_tokens b))) ∷ []
+
+  rows_of : Chunk → List (Why × Bool)
+  rows_of c = map (renamed_reason why_of) (reasons limits.max_message_size limits.max_chunk_count b.last b.messages c)
+
+  unasked_of : Chunk → List (Why × Bool)
+  unasked_of c = (ours 0x8009_0000, not (is_in c.request (pending_calls b.messages asked))) ∷ []
+
+  reply_good : (c : Chunk) → first_reason (client_reasons limits b asked (Sends c)) ≡ None → IsGoodReply b asked c
+  unfolding ids_of rows_of unasked_of
+  reply_good c e =
+      let all = sym (judged_reply limits asked b c) ∙ e in
+      let ids = none_holds (ids_of c) (none_first (ids_of c) (rows_of c ++ unasked_of c) all) in
+      let last = none_holds (unasked_of c) (none_then (rows_of c) (unasked_of c) (none_then (ids_of c) (rows_of c ++ unasked_of c) all)) in
+      record { on = ids.0; held = was_pending (is_in c.token (held_tokens b)) ids.1.0; awaited = was_pending (is_in c.request (pending_calls b.messages asked)) last.0 }
+
+  reply_apart : (c : Chunk) → first_reason (client_reasons limits b asked (Sends c)) ≡ None → (may_follow b.last c.sequence ≡ true) × (message_refusal limits.max_message_size limits.max_chunk_count b.messages c ≡ None)
+  unfolding ids_of rows_of unasked_of
+  reply_apart c e =
+      let all = sym (judged_reply limits asked b c) ∙ e in
+      (apart limits.max_message_size limits.max_chunk_count b.last b.messages c).0
+      (none_named why_of (refusal limits.max_message_size limits.max_chunk_count b.last b.messages c)
+      (sym (first_reason-map why_of (reasons limits.max_message_size limits.max_chunk_count b.last b.messages c))
+      ∙ none_first (rows_of c) (unasked_of c) (none_then (ids_of c) (rows_of c ++ unasked_of c) all)))
+
+  reply_taken : (c : Chunk) → IsGoodReply b asked c → may_follow b.last c.sequence ≡ true → message_refusal limits.max_message_size limits.max_chunk_count b.messages c ≡ None → first_reason (client_reasons limits b asked (Sends c)) ≡ None
+  unfolding ids_of rows_of unasked_of
+  reply_taken c g follows good =
+      let ids : first_reason (ids_of c) ≡ None = rw (g.on, g.held) refl in
+      let asks : first_reason (unasked_of c) ≡ None = rw g.awaited refl in
+      judged_reply limits asked b c
+      ∙ (first_behind (ids_of c) (rows_of c ++ unasked_of c) ids
+      ∙ (first_behind (rows_of c) (unasked_of c) (accepts (reasons limits.max_message_size limits.max_chunk_count b.last b.messages c) ((apart limits.max_message_size limits.max_chunk_count b.last b.messages c).1 (follows, good))) ∙ asks))
+
+-- ---- one frame
+
+-- what a frame that is taken carries
+record Good (limits : Limits) (asked : List Asking) (b : Received) (c : Content) : Type 0 where
+  carries : MayCarry limits b asked c
+  ordered : AreOrdered b.last (numbers_in c)
+  message : MessageFits limits b c
+
+good : (limits : Limits) (asked : List Asking) (b : Received) (c : Content) → ((d : Chunk) → c ≡ Closes d → ⊥) → first_reason (client_reasons limits b asked c) ≡ None → Good limits asked b c
+unfolding MessageFits
+good limits asked b (Greets hello) never e = record { carries = tt; ordered = tt; message = tt }
+good limits asked b (Acks None) never e = absurd cc
+good limits asked b (Acks (Some a)) never e = record { carries = record { said = a; reads = refl; within = (none_holds (client_reasons limits b asked (Acks (Some a))) e).1.0 }; ordered = tt; message = tt }
+good limits asked b (Fails None) never e = absurd cc
+good limits asked b (Fails (Some error)) never e = absurd cc
+good limits asked b (Opens o) never e = record { carries = response_good limits asked b o e; ordered = response_follows limits asked b o e; message = tt }
+good limits asked b (Sends c) never e =
+    let both = reply_apart limits asked b c e in
+    record { carries = reply_good limits asked b c e; ordered = (both.0, tt); message = both.1 }
+good limits asked b (Closes c) never e = absurd (never c refl)
+good limits asked b Nothing never e = record { carries = tt; ordered = tt; message = tt }
+
+accepted : (limits : Limits) (asked : List Asking) (b : Received) (c : Content) → Good limits asked b c → first_reason (client_reasons limits b asked c) ≡ None
+unfolding MessageFits
+accepted limits asked b (Greets hello) g = refl
+accepted limits asked b (Acks ack) g = rw (g.carries.reads, g.carries.within) refl
+accepted limits asked b (Fails error) g = absurd g.carries
+accepted limits asked b (Opens o) g = response_taken limits asked b o g.carries g.ordered
+accepted limits asked b (Sends c) g = reply_taken limits asked b c g.carries g.ordered.0 g.message
+accepted limits asked b (Closes c) g = refl
+accepted limits asked b Nothing g = refl
+
+-- ---- the order
+
+-- what may come, by the Acknowledge, and by the responses
+order_by : Option Ack → List OpenResponse → List Kind → Type 0
+order_by None rs ks = IsClientOrder ks
+order_by (Some a) [] ks = IsOrderAgreed ks
+order_by (Some a) (r ∷ rs) ks = IsOrderOpen ks
+
+Order : Received → List Kind → Type 0
+Order b ks = order_by b.ack (responses b.openings) ks
+
+-- responses come behind an Acknowledge
+IsPlaced : Received → Type 0
+IsPlaced b = b.ack ≡ None → responses b.openings ≡ []
+
+to_order : (b : Received) (ks : List Kind) (o : Option Ack) (rs : List OpenResponse) → b.ack ≡ o → responses b.openings ≡ rs → Order b ks → order_by o rs ks
+unfolding Order
+to_order b ks o rs q r h = subst (λ (t : Option Ack). order_by t rs ks) q (subst (λ (t : List OpenResponse). order_by b.ack t ks) r h)
+
+from_order : (b : Received) (ks : List Kind) (o : Option Ack) (rs : List OpenResponse) → b.ack ≡ o → responses b.openings ≡ rs → order_by o rs ks → Order b ks
+unfolding Order
+from_order b ks o rs q r h = subst (λ (t : List OpenResponse). order_by b.ack t ks) (sym r) (subst (λ (t : Option Ack). order_by t rs ks) (sym q) h)
+
+nil_by : (o : Option Ack) (rs : List OpenResponse) → order_by o rs []
+unfolding order_by
+nil_by None rs = tt
+nil_by (Some a) [] = tt
+nil_by (Some a) (r ∷ rs) = tt
+
+order_nil : (b : Received) → Order b []
+unfolding Order
+order_nil b = nil_by b.ack (responses b.openings)
+
+module _ (limits : Limits) (asked : List Asking) (b : Received) (f : Frame) (ks : List Kind) where
+  more_responses : (rs : List OpenResponse) (g : IsGoodResponse b asked (opening_of f.body)) → responses b.openings ≡ rs → responses (b.openings ++ opening_of f.body ∷ []) ≡ rs ++ g.response ∷ []
+  more_responses rs g r = responses-push b.openings (opening_of f.body) g.response g.answer_is ∙ ap (λ (t : List OpenResponse). t ++ g.response ∷ []) r
+
+  said_then : (said : Ack) → whole_of ack f.body ≡ Some said → (after b (Acks (whole_of ack f.body))).ack ≡ Some said
+  said_then said e = ap (or_before b.ack) e
+
+  msg_next : (found : Option Chunk) (o : Option Ack) (rs : List OpenResponse) → b.ack ≡ o → responses b.openings ≡ rs → Order (after b (sends found)) ks → order_by o rs ks
+  msg_next None o rs q r next = to_order b ks o rs q r next
+  msg_next (Some c) o rs q r next = to_order (after b (Sends c)) ks o rs q r next
+
+  msg_then : (found : Option Chunk) (o : Option Ack) (rs : List OpenResponse) → b.ack ≡ o → responses b.openings ≡ rs → order_by o rs ks → Order (after b (sends found)) ks
+  msg_then None o rs q r order = from_order b ks o rs q r order
+  msg_then (Some c) o rs q r order = from_order (after b (Sends c)) ks o rs q r order
+
+  -- a frame that is let in comes in order
+  order_here : (o : Option Ack) (rs : List OpenResponse) (k : Kind) → b.ack ≡ o → responses b.openings ≡ rs → IsPlaced b → IsTrue (lets_in (gate_behind o rs) k) → MayCarry limits b asked (content_by k f) → Order (after b (content_by k f)) ks → order_by o rs (k ∷ ks)
+  unfolding order_by IsPlaced
+  order_here None rs Hel q r placed kind may next = absurd cc
+  order_here None rs kind.Ack q r placed kind may next = to_order (after b (Acks (whole_of ack f.body))) ks (Some may.said) [] (said_then may.said may.reads) (placed q) next
+  order_here None rs kind.Err q r placed kind may next = absurd may
+  order_here None rs Msg q r placed kind may next = absurd cc
+  order_here None rs Opn q r placed kind may next = absurd cc
+  order_here None rs Clo q r placed kind may next = absurd cc
+  order_here (Some a) [] Hel q r placed kind may next = absurd cc
+  order_here (Some a) [] kind.Ack q r placed kind may next = absurd cc
+  order_here (Some a) [] kind.Err q r placed kind may next = absurd may
+  order_here (Some a) [] Msg q r placed kind may next = absurd cc
+  order_here (Some a) [] Opn q r placed kind may next = to_order (after b (Opens (opening_of f.body))) ks (Some a) (may.response ∷ []) q (more_responses [] may r) next
+  order_here (Some a) [] Clo q r placed kind may next = absurd cc
+  order_here (Some a) (p ∷ ps) Hel q r placed kind may next = absurd cc
+  order_here (Some a) (p ∷ ps) kind.Ack q r placed kind may next = absurd cc
+  order_here (Some a) (p ∷ ps) kind.Err q r placed kind may next = absurd may
+  order_here (Some a) (p ∷ ps) Msg q r placed kind may next = msg_next (chunk_in f) (Some a) (p ∷ ps) q r next
+  order_here (Some a) (p ∷ ps) Opn q r placed kind may next = to_order (after b (Opens (opening_of f.body))) ks (Some a) (p ∷ (ps ++ may.response ∷ [])) q (more_responses (p ∷ ps) may r) next
+  order_here (Some a) (p ∷ ps) Clo q r placed kind may next = absurd cc
+
+  -- ---- the other way round
+
+  order_then : (o : Option Ack) (rs : List OpenResponse) (k : Kind) → b.ack ≡ o → responses b.openings ≡ rs → IsPlaced b → MayCarry limits b asked (content_by k f) → order_by o rs (k ∷ ks) → Order (after b (content_by k f)) ks
+  unfolding order_by IsPlaced
+  order_then None rs Hel q r placed may order = absurd order
+  order_then None rs kind.Ack q r placed may order = from_order (after b (Acks (whole_of ack f.body))) ks (Some may.said) [] (said_then may.said may.reads) (placed q) order
+  order_then None rs kind.Err q r placed may order = absurd order
+  order_then None rs Msg q r placed may order = absurd order
+  order_then None rs Opn q r placed may order = absurd order
+  order_then None rs Clo q r placed may order = absurd order
+  order_then (Some a) [] Hel q r placed may order = absurd order
+  order_then (Some a) [] kind.Ack q r placed may order = absurd order
+  order_then (Some a) [] kind.Err q r placed may order = absurd order
+  order_then (Some a) [] Msg q r placed may order = absurd order
+  order_then (Some a) [] Opn q r placed may order = from_order (after b (Opens (opening_of f.body))) ks (Some a) (may.response ∷ []) q (more_responses [] may r) order
+  order_then (Some a) [] Clo q r placed may order = absurd order
+  order_then (Some a) (p ∷ ps) Hel q r placed may order = absurd order
+  order_then (Some a) (p ∷ ps) kind.Ack q r placed may order = absurd order
+  order_then (Some a) (p ∷ ps) kind.Err q r placed may order = absurd order
+  order_then (Some a) (p ∷ ps) Msg q r placed may order = msg_then (chunk_in f) (Some a) (p ∷ ps) q r order
+  order_then (Some a) (p ∷ ps) Opn q r placed may order = from_order (after b (Opens (opening_of f.body))) ks (Some a) (p ∷ (ps ++ may.response ∷ [])) q (more_responses (p ∷ ps) may r) order
+  order_then (Some a) (p ∷ ps) Clo q r placed may order = absurd order
+
+kind_then : (o : Option Ack) (rs : List OpenResponse) (k : Kind) (ks : List Kind) → order_by o rs (k ∷ ks) → IsTrue (lets_in (gate_behind o rs) k)
+unfolding order_by
+kind_then None rs Hel ks order = absurd order
+kind_then None rs kind.Ack ks order = refl
+kind_then None rs kind.Err ks order = absurd order
+kind_then None rs Msg ks order = absurd order
+kind_then None rs Opn ks order = absurd order
+kind_then None rs Clo ks order = absurd order
+kind_then (Some a) [] Hel ks order = absurd order
+kind_then (Some a) [] kind.Ack ks order = absurd order
+kind_then (Some a) [] kind.Err ks order = absurd order
+kind_then (Some a) [] Msg ks order = absurd order
+kind_then (Some a) [] Opn ks order = refl
+kind_then (Some a) [] Clo ks order = absurd order
+kind_then (Some a) (r ∷ rs) Hel ks order = absurd order
+kind_then (Some a) (r ∷ rs) kind.Ack ks order = absurd order
+kind_then (Some a) (r ∷ rs) kind.Err ks order = absurd order
+kind_then (Some a) (r ∷ rs) Msg ks order = refl
+kind_then (Some a) (r ∷ rs) Opn ks order = refl
+kind_then (Some a) (r ∷ rs) Clo ks order = absurd order
+
+-- no CLO is let in
+no_close : (o : Option Ack) (rs : List OpenResponse) → IsTrue (lets_in (gate_behind o rs) Clo) → ⊥
+no_close None rs h = absurd cc
+no_close (Some a) [] h = absurd cc
+no_close (Some a) (r ∷ rs) h = absurd cc
+
+sends_other : (found : Option Chunk) (d : Chunk) → sends found ≡ Closes d → ⊥
+sends_other None d e = absurd cc
+sends_other (Some c) d e = absurd cc
+
+not_closing : (o : Option Ack) (rs : List OpenResponse) (f : Frame) (k : Kind) → IsTrue (lets_in (gate_behind o rs) k) → (d : Chunk) → content_by k f ≡ Closes d → ⊥
+not_closing o rs f Hel kind d e = absurd cc
+not_closing o rs f kind.Ack kind d e = absurd cc
+not_closing o rs f kind.Err kind d e = absurd cc
+not_closing o rs f Msg kind d e = sends_other (chunk_in f) d e
+not_closing o rs f Opn kind d e = absurd cc
+not_closing o rs f Clo kind d e = no_close o rs kind
+
+-- ---- from some frames on
+
+-- the rest of a conversation behind some frames
+record From (limits : Limits) (asks : List Placed) (start fs : List Frame) : Type 0 where
+  order : Order (received start) (map (λ (f : Frame). f.kind) fs)
+  framed : AllByRecursion IsFramed fs
+  fits : AllFrom (λ before f. frame_size f ≤ largest_taken (received before).ack) start fs
+  carries : AllFrom (λ before f. MayCarry limits (received before) (asked_before (end_of before f) asks) (content f)) start fs
+  ordered : AreOrdered (received start).last (numbers fs)
+  messages_fit : TakesMessages limits.max_message_size limits.max_chunk_count (received start).messages (messages fs)
+
+gate_largest : (o : Option Ack) (rs : List OpenResponse) → (gate_behind o rs).largest ≡ largest_taken o
+gate_largest None rs = refl
+gate_largest (Some a) [] = refl
+gate_largest (Some a) (r ∷ rs) = refl
+
+content_kind : (f : Frame) → content f ≡ content_by f.kind f
+unfolding content
+content_kind f = refl
+
+-- where responses come behind an Acknowledge, they do so with a frame more
+ack_stays : (o found : Option Ack) → or_before o found ≡ None → o ≡ None
+ack_stays o None e = e
+ack_stays o (Some a) e = absurd cc
+
+chunk_placed : (b : Received) (found : Option Chunk) → (b.ack ≡ None → responses b.openings ≡ []) → (after b (sends found)).ack ≡ None → responses (after b (sends found)).openings ≡ []
+chunk_placed b None placed none = placed none
+chunk_placed b (Some c) placed none = placed none
+
+opn_some : (o : Option Ack) (rs : List OpenResponse) → IsTrue (lets_in (gate_behind o rs) Opn) → o ≡ None → ⊥
+opn_some None rs kind e = absurd cc
+opn_some (Some a) rs kind e = absurd cc
+
+placed_more : (b : Received) (f : Frame) (k : Kind) → IsPlaced b → IsTrue (lets_in (client_gate b) k) → IsPlaced (after b (content_by k f))
+unfolding IsPlaced
+placed_more b f Hel placed kind none = placed none
+placed_more b f kind.Ack placed kind none = placed (ack_stays b.ack (whole_of ack f.body) none)
+placed_more b f kind.Err placed kind none = placed none
+placed_more b f Msg placed kind none = chunk_placed b (chunk_in f) placed none
+placed_more b f Opn placed kind none = absurd (opn_some b.ack (responses b.openings) kind none)
+placed_more b f Clo placed kind none = absurd (no_close b.ack (responses b.openings) kind)
+
+module _ (limits : Limits) (asks : List Placed) where
+  placed_next : (start : List Frame) (f : Frame) → IsPlaced (received start) → IsTrue (lets_in (client_gate (received start)) f.kind) → IsPlaced (received (start ++ f ∷ []))
+  placed_next start f placed kind = subst IsPlaced (sym (received-push start f ∙ ap (after (received start)) (content_kind f))) (placed_more (received start) f f.kind placed kind)
+
+  order_frame : (asked : List Asking) (b : Received) (f : Frame) (ks : List Kind) → IsPlaced b → IsTrue (lets_in (client_gate b) f.kind) → MayCarry limits b asked (content f) → Order (after b (content f)) ks → Order b (f.kind ∷ ks)
+  order_frame asked b f ks placed kind =
+      subst (λ (c : Content). MayCarry limits b asked c → Order (after b c) ks → Order b (f.kind ∷ ks)) (sym (content_kind f))
+      (λ may next. from_order b (f.kind ∷ ks) b.ack (responses b.openings) refl refl (order_here limits asked b f ks b.ack (responses b.openings) f.kind refl refl placed kind may next))
+
+  frame_then : (asked : List Asking) (b : Received) (f : Frame) (ks : List Kind) → IsPlaced b → MayCarry limits b asked (content f) → Order b (f.kind ∷ ks) → Order (after b (content f)) ks
+  frame_then asked b f ks placed =
+      subst (λ (c : Content). MayCarry limits b asked c → Order b (f.kind ∷ ks) → Order (after b c) ks) (sym (content_kind f))
+      (λ may order. order_then limits asked b f ks b.ack (responses b.openings) f.kind refl refl placed may (to_order b (f.kind ∷ ks) b.ack (responses b.openings) refl refl order))
+
+  never_closes : (b : Received) (f : Frame) → IsTrue (lets_in (client_gate b) f.kind) → (d : Chunk) → content f ≡ Closes d → ⊥
+  never_closes b f kind d e = not_closing b.ack (responses b.openings) f f.kind kind d (sym (content_kind f) ∙ e)
+
+  -- frames that are taken behind others are the rest of a conversation
+  converse : (start fs : List Frame) → IsPlaced (received start) → AllFrom (Fits (client_rules limits asks)) start fs → From limits asks start fs
+  unfolding numbers messages
+  converse start [] placed fits = record { order = order_nil (received start); framed = tt; fits = tt; carries = tt; ordered = tt; messages_fit = tt }
+  converse start (f ∷ fs) placed fits =
+      let one = fits.0 in
+      let asked : List Asking = asked_before (end_of start f) asks in
+      let g = good limits asked (received start) (content f) (never_closes (received start) f one.let_in.kind) one.accepted in
+      let rest = converse (start ++ f ∷ []) fs (placed_next start f placed one.let_in.kind) fits.1 in
+      record {
+        order = order_frame asked (received start) f (map (λ (h : Frame). h.kind) fs) placed one.let_in.kind g.carries (subst (λ (b : Received). Order b (map (λ (h : Frame). h.kind) fs)) (received-push start f) rest.order);
+        framed = (record { sized = one.sized; flag = one.let_in.flag; least = one.let_in.least }, rest.framed);
+        fits = (omega (arith, one.let_in.largest, gate_largest (received start).ack (responses (received start).openings)), rest.fits);
+        carries = (g.carries, rest.carries);
+        ordered = ordered_join (received start) (content f) (numbers fs) g.ordered (subst (λ (b : Received). AreOrdered b.last (numbers fs)) (received-push start f) rest.ordered);
+        messages_fit =
+            messages_join limits (received start) (content f) (messages fs) g.message
+            (subst (λ (b : Received). TakesMessages limits.max_message_size limits.max_chunk_count b.messages (messages fs)) (received-push start f) rest.messages_fit);
+      }
+
+  -- and the other way round
+  taken : (start fs : List Frame) → IsPlaced (received start) → From limits asks start fs → AllFrom (Fits (client_rules limits asks)) start fs
+  unfolding numbers messages
+  taken start [] placed c = tt
+  taken start (f ∷ fs) placed c =
+      let asked : List Asking = asked_before (end_of start f) asks in
+      let ks : List Kind = map (λ (h : Frame). h.kind) fs in
+      let kind = kind_then (received start).ack (responses (received start).openings) f.kind ks (to_order (received start) (f.kind ∷ ks) (received start).ack (responses (received start).openings) refl refl c.order) in
+      let next = frame_then asked (received start) f ks placed c.carries.0 c.order in
+      let number = ordered_split (received start) (content f) (numbers fs) c.ordered in
+      let message = messages_split limits (received start) (content f) (messages fs) c.messages_fit in
+      let now = received-push start f in (
+        record {
+          goes_on = refl;
+          sized = c.framed.0.sized;
+          let_in = record { kind = kind; flag = c.framed.0.flag; largest = omega (arith, c.fits.0, gate_largest (received start).ack (responses (received start).openings)); least = c.framed.0.least };
+          accepted = accepted limits asked (received start) (content f) (record { carries = c.carries.0; ordered = number.0; message = message.0 });
+        },
+        taken (start ++ f ∷ []) fs (placed_next start f placed kind) (record {
+          order = subst (λ (b : Received). Order b ks) (sym now) next;
+          framed = c.framed.1;
+          fits = c.fits.1;
+          carries = c.carries.1;
+          ordered = subst (λ (b : Received). AreOrdered b.last (numbers fs)) (sym now) number.1;
+          messages_fit = subst (λ (b : Received). TakesMessages limits.max_message_size limits.max_chunk_count b.messages (messages fs)) (sym now) message.1;
+        }),
+      )
+
+  no_ack : (received []).ack ≡ None
+  no_ack = ap (λ (b : Received). b.ack) received-nil
+
+  nothing_there : responses (received []).openings ≡ []
+  nothing_there = ap (λ (b : Received). responses b.openings) received-nil ∙ no_responses
+
+  nothing_placed : IsPlaced (received [])
+  unfolding IsPlaced
+  nothing_placed none = nothing_there
+
+  -- the frames that a client takes are those of a conversation, or the beginning of one
+  pub converses : (frames : List Frame) → AllAfter (Fits (client_rules limits asks)) frames ↔ ClientConversation limits asks frames
+  unfolding AllAfter order_by
+  converses frames = (
+    λ fits.
+        let c = converse [] frames nothing_placed fits in
+        record {
+          order = to_order (received []) (map (λ (f : Frame). f.kind) frames) None [] no_ack nothing_there c.order;
+          framed = c.framed;
+          fits = c.fits;
+          carries = c.carries;
+          ordered = subst (λ (b : Received). AreOrdered b.last (numbers frames)) received-nil c.ordered;
+          messages_fit = subst (λ (b : Received). TakesMessages limits.max_message_size limits.max_chunk_count b.messages (messages frames)) received-nil c.messages_fit;
+        },
+    λ h.
+        taken [] frames nothing_placed (record {
+          order = from_order (received []) (map (λ (f : Frame). f.kind) frames) None [] no_ack nothing_there h.order;
+          framed = h.framed;
+          fits = h.fits;
+          carries = h.carries;
+          ordered = subst (λ (b : Received). AreOrdered b.last (numbers frames)) (sym received-nil) h.ordered;
+          messages_fit = subst (λ (b : Received). TakesMessages limits.max_message_size limits.max_chunk_count b.messages (messages frames)) (sym received-nil) h.messages_fit;
+        }),
+  )
+
+-- ---- octets without a wrong frame
+
+pub continues : (limits : Limits) (asks : List Placed) (octets : List ℕ) (frames : List Frame) (rest : List ℕ) → Run (client_rules limits asks) octets frames rest Going ↔ Continues limits asks octets frames rest
+continues limits asks octets frames rest = (
+  λ r. record { whole = r.whole; converses = (converses limits asks frames).0 r.good; partial = r.ends.1 },
+  λ c. record { whole = c.whole; good = (converses limits asks frames).1 c.converses; ends = (refl, c.partial) },
+)

@@ -1,0 +1,8 @@
+use Rattle.ua_channel.proofs.ClientConversing.{continues, converses}
+use Rattle.ua_channel.proofs.client_laws.client_converses.Goals as goal
+
+pub returns-clause-frames : goal.returns-clause-frames
+returns-clause-frames c = converses
+
+pub returns-clause-going : goal.returns-clause-going
+returns-clause-going c = continues

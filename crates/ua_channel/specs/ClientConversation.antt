@@ -1,0 +1,123 @@
+-- What a conversation is at a client: the frames that it may receive of a server that keeps to the protocol, or the beginning of them.
+use Rattle.std.specs.Prelude.{◌≡◌, ◌≤◌, ◌++◌, ℕ, List, [], ◌∷◌, Option, Some, None, IsTrue, IsFalse, nat_le, map}
+use Rattle.std.specs.List.{AllByRecursion}
+use Rattle.ua_frame.specs.After.{AllAfter}
+use Rattle.ua_frame.specs.Frames.{IsPartial, frame_size, frames_octets}
+use Rattle.ua_frame.specs.declared.ack.Ack.{Ack}
+use Rattle.ua_frame.specs.declared.frame.Frame.{Frame}
+use Rattle.ua_frame.specs.declared.kind.Kind.{Kind}
+use Rattle.ua_frame.specs.declared.kind.Kind.TheVariants.{Hel, Msg, Opn, Clo}
+use Rattle.ua_frame.specs.declared.kind.Kind.TheVariants as kind
+use Rattle.ua_frame.specs.declared.limits.Limits.{Limits}
+use Rattle.ua_services.specs.declared.open.OpenAnswer.TheVariants.{Open}
+use Rattle.ua_structures.specs.declared.secure_channel.OpenResponse.{OpenResponse}
+use Rattle.ua_chunk.specs.Opening.{SecurityHeader, is_none_policy, policy_of}
+use Rattle.ua_chunk.specs.Refusal.{TakesMessages}
+use Rattle.ua_chunk.specs.declared.chunk.Chunk.{Chunk}
+use Rattle.ua_channel.specs.Asks.{Asking, Placed, asked_before, end_of, is_in, pending_calls}
+use Rattle.ua_channel.specs.ClientTable.{client_gate, is_awaited, is_other, is_outside}
+use Rattle.ua_channel.specs.ClientTokens.{answer_in, channel_in, held_tokens, opened_ids, responses}
+use Rattle.ua_channel.specs.Content.{Content, Opening, content}
+use Rattle.ua_channel.specs.Content.Content.{Greets, Acks, Fails, Opens, Sends, Closes, Nothing}
+use Rattle.ua_channel.specs.Conversation.{AreOrdered, IsFramed}
+use Rattle.ua_channel.specs.Received.{Received, messages, numbers, received}
+
+-- ---- the order
+
+-- behind the first OPN come OPNs and MSGs
+abbrev pub IsOrderOpen : List Kind → Type 0
+IsOrderOpen [] = Unit {0}
+IsOrderOpen (Hel ∷ ks) = ⊥
+IsOrderOpen (kind.Ack ∷ ks) = ⊥
+IsOrderOpen (kind.Err ∷ ks) = ⊥
+IsOrderOpen (Msg ∷ ks) = IsOrderOpen ks
+IsOrderOpen (Opn ∷ ks) = IsOrderOpen ks
+IsOrderOpen (Clo ∷ ks) = ⊥
+
+-- behind the ACK comes an OPN
+abbrev pub IsOrderAgreed : List Kind → Type 0
+IsOrderAgreed [] = Unit {0}
+IsOrderAgreed (Hel ∷ ks) = ⊥
+IsOrderAgreed (kind.Ack ∷ ks) = ⊥
+IsOrderAgreed (kind.Err ∷ ks) = ⊥
+IsOrderAgreed (Msg ∷ ks) = ⊥
+IsOrderAgreed (Opn ∷ ks) = IsOrderOpen ks
+IsOrderAgreed (Clo ∷ ks) = ⊥
+
+-- an ACK comes first (OPC 10000-6, 7.1.3)
+abbrev pub IsClientOrder : List Kind → Type 0
+IsClientOrder [] = Unit {0}
+IsClientOrder (Hel ∷ ks) = ⊥
+IsClientOrder (kind.Ack ∷ ks) = IsOrderAgreed ks
+IsClientOrder (kind.Err ∷ ks) = ⊥
+IsClientOrder (Msg ∷ ks) = ⊥
+IsClientOrder (Opn ∷ ks) = ⊥
+IsClientOrder (Clo ∷ ks) = ⊥
+
+-- ---- what frames carry
+
+-- the largest frame that a client takes: 8192 octets before the ACK, then what the server sends
+abbrev pub largest_taken : Option Ack → ℕ
+largest_taken None = 8192
+largest_taken (Some a) = a.send_buffer_size
+
+-- an Acknowledge whose sizes are at least 8192 and within what the Hello of a client with these limits allows
+pub record IsGoodAck (limits : Limits) (ack : Option Ack) : Type 0 where
+  pub said : Ack
+  pub reads : ack ≡ Some said
+  pub within : IsFalse (is_outside limits said)
+
+-- an opening under the policy None with a good response, for the channel if there is one already, with a token that is not held, under a
+-- request id that is waited for: 1 first, and then that of a renewal which is unanswered
+pub record IsGoodResponse (before : Received) (asked : List Asking) (o : Opening) : Type 0 where
+  pub header : SecurityHeader
+  pub security_is : o.security ≡ Some header
+  pub policy : IsTrue (is_none_policy (policy_of header))
+  pub response : OpenResponse
+  pub answer_is : answer_in o ≡ Some (Open response)
+  pub good : IsFalse (nat_le 0x8000_0000 response.response_header.service_result.code)
+  pub on : IsFalse (is_other (channel_in (responses before.openings)) response.channel_id)
+  pub fresh : IsFalse (is_in response.token_id (held_tokens before))
+  pub numbered : ℕ × ℕ
+  pub numbers_are : o.numbers ≡ Some numbered
+  pub awaited : IsTrue (is_awaited (responses before.openings) (opened_ids before.openings) asked numbered.1)
+
+-- a chunk on the channel, under a token that is held at its place, under the request id of a call that is unanswered there
+pub record IsGoodReply (before : Received) (asked : List Asking) (c : Chunk) : Type 0 where
+  pub on : IsFalse (is_other (channel_in (responses before.openings)) c.channel)
+  pub held : IsTrue (is_in c.token (held_tokens before))
+  pub awaited : IsTrue (is_in c.request (pending_calls before.messages asked))
+
+-- what a frame that comes behind these may carry, where this was asked before it, but for its number and its message
+abbrev pub MayCarry : Limits → Received → List Asking → Content → Type 0
+MayCarry limits before asked (Greets hello) = Unit {0}
+MayCarry limits before asked (Acks ack) = IsGoodAck limits ack
+MayCarry limits before asked (Fails error) = ⊥
+MayCarry limits before asked (Opens o) = IsGoodResponse before asked o
+MayCarry limits before asked (Sends c) = IsGoodReply before asked c
+MayCarry limits before asked (Closes c) = Unit {0}
+MayCarry limits before asked Nothing = Unit {0}
+
+-- a conversation at a client with these limits that asked so
+pub record ClientConversation (limits : Limits) (asks : List Placed) (frames : List Frame) : Type 0 where
+  -- an ACK, an OPN, then OPNs and MSGs
+  pub order : IsClientOrder (map (λ (f : Frame). f.kind) frames)
+  -- each frame is as its header says
+  pub framed : AllByRecursion IsFramed frames
+  -- none is larger than what the server sends at its place
+  pub fits : AllAfter (λ before f. frame_size f ≤ largest_taken (received before).ack) frames
+  -- the Acknowledge and each response are good, and each chunk has the channel, a token that is held, and the request id of a call that is
+  -- unanswered at its place
+  pub carries : AllAfter (λ before f. MayCarry limits (received before) (asked_before (end_of before f) asks) (content f)) frames
+  -- all numbers are in order
+  pub ordered : AreOrdered None (numbers frames)
+  -- the messages are within the limits, at most 4 of them unfinished at a time, and each abort reads
+  pub messages_fit : TakesMessages limits.max_message_size limits.max_chunk_count [] (messages frames)
+
+-- ---- octets without a wrong frame
+
+-- these octets are the frames of a conversation, and behind them less than a frame, with nothing wrong in its header
+pub record Continues (limits : Limits) (asks : List Placed) (octets : List ℕ) (frames : List Frame) (rest : List ℕ) : Type 0 where
+  pub whole : octets ≡ frames_octets frames ++ rest
+  pub converses : ClientConversation limits asks frames
+  pub partial : IsPartial (client_gate (received frames)) rest
