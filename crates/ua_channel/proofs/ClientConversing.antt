@@ -28,7 +28,7 @@ use Rattle.ua_chunk.proofs.Numbers.{apart}
 use Rattle.ua_channel.specs.Asks.{Asking, Placed, asked_before, end_of, is_in, pending_calls}
 use Rattle.ua_channel.specs.ClientConversation.{ClientConversation, Continues, IsClientOrder, IsGoodReply, IsGoodResponse, IsOrderAgreed, IsOrderOpen, MayCarry, largest_taken}
 use Rattle.ua_channel.specs.ClientParts.{why_of}
-use Rattle.ua_channel.specs.ClientTable.{client_gate, client_reasons, client_rules, gate_behind, is_awaited, is_bad, is_other, of_numbers, of_response, of_security}
+use Rattle.ua_channel.specs.ClientTable.{client_gate, client_reasons, client_rules, gate_behind, is_awaited, is_bad, is_other, of_numbers, of_response}
 use Rattle.ua_channel.specs.ClientTokens.{answer_behind, answer_in, channel_in, held_tokens, opened_ids, responses}
 use Rattle.ua_channel.specs.ClientTold.{Why, ours}
 use Rattle.ua_channel.specs.Content.{Content, Opening, content, content_by, opening_of, sends}
@@ -38,7 +38,8 @@ use Rattle.ua_channel.specs.Received.{Received, after, messages, number_listed, 
 use Rattle.ua_channel.proofs.ClientChunks.{accepts}
 use Rattle.ua_channel.proofs.ClientTakes.{judged_reply}
 use Rattle.ua_channel.proofs.ClientTalks.{no_responses, responses-push}
-use Rattle.ua_channel.proofs.Conversing.{MessageFits, messages_join, messages_split, no_more, none_first, none_named, none_then, ordered_join, ordered_split, some_there}
+use Rattle.ua_channel.specs.Refusals.{of_header}
+use Rattle.ua_channel.proofs.Conversing.{MessageFits, follow_numbers, numbers_follow, messages_join, messages_split, no_more, none_first, none_named, none_then, ordered_join, ordered_split, some_there}
 use Rattle.ua_channel.proofs.OneFrameMore.{received-nil, received-push}
 use Rattle.ua_channel.proofs.PairedCalls.{none_holds, was_pending}
 
@@ -56,14 +57,6 @@ numbers_there : (o : Opening) (a : OpenAnswer) → answer_in o ≡ Some a → (n
 unfolding answer_in
 numbers_there o a e = numbers_by o.numbers o.body a e
 
-follow_row : (last : Option ℕ) (n : Option (ℕ × ℕ)) → of_numbers (λ m. not (may_follow last m.0)) n ≡ false → AreOrdered last (number_listed n)
-follow_row last None e = tt
-follow_row last (Some n) e = (was_pending (may_follow last n.0) e, tt)
-
-row_follows : (last : Option ℕ) (n : Option (ℕ × ℕ)) → AreOrdered last (number_listed n) → of_numbers (λ m. not (may_follow last m.0)) n ≡ false
-row_follows last None h = refl
-row_follows last (Some n) h = no_more (may_follow last n.0) h.0
-
 module _ (limits : Limits) (asked : List Asking) (b : Received) where
   response_good : (o : Opening) → first_reason (client_reasons limits b asked (Opens o)) ≡ None → IsGoodResponse b asked o
   response_good o e =
@@ -76,7 +69,7 @@ module _ (limits : Limits) (asked : List Asking) (b : Received) where
       record {
         header = header.0;
         security_is = header.1;
-        policy = was_pending (is_none_policy (policy_of header.0)) (ap (of_security (λ h. not (is_none_policy (policy_of h)))) (sym header.1) ∙ all.1.1.0);
+        policy = was_pending (is_none_policy (policy_of header.0)) (ap (of_header (λ h. not (is_none_policy (policy_of h)))) (sym header.1) ∙ all.1.1.0);
         response = found.0;
         answer_is = is;
         good = found.2;
@@ -90,14 +83,14 @@ module _ (limits : Limits) (asked : List Asking) (b : Received) where
       }
 
   response_follows : (o : Opening) → first_reason (client_reasons limits b asked (Opens o)) ≡ None → AreOrdered b.last (number_listed o.numbers)
-  response_follows o e = follow_row b.last o.numbers (none_holds (client_reasons limits b asked (Opens o)) e).1.1.1.1.1.1.1.0
+  response_follows o e = numbers_follow b.last o.numbers (none_holds (client_reasons limits b asked (Opens o)) e).1.1.1.1.1.1.1.0
 
   response_taken : (o : Opening) → IsGoodResponse b asked o → AreOrdered b.last (number_listed o.numbers) → first_reason (client_reasons limits b asked (Opens o)) ≡ None
   unfolding answer_in
   response_taken o g follow =
       let waited : of_numbers (λ n. not (is_awaited (responses b.openings) (opened_ids b.openings) asked n.1)) o.numbers ≡ false =
       ap (of_numbers (λ n. not (is_awaited (responses b.openings) (opened_ids b.openings) asked n.1))) g.numbers_are ∙ no_more (is_awaited (responses b.openings) (opened_ids b.openings) asked g.numbered.1) g.awaited in
-      rw (g.security_is, g.policy, g.answer_is, g.good, g.on, g.fresh, row_follows b.last o.numbers follow, waited) refl
+      rw (g.security_is, g.policy, g.answer_is, g.good, g.on, g.fresh, follow_numbers b.last o.numbers follow, waited) refl
 
   -- ---- a chunk
 
@@ -144,19 +137,19 @@ record Good (limits : Limits) (asked : List Asking) (b : Received) (c : Content)
   ordered : AreOrdered b.last (numbers_in c)
   message : MessageFits limits b c
 
-good : (limits : Limits) (asked : List Asking) (b : Received) (c : Content) → ((d : Chunk) → c ≡ Closes d → ⊥) → first_reason (client_reasons limits b asked c) ≡ None → Good limits asked b c
+good : (limits : Limits) (asked : List Asking) (b : Received) (c : Content) → first_reason (client_reasons limits b asked c) ≡ None → Good limits asked b c
 unfolding MessageFits
-good limits asked b (Greets hello) never e = record { carries = tt; ordered = tt; message = tt }
-good limits asked b (Acks None) never e = absurd cc
-good limits asked b (Acks (Some a)) never e = record { carries = record { said = a; reads = refl; within = (none_holds (client_reasons limits b asked (Acks (Some a))) e).1.0 }; ordered = tt; message = tt }
-good limits asked b (Fails None) never e = absurd cc
-good limits asked b (Fails (Some error)) never e = absurd cc
-good limits asked b (Opens o) never e = record { carries = response_good limits asked b o e; ordered = response_follows limits asked b o e; message = tt }
-good limits asked b (Sends c) never e =
+good limits asked b (Greets hello) e = record { carries = tt; ordered = tt; message = tt }
+good limits asked b (Acks None) e = absurd cc
+good limits asked b (Acks (Some a)) e = record { carries = record { said = a; reads = refl; within = (none_holds (client_reasons limits b asked (Acks (Some a))) e).1.0 }; ordered = tt; message = tt }
+good limits asked b (Fails None) e = absurd cc
+good limits asked b (Fails (Some error)) e = absurd cc
+good limits asked b (Opens o) e = record { carries = response_good limits asked b o e; ordered = response_follows limits asked b o e; message = tt }
+good limits asked b (Sends c) e =
     let both = reply_apart limits asked b c e in
     record { carries = reply_good limits asked b c e; ordered = (both.0, tt); message = both.1 }
-good limits asked b (Closes c) never e = absurd (never c refl)
-good limits asked b Nothing never e = record { carries = tt; ordered = tt; message = tt }
+good limits asked b (Closes c) e = record { carries = tt; ordered = (was_pending (may_follow b.last c.sequence) (none_holds (client_reasons limits b asked (Closes c)) e).1.1.1.1.1.1.1.0, tt); message = tt }
+good limits asked b Nothing e = record { carries = tt; ordered = tt; message = tt }
 
 accepted : (limits : Limits) (asked : List Asking) (b : Received) (c : Content) → Good limits asked b c → first_reason (client_reasons limits b asked c) ≡ None
 unfolding MessageFits
@@ -165,7 +158,7 @@ accepted limits asked b (Acks ack) g = rw (g.carries.reads, g.carries.within) re
 accepted limits asked b (Fails error) g = absurd g.carries
 accepted limits asked b (Opens o) g = response_taken limits asked b o g.carries g.ordered
 accepted limits asked b (Sends c) g = reply_taken limits asked b c g.carries g.ordered.0 g.message
-accepted limits asked b (Closes c) g = refl
+accepted limits asked b (Closes c) g = ap (λ (t : Bool). first_reason ((ours 0x8088_0000, t) ∷ [])) (no_more (may_follow b.last c.sequence) g.ordered.0)
 accepted limits asked b Nothing g = refl
 
 -- ---- the order
@@ -288,18 +281,6 @@ no_close None rs h = absurd cc
 no_close (Some a) [] h = absurd cc
 no_close (Some a) (r ∷ rs) h = absurd cc
 
-sends_other : (found : Option Chunk) (d : Chunk) → sends found ≡ Closes d → ⊥
-sends_other None d e = absurd cc
-sends_other (Some c) d e = absurd cc
-
-not_closing : (o : Option Ack) (rs : List OpenResponse) (f : Frame) (k : Kind) → IsTrue (lets_in (gate_behind o rs) k) → (d : Chunk) → content_by k f ≡ Closes d → ⊥
-not_closing o rs f Hel kind d e = absurd cc
-not_closing o rs f kind.Ack kind d e = absurd cc
-not_closing o rs f kind.Err kind d e = absurd cc
-not_closing o rs f Msg kind d e = sends_other (chunk_in f) d e
-not_closing o rs f Opn kind d e = absurd cc
-not_closing o rs f Clo kind d e = no_close o rs kind
-
 -- ---- from some frames on
 
 -- the rest of a conversation behind some frames
@@ -356,9 +337,6 @@ module _ (limits : Limits) (asks : List Placed) where
       subst (λ (c : Content). MayCarry limits b asked c → Order b (f.kind ∷ ks) → Order (after b c) ks) (sym (content_kind f))
       (λ may order. order_then limits asked b f ks b.ack (responses b.openings) f.kind refl refl placed may (to_order b (f.kind ∷ ks) b.ack (responses b.openings) refl refl order))
 
-  never_closes : (b : Received) (f : Frame) → IsTrue (lets_in (client_gate b) f.kind) → (d : Chunk) → content f ≡ Closes d → ⊥
-  never_closes b f kind d e = not_closing b.ack (responses b.openings) f f.kind kind d (sym (content_kind f) ∙ e)
-
   -- frames that are taken behind others are the rest of a conversation
   converse : (start fs : List Frame) → IsPlaced (received start) → AllFrom (Fits (client_rules limits asks)) start fs → From limits asks start fs
   unfolding numbers messages
@@ -366,7 +344,7 @@ module _ (limits : Limits) (asks : List Placed) where
   converse start (f ∷ fs) placed fits =
       let one = fits.0 in
       let asked : List Asking = asked_before (end_of start f) asks in
-      let g = good limits asked (received start) (content f) (never_closes (received start) f one.let_in.kind) one.accepted in
+      let g = good limits asked (received start) (content f) one.accepted in
       let rest = converse (start ++ f ∷ []) fs (placed_next start f placed one.let_in.kind) fits.1 in
       record {
         order = order_frame asked (received start) f (map (λ (h : Frame). h.kind) fs) placed one.let_in.kind g.carries (subst (λ (b : Received). Order b (map (λ (h : Frame). h.kind) fs)) (received-push start f) rest.order);

@@ -1,5 +1,5 @@
 -- Which frames a client refuses (the table of refusals), which come next, and a client's rules.
-use Rattle.std.specs.Prelude.{ℕ, ◌==◌, nat_lt, nat_le, Bool, true, false, ◌&&◌, ◌||◌, not, is_none, length, List, [], ◌∷◌, ◌++◌, Option, Some, None}
+use Rattle.std.specs.Prelude.{ℕ, ◌==◌, nat_lt, Bool, true, false, ◌||◌, not, is_none, List, [], ◌∷◌, Option, Some, None}
 use Rattle.ua_frame.specs.declared.ack.Ack.{Ack}
 use Rattle.ua_frame.specs.declared.error.ErrorFrame.{ErrorFrame}
 use Rattle.ua_frame.specs.declared.gate.Gate.{Gate}
@@ -8,13 +8,6 @@ use Rattle.ua_frame.specs.declared.kind.Kind.TheVariants as kind
 use Rattle.ua_frame.specs.declared.limits.Limits.{Limits}
 use Rattle.ua_frame.specs.Kinds.{closed_gate, gate_with}
 use Rattle.ua_frame.specs.Run.{Rules}
-use Rattle.ua_chunk.specs.Abort.{is_readable_abort}
-use Rattle.ua_chunk.specs.Flag.{is_abort_flag}
-use Rattle.ua_chunk.specs.Gathered.{gathered, joined}
-use Rattle.ua_chunk.specs.Open.{open_ids}
-use Rattle.ua_chunk.specs.Opening.{SecurityHeader, is_none_policy, policy_of}
-use Rattle.ua_chunk.specs.Refusal.{passes, most_open}
-use Rattle.ua_chunk.specs.Sequence.{may_follow}
 use Rattle.ua_services.specs.declared.open.OpenAnswer.{OpenAnswer}
 use Rattle.ua_services.specs.declared.open.OpenAnswer.TheVariants.{Open, Fault}
 use Rattle.ua_structures.specs.declared.secure_channel.OpenResponse.{OpenResponse}
@@ -22,8 +15,10 @@ use Rattle.ua_channel.specs.Asks.{Asking, Placed, asked_before, end_of, is_in, p
 use Rattle.ua_channel.specs.ClientTokens.{answer_in, responses, opened_ids, channel_in, held_tokens}
 use Rattle.ua_channel.specs.ClientTold.{Told, Why, ours, peers, client_tells}
 use Rattle.ua_channel.specs.Content.{Content, content}
-use Rattle.ua_channel.specs.Content.Content.{Greets, Acks, Fails, Opens, Sends, Closes, Nothing}
+use Rattle.ua_channel.specs.Content.Content.{Acks, Fails, Opens, Sends}
 use Rattle.ua_channel.specs.Received.{Received, received}
+use Rattle.ua_builtin.specs.Status.{is_bad as is_bad_code}
+pub use Rattle.ua_channel.specs.Refusals.{aborts_unreadably, breaks_order, has_other_policy, has_too_many_chunks, has_too_many_octets, opens_too_many}
 
 -- ---- tests of what a frame carries, false where it carries no such thing
 
@@ -31,11 +26,6 @@ use Rattle.ua_channel.specs.Received.{Received, received}
 abbrev pub of_ack : (Ack → Bool) → Option Ack → Bool
 of_ack test None = false
 of_ack test (Some a) = test a
-
--- of the security header of an OPN
-abbrev pub of_security : (SecurityHeader → Bool) → Option SecurityHeader → Bool
-of_security test None = false
-of_security test (Some header) = test header
 
 -- of the sequence number and the request id of an OPN
 abbrev pub of_numbers : (ℕ × ℕ → Bool) → Option (ℕ × ℕ) → Bool
@@ -52,13 +42,10 @@ of_response test (Some (Fault f)) = false
 
 -- an ACK, an ERR or the security header of an OPN is unreadable
 abbrev pub is_unreadable : Content → Bool
-is_unreadable (Greets hello) = false
 is_unreadable (Acks ack) = is_none ack
 is_unreadable (Fails error) = is_none error
 is_unreadable (Opens o) = is_none o.security
-is_unreadable (Sends c) = false
-is_unreadable (Closes c) = false
-is_unreadable Nothing = false
+is_unreadable other = false
 
 -- a size is below 8192, or above what the Hello of a client with these limits allows: the server receives at most what the client
 -- sends, and sends at most what the client receives (OPC 10000-6, 7.1.2.4)
@@ -71,33 +58,13 @@ is_outside limits a =
 
 -- an ACK with such a size
 abbrev pub has_other_sizes : Limits → Content → Bool
-has_other_sizes limits (Greets hello) = false
 has_other_sizes limits (Acks ack) = of_ack (is_outside limits) ack
-has_other_sizes limits (Fails error) = false
-has_other_sizes limits (Opens o) = false
-has_other_sizes limits (Sends c) = false
-has_other_sizes limits (Closes c) = false
-has_other_sizes limits Nothing = false
-
--- an OPN under another policy than None
-abbrev pub has_other_policy : Content → Bool
-has_other_policy (Greets hello) = false
-has_other_policy (Acks ack) = false
-has_other_policy (Fails error) = false
-has_other_policy (Opens o) = of_security (λ header. not (is_none_policy (policy_of header))) o.security
-has_other_policy (Sends c) = false
-has_other_policy (Closes c) = false
-has_other_policy Nothing = false
+has_other_sizes limits other = false
 
 -- an OPN whose sequence header or body is unreadable
 abbrev pub has_no_answer : Content → Bool
-has_no_answer (Greets hello) = false
-has_no_answer (Acks ack) = false
-has_no_answer (Fails error) = false
 has_no_answer (Opens o) = is_none (answer_in o)
-has_no_answer (Sends c) = false
-has_no_answer (Closes c) = false
-has_no_answer Nothing = false
+has_no_answer other = false
 
 -- the ServiceResult of an answer
 abbrev pub result_of : Option OpenAnswer → ℕ
@@ -107,29 +74,19 @@ result_of (Some (Fault f)) = f.response_header.service_result.code
 
 -- the ServiceResult of an OPN
 abbrev pub opening_code : Content → ℕ
-opening_code (Greets hello) = 0
-opening_code (Acks ack) = 0
-opening_code (Fails error) = 0
 opening_code (Opens o) = result_of (answer_in o)
-opening_code (Sends c) = 0
-opening_code (Closes c) = 0
-opening_code Nothing = 0
+opening_code other = 0
 
 -- the answer is a ServiceFault, or a response whose ServiceResult has its top bit set (OPC 10000-4, 7.39)
 abbrev pub is_bad : Option OpenAnswer → Bool
 is_bad None = false
-is_bad (Some (Open r)) = nat_le 0x8000_0000 r.response_header.service_result.code
+is_bad (Some (Open r)) = is_bad_code r.response_header.service_result
 is_bad (Some (Fault f)) = true
 
 -- an OPN with such an answer
 abbrev pub has_bad_answer : Content → Bool
-has_bad_answer (Greets hello) = false
-has_bad_answer (Acks ack) = false
-has_bad_answer (Fails error) = false
 has_bad_answer (Opens o) = is_bad (answer_in o)
-has_bad_answer (Sends c) = false
-has_bad_answer (Closes c) = false
-has_bad_answer Nothing = false
+has_bad_answer other = false
 
 -- there is a channel, and it is another one than this
 abbrev pub is_other : Option ℕ → ℕ → Bool
@@ -138,73 +95,15 @@ is_other (Some n) channel = not (channel == n)
 
 -- a MSG on another channel, or an OPN that answers for another one
 abbrev pub is_on_other_channel : Received → Content → Bool
-is_on_other_channel before (Greets hello) = false
-is_on_other_channel before (Acks ack) = false
-is_on_other_channel before (Fails error) = false
 is_on_other_channel before (Opens o) = of_response (λ r. is_other (channel_in (responses before.openings)) r.channel_id) (answer_in o)
 is_on_other_channel before (Sends c) = is_other (channel_in (responses before.openings)) c.channel
-is_on_other_channel before (Closes c) = false
-is_on_other_channel before Nothing = false
+is_on_other_channel before other = false
 
 -- a MSG under a token that is not held, or an OPN that brings one which is
 abbrev pub has_other_token : Received → Content → Bool
-has_other_token before (Greets hello) = false
-has_other_token before (Acks ack) = false
-has_other_token before (Fails error) = false
 has_other_token before (Opens o) = of_response (λ r. is_in r.token_id (held_tokens before)) (answer_in o)
 has_other_token before (Sends c) = not (is_in c.token (held_tokens before))
-has_other_token before (Closes c) = false
-has_other_token before Nothing = false
-
--- the sequence number does not follow
-abbrev pub breaks_order : Received → Content → Bool
-breaks_order before (Greets hello) = false
-breaks_order before (Acks ack) = false
-breaks_order before (Fails error) = false
-breaks_order before (Opens o) = of_numbers (λ n. not (may_follow before.last n.0)) o.numbers
-breaks_order before (Sends c) = not (may_follow before.last c.sequence)
-breaks_order before (Closes c) = false
-breaks_order before Nothing = false
-
--- the body of an abort is unreadable
-abbrev pub aborts_unreadably : Content → Bool
-aborts_unreadably (Greets hello) = false
-aborts_unreadably (Acks ack) = false
-aborts_unreadably (Fails error) = false
-aborts_unreadably (Opens o) = false
-aborts_unreadably (Sends c) = is_abort_flag c.flag && not (is_readable_abort c.body)
-aborts_unreadably (Closes c) = false
-aborts_unreadably Nothing = false
-
--- more messages would be unfinished than may be
-abbrev pub opens_too_many : Received → Content → Bool
-opens_too_many before (Greets hello) = false
-opens_too_many before (Acks ack) = false
-opens_too_many before (Fails error) = false
-opens_too_many before (Opens o) = false
-opens_too_many before (Sends c) = nat_lt most_open (length (open_ids (before.messages ++ c ∷ [])))
-opens_too_many before (Closes c) = false
-opens_too_many before Nothing = false
-
--- the message has more octets than the client takes
-abbrev pub has_too_many_octets : Limits → Received → Content → Bool
-has_too_many_octets limits before (Greets hello) = false
-has_too_many_octets limits before (Acks ack) = false
-has_too_many_octets limits before (Fails error) = false
-has_too_many_octets limits before (Opens o) = false
-has_too_many_octets limits before (Sends c) = not (is_abort_flag c.flag) && passes limits.max_message_size (length (joined (gathered before.messages c)))
-has_too_many_octets limits before (Closes c) = false
-has_too_many_octets limits before Nothing = false
-
--- the message has more chunks than the client takes
-abbrev pub has_too_many_chunks : Limits → Received → Content → Bool
-has_too_many_chunks limits before (Greets hello) = false
-has_too_many_chunks limits before (Acks ack) = false
-has_too_many_chunks limits before (Fails error) = false
-has_too_many_chunks limits before (Opens o) = false
-has_too_many_chunks limits before (Sends c) = not (is_abort_flag c.flag) && passes limits.max_chunk_count (length (gathered before.messages c))
-has_too_many_chunks limits before (Closes c) = false
-has_too_many_chunks limits before Nothing = false
+has_other_token before other = false
 
 -- the request id of an OPN is waited for: the first one answers under 1, a later one the renewal that is unanswered
 abbrev pub is_awaited : List OpenResponse → List ℕ → List Asking → ℕ → Bool
@@ -213,13 +112,9 @@ is_awaited (r ∷ rs) opened asked id = is_in id (pending_renewals opened asked)
 
 -- the request id is not pending, where this was asked before
 abbrev pub is_unasked : Received → List Asking → Content → Bool
-is_unasked before asked (Greets hello) = false
-is_unasked before asked (Acks ack) = false
-is_unasked before asked (Fails error) = false
 is_unasked before asked (Opens o) = of_numbers (λ n. not (is_awaited (responses before.openings) (opened_ids before.openings) asked n.1)) o.numbers
 is_unasked before asked (Sends c) = not (is_in c.request (pending_calls before.messages asked))
-is_unasked before asked (Closes c) = false
-is_unasked before asked Nothing = false
+is_unasked before asked other = false
 
 -- the code of an Error
 abbrev pub code_in : Option ErrorFrame → ℕ
@@ -228,23 +123,13 @@ code_in (Some e) = e.error.code
 
 -- the code of an ERR
 abbrev pub error_code : Content → ℕ
-error_code (Greets hello) = 0
-error_code (Acks ack) = 0
 error_code (Fails error) = code_in error
-error_code (Opens o) = 0
-error_code (Sends c) = 0
-error_code (Closes c) = 0
-error_code Nothing = 0
+error_code other = 0
 
 -- an ERR
 abbrev pub is_error : Content → Bool
-is_error (Greets hello) = false
-is_error (Acks ack) = false
 is_error (Fails error) = true
-is_error (Opens o) = false
-is_error (Sends c) = false
-is_error (Closes c) = false
-is_error Nothing = false
+is_error other = false
 
 -- the reasons, in the order in which they are judged, behind those of the header: the client's own, BadDecodingError,
 -- BadTcpNotEnoughResources, BadSecurityPolicyRejected, BadDecodingError, the ServiceResult, BadTcpSecureChannelUnknown,

@@ -1,6 +1,8 @@
 -- The definitions, in the order in which they are best read: what one frame carries, and what the frames so far have brought.
 pub mod Content
 pub mod Received
+-- Why either end refuses a frame.
+pub mod Refusals
 -- A server: what it agrees to, what frames tell it, which it refuses, and which come next; what it sends; where it stands, and what
 -- it answers. Last what its parts make of a frame.
 pub mod Agreement

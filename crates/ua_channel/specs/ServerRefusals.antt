@@ -1,33 +1,18 @@
 -- Which frames a server refuses: the table of refusals, behind those of the header (OPC 10000-6, 6.7 and 7.1).
-use Rattle.std.specs.Prelude.{ℕ, ◌==◌, nat_lt, nat_le, pos, length, Bool, false, ◌&&◌, not, is_none, if◌then◌else◌, List, [], ◌∷◌, ◌++◌, Option, Some, None}
+use Rattle.std.specs.Prelude.{ℕ, ◌==◌, nat_lt, nat_le, pos, Bool, false, ◌&&◌, not, is_none, if◌then◌else◌, List, [], ◌∷◌, Option, Some, None}
 use Rattle.std.proofs.Common.{int_eq}
 use Rattle.ua_frame.specs.declared.limits.Limits.{Limits}
 use Rattle.ua_frame.specs.Agreement.{is_url_long, is_buffer_small}
 use Rattle.ua_frame.specs.Hello.{is_so}
 use Rattle.ua_structures.specs.declared.secure_channel.OpenRequest.{OpenRequest}
-use Rattle.ua_chunk.specs.Abort.{is_readable_abort}
-use Rattle.ua_chunk.specs.Flag.{is_abort_flag}
-use Rattle.ua_chunk.specs.Gathered.{gathered, joined}
-use Rattle.ua_chunk.specs.Open.{open_ids}
-use Rattle.ua_chunk.specs.Opening.{SecurityHeader, channel_of, policy_of, is_none_policy}
-use Rattle.ua_chunk.specs.Refusal.{most_open, passes}
-use Rattle.ua_chunk.specs.Sequence.{may_follow}
+use Rattle.ua_chunk.specs.Opening.{channel_of}
 use Rattle.ua_channel.specs.Content.{Content}
 use Rattle.ua_channel.specs.Content.Content.{Greets, Opens, Sends, Closes}
 use Rattle.ua_channel.specs.Received.{Received}
 use Rattle.ua_channel.specs.ServerTold.{request_of, issued}
+pub use Rattle.ua_channel.specs.Refusals.{of_header, of_number, aborts_unreadably, breaks_order, has_other_policy, has_too_many_chunks, has_too_many_octets, opens_too_many}
 
 -- ---- a test of what a frame carries, false where it carries no such thing
-
--- the security header is so
-abbrev pub of_header : (SecurityHeader → Bool) → Option SecurityHeader → Bool
-of_header test None = false
-of_header test (Some h) = test h
-
--- the sequence number is so
-abbrev pub of_number : (ℕ → Bool) → Option (ℕ × ℕ) → Bool
-of_number test None = false
-of_number test (Some n) = test n.0
 
 -- the request is so
 abbrev pub of_request : (OpenRequest → Bool) → Option OpenRequest → Bool
@@ -71,11 +56,6 @@ abbrev pub has_small_buffer : Content → Bool
 has_small_buffer (Greets hello) = is_so is_buffer_small hello
 has_small_buffer other = false
 
--- an OPN under another policy than None
-abbrev pub has_other_policy : Content → Bool
-has_other_policy (Opens o) = of_header (λ h. not (is_none_policy (policy_of h))) o.security
-has_other_policy other = false
-
 -- an OPN whose sequence header or body does not read
 abbrev pub is_opening_unreadable : Content → Bool
 is_opening_unreadable (Opens o) = is_none (request_of o)
@@ -103,33 +83,6 @@ abbrev pub has_other_token : Received → Content → Bool
 has_other_token before (Sends c) = not (is_taken before c.token)
 has_other_token before (Closes c) = not (is_taken before c.token)
 has_other_token before other = false
-
--- the sequence number does not follow the last one
-abbrev pub breaks_order : Received → Content → Bool
-breaks_order before (Opens o) = of_number (λ n. not (may_follow before.last n)) o.numbers
-breaks_order before (Sends c) = not (may_follow before.last c.sequence)
-breaks_order before (Closes c) = not (may_follow before.last c.sequence)
-breaks_order before other = false
-
--- the body of an abort does not read
-abbrev pub aborts_unreadably : Content → Bool
-aborts_unreadably (Sends c) = is_abort_flag c.flag && not (is_readable_abort c.body)
-aborts_unreadably other = false
-
--- more than 4 messages would be unfinished
-abbrev pub opens_too_many : Received → Content → Bool
-opens_too_many before (Sends c) = nat_lt most_open (length (open_ids (before.messages ++ c ∷ [])))
-opens_too_many before other = false
-
--- the message has more octets than the server takes
-abbrev pub has_too_many_octets : Limits → Received → Content → Bool
-has_too_many_octets limits before (Sends c) = not (is_abort_flag c.flag) && passes limits.max_message_size (length (joined (gathered before.messages c)))
-has_too_many_octets limits before other = false
-
--- the message has more chunks than the server takes
-abbrev pub has_too_many_chunks : Limits → Received → Content → Bool
-has_too_many_chunks limits before (Sends c) = not (is_abort_flag c.flag) && passes limits.max_chunk_count (length (gathered before.messages c))
-has_too_many_chunks limits before other = false
 
 -- the greatest token was issued, so that none is left
 abbrev pub has_no_token_left : Received → Content → Bool

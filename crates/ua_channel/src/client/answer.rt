@@ -12,9 +12,6 @@ use ua_chunk::read_open;
 use ua_frame::Frame;
 use ua_services::{OpenAnswer, OpenResponse, read_open_response};
 
-/// The least code whose top bit is set: that of a bad result (OPC 10000-4, 7.39).
-const FIRST_BAD: u32 = 0x8000_0000;
-
 /// A good response to an OPN: its numbers, and the channel and the token that it brings.
 #[derive(Clone, Copy, Debug)]
 pub struct Answer {
@@ -29,7 +26,7 @@ fn judge_response(response: OpenResponse) -> Result<(u32, u32), Stop>
     ensures { Judged (response_reasons response) (IsResponse response) result }
 {
     let code = response.response_header.service_result;
-    if code.code >= FIRST_BAD {
+    if code.is_bad() {
         return Err(Stop::Refused(code));
     }
     Ok((response.channel_id, response.token_id))
