@@ -1,5 +1,5 @@
 -- The frames that a client sends, as what stands in front of them and what is in them.
-use Rattle.std.proofs.Common.{◌≡◌, ℕ, ◌<◌, ◌+◌, ◌^◌, Bool, true, false, ◌&&◌, List, ◌∷◌, ◌++◌, Option, Some, None, IsTrue, length, refl, sym, ◌∙◌, ap, arith, ltb, append_assoc, length-append}
+use Rattle.std.proofs.Common.{◌≡◌, ℕ, ◌<◌, ◌+◌, ◌^◌, Bool, true, false, ◌&&◌, List, ◌∷◌, ◌++◌, Option, Some, None, IsTrue, length, sym, ◌∙◌, ap, arith, ltb, append_assoc, length-append}
 use Rattle.std.specs.Str.{is_utf8}
 use Rattle.ua_octets.specs.Counted.{counted, text, null_count}
 use Rattle.ua_octets.specs.Number.{number_octets}
@@ -11,13 +11,11 @@ use Rattle.ua_frame.specs.Frames.{frame_octets}
 use Rattle.ua_frame.specs.Kinds.{kind_octets}
 use Rattle.ua_frame.specs.Messages.{hello}
 use Rattle.ua_chunk.specs.Layout.{token_header, sequence_header}
-use Rattle.ua_chunk.specs.Opening.{policy_header, none_policy}
 use Rattle.ua_services.specs.Message.{message}
-use Rattle.ua_structures.specs.SecureChannel.{open_request, close_request}
-use Rattle.ua_structures.specs.declared.secure_channel.OpenRequest.{OpenRequest}
+use Rattle.ua_structures.specs.SecureChannel.{close_request}
 use Rattle.ua_structures.specs.Plain.{close_request_of}
 use Rattle.ua_builtin.specs.declared.date_time.DateTime.{DateTime}
-use Rattle.ua_channel.specs.ClientSends.{hello_to, hello_frame, open_frame, close_frame, opening_front, policy_octets, closing_front}
+use Rattle.ua_channel.specs.ClientSends.{hello_to, hello_frame, close_frame, closing_front}
 
 -- ---- HEL
 
@@ -62,44 +60,8 @@ hello_framed limits url size is =
     let same : size ≡ 8 + length (hello.canonical (hello_to limits url)) = omega (arith, is, hello_length limits url) in
     ap (λ (n : ℕ). 72 ∷ 69 ∷ 76 ∷ 70 ∷ (number_octets 4 n ++ hello.canonical (hello_to limits url))) same
 
--- ---- OPN
-
-policy_length : (channel : ℕ) → length (policy_header.canonical (channel, (Some none_policy, (None, None)))) ≡ 63
-unfolding counted
-policy_length channel =
-    let uri : length none_policy ≡ 47 = refl in
-    omega (
-      arith,
-      length-append (number_octets 4 channel) ((number_octets 4 (length none_policy) ++ none_policy) ++ (number_octets 4 null_count ++ number_octets 4 null_count)),
-      length-append (number_octets 4 (length none_policy) ++ none_policy) (number_octets 4 null_count ++ number_octets 4 null_count),
-      length-append (number_octets 4 (length none_policy)) none_policy,
-      length-append (number_octets 4 null_count) (number_octets 4 null_count),
-      length-number_octets 4 channel,
-      length-number_octets 4 (length none_policy),
-      length-number_octets 4 null_count,
-      uri,
-    )
-
-policy_is : (channel : ℕ) → policy_octets channel ≡ policy_header.canonical (channel, (Some none_policy, (None, None)))
-unfolding counted
-policy_is channel = refl
-
 numbers_length : (n m : ℕ) → length (number_octets 4 n ++ number_octets 4 m) ≡ 8
 numbers_length n m = omega (arith, length-append (number_octets 4 n) (number_octets 4 m), length-number_octets 4 n, length-number_octets 4 m)
-
-pub opening_framed : (channel number id : ℕ) (r : OpenRequest) → length ((message 446 open_request).canonical r) ≡ 53 → opening_front channel number id ++ (message 446 open_request).canonical r ≡ frame_octets (open_frame channel number id r)
-unfolding frame_octets
-opening_framed channel number id r e =
-    let policy = policy_header.canonical (channel, (Some none_policy, (None, None))) in
-    let numbers = sequence_header.canonical (number, id) in
-    let body = (message 446 open_request).canonical r in
-    let same : 132 ≡ 8 + length (policy ++ (numbers ++ body)) =
-    omega (arith, e, length-append policy (numbers ++ body), length-append numbers body, policy_length channel, numbers_length number id) in
-    ap (λ (t : List ℕ). (79 ∷ 80 ∷ 78 ∷ 70 ∷ number_octets 4 132) ++ (t ++ numbers) ++ body) (policy_is channel)
-    ∙ ap (λ (t : List ℕ). 79 ∷ 80 ∷ 78 ∷ 70 ∷ t)
-    (append_assoc (number_octets 4 132) (policy ++ numbers) body
-    ∙ ap (λ (t : List ℕ). number_octets 4 132 ++ t) (append_assoc policy numbers body)
-    ∙ ap (λ (m : ℕ). number_octets 4 m ++ (policy ++ (numbers ++ body))) same)
 
 -- ---- CLO
 
@@ -116,17 +78,3 @@ closing_framed channel token number id moment e =
     (append_assoc (number_octets 4 57) (tokens ++ numbers) body
     ∙ ap (λ (t : List ℕ). number_octets 4 57 ++ t) (append_assoc tokens numbers body)
     ∙ ap (λ (m : ℕ). number_octets 4 m ++ (tokens ++ (numbers ++ body))) same)
-
--- ---- the security header, piece by piece
-
-pub policy_appended : (channel : ℕ) (a b c d e f uri : List ℕ) → b ≡ a ++ number_octets 4 channel → c ≡ b ++ number_octets 4 47 → uri ≡ none_policy → d ≡ c ++ uri → e ≡ d ++ number_octets 4 0xFFFFFFFF → f ≡ e ++ number_octets 4 0xFFFFFFFF
-    → f ≡ a ++ policy_octets channel
-policy_appended channel a b c d e f uri eb ec eu ed ee ef =
-    let n = number_octets 4 channel in
-    let k = number_octets 4 47 in
-    let m = number_octets 4 0xFFFFFFFF in
-    ef
-    ∙ (ap (λ (t : List ℕ). t ++ m) (ee ∙ ap (λ (t : List ℕ). t ++ m) (ed ∙ (ap (λ (t : List ℕ). c ++ t) eu ∙ ap (λ (t : List ℕ). t ++ none_policy) (ec ∙ ap (λ (t : List ℕ). t ++ k) eb))))
-    ∙ (append_assoc ((((a ++ n) ++ k) ++ none_policy)) m m
-    ∙ (ap (λ (t : List ℕ). t ++ (m ++ m)) (append_assoc (a ++ n) k none_policy)
-    ∙ (append_assoc (a ++ n) (k ++ none_policy) (m ++ m) ∙ append_assoc a n ((k ++ none_policy) ++ (m ++ m))))))

@@ -1,19 +1,19 @@
 -- What a client sends: the HEL, the OPNs and the CLO, each a whole frame.
-use Rattle.std.specs.Prelude.{ℕ, ◌∷◌, ◌++◌, pos, List, Option, Some, None}
+use Rattle.std.specs.Prelude.{ℕ, ◌∷◌, ◌++◌, pos, List, Option}
 use Rattle.ua_octets.specs.Number.{number_octets}
 use Rattle.ua_builtin.specs.declared.date_time.DateTime.{DateTime}
 use Rattle.ua_frame.specs.declared.frame.Frame.{Frame}
 use Rattle.ua_frame.specs.declared.hello.Hello.{Hello}
-use Rattle.ua_frame.specs.declared.kind.Kind.TheVariants.{Hel, Opn, Clo}
+use Rattle.ua_frame.specs.declared.kind.Kind.TheVariants.{Hel, Clo}
 use Rattle.ua_frame.specs.declared.limits.Limits.{Limits}
 use Rattle.ua_frame.specs.Kinds.{kind_octets}
 use Rattle.ua_frame.specs.Messages.{hello}
 use Rattle.ua_chunk.specs.Layout.{token_header, sequence_header}
-use Rattle.ua_chunk.specs.Opening.{policy_header, none_policy}
 use Rattle.ua_services.specs.Message.{message}
 use Rattle.ua_structures.specs.Plain.{open_request_of, close_request_of}
 use Rattle.ua_structures.specs.SecureChannel.{open_request, close_request}
 use Rattle.ua_structures.specs.declared.secure_channel.OpenRequest.{OpenRequest}
+use Rattle.ua_channel.specs.ServerSends.{opening_frame}
 
 -- how long a token is asked to live, in milliseconds: an hour
 abbrev pub token_lifetime : ℕ
@@ -36,11 +36,7 @@ hello_frame h = record { kind = Hel; flag = 70; body = hello.canonical h }
 
 -- the OPN frame of a request on a channel, with this number and request id, under the policy None (OPC 10000-6, 6.7.2)
 abbrev pub open_frame : ℕ → ℕ → ℕ → OpenRequest → Frame
-open_frame channel number id r = record {
-  kind = Opn;
-  flag = 70;
-  body = policy_header.canonical (channel, (Some none_policy, (None, None))) ++ (sequence_header.canonical (number, id) ++ (message 446 open_request).canonical r);
-}
+open_frame channel number id r = opening_frame channel number id ((message 446 open_request).canonical r)
 
 -- the first OPN, on no channel yet: it issues a token, under the request id 1 and with the number 1
 abbrev pub first_open : DateTime → Frame
@@ -57,16 +53,6 @@ close_frame channel token number id moment = record {
   flag = 70;
   body = token_header.canonical (channel, token) ++ (sequence_header.canonical (number, id) ++ (message 452 close_request).canonical (close_request_of moment 0));
 }
-
--- the security header of the policy None on a channel, without a certificate and a thumbprint: the policy has 47 octets, and -1 is null
-abbrev pub policy_octets : ℕ → List ℕ
-policy_octets channel = number_octets 4 channel ++ ((number_octets 4 47 ++ none_policy) ++ (number_octets 4 0xFFFFFFFF ++ number_octets 4 0xFFFFFFFF))
-
--- what stands in front of the request of an OPN of 132 octets
-abbrev pub opening_front : ℕ → ℕ → ℕ → List ℕ
-opening_front channel number id =
-    (kind_octets Opn ++ 70 ∷ number_octets 4 132)
-    ++ (policy_octets channel ++ sequence_header.canonical (number, id))
 
 -- what stands in front of the request of a CLO of 57 octets
 abbrev pub closing_front : ℕ → ℕ → ℕ → ℕ → List ℕ

@@ -1,17 +1,18 @@
 //! The frames that a client sends beside the chunks of calls.
 
-ghost use Rattle.std.specs.Prelude.{◌≡◌, ◌<◌, ◌^◌, ◌++◌, IsTrue, IfOk, OnOk};
+ghost use Rattle.std.specs.Prelude.{◌≡◌, ◌<◌, ◌^◌, ◌++◌, length, IsTrue, IfOk, OnOk};
 ghost use Rattle.ua_octets.specs.Counted.{text};
 ghost use Rattle.ua_frame.specs.Agreement.{url_length};
 ghost use Rattle.ua_frame.specs.Frames.{frame_octets};
 ghost use Rattle.ua_frame.specs.Messages.{hello};
-ghost use Rattle.ua_channel.specs.ClientSends.{hello_to, hello_frame, open_frame, close_frame, first_open, renewal_frame, opening_front, policy_octets, closing_front};
+ghost use Rattle.ua_services.specs.Message.{message};
+ghost use Rattle.ua_structures.specs.SecureChannel.{open_request};
+ghost use Rattle.ua_channel.specs.ClientSends.{hello_to, hello_frame, open_frame, close_frame, first_open, renewal_frame, closing_front};
 
+use crate::sending::append_opening;
 use std::alloc::{AllocError, Global};
 use ua_builtin::{DateTime, UaString, Wire};
-use ua_chunk::NONE_POLICY;
 use ua_frame::{Kind, Limits, header_octets};
-use ua_octets::NULL_COUNT;
 use ua_services::laws::bodies_of_the_channel_have_lengths;
 use ua_services::{CloseRequest, OpenRequest, write_close_request, write_open_request};
 
@@ -19,7 +20,10 @@ use ua_services::{CloseRequest, OpenRequest, write_close_request, write_open_req
 const SHORT_HELLO: usize = 32;
 
 /// The octets of an OPN frame with a request in it.
-const OPEN_SIZE: u32 = 132;
+const OPEN_SIZE: usize = 132;
+
+/// The octets of the body of an OPN request without a nonce.
+const OPEN_LEN: usize = 53;
 
 /// The octets of a CLO frame with a request in it.
 const CLOSE_SIZE: u32 = 57;
@@ -74,47 +78,36 @@ pub fn hello_octets(alloc: Global, limits: &Limits, url: &UaString) -> Result<Ve
     Ok(out)
 }
 
-/// Adds the security header of the policy None on a channel.
-fn append_policy(channel: u32, out: &mut Vec<u8>) -> Result<(), AllocError>
-    ensures { OnOk result (out.new.items ≡ out.old.items ++ policy_octets channel) }
+/// The OPN of a request on a channel, with this number and request id.
+fn request_octets(
+    alloc: Global,
+    channel: u32,
+    number: u32,
+    id: u32,
+    request: &OpenRequest,
+) -> Result<Vec<u8>, AllocError>
+    requires { length ((message 446 open_request).canonical request.now) ≡ 53 }
+    ensures { IfOk result (λ out. out.items ≡ frame_octets (open_frame channel number id request.now)) }
 {
-    channel.append(out)?;
-    (NONE_POLICY.len() as u32).append(out)?;
-    out.extend_from_slice(NONE_POLICY.as_bytes())?;
-    NULL_COUNT.append(out)?;
-    NULL_COUNT.append(out)?;
-    Ok(())
-}
-
-/// Adds what stands in front of the request of an OPN.
-fn append_opening(channel: u32, number: u32, id: u32, out: &mut Vec<u8>) -> Result<(), AllocError>
-    ensures { OnOk result (out.new.items ≡ out.old.items ++ opening_front channel number id) }
-{
-    out.extend_from_slice(&header_octets(Kind::Opn, b'F', OPEN_SIZE))?;
-    append_policy(channel, out)?;
-    number.append(out)?;
-    id.append(out)?;
-    Ok(())
-}
-
-/// The OPN that issues the first token, on no channel yet.
-#[tactic(auto, using(crate::proofs::ClientFrames::opening_framed))]
-pub fn open_octets(alloc: Global, moment: DateTime) -> Result<Vec<u8>, AllocError>
-    ensures { IfOk result (λ out. out.items ≡ frame_octets (first_open moment)) }
-{
-    let mut out = Vec::with_capacity(alloc, OPEN_SIZE as usize)?;
-    append_opening(0, 1, 1, &mut out)?;
-    let request = OpenRequest::issue(moment, 0, TOKEN_LIFETIME);
-    bodies_of_the_channel_have_lengths();
-    // The request can be encoded, so a fault is want of memory.
-    match write_open_request(&request, &mut out) {
+    let mut out = Vec::with_capacity(alloc, OPEN_SIZE)?;
+    append_opening(channel, number, id, OPEN_LEN, &mut out)?;
+    // Where the request can be encoded, a fault is want of memory.
+    match write_open_request(request, &mut out) {
         Ok(()) => Ok(out),
         Err(_) => Err(AllocError),
     }
 }
 
+/// The OPN that issues the first token, on no channel yet.
+pub fn open_octets(alloc: Global, moment: DateTime) -> Result<Vec<u8>, AllocError>
+    ensures { IfOk result (λ out. out.items ≡ frame_octets (first_open moment)) }
+{
+    bodies_of_the_channel_have_lengths();
+    let request = OpenRequest::issue(moment, 0, TOKEN_LIFETIME);
+    request_octets(alloc, 0, 1, 1, &request)
+}
+
 /// The OPN that renews the token of a channel.
-#[tactic(auto, using(crate::proofs::ClientFrames::opening_framed))]
 pub fn renewal_octets(
     alloc: Global,
     channel: u32,
@@ -124,15 +117,9 @@ pub fn renewal_octets(
 ) -> Result<Vec<u8>, AllocError>
     ensures { IfOk result (λ out. out.items ≡ frame_octets (renewal_frame channel number id moment)) }
 {
-    let mut out = Vec::with_capacity(alloc, OPEN_SIZE as usize)?;
-    append_opening(channel, number, id, &mut out)?;
-    let request = OpenRequest::renew(moment, 0, TOKEN_LIFETIME);
     bodies_of_the_channel_have_lengths();
-    // The request can be encoded, so a fault is want of memory.
-    match write_open_request(&request, &mut out) {
-        Ok(()) => Ok(out),
-        Err(_) => Err(AllocError),
-    }
+    let request = OpenRequest::renew(moment, 0, TOKEN_LIFETIME);
+    request_octets(alloc, channel, number, id, &request)
 }
 
 /// Adds what stands in front of the request of a CLO.
