@@ -2,13 +2,11 @@
 use Rattle.std.proofs.Common.{◌≡◌, ℕ, Bool, true, false, leb, List, [], ◌∷◌, Option, Some, None, Ok, Err, refl, sym, ◌∙◌, ap, subst}
 use Rattle.ua_octets.proofs.Readers.{some_is}
 use Rattle.ua_builtin.specs.Reasons.{first_reason}
-use Rattle.ua_frame.specs.declared.frame.Frame.{Frame}
 use Rattle.ua_frame.specs.declared.limits.Limits.{Limits}
-use Rattle.ua_chunk.specs.declared.open_chunk.OpenChunk.{OpenChunk}
 use Rattle.ua_chunk.specs.declared.fault.OpenFault.{OpenFault}
 use Rattle.ua_chunk.specs.declared.fault.OpenFault.TheVariants.{Unreadable, Policy, OutOfMemory}
 use Rattle.ua_chunk.specs.Layout.{sequence_header}
-use Rattle.ua_chunk.specs.Opening.{SecurityHeader, channel_of, policy_of, policy_header, is_none_policy, opening_behind, opening_with, opening_in, sequence_fault, headers_fault, open_refusal}
+use Rattle.ua_chunk.specs.Opening.{SecurityHeader, policy_of, policy_header, is_none_policy, sequence_fault, headers_fault, open_refusal}
 use Rattle.ua_services.specs.Open.{answer_read}
 use Rattle.ua_services.specs.declared.open.OpenAnswer.{OpenAnswer}
 use Rattle.ua_services.specs.declared.open.OpenAnswer.TheVariants.{Open, Fault}
@@ -25,6 +23,7 @@ use Rattle.ua_channel.specs.declared.client.answer.Answer.{Answer}
 use Rattle.ua_channel.specs.declared.client.fault.Stop.{Stop}
 use Rattle.ua_channel.specs.declared.client.fault.Stop.TheVariants as stop
 use Rattle.ua_channel.proofs.ClientAsking.{first_unset}
+use Rattle.ua_channel.proofs.Openings.{HasHeaders}
 
 -- ---- headers that are refused
 
@@ -73,43 +72,9 @@ judges_fault body OutOfMemory h = λ limits before asked. tt
 pub judges_headers : (body : List ℕ) (fault : OpenFault) (e : Stop) → open_refusal body ≡ Some fault → e ≡ of_open_fault fault → JudgesAnswer (opening_of body) (Err e)
 judges_headers body fault e h is = subst (λ (x : Stop). JudgesAnswer (opening_of body) (Err x)) (sym is) (judges_fault body fault h)
 
--- ---- headers that read
-
--- the body of an OPN has headers under the policy None, and behind them these octets
-pub record HasHeaders (body : List ℕ) (sequence request : ℕ) (behind : List ℕ) : Type 0 where
-  pub header : SecurityHeader
-  pub policy : is_none_policy (policy_of header) ≡ true
-  pub opening_is : opening_of body ≡ record { security = Some header; numbers = Some (sequence, request); body = behind }
-
-abbrev found_chunk : SecurityHeader → (ℕ × ℕ) × List ℕ → OpenChunk
-found_chunk header found = record { channel = channel_of header; sequence = found.0.0; request = found.0.1; body = found.1 }
-
-abbrev opening_with_chunk : SecurityHeader → OpenChunk → Opening
-opening_with_chunk header c = record { security = Some header; numbers = Some (c.sequence, c.request); body = c.body }
-
-headers_behind : (header : SecurityHeader) (octets : List ℕ) (found : Option ((ℕ × ℕ) × List ℕ)) (b : Bool) (c : OpenChunk) → is_none_policy (policy_of header) ≡ b → opening_behind b (channel_of header) found ≡ Some c
-    → (b ≡ true) × (opening_numbered header octets found ≡ record { security = Some header; numbers = Some (c.sequence, c.request); body = c.body })
-headers_behind header octets found false c e h = absurd cc
-headers_behind header octets None true c e h = absurd cc
-headers_behind header octets (Some found) true c e h =
-    let is : found_chunk header found ≡ c = some_is (found_chunk header found) c h in
-    (refl, ap (opening_with_chunk header) is)
-
-headers_with : (body : List ℕ) (found : Option (SecurityHeader × List ℕ)) (c : OpenChunk) → policy_header.decode body ≡ found → opening_with found ≡ Some c → HasHeaders body c.sequence c.request c.body
-unfolding opening_of
-headers_with body None c e h = absurd cc
-headers_with body (Some found) c e h =
-    let b = headers_behind found.0 found.1 (sequence_header.decode found.1) (is_none_policy (policy_of found.0)) c refl h in
-    record { header = found.0; policy = b.0; opening_is = ap (opening_secured body) e ∙ b.1 }
-
--- the headers that were read
-pub has_headers : (f : Frame) (c : OpenChunk) → opening_in f ≡ Some c → HasHeaders f.body c.sequence c.request c.body
-unfolding opening_in
-has_headers f c h = headers_with f.body (policy_header.decode f.body) c refl h
-
 -- ---- what is behind them
 
-module _ (sequence request : ℕ) (body behind : List ℕ) (h : HasHeaders body sequence request behind) where
+module _ (on sequence request : ℕ) (body behind : List ℕ) (h : HasHeaders body on sequence request behind) where
   answer_is_read : answer_in (opening_of body) ≡ answer_read behind
   unfolding answer_in
   answer_is_read = rw h.opening_is refl

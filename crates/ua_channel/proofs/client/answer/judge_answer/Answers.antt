@@ -1,7 +1,8 @@
 use Rattle.std.proofs.Common.{List, ℕ, Ok, refl, subst}
 use Rattle.ua_services.specs.Open.{answer_read}
 use Rattle.ua_channel.specs.ClientParts.{IsStopFor, Judged, IsAnsweredBy, body_reasons}
-use Rattle.ua_channel.proofs.ClientOpenings.{judges_headers, has_headers, judges_body, judges_good}
+use Rattle.ua_channel.proofs.ClientOpenings.{judges_headers, judges_body, judges_good}
+use Rattle.ua_channel.proofs.Openings.{has_headers}
 use Rattle.ua_channel.proofs.client.answer.judge_answer.Goals as goal
 
 pub returns-in-Err : goal.returns-in-Err
@@ -9,10 +10,10 @@ returns-in-Err c = judges_headers c.args.frame.body c.in-Err.fault c.of_open.res
 
 pub returns-in-Ok-judge_body : goal.returns-in-Ok-judge_body
 returns-in-Ok-judge_body c =
-    judges_good c.in-Ok.opening.sequence c.in-Ok.opening.request c.args.frame.body c.in-Ok.opening.body (has_headers c.args.frame c.in-Ok.opening c.in-Ok.ensures.found) _ refl refl
+    judges_good c.in-Ok.opening.channel c.in-Ok.opening.sequence c.in-Ok.opening.request c.args.frame.body c.in-Ok.opening.body (has_headers c.args.frame c.in-Ok.opening c.in-Ok.ensures.found) _ refl refl
     (subst (λ (t : List ℕ). Judged (body_reasons (answer_read t)) (IsAnsweredBy (answer_read t)) (Ok (c.in-Ok-judge_body.channel, c.in-Ok-judge_body.token))) c.deref.ensures c.in-Ok-judge_body.ensures)
 
 pub returns : goal.returns
 returns c =
-    judges_body c.in-Ok.opening.sequence c.in-Ok.opening.request c.args.frame.body c.in-Ok.opening.body (has_headers c.args.frame c.in-Ok.opening c.in-Ok.ensures.found) c.in-Err-judge_body.stop
+    judges_body c.in-Ok.opening.channel c.in-Ok.opening.sequence c.in-Ok.opening.request c.args.frame.body c.in-Ok.opening.body (has_headers c.args.frame c.in-Ok.opening c.in-Ok.ensures.found) c.in-Err-judge_body.stop
     (subst (λ (t : List ℕ). IsStopFor (body_reasons (answer_read t)) c.in-Err-judge_body.stop) c.deref.ensures c.in-Err-judge_body.ensures)
