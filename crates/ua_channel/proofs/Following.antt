@@ -14,7 +14,7 @@ use Rattle.ua_channel.specs.ServerStands.{Ended, Goes, RefusedAt, channel_of, li
 use Rattle.ua_channel.specs.ServerTold.{Told}
 use Rattle.ua_channel.specs.declared.client.channel.ClientChannel.{ClientChannel}
 use Rattle.ua_channel.specs.declared.server.ServerChannel.{ServerChannel}
-use Rattle.ua_channel.proofs.ReadOn.{begins_told, never_refused}
+use Rattle.ua_channel.proofs.ReadOn.{begins_told, never_refused, same_told}
 
 -- ---- by any rules
 
@@ -46,7 +46,7 @@ pub server_begins : (x : ServerChannel) (octets more : List ℕ) (told all : Lis
 server_begins x octets more told all at g r = begins (rules_of x) octets more g.frames g.rest told all Going g.stands.run g.told_is (server_hears x (octets ++ more) all at r)
 
 pub server_told : (x : ServerChannel) (octets : List ℕ) (told all : List Told) (at : AtServer) → Goes x octets told → ServerReads (limits_of x) (channel_of x) octets all at → told ≡ all
-server_told x octets told all at g r = sym g.told_is ∙ (ap (events (rules_of x)) (unique (rules_of x) octets g.frames r.frames g.rest [] Going Going g.stands.run r.run).frames ∙ r.told_is)
+server_told x octets told all at g r = same_told (rules_of x) octets g.frames r.frames g.rest [] told all g.stands.run r.run g.told_is r.told_is
 
 pub server_not_refused : (x : ServerChannel) (octets more : List ℕ) (told all : List Told) (at : AtServer) (code : ℕ) → Ended x octets told (Stopped code) → ServerReads (limits_of x) (channel_of x) (octets ++ more) all at → ⊥
 server_not_refused x octets more told all at code e r = never_refused (rules_of x) octets more e.frames r.frames e.rest code Going (λ s. cc) e.run r.run

@@ -6,7 +6,7 @@ use Rattle.ua_frame.specs.Frames.{frame_octets, frames_octets}
 use Rattle.ua_frame.specs.Run.{Rules, Fits, events, End, Going, Stopped, Over, Run}
 use Rattle.ua_frame.proofs.Ends.{ends_stay}
 use Rattle.ua_frame.proofs.Fronts.{length-frame_octets}
-use Rattle.ua_frame.proofs.Streams.{run_frame}
+use Rattle.ua_frame.proofs.Streams.{events-push, run_frame}
 use Rattle.ua_frame.proofs.Unique.{front_frame, front_none, one_frame, unique}
 use Rattle.ua_channel.proofs.AskedLater.{frames_octets-append}
 
@@ -98,3 +98,17 @@ begins_told R octets more fs gs rest end r s =
 pub never_refused : {E X : Type 0} (R : Rules E X) (octets more : List ℕ) (fs gs : List Frame) (rest : List ℕ) (why : X) (end : End X) → (end ≡ Stopped why → ⊥) → Run R octets fs rest (Stopped why) → Run R (octets ++ more) gs [] end → ⊥
 never_refused R octets more fs gs rest why end other r s =
     other (sym (unique R (octets ++ more) fs gs (rest ++ more) [] (Stopped why) end (ends_stay R octets more fs rest (Stopped why) (λ e. cc) r) s).ends)
+
+-- ---- one reading
+
+pub same_frames : {E X : Type 0} (R : Rules E X) (octets : List ℕ) (fs gs : List Frame) (rest more : List ℕ) → Run R octets fs rest Going → Run R octets gs more Going → (fs ≡ gs) × (rest ≡ more)
+same_frames R octets fs gs rest more r s =
+    let same = unique R octets fs gs rest more Going Going r s in
+    (same.frames, same.rests)
+
+pub same_told : {E X : Type 0} (R : Rules E X) (octets : List ℕ) (fs gs : List Frame) (rest more : List ℕ) (told others : List E) → Run R octets fs rest Going → Run R octets gs more Going → events R fs ≡ told → events R gs ≡ others → told ≡ others
+same_told R octets fs gs rest more told others r s is are = sym is ∙ (ap (events R) (same_frames R octets fs gs rest more r s).0 ∙ are)
+
+-- what is told behind a frame that tells one thing
+pub told_behind : {E X : Type 0} (R : Rules E X) (fs : List Frame) (f : Frame) (told : List E) (e : E) → events R fs ≡ told → R.tells fs f ≡ e ∷ [] → events R (fs ++ f ∷ []) ≡ told ++ e ∷ []
+told_behind {E = E} R fs f told e is tells = events-push R fs f ∙ (ap (λ (t : List E). events R fs ++ t) tells ∙ ap (λ (t : List E). t ++ e ∷ []) is)
