@@ -15,7 +15,7 @@ ghost use Rattle.ua_channel.specs.ClientSends.{hello_frame, hello_to};
 ghost use Rattle.ua_channel.specs.ClientTable.{client_gate, client_reasons, ack_gate, answer_gate, reply_gate};
 ghost use Rattle.ua_channel.specs.ClientTold.{Told};
 ghost use Rattle.ua_channel.specs.Content.{content};
-ghost use Rattle.ua_channel.specs.Received.{Received, nothing_received};
+ghost use Rattle.ua_channel.specs.Received.{Received, nothing_received, received};
 ghost use Rattle.ua_channel.specs.declared.client.fault.AskFault.TheVariants.{NotOpen};
 ghost use Rattle.ua_channel.specs.declared.client.fault.ClientTakeFault.TheVariants.{Closed};
 
@@ -99,7 +99,9 @@ impl ClientChannel {
     /// sends, and 4 times the largest message that this end takes.
     #[inline]
     pub fn bound(&self) -> usize
-        ensures { result ≡ bound_of self.now }
+        ensures stands { (asks : List Placed) (octets : List ℕ) (frames : List Frame) (rest : List ℕ) → Stands self.now asks octets frames rest
+            → result ≡ bound_behind (limits_of self.now) (received frames).ack }
+        ensures is { result ≡ bound_of self.now }
     {
         self.bound
     }
