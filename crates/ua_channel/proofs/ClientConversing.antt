@@ -11,10 +11,14 @@ use Rattle.ua_frame.specs.declared.kind.Kind.TheVariants.{Hel, Msg, Opn, Clo}
 use Rattle.ua_frame.specs.declared.kind.Kind.TheVariants as kind
 use Rattle.ua_frame.specs.declared.limits.Limits.{Limits}
 use Rattle.ua_frame.specs.After.{AllAfter, AllFrom}
-use Rattle.ua_frame.specs.Frames.{frame_size}
+use Rattle.ua_frame.specs.Frames.{Frames, frame_size}
 use Rattle.ua_frame.specs.Kinds.{lets_in}
 use Rattle.ua_frame.specs.Messages.{ack}
-use Rattle.ua_frame.specs.Run.{Fits, Going, Run}
+use Rattle.ua_frame.specs.FirstWrong.{FirstWrong}
+use Rattle.ua_frame.specs.Run.{End, Fits, Going, Over, Run, Stopped}
+use Rattle.ua_frame.proofs.FirstWrongs.{first_of_stop, stop_of_first}
+use Rattle.ua_frame.proofs.Readings.{reading}
+use Rattle.ua_frame.proofs.Unique.{unique}
 use Rattle.ua_frame.specs.Whole.{whole_of}
 use Rattle.ua_services.specs.declared.open.OpenAnswer.{OpenAnswer}
 use Rattle.ua_services.specs.declared.open.OpenAnswer.TheVariants.{Open, Fault}
@@ -26,7 +30,7 @@ use Rattle.ua_chunk.specs.Refusal.{TakesMessages, message_refusal, reasons, refu
 use Rattle.ua_chunk.specs.Sequence.{may_follow}
 use Rattle.ua_chunk.proofs.Numbers.{apart}
 use Rattle.ua_channel.specs.Asks.{Asking, Placed, asked_before, end_of, is_in, pending_calls}
-use Rattle.ua_channel.specs.ClientConversation.{ClientConversation, Continues, IsClientOrder, IsGoodReply, IsGoodResponse, IsOrderAgreed, IsOrderOpen, MayCarry, largest_taken}
+use Rattle.ua_channel.specs.ClientConversation.{ClientConversation, Continues, IsConversation, IsClientOrder, IsGoodReply, IsGoodResponse, IsOrderAgreed, IsOrderOpen, MayCarry, largest_taken}
 use Rattle.ua_channel.specs.ClientParts.{why_of}
 use Rattle.ua_channel.specs.ClientTable.{client_gate, client_reasons, client_rules, gate_behind, is_awaited, is_bad, is_other, of_numbers, of_response}
 use Rattle.ua_channel.specs.ClientTokens.{answer_behind, answer_in, channel_in, held_tokens, opened_ids, responses}
@@ -39,7 +43,7 @@ use Rattle.ua_channel.proofs.ClientChunks.{accepts}
 use Rattle.ua_channel.proofs.ClientTakes.{judged_reply}
 use Rattle.ua_channel.proofs.ClientTalks.{no_responses, responses-push}
 use Rattle.ua_channel.specs.Refusals.{of_header}
-use Rattle.ua_channel.proofs.Conversing.{MessageFits, follow_numbers, numbers_follow, messages_join, messages_split, no_more, none_first, none_named, none_then, ordered_join, ordered_split, some_there}
+use Rattle.ua_channel.proofs.Conversing.{MessageFits, follow_numbers, numbers_follow, messages_fit, messages_join, messages_split, no_more, none_first, none_named, none_then, ordered_join, ordered_split, some_there}
 use Rattle.ua_channel.proofs.OneFrameMore.{received-nil, received-push}
 use Rattle.ua_channel.proofs.PairedCalls.{none_holds, was_pending}
 
@@ -407,7 +411,7 @@ module _ (limits : Limits) (asks : List Placed) where
           fits = c.fits;
           carries = c.carries;
           ordered = subst (λ (b : Received). AreOrdered b.last (numbers frames)) received-nil c.ordered;
-          messages_fit = subst (λ (b : Received). TakesMessages limits.max_message_size limits.max_chunk_count b.messages (messages frames)) received-nil c.messages_fit;
+          messages_fit = (messages_fit limits (messages frames)).0 (subst (λ (b : Received). TakesMessages limits.max_message_size limits.max_chunk_count b.messages (messages frames)) received-nil c.messages_fit);
         },
     λ h.
         taken [] frames nothing_placed (record {
@@ -416,7 +420,7 @@ module _ (limits : Limits) (asks : List Placed) where
           fits = h.fits;
           carries = h.carries;
           ordered = subst (λ (b : Received). AreOrdered b.last (numbers frames)) (sym received-nil) h.ordered;
-          messages_fit = subst (λ (b : Received). TakesMessages limits.max_message_size limits.max_chunk_count b.messages (messages frames)) (sym received-nil) h.messages_fit;
+          messages_fit = subst (λ (b : Received). TakesMessages limits.max_message_size limits.max_chunk_count b.messages (messages frames)) (sym received-nil) ((messages_fit limits (messages frames)).1 h.messages_fit);
         }),
   )
 
@@ -426,4 +430,25 @@ pub continues : (limits : Limits) (asks : List Placed) (octets : List ℕ) (fram
 continues limits asks octets frames rest = (
   λ r. record { whole = r.whole; converses = (converses limits asks frames).0 r.good; partial = r.ends.1 },
   λ c. record { whole = c.whole; good = (converses limits asks frames).1 c.converses; ends = (refl, c.partial) },
+)
+
+converses_by : (limits : Limits) (asks : List Placed) (octets : List ℕ) (frames : List Frame) (rest : List ℕ) (end : End Why) → Run (client_rules limits asks) octets frames rest end → ((why : Why) → end ≡ Stopped why → ⊥) → IsConversation limits asks octets
+converses_by limits asks octets frames rest Going run never = record { frames = frames; rest = rest; is = (continues limits asks octets frames rest).0 run }
+converses_by limits asks octets frames rest (Stopped why) run never = absurd (never why refl)
+converses_by limits asks octets frames rest Over run never =
+    let ends : false ≡ true = run.ends in
+    absurd cc
+
+-- there is no wrong frame exactly where the octets are a conversation
+pub none_wrong : (limits : Limits) (asks : List Placed) (octets : List ℕ) (raws : List (List ℕ)) (rest : List ℕ) → Frames octets raws rest → ((why : Why) → FirstWrong (client_rules limits asks) raws rest why → ⊥) ↔ IsConversation limits asks octets
+none_wrong limits asks octets raws rest framed = (
+  λ never.
+      let r = reading (client_rules limits asks) octets in
+      converses_by limits asks octets r.frames r.rest r.end r.run
+      (λ why e.
+      never why (first_of_stop (client_rules limits asks) octets raws rest why framed (record { frames = r.frames; rest = r.rest; run = subst (λ (d : End Why). Run (client_rules limits asks) octets r.frames r.rest d) e r.run }))),
+  λ c why wrong.
+      let s = stop_of_first (client_rules limits asks) octets raws rest why framed wrong in
+      let ends : Stopped why ≡ Going = (unique (client_rules limits asks) octets s.frames c.frames s.rest c.rest (Stopped why) Going s.run ((continues limits asks octets c.frames c.rest).1 c.is)).ends in
+      cc,
 )

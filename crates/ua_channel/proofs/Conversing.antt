@@ -1,17 +1,26 @@
 -- What a conversation says of one frame more, at both ends.
-use Rattle.std.proofs.Common.{◌≡◌, ℕ, Bool, true, false, not, List, [], ◌∷◌, ◌++◌, Option, Some, None, option_map, refl}
-use Rattle.std.specs.Prelude.{is_none}
+use Rattle.std.proofs.Common.{◌≡◌, ℕ, Bool, true, false, not, List, [], ◌∷◌, ◌++◌, Option, Some, None, option_map, refl, ◌&&◌, length, sym, ◌∙◌, ap}
+use Rattle.std.specs.List.{AllByRecursion}
+use Rattle.std.specs.Prelude.{◌↔◌, is_none}
+use Rattle.std.proofs.lemmas.Bool.{le-ltb, ltb-false}
+use Rattle.ua_frame.specs.After.{AllAfter, AllFrom}
 use Rattle.ua_builtin.specs.Reasons.{first_reason}
 use Rattle.ua_frame.specs.declared.limits.Limits.{Limits}
 use Rattle.ua_chunk.specs.declared.chunk.Chunk.{Chunk}
-use Rattle.ua_chunk.specs.Refusal.{TakesMessages, message_refusal}
+use Rattle.ua_chunk.specs.declared.flag.Flag.{Flag}
+use Rattle.ua_chunk.specs.declared.flag.Flag.TheVariants.{F, C, A}
+use Rattle.ua_chunk.specs.Abort.{is_readable_abort}
+use Rattle.ua_chunk.specs.Flag.{is_abort_flag}
+use Rattle.ua_chunk.specs.Gathered.{gathered, joined}
+use Rattle.ua_chunk.specs.Open.{open_ids}
+use Rattle.ua_chunk.specs.Refusal.{FewOpen, TakesMessages, message_reasons, message_refusal, most_open, passes}
 use Rattle.ua_chunk.specs.Sequence.{may_follow}
 use Rattle.ua_channel.specs.Content.{Content}
 use Rattle.ua_channel.specs.Content.Content.{Greets, Acks, Fails, Opens, Sends, Closes, Nothing}
-use Rattle.ua_channel.specs.Conversation.{AreOrdered}
+use Rattle.ua_channel.specs.Conversation.{AreOrdered, FitMessages}
 use Rattle.ua_channel.specs.Received.{Received, after, chunks_in, number_listed, number_or, numbers_in}
 use Rattle.ua_channel.specs.ServerRefusals.{of_number}
-use Rattle.ua_channel.proofs.PairedCalls.{was_pending}
+use Rattle.ua_channel.proofs.PairedCalls.{none_holds, was_pending}
 
 -- ---- tables
 
@@ -108,3 +117,61 @@ messages_join limits b (Opens o) cs h k = k
 messages_join limits b (Sends c) cs h k = (h, k)
 messages_join limits b (Closes c) cs h k = k
 messages_join limits b Nothing cs h k = k
+
+-- ---- messages in plain words
+
+-- the rest of messages that fit, behind some chunks
+record FitFrom (limits : Limits) (us cs : List Chunk) : Type 0 where
+  aborts_read : AllByRecursion (λ (c : Chunk). c.flag ≡ A → is_readable_abort c.body ≡ true) cs
+  few_open : FewOpen us cs
+  octets_fit : AllFrom (λ us c. is_abort_flag c.flag ≡ false → passes limits.max_message_size (length (joined (gathered us c))) ≡ false) us cs
+  chunks_fit : AllFrom (λ us c. is_abort_flag c.flag ≡ false → passes limits.max_chunk_count (length (gathered us c)) ≡ false) us cs
+
+abort_reads : (f : Flag) (reads : Bool) → (is_abort_flag f && not reads) ≡ false → f ≡ A → reads ≡ true
+abort_reads f reads e is = was_pending reads (ap (λ (g : Flag). is_abort_flag g && not reads) (sym is) ∙ e)
+
+reads_abort : (f : Flag) (reads : Bool) → (f ≡ A → reads ≡ true) → (is_abort_flag f && not reads) ≡ false
+reads_abort F reads h = refl
+reads_abort C reads h = refl
+reads_abort A reads h = no_more reads (h refl)
+
+within : (abort passed : Bool) → (not abort && passed) ≡ false → abort ≡ false → passed ≡ false
+within true passed e is = absurd cc
+within false passed e is = e
+
+passed_none : (abort passed : Bool) → (abort ≡ false → passed ≡ false) → (not abort && passed) ≡ false
+passed_none true passed h = refl
+passed_none false passed h = h refl
+
+fit_from : (limits : Limits) (us cs : List Chunk) → TakesMessages limits.max_message_size limits.max_chunk_count us cs → FitFrom limits us cs
+fit_from limits us [] h = record { aborts_read = tt; few_open = tt; octets_fit = tt; chunks_fit = tt }
+fit_from limits us (c ∷ cs) h =
+    let rest = fit_from limits (us ++ c ∷ []) cs h.1 in
+    let all = none_holds (message_reasons limits.max_message_size limits.max_chunk_count us c) h.0 in
+    record {
+      aborts_read = (abort_reads c.flag (is_readable_abort c.body) all.0, rest.aborts_read);
+      few_open = (ltb-false most_open (length (open_ids (us ++ c ∷ []))) all.1.0, rest.few_open);
+      octets_fit = (within (is_abort_flag c.flag) (passes limits.max_message_size (length (joined (gathered us c)))) all.1.1.0, rest.octets_fit);
+      chunks_fit = (within (is_abort_flag c.flag) (passes limits.max_chunk_count (length (gathered us c))) all.1.1.1.0, rest.chunks_fit);
+    }
+
+takes_from : (limits : Limits) (us cs : List Chunk) → FitFrom limits us cs → TakesMessages limits.max_message_size limits.max_chunk_count us cs
+takes_from limits us [] h = tt
+takes_from limits us (c ∷ cs) h =
+    let read = reads_abort c.flag (is_readable_abort c.body) h.aborts_read.0 in
+    let few = le-ltb most_open (length (open_ids (us ++ c ∷ []))) h.few_open.0 in
+    let octets = passed_none (is_abort_flag c.flag) (passes limits.max_message_size (length (joined (gathered us c)))) h.octets_fit.0 in
+    let chunks = passed_none (is_abort_flag c.flag) (passes limits.max_chunk_count (length (gathered us c))) h.chunks_fit.0 in (
+      rw (read, few, octets, chunks) refl,
+      takes_from limits (us ++ c ∷ []) cs (record { aborts_read = h.aborts_read.1; few_open = h.few_open.1; octets_fit = h.octets_fit.1; chunks_fit = h.chunks_fit.1 }),
+    )
+
+-- messages that are taken are those that fit
+pub messages_fit : (limits : Limits) (cs : List Chunk) → TakesMessages limits.max_message_size limits.max_chunk_count [] cs ↔ FitMessages limits cs
+unfolding AllAfter
+messages_fit limits cs = (
+  λ h.
+      let f = fit_from limits [] cs h in
+      record { aborts_read = f.aborts_read; few_open = f.few_open; octets_fit = f.octets_fit; chunks_fit = f.chunks_fit },
+  λ f. takes_from limits [] cs (record { aborts_read = f.aborts_read; few_open = f.few_open; octets_fit = f.octets_fit; chunks_fit = f.chunks_fit }),
+)

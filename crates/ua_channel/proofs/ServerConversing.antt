@@ -13,10 +13,15 @@ use Rattle.ua_frame.specs.declared.kind.Kind.TheVariants as kind
 use Rattle.ua_frame.specs.declared.limits.Limits.{Limits}
 use Rattle.ua_frame.specs.After.{AllAfter, AllFrom}
 use Rattle.ua_frame.specs.Agreement.{is_buffer_small, is_url_long}
-use Rattle.ua_frame.specs.Frames.{frame_size}
+use Rattle.ua_frame.specs.Frames.{Frames, frame_size}
 use Rattle.ua_frame.specs.Hello.{hello_in}
 use Rattle.ua_frame.specs.Kinds.{lets_in}
-use Rattle.ua_frame.specs.Run.{Fits, Going, Over, Run}
+use Rattle.ua_frame.specs.FirstWrong.{FirstWrong}
+use Rattle.ua_frame.specs.Laws.{Stops}
+use Rattle.ua_frame.specs.Run.{End, Fits, Going, Over, Run, Stopped}
+use Rattle.ua_frame.proofs.FirstWrongs.{first_of_stop, stop_of_first}
+use Rattle.ua_frame.proofs.Readings.{reading}
+use Rattle.ua_frame.proofs.Unique.{unique}
 use Rattle.ua_chunk.specs.declared.chunk.Chunk.{Chunk}
 use Rattle.ua_chunk.specs.Layout.{chunk_in}
 use Rattle.ua_chunk.specs.Opening.{SecurityHeader, channel_of, is_none_policy, policy_of}
@@ -25,13 +30,13 @@ use Rattle.ua_chunk.specs.Sequence.{may_follow}
 use Rattle.ua_chunk.proofs.Numbers.{apart}
 use Rattle.ua_channel.specs.Content.{Content, Opening, content, content_by, closes, opening_of, sends}
 use Rattle.ua_channel.specs.Content.Content.{Greets, Acks, Fails, Opens, Sends, Closes, Nothing}
-use Rattle.ua_channel.specs.Conversation.{AreOrdered, Continues, HasEnded, IsFramed, IsGoodChunk, IsGoodRequest, IsOrderGreeted, IsOrderOpen, IsServerOrder, MayCarry, ServerConversation}
+use Rattle.ua_channel.specs.Conversation.{AreOrdered, Continues, HasEnded, IsConversation, IsFramed, IsGoodChunk, IsGoodRequest, IsOrderGreeted, IsOrderOpen, IsServerOrder, MayCarry, ServerConversation}
 use Rattle.ua_channel.specs.Received.{Received, after, messages, number_listed, numbers, numbers_in, or_before, received}
 use Rattle.ua_channel.specs.ServerParts.{ids_reasons}
 use Rattle.ua_channel.specs.ServerRefusals.{is_taken, last_used, of_header, of_request, server_reasons, type_wanted}
 use Rattle.ua_channel.specs.ServerRules.{gate_behind, opening_gate, receive_size, running_gate, server_gate, server_rules}
 use Rattle.ua_channel.specs.ServerTold.{issued, request_of}
-use Rattle.ua_channel.proofs.Conversing.{MessageFits, follow_numbers, messages_join, messages_split, no_more, none_first, none_named, none_then, numbers_follow, ordered_join, ordered_split, some_there}
+use Rattle.ua_channel.proofs.Conversing.{MessageFits, follow_numbers, messages_fit, messages_join, messages_split, no_more, none_first, none_named, none_then, numbers_follow, ordered_join, ordered_split, some_there}
 use Rattle.ua_channel.proofs.Frames.{hel_only, opn_only}
 use Rattle.ua_channel.proofs.OneFrameMore.{received-nil, received-push}
 use Rattle.ua_channel.proofs.Phases.{greeted_by}
@@ -480,7 +485,7 @@ module _ (limits : Limits) (channel : ℕ) where
           fits = c.fits;
           carries = c.carries;
           ordered = subst (λ (b : Received). AreOrdered b.last (numbers frames)) received-nil c.ordered;
-          messages_fit = subst (λ (b : Received). TakesMessages limits.max_message_size limits.max_chunk_count b.messages (messages frames)) received-nil c.messages_fit;
+          messages_fit = (messages_fit limits (messages frames)).0 (subst (λ (b : Received). TakesMessages limits.max_message_size limits.max_chunk_count b.messages (messages frames)) received-nil c.messages_fit);
         },
     λ h.
         taken [] frames nothing_placed (record {
@@ -489,7 +494,7 @@ module _ (limits : Limits) (channel : ℕ) where
           fits = h.fits;
           carries = h.carries;
           ordered = subst (λ (b : Received). AreOrdered b.last (numbers frames)) (sym received-nil) h.ordered;
-          messages_fit = subst (λ (b : Received). TakesMessages limits.max_message_size limits.max_chunk_count b.messages (messages frames)) (sym received-nil) h.messages_fit;
+          messages_fit = subst (λ (b : Received). TakesMessages limits.max_message_size limits.max_chunk_count b.messages (messages frames)) (sym received-nil) ((messages_fit limits (messages frames)).1 h.messages_fit);
         }),
   )
 
@@ -505,4 +510,28 @@ pub has_ended : (limits : Limits) (channel : ℕ) (octets : List ℕ) (frames : 
 has_ended limits channel octets frames rest = (
   λ r. record { whole = r.whole; converses = (converses limits channel frames).0 r.good; closed = r.ends },
   λ c. record { whole = c.whole; good = (converses limits channel frames).1 c.converses; ends = c.closed },
+)
+
+converses_by : (limits : Limits) (channel : ℕ) (octets : List ℕ) (frames : List Frame) (rest : List ℕ) (end : End ℕ) → Run (server_rules limits channel) octets frames rest end → ((why : ℕ) → end ≡ Stopped why → ⊥) → IsConversation limits channel octets
+converses_by limits channel octets frames rest Going run never = record { frames = frames; rest = rest; is = inl ((continues limits channel octets frames rest).0 run) }
+converses_by limits channel octets frames rest (Stopped why) run never = absurd (never why refl)
+converses_by limits channel octets frames rest Over run never = record { frames = frames; rest = rest; is = inr ((has_ended limits channel octets frames rest).0 run) }
+
+never_stops : (limits : Limits) (channel : ℕ) (octets : List ℕ) (frames : List Frame) (rest : List ℕ) (why : ℕ) → Continues limits channel octets frames rest ⊎ HasEnded limits channel octets frames rest → Stops (server_rules limits channel) octets why → ⊥
+never_stops limits channel octets frames rest why (inl c) s =
+    let ends : Stopped why ≡ Going = (unique (server_rules limits channel) octets s.frames frames s.rest rest (Stopped why) Going s.run ((continues limits channel octets frames rest).1 c)).ends in
+    cc
+never_stops limits channel octets frames rest why (inr c) s =
+    let ends : Stopped why ≡ Over = (unique (server_rules limits channel) octets s.frames frames s.rest rest (Stopped why) Over s.run ((has_ended limits channel octets frames rest).1 c)).ends in
+    cc
+
+-- there is no wrong frame exactly where the octets are a conversation
+pub none_wrong : (limits : Limits) (channel : ℕ) (octets : List ℕ) (raws : List (List ℕ)) (rest : List ℕ) → Frames octets raws rest → ((why : ℕ) → FirstWrong (server_rules limits channel) raws rest why → ⊥) ↔ IsConversation limits channel octets
+none_wrong limits channel octets raws rest framed = (
+  λ never.
+      let r = reading (server_rules limits channel) octets in
+      converses_by limits channel octets r.frames r.rest r.end r.run
+      (λ why e.
+      never why (first_of_stop (server_rules limits channel) octets raws rest why framed (record { frames = r.frames; rest = r.rest; run = subst (λ (d : End ℕ). Run (server_rules limits channel) octets r.frames r.rest d) e r.run }))),
+  λ c why wrong. never_stops limits channel octets c.frames c.rest why c.is (stop_of_first (server_rules limits channel) octets raws rest why framed wrong),
 )

@@ -12,14 +12,13 @@ use Rattle.ua_frame.specs.declared.limits.Limits.{Limits}
 use Rattle.ua_services.specs.declared.open.OpenAnswer.TheVariants.{Open}
 use Rattle.ua_structures.specs.declared.secure_channel.OpenResponse.{OpenResponse}
 use Rattle.ua_chunk.specs.Opening.{SecurityHeader, is_none_policy, policy_of}
-use Rattle.ua_chunk.specs.Refusal.{TakesMessages}
 use Rattle.ua_chunk.specs.declared.chunk.Chunk.{Chunk}
 use Rattle.ua_channel.specs.Asks.{Asking, Placed, asked_before, end_of, is_in, pending_calls}
 use Rattle.ua_channel.specs.ClientTable.{client_gate, is_awaited, is_other, is_outside}
 use Rattle.ua_channel.specs.ClientTokens.{answer_in, channel_in, held_tokens, opened_ids, responses}
 use Rattle.ua_channel.specs.Content.{Content, Opening, content}
 use Rattle.ua_channel.specs.Content.Content.{Greets, Acks, Fails, Opens, Sends, Closes, Nothing}
-use Rattle.ua_channel.specs.Conversation.{AreOrdered, IsFramed}
+use Rattle.ua_channel.specs.Conversation.{AreOrdered, FitMessages, IsFramed}
 use Rattle.ua_channel.specs.Received.{Received, messages, numbers, received}
 
 -- ---- the order
@@ -112,7 +111,7 @@ pub record ClientConversation (limits : Limits) (asks : List Placed) (frames : L
   -- all numbers are in order
   pub ordered : AreOrdered None (numbers frames)
   -- the messages are within the limits, at most 4 of them unfinished at a time, and each abort reads
-  pub messages_fit : TakesMessages limits.max_message_size limits.max_chunk_count [] (messages frames)
+  pub messages_fit : FitMessages limits (messages frames)
 
 -- ---- octets without a wrong frame
 
@@ -121,3 +120,9 @@ pub record Continues (limits : Limits) (asks : List Placed) (octets : List ℕ) 
   pub whole : octets ≡ frames_octets frames ++ rest
   pub converses : ClientConversation limits asks frames
   pub partial : IsPartial (client_gate (received frames)) rest
+
+-- these octets are a conversation at a client with these limits that asked so, or the beginning of one
+pub record IsConversation (limits : Limits) (asks : List Placed) (octets : List ℕ) : Type 0 where
+  pub frames : List Frame
+  pub rest : List ℕ
+  pub is : Continues limits asks octets frames rest

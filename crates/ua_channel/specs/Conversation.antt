@@ -1,5 +1,5 @@
 -- Conversations: the frames that one end may receive of another that keeps to the protocol, or the beginning of them.
-use Rattle.std.specs.Prelude.{◌≡◌, ◌≤◌, ◌==◌, ◌||◌, ◌++◌, ℕ, pos, List, [], ◌∷◌, Option, Some, None, IsTrue, IsFalse, true, false, map}
+use Rattle.std.specs.Prelude.{◌⊎◌, ◌≡◌, ◌≤◌, ◌==◌, ◌||◌, ◌++◌, ℕ, pos, List, [], ◌∷◌, Option, Some, None, IsTrue, IsFalse, true, false, length, map}
 use Rattle.std.specs.List.{AllByRecursion}
 use Rattle.std.specs.Ordering.{int_eq}
 use Rattle.ua_frame.specs.Agreement.{is_buffer_small, is_url_long}
@@ -10,8 +10,12 @@ use Rattle.ua_frame.specs.declared.frame.Frame.{Frame}
 use Rattle.ua_frame.specs.declared.hello.Hello.{Hello}
 use Rattle.ua_frame.specs.declared.limits.Limits.{Limits}
 use Rattle.ua_structures.specs.declared.secure_channel.OpenRequest.{OpenRequest}
+use Rattle.ua_chunk.specs.Abort.{is_readable_abort}
+use Rattle.ua_chunk.specs.Flag.{is_abort_flag}
+use Rattle.ua_chunk.specs.Gathered.{gathered, joined}
+use Rattle.ua_chunk.specs.declared.flag.Flag.TheVariants.{A}
 use Rattle.ua_chunk.specs.Opening.{SecurityHeader, channel_of, is_none_policy, policy_of}
-use Rattle.ua_chunk.specs.Refusal.{TakesMessages}
+use Rattle.ua_chunk.specs.Refusal.{FewOpen, passes}
 use Rattle.ua_chunk.specs.Sequence.{may_follow}
 use Rattle.ua_chunk.specs.declared.chunk.Chunk.{Chunk}
 use Rattle.ua_channel.specs.Content.{Content, Opening, content}
@@ -33,6 +37,14 @@ pub record IsFramed (f : Frame) : Type 0 where
 abbrev pub AreOrdered : Option ℕ → List ℕ → Type 0
 AreOrdered last [] = Unit {0}
 AreOrdered last (n ∷ ns) = IsTrue (may_follow last n) × AreOrdered (Some n) ns
+
+-- messages within these limits: each abort reads, at most 4 messages are unfinished at a time, and what has come of a message has no more
+-- octets and no more chunks than the limits say; an abort counts for neither
+pub record FitMessages (limits : Limits) (cs : List Chunk) : Type 0 where
+  pub aborts_read : AllByRecursion (λ (c : Chunk). c.flag ≡ A → IsTrue (is_readable_abort c.body)) cs
+  pub few_open : FewOpen [] cs
+  pub octets_fit : AllAfter (λ us c. IsFalse (is_abort_flag c.flag) → IsFalse (passes limits.max_message_size (length (joined (gathered us c))))) cs
+  pub chunks_fit : AllAfter (λ us c. IsFalse (is_abort_flag c.flag) → IsFalse (passes limits.max_chunk_count (length (gathered us c)))) cs
 
 -- ---- what comes at a server
 
@@ -117,7 +129,7 @@ pub record ServerConversation (limits : Limits) (channel : ℕ) (frames : List F
   -- all numbers are in order
   pub ordered : AreOrdered None (numbers frames)
   -- the messages are within the limits, at most 4 of them unfinished at a time, and each abort reads
-  pub messages_fit : TakesMessages limits.max_message_size limits.max_chunk_count [] (messages frames)
+  pub messages_fit : FitMessages limits (messages frames)
 
 -- ---- octets without a wrong frame
 
@@ -133,3 +145,9 @@ pub record HasEnded (limits : Limits) (channel : ℕ) (octets : List ℕ) (frame
   pub whole : octets ≡ frames_octets frames ++ rest
   pub converses : ServerConversation limits channel frames
   pub closed : (received frames).closed ≡ true
+
+-- these octets are a conversation at a server with these limits on this channel, or the beginning of one: it goes on, or a CLO ended it
+pub record IsConversation (limits : Limits) (channel : ℕ) (octets : List ℕ) : Type 0 where
+  pub frames : List Frame
+  pub rest : List ℕ
+  pub is : Continues limits channel octets frames rest ⊎ HasEnded limits channel octets frames rest

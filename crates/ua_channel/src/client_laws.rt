@@ -7,14 +7,16 @@ ghost use Rattle.ua_frame.specs.After.{AllAfter};
 ghost use Rattle.ua_frame.specs.Laws.{HasOneReading, HasReadings, StopsAtFirstWrong};
 ghost use Rattle.ua_frame.specs.declared.frame.Frame.{Frame};
 ghost use Rattle.ua_frame.specs.declared.limits.Limits.{Limits};
+ghost use Rattle.ua_frame.specs.FirstWrong.{FirstWrong};
+ghost use Rattle.ua_frame.specs.Frames.{Frames};
 ghost use Rattle.ua_frame.specs.Run.{Fits, Going, Run, events};
 ghost use Rattle.ua_chunk.specs.Delivered.{delivered};
 ghost use Rattle.ua_channel.specs.Asks.{Placed, asked_in, calls, is_in};
 ghost use Rattle.ua_channel.specs.Client.{ask_refusal, close_refusal, phase_of, renew_refusal, Goes, GoesTelling, IsDone, IsNotOpen, Stands};
-ghost use Rattle.ua_channel.specs.ClientConversation.{ClientConversation, Continues};
+ghost use Rattle.ua_channel.specs.ClientConversation.{ClientConversation, Continues, IsConversation};
 ghost use Rattle.ua_channel.specs.ClientTable.{client_rules};
 ghost use Rattle.ua_channel.specs.ClientTokens.{responses};
-ghost use Rattle.ua_channel.specs.ClientTold.{Told, told_item};
+ghost use Rattle.ua_channel.specs.ClientTold.{Told, Why, told_item};
 ghost use Rattle.ua_channel.specs.Paired.{as_list, delivered_under, paired, told_of_calls, with_all};
 ghost use Rattle.ua_channel.specs.Received.{received};
 ghost use Rattle.ua_channel.specs.declared.client.channel.ClientChannel.{ClientChannel};
@@ -75,4 +77,6 @@ pub fn client_converses()
     ensures frames { (limits : Limits) (asks : List Placed) (frames : List Frame) → AllAfter (Fits (client_rules limits asks)) frames ↔ ClientConversation limits asks frames }
     ensures going { (limits : Limits) (asks : List Placed) (octets : List ℕ) (frames : List Frame) (rest : List ℕ) →
         Run (client_rules limits asks) octets frames rest Going ↔ Continues limits asks octets frames rest }
+    ensures none_wrong { (limits : Limits) (asks : List Placed) (octets : List ℕ) (raws : List (List ℕ)) (rest : List ℕ) → Frames octets raws rest →
+        ((why : Why) → FirstWrong (client_rules limits asks) raws rest why → ⊥) ↔ IsConversation limits asks octets }
 {}

@@ -4,6 +4,8 @@
 
 ghost use Rattle.std.specs.Prelude.{◌≡◌, ◌↔◌, ◌∷◌, ◌++◌, [], ℕ, List, None, Some};
 ghost use Rattle.ua_frame.specs.After.{AllAfter};
+ghost use Rattle.ua_frame.specs.FirstWrong.{FirstWrong};
+ghost use Rattle.ua_frame.specs.Frames.{Frames};
 ghost use Rattle.ua_frame.specs.Run.{Fits, Going, Over, Run};
 ghost use Rattle.ua_frame.specs.Laws.{HasOneReading, HasReadings, StopsAtFirstWrong};
 ghost use Rattle.ua_frame.specs.declared.frame.Frame.{Frame};
@@ -11,7 +13,7 @@ ghost use Rattle.ua_frame.specs.declared.limits.Limits.{Limits};
 ghost use Rattle.ua_chunk.specs.declared.lane.Lane.{Lane};
 ghost use Rattle.ua_channel.specs.Agreement.{Agreement, lane_of};
 ghost use Rattle.ua_channel.specs.Content.{content};
-ghost use Rattle.ua_channel.specs.Conversation.{Continues, HasEnded, ServerConversation};
+ghost use Rattle.ua_channel.specs.Conversation.{Continues, HasEnded, IsConversation, ServerConversation};
 ghost use Rattle.ua_channel.specs.Received.{after, nothing_received, received};
 ghost use Rattle.ua_channel.specs.ServerPlaces.{agreed_by};
 ghost use Rattle.ua_channel.specs.ServerRules.{server_rules};
@@ -79,4 +81,6 @@ pub fn server_converses()
         Run (server_rules limits channel) octets frames rest Going ↔ Continues limits channel octets frames rest }
     ensures over { (limits : Limits) (channel : ℕ) (octets : List ℕ) (frames : List Frame) (rest : List ℕ) →
         Run (server_rules limits channel) octets frames rest Over ↔ HasEnded limits channel octets frames rest }
+    ensures none_wrong { (limits : Limits) (channel : ℕ) (octets : List ℕ) (raws : List (List ℕ)) (rest : List ℕ) → Frames octets raws rest →
+        ((why : ℕ) → FirstWrong (server_rules limits channel) raws rest why → ⊥) ↔ IsConversation limits channel octets }
 {}

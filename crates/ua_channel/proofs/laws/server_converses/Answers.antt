@@ -1,4 +1,4 @@
-use Rattle.ua_channel.proofs.ServerConversing.{continues, converses, has_ended}
+use Rattle.ua_channel.proofs.ServerConversing.{continues, converses, has_ended, none_wrong}
 use Rattle.ua_channel.proofs.laws.server_converses.Goals as goal
 
 pub returns-clause-frames : goal.returns-clause-frames
@@ -9,3 +9,6 @@ returns-clause-going c = continues
 
 pub returns-clause-over : goal.returns-clause-over
 returns-clause-over c = has_ended
+
+pub returns-clause-none_wrong : goal.returns-clause-none_wrong
+returns-clause-none_wrong c = none_wrong
