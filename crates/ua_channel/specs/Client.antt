@@ -179,3 +179,37 @@ IsClosing Waiting number moment out = ⊥
 IsClosing (Agreed a) number moment out = ⊥
 IsClosing (Open t) number moment out = out ≡ closing_octets t number moment
 IsClosing Done number moment out = ⊥
+
+-- ---- the same of a channel
+
+-- no channel is open
+abbrev pub HasNoChannel : ClientChannel → Type 0
+HasNoChannel x = IsNotOpen (phase_of x)
+
+-- why a channel does not ask a call of this body after so many more calls
+abbrev pub call_refused : ClientChannel → ℕ → List ℕ → Option AskFault
+call_refused x more body = ask_refusal (phase_of x) more body
+
+-- why it does not ask a renewal
+abbrev pub renewal_refused : ClientChannel → Option AskFault
+renewal_refused x = renew_refusal (phase_of x)
+
+-- why it is not closed
+abbrev pub closing_refused : ClientChannel → Option AskFault
+closing_refused x = close_refusal (phase_of x)
+
+-- what it judges of any body of this length, without memory
+abbrev pub JudgesLength : ClientChannel → ℕ → ℕ → Result (Unit {0}) AskFault → Type 0
+JudgesLength x more len result = Judges (phase_of x) more len result
+
+-- the octets of its call of this body, with this number first; the request id, and the number that is sent next
+abbrev pub SendsCall : ClientChannel → ℕ → List ℕ → ℕ → List ℕ → ℕ → Type 0
+SendsCall x number body id out next = IsCall (phase_of x) number body id out next
+
+-- the octets of its renewal, with this number; the request id, and the number that is sent next
+abbrev pub SendsRenewal : ClientChannel → ℕ → DateTime → ℕ → List ℕ → ℕ → Type 0
+SendsRenewal x number moment id out next = IsRenewal (phase_of x) number moment id out next
+
+-- the octets of its close, with this number
+abbrev pub SendsClosing : ClientChannel → ℕ → DateTime → List ℕ → Type 0
+SendsClosing x number moment out = IsClosing (phase_of x) number moment out

@@ -156,15 +156,15 @@ pub fn client_follows()
 pub fn client_sends()
     ensures call { (x : ClientChannel) (asks : List Placed) (octets : List ℕ) (frames : List Frame) (rest : List ℕ) (told : List ClientTold) (at : AtClient) →
         client.Stands x asks octets frames rest → ClientReads (client.limits_of x) asks octets told at →
-        (number : ℕ) (body : List ℕ) (id : ℕ) (out : List ℕ) (next : ℕ) → client.IsCall (client.phase_of x) number body id out next →
+        (number : ℕ) (body : List ℕ) (id : ℕ) (out : List ℕ) (next : ℕ) → client.SendsCall x number body id out next →
         (id ≡ next_id (asked_in asks)) × (out ≡ chunks_octets (chunks_of (lane_from at) body number id)) × (next ≡ number_after number (pieces (room_of at.ack) body)) }
     ensures renewal { (x : ClientChannel) (asks : List Placed) (octets : List ℕ) (frames : List Frame) (rest : List ℕ) (told : List ClientTold) (at : AtClient) →
         client.Stands x asks octets frames rest → ClientReads (client.limits_of x) asks octets told at →
-        (number : ℕ) (moment : DateTime) (id : ℕ) (out : List ℕ) (next : ℕ) → client.IsRenewal (client.phase_of x) number moment id out next →
+        (number : ℕ) (moment : DateTime) (id : ℕ) (out : List ℕ) (next : ℕ) → client.SendsRenewal x number moment id out next →
         (id ≡ next_id (asked_in asks)) × (out ≡ frame_octets (renewal_frame at.channel number id moment)) × (next ≡ next_number number) }
     ensures close { (x : ClientChannel) (asks : List Placed) (octets : List ℕ) (frames : List Frame) (rest : List ℕ) (told : List ClientTold) (at : AtClient) →
         client.Stands x asks octets frames rest → ClientReads (client.limits_of x) asks octets told at →
-        (number : ℕ) (moment : DateTime) (out : List ℕ) → client.IsClosing (client.phase_of x) number moment out →
+        (number : ℕ) (moment : DateTime) (out : List ℕ) → client.SendsClosing x number moment out →
         out ≡ frame_octets (close_frame at.channel at.newest number (next_id (asked_in asks)) moment) }
 {}
 
@@ -173,13 +173,13 @@ pub fn client_sends()
 pub fn client_refuses()
     ensures call { (x : ClientChannel) (asks : List Placed) (octets : List ℕ) (frames : List Frame) (rest : List ℕ) (told : List ClientTold) (at : AtClient) →
         client.Stands x asks octets frames rest → ClientReads (client.limits_of x) asks octets told at →
-        (more : ℕ) (body : List ℕ) → client.ask_refusal (client.phase_of x) more body ≡ first_reason (reasons_here at (asked_in asks) more body) }
+        (more : ℕ) (body : List ℕ) → client.call_refused x more body ≡ first_reason (reasons_here at (asked_in asks) more body) }
     ensures renewal { (x : ClientChannel) (asks : List Placed) (octets : List ℕ) (frames : List Frame) (rest : List ℕ) (told : List ClientTold) (at : AtClient) →
         client.Stands x asks octets frames rest → ClientReads (client.limits_of x) asks octets told at →
-        client.renew_refusal (client.phase_of x) ≡ first_reason (renew_reasons_here at (asked_in asks)) }
+        client.renewal_refused x ≡ first_reason (renew_reasons_here at (asked_in asks)) }
     ensures close { (x : ClientChannel) (asks : List Placed) (octets : List ℕ) (frames : List Frame) (rest : List ℕ) (told : List ClientTold) (at : AtClient) →
         client.Stands x asks octets frames rest → ClientReads (client.limits_of x) asks octets told at →
-        client.close_refusal (client.phase_of x) ≡ None }
+        client.closing_refused x ≡ None }
 {}
 
 /// A server takes all that a client sends on an open channel, calls and renewals in any order, each

@@ -12,7 +12,7 @@ ghost use Rattle.ua_frame.specs.Frames.{Frames};
 ghost use Rattle.ua_frame.specs.Run.{Fits, Going, Run, events};
 ghost use Rattle.ua_chunk.specs.Delivered.{delivered};
 ghost use Rattle.ua_channel.specs.Asks.{Placed, asked_in, calls, is_in};
-ghost use Rattle.ua_channel.specs.Client.{ask_refusal, close_refusal, phase_of, renew_refusal, Goes, GoesTelling, IsDone, IsNotOpen, Stands};
+ghost use Rattle.ua_channel.specs.Client.{call_refused, closing_refused, renewal_refused, Goes, GoesTelling, HasNoChannel, IsDone, Stands};
 ghost use Rattle.ua_channel.specs.ClientConversation.{ClientConversation, Continues, IsConversation};
 ghost use Rattle.ua_channel.specs.ClientTable.{client_rules};
 ghost use Rattle.ua_channel.specs.ClientTokens.{responses};
@@ -63,11 +63,11 @@ pub fn client_pairs()
 /// then nothing can be asked.
 pub fn client_is_open()
     ensures stands { (x : ClientChannel) (asks : List Placed) (octets : List ℕ) (frames : List Frame) (rest : List ℕ) →
-        Stands x asks octets frames rest → IsNotOpen (phase_of x) ↔ (responses (received frames).openings ≡ []) }
-    ensures done { (x : ClientChannel) → IsDone x → IsNotOpen (phase_of x) }
-    ensures asks { (x : ClientChannel) (more : ℕ) (body : List ℕ) → IsNotOpen (phase_of x) → ask_refusal (phase_of x) more body ≡ Some NotOpen }
-    ensures renews { (x : ClientChannel) → IsNotOpen (phase_of x) → renew_refusal (phase_of x) ≡ Some NotOpen }
-    ensures closes { (x : ClientChannel) → IsNotOpen (phase_of x) ↔ (close_refusal (phase_of x) ≡ Some NotOpen) }
+        Stands x asks octets frames rest → HasNoChannel x ↔ (responses (received frames).openings ≡ []) }
+    ensures done { (x : ClientChannel) → IsDone x → HasNoChannel x }
+    ensures asks { (x : ClientChannel) (more : ℕ) (body : List ℕ) → HasNoChannel x → call_refused x more body ≡ Some NotOpen }
+    ensures renews { (x : ClientChannel) → HasNoChannel x → renewal_refused x ≡ Some NotOpen }
+    ensures closes { (x : ClientChannel) → HasNoChannel x ↔ (closing_refused x ≡ Some NotOpen) }
 {}
 
 /// The frames that a client takes, one after the other, are just those of a conversation in plain

@@ -7,7 +7,7 @@ ghost use Rattle.ua_frame.specs.Reader.{open_reader};
 ghost use Rattle.ua_frame.specs.declared.frame.Frame.{Frame};
 ghost use Rattle.ua_channel.specs.Asks.{Asking, Placed};
 ghost use Rattle.ua_channel.specs.Asks.Asking.{Call, Renewal};
-ghost use Rattle.ua_channel.specs.Client.{Stands, Goes, IsDone, InPhase, SameClient, limits_of, url_of, next_of, phase_of, bound_of, bound_behind, held_octets, ask_refusal, IsCall, Judges, renew_refusal, IsRenewal, close_refusal, IsClosing};
+ghost use Rattle.ua_channel.specs.Client.{Stands, Goes, IsDone, InPhase, SameClient, limits_of, url_of, next_of, phase_of, bound_of, bound_behind, held_octets, call_refused, renewal_refused, closing_refused, JudgesLength, SendsCall, SendsRenewal, SendsClosing};
 ghost use Rattle.ua_channel.specs.ClientAnswers.{ClientAnswers, AnswersEvent, Progress};
 ghost use Rattle.ua_channel.specs.ClientAsks.{Talks, AnswersFor};
 ghost use Rattle.ua_channel.specs.ClientParts.{Judged, JudgesWhole, HasRoom, Takes, OpensChannel, StaysOpen, FailsBy, IsFront, Steps, Advances, TellsEvent, greeted};
@@ -118,7 +118,7 @@ impl ClientChannel {
     /// Why a call of a body of so many octets would be refused after so many more calls, but for
     /// memory. It takes none.
     pub fn judge(&self, before: usize, len: usize) -> Result<(), AskFault>
-        ensures { Judges (phase_of self.now) before len result }
+        ensures { JudgesLength self.now before len result }
     {
         match &self.phase {
             Phase::Open(talking) => talking.judge(before, len),
@@ -129,8 +129,8 @@ impl ClientChannel {
     /// The chunks of a call with this body, and the request id under which it is answered.
     pub fn ask(&mut self, body: &[u8]) -> Result<(u32, Vec<u8>), AskFault>
         requires { 0 < length body.now }
-        ensures answers { AnswersFor (ask_refusal (phase_of self.old) 0 body.now) result }
-        ensures sent { IfOk result (λ r. IsCall (phase_of self.old) (next_of self.old) body.now r.0 r.1.items (next_of self.new)) }
+        ensures answers { AnswersFor (call_refused self.old 0 body.now) result }
+        ensures sent { IfOk result (λ r. SendsCall self.old (next_of self.old) body.now r.0 r.1.items (next_of self.new)) }
         ensures stands { (asks : List Placed) (octets : List ℕ) (frames : List Frame) (rest : List ℕ) → Stands self.old asks octets frames rest
             → IfOk result (λ r. Stands self.new (asks ++ (length octets, Call r.0) ∷ []) octets frames rest) }
 
@@ -150,8 +150,8 @@ impl ClientChannel {
 
     /// The OPN that asks for a further token (OPC 10000-4, 5.6.2), and its request id.
     pub fn renew(&mut self, moment: DateTime) -> Result<(u32, Vec<u8>), AskFault>
-        ensures answers { AnswersFor (renew_refusal (phase_of self.old)) result }
-        ensures sent { IfOk result (λ r. IsRenewal (phase_of self.old) (next_of self.old) moment r.0 r.1.items (next_of self.new)) }
+        ensures answers { AnswersFor (renewal_refused self.old) result }
+        ensures sent { IfOk result (λ r. SendsRenewal self.old (next_of self.old) moment r.0 r.1.items (next_of self.new)) }
         ensures stands { (asks : List Placed) (octets : List ℕ) (frames : List Frame) (rest : List ℕ) → Stands self.old asks octets frames rest
             → IfOk result (λ r. Stands self.new (asks ++ (length octets, Renewal r.0) ∷ []) octets frames rest) }
         ensures unchanged { OnErr result (self.new ≡ self.old) }
@@ -166,8 +166,8 @@ impl ClientChannel {
 
     /// The CLO, after which the channel is closed.
     pub fn close(&mut self, moment: DateTime) -> Result<Vec<u8>, AskFault>
-        ensures answers { AnswersFor (close_refusal (phase_of self.old)) result }
-        ensures sent { IfOk result (λ out. IsClosing (phase_of self.old) (next_of self.old) moment out.items) }
+        ensures answers { AnswersFor (closing_refused self.old) result }
+        ensures sent { IfOk result (λ out. SendsClosing self.old (next_of self.old) moment out.items) }
         ensures done { OnOk result (IsDone self.new) }
         ensures unchanged { OnErr result (self.new ≡ self.old) }
         ensures same { SameClient self.old self.new }
@@ -179,8 +179,8 @@ impl ClientChannel {
     }
 
     fn closing(&self, moment: DateTime) -> Result<Vec<u8>, AskFault>
-        ensures answers { AnswersFor (close_refusal (phase_of self.now)) result }
-        ensures sent { IfOk result (λ out. IsClosing (phase_of self.now) (next_of self.now) moment out.items) }
+        ensures answers { AnswersFor (closing_refused self.now) result }
+        ensures sent { IfOk result (λ out. SendsClosing self.now (next_of self.now) moment out.items) }
     {
         match &self.phase {
             Phase::Open(talking) => {
