@@ -15,7 +15,8 @@ use Rattle.ua_frame.specs.Run.{refusal, events, Run, Going, Stopped, WrongHeader
 use Rattle.ua_frame.proofs.Fronts.{fault_front}
 use Rattle.ua_frame.proofs.Streams.{frames_octets-push, run_part, run_frame, events-push}
 use Rattle.ua_channel.specs.Asks.{Asking, Placed, asked_before, asked_in, end_of}
-use Rattle.ua_channel.specs.Client.{SameClient, Stands, Goes, GoesTelling, Ended, StopsAt, IsDone, InPhase, rules_of, limits_of, phase_of, bound_of, bound_behind}
+use Rattle.ua_channel.specs.Stops.{StopsAt}
+use Rattle.ua_channel.specs.Client.{SameClient, Stands, Goes, GoesTelling, Ended, IsDone, InPhase, rules_of, limits_of, phase_of, bound_of, bound_behind}
 use Rattle.ua_channel.specs.ClientParts.{JudgesWhole, GoesOn, Stopped as StoppedBy, FailsBy, IsFront, Steps, told_list}
 use Rattle.ua_channel.specs.ClientTable.{client_gate, client_rules, client_reasons}
 use Rattle.ua_channel.specs.ClientTold.{Told, Told as told, Why, ours}

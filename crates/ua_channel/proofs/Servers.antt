@@ -8,7 +8,7 @@ use Rattle.ua_frame.specs.declared.frame.Frame.{Frame}
 use Rattle.ua_frame.specs.declared.fault.FrameFault.{FrameFault}
 use Rattle.ua_frame.specs.declared.fault.FrameFault.TheVariants as frame_fault
 use Rattle.ua_frame.specs.declared.gate.Gate.{Gate}
-use Rattle.ua_frame.specs.Frames.{header_fault, header_code}
+use Rattle.ua_frame.specs.Frames.{frame_octets, header_fault, header_code}
 use Rattle.ua_frame.specs.Kinds.{lets_in}
 use Rattle.ua_frame.specs.Reader.{Reader, open_reader, TakesAll, TakesFrame, Refuses, Starves, Takes}
 use Rattle.ua_frame.specs.Run.{Run, events, End, Going, Over, EndsIn}
@@ -30,7 +30,7 @@ use Rattle.ua_channel.specs.ServerFaults.{of_frame_fault}
 use Rattle.ua_channel.specs.ServerParts.{Takes as TakesIt}
 use Rattle.ua_channel.specs.ServerRefusals.{server_reasons}
 use Rattle.ua_channel.specs.ServerRules.{server_gate}
-use Rattle.ua_channel.specs.ServerStands.{limits_of, channel_of, rules_of, phase_gate, bound_after, Holds, Stands, IsDone, Goes, GoesTelling, ClosedAt, AtFrame, AtHeader, RefusedAt, GoesOn, JudgesFrame}
+use Rattle.ua_channel.specs.ServerStands.{limits_of, channel_of, rules_of, phase_gate, bound_after, Holds, Stands, IsDone, Goes, GoesTelling, ClosedAt, RefusedAt, GoesOn, JudgesFrame}
 use Rattle.ua_channel.specs.ServerTold.{Told}
 use Rattle.ua_channel.specs.ServerTold.Told.{Closed}
 use Rattle.ua_channel.proofs.OneFrameMore.{received-push}
@@ -140,7 +140,7 @@ module _ (x : ServerChannel) (octets piece : List ℕ) (n : ℕ) (told : List To
     frames = g.frames;
     rest = g.rest ++ take n piece;
     run = run_refused (rules_of x) octets g.rest (take n piece) n g.frames f code g.stands.run (ap (λ (z : List ℕ). g.rest ++ z) (take-take n n piece (omega arith)) ∙ at.octets) at.sized at.let_in why;
-    just = AtFrame f at.octets;
+    stops = inr (record { frame = f; more = []; parts = at.octets ∙ sym (append-nil (frame_octets f)); sized = at.sized; let_in = at.let_in; refused = why }, refl);
     told_is = g.told_is;
     bound_is = bound ∙ g.stands.holds.bound_is;
   }
@@ -211,7 +211,7 @@ module _ (x : ServerChannel) (octets piece : List ℕ) (told : List Told) (r : R
         frames = g.frames;
         rest = g.rest ++ take n piece;
         run = run_header (rules_of x) octets g.rest (take n piece) g.frames fault code code g.stands.run (omega (arith, eight)) wrong code_is refl;
-        just = AtHeader eight;
+        stops = inl (record { fault = fault; code = code; whole = omega (arith, eight); fault_is = wrong; code_is = code_is; why_is = refl }, eight);
         told_is = g.told_is;
         bound_is = g.stands.holds.bound_is;
       }

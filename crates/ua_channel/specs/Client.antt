@@ -1,5 +1,5 @@
 -- Where a client's channel stands after octets and asks, and what it answers when it is asked.
-use Rattle.std.specs.Prelude.{◌≡◌, ℕ, ◌≤◌, ◌+◌, ◌*◌, ◌⊎◌, length, List, [], ◌∷◌, ◌++◌, Option, Some, None, Result, Ok, Err}
+use Rattle.std.specs.Prelude.{◌≡◌, ℕ, ◌≤◌, ◌+◌, ◌*◌, length, List, [], ◌∷◌, ◌++◌, Option, Some, None, Result, Ok, Err}
 use Rattle.std.specs.List.{AllByRecursion}
 use Rattle.ua_builtin.specs.Reasons.{first_reason}
 use Rattle.ua_builtin.specs.declared.date_time.DateTime.{DateTime}
@@ -8,13 +8,14 @@ use Rattle.ua_frame.specs.declared.frame.Frame.{Frame}
 use Rattle.ua_frame.specs.declared.gate.Gate.{Gate}
 use Rattle.ua_frame.specs.declared.limits.Limits.{Limits}
 use Rattle.ua_frame.specs.Reader.{open_reader}
-use Rattle.ua_frame.specs.Run.{Rules, Run, Going, Stopped, WrongHeader, WrongFrame, events}
+use Rattle.ua_frame.specs.Run.{Rules, Run, Going, Stopped, events}
 use Rattle.ua_chunk.specs.Open.{open_octets}
 use Rattle.ua_channel.specs.Asks.{Asking, Placed, asked_in}
 use Rattle.ua_channel.specs.ClientAsks.{Talks, ask_reasons, renew_reasons, Calls, Renews, closing_octets}
 use Rattle.ua_channel.specs.ClientTable.{client_gate, client_rules, ack_gate, answer_gate, reply_gate}
 use Rattle.ua_channel.specs.ClientTold.{Told, Why}
 use Rattle.ua_channel.specs.Received.{Received, received, nothing_received}
+use Rattle.ua_channel.specs.Stops.{StopsAt}
 use Rattle.ua_channel.specs.declared.client.channel.ClientChannel.{ClientChannel}
 use Rattle.ua_channel.specs.declared.client.fault.AskFault.{AskFault}
 use Rattle.ua_channel.specs.declared.client.fault.AskFault.TheVariants.{NotOpen}
@@ -109,10 +110,6 @@ pub record GoesTelling (x : ClientChannel) (asks : List Placed) (octets : List �
   pub stands : Stands x asks octets (frames ++ frame ∷ []) []
   pub told_is : events (rules_of x asks) frames ≡ told
   pub tells : (rules_of x asks).tells frames frame ≡ e ∷ []
-
--- octets stop at what is refused: at the eighth octet of a header, or at the end of a frame
-abbrev pub StopsAt : Rules Told Why → List Frame → List ℕ → Why → Type 0
-StopsAt R frames rest why = (WrongHeader R frames rest why × (length rest ≡ 8)) ⊎ ((wrong : WrongFrame R frames rest why) × (wrong.more ≡ []))
 
 -- it ended after these asks and octets, whose good frames told this, and what stands behind them is refused for this
 pub record Ended (x : ClientChannel) (asks : List Placed) (octets : List ℕ) (told : List Told) (why : Why) : Type 0 where

@@ -1,8 +1,9 @@
 -- The definitions, in the order in which they are best read: what one frame carries, and what the frames so far have brought.
 pub mod Content
 pub mod Received
--- Why either end refuses a frame.
+-- Why either end refuses a frame, and where octets stop at what is refused.
 pub mod Refusals
+pub mod Stops
 -- A server: what it agrees to, what frames tell it, which it refuses, and which come next; what it sends; where it stands, and what
 -- it answers. Last what its parts make of a frame.
 pub mod Agreement
@@ -11,6 +12,7 @@ pub mod ServerRefusals
 pub mod ServerRules
 pub mod ServerSends
 pub mod ServerPlaces
+pub mod ServerMessages
 pub mod ServerStands
 pub mod ServerAnswers
 pub mod ServerParts

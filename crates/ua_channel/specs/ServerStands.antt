@@ -4,7 +4,6 @@ use Rattle.ua_frame.specs.declared.frame.Frame.{Frame}
 use Rattle.ua_frame.specs.declared.gate.Gate.{Gate}
 use Rattle.ua_frame.specs.declared.hello.Hello.{Hello}
 use Rattle.ua_frame.specs.declared.limits.Limits.{Limits}
-use Rattle.ua_frame.specs.Frames.{frame_octets}
 use Rattle.ua_frame.specs.Hello.{hello_gate}
 use Rattle.ua_frame.specs.Kinds.{closed_gate}
 use Rattle.ua_frame.specs.Reader.{open_reader}
@@ -23,6 +22,7 @@ use Rattle.ua_channel.specs.Received.{Received, nothing_received, after, receive
 use Rattle.ua_channel.specs.ServerParts.{HasGreeted, Stays, Takes, IsRefused}
 use Rattle.ua_channel.specs.ServerRules.{receive_size, opening_gate, running_gate, server_gate, server_rules}
 use Rattle.ua_channel.specs.ServerTold.{Told}
+use Rattle.ua_channel.specs.Stops.{StopsAt}
 
 -- ---- what is held
 
@@ -144,18 +144,13 @@ pub record ClosedAt (x : ServerChannel) (octets : List ℕ) (told : List Told) :
   pub told_is : events (rules_of x) frames ≡ told
   pub bound_is : x.bound ≡ bound_after (limits_of x) (received frames)
 
--- octets are a whole frame, or the eight octets of a header
-pub data IsJustWrong : List ℕ → Type 0 where
-  AtHeader : {rest : List ℕ} → length rest ≡ 8 → IsJustWrong rest
-  AtFrame : {rest : List ℕ} → (f : Frame) → rest ≡ frame_octets f → IsJustWrong rest
-
--- it refused with this code what stands behind the good frames of these octets: a frame at its last octet, or a header at its eighth
+-- it refused with this code what stands behind the good frames of these octets: a header at its eighth octet, or a frame at its last
 pub record RefusedAt (x : ServerChannel) (octets : List ℕ) (told : List Told) (code : ℕ) : Type 0 where
   pub done : IsDone x
   pub frames : List Frame
   pub rest : List ℕ
   pub run : Run (rules_of x) octets frames rest (Stopped code)
-  pub just : IsJustWrong rest
+  pub stops : StopsAt (rules_of x) frames rest code
   pub told_is : events (rules_of x) frames ≡ told
   pub bound_is : x.bound ≡ bound_after (limits_of x) (received frames)
 

@@ -2,19 +2,21 @@
 //!
 //! Each function does nothing; its contract is the law.
 
-ghost use Rattle.std.specs.Prelude.{◌≡◌, ◌↔◌, ◌∷◌, ◌++◌, [], ℕ, List, None, Some};
+ghost use Rattle.std.specs.Prelude.{◌≡◌, ◌↔◌, ◌∷◌, ◌++◌, [], ℕ, List, None, Some, map};
 ghost use Rattle.ua_frame.specs.After.{AllAfter};
 ghost use Rattle.ua_frame.specs.FirstWrong.{FirstWrong};
 ghost use Rattle.ua_frame.specs.Frames.{Frames};
-ghost use Rattle.ua_frame.specs.Run.{Fits, Going, Over, Run};
+ghost use Rattle.ua_frame.specs.Run.{Fits, Going, Over, Run, events};
 ghost use Rattle.ua_frame.specs.Laws.{HasOneReading, HasReadings, StopsAtFirstWrong};
 ghost use Rattle.ua_frame.specs.declared.frame.Frame.{Frame};
 ghost use Rattle.ua_frame.specs.declared.limits.Limits.{Limits};
+ghost use Rattle.ua_chunk.specs.Delivered.{delivered};
 ghost use Rattle.ua_chunk.specs.declared.lane.Lane.{Lane};
 ghost use Rattle.ua_channel.specs.Agreement.{Agreement, lane_of};
 ghost use Rattle.ua_channel.specs.Content.{content};
 ghost use Rattle.ua_channel.specs.Conversation.{Continues, HasEnded, IsConversation, ServerConversation};
 ghost use Rattle.ua_channel.specs.Received.{after, nothing_received, received};
+ghost use Rattle.ua_channel.specs.ServerMessages.{message_of, messages_in};
 ghost use Rattle.ua_channel.specs.ServerPlaces.{agreed_by};
 ghost use Rattle.ua_channel.specs.ServerRules.{server_rules};
 ghost use Rattle.ua_channel.specs.ServerSends.{RepliesGo};
@@ -69,6 +71,13 @@ pub fn server_is_open()
     ensures done { (x : ServerChannel) → IsDone x → IsNotOpen x }
     ensures asked { (x : ServerChannel) (octets : List ℕ) (before : List Told) (id token : ℕ) (message : List ℕ) →
         GoesTelling x octets before (told.Asked id token message) → IsNotOpen x → ⊥ }
+{}
+
+/// The messages of which frames tell a server, whole or given up, are those that their chunks
+/// deliver, in that order.
+pub fn server_tells_delivered()
+    ensures { (limits : Limits) (channel : ℕ) (frames : List Frame) →
+        messages_in (events (server_rules limits channel) frames) ≡ map message_of (delivered (received frames).messages) }
 {}
 
 /// The frames that a server takes, one after the other, are just those of a conversation in plain

@@ -374,6 +374,7 @@ impl ServerChannel {
             → IsErrOf result NotOpen ↔ ((received frames).openings ≡ []) }
         ensures closed { IsDone self.old → (result ≡ Err NotOpen) × (self.new ≡ self.old) }
         ensures failed { IsErrOf result OutOfMemory → IsDone self.new }
+        ensures bound { bound_of self.new ≡ bound_of self.old }
         ensures limits { limits_of self.new ≡ limits_of self.old }
         ensures channel { channel_of self.new ≡ channel_of self.old }
     {
