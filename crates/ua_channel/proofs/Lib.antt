@@ -4,6 +4,7 @@ pub mod Openings
 pub mod Runs
 pub mod Frames
 pub mod Phases
+mod ServerMessages
 pub mod Servers
 pub mod Pieces
 pub mod Starts

@@ -21,7 +21,7 @@ use Rattle.ua_channel.specs.ServerTold.{Told, issued, opened_by, request_of, ser
 use Rattle.ua_channel.specs.ServerTold.Told.{Asked, GaveUp}
 use Rattle.ua_channel.proofs.OneFrameMore.{received-push, received-nil}
 
-Message : Type 0
+abbrev Message : Type 0
 Message = ℕ × Option (List ℕ)
 
 items_in : (token : ℕ) (items : List Item) → messages_in (map (told_item token) items) ≡ map message_of items
