@@ -4,4 +4,6 @@ mod Identities
 mod Statuses
 mod Replies
 mod SaidInParts
-mod Lanes
+mod Steps
+mod Passing
+mod Events

@@ -5,3 +5,5 @@ pub mod Attributes
 pub mod Answer
 pub mod Reply
 pub mod Said
+pub mod Stepping
+pub mod Served

@@ -95,15 +95,6 @@ said channel s told end moments = said_of channel (start s moments) told ++ last
 unfoldable pub left : ℕ → State → List Told → List DateTime → Course
 left channel s told moments = left_by channel (start s moments) told
 
--- what was agreed to last, behind what is told
-abbrev pub agreed_by : Option Agreement → List Told → Option Agreement
-agreed_by a [] = a
-agreed_by a (Agreed agreement ∷ told) = agreed_by (Some agreement) told
-agreed_by a (Opened id handle token lifetime ∷ told) = agreed_by a told
-agreed_by a (Asked id token octets ∷ told) = agreed_by a told
-agreed_by a (GaveUp id ∷ told) = agreed_by a told
-agreed_by a (Closed ∷ told) = agreed_by a told
-
 -- ---- moments
 
 -- how many moments this uses: an OPN response and a reply use one each

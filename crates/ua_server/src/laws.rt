@@ -1,16 +1,10 @@
 //! Laws of what a server says, each carried by a function without a body.
 
-ghost use Rattle.std.specs.Prelude.{◌≡◌, ◌≤◌, ◌++◌, ◌∷◌, [], ℕ, List, length, None, Some};
+ghost use Rattle.std.specs.Prelude.{◌≡◌, ◌≤◌, ◌++◌, ◌∷◌, [], ℕ, List, length};
 ghost use Rattle.ua_builtin.specs.declared.date_time.DateTime.{DateTime};
-ghost use Rattle.ua_chunk.specs.declared.lane.Lane.{Lane};
-ghost use Rattle.ua_frame.specs.Run.{End, Going, events};
-ghost use Rattle.ua_frame.specs.declared.frame.Frame.{Frame};
-ghost use Rattle.ua_frame.specs.declared.limits.Limits.{Limits};
-ghost use Rattle.ua_channel.specs.Received.{received};
-ghost use Rattle.ua_channel.specs.ServerRules.{server_rules};
-ghost use Rattle.ua_channel.specs.ServerSends.{RepliesGo};
-ghost use Rattle.ua_channel.specs.ServerTold.{Told, Asked};
-ghost use Rattle.ua_server.specs.Said.{with_more, lane_at, said_of, left_by, last_words, said, left, agreed_by, used_in};
+ghost use Rattle.ua_frame.specs.Run.{End, Going};
+ghost use Rattle.ua_channel.specs.ServerTold.{Told};
+ghost use Rattle.ua_server.specs.Said.{with_more, said_of, left_by, last_words, said, left, used_in};
 ghost use Rattle.ua_server.specs.State.{State};
 
 /// What is said of what is told in two parts is said of the first, and then of the second from where
@@ -27,11 +21,4 @@ pub fn later_moments_change_nothing_before()
         → left channel s told (moments ++ more) ≡ with_more (left channel s told moments) more }
     ensures said { (channel : ℕ) (s : State) (told : List Told) (end : End ℕ) (moments more : List DateTime) → used_in told ≤ length moments
         → said channel s told end (moments ++ more) ≡ said channel s told end moments }
-{}
-
-/// A reply goes to the client that was agreed with, under the token that its message used.
-pub fn replies_go_where_was_agreed()
-    ensures { (limits : Limits) (channel : ℕ) (frames : List Frame) (frame : Frame) (id token : ℕ) (octets : List ℕ) (lane : Lane)
-        → (server_rules limits channel).tells frames frame ≡ Asked id token octets ∷ [] → RepliesGo limits channel (received (frames ++ frame ∷ [])) lane
-        → lane_at channel token (agreed_by None (events (server_rules limits channel) (frames ++ frame ∷ []))) ≡ Some lane }
 {}

@@ -1,21 +1,21 @@
-//! A server's answers: endpoints, one session, and the items of Read and Write (OPC 10000-4, 5.5, 5.7
-//! and 5.11).
+//! A server on one connection, and its answers: endpoints, one session, and the items of Read and
+//! Write (OPC 10000-4, 5.5, 5.7 and 5.11), with no IO.
 //!
-//! Its contract is that of [`Services::answer`]: the response and the state that it leaves are a
-//! function of the state before, the moment and the request. Each response can be encoded.
+//! Its contract is that of [`Server::step`]: whatever the pieces in which a client's octets come, what
+//! is to be sent is a stated function of all that came, of the state before the connection and of the
+//! moments. Below it stands [`Services::answer`]: the response to one request, and the state that it
+//! leaves.
 //!
 //! ```
 //! let nodes = NodeTable::load(alloc, "ns=1;s=Pump\trw\tPump\tInt32\t5\n")?;
 //! let mut services = Services::new(nodes, endpoint);
 //! services.begin(); // a connection begins: there is no session
-//! let response = match read_request(alloc, &mut src) {
-//!     Ok(request) => services.answer(alloc, request, moment)?, // after an error nothing changed
-//!     Err(RequestFault::Unsupported(handle)) => {
-//!         services.fault(handle, StatusCode::BAD_SERVICE_UNSUPPORTED, moment)
-//!     }
-//!     Err(fault) => return Err(fault.into()),
-//! };
-//! write_response(&response, &mut out)?; // never `NotWritable`
+//! let mut server = Server::new(alloc, limits, channel_id);
+//! let step = server.step(&mut services, piece, moment)?; // then go on with &piece[step.taken..]
+//! write(&step.out);
+//! if let Some(End::Closed) = step.end {
+//!     hang_up();
+//! }
 //! ```
 #![tactic(auto)]
 
@@ -23,9 +23,13 @@ mod attributes;
 mod endpoint;
 pub mod laws;
 mod reply;
+mod server;
 mod services;
 mod session;
 mod sessions;
+mod step;
 
 pub use endpoint::Endpoint;
+pub use server::Server;
 pub use services::Services;
+pub use step::{End, Step, StepFault};

@@ -1,0 +1,25 @@
+use Rattle.std.proofs.Common.{◌≡◌, Ok, Err}
+use Rattle.ua_channel.specs.ServerStands.{channel_of}
+use Rattle.ua_server.specs.Served.{channel_in}
+use Rattle.ua_server.proofs.Events.{answered-behind, ended-with}
+use Rattle.ua_server.proofs.server.Server.advance.Goals as goal
+
+pub returns-in-Ok-clause-answers : goal.returns-in-Ok-clause-answers
+returns-in-Ok-clause-answers c = λ octets told first moments s.
+    c.answer.ensures.answers (channel_in c.args.self.now) c.args.piece.now octets told first moments
+    (answered-behind (channel_in c.args.self.now) c.next_answered-taken.new.channel c.args.moment c.args.piece.now c.next_answered-taken.result.0 octets told first moments c.args.services.now
+    c.next_answered-taken.result.1 (Ok c.in-Ok.event) c.in-Ok.is s c.next_answered-taken.ensures.limits c.next_answered-taken.ensures.channel (c.next_answered-taken.ensures.answers octets told s.goes))
+
+pub returns-in-Ok-refusal-clause-answers : goal.returns-in-Ok-refusal-clause-answers
+returns-in-Ok-refusal-clause-answers c = λ octets told first moments s.
+    let there = answered-behind (channel_in c.args.self.now) c.next_answered-taken.new.channel c.args.moment c.args.piece.now c.next_answered-taken.result.0 octets told first moments c.args.services.now
+    c.next_answered-taken.result.1 (Err c.in-Err.fault) c.in-Err.is s c.next_answered-taken.ensures.limits c.next_answered-taken.ensures.channel (c.next_answered-taken.ensures.answers octets told s.goes) in
+    ended-with (channel_of (channel_in c.args.self.now)) c.args.moment c.args.piece.now c.in-Ok-refusal.step.end c.in-Ok-refusal.step.taken c.in-Ok-refusal.step.out.items c.next_answered-taken.new.channel octets told first moments c.args.services.now c.args.services.now
+    c.in-Ok-refusal.ensures.taken.1
+    (c.in-Ok-refusal.ensures.answers (channel_in c.args.self.now) c.next_answered-taken.new.channel c.args.moment c.args.piece.now octets told first moments c.args.services.now there)
+
+pub returns-in-Err-refusal-clause-answers : goal.returns-in-Err-refusal-clause-answers
+returns-in-Err-refusal-clause-answers c = λ octets told first moments s.
+    let there = answered-behind (channel_in c.args.self.now) c.next_answered-taken.new.channel c.args.moment c.args.piece.now c.next_answered-taken.result.0 octets told first moments c.args.services.now
+    c.next_answered-taken.result.1 (Err c.in-Err.fault) c.in-Err.is s c.next_answered-taken.ensures.limits c.next_answered-taken.ensures.channel (c.next_answered-taken.ensures.answers octets told s.goes) in
+    c.in-Err-refusal.ensures.answers (channel_in c.args.self.now) c.next_answered-taken.new.channel c.args.moment c.args.piece.now octets told first moments c.args.services.now there

@@ -1,0 +1,46 @@
+use Rattle.std.proofs.Common.{◌≡◌, ◌++◌, ℕ, List, None, Some, Ok, refl, take}
+use Rattle.ua_channel.specs.declared.server_event.ServerEvent.TheVariants as event
+use Rattle.ua_channel.specs.ServerStands.{limits_of, channel_of}
+use Rattle.ua_server.specs.Served.{channel_in}
+use Rattle.ua_server.specs.Stepping.{given_up}
+use Rattle.ua_server.specs.declared.step.End.TheVariants as ending
+use Rattle.ua_server.specs.declared.step.Step.{Step}
+use Rattle.ua_server.proofs.Events.{at-event, silently, saying, breaks-by, on-quiet, on-send, on-reply, on-break, on-close}
+use Rattle.ua_server.proofs.server.Server.answer.Goals as goal
+
+pub returns-in-NeedMore-clause-answers : goal.returns-in-NeedMore-clause-answers
+returns-in-NeedMore-clause-answers c = λ old piece octets told first moments b.
+    silently old (channel_in c.args.self.now) c.args.moment piece c.args.taken octets told first moments c.args.services.now c.silent.result None c.silent.ensures.taken c.silent.ensures.out c.silent.ensures.end
+    (λ out none. on-quiet old (channel_in c.args.self.now) c.args.moment piece c.args.taken octets told first moments c.args.services.now
+    (at-event old (channel_in c.args.self.now) c.args.moment piece c.args.taken octets told first moments c.args.services.now c.args.event event.NeedMore c.in-NeedMore.is b) out none)
+
+pub returns-in-Send-clause-answers : goal.returns-in-Send-clause-answers
+returns-in-Send-clause-answers c = λ old piece octets told first moments b.
+    let said : Step = record { taken = c.args.taken; out = c.in-Send.out; end = None } in
+    saying old (channel_in c.args.self.now) c.args.moment piece c.args.taken octets told first moments c.args.services.now c.saying.result said (channel_in c.args.self.now) c.args.services.now c.saying.ensures
+    (on-send old (channel_in c.args.self.now) c.args.moment piece c.args.taken octets told first moments c.args.services.now c.in-Send.out
+    (at-event old (channel_in c.args.self.now) c.args.moment piece c.args.taken octets told first moments c.args.services.now c.args.event (event.Send c.in-Send.out) c.in-Send.is b))
+
+pub returns-in-Ok-clause-answers : goal.returns-in-Ok-clause-answers
+returns-in-Ok-clause-answers c = λ old piece octets told first moments b.
+    let said : Step = record { taken = c.args.taken; out = c.in-Ok.out; end = None } in
+    let there = at-event old (channel_in c.args.self.now) c.args.moment piece c.args.taken octets told first moments c.args.services.now c.args.event (event.Asked c.in-Asked.id c.in-Asked.message) c.in-Asked.is b in
+    saying old (channel_in c.args.self.now) c.args.moment piece c.args.taken octets told first moments c.args.services.now c.saying-in-Ok.result said c.reply_to.new.channel c.reply_to.new.services c.saying-in-Ok.ensures
+    (on-reply old (channel_in c.args.self.now) c.args.moment piece c.args.taken octets told first moments c.args.services.now c.reply_to.new.channel c.in-Asked.id c.in-Asked.message c.in-Ok.out.items c.reply_to.new.services there
+    c.reply_to.ensures.channel (c.in-Ok.ensures.sent (octets ++ take c.args.taken piece) (told ++ given_up there.quiet) there.answers.1.0.token there.answers.1.0.goes) c.in-Ok.ensures.state)
+
+pub returns-in-Err-clause-answers : goal.returns-in-Err-clause-answers
+returns-in-Err-clause-answers c = λ old piece octets told first moments b.
+    let there = at-event old (channel_in c.args.self.now) c.args.moment piece c.args.taken octets told first moments c.args.services.now c.args.event (event.Asked c.in-Asked.id c.in-Asked.message) c.in-Asked.is b in
+    let failed = c.in-Err.ensures.failed (octets ++ take c.args.taken piece) (told ++ given_up there.quiet) there.answers.1.0.token there.answers.1.0.goes in
+    breaks-by (limits_of old) (channel_of old) c.args.moment piece c.in-Err.fault c.reply_to.new.channel octets told first moments c.args.services.now c.reply_to.new.services failed.0
+    (on-break old (channel_in c.args.self.now) c.args.moment piece c.args.taken octets told first moments c.args.services.now c.reply_to.new.channel c.in-Asked.id c.in-Asked.message c.reply_to.new.services there failed.1 c.in-Err.ensures.broken)
+
+pub returns-in-Closed-clause-answers : goal.returns-in-Closed-clause-answers
+returns-in-Closed-clause-answers c = λ old piece octets told first moments b.
+    silently old (channel_in c.args.self.now) c.args.moment piece c.args.taken octets told first moments c.args.services.now c.silent-in-Closed.result (Some ending.Closed) c.silent-in-Closed.ensures.taken c.silent-in-Closed.ensures.out c.silent-in-Closed.ensures.end
+    (λ out none. (
+      on-close old (channel_in c.args.self.now) c.args.moment piece c.args.taken octets told first moments c.args.services.now
+          (at-event old (channel_in c.args.self.now) c.args.moment piece c.args.taken octets told first moments c.args.services.now c.args.event event.Closed c.in-Closed.is b) out none,
+      refl,
+    ))

@@ -1,0 +1,5 @@
+use Rattle.ua_server.proofs.Steps.{stands-first}
+use Rattle.ua_server.proofs.server.Server.new.Goals as goal
+
+pub returns-clause-stands : goal.returns-clause-stands
+returns-clause-stands c = stands-first c.new.result c.new.ensures.goes c.new.ensures.next

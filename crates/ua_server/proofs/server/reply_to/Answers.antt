@@ -1,0 +1,26 @@
+use Rattle.std.proofs.Common.{rules, Vec, Global, ◌≡◌, ◌++◌, ◌∷◌, [], ℕ, List, Result, Err, ap, subst}
+use Rattle.std.specs.List.{concat}
+use Rattle.ua_services.specs.Response.{response}
+use Rattle.ua_channel.proofs.Opened.{server_asked}
+use Rattle.ua_channel.specs.ServerPlaces.{agreed_by}
+use Rattle.ua_channel.specs.ServerStands.{channel_of, next_of}
+use Rattle.ua_channel.specs.ServerTold.{Asked}
+use Rattle.ua_channel.specs.declared.server_fault.ReplyFault.{ReplyFault}
+use Rattle.ua_server.specs.Reply.{answered}
+use Rattle.ua_server.specs.Stepping.{IsReplyAt}
+use Rattle.ua_server.proofs.Events.{telling-on, replied-there}
+use Rattle.ua_server.proofs.server.reply_to.Goals as goal
+
+pub returns-in-Ok-reply-clause-sent : goal.returns-in-Ok-reply-clause-sent
+returns-in-Ok-reply-clause-sent c = λ octets before token g.
+    let sent = c.in-Ok-reply.ensures.sent octets (g.frames ++ g.frame ∷ []) [] g.stands in
+    let body : c.deref.result.now ≡ response.canonical (answered c.args.services.now c.args.moment (concat c.args.message)).1 = search rules in (
+      telling-on c.args.channel.now c.reply.new.self octets before (Asked c.args.id token (concat c.args.message)) g c.reply.ensures.limits c.reply.ensures.channel (c.in-Ok-reply.ensures.stands octets (g.frames ++ g.frame ∷ []) [] g.stands),
+      subst (λ (b : List ℕ). IsReplyAt (channel_of c.args.channel.now) token (agreed_by before) b (next_of c.args.channel.now) c.args.id c.in-Ok-reply.out.items (next_of c.reply.new.self)) body
+          (replied-there c.args.channel.now octets before c.args.id token (concat c.args.message) g sent.0 c.deref.result.now c.in-Ok-reply.out.items (next_of c.reply.new.self) sent.1 sent.2),
+    )
+
+pub returns-clause-failed : goal.returns-clause-failed
+returns-clause-failed c = λ octets before token g.
+    let not_open : ReplyFault → Result (Vec ℕ Global) ReplyFault = λ f. Err f in
+    absurd (server_asked c.args.channel.now octets before c.args.id token (concat c.args.message) g (c.in-Err-NotOpen.ensures.not_open.0 (ap not_open c.in-Err-NotOpen.field-0-is)))

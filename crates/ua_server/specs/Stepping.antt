@@ -1,0 +1,163 @@
+-- Where a server stands after octets, and what a step answers.
+use Rattle.std.specs.Prelude.{◌≡◌, ◌⊎◌, ℕ, ◌<◌, ◌≤◌, Bool, true, false, IsTrue, List, [], ◌∷◌, ◌++◌, map, replicate, take, length, Option, None, Some, Result, Ok, Err}
+use Rattle.ua_builtin.specs.declared.date_time.DateTime.{DateTime}
+use Rattle.ua_frame.specs.Run.{Going, Run, Stopped, Over, events}
+use Rattle.ua_frame.specs.declared.frame.Frame.{Frame}
+use Rattle.ua_frame.specs.declared.limits.Limits.{Limits}
+use Rattle.ua_channel.specs.Agreement.{Agreement}
+use Rattle.ua_channel.specs.Received.{has_some}
+use Rattle.ua_channel.specs.ServerAnswers.{AnswersAt}
+use Rattle.ua_channel.specs.ServerRules.{server_rules}
+use Rattle.ua_channel.specs.ServerStands.{limits_of, channel_of, next_of, IsDone, Goes, GoesTelling, ClosedAt, RefusedAt}
+use Rattle.ua_channel.specs.ServerTold.{Told, GaveUp, Asked, Closed}
+use Rattle.ua_channel.specs.declared.server.ServerChannel.{ServerChannel}
+use Rattle.ua_channel.specs.declared.server_event.ServerEvent.{ServerEvent}
+use Rattle.ua_channel.specs.declared.server_event.ServerEvent.TheVariants as event
+use Rattle.ua_channel.specs.declared.server_fault.ChannelFault.{ChannelFault}
+use Rattle.ua_server.specs.Reply.{answered}
+use Rattle.ua_server.specs.Said.{is_answered, lane_at, left, replied_at, said, used_in}
+use Rattle.ua_server.specs.State.{State}
+use Rattle.ua_server.specs.declared.step.End.{End as Ending}
+use Rattle.ua_server.specs.declared.step.End.TheVariants as ending
+use Rattle.ua_server.specs.declared.step.Step.{Step}
+use Rattle.ua_server.specs.declared.step.StepFault.{StepFault}
+use Rattle.ua_server.specs.declared.step.StepFault.TheVariants as step_fault
+
+-- ---- where a server stands
+
+-- a server stands after these octets, which told this: its services were in the first state as the connection began and are in this one
+-- now, the chunk that it sends next has the number that is due, and each of the moments was used
+pub record Stands (x : ServerChannel) (octets : List ℕ) (told : List Told) (first : State) (moments : List DateTime) (now : State) : Type 0 where
+  pub goes : Goes x octets told
+  pub state_is : (left (channel_of x) first told moments).state ≡ now
+  pub number_is : (left (channel_of x) first told moments).number ≡ next_of x
+  pub used : length moments ≡ used_in told
+
+-- ---- what a step answers
+
+-- these messages were given up
+abbrev pub given_up : List ℕ → List Told
+given_up ids = map GaveUp ids
+
+-- the moments that this uses: an OPN response and a reply use one each
+abbrev pub spent : List Told → DateTime → List DateTime
+spent more moment = replicate (used_in more) moment
+
+-- where a step stops: nothing is answered, and the whole piece is taken; or the last octet is that of the frame that is answered
+abbrev pub Stops : ServerChannel → List ℕ → List ℕ → ℕ → List ℕ → List Told → List Told → Type 0
+Stops new octets piece n out before [] = (n ≡ length piece) × (out ≡ [])
+Stops new octets piece n out before (t ∷ []) = (0 < n) × (n ≤ length piece) × IsTrue (is_answered t) × GoesTelling new (octets ++ take n piece) before t
+Stops new octets piece n out before (t ∷ (u ∷ more)) = ⊥
+
+-- it goes on: what was taken told that messages were given up, and then at most one thing more, which is answered; what is said of that is
+-- what it says
+pub record StepGoes (channel : ℕ) (moment : DateTime) (piece : List ℕ) (n : ℕ) (out : List ℕ) (new : ServerChannel) (octets : List ℕ) (told : List Told) (first : State) (moments : List DateTime) (now : State) : Type 0 where
+  pub quiet : List ℕ
+  pub more : List Told
+  pub stops : Stops new octets piece n out (told ++ given_up quiet) more
+  pub stands : Stands new (octets ++ take n piece) ((told ++ given_up quiet) ++ more) first (moments ++ spent more moment) now
+  pub out_is : said channel first ((told ++ given_up quiet) ++ more) Going (moments ++ spent more moment) ≡ said channel first told Going moments ++ out
+
+-- it ended at the last octet of a CLO, without a word
+pub record StepCloses (channel : ℕ) (piece : List ℕ) (n : ℕ) (out : List ℕ) (new : ServerChannel) (octets : List ℕ) (told : List Told) (first : State) (moments : List DateTime) (before now : State) : Type 0 where
+  pub quiet : List ℕ
+  pub some : (0 < n) × (n ≤ length piece)
+  pub closed : ClosedAt new (octets ++ take n piece) ((told ++ given_up quiet) ++ Closed ∷ [])
+  pub state_is : now ≡ before
+  pub left_is : (left channel first ((told ++ given_up quiet) ++ Closed ∷ []) moments).state ≡ now
+  pub silent : out ≡ []
+  pub out_is : said channel first ((told ++ given_up quiet) ++ Closed ∷ []) Over moments ≡ said channel first told Going moments ++ out
+
+-- it refused what stands there, and its last word is the ERR frame
+pub record StepRefuses (channel : ℕ) (code : ℕ) (piece : List ℕ) (n : ℕ) (out : List ℕ) (new : ServerChannel) (octets : List ℕ) (told : List Told) (first : State) (moments : List DateTime) (before now : State) : Type 0 where
+  pub quiet : List ℕ
+  pub within : n ≤ length piece
+  pub refused : RefusedAt new (octets ++ take n piece) (told ++ given_up quiet) code
+  pub state_is : now ≡ before
+  pub left_is : (left channel first (told ++ given_up quiet) moments).state ≡ now
+  pub out_is : said channel first (told ++ given_up quiet) (Stopped code) moments ≡ said channel first told Going moments ++ out
+
+-- within this piece, behind messages that were given up, ends a frame that tells of this whole message
+pub record EndsMessage (limits : Limits) (channel : ℕ) (piece : List ℕ) (octets : List ℕ) (told : List Told) (message : List ℕ) : Type 0 where
+  pub n : ℕ
+  pub within : n ≤ length piece
+  pub quiet : List ℕ
+  pub id : ℕ
+  pub token : ℕ
+  pub frames : List Frame
+  pub frame : Frame
+  pub run : Run (server_rules limits channel) (octets ++ take n piece) (frames ++ frame ∷ []) [] Going
+  pub told_is : events (server_rules limits channel) frames ≡ told ++ given_up quiet
+  pub tells : (server_rules limits channel).tells frames frame ≡ Asked id token message ∷ []
+
+-- the state that the first whole message of the piece leaves
+pub record LeftByMessage (limits : Limits) (channel : ℕ) (moment : DateTime) (piece : List ℕ) (octets : List ℕ) (told : List Told) (before now : State) : Type 0 where
+  pub message : List ℕ
+  pub ends : EndsMessage limits channel piece octets told message
+  pub now_is : now ≡ (answered before moment message).0
+
+-- it failed for want of memory: the state is as it was, or that which the first whole message of the piece leaves
+abbrev pub StepBreaks : Limits → ℕ → DateTime → List ℕ → ServerChannel → List ℕ → List Told → State → State → Type 0
+StepBreaks limits channel moment piece new octets told before now = IsDone new × ((now ≡ before) ⊎ LeftByMessage limits channel moment piece octets told before now)
+
+-- by how the connection ended, if it did
+abbrev pub StepBy : ℕ → DateTime → List ℕ → Option Ending → ℕ → List ℕ → ServerChannel → List ℕ → List Told → State → List DateTime → State → State → Type 0
+StepBy channel moment piece None n out new octets told first moments before now = StepGoes channel moment piece n out new octets told first moments now
+StepBy channel moment piece (Some ending.Closed) n out new octets told first moments before now = StepCloses channel piece n out new octets told first moments before now
+StepBy channel moment piece (Some (ending.Refused code)) n out new octets told first moments before now = StepRefuses channel code.code piece n out new octets told first moments before now
+StepBy channel moment piece (Some ending.NoClose) n out new octets told first moments before now = ⊥
+StepBy channel moment piece (Some ending.Cut) n out new octets told first moments before now = ⊥
+
+-- what a step answers to a piece at a moment, where the server stands after octets
+abbrev pub StepAnswers : Limits → ℕ → DateTime → List ℕ → Result Step StepFault → ServerChannel → List ℕ → List Told → State → List DateTime → State → State → Type 0
+StepAnswers limits channel moment piece (Ok step) new octets told first moments before now = StepBy channel moment piece step.end step.taken step.out.items new octets told first moments before now
+StepAnswers limits channel moment piece (Err step_fault.OutOfMemory) new octets told first moments before now = StepBreaks limits channel moment piece new octets told before now
+StepAnswers limits channel moment piece (Err step_fault.Closed) new octets told first moments before now = ⊥
+
+-- what a step takes is within the piece, and is something, where the connection goes on, unless the piece is empty
+abbrev pub Takes : List ℕ → Step → Type 0
+Takes piece step = (step.taken ≤ length piece) × (step.end ≡ None → 0 < length piece → 0 < step.taken)
+
+-- ---- inside
+
+-- a message was given up
+abbrev pub is_given_up : Result ServerEvent ChannelFault → Bool
+is_given_up (Ok (event.Aborted id)) = true
+is_given_up (Ok event.NeedMore) = false
+is_given_up (Ok (event.Send sent)) = false
+is_given_up (Ok (event.Asked id message)) = false
+is_given_up (Ok event.Closed) = false
+is_given_up (Err f) = false
+
+-- what is answered behind messages that were given up
+pub record AnswersBehind (channel number : ℕ) (moment : DateTime) (piece : List ℕ) (n : ℕ) (answer : Result ServerEvent ChannelFault) (new : ServerChannel) (octets : List ℕ) (before : List Told) : Type 0 where
+  pub quiet : List ℕ
+  pub answers : AnswersAt channel number moment piece n answer new octets (before ++ given_up quiet)
+
+-- the server stood there, and its channel answered this to the first octets of the piece, behind messages that were given up
+pub record AnsweredBehind (old : ServerChannel) (moment : DateTime) (piece : List ℕ) (n : ℕ) (answer : Result ServerEvent ChannelFault) (mid : ServerChannel) (octets : List ℕ) (told : List Told) (first : State) (moments : List DateTime) (before : State) : Type 0 where
+  pub stands : Stands old octets told first moments before
+  pub limits : limits_of mid ≡ limits_of old
+  pub channel : channel_of mid ≡ channel_of old
+  pub quiet : List ℕ
+  pub answers : AnswersAt (channel_of old) (next_of old) moment piece n answer mid octets (told ++ given_up quiet)
+
+-- what is answered is told apart
+pub record Tells (answered : Bool) (channel : ℕ) (moment : DateTime) (piece : List ℕ) (n : ℕ) (out : List ℕ) (new : ServerChannel) (octets : List ℕ) (told : List Told) (first : State) (moments : List DateTime) (now : State) : Type 0 where
+  pub goes : StepGoes channel moment piece n out new octets told first moments now
+  pub answered_is : answered ≡ has_some goes.more
+
+-- the same by how the connection ended, with whether something was answered
+abbrev pub AdvanceBy : Bool → ℕ → DateTime → List ℕ → Option Ending → ℕ → List ℕ → ServerChannel → List ℕ → List Told → State → List DateTime → State → State → Type 0
+AdvanceBy answered channel moment piece None n out new octets told first moments before now = Tells answered channel moment piece n out new octets told first moments now
+AdvanceBy answered channel moment piece (Some end) n out new octets told first moments before now = StepBy channel moment piece (Some end) n out new octets told first moments before now × (answered ≡ false)
+
+-- what a step answers, with whether something was answered
+abbrev pub Advances : Limits → ℕ → DateTime → List ℕ → Result (Step × Bool) StepFault → ServerChannel → List ℕ → List Told → State → List DateTime → State → State → Type 0
+Advances limits channel moment piece (Ok found) new octets told first moments before now = AdvanceBy found.1 channel moment piece found.0.end found.0.taken found.0.out.items new octets told first moments before now
+Advances limits channel moment piece (Err f) new octets told first moments before now = StepAnswers limits channel moment piece (Err f) new octets told first moments before now
+
+-- a reply to what was agreed is these octets, and the number behind them is this
+abbrev pub IsReplyAt : ℕ → ℕ → Option Agreement → List ℕ → ℕ → ℕ → List ℕ → ℕ → Type 0
+IsReplyAt channel token agreement body number id octets next =
+    (octets ≡ (replied_at (lane_at channel token agreement) body number id).0) × (next ≡ (replied_at (lane_at channel token agreement) body number id).1)

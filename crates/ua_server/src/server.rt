@@ -1,0 +1,261 @@
+//! A server on one connection.
+
+ghost use Rattle.std.specs.Prelude.{◌≡◌, ◌⊎◌, false, ◌++◌, ◌∷◌, [], ℕ, List, length, Ok, Err, None, IfOk, OnErr};
+ghost use Rattle.std.specs.List.{concat};
+ghost use Rattle.ua_builtin.specs.declared.date_time.DateTime.{DateTime};
+ghost use Rattle.ua_services.specs.Response.{response};
+ghost use Rattle.ua_channel.specs.ServerAnswers.{Progress};
+ghost use Rattle.ua_channel.specs.ServerPlaces.{agreed_by};
+ghost use Rattle.ua_channel.specs.ServerStands.{limits_of, channel_of, next_of, IsDone, Goes, GoesTelling};
+ghost use Rattle.ua_channel.specs.ServerTold.{Told, Asked};
+ghost use Rattle.ua_channel.specs.declared.server.ServerChannel.{ServerChannel};
+ghost use Rattle.ua_channel.specs.declared.server_fault.ChannelFault.TheVariants as channel_fault;
+ghost use Rattle.ua_server.specs.Reply.{answered};
+ghost use Rattle.ua_server.specs.State.{State};
+ghost use Rattle.ua_server.specs.Stepping.{AnswersBehind, AnsweredBehind, IsReplyAt, StepAnswers, is_given_up};
+ghost use Rattle.ua_server.specs.declared.step.StepFault.TheVariants as step_fault;
+
+use crate::services::Services;
+use crate::step::{End, Step, StepFault};
+use std::alloc::Global;
+use ua_builtin::DateTime;
+use ua_channel::{ChannelFault, ReplyFault, ServerChannel, ServerEvent};
+use ua_chunk::Message;
+use ua_frame::Limits;
+
+/// Whether a message was given up.
+fn is_given_up(answer: &Result<ServerEvent, ChannelFault>) -> bool
+    ensures { result ≡ is_given_up answer.now }
+{
+    match answer {
+        Ok(ServerEvent::Aborted(_)) => true,
+        Ok(_) => false,
+        Err(_) => false,
+    }
+}
+
+/// Takes octets as the channel does, and passes over messages that were given up.
+fn next_answered(
+    channel: &mut ServerChannel,
+    piece: &[u8],
+    moment: DateTime,
+) -> (usize, Result<ServerEvent, ChannelFault>)
+    ensures answers { (octets : List ℕ) (told : List Told) → Goes channel.old octets told
+        → AnswersBehind (channel_of channel.old) (next_of channel.old) moment piece.now result.0 result.1 channel.new octets told }
+    ensures progress { Progress piece.now result.0 result.1 }
+    ensures some { is_given_up result.1 ≡ false }
+    ensures closed { IsDone channel.old → (result.1 ≡ Err channel_fault.Closed) × (channel.new ≡ channel.old) }
+    ensures limits { limits_of channel.new ≡ limits_of channel.old }
+    ensures channel { channel_of channel.new ≡ channel_of channel.old }
+{
+    let (n, answer) = channel.advance(piece, moment);
+    if !is_given_up(&answer) {
+        return (n, answer);
+    }
+    drop(answer);
+    let mut taken = n;
+    while taken < piece.len() {
+        let (n, answer) = channel.advance(&piece[taken..], moment);
+        taken += n;
+        if !is_given_up(&answer) {
+            return (taken, answer);
+        }
+        drop(answer);
+    }
+    (taken, Ok(ServerEvent::NeedMore))
+}
+
+/// Answers a whole message, under its request id.
+fn reply_to(
+    alloc: Global,
+    channel: &mut ServerChannel,
+    services: &mut Services,
+    id: u32,
+    message: Message,
+    moment: DateTime,
+) -> Result<Vec<u8>, StepFault>
+    ensures sent { (octets : List ℕ) (before : List Told) (token : ℕ) → GoesTelling channel.old octets before (Asked id token (concat message))
+        → IfOk result (λ out. GoesTelling channel.new octets before (Asked id token (concat message))
+        × IsReplyAt (channel_of channel.old) token (agreed_by before) (response.canonical (answered services.old moment (concat message)).1) (next_of channel.old) id out.items (next_of channel.new)) }
+    ensures state { IfOk result (λ out. services.new ≡ (answered services.old moment (concat message)).0) }
+    ensures failed { (octets : List ℕ) (before : List Told) (token : ℕ) → GoesTelling channel.old octets before (Asked id token (concat message))
+        → OnErr result ((result ≡ Err step_fault.OutOfMemory) × IsDone channel.new) }
+    ensures broken { OnErr result ((services.new ≡ services.old) ⊎ (services.new ≡ (answered services.old moment (concat message)).0)) }
+    ensures limits { limits_of channel.new ≡ limits_of channel.old }
+    ensures channel { channel_of channel.new ≡ channel_of channel.old }
+{
+    let body = services.reply(alloc, &mut message.source(), moment);
+    drop(message);
+    let Ok(body) = body else {
+        channel.end();
+        return Err(StepFault::OutOfMemory);
+    };
+    match channel.reply(id, &body) {
+        Ok(out) => Ok(out),
+        Err(ReplyFault::OutOfMemory) => Err(StepFault::OutOfMemory),
+        Err(ReplyFault::NotOpen) => Err(StepFault::Closed),
+    }
+}
+
+/// What comes of a fault of the channel behind so many octets: the ERR frame that says why what
+/// stands there is refused.
+fn refusal(alloc: Global, taken: usize, fault: ChannelFault) -> Result<Step, StepFault>
+    ensures answers { (old mid : ServerChannel) (moment : DateTime) (piece octets : List ℕ) (told : List Told) (first : State) (moments : List DateTime) (before : State)
+        → AnsweredBehind old moment piece taken (Err fault) mid octets told first moments before
+        → StepAnswers (limits_of old) (channel_of old) moment piece result mid octets told first moments before before }
+    ensures taken { IfOk result (λ step. (step.taken ≡ taken) × (step.end ≡ None → ⊥)) }
+    ensures closed { fault ≡ channel_fault.Closed → result ≡ Err step_fault.Closed }
+{
+    match fault {
+        ChannelFault::Refused { code, err_frame } => {
+            let mut out = Vec::new(alloc);
+            match out.extend_from_slice(&err_frame) {
+                Ok(()) => Ok(Step {
+                    taken,
+                    out,
+                    end: Some(End::Refused(code)),
+                }),
+                Err(_) => Err(StepFault::OutOfMemory),
+            }
+        }
+        ChannelFault::Closed => Err(StepFault::Closed),
+        ChannelFault::OutOfMemory => Err(StepFault::OutOfMemory),
+    }
+}
+
+/// A server on one connection: it takes the octets of a client in whatever pieces they come, answers
+/// them from its services, and says what is to be sent (OPC 10000-6, 6.7 and 7.1).
+///
+/// After a fault, and once the connection ended, it holds nothing and takes nothing more.
+#[derive(Drop)]
+pub struct Server {
+    alloc: Global,
+    channel: ServerChannel,
+}
+
+impl Server {
+    ghost use Rattle.std.specs.Prelude.{◌≡◌, ◌≤◌, ◌↔◌, [], ℕ, List, length, false, Ok, Err, IfOk, IsTrue};
+    ghost use Rattle.ua_builtin.specs.declared.date_time.DateTime.{DateTime};
+    ghost use Rattle.ua_channel.specs.Received.{received};
+    ghost use Rattle.ua_channel.specs.ServerStands.{limits_of, channel_of, bound_of, IsDone, bound_after, held_after, Stands as Holds};
+    ghost use Rattle.ua_channel.specs.ServerTold.{Told};
+    ghost use Rattle.ua_channel.specs.declared.server.ServerChannel.{ServerChannel};
+    ghost use Rattle.ua_frame.specs.declared.frame.Frame.{Frame};
+    ghost use Rattle.ua_server.specs.Served.{channel_in};
+    ghost use Rattle.ua_server.specs.State.{State};
+    ghost use Rattle.ua_server.specs.Stepping.{AnsweredBehind, Advances, Stands, StepAnswers, Takes, is_given_up};
+    ghost use Rattle.ua_server.specs.declared.step.StepFault.TheVariants as step_fault;
+
+    /// Waits for the HEL of a client, with these limits; the channel will have this id.
+    pub fn new(alloc: Global, limits: Limits, channel_id: u32) -> Server
+        ensures stands { (first : State) → Stands (channel_in result) [] [] first [] first }
+        ensures holds { Holds (channel_in result) [] [] [] }
+        ensures limits { limits_of (channel_in result) ≡ limits }
+        ensures channel { channel_of (channel_in result) ≡ channel_id }
+    {
+        Server {
+            alloc,
+            channel: ServerChannel::new(alloc, limits, channel_id),
+        }
+    }
+
+    /// How many octets are held: those of a frame that is not whole, and those of unfinished
+    /// messages. They are never more than [`bound`](Server::bound) says.
+    pub fn held(&self) -> usize
+        ensures held { (octets : List ℕ) (frames : List Frame) (rest : List ℕ) → Holds (channel_in self.now) octets frames rest
+            → result ≡ held_after (received frames) rest }
+        ensures bound { (octets : List ℕ) (frames : List Frame) (rest : List ℕ) → Holds (channel_in self.now) octets frames rest
+            → result ≤ bound_after (limits_of (channel_in self.now)) (received frames) }
+        ensures done { IsDone (channel_in self.now) → result ≡ 0 }
+    {
+        self.channel.held()
+    }
+
+    /// The most octets that may be held: 8192 before the ACK, then those of a frame of the agreed
+    /// size and of 4 messages of the greatest size.
+    pub fn bound(&self) -> usize
+        ensures stands { (octets : List ℕ) (frames : List Frame) (rest : List ℕ) → Holds (channel_in self.now) octets frames rest
+            → result ≡ bound_after (limits_of (channel_in self.now)) (received frames) }
+        ensures is { result ≡ bound_of (channel_in self.now) }
+    {
+        self.channel.bound()
+    }
+
+    /// Takes octets up to the end of the first frame that is answered or that ends the connection,
+    /// else the whole piece, and says what is to be sent. The moment is that of the answer. Where
+    /// memory is refused the services are as they were, or as the message at that place leaves them.
+    pub fn step(
+        &mut self,
+        services: &mut Services,
+        piece: &[u8],
+        moment: DateTime,
+    ) -> Result<Step, StepFault>
+        ensures answers { (octets : List ℕ) (told : List Told) (first : State) (moments : List DateTime) → Stands (channel_in self.old) octets told first moments services.old
+            → StepAnswers (limits_of (channel_in self.old)) (channel_of (channel_in self.old)) moment piece.now result (channel_in self.new) octets told first moments services.old services.new }
+        ensures progress { IfOk result (λ step. Takes piece.now step) }
+        ensures closed { IsDone (channel_in self.old) → (result ≡ Err step_fault.Closed) × (self.new ≡ self.old) × (services.new ≡ services.old) }
+        ensures limits { limits_of (channel_in self.new) ≡ limits_of (channel_in self.old) }
+        ensures channel { channel_of (channel_in self.new) ≡ channel_of (channel_in self.old) }
+    {
+        match self.advance(services, piece, moment) {
+            Ok(found) => Ok(found.0),
+            Err(fault) => Err(fault),
+        }
+    }
+
+    /// What [`step`](Server::step) does, with whether something was answered.
+    pub(crate) fn advance(
+        &mut self,
+        services: &mut Services,
+        piece: &[u8],
+        moment: DateTime,
+    ) -> Result<(Step, bool), StepFault>
+        ensures answers { (octets : List ℕ) (told : List Told) (first : State) (moments : List DateTime) → Stands (channel_in self.old) octets told first moments services.old
+            → Advances (limits_of (channel_in self.old)) (channel_of (channel_in self.old)) moment piece.now result (channel_in self.new) octets told first moments services.old services.new }
+        ensures progress { IfOk result (λ found. Takes piece.now found.0) }
+        ensures closed { IsDone (channel_in self.old) → (result ≡ Err step_fault.Closed) × (self.new ≡ self.old) × (services.new ≡ services.old) }
+        ensures limits { limits_of (channel_in self.new) ≡ limits_of (channel_in self.old) }
+        ensures channel { channel_of (channel_in self.new) ≡ channel_of (channel_in self.old) }
+    {
+        let (taken, answer) = next_answered(&mut self.channel, piece, moment);
+        match answer {
+            Ok(event) => self.answer(services, taken, event, moment),
+            Err(fault) => match refusal(self.alloc, taken, fault) {
+                Ok(step) => Ok((step, false)),
+                Err(fault) => Err(fault),
+            },
+        }
+    }
+
+    /// What comes of an event behind so many octets.
+    fn answer(
+        &mut self,
+        services: &mut Services,
+        taken: usize,
+        event: ServerEvent,
+        moment: DateTime,
+    ) -> Result<(Step, bool), StepFault>
+        requires { is_given_up (Ok event) ≡ false }
+        ensures answers { (old : ServerChannel) (piece octets : List ℕ) (told : List Told) (first : State) (moments : List DateTime)
+            → AnsweredBehind old moment piece taken (Ok event) (channel_in self.old) octets told first moments services.old
+            → Advances (limits_of old) (channel_of old) moment piece result (channel_in self.new) octets told first moments services.old services.new }
+        ensures taken { IfOk result (λ found. found.0.taken ≡ taken) }
+        ensures limits { limits_of (channel_in self.new) ≡ limits_of (channel_in self.old) }
+        ensures channel { channel_of (channel_in self.new) ≡ channel_of (channel_in self.old) }
+    {
+        match event {
+            ServerEvent::NeedMore => Ok((Step::silent(self.alloc, taken, None), false)),
+            ServerEvent::Send(out) => Ok((Step::saying(taken, out), true)),
+            ServerEvent::Asked(id, message) => {
+                match reply_to(self.alloc, &mut self.channel, services, id, message, moment) {
+                    Ok(out) => Ok((Step::saying(taken, out), true)),
+                    Err(fault) => Err(fault),
+                }
+            }
+            ServerEvent::Aborted(_) => unreachable!(),
+            ServerEvent::Closed => {
+                Ok((Step::silent(self.alloc, taken, Some(End::Closed)), false))
+            }
+        }
+    }
+}
