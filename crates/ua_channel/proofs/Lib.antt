@@ -38,6 +38,7 @@ pub mod ClientReading
 pub mod Following
 pub mod ClientSending
 pub mod AllSent
+pub mod InStep
 mod PairedCalls
 pub mod AgreedFirst
 pub mod Opened

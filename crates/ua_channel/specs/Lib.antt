@@ -32,6 +32,7 @@ pub mod Paired
 -- What one end reads of what the other writes.
 pub mod ServerReads
 pub mod ClientReads
+pub mod InStep
 -- What a conversation is, in plain words.
 pub mod Conversation
 pub mod ClientConversation

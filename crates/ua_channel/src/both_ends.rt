@@ -6,7 +6,7 @@
 //! `ClientReads` where the client is behind what the server wrote, whatever the pieces in which it
 //! came.
 
-ghost use Rattle.std.specs.Prelude.{◌≡◌, ◌<◌, ◌≤◌, ◌+◌, ◌^◌, ◌∷◌, ◌++◌, [], ℕ, List, Option, None, IsTrue, IsFalse, length};
+ghost use Rattle.std.specs.Prelude.{◌≡◌, ◌<◌, ◌≤◌, ◌+◌, ◌^◌, ◌∷◌, ◌++◌, [], ℕ, List, Option, None, Some, IsTrue, IsFalse, length};
 ghost use Rattle.ua_builtin.specs.DateTime.{date_time};
 ghost use Rattle.ua_builtin.specs.Reasons.{first_reason};
 ghost use Rattle.ua_builtin.specs.declared.date_time.DateTime.{DateTime};
@@ -24,7 +24,9 @@ ghost use Rattle.ua_channel.specs.Agreement.{agreement_of};
 ghost use Rattle.ua_channel.specs.Asks.{Placed, asked_in, is_in, next_id};
 ghost use Rattle.ua_channel.specs.Asks.Asking.{Call, Renewal};
 ghost use Rattle.ua_channel.specs.ClientReads.{AtClient, ClientAgrees, ClientReads, IsAnswered, IsLaneBack, lane_from, opened_at, reasons_here, renew_reasons_here, told_reply, with_answer, with_call, with_renewal, with_reply};
-ghost use Rattle.ua_channel.specs.ClientAsks.{room_of};
+ghost use Rattle.ua_channel.specs.ClientAsks.{is_too_large, room_of};
+ghost use Rattle.ua_channel.specs.InStep.{AreInStep, lane_back};
+ghost use Rattle.ua_channel.specs.Received.{latest};
 ghost use Rattle.ua_channel.specs.ClientReads as replies;
 ghost use Rattle.ua_channel.specs.ServerReads as server;
 ghost use Rattle.ua_channel.specs.ClientSends.{close_frame, first_open, hello_frame, hello_to, renewal_frame};
@@ -209,4 +211,31 @@ pub fn client_reads_all()
     ensures { (limits : Limits) (asks : List Placed) (octets : List ℕ) (told : List ClientTold) (at : AtClient) (ss : List replies.Sending) →
         ClientReads limits asks octets told at → replies.MaySendAll limits at ss →
         ClientReads limits asks (octets ++ replies.all_octets at ss) (told ++ replies.all_told ss) (replies.behind_all at ss) }
+{}
+
+/// Where a server and a client are in step, which they are behind the opening, each sends what the
+/// other takes: the client's calls are in a lane to the server, and a body that the client does not
+/// refuse is within the server's limits; the server's replies are in a lane to the client.
+pub fn ends_in_step()
+    ensures opened { (server client : Limits) (url : Option (List ℕ)) (channel next : ℕ) →
+        AreInStep server client url channel (with_token (greeted_at (hello_to client url))) (opened_at (ack_to (hello_to client url) server) channel 1 next) }
+    ensures calls { (server client : Limits) (url : Option (List ℕ)) (channel : ℕ) (s : AtServer) (c : AtClient) → AreInStep server client url channel s c →
+        IsLaneTo server channel s (lane_from c) }
+    ensures bodies { (server client : Limits) (url : Option (List ℕ)) (channel : ℕ) (s : AtServer) (c : AtClient) → AreInStep server client url channel s c →
+        (body : List ℕ) → 0 < length body → IsFalse (is_too_large c.ack body) → IsBodyFor server (room_of c.ack) body }
+    ensures replies { (server client : Limits) (url : Option (List ℕ)) (channel : ℕ) (s : AtServer) (c : AtClient) → AreInStep server client url channel s c →
+        channel < 2 ^ 32 → s.used < 2 ^ 32 → IsLaneBack client c (lane_back server channel s) }
+{}
+
+/// They stay in step: by a call, by a reply, by a renewal, and by its answer with the token that the
+/// server issued.
+pub fn ends_stay_in_step()
+    ensures call { (server client : Limits) (url : Option (List ℕ)) (channel : ℕ) (s : AtServer) (c : AtClient) → AreInStep server client url channel s c →
+        (body : List ℕ) (id : ℕ) → latest c.tokens ≡ Some c.newest → AreInStep server client url channel (with_message s (lane_from c) body) (with_call c id) }
+    ensures reply { (server client : Limits) (url : Option (List ℕ)) (channel : ℕ) (s : AtServer) (c : AtClient) → AreInStep server client url channel s c →
+        (id next : ℕ) → AreInStep server client url channel s (with_reply c s.used id next) }
+    ensures renewal { (server client : Limits) (url : Option (List ℕ)) (channel : ℕ) (s : AtServer) (c : AtClient) → AreInStep server client url channel s c →
+        (id : ℕ) → AreInStep server client url channel (with_token s) (with_renewal c id) }
+    ensures answer { (server client : Limits) (url : Option (List ℕ)) (channel : ℕ) (s : AtServer) (c : AtClient) → AreInStep server client url channel s c →
+        (next : ℕ) → AreInStep server client url channel s (with_answer c s.issued next) }
 {}
