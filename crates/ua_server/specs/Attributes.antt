@@ -27,7 +27,8 @@ items_of (Some items) = items
 abbrev pub most_items : ℕ
 most_items = 1000
 
--- the most that a MaxAge may be, as the pattern of a Double: -0, above which are negative numbers and what is no number but for a top bit that is not set
+-- the most that a MaxAge may be, as the pattern of its Double: that of -0, above which stand the negative numbers, and those patterns of
+-- no number that have the top bit
 abbrev pub most_age : ℕ
 most_age = 0x8000_0000_0000_0000
 
@@ -48,7 +49,7 @@ count_reasons n = (0x800F_0000, nat_eq n 0) ∷ (0x8010_0000, nat_lt most_items 
 -- why a Read is refused, in the order in which it is judged (OPC 10000-4, 5.11.2)
 --   Bad_SessionIdInvalid, Bad_SessionNotActivated
 --   Bad_TimestampsToReturnInvalid      the number names no times
---   Bad_MaxAgeInvalid                  the age is negative
+--   Bad_MaxAgeInvalid                  the pattern of the age is above that of -0
 --   Bad_NothingToDo, Bad_TooManyOperations
 abbrev pub read_reasons : State → ReadRequest → List (ℕ × Bool)
 read_reasons s m =
