@@ -1,0 +1,97 @@
+-- What was carried, one call behind another.
+use Rattle.std.specs.Prelude.{◌≡◌, ℕ, ◌+◌, ◌-◌, ◌≤◌, ◌<◌, List, [], ◌++◌, length, take, drop, Option, Some, None, Ok, Err}
+use Rattle.std.proofs.Common.{refl, sym, ◌∙◌, ap, subst, append_assoc, append-nil, arith}
+use Rattle.std.proofs.Math.Seq.{take-add, take-length}
+use Rattle.std.proofs.lemmas.List.{length-drop, take-append-drop}
+use Rattle.ua_octets.specs.Format.{Extends}
+use Rattle.ua_channel.specs.Line.{Traffic, Hands, Takes, WhereTold}
+use Rattle.ua_channel.specs.declared.line.LineFault.{LineFault}
+use Rattle.ua_client.specs.Carried.{Carries, WritesFront, IsAtEnd}
+
+-- ---- nothing, and one behind another
+
+pub carried-nothing : (t : Option Traffic) → WhereTold (Carries [] []) t t
+carried-nothing None = refl
+carried-nothing (Some t) = record { coming = refl; written = sym (append-nil t.written) }
+
+pub carried-then : (got sent more out : List ℕ) (a b c : Option Traffic) → WhereTold (Carries got sent) a b → WhereTold (Carries more out) b c → WhereTold (Carries (got ++ more) (sent ++ out)) a c
+carried-then got sent more out (Some a) (Some b) (Some c) h k = record {
+  coming = h.coming ∙ (ap (λ (t : List ℕ). got ++ t) k.coming ∙ sym (append_assoc got more c.coming));
+  written = k.written ∙ (ap (λ (t : List ℕ). t ++ out) h.written ∙ append_assoc a.written sent out);
+}
+carried-then got sent more out (Some a) (Some b) None h k = absurd k
+carried-then got sent more out (Some a) None c h k = absurd h
+carried-then got sent more out None (Some b) c h k = absurd cc
+carried-then got sent more out None None c h k = k
+
+-- the same octets, named in another way
+pub carried-as : (got sent got' sent' : List ℕ) (a b : Option Traffic) → got ≡ got' → sent ≡ sent' → WhereTold (Carries got sent) a b → WhereTold (Carries got' sent') a b
+carried-as got sent got' sent' a b p q h = subst (λ (s : List ℕ). WhereTold (Carries got' s) a b) q (subst (λ (g : List ℕ). WhereTold (Carries g sent) a b) p h)
+
+-- ---- calls of a line
+
+pub wrote : (octets : List ℕ) (n : ℕ) (a b : Option Traffic) → WhereTold (Takes (Ok n) octets) a b → WhereTold (Carries [] (take n octets)) a b
+wrote octets n (Some a) (Some b) h = record { coming = sym h.1; written = h.0 }
+wrote octets n (Some a) None h = absurd h
+wrote octets n None b h = h
+
+pub failed-write : (fault : LineFault) (octets : List ℕ) (a b : Option Traffic) → WhereTold (Takes (Err fault) octets) a b → b ≡ a
+failed-write fault octets (Some a) (Some b) h = ap (λ (t : Traffic). Some t) h
+failed-write fault octets (Some a) None h = absurd h
+failed-write fault octets None b h = h
+
+pub had-read : (buffer : List ℕ) (n : ℕ) (a b : Option Traffic) → WhereTold (Hands (Ok n) buffer) a b → WhereTold (Carries (take n buffer) []) a b
+had-read buffer n (Some a) (Some b) h = record { coming = h.0; written = h.1 ∙ sym (append-nil a.written) }
+had-read buffer n (Some a) None h = absurd h
+had-read buffer n None b h = h
+
+pub read-end : (buffer : List ℕ) (n : ℕ) (a b : Option Traffic) → WhereTold (Hands (Ok n) buffer) a b → 0 < length buffer → n ≡ 0 → IsAtEnd b
+read-end buffer n (Some a) (Some b) h room none =
+    let all : a.coming ≡ [] = h.2 none room in
+    sym (h.0 ∙ ap (λ (k : ℕ). take k buffer ++ b.coming) none) ∙ all
+read-end buffer n (Some a) None h room none = tt
+read-end buffer n None None h room none = tt
+read-end buffer n None (Some b) h room none = absurd cc
+
+pub failed-read : (fault : LineFault) (buffer : List ℕ) (a b : Option Traffic) → WhereTold (Hands (Err fault) buffer) a b → b ≡ a
+failed-read fault buffer (Some a) (Some b) h = ap (λ (t : Traffic). Some t) h
+failed-read fault buffer (Some a) None h = absurd h
+failed-read fault buffer None b h = h
+
+-- ---- a whole write, step by step
+
+-- of these octets so many are written
+pub record Written (octets : List ℕ) (at : ℕ) (before after : Option Traffic) : Type 0 where
+  pub within : at ≤ length octets
+  pub carried : WhereTold (Carries [] (take at octets)) before after
+
+pub written-nothing : (octets : List ℕ) (t : Option Traffic) → Written octets 0 t t
+written-nothing octets t = record { within = omega arith; carried = carried-nothing t }
+
+pub written-more : (octets : List ℕ) (at n : ℕ) (a b c : Option Traffic) → Written octets at a b → at < length octets
+    → n ≤ length (take (length octets - at) (drop at octets)) → WhereTold (Takes (Ok n) (take (length octets - at) (drop at octets))) b c → Written octets (at + n) a c
+written-more octets at n a b c w more few h =
+    let rest : take (length octets - at) (drop at octets) ≡ drop at octets = ap (λ (k : ℕ). take k (drop at octets)) (sym (length-drop at octets)) ∙ take-length (drop at octets) in
+    let len : length (take (length octets - at) (drop at octets)) ≡ length octets - at = ap length rest ∙ length-drop at octets in
+    record {
+      within = omega (arith, few, len, more);
+      carried = carried-as [] (take at octets ++ take n (take (length octets - at) (drop at octets))) [] (take (at + n) octets) a c refl
+          (ap (λ (t : List ℕ). take at octets ++ take n t) rest ∙ sym (take-add at n octets))
+          (carried-then [] (take at octets) [] (take n (take (length octets - at) (drop at octets))) a b c w.carried (wrote (take (length octets - at) (drop at octets)) n b c h));
+    }
+
+pub written-all : (octets : List ℕ) (at : ℕ) (a b : Option Traffic) → Written octets at a b → length octets ≤ at → WhereTold (Carries [] octets) a b
+written-all octets at a b w all =
+    let whole : at ≡ length octets = omega (arith, w.within, all) in
+    carried-as [] (take at octets) [] octets a b refl (ap (λ (k : ℕ). take k octets) whole ∙ take-length octets) w.carried
+
+pub written-front : (octets : List ℕ) (at : ℕ) (a b : Option Traffic) → WhereTold (Carries [] (take at octets)) a b → WhereTold (WritesFront octets) a b
+written-front octets at (Some a) (Some b) h = record { sent = take at octets; front = record { more = drop at octets; parts = sym (take-append-drop at octets) }; carried = h }
+written-front octets at (Some a) None h = h
+written-front octets at None b h = h
+
+-- a beginning of these octets was written
+pub sends-front : (octets : List ℕ) (a b : Option Traffic) → WhereTold (WritesFront octets) a b → (sent : List ℕ) × Extends sent octets × WhereTold (Carries [] sent) a b
+sends-front octets (Some a) (Some b) h = (h.sent, h.front, h.carried)
+sends-front octets (Some a) None h = absurd h
+sends-front octets None b h = ([], record { more = octets; parts = refl }, h)

@@ -1,0 +1,423 @@
+-- How a connection is opened.
+use Rattle.std.specs.Prelude.{◌≡◌, ℕ, ◌+◌, ◌≤◌, Bool, true, false, ◌||◌, List, [], ◌∷◌, ◌++◌, length, Option, Result, Ok, Err}
+use Rattle.std.proofs.Common.{refl, sym, ◌∙◌, ap, subst, inl, inr, append_assoc, append-nil, arith}
+use Rattle.std.proofs.lemmas.List.{length-append}
+use Rattle.std.specs.List.{list_any}
+use Rattle.ua_builtin.specs.declared.date_time.DateTime.{DateTime}
+use Rattle.ua_frame.specs.After.{each_after}
+use Rattle.ua_channel.specs.Asks.{Placed}
+use Rattle.ua_channel.specs.Client.{Goes, Stands, limits_of, url_of}
+use Rattle.ua_channel.specs.ClientTold.{Told}
+use Rattle.ua_channel.specs.Line.{Traffic, WhereTold}
+use Rattle.ua_channel.specs.declared.client.channel.ClientChannel.{ClientChannel}
+use Rattle.ua_channel.specs.declared.client.event.ClientEvent.{ClientEvent}
+use Rattle.ua_channel.specs.declared.client.event.ClientEvent.TheVariants as event
+use Rattle.ua_client.specs.Carried.{Carries, WritesFront}
+use Rattle.ua_client.specs.Hearing.{channel_of, untaken_of, Keeps, Moves, Says, Hears, HearsAt, StopsAt, most_reads}
+use Rattle.ua_client.specs.Opening.{is_agreed, is_opened, GoesWithout, WaitsAt, Waits, any_done, hello_octets, open_octets, BreaksOpening, Opens}
+use Rattle.ua_client.specs.declared.connection.Connection.{Connection}
+use Rattle.ua_client.specs.declared.fault.ClientFault.{ClientFault}
+use Rattle.ua_client.specs.declared.fault.ClientFault.TheVariants as fault
+use Rattle.ua_client.proofs.Carrying.{carried-nothing, carried-then, carried-as, sends-front}
+use Rattle.ua_client.proofs.Hearings.{keeps-all, keeps-then, moves-behind, GoesOnBehind}
+
+-- ---- events
+
+-- an event is the one that is waited for
+abbrev pub is_send : ClientEvent → Bool
+is_send event.NeedMore = false
+is_send (event.Send sent) = true
+is_send event.Open = false
+is_send (event.Answered id message) = false
+is_send (event.Aborted id code) = false
+is_send (event.Failed code peer) = false
+is_send (event.Renewed token) = false
+
+abbrev pub is_open : ClientEvent → Bool
+is_open event.NeedMore = false
+is_open (event.Send sent) = false
+is_open event.Open = true
+is_open (event.Answered id message) = false
+is_open (event.Aborted id code) = false
+is_open (event.Failed code peer) = false
+is_open (event.Renewed token) = false
+
+-- a test of events is one of what was told
+abbrev pub Tests : (ClientEvent → Bool) → (Told → Bool) → Type 0
+Tests test wanted = (moment : DateTime) (e : ClientEvent) (t : Told) → Says moment e t → wanted t ≡ test e
+
+pub tests-agreed : Tests is_send is_agreed
+tests-agreed moment event.NeedMore t h = absurd h
+tests-agreed moment (event.Send sent) t h = ap is_agreed h.1.1
+tests-agreed moment event.Open t h = ap is_agreed h.1.1
+tests-agreed moment (event.Answered id message) t h = ap is_agreed h
+tests-agreed moment (event.Aborted id code) t h = ap is_agreed h
+tests-agreed moment (event.Failed code peer) t h = absurd h
+tests-agreed moment (event.Renewed token) t h = ap is_agreed h
+
+pub tests-opened : Tests is_open is_opened
+tests-opened moment event.NeedMore t h = absurd h
+tests-opened moment (event.Send sent) t h = ap is_opened h.1.1
+tests-opened moment event.Open t h = ap is_opened h.1.1
+tests-opened moment (event.Answered id message) t h = ap is_opened h
+tests-opened moment (event.Aborted id code) t h = ap is_opened h
+tests-opened moment (event.Failed code peer) t h = absurd h
+tests-opened moment (event.Renewed token) t h = ap is_opened h
+
+pub not-send : (e : ClientEvent) → ((octets : _) → e ≡ event.Send octets → ⊥) → is_send e ≡ false
+not-send event.NeedMore h = refl
+not-send (event.Send sent) h = absurd (h sent refl)
+not-send event.Open h = refl
+not-send (event.Answered id message) h = refl
+not-send (event.Aborted id code) h = refl
+not-send (event.Failed code peer) h = refl
+not-send (event.Renewed token) h = refl
+
+pub not-open : (e : ClientEvent) → (e ≡ event.Open → ⊥) → is_open e ≡ false
+not-open event.NeedMore h = refl
+not-open (event.Send sent) h = refl
+not-open event.Open h = absurd (h refl)
+not-open (event.Answered id message) h = refl
+not-open (event.Aborted id code) h = refl
+not-open (event.Failed code peer) h = refl
+not-open (event.Renewed token) h = refl
+
+any-either : (b : Bool) (rest more : Bool) → (b || rest) ≡ false → (rest ≡ false → more ≡ false) → (b || more) ≡ false
+any-either true rest more h k = absurd cc
+any-either false rest more h k = k h
+
+any-push : (wanted : Told → Bool) (told : List Told) (t : Told) → list_any wanted told ≡ false → wanted t ≡ false → list_any wanted (told ++ t ∷ []) ≡ false
+any-push wanted [] t h k = ap (λ (b : Bool). b || false) k
+any-push wanted (u ∷ told) t h k = any-either (wanted u) (list_any wanted told) (list_any wanted (told ++ t ∷ [])) h (λ e. any-push wanted told t e k)
+
+or-true : (p q : Bool) → q ≡ true → (p || q) ≡ true
+or-true true q e = refl
+or-true false q e = e
+
+or-more : (b rest more : Bool) → (b || rest) ≡ true → (rest ≡ true → more ≡ true) → (b || more) ≡ true
+or-more true rest more h k = refl
+or-more false rest more h k = k h
+
+any-right : (wanted : Told → Bool) (us vs : List Told) → list_any wanted vs ≡ true → list_any wanted (us ++ vs) ≡ true
+any-right wanted [] vs i = i
+any-right wanted (y ∷ us) vs i = or-true (wanted y) (list_any wanted (us ++ vs)) (any-right wanted us vs i)
+
+any-left : (wanted : Told → Bool) (us vs : List Told) → list_any wanted us ≡ true → list_any wanted (us ++ vs) ≡ true
+any-left wanted [] vs i = absurd cc
+any-left wanted (y ∷ us) vs i = or-more (wanted y) (list_any wanted us) (list_any wanted (us ++ vs)) i (λ e. any-left wanted us vs e)
+
+any-last : (wanted : Told → Bool) (told : List Told) (t : Told) → wanted t ≡ true → list_any wanted (told ++ t ∷ []) ≡ true
+any-last wanted told t k = any-right wanted told (t ∷ []) (ap (λ (v : Bool). v || false) k)
+
+-- ---- waiting
+
+-- so far nothing was told that is waited for
+pub record Lacks (wanted : Told → Bool) (old now : Connection) (before at : Option Traffic) (reads left : ℕ) : Type 0 where
+  pub moves : Moves old now [] before at
+  pub keeps : Keeps old now
+  pub goes : (asks : List Placed) (octets : List ℕ) (told : List Told) → Goes (channel_of old) asks octets told → GoesWithout wanted (channel_of now) asks (octets ++ moves.taken) told
+  pub spent : reads ≤ left + length moves.got
+
+pub lacks-first : (wanted : Told → Bool) (x : Connection) (t : Option Traffic) (reads : ℕ) → Lacks wanted x x t t reads reads
+lacks-first wanted x t reads = record {
+  moves = record { got = []; taken = []; parts = append-nil (untaken_of x); carried = carried-nothing t };
+  keeps = keeps-all x;
+  goes = λ asks octets told g. record {
+    heard = [];
+    none = refl;
+    goes = subst (λ (o : List ℕ). Goes (channel_of x) asks o (told ++ [])) (sym (append-nil octets)) (subst (λ (h : List Told). Goes (channel_of x) asks octets h) (sym (append-nil told)) g);
+  };
+  spent = omega arith;
+}
+
+module _ (test : ClientEvent → Bool) (wanted : Told → Bool) (tests : Tests test wanted) (old now new : Connection) (before at then : Option Traffic) (reads left less : ℕ) (moment : DateTime)
+    (w : Lacks wanted old now before at reads left) where
+  spent-more : (more : List ℕ) → left ≤ less + length more → reads ≤ less + length (w.moves.got ++ more)
+  spent-more more h = let l = length-append w.moves.got more in let s = w.spent in omega (arith, l, s, h)
+
+  pub lacks-more : (goes_on : GoesOnBehind) (e : ClientEvent) → test e ≡ false → Hears now new moment at then left less (Ok e) → Lacks wanted old new before then reads less
+  lacks-more goes_on e other h = record {
+    moves = moves-behind old now new [] [] before at then w.moves h.moves;
+    keeps = keeps-then old now new w.keeps h.keeps;
+    goes = λ asks octets told g.
+        let on = w.goes asks octets told g in
+        let says = h.answers asks (octets ++ w.moves.taken) (told ++ on.heard) on.goes in
+        record {
+          heard = on.heard ++ says.0 ∷ [];
+          none = any-push wanted on.heard says.0 on.none (tests moment e says.0 says.1 ∙ other);
+          goes = subst (λ (o : List ℕ). Goes (channel_of new) asks o (told ++ (on.heard ++ says.0 ∷ []))) (append_assoc octets w.moves.taken h.moves.taken)
+              (subst (λ (all : List Told). Goes (channel_of new) asks ((octets ++ w.moves.taken) ++ h.moves.taken) all) (append_assoc told on.heard (says.0 ∷ []))
+              (goes_on (channel_of new) asks ((octets ++ w.moves.taken) ++ h.moves.taken) (told ++ on.heard) says.0 says.2));
+        };
+    spent = spent-more h.moves.got h.stops;
+  }
+
+  pub waits-found : {A : Type 0} (P : A → Type 0) (goes_on : GoesOnBehind) (e : ClientEvent) (found : A) → test e ≡ true → ((t : Told) → Says moment e t → P found)
+      → Hears now new moment at then left less (Ok e) → Waits wanted P old new before then reads less (Ok found)
+  waits-found P goes_on e found own holds h = record {
+    moves = moves-behind old now new [] [] before at then w.moves h.moves;
+    keeps = keeps-then old now new w.keeps h.keeps;
+    answers = λ asks octets told g.
+        let on = w.goes asks octets told g in
+        let says = h.answers asks (octets ++ w.moves.taken) (told ++ on.heard) on.goes in (
+          record {
+            heard = on.heard;
+            none = on.none;
+            last = says.0;
+            is_wanted = tests moment e says.0 says.1 ∙ own;
+            goes = subst (λ (o : List ℕ). Goes (channel_of new) asks o (told ++ (on.heard ++ says.0 ∷ []))) (append_assoc octets w.moves.taken h.moves.taken)
+                (subst (λ (all : List Told). Goes (channel_of new) asks ((octets ++ w.moves.taken) ++ h.moves.taken) all) (append_assoc told on.heard (says.0 ∷ []))
+                (goes_on (channel_of new) asks ((octets ++ w.moves.taken) ++ h.moves.taken) (told ++ on.heard) says.0 says.2));
+          },
+          holds says.0 says.1,
+        );
+    stops = spent-more h.moves.got h.stops;
+  }
+
+  pub waits-fault : {A : Type 0} (P : A → Type 0) (x : ClientFault) → Hears now new moment at then left less (Err x) → Waits wanted P old new before then reads less (Err x)
+  waits-fault {A} P x h = record {
+    moves = moves-behind old now new [] [] before at then w.moves h.moves;
+    keeps = keeps-then old now new w.keeps h.keeps;
+    answers = λ asks octets told g.
+        let on = w.goes asks octets told g in
+        by x asks (octets ++ (w.moves.taken ++ h.moves.taken)) told on.heard on.none
+        (subst (λ (o : List ℕ). HearsAt moment (Err x) (channel_of new) asks o (told ++ on.heard)) (append_assoc octets w.moves.taken h.moves.taken) (h.answers asks (octets ++ w.moves.taken) (told ++ on.heard) on.goes));
+    stops = stops x h.moves.got h.stops;
+  }
+    where
+      by : (y : ClientFault) (asks : List Placed) (octets : List ℕ) (told heard : List Told) → list_any wanted heard ≡ false → HearsAt moment (Err y) (channel_of new) asks octets (told ++ heard) → WaitsAt wanted P (Err y) (channel_of new) asks octets told
+      by (fault.Peer code) asks octets told heard none k = record { heard = heard; none = none; ended = k }
+      by (fault.Refused code) asks octets told heard none k = record { heard = heard; none = none; ended = k }
+      by fault.Ended asks octets told heard none k = record { heard = heard; none = none; goes = k }
+      by fault.Read asks octets told heard none k = record { heard = heard; none = none; goes = k }
+      by fault.TooLong asks octets told heard none k = record { heard = heard; none = none; goes = k }
+      by fault.OutOfMemory asks octets told heard none k = tt
+      by fault.UnknownResponse asks octets told heard none k = absurd k
+      by fault.Write asks octets told heard none k = absurd k
+      by (fault.Service code) asks octets told heard none k = absurd k
+      by fault.TooLarge asks octets told heard none k = absurd k
+      by fault.NotWritable asks octets told heard none k = absurd k
+      by fault.Exhausted asks octets told heard none k = absurd k
+      by fault.Closed asks octets told heard none k = absurd k
+
+      stops : (y : ClientFault) (got : List ℕ) → StopsAt {A = ClientEvent} left less got new then (Err y) → StopsAt {A = A} reads less (w.moves.got ++ got) new then (Err y)
+      stops fault.TooLong got k = let l = length-append w.moves.got got in let s = w.spent in omega (arith, l, s, k)
+      stops fault.Ended got k = k
+      stops fault.Read got k = tt
+      stops fault.Write got k = tt
+      stops (fault.Peer code) got k = tt
+      stops (fault.Refused code) got k = tt
+      stops fault.UnknownResponse got k = tt
+      stops (fault.Service code) got k = tt
+      stops fault.TooLarge got k = tt
+      stops fault.NotWritable got k = tt
+      stops fault.Exhausted got k = tt
+      stops fault.Closed got k = tt
+      stops fault.OutOfMemory got k = tt
+
+-- ---- the opening
+
+-- no memory for the HEL
+pub opens-nothing : {A : Type 0} (moment : DateTime) (x : Connection) (t : Option Traffic) → Opens {A = A} moment x x t t (Err fault.OutOfMemory)
+opens-nothing moment x t = record {
+  sent = [];
+  moves = record { got = []; taken = []; parts = append-nil (untaken_of x); carried = carried-nothing t };
+  keeps = keeps-all x;
+  answers = λ g. record { more = hello_octets (limits_of (channel_of x)) (url_of (channel_of x)) ++ open_octets moment; parts = refl };
+  stops = tt;
+}
+
+-- the HEL was not written whole
+pub opens-unwritten : {A : Type 0} (moment : DateTime) (x : Connection) (hello : List ℕ) (before after : Option Traffic) → hello ≡ hello_octets (limits_of (channel_of x)) (url_of (channel_of x)) → WhereTold (WritesFront hello) before after
+    → Opens {A = A} moment x x before after (Err fault.Write)
+opens-unwritten moment x hello before after is h =
+    let front = sends-front hello before after h in
+    record {
+      sent = front.0;
+      moves = record { got = []; taken = []; parts = append-nil (untaken_of x); carried = front.2 };
+      keeps = keeps-all x;
+      answers = λ g. record {
+        more = front.1.more ++ open_octets moment;
+        parts = ap (λ (o : List ℕ). o ++ open_octets moment) (sym is ∙ front.1.parts) ∙ append_assoc front.0 front.1.more (open_octets moment);
+      };
+      stops = tt;
+    }
+
+abbrev pub sent-first : (x mid : Connection) (hello : List ℕ) (a b c : Option Traffic) → WhereTold (Carries [] hello) a b → Moves x mid [] b c → Moves x mid hello a c
+sent-first x mid hello a b c w m = record {
+  got = m.got;
+  taken = m.taken;
+  parts = m.parts;
+  carried = carried-as m.got (hello ++ []) m.got hello a c refl (append-nil hello) (carried-then [] hello m.got [] a b c w m.carried);
+}
+
+module _ (moment : DateTime) (x mid : Connection) (hello : List ℕ) (a b c : Option Traffic) (left : ℕ) (is : hello ≡ hello_octets (limits_of (channel_of x)) (url_of (channel_of x))) (w : WhereTold (Carries [] hello) a b) where
+  -- no ACK came
+  pub opens-unagreed : {A B : Type 0} (P : B → Type 0) (f : ClientFault) → Waits is_agreed P x mid b c most_reads left (Err f) → Opens {A = A} moment x mid a c (Err f)
+  opens-unagreed {A} {B} P f h = record {
+    sent = hello;
+    moves = sent-first x mid hello a b c w h.moves;
+    keeps = h.keeps;
+    answers = λ g. by f (h.answers [] [] [] g);
+    stops = stops f h.stops;
+  }
+    where
+      by : (y : ClientFault) → WaitsAt is_agreed P (Err y) (channel_of mid) [] h.moves.taken [] → BreaksOpening (hello_octets (limits_of (channel_of x)) (url_of (channel_of x))) (open_octets moment) (channel_of mid) hello h.moves.taken y
+      by fault.Read k = inl (is, k)
+      by fault.Ended k = inl (is, k)
+      by fault.TooLong k = inl (is, k)
+      by (fault.Peer code) k = inl (is, k)
+      by (fault.Refused code) k = inl (is, k)
+      by fault.OutOfMemory k = record { more = open_octets moment; parts = ap (λ (o : List ℕ). o ++ open_octets moment) (sym is) }
+      by fault.Write k = absurd k
+      by fault.UnknownResponse k = absurd k
+      by (fault.Service code) k = absurd k
+      by fault.TooLarge k = absurd k
+      by fault.NotWritable k = absurd k
+      by fault.Exhausted k = absurd k
+      by fault.Closed k = absurd k
+
+      stops : (y : ClientFault) → StopsAt {A = B} most_reads left h.moves.got mid c (Err y) → StopsAt {A = A} most_reads most_reads h.moves.got mid c (Err y)
+      stops fault.TooLong k = k
+      stops fault.Ended k = k
+      stops fault.Read k = tt
+      stops fault.Write k = tt
+      stops (fault.Peer code) k = tt
+      stops (fault.Refused code) k = tt
+      stops fault.UnknownResponse k = tt
+      stops (fault.Service code) k = tt
+      stops fault.TooLarge k = tt
+      stops fault.NotWritable k = tt
+      stops fault.Exhausted k = tt
+      stops fault.Closed k = tt
+      stops fault.OutOfMemory k = tt
+
+  module _ {B : Type 0} (P : B → Type 0) (found : B) (h : Waits is_agreed P x mid b c most_reads left (Ok found)) (opening : List ℕ) (open_is : P found → opening ≡ open_octets moment) where
+    -- what an ACK told
+    agreed-told : Goes (channel_of x) [] [] [] → (told : List Told) × (list_any is_agreed told ≡ true) × Goes (channel_of mid) [] h.moves.taken told
+    agreed-told g =
+        let u = (h.answers [] [] [] g).0 in
+        (u.heard ++ u.last ∷ [], any-last is_agreed u.heard u.last u.is_wanted, u.goes)
+
+    opening-is : Goes (channel_of x) [] [] [] → opening ≡ open_octets moment
+    opening-is g = open_is (h.answers [] [] [] g).1
+
+    both-sent : Goes (channel_of x) [] [] [] → hello ++ opening ≡ hello_octets (limits_of (channel_of x)) (url_of (channel_of x)) ++ open_octets moment
+    both-sent g = ap (λ (o : List ℕ). o ++ opening) is ∙ ap (λ (o : List ℕ). hello_octets (limits_of (channel_of x)) (url_of (channel_of x)) ++ o) (opening-is g)
+
+    -- the OPN was not written whole
+    pub opens-unasked : {A : Type 0} (d : Option Traffic) → WhereTold (WritesFront opening) c d → Opens {A = A} moment x mid a d (Err fault.Write)
+    opens-unasked d k =
+        let front = sends-front opening c d k in
+        let m : Moves x mid (hello ++ front.0) a d = moves-behind x mid mid hello front.0 a c d (sent-first x mid hello a b c w h.moves)
+        (record { got = []; taken = []; parts = append-nil (untaken_of mid); carried = front.2 }) in
+        record {
+          sent = hello ++ front.0;
+          moves = m;
+          keeps = h.keeps;
+          answers = λ g. record {
+            more = front.1.more;
+            parts = sym (both-sent g) ∙ (ap (λ (o : List ℕ). hello ++ o) front.1.parts ∙ sym (append_assoc hello front.0 front.1.more));
+          };
+          stops = tt;
+        }
+
+    module _ (d e : Option Traffic) (new : Connection) (less : ℕ) (v : WhereTold (Carries [] opening) c d) where
+      abbrev both-moves : Moves mid new [] d e → Moves x new (hello ++ opening) a e
+      both-moves m = moves-behind x mid new hello opening a c e (sent-first x mid hello a b c w h.moves) (sent-first mid new opening c d e v m)
+
+      spent-most : (got : List ℕ) (n : ℕ) → left ≤ n + length got → most_reads ≤ n + length (h.moves.got ++ got)
+      spent-most got n k = let l = length-append h.moves.got got in let s = h.stops in omega (arith, l, s, k)
+
+      -- the channel is open
+      opens-open : (done : Unit {0}) → Waits is_opened any_done mid new d e left less (Ok done) → Opens moment x new a e (Ok done)
+      opens-open done k = record {
+        sent = hello ++ opening;
+        moves = both-moves k.moves;
+        keeps = keeps-then x mid new h.keeps k.keeps;
+        answers = λ g.
+            let t = agreed-told g in
+            let u = (k.answers [] h.moves.taken t.0 t.2).0 in (
+              both-sent g,
+              record {
+                told = t.0 ++ (u.heard ++ u.last ∷ []);
+                goes = u.goes;
+                agreed = any-left is_agreed t.0 (u.heard ++ u.last ∷ []) t.1;
+                opened = any-right is_opened t.0 (u.heard ++ u.last ∷ []) (any-right is_opened u.heard (u.last ∷ []) (ap (λ (y : Bool). y || false) u.is_wanted));
+              },
+            );
+        stops = omega arith;
+      }
+
+      -- the channel did not open
+      opens-unopened : (f : ClientFault) → Waits is_opened any_done mid new d e left less (Err f) → Opens {A = Unit {0}} moment x new a e (Err f)
+      opens-unopened f k = record {
+        sent = hello ++ opening;
+        moves = both-moves k.moves;
+        keeps = keeps-then x mid new h.keeps k.keeps;
+        answers = λ g. let t = agreed-told g in by f g t.0 t.1 (k.answers [] h.moves.taken t.0 t.2);
+        stops = stops f k.stops;
+      }
+        where
+          by : (y : ClientFault) → Goes (channel_of x) [] [] [] → (told : List Told) → list_any is_agreed told ≡ true → WaitsAt is_opened any_done (Err y) (channel_of new) [] (h.moves.taken ++ k.moves.taken) told
+              → BreaksOpening (hello_octets (limits_of (channel_of x)) (url_of (channel_of x))) (open_octets moment) (channel_of new) (hello ++ opening) (h.moves.taken ++ k.moves.taken) y
+          by fault.Read g told agreed i = inr (both-sent g, (told, agreed, i))
+          by fault.Ended g told agreed i = inr (both-sent g, (told, agreed, i))
+          by fault.TooLong g told agreed i = inr (both-sent g, (told, agreed, i))
+          by (fault.Peer code) g told agreed i = inr (both-sent g, (told, agreed, i))
+          by (fault.Refused code) g told agreed i = inr (both-sent g, (told, agreed, i))
+          by fault.OutOfMemory g told agreed i = record { more = []; parts = sym (both-sent g) ∙ sym (append-nil (hello ++ opening)) }
+          by fault.Write g told agreed i = absurd i
+          by fault.UnknownResponse g told agreed i = absurd i
+          by (fault.Service code) g told agreed i = absurd i
+          by fault.TooLarge g told agreed i = absurd i
+          by fault.NotWritable g told agreed i = absurd i
+          by fault.Exhausted g told agreed i = absurd i
+          by fault.Closed g told agreed i = absurd i
+
+          stops : (y : ClientFault) → StopsAt {A = Unit {0}} left less k.moves.got new e (Err y) → StopsAt {A = Unit {0}} most_reads most_reads (h.moves.got ++ k.moves.got) new e (Err y)
+          stops fault.TooLong i = let l = length-append h.moves.got k.moves.got in let s = h.stops in omega (arith, l, s, i)
+          stops fault.Ended i = i
+          stops fault.Read i = tt
+          stops fault.Write i = tt
+          stops (fault.Peer code) i = tt
+          stops (fault.Refused code) i = tt
+          stops fault.UnknownResponse i = tt
+          stops (fault.Service code) i = tt
+          stops fault.TooLarge i = tt
+          stops fault.NotWritable i = tt
+          stops fault.Exhausted i = tt
+          stops fault.Closed i = tt
+          stops fault.OutOfMemory i = tt
+
+      pub opens-last : (r : Result (Unit {0}) ClientFault) → Waits is_opened any_done mid new d e left less r → Opens moment x new a e r
+      opens-last (Ok done) k = opens-open done k
+      opens-last (Err f) k = opens-unopened f k
+
+-- ---- a client
+
+-- a channel of which nothing was sent and nothing came
+pub fresh-goes : (x : ClientChannel) → Stands x [] [] [] [] → Goes x [] [] []
+unfolding each_after
+fresh-goes x s = record { frames = []; rest = []; stands = s; told_is = refl }
+
+pub opens-as : {A B : Type 0} (moment : DateTime) (old new : Connection) (before after : Option Traffic) (done : A) (found : B) → Opens moment old new before after (Ok done) → Opens moment old new before after (Ok found)
+opens-as moment old new before after done found h = record { sent = h.sent; moves = h.moves; keeps = h.keeps; answers = h.answers; stops = h.stops }
+
+pub breaks-as : {A B : Type 0} (moment : DateTime) (old new : Connection) (before after : Option Traffic) (f : ClientFault) → Opens {A = A} moment old new before after (Err f) → Opens {A = B} moment old new before after (Err f)
+breaks-as {A} {B} moment old new before after f h = record { sent = h.sent; moves = h.moves; keeps = h.keeps; answers = h.answers; stops = stops f h.stops }
+  where
+    stops : (y : ClientFault) → StopsAt {A = A} most_reads most_reads h.moves.got new after (Err y) → StopsAt {A = B} most_reads most_reads h.moves.got new after (Err y)
+    stops fault.TooLong i = i
+    stops fault.Ended i = i
+    stops fault.Read i = i
+    stops fault.Write i = i
+    stops (fault.Peer code) i = i
+    stops (fault.Refused code) i = i
+    stops fault.UnknownResponse i = i
+    stops (fault.Service code) i = i
+    stops fault.TooLarge i = i
+    stops fault.NotWritable i = i
+    stops fault.Exhausted i = i
+    stops fault.Closed i = i
+    stops fault.OutOfMemory i = i

@@ -1,0 +1,30 @@
+-- What calls of a client read from a line and write to it.
+use Rattle.std.specs.Prelude.{◌≡◌, ◌++◌, ℕ, List, [], Option, Some, None, Result, Ok, Err}
+use Rattle.ua_octets.specs.Format.{Extends}
+use Rattle.ua_channel.specs.Line.{Traffic, one_more}
+
+-- these octets were read and these were written, between two moments
+pub record Carries (got sent : List ℕ) (before after : Traffic) : Type 0 where
+  pub coming : before.coming ≡ got ++ after.coming
+  pub written : after.written ≡ before.written ++ sent
+
+-- nothing was read, and a beginning of these octets was written
+pub record WritesFront (octets : List ℕ) (before after : Traffic) : Type 0 where
+  pub sent : List ℕ
+  pub front : Extends sent octets
+  pub carried : Carries [] sent before after
+
+-- what a write of these octets did: it wrote them all, or failed behind a beginning of them
+abbrev pub Writes : {A E : Type 0} → Result A E → List ℕ → Traffic → Traffic → Type 0
+Writes (Ok found) octets before after = Carries [] octets before after
+Writes (Err fault) octets before after = WritesFront octets before after
+
+-- a line that tells its octets has none to come
+abbrev pub IsAtEnd : Option Traffic → Type 0
+IsAtEnd None = Unit {0}
+IsAtEnd (Some traffic) = traffic.coming ≡ []
+
+-- the count of a line's failures behind a call that fails where the line does
+abbrev pub counted_by : {A E : Type 0} → ℕ → Result A E → ℕ
+counted_by before (Ok found) = before
+counted_by before (Err fault) = one_more before

@@ -1,0 +1,99 @@
+-- A client: when it is done, where it stands, how it is opened and closed.
+use Rattle.std.specs.Prelude.{◌≡◌, ℕ, true, false, List, [], Option, Some, None, Result, Ok, Err}
+use Rattle.ua_octets.specs.Format.{Extends}
+use Rattle.ua_builtin.specs.declared.date_time.DateTime.{DateTime}
+use Rattle.ua_frame.specs.Frames.{frame_octets}
+use Rattle.ua_frame.specs.declared.limits.Limits.{Limits}
+use Rattle.ua_chunk.specs.declared.lane.Lane.{Lane}
+use Rattle.ua_channel.specs.Client.{Goes, limits_of, url_of, next_of}
+use Rattle.ua_channel.specs.ClientSends.{close_frame}
+use Rattle.ua_channel.specs.Line.{Traffic, WhereTold}
+use Rattle.ua_channel.specs.declared.client.channel.ClientChannel.{ClientChannel}
+use Rattle.ua_client.specs.Site.{Site, At, id_at, lane_behind}
+use Rattle.ua_client.specs.Carried.{Carries}
+use Rattle.ua_client.specs.Hearing.{channel_of, untaken_of}
+use Rattle.ua_client.specs.Opening.{Opens}
+use Rattle.ua_client.specs.Ends.{ends}
+use Rattle.ua_client.specs.declared.client.Client.{Client}
+use Rattle.ua_client.specs.declared.connection.Connection.{Connection}
+use Rattle.ua_client.specs.declared.fault.ClientFault.{ClientFault}
+use Rattle.ua_client.specs.declared.fault.ClientFault.TheVariants as fault
+
+-- ---- a client, which is a channel over a line and whether it is done
+
+-- the connection of a client
+abbrev pub connection_of : Client → Connection
+connection_of x = x.connection
+
+-- the channel of a client
+abbrev pub client_channel : Client → ClientChannel
+client_channel x = x.connection.channel
+
+-- a client that failed or was closed
+abbrev pub IsDone : Client → Type 0
+IsDone x = x.is_done ≡ true
+
+-- a client that may be called
+abbrev pub IsReady : Client → Type 0
+IsReady x = x.is_done ≡ false
+
+-- a client stands there, and may be called
+pub record Stands (x : Client) (s : Site) : Type 0 where
+  pub ready : x.is_done ≡ false
+  pub at : At (client_channel x) s
+
+-- what a fault leaves: after a refusal to ask the client may be called, after any other it is done
+abbrev pub IsLeft : {A : Type 0} → Result A ClientFault → Client → Type 0
+IsLeft (Ok found) x = x.is_done ≡ false
+IsLeft (Err f) x = x.is_done ≡ ends f
+
+-- ---- opening
+
+-- a connection of which nothing was sent and nothing came, to the server of a URL
+pub record IsFresh (limits : Limits) (url : Option (List ℕ)) (x : Connection) : Type 0 where
+  pub goes : Goes (channel_of x) [] [] []
+  pub untaken : untaken_of x ≡ []
+  pub limits_are : limits_of (channel_of x) ≡ limits
+  pub url_is : url_of (channel_of x) ≡ url
+  pub next_is : next_of (channel_of x) ≡ 2
+
+-- a client was opened over this connection
+abbrev pub IsOver : Result Client ClientFault → Connection → Type 0
+IsOver (Ok x) last = (connection_of x ≡ last) × (x.is_done ≡ false)
+IsOver (Err f) last = Unit {0}
+
+-- what was done to open a client
+pub record OpensClient (limits : Limits) (url : Option (List ℕ)) (moment : DateTime) (before after : Option Traffic) (result : Result Client ClientFault) : Type 0 where
+  pub begun : Connection
+  pub fresh : IsFresh limits url begun
+  pub last : Connection
+  pub opens : Opens moment begun last before after result
+  pub over : IsOver result last
+
+-- nothing was done, since memory was refused
+abbrev pub OpensNothing : Option Traffic → Option Traffic → Result Client ClientFault → Type 0
+OpensNothing before after result = (result ≡ Err fault.OutOfMemory) × (after ≡ before)
+
+-- ---- closing
+
+-- the CLO of a channel at this moment, behind what was received and asked, with this sequence number (OPC 10000-6, 7.1.4)
+abbrev pub closing_by : Option Lane → ℕ → ℕ → DateTime → List ℕ
+closing_by None number id moment = []
+closing_by (Some lane) number id moment = frame_octets (close_frame lane.channel lane.token number id moment)
+
+-- the CLO of a client that stands there
+abbrev pub closing_at : Site → DateTime → List ℕ
+closing_at s moment = closing_by (lane_behind s.before) s.number (id_at s) moment
+
+-- what a close writes: the CLO, or behind a fault a beginning of it
+abbrev pub ClosesAt : {A : Type 0} → Site → DateTime → List ℕ → Result A ClientFault → Type 0
+ClosesAt s moment sent (Ok done) = sent ≡ closing_at s moment
+ClosesAt s moment sent (Err fault.Write) = Extends sent (closing_at s moment)
+ClosesAt s moment sent (Err fault.OutOfMemory) = sent ≡ []
+ClosesAt s moment sent (Err other) = ⊥
+
+-- a close: nothing is read
+pub record Closes {A : Type 0} (moment : DateTime) (old : ClientChannel) (before after : Option Traffic) (result : Result A ClientFault) : Type 0 where
+  pub sent : List ℕ
+  pub carried : WhereTold (Carries [] sent) before after
+  pub answers : (s : Site) → At old s → ClosesAt s moment sent result

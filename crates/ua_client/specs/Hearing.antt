@@ -1,0 +1,176 @@
+-- What a client hears: what it reads from its line, what of that its channel takes, and what that tells.
+use Rattle.std.specs.Prelude.{◌≡◌, ◌+◌, ◌*◌, ◌<◌, ◌≤◌, ◌++◌, ℕ, Bool, true, false, cond, List, [], length, Option, Some, None, Result, Ok, Err, IfOk, IfErr}
+use Rattle.std.specs.List.{concat}
+use Rattle.ua_builtin.specs.declared.date_time.DateTime.{DateTime}
+use Rattle.ua_builtin.specs.declared.status_code.StatusCode.{StatusCode}
+use Rattle.ua_channel.specs.Asks.{Placed}
+use Rattle.ua_channel.specs.Client.{Goes, GoesTelling, Ended, IsDone, SameClient, next_of}
+use Rattle.ua_channel.specs.ClientSends.{first_open}
+use Rattle.ua_channel.specs.ClientTold.{Told, ours, peers}
+use Rattle.ua_channel.specs.ClientTold.Told.{Agreed, Opened, Answered, GaveUp, Renewed}
+use Rattle.ua_channel.specs.Line.{Traffic, WhereTold, one_more}
+use Rattle.ua_channel.specs.declared.client.channel.ClientChannel.{ClientChannel}
+use Rattle.ua_channel.specs.declared.client.event.ClientEvent.{ClientEvent}
+use Rattle.ua_channel.specs.declared.client.event.ClientEvent.TheVariants as event
+use Rattle.ua_channel.specs.declared.client.fault.ClientTakeFault.{ClientTakeFault}
+use Rattle.ua_channel.specs.declared.client.fault.ClientTakeFault.TheVariants as take_fault
+use Rattle.ua_frame.specs.declared.ack.Ack.{Ack}
+use Rattle.ua_frame.specs.Frames.{frame_octets}
+use Rattle.ua_client.specs.Carried.{Carries, IsAtEnd}
+use Rattle.ua_client.specs.declared.connection.Connection.{Connection}
+use Rattle.ua_client.specs.declared.fault.ClientFault.{ClientFault}
+use Rattle.ua_client.specs.declared.fault.ClientFault.TheVariants as fault
+
+-- ---- a connection
+
+-- the channel of a connection
+abbrev pub channel_of : Connection → ClientChannel
+channel_of x = x.channel
+
+-- what was read from the line and is not taken yet
+abbrev pub untaken_of : Connection → List ℕ
+untaken_of x = x.piece
+
+-- the channel keeps its limits and its URL, and sends next what it would have sent
+pub record Keeps (old new : Connection) : Type 0 where
+  pub same : SameClient (channel_of old) (channel_of new)
+  pub next : next_of (channel_of new) ≡ next_of (channel_of old)
+
+-- ---- faults of the line
+
+-- the line failed
+abbrev pub is_line_fault : ClientFault → Bool
+is_line_fault fault.Read = true
+is_line_fault fault.Write = true
+is_line_fault other = false
+
+-- the count of a line's failures behind a call of a client: Read and Write are one failure more, and nothing else is one
+abbrev pub failures_behind : {A : Type 0} → ℕ → Result A ClientFault → ℕ
+failures_behind before (Ok found) = before
+failures_behind before (Err f) = cond (is_line_fault f) (one_more before) before
+
+-- why a channel failed: the server refused, or this end did
+abbrev pub failure_of : StatusCode → Bool → ClientFault
+failure_of code peer = cond peer (fault.Peer code) (fault.Refused code)
+
+-- what a fault of the channel comes to
+abbrev pub of_take_fault : ClientTakeFault → ClientFault
+of_take_fault take_fault.Closed = fault.Closed
+of_take_fault take_fault.OutOfMemory = fault.OutOfMemory
+
+-- ---- octets
+
+-- between two moments these octets were taken, of those that were untaken and those that were read
+pub record Moves (old new : Connection) (sent : List ℕ) (before after : Option Traffic) : Type 0 where
+  pub got : List ℕ
+  pub taken : List ℕ
+  pub parts : untaken_of old ++ got ≡ taken ++ untaken_of new
+  pub carried : WhereTold (Carries got sent) before after
+
+-- ---- what is told
+
+-- an event as what was told; where something is to be sent, it is the OPN of this moment
+abbrev pub Says : DateTime → ClientEvent → Told → Type 0
+Says moment event.NeedMore t = ⊥
+Says moment (event.Send sent) t = (sent.items ≡ frame_octets (first_open moment)) × ((ack : Ack) × (t ≡ Agreed ack))
+Says moment event.Open t = (channel : ℕ) × ((token : ℕ) × (t ≡ Opened channel token))
+Says moment (event.Answered id message) t = t ≡ Answered id (concat message)
+Says moment (event.Aborted id code) t = t ≡ GaveUp id code
+Says moment (event.Failed code peer) t = ⊥
+Says moment (event.Renewed token) t = t ≡ Renewed token
+
+-- an event was told, and its frame is the last of these octets
+abbrev pub TellsEvent : DateTime → ClientEvent → ClientChannel → List Placed → List ℕ → List Told → Type 0
+TellsEvent moment e new asks octets told = (t : Told) × Says moment e t × GoesTelling new asks octets told t
+
+-- ---- one call of the channel
+
+-- what is answered where nothing, or an event, was told at the end of these octets
+abbrev pub ListensAt : DateTime → Result (Option ClientEvent) ClientFault → ClientChannel → List Placed → List ℕ → List Told → Type 0
+ListensAt moment (Ok None) new asks octets told = Goes new asks octets told
+ListensAt moment (Ok (Some e)) new asks octets told = TellsEvent moment e new asks octets told
+ListensAt moment (Err (fault.Peer code)) new asks octets told = Ended new asks octets told (peers code.code)
+ListensAt moment (Err (fault.Refused code)) new asks octets told = Ended new asks octets told (ours code.code)
+ListensAt moment (Err fault.OutOfMemory) new asks octets told = IsDone new
+ListensAt moment (Err other) new asks octets told = ⊥
+
+-- the faults of a call of the channel
+abbrev pub is_channel_fault : ClientFault → Bool
+is_channel_fault (fault.Peer code) = true
+is_channel_fault (fault.Refused code) = true
+is_channel_fault fault.OutOfMemory = true
+is_channel_fault fault.Closed = true
+is_channel_fault other = false
+
+-- how much is left untaken: nothing where nothing was told, and less than before at an event
+abbrev pub LeavesLess : Connection → Connection → Result (Option ClientEvent) ClientFault → Type 0
+LeavesLess old new (Ok None) = untaken_of new ≡ []
+LeavesLess old new (Ok (Some e)) = 0 < length (untaken_of old) → length (untaken_of new) < length (untaken_of old)
+LeavesLess old new (Err f) = Unit {0}
+
+-- what was read is taken up to the first event
+pub record Listens (old new : Connection) (moment : DateTime) (result : Result (Option ClientEvent) ClientFault) : Type 0 where
+  pub taken : List ℕ
+  pub parts : untaken_of old ≡ taken ++ untaken_of new
+  pub keeps : Keeps old new
+  pub left : LeavesLess old new result
+  pub faults : IfErr result (λ f. is_channel_fault f ≡ true)
+  pub answers : (asks : List Placed) (octets : List ℕ) (told : List Told) → Goes (channel_of old) asks octets told
+      → ListensAt moment result (channel_of new) asks (octets ++ taken) told
+
+-- ---- a read
+
+-- the most reads of a call, a number of 64 bits
+abbrev pub most_reads : ℕ
+most_reads = 0xFFFF_FFFF_FFFF_FFFF
+
+-- what may still be done with so many reads left: each brings at most 4096 octets, and each octet at most one event
+abbrev pub effort : ℕ → Connection → ℕ
+effort reads x = 4097 * reads + length (untaken_of x)
+
+-- what became of a read: something is untaken, and no more reads were made than octets came; no reads were left; nothing came, which
+-- is the end of the input; or the line failed
+abbrev pub FillsAt : {A : Type 0} → ℕ → ℕ → List ℕ → Connection → Option Traffic → Result A ClientFault → Type 0
+FillsAt reads left got new after (Ok found) = (0 < length (untaken_of new)) × (reads ≤ left + length got)
+FillsAt reads left got new after (Err fault.TooLong) = reads ≡ 0
+FillsAt reads left got new after (Err fault.Ended) = (untaken_of new ≡ []) × IsAtEnd after
+FillsAt reads left got new after (Err fault.Read) = Unit {0}
+FillsAt reads left got new after (Err other) = ⊥
+
+-- where all is taken, the next piece was read, behind so many reads that were left before and after
+pub record Fills {A : Type 0} (old new : Connection) (before after : Option Traffic) (reads left : ℕ) (result : Result A ClientFault) : Type 0 where
+  pub got : List ℕ
+  pub untaken : untaken_of new ≡ untaken_of old ++ got
+  pub channel : channel_of new ≡ channel_of old
+  pub carried : WhereTold (Carries got []) before after
+  pub no_more : effort left new ≤ effort reads old
+  pub found : FillsAt reads left got new after result
+
+-- ---- up to an event
+
+-- what is answered where an event was told at the end of these octets, or a fault came behind them
+abbrev pub HearsAt : DateTime → Result ClientEvent ClientFault → ClientChannel → List Placed → List ℕ → List Told → Type 0
+HearsAt moment (Ok e) new asks octets told = TellsEvent moment e new asks octets told
+HearsAt moment (Err (fault.Peer code)) new asks octets told = Ended new asks octets told (peers code.code)
+HearsAt moment (Err (fault.Refused code)) new asks octets told = Ended new asks octets told (ours code.code)
+HearsAt moment (Err fault.OutOfMemory) new asks octets told = IsDone new
+HearsAt moment (Err fault.Ended) new asks octets told = Goes new asks octets told
+HearsAt moment (Err fault.Read) new asks octets told = Goes new asks octets told
+HearsAt moment (Err fault.TooLong) new asks octets told = Goes new asks octets told
+HearsAt moment (Err other) new asks octets told = ⊥
+
+-- at the end of the input all is taken, and a line that tells its octets has none to come; too many reads are as many as octets came
+abbrev pub StopsAt : {A : Type 0} → ℕ → ℕ → List ℕ → Connection → Option Traffic → Result A ClientFault → Type 0
+StopsAt reads left got new after (Ok found) = reads ≤ left + length got
+StopsAt reads left got new after (Err fault.TooLong) = reads ≤ length got
+StopsAt reads left got new after (Err fault.Ended) = (untaken_of new ≡ []) × IsAtEnd after
+StopsAt reads left got new after (Err other) = Unit {0}
+
+-- the octets up to an event, or up to a fault
+pub record Hears (old new : Connection) (moment : DateTime) (before after : Option Traffic) (reads left : ℕ) (result : Result ClientEvent ClientFault) : Type 0 where
+  pub moves : Moves old new [] before after
+  pub keeps : Keeps old new
+  pub answers : (asks : List Placed) (octets : List ℕ) (told : List Told) → Goes (channel_of old) asks octets told
+      → HearsAt moment result (channel_of new) asks (octets ++ moves.taken) told
+  pub less : IfOk result (λ e. effort left new < effort reads old)
+  pub stops : StopsAt reads left moves.got new after result

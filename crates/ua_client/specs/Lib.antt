@@ -1,0 +1,9 @@
+-- The definitions, in the order in which they are best read: what goes over the line, what is told of a call, what is heard, where a
+-- client stands, and what its calls come to.
+pub mod Carried
+pub mod Told
+pub mod Hearing
+pub mod Site
+pub mod Opening
+pub mod Ends
+pub mod Client

@@ -1,0 +1,126 @@
+-- How a client opens its connection: it sends the HEL, behind the ACK the OPN, and waits until the channel is open
+-- (OPC 10000-6, 6.7 and 7.1).
+use Rattle.std.specs.Prelude.{◌≡◌, ◌⊎◌, ◌++◌, ℕ, Bool, true, false, List, [], ◌∷◌, Option, Result, Ok, Err}
+use Rattle.std.specs.List.{list_any}
+use Rattle.ua_octets.specs.Format.{Extends}
+use Rattle.ua_builtin.specs.declared.date_time.DateTime.{DateTime}
+use Rattle.ua_frame.specs.Frames.{frame_octets}
+use Rattle.ua_frame.specs.declared.limits.Limits.{Limits}
+use Rattle.ua_channel.specs.Asks.{Placed}
+use Rattle.ua_channel.specs.Client.{Goes, Ended, limits_of, url_of}
+use Rattle.ua_channel.specs.ClientSends.{first_open, hello_frame, hello_to}
+use Rattle.ua_channel.specs.ClientTold.{Told, Why, ours, peers}
+use Rattle.ua_channel.specs.ClientTold.Told.{Agreed, Opened, Answered, GaveUp, Renewed}
+use Rattle.ua_channel.specs.Line.{Traffic}
+use Rattle.ua_channel.specs.declared.client.channel.ClientChannel.{ClientChannel}
+use Rattle.ua_client.specs.Hearing.{channel_of, most_reads, Keeps, Moves, StopsAt}
+use Rattle.ua_client.specs.declared.connection.Connection.{Connection}
+use Rattle.ua_client.specs.declared.fault.ClientFault.{ClientFault}
+use Rattle.ua_client.specs.declared.fault.ClientFault.TheVariants as fault
+
+-- ---- waiting
+
+-- an ACK was agreed to
+abbrev pub is_agreed : Told → Bool
+is_agreed (Agreed ack) = true
+is_agreed (Opened channel token) = false
+is_agreed (Answered id octets) = false
+is_agreed (GaveUp id code) = false
+is_agreed (Renewed token) = false
+
+-- the channel is open
+abbrev pub is_opened : Told → Bool
+is_opened (Agreed ack) = false
+is_opened (Opened channel token) = true
+is_opened (Answered id octets) = false
+is_opened (GaveUp id code) = false
+is_opened (Renewed token) = false
+
+-- more was told, and nothing of it is what is waited for
+pub record GoesWithout (wanted : Told → Bool) (x : ClientChannel) (asks : List Placed) (octets : List ℕ) (told : List Told) : Type 0 where
+  pub heard : List Told
+  pub none : list_any wanted heard ≡ false
+  pub goes : Goes x asks octets (told ++ heard)
+
+-- more was told, and the last of it is the first that is waited for
+pub record GoesUntil (wanted : Told → Bool) (x : ClientChannel) (asks : List Placed) (octets : List ℕ) (told : List Told) : Type 0 where
+  pub heard : List Told
+  pub none : list_any wanted heard ≡ false
+  pub last : Told
+  pub is_wanted : wanted last ≡ true
+  pub goes : Goes x asks octets (told ++ (heard ++ last ∷ []))
+
+-- more was told, and nothing of it is what is waited for, when the connection ended
+pub record EndsWithout (wanted : Told → Bool) (x : ClientChannel) (asks : List Placed) (octets : List ℕ) (told : List Told) (why : Why) : Type 0 where
+  pub heard : List Told
+  pub none : list_any wanted heard ≡ false
+  pub ended : Ended x asks octets (told ++ heard) why
+
+-- what is answered where something is waited for
+abbrev pub WaitsAt : {A : Type 0} → (Told → Bool) → (A → Type 0) → Result A ClientFault → ClientChannel → List Placed → List ℕ → List Told → Type 0
+WaitsAt wanted P (Ok found) new asks octets told = GoesUntil wanted new asks octets told × P found
+WaitsAt wanted P (Err (fault.Peer code)) new asks octets told = EndsWithout wanted new asks octets told (peers code.code)
+WaitsAt wanted P (Err (fault.Refused code)) new asks octets told = EndsWithout wanted new asks octets told (ours code.code)
+WaitsAt wanted P (Err fault.Ended) new asks octets told = GoesWithout wanted new asks octets told
+WaitsAt wanted P (Err fault.Read) new asks octets told = GoesWithout wanted new asks octets told
+WaitsAt wanted P (Err fault.TooLong) new asks octets told = GoesWithout wanted new asks octets told
+WaitsAt wanted P (Err fault.OutOfMemory) new asks octets told = Unit {0}
+WaitsAt wanted P (Err other) new asks octets told = ⊥
+
+-- the octets up to what is waited for, or up to a fault
+pub record Waits {A : Type 0} (wanted : Told → Bool) (P : A → Type 0) (old new : Connection) (before after : Option Traffic) (reads left : ℕ) (result : Result A ClientFault) : Type 0 where
+  pub moves : Moves old new [] before after
+  pub keeps : Keeps old new
+  pub answers : (asks : List Placed) (octets : List ℕ) (told : List Told) → Goes (channel_of old) asks octets told → WaitsAt wanted P result (channel_of new) asks (octets ++ moves.taken) told
+  pub stops : StopsAt reads left moves.got new after result
+
+-- whatever is answered
+abbrev pub any_done : Unit {0} → Type 0
+any_done done = Unit {0}
+
+-- ---- opening
+
+-- the HEL of a client with these limits to the server of this URL (OPC 10000-6, 7.1.2.3)
+abbrev pub hello_octets : Limits → Option (List ℕ) → List ℕ
+hello_octets limits url = frame_octets (hello_frame (hello_to limits url))
+
+-- the OPN at this moment (OPC 10000-6, 6.7.2)
+abbrev pub open_octets : DateTime → List ℕ
+open_octets moment = frame_octets (first_open moment)
+
+-- the channel of this connection is open: among what its frames told are an ACK and, last, that the channel is open
+pub record IsOpened (x : ClientChannel) (octets : List ℕ) : Type 0 where
+  pub told : List Told
+  pub goes : Goes x [] octets told
+  pub agreed : list_any is_agreed told ≡ true
+  pub opened : list_any is_opened told ≡ true
+
+-- the connection was not opened: no ACK came behind the HEL; or one came, the OPN was sent, and nothing opened the channel behind it
+abbrev pub BreaksWaiting : List ℕ → List ℕ → ClientChannel → List ℕ → List ℕ → ClientFault → Type 0
+BreaksWaiting hello opening new sent taken f =
+    ((sent ≡ hello) × WaitsAt is_agreed any_done (Err f) new [] taken [])
+    ⊎ ((sent ≡ hello ++ opening) × ((told : List Told) × (list_any is_agreed told ≡ true) × WaitsAt is_opened any_done (Err f) new [] taken told))
+
+-- the same by the fault: where the line failed to write, or memory was refused, a beginning of the HEL and the OPN was sent
+abbrev pub BreaksOpening : List ℕ → List ℕ → ClientChannel → List ℕ → List ℕ → ClientFault → Type 0
+BreaksOpening hello opening new sent taken fault.Write = Extends sent (hello ++ opening)
+BreaksOpening hello opening new sent taken fault.OutOfMemory = Extends sent (hello ++ opening)
+BreaksOpening hello opening new sent taken fault.Read = BreaksWaiting hello opening new sent taken fault.Read
+BreaksOpening hello opening new sent taken fault.Ended = BreaksWaiting hello opening new sent taken fault.Ended
+BreaksOpening hello opening new sent taken fault.TooLong = BreaksWaiting hello opening new sent taken fault.TooLong
+BreaksOpening hello opening new sent taken (fault.Peer code) = BreaksWaiting hello opening new sent taken (fault.Peer code)
+BreaksOpening hello opening new sent taken (fault.Refused code) = BreaksWaiting hello opening new sent taken (fault.Refused code)
+BreaksOpening hello opening new sent taken other = ⊥
+
+-- what becomes of an opening
+abbrev pub OpensAt : {A : Type 0} → List ℕ → List ℕ → ClientChannel → List ℕ → List ℕ → Result A ClientFault → Type 0
+OpensAt hello opening new sent taken (Ok done) = (sent ≡ hello ++ opening) × IsOpened new taken
+OpensAt hello opening new sent taken (Err f) = BreaksOpening hello opening new sent taken f
+
+-- a connection of which nothing was sent and nothing came is opened
+pub record Opens {A : Type 0} (moment : DateTime) (old new : Connection) (before after : Option Traffic) (result : Result A ClientFault) : Type 0 where
+  pub sent : List ℕ
+  pub moves : Moves old new sent before after
+  pub keeps : Keeps old new
+  pub answers : Goes (channel_of old) [] [] [] → OpensAt (hello_octets (limits_of (channel_of old)) (url_of (channel_of old))) (open_octets moment) (channel_of new) sent moves.taken result
+  pub stops : StopsAt most_reads most_reads moves.got new after result

@@ -1,0 +1,42 @@
+-- Where a client stands.
+use Rattle.std.specs.Prelude.{◌≡◌, ℕ, List, Option, Some, None}
+use Rattle.ua_chunk.specs.declared.lane.Lane.{Lane}
+use Rattle.ua_frame.specs.declared.ack.Ack.{Ack}
+use Rattle.ua_channel.specs.Asks.{Placed, asked_in, next_id}
+use Rattle.ua_channel.specs.Client.{Goes, next_of}
+use Rattle.ua_channel.specs.ClientAsks.{room_of}
+use Rattle.ua_channel.specs.ClientTokens.{responses, channel_in, held_tokens}
+use Rattle.ua_channel.specs.ClientTold.{Told}
+use Rattle.ua_channel.specs.Received.{Received, latest, received}
+use Rattle.ua_channel.specs.declared.client.channel.ClientChannel.{ClientChannel}
+
+-- where a client stands: what it asked, each with its place; the octets that its channel took, what their frames brought, and what
+-- they told; the sequence number that is sent next
+pub record Site : Type 0 where
+  pub asks : List Placed
+  pub octets : List ℕ
+  pub before : Received
+  pub told : List Told
+  pub number : ℕ
+
+-- a channel stands there
+pub record At (x : ClientChannel) (s : Site) : Type 0 where
+  pub goes : Goes x s.asks s.octets s.told
+  pub before_is : received goes.frames ≡ s.before
+  pub number_is : next_of x ≡ s.number
+
+-- the request id of the next call
+abbrev pub id_at : Site → ℕ
+id_at s = next_id (asked_in s.asks)
+
+-- where calls go by an ACK, on a channel and under a token
+abbrev pub lane_by : Option Ack → Option ℕ → Option ℕ → Option Lane
+lane_by (Some a) (Some channel) (Some token) = Some (record { channel = channel; token = token; room = room_of a; octets = a.max_message_size; chunks = a.max_chunk_count })
+lane_by (Some a) (Some channel) None = None
+lane_by (Some a) None token = None
+lane_by None channel token = None
+
+-- where calls go after what was received: to the channel of the first OPN response, under the newest token, in chunks of what the server
+-- receives (OPC 10000-6, 6.7.2 and 7.1.2.4)
+abbrev pub lane_behind : Received → Option Lane
+lane_behind before = lane_by before.ack (channel_in (responses before.openings)) (latest (held_tokens before))

@@ -1,0 +1,66 @@
+//! A client over a line.
+
+ghost use Rattle.std.specs.Prelude.{◌≡◌, ◌⊎◌, IsTrue, Err};
+ghost use Rattle.ua_octets.specs.Counted.{text};
+ghost use Rattle.ua_client.specs.Client.{OpensNothing, OpensClient, IsDone, IsReady, Closes, client_channel};
+ghost use Rattle.ua_client.specs.Hearing.{failures_behind};
+ghost use Rattle.ua_client.specs.declared.fault.ClientFault.TheVariants.{Closed};
+
+use crate::connection::Connection;
+use crate::fault::ClientFault;
+use std::alloc::Global;
+use ua_builtin::{DateTime, UaString};
+use ua_channel::Line;
+use ua_frame::Limits;
+
+/// A client whose channel is open.
+#[derive(Drop)]
+pub struct Client {
+    alloc: Global,
+    connection: Connection,
+    /// It failed or was closed.
+    is_done: bool,
+}
+
+impl Client {
+    /// Opens a connection over a line, and a channel on it, to the server of this URL: the HEL is
+    /// written, behind the ACK the OPN.
+    pub fn open<L: Line>(
+        alloc: Global,
+        line: &mut L,
+        limits: Limits,
+        url: UaString,
+        moment: DateTime,
+    ) -> Result<Client, ClientFault>
+        requires { IsTrue (text.encodable url) }
+        ensures opens { OpensNothing (L.traffic line.old) (L.traffic line.new) result ⊎ OpensClient limits url moment (L.traffic line.old) (L.traffic line.new) result }
+        ensures failed { L.failures line.new ≡ failures_behind (L.failures line.old) result }
+    {
+        let mut connection = match Connection::new(alloc, limits, url) {
+            Ok(connection) => connection,
+            Err(fault) => return Err(fault),
+        };
+        match connection.open(line, moment) {
+            Ok(()) => Ok(Client {
+                alloc,
+                connection,
+                is_done: false,
+            }),
+            Err(fault) => Err(fault),
+        }
+    }
+
+    /// Closes the channel by the CLO, after which the client is done.
+    pub fn close<L: Line>(&mut self, line: &mut L, moment: DateTime) -> Result<(), ClientFault>
+        ensures closes { IsReady self.old → Closes moment (client_channel self.old) (L.traffic line.old) (L.traffic line.new) result }
+        ensures done { IsDone self.new }
+        ensures closed { IsDone self.old → (result ≡ Err Closed) × (self.new ≡ self.old) × (line.new ≡ line.old) }
+        ensures failed { L.failures line.new ≡ failures_behind (L.failures line.old) result }
+    {
+        if self.is_done {
+            return Err(ClientFault::Closed);
+        }
+        self.is_done = true;
+        self.connection.close(line, moment)
+    }
+}

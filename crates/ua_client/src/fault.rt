@@ -1,0 +1,76 @@
+//! Why a client does not answer.
+
+use std::alloc::AllocError;
+use thiserror::Error;
+use ua_builtin::StatusCode;
+
+/// Why a call of a client did not do what it is for. After all of these but `TooLarge`, `NotWritable`
+/// and `Exhausted` the client is failed, and answers `Closed`.
+#[derive(Clone, Copy, PartialEq, Eq, Debug, Error)]
+pub enum ClientFault {
+    /// A read of the line failed.
+    #[error("a read of the line failed")]
+    Read,
+    /// A write of the line failed.
+    #[error("a write of the line failed")]
+    Write,
+    /// The line's input ended before all that was waited for had come.
+    #[error("the input ended")]
+    Ended,
+    /// The server said by an ERR frame that it refused the connection, and why.
+    #[error("the server refused the connection")]
+    Peer(StatusCode),
+    /// This end refused what the server sent, and why.
+    #[error("what the server sent was refused")]
+    Refused(StatusCode),
+    /// A reply is no response, or neither of its request's own kind nor a ServiceFault.
+    #[error("the response is unknown")]
+    UnknownResponse,
+    /// The server refused to begin a session, and why.
+    #[error("the service failed")]
+    Service(StatusCode),
+    /// The server does not take a request of so many octets or chunks.
+    #[error("the request is too large")]
+    TooLarge,
+    /// A request cannot be encoded.
+    #[error("the request cannot be encoded")]
+    NotWritable,
+    /// All request ids were used.
+    #[error("the request ids are exhausted")]
+    Exhausted,
+    /// The client failed or was closed.
+    #[error("closed")]
+    Closed,
+    /// Memory was refused.
+    #[error("out of memory")]
+    OutOfMemory,
+    /// The line was read 18446744073709551615 times.
+    #[error("too many reads")]
+    TooLong,
+}
+
+impl ClientFault {
+    ghost use Rattle.std.specs.Prelude.{◌≡◌};
+    ghost use Rattle.ua_client.specs.Ends.{ends};
+
+    /// Whether a client is failed after this: after all but a refusal to ask.
+    pub(crate) fn ends(self) -> bool
+        ensures { result ≡ ends self }
+    {
+        !matches!(
+            self,
+            ClientFault::TooLarge | ClientFault::NotWritable | ClientFault::Exhausted
+        )
+    }
+}
+
+impl From<AllocError> for ClientFault {
+    ghost use Rattle.std.specs.Prelude.{◌≡◌};
+    ghost use Rattle.ua_client.specs.declared.fault.ClientFault.TheVariants.{OutOfMemory};
+
+    ghost from_gives = { λ _ e. e ≡ OutOfMemory };
+
+    fn from(_: AllocError) -> ClientFault {
+        ClientFault::OutOfMemory
+    }
+}

@@ -1,0 +1,29 @@
+//! Laws of what a client hears of its calls.
+//!
+//! Each function does nothing; its contract is the law.
+
+ghost use Rattle.std.specs.Prelude.{◌≡◌, ◌+◌, ℕ, List, []};
+ghost use Rattle.ua_channel.specs.Asks.{Placed, asked_in, next_id};
+ghost use Rattle.ua_channel.specs.Client.{Goes, GoesTelling};
+ghost use Rattle.ua_channel.specs.ClientTold.{Told};
+ghost use Rattle.ua_channel.specs.declared.client.channel.ClientChannel.{ClientChannel};
+ghost use Rattle.ua_client.specs.Told.{told_of, IsFirstOf};
+
+use ua_channel::client_laws::{client_goes_on, client_pairs, client_tells_delivered};
+
+/// What is told of a call is the first that is told of it.
+pub fn calls_are_told_once()
+    ensures { (x : ClientChannel) (asks : List Placed) (octets : List ℕ) (told : List Told) (t : Told) → GoesTelling x asks octets told t → IsFirstOf told t }
+{
+    client_goes_on();
+    client_pairs();
+    client_tells_delivered();
+}
+
+/// Nothing is told of a call before it is asked.
+pub fn calls_are_told_behind()
+    ensures { (x : ClientChannel) (asks : List Placed) (octets : List ℕ) (told : List Told) (n : ℕ) → Goes x asks octets told → told_of (next_id (asked_in asks) + n) told ≡ [] }
+{
+    client_pairs();
+    client_tells_delivered();
+}
