@@ -6,8 +6,6 @@ use Rattle.ua_variant.specs.View.{row, row_list, value_within, data_fields_of, d
 use Rattle.ua_variant.specs.declared.values.Scalar.{Scalar}
 use Rattle.ua_variant.specs.declared.values.Variant.{Variant}
 use Rattle.ua_variant.specs.declared.values.DataValue.{DataValue}
-use Rattle.ua_parts.specs.declared.diagnostic_info.DiagnosticInfo.{DiagnosticInfo}
-use Rattle.ua_parts.proofs.Viewed.{diagnostic_forth, diagnostic_value_of}
 use Rattle.ua_variant.specs.Values.{made_data_value, data_value_value, leaf_value, scalar_value, variant_value}
 
 pub data_value_forth : (d : DataValueData) → data_value_of (data_value_value d) ≡ d
@@ -48,9 +46,9 @@ leaf_forth (reserved k x) = refl
 
 pub scalar_forth : (s : ScalarData) → scalar_of (scalar_value s) ≡ s
 scalar_forth (leaf l) = leaf_forth l
-scalar_forth (data_value d) = ap data_value (data_value_forth d)
+scalar_forth (data_value d) = refl
 scalar_forth (variant v) = refl
-scalar_forth (diagnostic d) = ap diagnostic (diagnostic_forth d)
+scalar_forth (diagnostic d) = refl
 
 pub scalar_value_of : (s : Scalar) → scalar_value (scalar_of s) ≡ s
 scalar_value_of (Scalar.Boolean x) = refl
@@ -75,9 +73,9 @@ scalar_value_of (Scalar.StatusCode x) = refl
 scalar_value_of (Scalar.QualifiedName x) = refl
 scalar_value_of (Scalar.LocalizedText x) = refl
 scalar_value_of (Scalar.ExtensionObject x) = refl
-scalar_value_of (Scalar.DataValue d) = ap (λ (x : DataValue). Scalar.DataValue x) (data_value_value_of d)
+scalar_value_of (Scalar.DataValue d) = refl
 scalar_value_of (Scalar.Variant v) = refl
-scalar_value_of (Scalar.DiagnosticInfo d) = ap (λ (x : DiagnosticInfo). Scalar.DiagnosticInfo x) (diagnostic_value_of d)
+scalar_value_of (Scalar.DiagnosticInfo d) = refl
 scalar_value_of (Scalar.Reserved k x) = refl
 
 pub row_back : (ss : ScalarsData) → row (row_list ss) ≡ ss

@@ -98,3 +98,7 @@ coded_scalar mark = code_by (Tree Mark) (coded_tree empty_mark mark) scalar_tree
 -- a list of scalars is coded by the codes of the scalars
 abbrev pub coded_scalars : Coded Mark → Coded (List ScalarData)
 coded_scalars mark = coded_list (coded_scalar mark)
+
+-- a DataValue is coded as its tree
+abbrev pub coded_data_value : Coded Mark → Coded DataValueData
+coded_data_value mark = code_by (Tree Mark) (coded_tree empty_mark mark) data_value_tree data_value_from data_value_back

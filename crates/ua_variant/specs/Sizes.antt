@@ -11,7 +11,7 @@ use Rattle.ua_variant.specs.declared.values.Scalar.{Scalar}
 use Rattle.ua_variant.specs.declared.values.Variant.{Variant}
 use Rattle.ua_variant.specs.declared.values.DataValue.{DataValue}
 use Rattle.ua_variant.specs.declared.values.Elements.{Elements}
-use Rattle.ua_variant.specs.declared.values.BoxedVariant.TheDeep.{deep-Variant, deep-Scalar, deep-DataValue, deep-Elements}
+use Rattle.ua_variant.specs.declared.values.BoxedDataValue.TheDeep.{deep-Variant, deep-Scalar, deep-DataValue, deep-Elements}
 use Rattle.ua_variant.specs.Values.{made_data_value}
 
 data_value_at : (v : Option VariantData) (f : DataFields) → deep-DataValue (made_data_value v f) ≤ 2 * data_value_count (value_within v f)
@@ -20,6 +20,9 @@ data_value_at (Some v) f = max-le (max-le (twice_within (data_fields_count f) (v
 
 pub data_value_falls : (d : DataValue) → deep-DataValue d ≤ 2 * data_value_count (data_value_of d)
 data_value_falls d = data_value_at d.value (data_fields_of d)
+
+pub boxed_data_value_falls : (d : DataValue) → max (deep-DataValue d) 0 ≤ 2 * data_value_count (data_value_of d)
+boxed_data_value_falls d = max-le (data_value_falls d) zero-le
 
 pub scalar_falls : (s : Scalar) → deep-Scalar s ≤ 2 * scalar_count (scalar_of s) + 1
 scalar_falls (Scalar.Boolean x) = zero-le
@@ -44,7 +47,7 @@ scalar_falls (Scalar.StatusCode x) = zero-le
 scalar_falls (Scalar.QualifiedName x) = zero-le
 scalar_falls (Scalar.LocalizedText x) = zero-le
 scalar_falls (Scalar.ExtensionObject x) = zero-le
-scalar_falls (Scalar.DataValue d) = max-le (one_more (deep-DataValue d) (2 * data_value_count (data_value_of d)) (data_value_falls d)) zero-le
+scalar_falls (Scalar.DataValue d) = max-le (le_refl _) zero-le
 scalar_falls (Scalar.Variant v) = max-le (le_refl _) zero-le
 scalar_falls (Scalar.DiagnosticInfo d) = zero-le
 scalar_falls (Scalar.Reserved k x) = zero-le

@@ -5,7 +5,6 @@ use Rattle.ua_variant.specs.View.{row_list}
 use Rattle.ua_variant.specs.declared.values.Scalar.{Scalar}
 use Rattle.ua_variant.specs.declared.values.Variant.{Variant}
 use Rattle.ua_variant.specs.declared.values.DataValue.{DataValue}
-use Rattle.ua_parts.specs.View.{diagnostic_value}
 
 -- the DataValue of the code with these fields, and with a value where there is one
 abbrev pub made_data_value : Option VariantData → DataFields → DataValue
@@ -52,9 +51,9 @@ leaf_value (reserved k x) = Scalar.Reserved k x
 -- the scalar of the code that stands for the data
 abbrev pub scalar_value : ScalarData → Scalar
 scalar_value (leaf l) = leaf_value l
-scalar_value (data_value d) = Scalar.DataValue (data_value_value d)
+scalar_value (data_value d) = Scalar.DataValue d
 scalar_value (variant v) = Scalar.Variant v
-scalar_value (diagnostic d) = Scalar.DiagnosticInfo (diagnostic_value d)
+scalar_value (diagnostic d) = Scalar.DiagnosticInfo d
 
 -- the Variant of the code that stands for the data
 abbrev pub variant_value : VariantData → Variant

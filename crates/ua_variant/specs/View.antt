@@ -62,9 +62,9 @@ scalar_of (Scalar.StatusCode x) = leaf (status_code x)
 scalar_of (Scalar.QualifiedName x) = leaf (qualified_name x)
 scalar_of (Scalar.LocalizedText x) = leaf (localized_text x)
 scalar_of (Scalar.ExtensionObject x) = leaf (extension_object x)
-scalar_of (Scalar.DataValue d) = data_value (data_value_of d)
+scalar_of (Scalar.DataValue d) = data_value d
 scalar_of (Scalar.Variant v) = variant v
-scalar_of (Scalar.DiagnosticInfo d) = diagnostic (diagnostic_of d)
+scalar_of (Scalar.DiagnosticInfo d) = diagnostic d
 scalar_of (Scalar.Reserved k x) = leaf (reserved k x)
 
 -- the elements of an array, as they are held

@@ -3,8 +3,12 @@
 ghost use Rattle.std.specs.Prelude.{◌≡◌, ◌≤◌, ◌-◌, drop, take, length, map, IfOk};
 ghost use Rattle.ua_variant.specs.View.{scalar_of};
 
-use crate::values::{BoxedVariant, DataValue, Elements, Scalar, Scalars, Variant};
+use crate::boxed::Boxed;
+use crate::values::{
+    BoxedDataValue, BoxedVariant, DataValue, Elements, HeldVariant, Scalar, Scalars, Variant,
+};
 use std::alloc::{AllocError, Global};
+use ua_parts::BoxedDiagnostic;
 
 impl Variant {
     /// A value of its own, equal to this one.
@@ -102,14 +106,29 @@ fn copy_scalar(alloc: Global, value: &Scalar) -> Result<Scalar, AllocError>
         Scalar::ByteString(x) => Ok(Scalar::ByteString(x.try_clone()?)),
         Scalar::XmlElement(x) => Ok(Scalar::XmlElement(x.try_clone()?)),
         Scalar::NodeId(x) => Ok(Scalar::NodeId(x.try_clone()?)),
-        Scalar::ExpandedNodeId(x) => Ok(Scalar::ExpandedNodeId(x.try_clone()?)),
+        Scalar::ExpandedNodeId(x) => Ok(Scalar::ExpandedNodeId(Boxed::new(
+            alloc,
+            x.get().try_clone()?,
+        )?)),
         Scalar::StatusCode(x) => Ok(Scalar::StatusCode(*x)),
         Scalar::QualifiedName(x) => Ok(Scalar::QualifiedName(x.try_clone()?)),
-        Scalar::LocalizedText(x) => Ok(Scalar::LocalizedText(x.try_clone()?)),
-        Scalar::ExtensionObject(x) => Ok(Scalar::ExtensionObject(x.try_clone()?)),
-        Scalar::DataValue(d) => Ok(Scalar::DataValue(copy_data_value(alloc, d)?)),
+        Scalar::LocalizedText(x) => Ok(Scalar::LocalizedText(Boxed::new(
+            alloc,
+            x.get().try_clone()?,
+        )?)),
+        Scalar::ExtensionObject(x) => Ok(Scalar::ExtensionObject(Boxed::new(
+            alloc,
+            x.get().try_clone()?,
+        )?)),
+        Scalar::DataValue(d) => {
+            let copy = copy_data_value(alloc, d.get())?;
+            Ok(Scalar::DataValue(BoxedDataValue::new(alloc, copy)?))
+        }
         Scalar::Variant(v) => Ok(Scalar::Variant(copy_boxed(alloc, v)?)),
-        Scalar::DiagnosticInfo(d) => Ok(Scalar::DiagnosticInfo(d.try_clone(alloc)?)),
+        Scalar::DiagnosticInfo(d) => {
+            let copy = d.get().try_clone(alloc)?;
+            Ok(Scalar::DiagnosticInfo(BoxedDiagnostic::new(alloc, copy)?))
+        }
         Scalar::Reserved(kind, x) => Ok(Scalar::Reserved(*kind, x.try_clone()?)),
     }
 }
@@ -149,7 +168,7 @@ fn copy_data_value(alloc: Global, value: &DataValue) -> Result<DataValue, AllocE
 {
     let copy = match &value.value {
         None => None,
-        Some(v) => Some(copy_boxed(alloc, v)?),
+        Some(v) => Some(HeldVariant::new(copy_variant(alloc, v.get())?)),
     };
     Ok(DataValue {
         value: copy,

@@ -159,14 +159,20 @@ fn scalar_levels_of(value: &Scalar) -> Option<u32>
         Scalar::ByteString(x) => no_levels_if(x.is_encodable()),
         Scalar::XmlElement(x) => no_levels_if(x.is_encodable()),
         Scalar::NodeId(x) => no_levels_if(x.is_encodable()),
-        Scalar::ExpandedNodeId(x) => no_levels_if(x.is_encodable()),
+        Scalar::ExpandedNodeId(x) => no_levels_if(x.get().is_encodable()),
         Scalar::StatusCode(x) => no_levels_if(x.is_encodable()),
         Scalar::QualifiedName(x) => no_levels_if(x.is_encodable()),
-        Scalar::LocalizedText(x) => no_levels_if(x.is_encodable()),
-        Scalar::ExtensionObject(x) => no_levels_if(x.is_encodable()),
-        Scalar::DataValue(d) => data_value_levels_of(d),
+        Scalar::LocalizedText(x) => no_levels_if(x.get().is_encodable()),
+        Scalar::ExtensionObject(x) => no_levels_if(x.get().is_encodable()),
+        Scalar::DataValue(d) => data_value_levels_of(d.get()),
         Scalar::Variant(v) => variant_levels_of(v.get()),
-        Scalar::DiagnosticInfo(d) => { if d.fits() { Some(d.depth()) } else { None } }
+        Scalar::DiagnosticInfo(d) => {
+            if d.get().fits() {
+                Some(d.get().depth())
+            } else {
+                None
+            }
+        }
         Scalar::Reserved(_, _) => None,
     }
 }

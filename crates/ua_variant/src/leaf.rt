@@ -7,6 +7,7 @@ ghost use Rattle.ua_variant.specs.Data.{LeafData, leaf};
 ghost use Rattle.ua_variant.specs.Leaf.{leaf_at, leaf_canonical, leaf_encodable, leaf_kind};
 ghost use Rattle.ua_variant.specs.View.{scalar_of};
 
+use crate::boxed::Boxed;
 use crate::values::Scalar;
 use std::alloc::Global;
 use ua_builtin::{
@@ -28,10 +29,20 @@ pub trait Leaf: Wire {
         ensures id { (x : Self) → leaf_kind (as_leaf x) ≡ kind }
         ensures fits { (x : Self) → leaf_encodable (as_leaf x) ≡ Self.format.encodable x }
         ensures canonical { (x : Self) → leaf_canonical (as_leaf x) ≡ Self.format.canonical x };
+}
 
+/// A type whose values a scalar holds in its place.
+pub trait HeldLeaf: Leaf {
     /// This value as a scalar.
     fn into_scalar(self) -> Scalar
-        ensures { scalar_of result ≡ leaf (as_leaf self) };
+        ensures { scalar_of result ≡ leaf (Self.as_leaf self) };
+}
+
+/// A type whose values a scalar holds on the heap.
+pub trait BoxedLeaf: Leaf + Drop {
+    /// This value as a scalar.
+    fn boxed_scalar(value: Boxed<Self>) -> Scalar
+        ensures { scalar_of result ≡ leaf (Self.as_leaf value) };
 }
 
 /// Reads a scalar as a value of its type.
@@ -45,13 +56,25 @@ pub fn read_leaf_as<T: Leaf, S: Source>(alloc: Global, src: &mut S) -> Result<T,
     Ok(value)
 }
 
-/// Reads a scalar of the type id of a type.
+/// Reads a scalar of the type id of a type, which holds its value in its place.
 #[inline]
-pub fn read_as<T: Leaf, S: Source>(alloc: Global, src: &mut S) -> Result<Scalar, ReadFault>
+pub fn read_as<T: HeldLeaf, S: Source>(alloc: Global, src: &mut S) -> Result<Scalar, ReadFault>
     ensures exact { GivesBy scalar_of (image_read leaf (leaf_at T.kind)) (S.octets src.old) (S.octets src.new) result }
     ensures behind { StaysBehind (S.octets src.old) (S.octets src.new) }
 {
     Ok(read_leaf_as::<T, S>(alloc, src)?.into_scalar())
+}
+
+/// Reads a scalar of the type id of a type, which holds its value on the heap.
+pub fn read_boxed_as<T: BoxedLeaf, S: Source>(
+    alloc: Global,
+    src: &mut S,
+) -> Result<Scalar, ReadFault>
+    ensures exact { GivesBy scalar_of (image_read leaf (leaf_at T.kind)) (S.octets src.old) (S.octets src.new) result }
+    ensures behind { StaysBehind (S.octets src.old) (S.octets src.new) }
+{
+    let value = Boxed::new(alloc, read_leaf_as::<T, S>(alloc, src)?)?;
+    Ok(T::boxed_scalar(value))
 }
 
 impl Leaf for bool {
@@ -64,7 +87,9 @@ impl Leaf for bool {
     #[inline]
     #[tactic(auto, unfolding(crate::specs::Leaf::leaf_at))]
     fn is_leaf() {}
+}
 
+impl HeldLeaf for bool {
     #[inline]
     fn into_scalar(self) -> Scalar {
         Scalar::Boolean(self)
@@ -81,7 +106,9 @@ impl Leaf for i8 {
     #[inline]
     #[tactic(auto, unfolding(crate::specs::Leaf::leaf_at))]
     fn is_leaf() {}
+}
 
+impl HeldLeaf for i8 {
     #[inline]
     fn into_scalar(self) -> Scalar {
         Scalar::SByte(self)
@@ -98,7 +125,9 @@ impl Leaf for u8 {
     #[inline]
     #[tactic(auto, unfolding(crate::specs::Leaf::leaf_at))]
     fn is_leaf() {}
+}
 
+impl HeldLeaf for u8 {
     #[inline]
     fn into_scalar(self) -> Scalar {
         Scalar::Byte(self)
@@ -115,7 +144,9 @@ impl Leaf for i16 {
     #[inline]
     #[tactic(auto, unfolding(crate::specs::Leaf::leaf_at))]
     fn is_leaf() {}
+}
 
+impl HeldLeaf for i16 {
     #[inline]
     fn into_scalar(self) -> Scalar {
         Scalar::Int16(self)
@@ -132,7 +163,9 @@ impl Leaf for u16 {
     #[inline]
     #[tactic(auto, unfolding(crate::specs::Leaf::leaf_at))]
     fn is_leaf() {}
+}
 
+impl HeldLeaf for u16 {
     #[inline]
     fn into_scalar(self) -> Scalar {
         Scalar::UInt16(self)
@@ -149,7 +182,9 @@ impl Leaf for i32 {
     #[inline]
     #[tactic(auto, unfolding(crate::specs::Leaf::leaf_at))]
     fn is_leaf() {}
+}
 
+impl HeldLeaf for i32 {
     #[inline]
     fn into_scalar(self) -> Scalar {
         Scalar::Int32(self)
@@ -166,7 +201,9 @@ impl Leaf for u32 {
     #[inline]
     #[tactic(auto, unfolding(crate::specs::Leaf::leaf_at))]
     fn is_leaf() {}
+}
 
+impl HeldLeaf for u32 {
     #[inline]
     fn into_scalar(self) -> Scalar {
         Scalar::UInt32(self)
@@ -183,7 +220,9 @@ impl Leaf for i64 {
     #[inline]
     #[tactic(auto, unfolding(crate::specs::Leaf::leaf_at))]
     fn is_leaf() {}
+}
 
+impl HeldLeaf for i64 {
     #[inline]
     fn into_scalar(self) -> Scalar {
         Scalar::Int64(self)
@@ -200,7 +239,9 @@ impl Leaf for u64 {
     #[inline]
     #[tactic(auto, unfolding(crate::specs::Leaf::leaf_at))]
     fn is_leaf() {}
+}
 
+impl HeldLeaf for u64 {
     #[inline]
     fn into_scalar(self) -> Scalar {
         Scalar::UInt64(self)
@@ -217,7 +258,9 @@ impl Leaf for FloatBits {
     #[inline]
     #[tactic(auto, unfolding(crate::specs::Leaf::leaf_at))]
     fn is_leaf() {}
+}
 
+impl HeldLeaf for FloatBits {
     #[inline]
     fn into_scalar(self) -> Scalar {
         Scalar::Float(self)
@@ -234,7 +277,9 @@ impl Leaf for DoubleBits {
     #[inline]
     #[tactic(auto, unfolding(crate::specs::Leaf::leaf_at))]
     fn is_leaf() {}
+}
 
+impl HeldLeaf for DoubleBits {
     #[inline]
     fn into_scalar(self) -> Scalar {
         Scalar::Double(self)
@@ -251,7 +296,9 @@ impl Leaf for UaString {
     #[inline]
     #[tactic(auto, unfolding(crate::specs::Leaf::leaf_at))]
     fn is_leaf() {}
+}
 
+impl HeldLeaf for UaString {
     #[inline]
     fn into_scalar(self) -> Scalar {
         Scalar::String(self)
@@ -268,7 +315,9 @@ impl Leaf for DateTime {
     #[inline]
     #[tactic(auto, unfolding(crate::specs::Leaf::leaf_at))]
     fn is_leaf() {}
+}
 
+impl HeldLeaf for DateTime {
     #[inline]
     fn into_scalar(self) -> Scalar {
         Scalar::DateTime(self)
@@ -285,7 +334,9 @@ impl Leaf for Guid {
     #[inline]
     #[tactic(auto, unfolding(crate::specs::Leaf::leaf_at))]
     fn is_leaf() {}
+}
 
+impl HeldLeaf for Guid {
     #[inline]
     fn into_scalar(self) -> Scalar {
         Scalar::Guid(self)
@@ -302,7 +353,9 @@ impl Leaf for UaBytes {
     #[inline]
     #[tactic(auto, unfolding(crate::specs::Leaf::leaf_at))]
     fn is_leaf() {}
+}
 
+impl HeldLeaf for UaBytes {
     #[inline]
     fn into_scalar(self) -> Scalar {
         Scalar::ByteString(self)
@@ -319,7 +372,9 @@ impl Leaf for XmlElement {
     #[inline]
     #[tactic(auto, unfolding(crate::specs::Leaf::leaf_at))]
     fn is_leaf() {}
+}
 
+impl HeldLeaf for XmlElement {
     #[inline]
     fn into_scalar(self) -> Scalar {
         Scalar::XmlElement(self)
@@ -336,7 +391,9 @@ impl Leaf for NodeId {
     #[inline]
     #[tactic(auto, unfolding(crate::specs::Leaf::leaf_at))]
     fn is_leaf() {}
+}
 
+impl HeldLeaf for NodeId {
     #[inline]
     fn into_scalar(self) -> Scalar {
         Scalar::NodeId(self)
@@ -353,10 +410,16 @@ impl Leaf for ExpandedNodeId {
     #[inline]
     #[tactic(auto, unfolding(crate::specs::Leaf::leaf_at))]
     fn is_leaf() {}
+}
+
+impl BoxedLeaf for ExpandedNodeId {
+    ghost use Rattle.ua_variant.specs.Data.{expanded_node_id};
 
     #[inline]
-    fn into_scalar(self) -> Scalar {
-        Scalar::ExpandedNodeId(self)
+    fn boxed_scalar(value: Boxed<ExpandedNodeId>) -> Scalar
+        ensures { scalar_of result ≡ leaf (expanded_node_id value) }
+    {
+        Scalar::ExpandedNodeId(value)
     }
 }
 
@@ -370,7 +433,9 @@ impl Leaf for StatusCode {
     #[inline]
     #[tactic(auto, unfolding(crate::specs::Leaf::leaf_at))]
     fn is_leaf() {}
+}
 
+impl HeldLeaf for StatusCode {
     #[inline]
     fn into_scalar(self) -> Scalar {
         Scalar::StatusCode(self)
@@ -387,7 +452,9 @@ impl Leaf for QualifiedName {
     #[inline]
     #[tactic(auto, unfolding(crate::specs::Leaf::leaf_at))]
     fn is_leaf() {}
+}
 
+impl HeldLeaf for QualifiedName {
     #[inline]
     fn into_scalar(self) -> Scalar {
         Scalar::QualifiedName(self)
@@ -404,10 +471,16 @@ impl Leaf for LocalizedText {
     #[inline]
     #[tactic(auto, unfolding(crate::specs::Leaf::leaf_at))]
     fn is_leaf() {}
+}
+
+impl BoxedLeaf for LocalizedText {
+    ghost use Rattle.ua_variant.specs.Data.{localized_text};
 
     #[inline]
-    fn into_scalar(self) -> Scalar {
-        Scalar::LocalizedText(self)
+    fn boxed_scalar(value: Boxed<LocalizedText>) -> Scalar
+        ensures { scalar_of result ≡ leaf (localized_text value) }
+    {
+        Scalar::LocalizedText(value)
     }
 }
 
@@ -421,9 +494,15 @@ impl Leaf for ExtensionObject {
     #[inline]
     #[tactic(auto, unfolding(crate::specs::Leaf::leaf_at))]
     fn is_leaf() {}
+}
+
+impl BoxedLeaf for ExtensionObject {
+    ghost use Rattle.ua_variant.specs.Data.{extension_object};
 
     #[inline]
-    fn into_scalar(self) -> Scalar {
-        Scalar::ExtensionObject(self)
+    fn boxed_scalar(value: Boxed<ExtensionObject>) -> Scalar
+        ensures { scalar_of result ≡ leaf (extension_object value) }
+    {
+        Scalar::ExtensionObject(value)
     }
 }

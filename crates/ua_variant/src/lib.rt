@@ -8,7 +8,7 @@
 //! ```
 //! let five = Variant::One(Scalar::Int32(5));
 //! let answer = DataValue {
-//!     value: Some(BoxedVariant::new(alloc, five)?),
+//!     value: Some(HeldVariant::new(five)),
 //!     status: None,
 //!     source_timestamp: None,
 //!     source_picoseconds: None,
@@ -22,6 +22,7 @@
 #![tactic(auto)]
 
 mod blocks;
+mod boxed;
 mod clone;
 mod encodable;
 pub mod laws;
@@ -35,6 +36,9 @@ mod values;
 mod wire;
 mod write;
 
+pub use boxed::Boxed;
 pub use packed::{Pack, Packed};
 pub use ua_parts::{BoxedDiagnostic, DiagnosticInfo, Dimensions};
-pub use values::{BoxedVariant, DataValue, Elements, Scalar, Scalars, Variant};
+pub use values::{
+    BoxedDataValue, BoxedVariant, DataValue, Elements, HeldVariant, Scalar, Scalars, Variant,
+};

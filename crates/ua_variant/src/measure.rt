@@ -59,9 +59,9 @@ fn scalar_levels(value: &Scalar) -> u32
     ensures { result ≡ min (scalar_depth (scalar_of value.now)) u32.MAX }
 {
     match value {
-        Scalar::DataValue(d) => data_value_levels(d),
+        Scalar::DataValue(d) => data_value_levels(d.get()),
         Scalar::Variant(v) => variant_levels(v.get()),
-        Scalar::DiagnosticInfo(d) => d.depth(),
+        Scalar::DiagnosticInfo(d) => d.get().depth(),
         _ => 0,
     }
 }
@@ -118,9 +118,9 @@ fn count_scalar(value: &Scalar) -> u64
     ensures { result ≡ min (scalar_count (scalar_of value.now)) u64.MAX }
 {
     match value {
-        Scalar::DataValue(d) => count_data_value(d),
+        Scalar::DataValue(d) => count_data_value(d.get()),
         Scalar::Variant(v) => count_variant(v.get()),
-        Scalar::DiagnosticInfo(d) => d.count(),
+        Scalar::DiagnosticInfo(d) => d.get().count(),
         _ => 1,
     }
 }

@@ -8,7 +8,7 @@ ghost use Rattle.ua_variant.specs.Encodable.{scalars_fit};
 ghost use Rattle.ua_variant.specs.Packed.{packed_kind, packed_leaves};
 ghost use Rattle.ua_variant.specs.View.{row, scalar_of};
 
-use crate::leaf::Leaf;
+use crate::leaf::HeldLeaf;
 use crate::values::Scalar;
 use std::alloc::{AllocError, Global};
 use ua_builtin::{DateTime, DoubleBits, FloatBits, Guid, StatusCode};
@@ -33,7 +33,7 @@ pub enum Packed {
 }
 
 /// A type of which arrays are packed.
-pub trait Pack: Leaf + Copy {
+pub trait Pack: HeldLeaf + Copy {
     /// An array of these elements.
     fn pack(items: Vec<Self>) -> Packed
         ensures { packed_leaves result ≡ map Self.as_leaf items.items };

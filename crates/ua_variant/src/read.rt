@@ -15,10 +15,12 @@ ghost use Rattle.ua_variant.specs.Decoding.{variant_at, variant_step, variant_af
 ghost use Rattle.ua_variant.specs.View.{row, variant_of, scalar_of, data_value_of, value_within};
 
 use crate::blocks::{is_packed, read_packed};
-use crate::leaf::read_as;
+use crate::leaf::{read_as, read_boxed_as};
 use crate::least::least_octets;
 use crate::masks;
-use crate::values::{BoxedVariant, DataValue, Scalar, Scalars, Variant};
+use crate::values::{
+    BoxedDataValue, BoxedVariant, DataValue, HeldVariant, Scalar, Scalars, Variant,
+};
 use std::alloc::Global;
 use ua_builtin::{
     DateTime, DoubleBits, ExpandedNodeId, ExtensionObject, FloatBits, Guid, LocalizedText, NodeId,
@@ -26,7 +28,7 @@ use ua_builtin::{
 };
 use ua_octets::FIRST_NEGATIVE;
 use ua_parts::field::read_field;
-use ua_parts::{read_diagnostic, read_dims, read_no_dims};
+use ua_parts::{BoxedDiagnostic, read_diagnostic, read_dims, read_no_dims};
 
 /// For so many elements room is made at once; a longer array grows by what was read, so that
 /// nested arrays with false counts ask for no more than their octets can hold.
@@ -81,11 +83,11 @@ fn read_record<S: Source>(alloc: Global, src: &mut S, kind: u8) -> Result<Scalar
         15 => read_as::<UaBytes, S>(alloc, src),
         16 => read_as::<XmlElement, S>(alloc, src),
         17 => read_as::<NodeId, S>(alloc, src),
-        18 => read_as::<ExpandedNodeId, S>(alloc, src),
+        18 => read_boxed_as::<ExpandedNodeId, S>(alloc, src),
         19 => read_as::<StatusCode, S>(alloc, src),
         20 => read_as::<QualifiedName, S>(alloc, src),
-        21 => read_as::<LocalizedText, S>(alloc, src),
-        _ => read_as::<ExtensionObject, S>(alloc, src),
+        21 => read_boxed_as::<LocalizedText, S>(alloc, src),
+        _ => read_boxed_as::<ExtensionObject, S>(alloc, src),
     }
 }
 
@@ -247,9 +249,18 @@ fn read_scalar<S: Source>(
     ensures behind { StaysBehind (S.octets src.old) (S.octets src.new) }
 {
     match kind {
-        23 => Ok(Scalar::DataValue(read_data_value(alloc, src, depth)?)),
-        24 => Ok(Scalar::Variant(BoxedVariant::new(alloc, read_variant(alloc, src, depth)?)?)),
-        25 => Ok(Scalar::DiagnosticInfo(read_diagnostic(alloc, src, depth)?)),
+        23 => {
+            let value = read_data_value(alloc, src, depth)?;
+            Ok(Scalar::DataValue(BoxedDataValue::new(alloc, value)?))
+        }
+        24 => {
+            let value = read_variant(alloc, src, depth)?;
+            Ok(Scalar::Variant(BoxedVariant::new(alloc, value)?))
+        }
+        25 => {
+            let value = read_diagnostic(alloc, src, depth)?;
+            Ok(Scalar::DiagnosticInfo(BoxedDiagnostic::new(alloc, value)?))
+        }
         _ => read_leaf(alloc, src, kind),
     }
 }
@@ -287,7 +298,7 @@ fn read_data_value_level<S: Source>(
     if mask > masks::KNOWN_FLAGS {
         return Err(ReadFault::NoValue);
     }
-    let value = read_boxed(alloc, src, depth, mask & masks::VALUE != 0)?;
+    let value = read_held(alloc, src, depth, mask & masks::VALUE != 0)?;
     read_data_fields(alloc, src, mask, value)
 }
 
@@ -297,7 +308,7 @@ fn read_data_fields<S: Source>(
     alloc: Global,
     src: &mut S,
     mask: u8,
-    value: Option<BoxedVariant>,
+    value: Option<HeldVariant>,
 ) -> Result<DataValue, ReadFault>
     ensures exact { GivesBy data_value_of (image_read (value_within value) (data_fields mask).decode) (S.octets src.old) (S.octets src.new) result }
     ensures behind { StaysBehind (S.octets src.old) (S.octets src.new) }
@@ -319,12 +330,12 @@ fn read_data_fields<S: Source>(
 
 /// Reads a Variant within a DataValue, where it is announced.
 #[cycle(variants)]
-fn read_boxed<S: Source>(
+fn read_held<S: Source>(
     alloc: Global,
     src: &mut S,
     depth: u32,
     set: bool,
-) -> Result<Option<BoxedVariant>, ReadFault>
+) -> Result<Option<HeldVariant>, ReadFault>
     requires levels { depth ≤ most_levels }
     ensures exact { Gives (optional_read set (variant_at depth)) (S.octets src.old) (S.octets src.new) result }
     ensures behind { StaysBehind (S.octets src.old) (S.octets src.new) }
@@ -333,5 +344,5 @@ fn read_boxed<S: Source>(
         return Ok(None);
     }
     let value = read_variant(alloc, src, depth)?;
-    Ok(Some(BoxedVariant::new(alloc, value)?))
+    Ok(Some(HeldVariant::new(value)))
 }

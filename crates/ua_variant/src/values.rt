@@ -3,8 +3,9 @@
 ghost use Rattle.std.specs.Prelude.{◌≡◌, length, map, IfOk, IfSome};
 ghost use Rattle.ua_variant.specs.Data.{leaf};
 ghost use Rattle.ua_variant.specs.Packed.{packed_leaves};
-ghost use Rattle.ua_variant.specs.View.{elements_of, scalar_of, variant_of};
+ghost use Rattle.ua_variant.specs.View.{data_value_of, elements_of, scalar_of, variant_of};
 
+use crate::boxed::Boxed;
 use crate::packed::{Pack, Packed};
 use std::alloc::{AllocError, Global};
 use std::marker::Model;
@@ -12,7 +13,7 @@ use ua_builtin::{
     DateTime, DoubleBits, ExpandedNodeId, ExtensionObject, FloatBits, Guid, LocalizedText, NodeId,
     QualifiedName, StatusCode, UaBytes, UaString, XmlElement,
 };
-use ua_parts::{DiagnosticInfo, Dimensions};
+use ua_parts::{BoxedDiagnostic, Dimensions};
 
 /// A value of any built-in type, or an array of such (OPC 10000-6, 5.2.2.16).
 #[cycle(values)]
@@ -51,14 +52,14 @@ pub enum Scalar {
     ByteString(UaBytes),
     XmlElement(XmlElement),
     NodeId(NodeId),
-    ExpandedNodeId(ExpandedNodeId),
+    ExpandedNodeId(Boxed<ExpandedNodeId>),
     StatusCode(StatusCode),
     QualifiedName(QualifiedName),
-    LocalizedText(LocalizedText),
-    ExtensionObject(ExtensionObject),
-    DataValue(DataValue),
+    LocalizedText(Boxed<LocalizedText>),
+    ExtensionObject(Boxed<ExtensionObject>),
+    DataValue(BoxedDataValue),
     Variant(BoxedVariant),
-    DiagnosticInfo(DiagnosticInfo),
+    DiagnosticInfo(BoxedDiagnostic),
     /// Octets under a type id from 26 to 31, which are reserved. They are read, and not written.
     Reserved(u8, UaBytes),
 }
@@ -68,7 +69,7 @@ pub enum Scalar {
 #[cycle(values)]
 #[derive(Drop)]
 pub struct DataValue {
-    pub value: Option<BoxedVariant>,
+    pub value: Option<HeldVariant>,
     pub status: Option<StatusCode>,
     pub source_timestamp: Option<DateTime>,
     /// What is to be added to the source time, in units of 10 picoseconds.
@@ -78,7 +79,7 @@ pub struct DataValue {
     pub server_picoseconds: Option<u16>,
 }
 
-/// A Variant within another value.
+/// A Variant among other Variants, on the heap.
 #[cycle(values)]
 #[derive(Drop)]
 pub struct BoxedVariant {
@@ -105,6 +106,64 @@ impl Model for BoxedVariant {
     ghost use Rattle.ua_variant.specs.Sizes.{variant_falls};
 
     ghost size_decreases = { λ a h. variant_falls a.inner.value };
+}
+
+/// A Variant within a DataValue, in its place.
+#[cycle(values)]
+#[derive(Drop)]
+pub struct HeldVariant {
+    inner: Variant,
+}
+
+impl Model for HeldVariant {
+    ghost use Rattle.std.specs.Prelude.{◌*◌};
+    ghost use Rattle.std.specs.Coded.{codes};
+    ghost use Rattle.ua_variant.specs.Data.{VariantData};
+    ghost use Rattle.ua_variant.specs.Codes.{coded_variant, coded_diagnostic};
+    ghost use Rattle.ua_variant.specs.Measure.{variant_count};
+
+    ghost Value = { VariantData };
+
+    ghost coded = { coded_variant (Prim.hlevel (codes, coded_diagnostic (Prim.hlevel codes))) };
+
+    ghost use Rattle.ua_variant.specs.View.{variant_of};
+
+    ghost view = { λ a. variant_of a.inner };
+
+    ghost size = { λ v. 2 * variant_count v };
+
+    ghost use Rattle.ua_variant.specs.Sizes.{variant_falls};
+
+    ghost size_decreases = { λ a h. variant_falls a.inner };
+}
+
+/// A DataValue among Variants, on the heap.
+#[cycle(values)]
+#[derive(Drop)]
+pub struct BoxedDataValue {
+    inner: Box<DataValue>,
+}
+
+impl Model for BoxedDataValue {
+    ghost use Rattle.std.specs.Prelude.{◌*◌};
+    ghost use Rattle.std.specs.Coded.{codes};
+    ghost use Rattle.ua_variant.specs.Data.{DataValueData};
+    ghost use Rattle.ua_variant.specs.Codes.{coded_data_value, coded_diagnostic};
+    ghost use Rattle.ua_variant.specs.Measure.{data_value_count};
+
+    ghost Value = { DataValueData };
+
+    ghost coded = { coded_data_value (Prim.hlevel (codes, coded_diagnostic (Prim.hlevel codes))) };
+
+    ghost use Rattle.ua_variant.specs.View.{data_value_of};
+
+    ghost view = { λ a. data_value_of a.inner.value };
+
+    ghost size = { λ d. 2 * data_value_count d };
+
+    ghost use Rattle.ua_variant.specs.Sizes.{boxed_data_value_falls};
+
+    ghost size_decreases = { λ a h. boxed_data_value_falls a.inner.value };
 }
 
 /// The elements of an array, as they are held.
@@ -163,6 +222,32 @@ impl BoxedVariant {
     pub fn get(&self) -> &Variant
         ensures { variant_of result.now ≡ self.now }
     {
+        self.inner.as_ref()
+    }
+
+    /// Hands the value over.
+    #[inline]
+    pub fn into_inner(self) -> Variant
+        ensures { variant_of result ≡ self }
+    {
+        Box::into_inner(self.inner)
+    }
+}
+
+impl HeldVariant {
+    /// This value, in its place.
+    #[inline]
+    pub fn new(value: Variant) -> HeldVariant
+        ensures { result ≡ variant_of value }
+    {
+        HeldVariant { inner: value }
+    }
+
+    /// The value.
+    #[inline]
+    pub fn get(&self) -> &Variant
+        ensures { variant_of result.now ≡ self.now }
+    {
         &self.inner
     }
 
@@ -170,6 +255,34 @@ impl BoxedVariant {
     #[inline]
     pub fn into_inner(self) -> Variant
         ensures { variant_of result ≡ self }
+    {
+        self.inner
+    }
+}
+
+impl BoxedDataValue {
+    /// This value, on the heap.
+    #[inline]
+    pub fn new(alloc: Global, value: DataValue) -> Result<BoxedDataValue, AllocError>
+        ensures { IfOk result (λ b. b ≡ data_value_of value) }
+    {
+        Ok(BoxedDataValue {
+            inner: Box::new(alloc, value)?,
+        })
+    }
+
+    /// The value.
+    #[inline]
+    pub fn get(&self) -> &DataValue
+        ensures { data_value_of result.now ≡ self.now }
+    {
+        self.inner.as_ref()
+    }
+
+    /// Hands the value over.
+    #[inline]
+    pub fn into_inner(self) -> DataValue
+        ensures { data_value_of result ≡ self }
     {
         Box::into_inner(self.inner)
     }

@@ -23,8 +23,8 @@ decreases-read_row g l = 8 * l.depth + 4
 abbrev pub decreases-read_scalar : goal.decreases-read_scalar
 decreases-read_scalar g l = 8 * l.depth + 3
 
-abbrev pub decreases-read_boxed : goal.decreases-read_boxed
-decreases-read_boxed g l = 8 * l.depth + 2
+abbrev pub decreases-read_held : goal.decreases-read_held
+decreases-read_held g l = 8 * l.depth + 2
 
 abbrev pub decreases-read_data_value : goal.decreases-read_data_value
 decreases-read_data_value g l = 8 * l.depth + 1

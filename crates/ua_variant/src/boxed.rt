@@ -1,0 +1,48 @@
+//! Values of any type on the heap.
+
+ghost use Rattle.std.specs.Prelude.{◌≡◌, IfOk};
+
+use std::alloc::{AllocError, Global};
+use std::marker::Model;
+
+/// A value on the heap, so that what holds it stays small. A contract sees the value.
+#[derive(Drop)]
+pub struct Boxed<T> {
+    inner: Box<T>,
+}
+
+impl<T> Model for Boxed<T> {
+    ghost Value = { T };
+
+    ghost view = { λ a. a.inner.value };
+}
+
+impl<T> Boxed<T> {
+    /// This value, on the heap.
+    #[inline]
+    pub fn new(alloc: Global, value: T) -> Result<Boxed<T>, AllocError>
+    where
+        T: Drop,
+        ensures { IfOk result (λ b. b ≡ value) }
+    {
+        Ok(Boxed {
+            inner: Box::new(alloc, value)?,
+        })
+    }
+
+    /// The value.
+    #[inline]
+    pub fn get(&self) -> &T
+        ensures { result.now ≡ self.now }
+    {
+        &self.inner
+    }
+
+    /// Hands the value over.
+    #[inline]
+    pub fn into_inner(self) -> T
+        ensures { result ≡ self }
+    {
+        Box::into_inner(self.inner)
+    }
+}
