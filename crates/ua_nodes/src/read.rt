@@ -21,7 +21,7 @@ use ua_builtin::{
     DateTime, Identifier, LocalizedText, NodeId, QualifiedName, StatusCode, UaString,
 };
 use ua_structures::ReadValueId;
-use ua_variant::{BoxedVariant, DataValue, Scalar, Variant};
+use ua_variant::{Boxed, DataValue, HeldVariant, Scalar, Variant};
 
 /// The id of the attribute Value.
 pub(crate) const VALUE: u32 = 13;
@@ -61,8 +61,7 @@ impl Variable {
             Ok(range) => range,
             Err(code) => return Ok(refused(code)),
         };
-        let value = self.value_read(alloc, item, range)?;
-        let value = BoxedVariant::new(alloc, value)?;
+        let value = HeldVariant::new(self.value_read(alloc, item, range)?);
         Ok(self.stamped(value, item.attribute_id == VALUE, stamps, moment))
     }
 
@@ -123,10 +122,13 @@ impl Variable {
                 namespace: id.namespace,
                 name: self.name.try_clone()?,
             }))),
-            4 => Ok(Variant::One(Scalar::LocalizedText(LocalizedText {
-                locale: UaString::null(),
-                text: self.name.try_clone()?,
-            }))),
+            4 => {
+                let text = LocalizedText {
+                    locale: UaString::null(),
+                    text: self.name.try_clone()?,
+                };
+                Ok(Variant::One(Scalar::LocalizedText(Boxed::new(alloc, text)?)))
+            }
             13 => self.value.try_clone(alloc),
             14 => Ok(Variant::One(Scalar::NodeId(NodeId {
                 namespace: 0,
@@ -139,7 +141,7 @@ impl Variable {
     /// A value with the status and times that go with it.
     fn stamped(
         &self,
-        value: BoxedVariant,
+        value: HeldVariant,
         is_value: bool,
         stamps: Stamps,
         moment: DateTime,

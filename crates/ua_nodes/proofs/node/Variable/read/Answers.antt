@@ -19,7 +19,7 @@ returns c =
     let v = c.args.self.now in
     let item = c.args.item.now in
     let ok = judged_ok (first_reason (read_reasons v item)) (asked_range item.index_range) c.in-Ok.range (sym c.in-Ok.is ∙ c.judge_read.ensures) in
-    let value = c.in_ok-value-2.ensures ∙ c.in_ok-value.ensures ∙ ap (value_read item.node_id v item.attribute_id) ok.1 in
+    let value = c.new-value.ensures ∙ c.in_ok-value_read.ensures ∙ ap (value_read item.node_id v item.attribute_id) ok.1 in
     c.stamped.ensures
     ∙ ap (λ (x : VariantData). valued x (stamps_of v (nat_eq item.attribute_id 13) c.args.stamps c.args.moment)) value
     ∙ ap (λ (o : Option StatusCode). read_by o v item c.args.stamps c.args.moment) ok.0
