@@ -5,7 +5,7 @@ use std::process::Abort;
 use ua_builtin::{DateTime, NodeId, QualifiedName, StatusCode, UaString, Wire};
 use ua_nodes::{NodeTable, Stamps};
 use ua_structures::{ReadValueId, WriteValue};
-use ua_variant::{BoxedVariant, DataValue, Variant};
+use ua_variant::{DataValue, HeldVariant, Variant};
 
 // Two nodes: a Float that may be read, and an array that may be read and written.
 pub const FILE: &str =
@@ -58,9 +58,9 @@ pub fn reads(
     assert_eq!(rt; out.as_slice(), octets);
 }
 
-pub fn value_alone(rt: &impl Abort, alloc: Global, value: Variant) -> DataValue {
+pub fn value_alone(value: Variant) -> DataValue {
     DataValue {
-        value: Some(BoxedVariant::new(alloc, value).expect(rt, "memory")),
+        value: Some(HeldVariant::new(value)),
         status: None,
         source_timestamp: None,
         source_picoseconds: None,

@@ -7,8 +7,8 @@ use ua_builtin::{DateTime, NodeId, StatusCode, UaString};
 use ua_nodes::{Access, InsertFault, Node, NodeTable, Stamps, parse_value};
 use ua_variant::{DataValue, Scalar, Variant};
 
-fn int32(rt: &impl Abort, alloc: Global, number: i32) -> DataValue {
-    value_alone(rt, alloc, Variant::One(Scalar::Int32(number)))
+fn int32(number: i32) -> DataValue {
+    value_alone(Variant::One(Scalar::Int32(number)))
 }
 
 fn no_value() -> DataValue {
@@ -23,11 +23,7 @@ fn no_value() -> DataValue {
 }
 
 fn parsed(rt: &impl Abort, alloc: Global, kind: u8, array: bool, text: &str) -> DataValue {
-    value_alone(
-        rt,
-        alloc,
-        parse_value(alloc, kind, array, text).expect(rt, "a value"),
-    )
+    value_alone(parse_value(alloc, kind, array, text).expect(rt, "a value"))
 }
 
 fn node(rt: &impl Abort, alloc: Global, id: NodeId) -> Node {
@@ -135,16 +131,11 @@ fn items_of_a_write_are_refused(rt: HostRuntime) {
             "i=2001",
             parsed(&rt, alloc, 10, false, "0x00000000"),
         ),
-        write(&rt, alloc, "ns=1;s=Row", int32(&rt, alloc, 7)),
+        write(&rt, alloc, "ns=1;s=Row", int32(7)),
         write(&rt, alloc, "ns=1;s=Row", parsed(&rt, alloc, 6, true, "")),
         write(&rt, alloc, "ns=1;s=Row", no_value()),
         write(&rt, alloc, "i=9999", no_value()),
-        write(
-            &rt,
-            alloc,
-            "ns=1;s=Row",
-            value_alone(&rt, alloc, Variant::Null),
-        ),
+        write(&rt, alloc, "ns=1;s=Row", value_alone(Variant::Null)),
     ] {
         items.push(item).expect(&rt, "memory");
     }
@@ -173,12 +164,12 @@ fn a_write_keeps_status_and_source_time(rt: HostRuntime) {
     let alloc = rt.alloc();
     let mut table = table(&rt, alloc, "ns=1;s=Pump\trw\tPump\tInt32\t5");
     let mut items = Vec::new(alloc);
-    let mut last = int32(&rt, alloc, 7);
+    let mut last = int32(7);
     last.status = Some(StatusCode { code: 0 });
     last.source_timestamp = Some(DateTime { ticks: 1 });
     last.source_picoseconds = Some(9);
     last.server_timestamp = Some(DateTime { ticks: 2 });
-    for value in [int32(&rt, alloc, 6), last] {
+    for value in [int32(6), last] {
         items
             .push(write(&rt, alloc, "ns=1;s=Pump", value))
             .expect(&rt, "memory");
@@ -198,7 +189,7 @@ fn a_write_without_a_source_time_has_the_moment(rt: HostRuntime) {
     let alloc = rt.alloc();
     let mut table = table(&rt, alloc, "ns=1;s=Pump\trw\tPump\tInt32\t5");
     let mut items = Vec::new(alloc);
-    let mut value = int32(&rt, alloc, 6);
+    let mut value = int32(6);
     value.source_picoseconds = Some(9);
     items
         .push(write(&rt, alloc, "ns=1;s=Pump", value))

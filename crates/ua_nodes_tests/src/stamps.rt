@@ -63,7 +63,7 @@ fn no_other_attribute_than_the_value_has_a_source_time(rt: HostRuntime) {
 // A node that was written at the time 1, with 9 picoseconds more.
 fn pump(rt: &impl Abort, alloc: Global) -> NodeTable {
     let mut table = table(rt, alloc, "ns=1;s=Pump\trw\tPump\tInt32\t5");
-    let mut value = value_alone(rt, alloc, Variant::One(Scalar::Int32(6)));
+    let mut value = value_alone(Variant::One(Scalar::Int32(6)));
     value.source_timestamp = Some(DateTime { ticks: 1 });
     value.source_picoseconds = Some(9);
     let mut items = Vec::new(alloc);

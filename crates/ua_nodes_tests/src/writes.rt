@@ -15,7 +15,7 @@ fn value_of(rt: &impl Abort, alloc: Global, octets: &[u8]) -> Variant {
 
 // An item that sets the array of the file to the value that octets encode.
 fn row(rt: &impl Abort, alloc: Global, octets: &[u8]) -> WriteValue {
-    let value = value_alone(rt, alloc, value_of(rt, alloc, octets));
+    let value = value_alone(value_of(rt, alloc, octets));
     write(rt, alloc, "ns=1;s=Row", value)
 }
 
@@ -116,7 +116,7 @@ fn deep(rt: &impl Abort, alloc: Global, levels: u32) -> Vec<u8> {
 // The answer to an item that sets the node to a Variant of so many levels.
 fn deep_answers(rt: &impl Abort, alloc: Global, table: &mut NodeTable, levels: u32, code: u32) {
     let octets = deep(rt, alloc, levels);
-    let value = value_alone(rt, alloc, value_of(rt, alloc, &octets));
+    let value = value_alone(value_of(rt, alloc, &octets));
     let item = write(rt, alloc, "i=24", value);
     answers(rt, alloc, table, item, code);
 }
