@@ -10,7 +10,7 @@ use ua_services::{
     OpenAnswer, Request, RequestFault, RequestHeader, ResponseFault, WriteRequest, WriteValue,
     read_open_response, read_request, read_response, write_request,
 };
-use ua_variant::{BoxedVariant, DataValue, Variant};
+use ua_variant::{DataValue, HeldVariant, Variant};
 
 // A Write of one item, up to its value.
 const WRITE: &[&str] = &[
@@ -127,8 +127,8 @@ fn deep_value(rt: &impl Abort, alloc: Global, levels: u32) -> DataValue {
     let mut octets = Vec::new(alloc);
     add_variant(rt, &mut octets, levels);
     let value = Variant::read(alloc, &mut Octets::new(&octets), 100).expect(rt, "a value");
-    let mut data = six(rt, alloc);
-    data.value = Some(BoxedVariant::new(alloc, value).expect(rt, "memory"));
+    let mut data = six();
+    data.value = Some(HeldVariant::new(value));
     data
 }
 

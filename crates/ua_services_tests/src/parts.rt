@@ -9,7 +9,7 @@ use ua_services::{
     ApplicationDescription, EndpointDescription, RequestHeader, ResponseHeader, SignatureData,
     SignedSoftwareCertificate, UaArray, UserTokenPolicy,
 };
-use ua_variant::{BoxedVariant, DataValue, Scalar, Variant};
+use ua_variant::{DataValue, HeldVariant, Scalar, Variant};
 
 /// 1970-01-01.
 pub const EPOCH: DateTime = DateTime {
@@ -114,10 +114,9 @@ pub fn endpoint(rt: &impl Abort, alloc: Global) -> EndpointDescription {
 }
 
 /// The Int32 6, at no time.
-pub fn six(rt: &impl Abort, alloc: Global) -> DataValue {
-    let six = BoxedVariant::new(alloc, Variant::One(Scalar::Int32(6)));
+pub fn six() -> DataValue {
     DataValue {
-        value: Some(six.expect(rt, "memory")),
+        value: Some(HeldVariant::new(Variant::One(Scalar::Int32(6)))),
         status: None,
         source_timestamp: None,
         source_picoseconds: None,

@@ -146,7 +146,7 @@ fn activate_session(rt: &impl Abort, alloc: Global) -> Request {
 
 fn write(rt: &impl Abort, alloc: Global) -> Request {
     let header = RequestHeader::new(token(), EPOCH, 4);
-    let item = WriteValue::of_value(pump(rt, alloc), six(rt, alloc));
+    let item = WriteValue::of_value(pump(rt, alloc), six());
     Request::Write(WriteRequest::of_item(alloc, header, item).expect(rt, "memory"))
 }
 

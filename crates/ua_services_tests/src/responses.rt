@@ -194,7 +194,7 @@ fn read(rt: &impl Abort, alloc: Global) -> Response {
     let result = DataValue {
         source_timestamp: Some(EPOCH),
         server_timestamp: Some(EPOCH),
-        ..six(rt, alloc)
+        ..six()
     };
     Response::Read(ReadResponse {
         response_header: good(5),
