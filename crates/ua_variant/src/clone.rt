@@ -1,6 +1,6 @@
 //! Copies of values.
 
-ghost use Rattle.std.specs.Prelude.{◌≡◌, ◌≤◌, ◌-◌, drop, take, length, map, IfOk};
+ghost use Rattle.std.specs.Prelude.{◌≡◌, ◌≤◌, ◌-◌, drop, take, length, map, option_map, slice_get, IfOk};
 ghost use Rattle.ua_variant.specs.View.{scalar_of};
 
 use crate::boxed::Boxed;
@@ -38,6 +38,16 @@ impl Scalar {
 }
 
 impl Scalars {
+    /// The element at a place, counted from 0, as a value of its own.
+    pub fn get(&self, alloc: Global, index: usize) -> Result<Option<Scalar>, AllocError>
+        ensures { IfOk result (λ found. option_map scalar_of found ≡ slice_get self.now index) }
+    {
+        match self.elements() {
+            Elements::Packed(packed) => Ok(packed.get(index)),
+            Elements::Mixed(scalars) => copy_at(alloc, scalars, index),
+        }
+    }
+
     /// The elements from one place up to another, which is not among them; no other is cloned.
     pub fn part(&self, alloc: Global, from: usize, to: usize) -> Result<Scalars, AllocError>
         requires order { from ≤ to }
@@ -50,6 +60,16 @@ impl Scalars {
                 Ok(Scalars::new(copy_scalars(alloc, &scalars[from..to])?))
             }
         }
+    }
+}
+
+/// A copy of the scalar at a place.
+fn copy_at(alloc: Global, scalars: &[Scalar], index: usize) -> Result<Option<Scalar>, AllocError>
+    ensures { IfOk result (λ found. option_map scalar_of found ≡ slice_get (map scalar_of scalars.now) index) }
+{
+    match scalars.get(index) {
+        Some(scalar) => Ok(Some(scalar.try_clone(alloc)?)),
+        None => Ok(None),
     }
 }
 
