@@ -82,6 +82,25 @@ fn holds_no_other_elements_so(rt: HostRuntime) {
     assert!(rt; texts.as_items::<u8>().is_none());
 }
 
+/// The element at a place of the array that the octets encode.
+fn element_at(rt: &impl Abort, alloc: Global, octets: &[u8], place: usize) -> Option<Scalar> {
+    let array = array_in(rt, alloc, octets);
+    array.get(alloc, place).expect(rt, "memory")
+}
+
+#[test]
+fn gives_the_element_at_a_place(rt: HostRuntime) {
+    let alloc = rt.alloc();
+    let bytes = [0x83, 2, 0, 0, 0, 0xFE, 1];
+    let second = element_at(&rt, alloc, &bytes, 1);
+    assert!(rt; matches!(&second, Some(Scalar::Byte(1))));
+    assert!(rt; element_at(&rt, alloc, &bytes, 2).is_none());
+    let texts = [0x8C, 1, 0, 0, 0, 1, 0, 0, 0, 0x41];
+    let first = element_at(&rt, alloc, &texts, 0);
+    assert!(rt; matches!(&first, Some(Scalar::String(text)) if text.as_str() == Some("A")));
+    assert!(rt; element_at(&rt, alloc, &texts, 1).is_none());
+}
+
 #[test]
 fn reads_arrays_longer_than_a_block(rt: HostRuntime) {
     let alloc = rt.alloc();
