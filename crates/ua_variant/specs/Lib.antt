@@ -16,3 +16,4 @@ pub mod Formats
 pub mod Trees
 pub mod Codes
 pub mod Sizes
+pub mod Reading

@@ -6,7 +6,7 @@ ghost use Rattle.ua_variant.specs.Judging.{levels_if, is_within};
 ghost use Rattle.ua_variant.specs.Measure.{variant_depth, scalar_depth, scalars_depth, data_value_depth};
 ghost use Rattle.ua_variant.specs.View.{row, variant_of, scalar_of, data_value_of, data_fields_of};
 
-use crate::values::{DataValue, Elements, Scalar, Scalars, Variant};
+use crate::values::{BoxedDataValue, BoxedVariant, DataValue, Elements, Scalar, Scalars, Variant};
 use ua_builtin::Wire;
 use ua_octets::MOST_LEVELS;
 use ua_parts::field::field_fits;
@@ -104,6 +104,7 @@ fn no_levels_if(fits: bool) -> Option<u32>
 
 /// How many levels a Variant has, if it can be written but for these.
 #[cycle(fits)]
+#[inline(always)]
 fn variant_levels_of(value: &Variant) -> Option<u32>
     ensures { result ≡ levels_if (variant_fits (variant_of value.now)) (variant_depth (variant_of value.now)) }
 {
@@ -138,6 +139,7 @@ fn variant_levels_of(value: &Variant) -> Option<u32>
 
 /// How many levels a scalar has, if it can be written but for these.
 #[cycle(fits)]
+#[inline(always)]
 fn scalar_levels_of(value: &Scalar) -> Option<u32>
     ensures { result ≡ levels_if (scalar_fits (scalar_of value.now)) (scalar_depth (scalar_of value.now)) }
 {
@@ -164,8 +166,8 @@ fn scalar_levels_of(value: &Scalar) -> Option<u32>
         Scalar::QualifiedName(x) => no_levels_if(x.is_encodable()),
         Scalar::LocalizedText(x) => no_levels_if(x.get().is_encodable()),
         Scalar::ExtensionObject(x) => no_levels_if(x.get().is_encodable()),
-        Scalar::DataValue(d) => data_value_levels_of(d.get()),
-        Scalar::Variant(v) => variant_levels_of(v.get()),
+        Scalar::DataValue(d) => boxed_data_value_levels_of(d),
+        Scalar::Variant(v) => boxed_variant_levels_of(v),
         Scalar::DiagnosticInfo(d) => {
             if d.get().fits() {
                 Some(d.get().depth())
@@ -175,6 +177,24 @@ fn scalar_levels_of(value: &Scalar) -> Option<u32>
         }
         Scalar::Reserved(_, _) => None,
     }
+}
+
+/// How many levels a DataValue among Variants has, if it can be written but for these.
+#[cycle(fits)]
+#[inline(never)]
+fn boxed_data_value_levels_of(value: &BoxedDataValue) -> Option<u32>
+    ensures { result ≡ levels_if (data_value_fits value.now) (data_value_depth value.now) }
+{
+    data_value_levels_of(value.get())
+}
+
+/// How many levels a Variant among other Variants has, if it can be written but for these.
+#[cycle(fits)]
+#[inline(never)]
+fn boxed_variant_levels_of(value: &BoxedVariant) -> Option<u32>
+    ensures { result ≡ levels_if (variant_fits value.now) (variant_depth value.now) }
+{
+    variant_levels_of(value.get())
 }
 
 /// How many levels the deepest element has, if each is of the type id and can be written but for these.
@@ -201,6 +221,7 @@ fn row_levels_of(kind: u8, items: &Scalars) -> Option<u32>
 
 /// How many levels a DataValue has, if it can be written but for these.
 #[cycle(fits)]
+#[inline(always)]
 fn data_value_levels_of(value: &DataValue) -> Option<u32>
     ensures { result ≡ levels_if (data_value_fits (data_value_of value.now)) (data_value_depth (data_value_of value.now)) }
 {

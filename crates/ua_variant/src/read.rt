@@ -13,6 +13,7 @@ ghost use Rattle.ua_variant.specs.Leaf.{leaf_at};
 ghost use Rattle.ua_variant.specs.Encodable.{is_read_kind as read_kind};
 ghost use Rattle.ua_variant.specs.Decoding.{variant_at, variant_step, variant_after, data_value_at, data_value_step, scalars_at, scalar_at, array_at, elements_at, row_at};
 ghost use Rattle.ua_variant.specs.View.{row, variant_of, scalar_of, data_value_of, value_within};
+ghost use Rattle.ua_variant.specs.Reading.{fields_of};
 
 use crate::blocks::{is_packed, read_packed};
 use crate::leaf::{read_as, read_boxed_as};
@@ -35,6 +36,7 @@ use ua_parts::{BoxedDiagnostic, read_diagnostic, read_dims, read_no_dims};
 const MOST_RESERVED: usize = 64;
 
 /// Reads a scalar that holds no further value.
+#[inline(always)]
 fn read_leaf<S: Source>(alloc: Global, src: &mut S, kind: u8) -> Result<Scalar, ReadFault>
     ensures exact { GivesBy scalar_of (image_read leaf (leaf_at kind)) (S.octets src.old) (S.octets src.new) result }
     ensures behind { StaysBehind (S.octets src.old) (S.octets src.new) }
@@ -48,6 +50,7 @@ fn read_leaf<S: Source>(alloc: Global, src: &mut S, kind: u8) -> Result<Scalar, 
 }
 
 /// Reads a Boolean, a whole number, a Float or a Double.
+#[inline(always)]
 fn read_number<S: Source>(alloc: Global, src: &mut S, kind: u8) -> Result<Scalar, ReadFault>
     requires low { 1 ≤ kind }
     requires high { kind ≤ 11 }
@@ -105,6 +108,7 @@ fn read_reserved<S: Source>(alloc: Global, src: &mut S, kind: u8) -> Result<Scal
 
 /// Reads a Variant of at most so many levels.
 #[cycle(variants)]
+#[inline(always)]
 pub fn read_variant<S: Source>(alloc: Global, src: &mut S, depth: u32) -> Result<Variant, ReadFault>
     requires levels { depth ≤ most_levels }
     ensures exact { GivesBy variant_of (variant_at depth) (S.octets src.old) (S.octets src.new) result }
@@ -127,6 +131,7 @@ fn is_read_kind(kind: u8) -> bool
 
 /// Reads a Variant, with so many levels left within.
 #[cycle(variants)]
+#[inline(always)]
 #[tactic(auto, unfolding(crate::specs::Decoding::variant_step, crate::specs::Decoding::variant_after))]
 fn read_variant_level<S: Source>(
     alloc: Global,
@@ -229,14 +234,16 @@ fn read_row<S: Source>(
     }
     let mut items = Vec::with_capacity(alloc, (count as usize).min(MOST_RESERVED))?;
     for _ in 0..count {
+        items.reserve(1)?;
         let item = read_scalar(alloc, src, depth, kind)?;
-        items.push(item)?;
+        items.push_reserved(item);
     }
     Ok(Scalars::new(items))
 }
 
 /// Reads a value of the type id, with so many levels left within.
 #[cycle(variants)]
+#[inline(always)]
 #[tactic(auto, unfolding(crate::specs::Decoding::scalar_at))]
 fn read_scalar<S: Source>(
     alloc: Global,
@@ -249,6 +256,28 @@ fn read_scalar<S: Source>(
     ensures behind { StaysBehind (S.octets src.old) (S.octets src.new) }
 {
     match kind {
+        23..=25 => read_nested(alloc, src, depth, kind),
+        _ => read_leaf(alloc, src, kind),
+    }
+}
+
+/// Reads a DataValue, a Variant or a DiagnosticInfo, with so many levels left within.
+#[cycle(variants)]
+#[inline(never)]
+#[tactic(auto, unfolding(crate::specs::Decoding::scalar_at))]
+fn read_nested<S: Source>(
+    alloc: Global,
+    src: &mut S,
+    depth: u32,
+    kind: u8,
+) -> Result<Scalar, ReadFault>
+    requires levels { depth ≤ most_levels }
+    requires low { 23 ≤ kind }
+    requires high { kind ≤ 25 }
+    ensures exact { GivesBy scalar_of (scalars_at depth kind) (S.octets src.old) (S.octets src.new) result }
+    ensures behind { StaysBehind (S.octets src.old) (S.octets src.new) }
+{
+    match kind {
         23 => {
             let value = read_data_value(alloc, src, depth)?;
             Ok(Scalar::DataValue(BoxedDataValue::new(alloc, value)?))
@@ -257,16 +286,16 @@ fn read_scalar<S: Source>(
             let value = read_variant(alloc, src, depth)?;
             Ok(Scalar::Variant(BoxedVariant::new(alloc, value)?))
         }
-        25 => {
+        _ => {
             let value = read_diagnostic(alloc, src, depth)?;
             Ok(Scalar::DiagnosticInfo(BoxedDiagnostic::new(alloc, value)?))
         }
-        _ => read_leaf(alloc, src, kind),
     }
 }
 
 /// Reads a DataValue of at most so many levels.
 #[cycle(variants)]
+#[inline(always)]
 pub fn read_data_value<S: Source>(
     alloc: Global,
     src: &mut S,
@@ -284,6 +313,7 @@ pub fn read_data_value<S: Source>(
 
 /// Reads a DataValue, with so many levels left within.
 #[cycle(variants)]
+#[inline(always)]
 #[tactic(auto, unfolding(crate::specs::Decoding::data_value_step))]
 fn read_data_value_level<S: Source>(
     alloc: Global,
@@ -299,18 +329,54 @@ fn read_data_value_level<S: Source>(
         return Err(ReadFault::NoValue);
     }
     let value = read_held(alloc, src, depth, mask & masks::VALUE != 0)?;
-    read_data_fields(alloc, src, mask, value)
+    match read_data_fields(alloc, src, mask) {
+        Ok(fields) => Ok(fields.behind(value)),
+        Err(fault) => {
+            give_up(value);
+            Err(fault)
+        }
+    }
+}
+
+/// Lets a value go whose DataValue is none.
+#[cold]
+#[inline(never)]
+fn give_up(value: Option<HeldVariant>) {
+    drop(value);
+}
+
+/// The fields of a DataValue but its value.
+#[derive(Clone, Copy)]
+struct Fields {
+    status: Option<StatusCode>,
+    source_timestamp: Option<DateTime>,
+    source_picoseconds: Option<u16>,
+    server_timestamp: Option<DateTime>,
+    server_picoseconds: Option<u16>,
+}
+
+impl Fields {
+    /// The DataValue of these fields.
+    #[inline]
+    fn behind(self, value: Option<HeldVariant>) -> DataValue
+        ensures { data_value_of result ≡ value_within value (fields_of self) }
+    {
+        DataValue {
+            value,
+            status: self.status,
+            source_timestamp: self.source_timestamp,
+            source_picoseconds: self.source_picoseconds,
+            server_timestamp: self.server_timestamp,
+            server_picoseconds: self.server_picoseconds,
+        }
+    }
 }
 
 /// Reads the fields of a DataValue that the mask announces, behind its value.
+#[inline(always)]
 #[tactic(auto, unfolding(crate::specs::Fields::data_fields))]
-fn read_data_fields<S: Source>(
-    alloc: Global,
-    src: &mut S,
-    mask: u8,
-    value: Option<HeldVariant>,
-) -> Result<DataValue, ReadFault>
-    ensures exact { GivesBy data_value_of (image_read (value_within value) (data_fields mask).decode) (S.octets src.old) (S.octets src.new) result }
+fn read_data_fields<S: Source>(alloc: Global, src: &mut S, mask: u8) -> Result<Fields, ReadFault>
+    ensures exact { GivesBy fields_of (data_fields mask).decode (S.octets src.old) (S.octets src.new) result }
     ensures behind { StaysBehind (S.octets src.old) (S.octets src.new) }
 {
     let status = read_field(alloc, src, 0, mask & masks::STATUS != 0)?;
@@ -318,8 +384,7 @@ fn read_data_fields<S: Source>(
     let source_picoseconds = read_field(alloc, src, 0, mask & masks::SOURCE_PICOSECONDS != 0)?;
     let server_timestamp = read_field(alloc, src, 0, mask & masks::SERVER_TIMESTAMP != 0)?;
     let server_picoseconds = read_field(alloc, src, 0, mask & masks::SERVER_PICOSECONDS != 0)?;
-    Ok(DataValue {
-        value,
+    Ok(Fields {
         status,
         source_timestamp,
         source_picoseconds,
@@ -330,6 +395,7 @@ fn read_data_fields<S: Source>(
 
 /// Reads a Variant within a DataValue, where it is announced.
 #[cycle(variants)]
+#[inline(always)]
 fn read_held<S: Source>(
     alloc: Global,
     src: &mut S,

@@ -44,6 +44,7 @@ impl Wire for DataValue {
     #[tactic(auto, using(crate::proofs::VariantsLawful::lawful_data_value))]
     fn lawful() {}
 
+    #[inline(always)]
     #[tactic(auto, unfolding(crate::specs::Formats::data_value_format))]
     fn read_value<S: Source>(
         alloc: Global,
@@ -53,11 +54,13 @@ impl Wire for DataValue {
         read_data_value(alloc, src, depth)
     }
 
+    #[inline]
     #[tactic(auto, unfolding(crate::specs::Formats::data_value_format))]
     fn is_encodable(&self) -> bool {
         self.writable()
     }
 
+    #[inline]
     #[tactic(auto, using(crate::proofs::Written::data_value_fits_of), unfolding(crate::specs::Formats::data_value_format))]
     fn append(&self, out: &mut Vec<u8>) -> Result<(), AllocError> {
         append_data_value(self, out)

@@ -13,7 +13,7 @@ ghost use Rattle.ua_variant.specs.View.{row, variant_of, scalar_of, data_value_o
 
 use crate::encodable::element_count;
 use crate::masks;
-use crate::values::{DataValue, Elements, Scalar, Scalars, Variant};
+use crate::values::{BoxedDataValue, BoxedVariant, DataValue, Elements, Scalar, Scalars, Variant};
 use std::alloc::AllocError;
 use ua_builtin::Wire;
 use ua_builtin::flags::flag_of;
@@ -41,6 +41,7 @@ fn data_mask(value: &DataValue) -> u8
 }
 
 /// Adds the fields that are there, but the value.
+#[inline(always)]
 #[tactic(auto, unfolding(crate::specs::Canonical::data_fields_canonical, crate::specs::Fields::data_fields))]
 fn append_data_fields(value: &DataValue, out: &mut Vec<u8>) -> Result<(), AllocError>
     requires { data_fields_encodable (data_fields_of value.now) ≡ true }
@@ -70,6 +71,7 @@ fn array_tag(kind: u8, dims: &Dimensions) -> u8
 
 /// Adds the canonical encoding of a Variant that can be written, its depth apart.
 #[cycle(appends)]
+#[inline(always)]
 #[tactic(auto, using(crate::proofs::Written::many_parts))]
 pub fn append_variant(value: &Variant, out: &mut Vec<u8>) -> Result<(), AllocError>
     requires { variant_fits (variant_of value.now) ≡ true }
@@ -128,6 +130,7 @@ fn append_array(
 
 /// Adds the canonical encoding of a value, without its type id.
 #[cycle(appends)]
+#[inline(always)]
 fn append_scalar(value: &Scalar, out: &mut Vec<u8>) -> Result<(), AllocError>
     requires { scalar_fits (scalar_of value.now) ≡ true }
     ensures ok { OnOk result (out.new.items ≡ out.old.items ++ scalar_canonical (scalar_of value.now)) }
@@ -156,11 +159,33 @@ fn append_scalar(value: &Scalar, out: &mut Vec<u8>) -> Result<(), AllocError>
         Scalar::QualifiedName(x) => x.append(out),
         Scalar::LocalizedText(x) => x.get().append(out),
         Scalar::ExtensionObject(x) => x.get().append(out),
-        Scalar::DataValue(d) => append_data_value(d.get(), out),
-        Scalar::Variant(v) => append_variant(v.get(), out),
+        Scalar::DataValue(d) => append_boxed_data_value(d, out),
+        Scalar::Variant(v) => append_boxed_variant(v, out),
         Scalar::DiagnosticInfo(d) => append_diagnostic(d.get(), out),
         Scalar::Reserved(_, _) => Ok(()),
     }
+}
+
+/// Adds the canonical encoding of a DataValue among Variants.
+#[cycle(appends)]
+#[inline(never)]
+fn append_boxed_data_value(value: &BoxedDataValue, out: &mut Vec<u8>) -> Result<(), AllocError>
+    requires { data_value_fits value.now ≡ true }
+    ensures ok { OnOk result (out.new.items ≡ out.old.items ++ data_value_canonical value.now) }
+    ensures err { OnErr result (Extends out.old.items out.new.items) }
+{
+    append_data_value(value.get(), out)
+}
+
+/// Adds the canonical encoding of a Variant among other Variants.
+#[cycle(appends)]
+#[inline(never)]
+fn append_boxed_variant(value: &BoxedVariant, out: &mut Vec<u8>) -> Result<(), AllocError>
+    requires { variant_fits value.now ≡ true }
+    ensures ok { OnOk result (out.new.items ≡ out.old.items ++ variant_canonical value.now) }
+    ensures err { OnErr result (Extends out.old.items out.new.items) }
+{
+    append_variant(value.get(), out)
 }
 
 /// Adds the elements, one behind the other.
@@ -182,6 +207,7 @@ fn append_row(kind: u8, items: &Scalars, out: &mut Vec<u8>) -> Result<(), AllocE
 
 /// Adds the canonical encoding of a DataValue that can be written, its depth apart.
 #[cycle(appends)]
+#[inline(always)]
 pub fn append_data_value(value: &DataValue, out: &mut Vec<u8>) -> Result<(), AllocError>
     requires { data_value_fits (data_value_of value.now) ≡ true }
     ensures ok { OnOk result (out.new.items ≡ out.old.items ++ data_value_canonical (data_value_of value.now)) }

@@ -5,16 +5,22 @@ use Rattle.ua_variant.specs.Encodable.{scalars_fit}
 use Rattle.ua_variant.proofs.encodable.+fits.Given as goal
 
 abbrev pub decreases-data_value_levels_of : goal.decreases-data_value_levels_of
-decreases-data_value_levels_of l = 4 * data_value_count (data_value_of l.value.now) + 1
+decreases-data_value_levels_of l = 5 * data_value_count (data_value_of l.value.now) + 1
+
+abbrev pub decreases-boxed_data_value_levels_of : goal.decreases-boxed_data_value_levels_of
+decreases-boxed_data_value_levels_of l = 5 * data_value_count l.value.now + 2
+
+abbrev pub decreases-boxed_variant_levels_of : goal.decreases-boxed_variant_levels_of
+decreases-boxed_variant_levels_of l = 5 * variant_count l.value.now + 2
 
 abbrev pub decreases-row_levels_of : goal.decreases-row_levels_of
-decreases-row_levels_of l = 4 * scalars_count (row l.items.now) + 3
+decreases-row_levels_of l = 5 * scalars_count (row l.items.now) + 4
 
 abbrev pub decreases-scalar_levels_of : goal.decreases-scalar_levels_of
-decreases-scalar_levels_of l = 4 * scalar_count (scalar_of l.value.now) + 2
+decreases-scalar_levels_of l = 5 * scalar_count (scalar_of l.value.now) + 3
 
 abbrev pub decreases-variant_levels_of : goal.decreases-variant_levels_of
-decreases-variant_levels_of l = 4 * variant_count (variant_of l.value.now)
+decreases-variant_levels_of l = 5 * variant_count (variant_of l.value.now)
 
 abbrev pub invariant-row_levels_of-loop-s : goal.invariant-row_levels_of-loop-s
 invariant-row_levels_of-loop-s l = record {

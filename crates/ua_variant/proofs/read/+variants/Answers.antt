@@ -1,8 +1,9 @@
-use Rattle.std.proofs.Common.{◌≡◌, ◌-◌, ◌+◌, List, Some, map, sym, ap, ◌∙◌, arith}
+use Rattle.std.proofs.Common.{◌≡◌, ◌-◌, ◌+◌, List, [], ◌∷◌, ◌++◌, Some, map, sym, ap, ◌∙◌, arith}
 use Rattle.std.proofs.lemmas.Result.{err_from_is_err_and}
 use Rattle.ua_variant.specs.Data.{ScalarData, leaf}
 use Rattle.ua_variant.specs.Packed.{packed_leaves}
 use Rattle.ua_variant.specs.declared.packed.Packed.{Packed}
+use Rattle.ua_variant.specs.declared.values.Scalar.{Scalar}
 use Rattle.ua_variant.specs.View.{row, scalar_of, variant_of, data_value_of}
 use Rattle.ua_variant.specs.Decoding.{row_at, variant_at, variant_step, data_value_at, data_value_step, scalars_at}
 use Rattle.ua_variant.proofs.VariantsRead.{variant_none, variant_level, data_value_none, data_value_level}
@@ -48,7 +49,7 @@ read_row-returns-in_err-item-clause-exact g t c =
 
 pub read_row-loop-preserved : goal.read_row-loop-preserved
 read_row-loop-preserved g t c = record {
-  so_far = row_so_far (scalars_at c.args.depth c.args.kind) c.loop.items.items c.in_ok-item.item c.args.count c.loop.counter (g.S.Source.octets c.args.src.now) (g.S.Source.octets c.loop.src) (g.S.Source.octets c.read_scalar.new.src) (omega arith) c.in_ok-push.ensures.items c.in_ok-item.ensures.exact c.loop.invariant.so_far;
+  so_far = row_so_far (scalars_at c.args.depth c.args.kind) c.loop.items.items c.in_ok-item.item c.args.count c.loop.counter (g.S.Source.octets c.args.src.now) (g.S.Source.octets c.loop.src) (g.S.Source.octets c.read_scalar.new.src) (omega arith) (c.push_reserved.ensures.items ∙ ap (λ (xs : List Scalar). xs ++ c.in_ok-item.item ∷ []) c.reserve.ensures.items) c.in_ok-item.ensures.exact c.loop.invariant.so_far;
   behind = λ start h. c.in_ok-item.ensures.behind start (c.loop.invariant.behind start h);
 }
 

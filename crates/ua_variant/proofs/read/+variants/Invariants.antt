@@ -26,6 +26,9 @@ decreases-read_scalar g l = 8 * l.depth + 3
 abbrev pub decreases-read_held : goal.decreases-read_held
 decreases-read_held g l = 8 * l.depth + 2
 
+abbrev pub decreases-read_nested : goal.decreases-read_nested
+decreases-read_nested g l = 8 * l.depth + 2
+
 abbrev pub decreases-read_data_value : goal.decreases-read_data_value
 decreases-read_data_value g l = 8 * l.depth + 1
 

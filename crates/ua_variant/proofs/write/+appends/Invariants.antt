@@ -5,19 +5,25 @@ use Rattle.ua_variant.specs.Canonical.{row_canonical}
 use Rattle.ua_variant.proofs.write.+appends.Given as goal
 
 abbrev pub decreases-append_data_value : goal.decreases-append_data_value
-decreases-append_data_value l = 4 * data_value_count (data_value_of l.value.now)
+decreases-append_data_value l = 5 * data_value_count (data_value_of l.value.now)
+
+abbrev pub decreases-append_boxed_data_value : goal.decreases-append_boxed_data_value
+decreases-append_boxed_data_value l = 5 * data_value_count l.value.now + 1
+
+abbrev pub decreases-append_boxed_variant : goal.decreases-append_boxed_variant
+decreases-append_boxed_variant l = 5 * variant_count l.value.now + 1
 
 abbrev pub decreases-append_row : goal.decreases-append_row
-decreases-append_row l = 4 * scalars_count (row l.items.now) + 2
+decreases-append_row l = 5 * scalars_count (row l.items.now) + 3
 
 abbrev pub decreases-append_scalar : goal.decreases-append_scalar
-decreases-append_scalar l = 4 * scalar_count (scalar_of l.value.now) + 1
+decreases-append_scalar l = 5 * scalar_count (scalar_of l.value.now) + 2
 
 abbrev pub decreases-append_variant : goal.decreases-append_variant
-decreases-append_variant l = 4 * variant_count (variant_of l.value.now)
+decreases-append_variant l = 5 * variant_count (variant_of l.value.now)
 
 abbrev pub invariant-append_row-loop-s : goal.invariant-append_row-loop-s
 invariant-append_row-loop-s l = l.out.items ≡ l.fn.out.items ++ row_canonical (row (map scalar_of (take l.s-index l.s-items)))
 
 abbrev pub decreases-append_array : goal.decreases-append_array
-decreases-append_array l = 4 * scalars_count (row l.items.now) + 3
+decreases-append_array l = 5 * scalars_count (row l.items.now) + 4
