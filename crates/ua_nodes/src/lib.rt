@@ -34,7 +34,8 @@ pub use laws::{
     a_table_stays_sound_with_a_sound_node,
 };
 pub use node::{Access, Node, NodeValue, Variable};
+pub use node_file::{is_read, without_return};
 pub use stamps::Stamps;
 pub use table::NodeTable;
 pub use type_name::parse_type;
-pub use value::parse_value;
+pub use value::{MOST_OCTETS, parse_value};

@@ -59,15 +59,15 @@ fn most_nodes(text: &str) -> usize
     lines.min(text.len() / LEAST_OCTETS + 1)
 }
 
-/// Whether a line is neither empty nor a comment.
-fn is_read(line: &str) -> bool
+/// Whether a line of a file is neither empty nor a comment, which begins with `#`.
+pub fn is_read(line: &str) -> bool
     ensures { result ≡ is_read_line line.now }
 {
     !line.is_empty() && !line.starts_with('#')
 }
 
-/// A line without one CR at its end.
-fn without_return(line: &str) -> &str
+/// A line of a file without one CR at its end.
+pub fn without_return(line: &str) -> &str
     ensures { result.now ≡ strip_carriage_return line.now }
 {
     line.strip_suffix('\r').unwrap_or(line)

@@ -16,8 +16,8 @@ use ua_builtin::{DateTime, DoubleBits, FloatBits, Guid, StatusCode, UaBytes, UaS
 use ua_variant::{Dimensions, Scalar, Scalars, Variant};
 use uuid::Uuid;
 
-/// The longest text of a value, in octets.
-pub(crate) const MOST_OCTETS: usize = 1_073_741_824;
+/// The longest text of a field, in octets.
+pub const MOST_OCTETS: usize = 1_073_741_824;
 
 /// The value that a text denotes at the type of an id, or at an array of it: `true` or `false`;
 /// decimal digits, with `-` in front below zero; `0x` and 8 or 16 hexadecimal digits for Float,
