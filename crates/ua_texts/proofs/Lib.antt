@@ -1,0 +1,8 @@
+pub mod Codes
+pub mod Shows
+mod Ends
+mod Rows
+mod Steps
+mod Scripts
+mod Asked
+pub mod Words

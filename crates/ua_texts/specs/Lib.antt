@@ -1,0 +1,7 @@
+pub mod Shown
+pub mod Values
+pub mod Answers
+pub mod Replies
+pub mod StepFault
+pub mod Script
+pub mod Requests

@@ -1,0 +1,65 @@
+-- What responses are printed as.
+use Rattle.std.specs.Prelude.{◌≡◌, ◌≢◌, ℕ, List, [], ◌++◌, length, Option, Some, None}
+use Rattle.std.specs.List.{flat_map}
+use Rattle.ua_builtin.specs.declared.status_code.StatusCode.{StatusCode}
+use Rattle.ua_services.specs.declared.response.Response.{Response}
+use Rattle.ua_services.specs.declared.response.Response.TheVariants.{GetEndpoints, Read, Write, ServiceFault}
+use Rattle.ua_structures.specs.declared.discovery.EndpointDescription.{EndpointDescription}
+use Rattle.ua_variant.specs.declared.values.DataValue.{DataValue}
+use Rattle.ua_texts.specs.Answers.{endpoint_line}
+use Rattle.ua_texts.specs.declared.fault.AnswerFault.{AnswerFault}
+use Rattle.ua_texts.specs.declared.fault.AnswerFault.TheVariants.{Service, Unknown, OutOfMemory}
+
+-- ---- what a response has
+
+-- the results of a Read
+abbrev pub values_in : Response → Option (List DataValue)
+values_in (Read m) = m.results
+values_in m = None
+
+-- the results of a Write
+abbrev pub statuses_in : Response → Option (List StatusCode)
+statuses_in (Write m) = m.results
+statuses_in m = None
+
+-- the list of a response to GetEndpoints, which may be null
+abbrev pub endpoints_in : Response → Option (Option (List EndpointDescription))
+endpoints_in (GetEndpoints m) = Some m.endpoints
+endpoints_in m = None
+
+-- the code of a ServiceFault
+abbrev pub fault_in : Response → Option StatusCode
+fault_in (ServiceFault m) = Some m.response_header.service_result
+fault_in m = None
+
+-- ---- what is printed
+
+-- there are as many answers as were asked for, and their lines were added
+pub record AreAnswers {A : Type 0} (answers : Option (List A)) (asked : ℕ) (lines : List A → List ℕ) (old new : List ℕ) : Type 0 where
+  pub each : List A
+  pub given : answers ≡ Some each
+  pub many : length each ≡ asked
+  pub added : new ≡ old ++ lines each
+
+-- why no answers were printed: the service failed, or there are not as many as were asked for
+abbrev pub NoAnswers : {A : Type 0} → Option (List A) → ℕ → Response → AnswerFault → Type 0
+NoAnswers answers asked response (Service code) = fault_in response ≡ Some code
+NoAnswers {A = A} answers asked response Unknown = (fault_in response ≡ None) × ((each : List A) → answers ≡ Some each → length each ≢ asked)
+NoAnswers answers asked response OutOfMemory = Unit {0}
+
+-- the lines of the list, none where it is null
+abbrev pub endpoint_lines : Option (List EndpointDescription) → List ℕ
+endpoint_lines None = []
+endpoint_lines (Some endpoints) = flat_map endpoint_line endpoints
+
+-- there is a list, and its lines were added
+pub record AreEndpoints (list : Option (Option (List EndpointDescription))) (old new : List ℕ) : Type 0 where
+  pub each : Option (List EndpointDescription)
+  pub given : list ≡ Some each
+  pub added : new ≡ old ++ endpoint_lines each
+
+-- why no endpoints were printed: the service failed, or it was another one
+abbrev pub NoEndpoints : Response → AnswerFault → Type 0
+NoEndpoints response (Service code) = fault_in response ≡ Some code
+NoEndpoints response Unknown = (fault_in response ≡ None) × (endpoints_in response ≡ None)
+NoEndpoints response OutOfMemory = Unit {0}

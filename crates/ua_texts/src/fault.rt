@@ -1,0 +1,116 @@
+//! Why a script was not read, and an answer not printed.
+
+use std::alloc::{AllocError, AllocFailed};
+use thiserror::Error;
+use ua_builtin::{StatusCode, TextFault};
+use ua_nodes::ValueFault;
+
+/// Why a script was not read.
+#[derive(Clone, Copy, PartialEq, Eq, Debug, Error)]
+pub enum ScriptFault {
+    /// The first line that asks for nothing, counted from 1.
+    #[error("script line {0}")]
+    Line(usize),
+    /// Memory was refused.
+    #[error("out of memory")]
+    OutOfMemory,
+}
+
+impl<T: Drop> From<AllocFailed<T>> for ScriptFault {
+    ghost use Rattle.std.specs.Prelude.{◌≡◌};
+    ghost use Rattle.ua_texts.specs.declared.fault.ScriptFault.TheVariants.{OutOfMemory};
+
+    ghost from_gives = { λ _ e. e ≡ OutOfMemory };
+
+    fn from(_: AllocFailed<T>) -> ScriptFault {
+        ScriptFault::OutOfMemory
+    }
+}
+
+/// Why a line gave no step.
+#[derive(Clone, Copy, PartialEq, Eq, Debug)]
+pub(crate) enum StepFault {
+    /// The line asks for nothing.
+    Bad,
+    NoMemory,
+}
+
+impl StepFault {
+    ghost use Rattle.std.specs.Prelude.{◌≡◌};
+    ghost use Rattle.ua_texts.specs.StepFault.{script_fault};
+
+    /// The same of the line of a number.
+    pub(crate) fn at(self, line: usize) -> ScriptFault
+        ensures { result ≡ script_fault line self }
+    {
+        match self {
+            StepFault::Bad => ScriptFault::Line(line),
+            StepFault::NoMemory => ScriptFault::OutOfMemory,
+        }
+    }
+}
+
+impl From<TextFault> for StepFault {
+    ghost use Rattle.std.specs.Prelude.{◌≡◌};
+    ghost use Rattle.ua_texts.specs.StepFault.{id_fault};
+
+    ghost from_gives = { λ t e. e ≡ id_fault t };
+
+    fn from(fault: TextFault) -> StepFault {
+        match fault {
+            TextFault::NotNodeId => StepFault::Bad,
+            TextFault::OutOfMemory => StepFault::NoMemory,
+        }
+    }
+}
+
+impl From<ValueFault> for StepFault {
+    ghost use Rattle.std.specs.Prelude.{◌≡◌};
+    ghost use Rattle.ua_texts.specs.StepFault.{value_fault};
+
+    ghost from_gives = { λ v e. e ≡ value_fault v };
+
+    fn from(fault: ValueFault) -> StepFault {
+        match fault {
+            ValueFault::NotValue => StepFault::Bad,
+            ValueFault::OutOfMemory => StepFault::NoMemory,
+        }
+    }
+}
+
+impl From<AllocError> for StepFault {
+    ghost use Rattle.std.specs.Prelude.{◌≡◌};
+    ghost use Rattle.ua_texts.specs.declared.fault.StepFault.TheVariants.{NoMemory};
+
+    ghost from_gives = { λ _ e. e ≡ NoMemory };
+
+    fn from(_: AllocError) -> StepFault {
+        StepFault::NoMemory
+    }
+}
+
+/// Why the answers in a response were not printed.
+#[derive(Clone, Copy, PartialEq, Eq, Debug, Error)]
+pub enum AnswerFault {
+    /// The service failed, with this code.
+    #[error("the service failed")]
+    Service(StatusCode),
+    /// The response is that of another service, or has another number of answers than were asked
+    /// for.
+    #[error("the response is unknown")]
+    Unknown,
+    /// Memory was refused.
+    #[error("out of memory")]
+    OutOfMemory,
+}
+
+impl From<AllocError> for AnswerFault {
+    ghost use Rattle.std.specs.Prelude.{◌≡◌};
+    ghost use Rattle.ua_texts.specs.declared.fault.AnswerFault.TheVariants.{OutOfMemory};
+
+    ghost from_gives = { λ _ e. e ≡ OutOfMemory };
+
+    fn from(_: AllocError) -> AnswerFault {
+        AnswerFault::OutOfMemory
+    }
+}

@@ -1,0 +1,123 @@
+//! What the responses to requests are printed as.
+
+ghost use Rattle.std.specs.Prelude.{◌≡◌, ◌++◌, length, string_bytes, IfErr, OnOk};
+ghost use Rattle.std.specs.List.{flat_map};
+ghost use Rattle.ua_texts.specs.Answers.{endpoint_line, read_lines, write_lines};
+ghost use Rattle.ua_texts.specs.Replies.{AreAnswers, AreEndpoints, NoAnswers, NoEndpoints, endpoints_in, statuses_in, values_in};
+
+use crate::answer::{push_endpoint_line, push_read_line, push_write_line};
+use crate::fault::AnswerFault;
+use std::alloc::{AllocError, Global};
+use ua_builtin::{NodeId, StatusCode};
+use ua_services::Response;
+use ua_structures::EndpointDescription;
+use ua_variant::DataValue;
+
+/// Adds the lines of the answers to a Read of these nodes, in their order.
+pub fn push_read_answers(
+    alloc: Global,
+    out: &mut String,
+    nodes: &[NodeId],
+    response: &Response,
+) -> Result<(), AnswerFault>
+    ensures lines { OnOk result (AreAnswers (values_in response.now) (length nodes.now) (read_lines nodes.now) (string_bytes out.old) (string_bytes out.new)) }
+    ensures faults { IfErr result (NoAnswers (values_in response.now) (length nodes.now) response.now) }
+{
+    let answers = match response {
+        Response::Read(message) => message.results.as_items(),
+        Response::ServiceFault(fault) => {
+            return Err(AnswerFault::Service(fault.response_header.service_result));
+        }
+        _ => None,
+    };
+    match answers {
+        Some(answers) if answers.len() == nodes.len() => {
+            Ok(push_read_lines(alloc, out, nodes, answers)?)
+        }
+        _ => Err(AnswerFault::Unknown),
+    }
+}
+
+fn push_read_lines(
+    alloc: Global,
+    out: &mut String,
+    nodes: &[NodeId],
+    answers: &[DataValue],
+) -> Result<(), AllocError>
+    requires { length answers.now ≡ length nodes.now }
+    ensures { OnOk result (string_bytes out.new ≡ string_bytes out.old ++ read_lines nodes.now answers.now) }
+{
+    for (index, answer) in answers.iter().enumerate() {
+        push_read_line(alloc, out, &nodes[index], answer)?;
+    }
+    Ok(())
+}
+
+/// Adds the lines of the answers to a Write to these nodes, in their order.
+pub fn push_write_answers(
+    alloc: Global,
+    out: &mut String,
+    nodes: &[NodeId],
+    response: &Response,
+) -> Result<(), AnswerFault>
+    ensures lines { OnOk result (AreAnswers (statuses_in response.now) (length nodes.now) (write_lines nodes.now) (string_bytes out.old) (string_bytes out.new)) }
+    ensures faults { IfErr result (NoAnswers (statuses_in response.now) (length nodes.now) response.now) }
+{
+    let answers = match response {
+        Response::Write(message) => message.results.as_items(),
+        Response::ServiceFault(fault) => {
+            return Err(AnswerFault::Service(fault.response_header.service_result));
+        }
+        _ => None,
+    };
+    match answers {
+        Some(answers) if answers.len() == nodes.len() => {
+            Ok(push_write_lines(alloc, out, nodes, answers)?)
+        }
+        _ => Err(AnswerFault::Unknown),
+    }
+}
+
+fn push_write_lines(
+    alloc: Global,
+    out: &mut String,
+    nodes: &[NodeId],
+    answers: &[StatusCode],
+) -> Result<(), AllocError>
+    requires { length answers.now ≡ length nodes.now }
+    ensures { OnOk result (string_bytes out.new ≡ string_bytes out.old ++ write_lines nodes.now answers.now) }
+{
+    for (index, status) in answers.iter().enumerate() {
+        push_write_line(alloc, out, &nodes[index], *status)?;
+    }
+    Ok(())
+}
+
+/// Adds the lines of the endpoints of a response to GetEndpoints; none where there is no list.
+pub fn push_endpoints(out: &mut String, response: &Response) -> Result<(), AnswerFault>
+    ensures lines { OnOk result (AreEndpoints (endpoints_in response.now) (string_bytes out.old) (string_bytes out.new)) }
+    ensures faults { IfErr result (NoEndpoints response.now) }
+{
+    match response {
+        Response::GetEndpoints(message) => {
+            let endpoints = message.endpoints.as_items().unwrap_or(&[]);
+            Ok(push_endpoint_lines(out, endpoints)?)
+        }
+        Response::ServiceFault(fault) => {
+            Err(AnswerFault::Service(fault.response_header.service_result))
+        }
+        _ => Err(AnswerFault::Unknown),
+    }
+}
+
+fn push_endpoint_lines(
+    out: &mut String,
+    endpoints: &[EndpointDescription],
+) -> Result<(), AllocError>
+    ensures { OnOk result (string_bytes out.new ≡ string_bytes out.old ++ flat_map endpoint_line endpoints.now) }
+{
+    for endpoint in endpoints {
+        push_endpoint_line(out, endpoint)?;
+    }
+    Ok(())
+}

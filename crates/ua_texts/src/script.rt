@@ -1,0 +1,146 @@
+//! Scripts: the steps that their lines ask for.
+
+ghost use Rattle.std.specs.Prelude.{◌≡◌, ◌∷◌, [], codes, IfOk, IfErr};
+ghost use Rattle.ua_nodes.specs.NodeFile.{fields};
+ghost use Rattle.ua_texts.specs.Script.{AsksFor, GivesId, GivesStep, GivesValue, IsCutBehindFirst, Refuses, range_of};
+
+use crate::fault::{ScriptFault, StepFault};
+use std::alloc::{AllocError, Global};
+use ua_builtin::{NodeId, UaString};
+use ua_nodes::{MOST_OCTETS, is_read, parse_type, parse_value, without_return};
+use ua_variant::Variant;
+
+/// What a line of a script asks for.
+#[derive(Drop)]
+pub enum Step {
+    /// Read the Value of a node, or the part of an array that an index range names.
+    Read { node: NodeId, range: UaString },
+    /// Set the Value of a node.
+    Write { node: NodeId, value: Variant },
+    /// Renew the token of the channel.
+    Renew,
+}
+
+/// A line of a script, by its number, counted from 1.
+#[derive(Drop)]
+pub struct ScriptLine {
+    pub number: usize,
+    pub step: Step,
+}
+
+/// The steps of a script. Its lines end at LF, the last one at the end; one CR at the end of a line
+/// is dropped. Lines that are empty or begin with `#` are skipped, and counted. Each other line is
+/// `read` and a NodeId, perhaps with an index range behind it; or `write`, a NodeId, a type and a
+/// value; or `renew`; with one tab between.
+pub fn parse_script(alloc: Global, text: &str) -> Result<Vec<ScriptLine>, ScriptFault>
+    ensures steps { IfOk result (λ steps. AsksFor text.now steps.items) }
+    ensures fault { IfErr result (λ fault. Refuses text.now fault) }
+{
+    let mut steps = Vec::new(alloc);
+    let mut number = 0;
+    for line in text.split('\n') {
+        number += 1;
+        let line = without_return(line);
+        if !is_read(line) {
+            continue;
+        }
+        match parse_step(alloc, line) {
+            Ok(step) => steps.push(ScriptLine { number, step })?,
+            Err(fault) => return Err(fault.at(number)),
+        }
+    }
+    Ok(steps)
+}
+
+/// What a line asks for.
+fn parse_step(alloc: Global, line: &str) -> Result<Step, StepFault>
+    ensures { GivesStep (fields line.now) result }
+{
+    let Some((word, rest)) = line.split_once('\t') else {
+        return parse_word(line);
+    };
+    match word {
+        "read" => parse_read(alloc, rest),
+        "write" => parse_write(alloc, rest),
+        _ => Err(StepFault::Bad),
+    }
+}
+
+/// What a line of one field asks for.
+fn parse_word(line: &str) -> Result<Step, StepFault>
+    ensures { GivesStep (line.now ∷ []) result }
+{
+    match line {
+        "renew" => Ok(Step::Renew),
+        _ => Err(StepFault::Bad),
+    }
+}
+
+/// What a line asks for that begins with `read` and a tab.
+fn parse_read(alloc: Global, rest: &str) -> Result<Step, StepFault>
+    ensures { GivesStep (codes "read" ∷ fields rest.now) result }
+{
+    let (id, range) = split_range(rest);
+    if range.contains('\t') {
+        return Err(StepFault::Bad);
+    }
+    if range.len() > MOST_OCTETS {
+        return Err(StepFault::Bad);
+    }
+    let node = parse_node(alloc, id)?;
+    let range = parse_range(alloc, range)?;
+    Ok(Step::Read { node, range })
+}
+
+/// The first field, and the text behind it, which is empty where there is no other field.
+fn split_range(rest: &str) -> (&str, &str)
+    ensures { IsCutBehindFirst rest.now result.0.now result.1.now }
+{
+    rest.split_once('\t').unwrap_or((rest, ""))
+}
+
+/// What a line asks for that begins with `write` and a tab.
+fn parse_write(alloc: Global, rest: &str) -> Result<Step, StepFault>
+    ensures { GivesStep (codes "write" ∷ fields rest.now) result }
+{
+    let Some((id, rest)) = rest.split_once('\t') else {
+        return Err(StepFault::Bad);
+    };
+    let Some((kind, text)) = rest.split_once('\t') else {
+        return Err(StepFault::Bad);
+    };
+    if text.contains('\t') {
+        return Err(StepFault::Bad);
+    }
+    let node = parse_node(alloc, id)?;
+    let value = parse_typed(alloc, kind, text)?;
+    Ok(Step::Write { node, value })
+}
+
+/// The NodeId that a field names.
+fn parse_node(alloc: Global, text: &str) -> Result<NodeId, StepFault>
+    ensures { GivesId text.now result }
+{
+    if text.len() > MOST_OCTETS {
+        return Err(StepFault::Bad);
+    }
+    Ok(NodeId::parse_text(alloc, text)?)
+}
+
+/// The index range of a field, null where it is empty.
+fn parse_range(alloc: Global, text: &str) -> Result<UaString, AllocError>
+    ensures { IfOk result (λ range. range ≡ range_of text.now) }
+{
+    if text.is_empty() {
+        return Ok(UaString::null());
+    }
+    UaString::from_str(alloc, text)
+}
+
+/// The value that a type and a text denote.
+fn parse_typed(alloc: Global, kind: &str, text: &str) -> Result<Variant, StepFault>
+    ensures { GivesValue kind.now text.now result }
+{
+    let (kind, array) = parse_type(kind).ok_or(StepFault::Bad)?;
+    Ok(parse_value(alloc, kind, array, text)?)
+}

@@ -1,0 +1,103 @@
+//! Texts, status codes and octets as the program prints them.
+
+ghost use Rattle.std.specs.Prelude.{◌≡◌, ◌++◌, string_bytes, OnOk};
+ghost use Rattle.std.specs.Char.{encode_utf8};
+ghost use Rattle.uuid.specs.Text.{hyphenated_text, lower};
+ghost use Rattle.ua_texts.specs.Shown.{shown, shown_string, code_text, pattern_text, base64_text, written_text};
+
+use base64::engine::general_purpose::STANDARD;
+use std::alloc::{AllocError, Global};
+use std::fmt::Write;
+use ua_builtin::{Guid, StatusCode, UaBytes, UaString, Wire, WriteFault};
+use uuid::Uuid;
+
+/// Adds a String: control characters as `\x` and two digits, a backslash doubled, null as `null`.
+pub fn push_string(out: &mut String, text: &UaString) -> Result<(), AllocError>
+    ensures { OnOk result (string_bytes out.new ≡ string_bytes out.old ++ shown_string text.now) }
+{
+    match text.as_str() {
+        Some(text) => push_text(out, text),
+        None => out.push_str("null"),
+    }
+}
+
+fn push_text(out: &mut String, text: &str) -> Result<(), AllocError>
+    ensures { OnOk result (string_bytes out.new ≡ string_bytes out.old ++ shown text.now) }
+{
+    for c in text.chars() {
+        push_char(out, c)?;
+    }
+    Ok(())
+}
+
+fn push_char(out: &mut String, c: char) -> Result<(), AllocError>
+    ensures { OnOk result (string_bytes out.new ≡ string_bytes out.old ++ shown (encode_utf8 c)) }
+{
+    if c == '\\' {
+        out.push_str("\\\\")
+    } else if c.is_ascii_control() {
+        write!(out, "\\x{:02x}", c as u32)
+    } else {
+        out.push(c)
+    }
+}
+
+/// Adds a status code, as eight upper case hexadecimal digits.
+pub fn push_code(out: &mut String, status: StatusCode) -> Result<(), AllocError>
+    ensures { OnOk result (string_bytes out.new ≡ string_bytes out.old ++ code_text status.code) }
+{
+    write!(out, "{:08X}", status.code)
+}
+
+/// Adds a pattern of 32 bits: `0x` and eight hexadecimal digits.
+pub(crate) fn push_pattern(out: &mut String, bits: u32) -> Result<(), AllocError>
+    ensures { OnOk result (string_bytes out.new ≡ string_bytes out.old ++ pattern_text 8 bits) }
+{
+    write!(out, "0x{bits:08x}")
+}
+
+/// Adds a pattern of 64 bits: `0x` and sixteen hexadecimal digits.
+pub(crate) fn push_wide_pattern(out: &mut String, bits: u64) -> Result<(), AllocError>
+    ensures { OnOk result (string_bytes out.new ≡ string_bytes out.old ++ pattern_text 16 bits) }
+{
+    write!(out, "0x{bits:016x}")
+}
+
+/// Adds a Guid with its hyphens, in lower case.
+pub(crate) fn push_guid(out: &mut String, guid: &Guid) -> Result<(), AllocError>
+    ensures { OnOk result (string_bytes out.new ≡ string_bytes out.old ++ hyphenated_text lower guid.now.uuid) }
+{
+    let mut buffer = Uuid::encode_buffer();
+    out.push_str(guid.uuid.hyphenated().encode_lower(&mut buffer))
+}
+
+/// Adds a ByteString in base64, null as `null`.
+pub(crate) fn push_base64(out: &mut String, octets: &UaBytes) -> Result<(), AllocError>
+    ensures { OnOk result (string_bytes out.new ≡ string_bytes out.old ++ base64_text octets.now) }
+{
+    match octets.as_octets() {
+        Some(octets) => STANDARD.encode_string(octets, out),
+        None => out.push_str("null"),
+    }
+}
+
+/// Adds the octets of a value's canonical encoding, as `0x` and two hexadecimal digits of each, or
+/// `unwritable` where it has none.
+pub(crate) fn push_encoded<T: Wire>(
+    alloc: Global,
+    out: &mut String,
+    value: &T,
+) -> Result<(), AllocError>
+    ensures { OnOk result (string_bytes out.new ≡ string_bytes out.old ++ written_text (T.format.encodable value.now) (T.format.canonical value.now)) }
+{
+    let mut octets = Vec::new(alloc);
+    match value.write(&mut octets) {
+        Ok(()) => {
+            let digits = hex::encode(alloc, octets.as_slice())?;
+            out.push_str("0x")?;
+            out.push_str(&digits)
+        }
+        Err(WriteFault::NotWritable) => out.push_str("unwritable"),
+        Err(WriteFault::OutOfMemory) => Err(AllocError),
+    }
+}

@@ -1,0 +1,185 @@
+//! Values as the program prints them.
+
+ghost use Rattle.std.specs.Prelude.{◌≡◌, ◌++◌, map, string_bytes, OnOk};
+ghost use Rattle.ua_variant.specs.Data.{leaf};
+ghost use Rattle.ua_variant.specs.Packed.{packed_leaves};
+ghost use Rattle.ua_variant.specs.View.{elements_of, scalar_of, variant_of};
+ghost use Rattle.ua_texts.specs.Values.{array_text, boolean_text, item_text, items_text, scalar_text, type_name as name_of_type, typed_text, variant_text};
+
+use crate::text::{
+    push_base64, push_encoded, push_guid, push_pattern, push_string, push_wide_pattern,
+};
+use std::alloc::{AllocError, Global};
+use std::fmt::Write;
+use ua_variant::{Elements, Packed, Scalar, Scalars, Variant};
+
+/// The standard's name of the type of an id (OPC 10000-6, 5.1.2), `Reserved` for any id but those
+/// from 1 to 25.
+pub fn type_name(kind: u8) -> &'static str
+    ensures { result.now ≡ name_of_type kind }
+{
+    match kind {
+        1 => "Boolean",
+        2 => "SByte",
+        3 => "Byte",
+        4 => "Int16",
+        5 => "UInt16",
+        6 => "Int32",
+        7 => "UInt32",
+        8 => "Int64",
+        9 => "UInt64",
+        10 => "Float",
+        11 => "Double",
+        12 => "String",
+        13 => "DateTime",
+        14 => "Guid",
+        15 => "ByteString",
+        16 => "XmlElement",
+        17 => "NodeId",
+        18 => "ExpandedNodeId",
+        19 => "StatusCode",
+        20 => "QualifiedName",
+        21 => "LocalizedText",
+        22 => "ExtensionObject",
+        23 => "DataValue",
+        24 => "Variant",
+        25 => "DiagnosticInfo",
+        _ => "Reserved",
+    }
+}
+
+/// Adds the type and the value: an array's type with `[]` behind it, its elements with a comma
+/// between, a null array as `null`, and no value as `Null`. A value that cannot be written is
+/// `unwritable`, without its type.
+pub fn push_variant(alloc: Global, out: &mut String, value: &Variant) -> Result<(), AllocError>
+    ensures { OnOk result (string_bytes out.new ≡ string_bytes out.old ++ variant_text (variant_of value.now)) }
+{
+    if value.writable() {
+        push_typed(alloc, out, value)
+    } else {
+        out.push_str("unwritable")
+    }
+}
+
+/// Adds the type and the value.
+#[tactic(auto, using(crate::proofs::Rows::typed_of))]
+fn push_typed(alloc: Global, out: &mut String, value: &Variant) -> Result<(), AllocError>
+    ensures { OnOk result (string_bytes out.new ≡ string_bytes out.old ++ typed_text (variant_of value.now)) }
+{
+    match value {
+        Variant::Null => out.push_str("Null"),
+        Variant::One(scalar) => {
+            out.push_str(type_name(scalar.kind()))?;
+            out.push_str(" ")?;
+            push_scalar(alloc, out, scalar)
+        }
+        Variant::Many { kind, items, .. } => push_array(alloc, out, *kind, items),
+    }
+}
+
+/// Adds the type and the elements of an array, null as `null`.
+fn push_array(
+    alloc: Global,
+    out: &mut String,
+    kind: u8,
+    items: &Option<Scalars>,
+) -> Result<(), AllocError>
+    ensures { OnOk result (string_bytes out.new ≡ string_bytes out.old ++ array_text kind items.now) }
+{
+    out.push_str(type_name(kind))?;
+    match items {
+        Some(items) => {
+            out.push_str("[] ")?;
+            push_elements(alloc, out, items.elements())
+        }
+        None => out.push_str("[] null"),
+    }
+}
+
+/// Adds the elements of an array, with a comma between.
+fn push_elements(alloc: Global, out: &mut String, elements: &Elements) -> Result<(), AllocError>
+    ensures { OnOk result (string_bytes out.new ≡ string_bytes out.old ++ items_text (elements_of elements.now)) }
+{
+    match elements {
+        Elements::Packed(packed) => push_packed(alloc, out, packed),
+        Elements::Mixed(scalars) => push_scalars(alloc, out, scalars),
+    }
+}
+
+fn push_packed(alloc: Global, out: &mut String, packed: &Packed) -> Result<(), AllocError>
+    ensures { OnOk result (string_bytes out.new ≡ string_bytes out.old ++ items_text (map leaf (packed_leaves packed.now))) }
+{
+    for index in 0..packed.len() {
+        let Some(scalar) = packed.get(index) else {
+            unreachable!()
+        };
+        push_item(alloc, out, index, &scalar)?;
+    }
+    Ok(())
+}
+
+fn push_scalars(alloc: Global, out: &mut String, scalars: &[Scalar]) -> Result<(), AllocError>
+    ensures { OnOk result (string_bytes out.new ≡ string_bytes out.old ++ items_text (map scalar_of scalars.now)) }
+{
+    for (index, scalar) in scalars.iter().enumerate() {
+        push_item(alloc, out, index, scalar)?;
+    }
+    Ok(())
+}
+
+/// Adds the element at a place, behind a comma unless it is the first.
+fn push_item(
+    alloc: Global,
+    out: &mut String,
+    index: usize,
+    scalar: &Scalar,
+) -> Result<(), AllocError>
+    ensures { OnOk result (string_bytes out.new ≡ string_bytes out.old ++ item_text index (scalar_text (scalar_of scalar.now))) }
+{
+    if index > 0 {
+        out.push_str(",")?;
+    }
+    push_scalar(alloc, out, scalar)
+}
+
+/// Adds a value of a built-in type.
+#[tactic(auto, unfolding(ua_variant::specs::Formats::data_value_format, ua_variant::specs::Formats::variant_format, ua_parts::specs::Formats::diagnostic_format))]
+fn push_scalar(alloc: Global, out: &mut String, scalar: &Scalar) -> Result<(), AllocError>
+    ensures { OnOk result (string_bytes out.new ≡ string_bytes out.old ++ scalar_text (scalar_of scalar.now)) }
+{
+    match scalar {
+        Scalar::Boolean(value) => push_boolean(out, *value),
+        Scalar::SByte(value) => write!(out, "{value}"),
+        Scalar::Byte(value) => write!(out, "{value}"),
+        Scalar::Int16(value) => write!(out, "{value}"),
+        Scalar::UInt16(value) => write!(out, "{value}"),
+        Scalar::Int32(value) => write!(out, "{value}"),
+        Scalar::UInt32(value) => write!(out, "{value}"),
+        Scalar::Int64(value) => write!(out, "{value}"),
+        Scalar::UInt64(value) => write!(out, "{value}"),
+        Scalar::Float(value) => push_pattern(out, value.bits),
+        Scalar::Double(value) => push_wide_pattern(out, value.bits),
+        Scalar::String(value) => push_string(out, value),
+        Scalar::DateTime(value) => write!(out, "{}", value.ticks),
+        Scalar::Guid(value) => push_guid(out, value),
+        Scalar::ByteString(value) => push_base64(out, value),
+        Scalar::XmlElement(value) => push_encoded(alloc, out, value),
+        Scalar::NodeId(value) => push_encoded(alloc, out, value),
+        Scalar::ExpandedNodeId(value) => push_encoded(alloc, out, value),
+        Scalar::StatusCode(value) => push_pattern(out, value.code),
+        Scalar::QualifiedName(value) => push_encoded(alloc, out, value),
+        Scalar::LocalizedText(value) => push_encoded(alloc, out, value),
+        Scalar::ExtensionObject(value) => push_encoded(alloc, out, value),
+        Scalar::DataValue(value) => push_encoded(alloc, out, value),
+        Scalar::Variant(value) => push_encoded(alloc, out, value.get()),
+        Scalar::DiagnosticInfo(value) => push_encoded(alloc, out, value),
+        Scalar::Reserved(..) => out.push_str("unwritable"),
+    }
+}
+
+/// Adds `true` or `false`.
+fn push_boolean(out: &mut String, value: bool) -> Result<(), AllocError>
+    ensures { OnOk result (string_bytes out.new ≡ string_bytes out.old ++ boolean_text value) }
+{
+    out.push_str(if value { "true" } else { "false" })
+}
