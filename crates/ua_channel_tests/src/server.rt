@@ -78,7 +78,7 @@ const FIRST_RENEWED: &[u8] =
 const SHORT_ACK: &[u8] = b"ACKF\x1C\0\0\0\0\0\0\0\xFF\xFF\0\0\xFF\xFF\0\0\x10\0\0\0\0\x01\0\0";
 
 /// What is refused in place of a HEL, at the last of these octets, and the ERR frame that says so.
-const REFUSED_FIRST: [(&[u8], &[u8; 16]); 5] = [
+const REFUSED_FIRST: [(&[u8], &[u8; 16]); 6] = [
     // a ReceiveBufferSize of 8191
     (
         b"HELF8\0\0\0\0\0\0\0\xFF\x1F\0\0\xFF\xFF\0\0\0\0\0\0\0\0\0\0\x18\0\0\0opc.tcp://localhost:4840",
@@ -102,6 +102,11 @@ const REFUSED_FIRST: [(&[u8], &[u8; 16]); 5] = [
     // below the least
     (
         b"HELF\x1F\0\0\0",
+        b"ERRF\x10\0\0\0\0\0\x07\x80\xFF\xFF\xFF\xFF",
+    ),
+    // an octet behind the last field
+    (
+        b"HELF9\0\0\0\0\0\0\0\xFF\xFF\0\0\xFF\xFF\0\0\0\0\0\0\0\0\0\0\x18\0\0\0opc.tcp://localhost:4840\0",
         b"ERRF\x10\0\0\0\0\0\x07\x80\xFF\xFF\xFF\xFF",
     ),
 ];

@@ -11,8 +11,6 @@ mod chunks;
 #[cfg(test)]
 mod cutting;
 #[cfg(test)]
-mod greetings;
-#[cfg(test)]
 mod headers;
 #[cfg(test)]
 mod limits;
