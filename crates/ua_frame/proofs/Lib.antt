@@ -13,4 +13,3 @@ pub mod RunFrames
 pub mod Ends
 pub mod SameRules
 pub mod Readers
-pub mod Greetings

@@ -12,6 +12,4 @@ pub mod Same
 pub mod Laws
 pub mod Reader
 pub mod Unfinished
-pub mod Faults
-pub mod Greeting
 pub use Rattle.ua_builtin.specs.Reasons

@@ -1,9 +1,7 @@
-//! Why frames are not read, and why a greeting ends.
+//! Why frames are not read.
 
 ghost use Rattle.std.specs.Prelude.{◌≡◌};
 
-use crate::error::error_frame;
-use std::alloc::AllocError;
 use thiserror::Error;
 use ua_builtin::StatusCode;
 
@@ -47,59 +45,5 @@ impl FrameFault {
             FrameFault::TooSmall => Some(StatusCode::BAD_DECODING_ERROR),
             FrameFault::OutOfMemory | FrameFault::Closed => None,
         }
-    }
-}
-
-/// Why a greeting ended without an agreement.
-#[derive(Clone, Copy, PartialEq, Eq, Debug, Error)]
-pub enum GreetFault {
-    /// The octets are refused with this code, and this ERR frame is to be sent.
-    #[error("refused")]
-    Refused {
-        code: StatusCode,
-        err_frame: [u8; 16],
-    },
-    /// An earlier call agreed or failed.
-    #[error("closed")]
-    Closed,
-    /// Memory was refused.
-    #[error("out of memory")]
-    OutOfMemory,
-}
-
-impl GreetFault {
-    ghost use Rattle.ua_frame.specs.Frames.{frame_octets};
-    ghost use Rattle.ua_frame.specs.Messages.{err_frame};
-    ghost use Rattle.ua_frame.specs.Faults.{refused_with, greet_fault_of};
-
-    /// A refusal with this code.
-    pub(crate) fn refused(code: StatusCode) -> GreetFault
-        ensures { result ≡ refused_with code }
-    {
-        GreetFault::Refused {
-            code,
-            err_frame: error_frame(code),
-        }
-    }
-
-    /// What a fault of the frame reader comes to.
-    pub(crate) fn of_frame(fault: FrameFault) -> GreetFault
-        ensures { result ≡ greet_fault_of fault }
-    {
-        match fault.code() {
-            Some(code) => GreetFault::refused(code),
-            None if matches!(fault, FrameFault::Closed) => GreetFault::Closed,
-            None => GreetFault::OutOfMemory,
-        }
-    }
-}
-
-impl From<AllocError> for GreetFault {
-    ghost use Rattle.ua_frame.specs.declared.fault.GreetFault.TheVariants.{OutOfMemory};
-
-    ghost from_gives = { λ _ e. e ≡ OutOfMemory };
-
-    fn from(_: AllocError) -> GreetFault {
-        GreetFault::OutOfMemory
     }
 }

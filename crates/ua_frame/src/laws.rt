@@ -1,12 +1,9 @@
 //! Laws of streams. Each is the contract of a function that does nothing.
 
-ghost use Rattle.std.specs.Prelude.{◌≡◌, ◌≤◌, ◌↔◌, List, ℕ, [], Some};
+ghost use Rattle.std.specs.Prelude.{◌≡◌, ◌≤◌, ◌↔◌, List, ℕ, Some};
 ghost use Rattle.ua_builtin.specs.Format.{most_levels};
-ghost use Rattle.ua_frame.specs.Greeting.{IsBegun};
-ghost use Rattle.ua_frame.specs.Hello.{hello_gate};
 ghost use Rattle.ua_frame.specs.Laws.{HasReadings, HasOneReading, HaveFrames, FramesAreOne, ReadsFirstFrames, ReadsAllFrames, StopsAtFirstWrong, EndsStay, ReadsAlike, EndsAlike, ReadsByOtherNames};
-ghost use Rattle.ua_frame.specs.Reader.{gate_rules};
-ghost use Rattle.ua_frame.specs.Run.{Rules, Run, Going};
+ghost use Rattle.ua_frame.specs.Run.{Rules};
 ghost use Rattle.ua_frame.specs.Whole.{body_of};
 
 use ua_builtin::Wire;
@@ -70,8 +67,3 @@ pub fn one_body<T: Wire>()
 {
     T::lawful();
 }
-
-/// Octets that are no frame yet at the gate of a HEL are the beginning of a greeting.
-pub fn begins_as_read()
-    ensures { (octets : List ℕ) → Run (gate_rules hello_gate) octets [] octets Going → IsBegun octets }
-{}
