@@ -55,7 +55,7 @@ pub record ServerCloses (limits : Limits) (channel : ℕ) (octets : List ℕ) (t
 
 -- ---- what a client may send next
 
--- a token that the server takes here, and every one before it is done with: from the last one used to the newest issued
+-- a token that the server takes here: from the last one used to the newest issued
 pub record IsTakenAt (at : AtServer) (token : ℕ) : Type 0 where
   pub not_before : at.used ≤ token
   pub issued : token ≤ at.issued
