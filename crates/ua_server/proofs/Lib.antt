@@ -3,7 +3,7 @@ mod Answered
 mod Identities
 mod Statuses
 mod Replies
-mod SaidInParts
 mod Steps
 mod Passing
 mod Events
+pub mod SaidInParts
