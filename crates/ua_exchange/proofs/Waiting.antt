@@ -1,0 +1,76 @@
+-- The turns that are asked and not answered yet, by their request ids.
+use Rattle.std.proofs.Common.{◌≡◌, ℕ, suc, ◌+◌, ◌<◌, Bool, true, false, not, ◌||◌, eqb, List, [], ◌∷◌, ◌++◌, length, refl, ◌∙◌, ap, arith}
+use Rattle.std.specs.Prelude.{if◌then◌else◌}
+use Rattle.std.proofs.lemmas.Bool.{eq-eqb, ne_eqb}
+use Rattle.ua_channel.specs.Asks.{is_in}
+use Rattle.ua_channel.specs.ClientReads.{without_id}
+use Rattle.ua_services.specs.declared.request.Request.{Request}
+use Rattle.ua_exchange.specs.Groups.{AreCalls, EndsAtRenewal, calls_from, renewals_from}
+use Rattle.ua_exchange.specs.declared.turn.Turn.{Turn}
+use Rattle.ua_exchange.specs.declared.turn.Turn.TheVariants.{Ask, Renew}
+
+-- ---- with one turn more
+
+moved : (id : ℕ) (n : ℕ) → (id + 1) + n ≡ id + suc n
+moved id n = omega arith
+
+pub calls-push : (id : ℕ) (ts : List Turn) (m : Request) → calls_from id (ts ++ Ask m ∷ []) ≡ calls_from id ts ++ (id + length ts) ∷ []
+calls-push id [] m = let same : id ≡ id + 0 = omega arith in ap (λ (k : ℕ). k ∷ []) same
+calls-push id (Ask q ∷ ts) m = ap (λ (ks : List ℕ). id ∷ ks) (calls-push (id + 1) ts m ∙ ap (λ (k : ℕ). calls_from (id + 1) ts ++ k ∷ []) (moved id (length ts)))
+calls-push id (Renew ∷ ts) m = calls-push (id + 1) ts m ∙ ap (λ (k : ℕ). calls_from (id + 1) ts ++ k ∷ []) (moved id (length ts))
+
+pub calls-renewal : (id : ℕ) (ts : List Turn) → calls_from id (ts ++ Renew ∷ []) ≡ calls_from id ts
+calls-renewal id [] = refl
+calls-renewal id (Ask q ∷ ts) = ap (λ (ks : List ℕ). id ∷ ks) (calls-renewal (id + 1) ts)
+calls-renewal id (Renew ∷ ts) = calls-renewal (id + 1) ts
+
+pub renewals-push : (id : ℕ) (ts : List Turn) → renewals_from id (ts ++ Renew ∷ []) ≡ renewals_from id ts ++ (id + length ts) ∷ []
+renewals-push id [] = let same : id ≡ id + 0 = omega arith in ap (λ (k : ℕ). k ∷ []) same
+renewals-push id (Ask q ∷ ts) = renewals-push (id + 1) ts ∙ ap (λ (k : ℕ). renewals_from (id + 1) ts ++ k ∷ []) (moved id (length ts))
+renewals-push id (Renew ∷ ts) = ap (λ (ks : List ℕ). id ∷ ks) (renewals-push (id + 1) ts ∙ ap (λ (k : ℕ). renewals_from (id + 1) ts ++ k ∷ []) (moved id (length ts)))
+
+pub renewals-call : (id : ℕ) (ts : List Turn) (m : Request) → renewals_from id (ts ++ Ask m ∷ []) ≡ renewals_from id ts
+renewals-call id [] m = refl
+renewals-call id (Ask q ∷ ts) m = renewals-call (id + 1) ts m
+renewals-call id (Renew ∷ ts) m = ap (λ (ks : List ℕ). id ∷ ks) (renewals-call (id + 1) ts m)
+
+-- ---- the first one answered
+
+keep-one : (j id : ℕ) (ids : List ℕ) → eqb j id ≡ false → without_id id (j ∷ ids) ≡ j ∷ without_id id ids
+keep-one j id ids e = ap (λ (b : Bool). if not b then j ∷ without_id id ids else without_id id ids) e
+
+later-stay : (id k : ℕ) (ts : List Turn) → id < k → without_id id (calls_from k ts) ≡ calls_from k ts
+later-stay id k [] less = refl
+later-stay id k (Ask m ∷ ts) less =
+    keep-one k id (calls_from (k + 1) ts) (ne_eqb k id (λ e. omega (arith, e, less))) ∙ ap (λ (ks : List ℕ). k ∷ ks) (later-stay id (k + 1) ts (omega (arith, less)))
+later-stay id k (Renew ∷ ts) less = later-stay id (k + 1) ts (omega (arith, less))
+
+drop-one : (id : ℕ) (ids : List ℕ) → without_id id (id ∷ ids) ≡ without_id id ids
+drop-one id ids = ap (λ (b : Bool). if not b then id ∷ without_id id ids else without_id id ids) (eq-eqb id id refl)
+
+pub first-answered : (id : ℕ) (ts : List Turn) → without_id id (id ∷ calls_from (id + 1) ts) ≡ calls_from (id + 1) ts
+first-answered id ts = drop-one id (calls_from (id + 1) ts) ∙ later-stay id (id + 1) ts (omega arith)
+
+pub first-waits : (id : ℕ) (ids : List ℕ) → is_in id (id ∷ ids) ≡ true
+first-waits id ids = ap (λ (b : Bool). b || is_in id ids) (eq-eqb id id refl)
+
+pub ends-push : (ts : List Turn) (t : Turn) → AreCalls ts → EndsAtRenewal (ts ++ t ∷ [])
+ends-push [] (Ask m) calls = tt
+ends-push [] Renew calls = refl
+ends-push (Ask m ∷ ts) t calls = ends-push ts t calls
+ends-push (Renew ∷ ts) t calls = absurd calls
+
+pub calls-end : (ts : List Turn) → AreCalls ts → EndsAtRenewal ts
+calls-end [] calls = tt
+calls-end (Ask m ∷ ts) calls = calls-end ts calls
+calls-end (Renew ∷ ts) calls = absurd calls
+
+pub calls-more : (ts : List Turn) (m : Request) → AreCalls ts → AreCalls (ts ++ Ask m ∷ [])
+calls-more [] m calls = tt
+calls-more (Ask q ∷ ts) m calls = calls-more ts m calls
+calls-more (Renew ∷ ts) m calls = absurd calls
+
+pub no-renewals : (id : ℕ) (ts : List Turn) → AreCalls ts → renewals_from id ts ≡ []
+no-renewals id [] calls = refl
+no-renewals id (Ask m ∷ ts) calls = no-renewals (id + 1) ts calls
+no-renewals id (Renew ∷ ts) calls = absurd calls

@@ -1,0 +1,22 @@
+-- What comes of turns that both ends of a connection run through.
+use Rattle.std.specs.Prelude.{ℕ, List}
+use Rattle.ua_builtin.specs.declared.date_time.DateTime.{DateTime}
+use Rattle.ua_frame.specs.Run.{Over}
+use Rattle.ua_nodes.specs.Table.{Nodes}
+use Rattle.ua_server.specs.Said.{said}
+use Rattle.ua_exchange.specs.Accepted.{FirstRefused}
+use Rattle.ua_exchange.specs.Handed.{all_told, moments_of}
+use Rattle.ua_exchange.specs.Programs.{begun_over, channel}
+use Rattle.ua_exchange.specs.declared.fault.PairFault.{PairFault}
+use Rattle.ua_exchange.specs.declared.fault.PairFault.TheVariants.{NotWritable, Request, OutOfMemory}
+use Rattle.ua_exchange.specs.declared.turn.Turn.{Turn}
+
+-- all that a server over these nodes says to a client that has these turns, with this moment for each answer
+abbrev pub down_octets : Nodes → DateTime → List Turn → List ℕ
+down_octets nodes moment turns = said channel (begun_over nodes) (all_told turns) Over (moments_of moment turns)
+
+-- why there is no transcript: the first turn that is not accepted, or want of memory
+abbrev pub IsRefusedFor : List Turn → PairFault → Type 0
+IsRefusedFor turns (Request index fault) = FirstRefused turns (Request index fault)
+IsRefusedFor turns (NotWritable index) = FirstRefused turns (NotWritable index)
+IsRefusedFor turns OutOfMemory = Unit {0}

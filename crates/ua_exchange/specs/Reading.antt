@@ -1,0 +1,83 @@
+-- What each end reads of what the other says of turns.
+use Rattle.std.specs.Prelude.{◌≡◌, ℕ, suc, ◌+◌, ◌≤◌, length, List, [], ◌∷◌, Some}
+use Rattle.ua_builtin.specs.declared.date_time.DateTime.{DateTime}
+use Rattle.ua_frame.specs.After.{each_after}
+use Rattle.ua_frame.specs.Frames.{frames_octets}
+use Rattle.ua_frame.specs.Run.{Going}
+use Rattle.ua_frame.specs.declared.limits.Limits.{Limits}
+use Rattle.ua_chunk.specs.Cutting.{cut_refusal}
+use Rattle.ua_chunk.specs.Gathered.{after_last}
+use Rattle.ua_channel.specs.Asks.{Placed, asked_in}
+use Rattle.ua_channel.specs.ClientAsks.{no_id}
+use Rattle.ua_channel.specs.ClientReads.{AtClient, ClientReads, told_reply}
+use Rattle.ua_channel.specs.ClientTold.{Told as Heard, Told as heard}
+use Rattle.ua_channel.specs.ServerReads.{AtServer, ServerReads}
+use Rattle.ua_services.specs.Response.{response}
+use Rattle.ua_server.specs.Said.{Course, said, left}
+use Rattle.ua_server.specs.State.{State}
+use Rattle.ua_exchange.specs.Handed.{asking_told, spent}
+use Rattle.ua_exchange.specs.Groups.{upto, calls_from, renewals_from}
+use Rattle.ua_exchange.specs.Programs.{acknowledged, agreement, channel, greeting}
+use Rattle.ua_exchange.specs.Replies.{lane_back, response_behind, state_behind}
+use Rattle.ua_exchange.specs.Turns.{asking_frames, id_behind, is_call, number_behind, token_behind}
+use Rattle.ua_exchange.specs.declared.turn.Turn.{Turn}
+use Rattle.ua_exchange.specs.declared.turn.Turn.TheVariants.{Ask, Renew}
+
+-- ---- at the server
+
+-- a server with these limits reads what the client says up to and with these turns, and is told of them
+pub record AskingReads (limits : Limits) (moment : DateTime) (turns : List Turn) : Type 0 where
+  pub at : AtServer
+  pub reads : ServerReads limits channel (frames_octets (asking_frames moment turns)) (asking_told turns) at
+  pub hello_is : at.hello ≡ greeting
+  pub issued_is : at.issued ≡ token_behind turns
+  pub used_within : at.used ≤ at.issued
+  pub next_is : at.next ≡ number_behind turns
+  pub few : id_behind turns ≤ no_id
+
+-- ---- what the server says
+
+-- up to and with the answers to these turns
+abbrev pub said_to : State → DateTime → List Turn → List ℕ
+said_to first moment turns = said channel first (asking_told turns) Going (spent (asking_told turns) moment)
+
+-- how far it is then, with this number next, and these moments left
+abbrev pub course_behind : State → DateTime → List Turn → ℕ → List DateTime → Course
+course_behind first moment turns number moments = record { state = state_behind first moment turns; number = number; moments = moments; agreement = Some agreement }
+
+-- the number of its next chunk
+abbrev pub NumberIs : State → DateTime → List Turn → ℕ → Type 0
+NumberIs first moment turns number = left channel first (asking_told turns) (spent (asking_told turns) moment) ≡ course_behind first moment turns number []
+
+-- ---- at the client
+
+-- what it is told of a turn behind these: the reply to a request, or that it was given up; the token that a renewal brings
+abbrev pub heard_behind : State → DateTime → List Turn → Turn → List Heard
+heard_behind first moment before (Ask m) =
+    told_reply (cut_refusal (lane_back before) (response.canonical (response_behind first moment before m))) (id_behind before) (response.canonical (response_behind first moment before m)) ∷ []
+heard_behind first moment before Renew = heard.Renewed (token_behind before + 1) ∷ []
+
+-- of turns, in order
+unfoldable pub turns_heard : State → DateTime → List Turn → List Heard
+turns_heard first moment turns = each_after (heard_behind first moment) turns
+
+-- and of the opening
+abbrev pub all_heard : State → DateTime → List Turn → List Heard
+all_heard first moment turns = heard.Agreed acknowledged ∷ (heard.Opened channel 1 ∷ turns_heard first moment turns)
+
+-- a client with these limits reads what the server says of the turns that are answered, where it asked these, and the others wait
+pub record Hearing (limits : Limits) (first : State) (moment : DateTime) (asks : List Placed) (answered waiting : List Turn) : Type 0 where
+  pub at : AtClient
+  pub reads : ClientReads limits asks (said_to first moment answered) (all_heard first moment answered) at
+  pub asked_is : length (asked_in asks) ≡ length answered + length waiting
+  pub ack_is : at.ack ≡ acknowledged
+  pub channel_is : at.channel ≡ channel
+  pub oldest : ℕ
+  pub others : ℕ
+  pub tokens_are : at.tokens ≡ upto oldest (suc others)
+  pub newest_here : oldest + others ≡ token_behind answered
+  pub held_is : suc others ≡ length (after_last is_call answered) + 1
+  pub newest_is : at.newest ≡ token_behind answered
+  pub pending_are : at.pending ≡ calls_from (id_behind answered) waiting
+  pub renewals_are : at.renewals ≡ renewals_from (id_behind answered) waiting
+  pub next_is : NumberIs first moment answered at.next

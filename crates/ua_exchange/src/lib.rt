@@ -1,0 +1,16 @@
+//! Both ends of a connection over memory: what a client of the program `ua` asks, and what comes of
+//! it.
+//!
+//! Its contract is that of the `laws`: what a client says of turns that are accepted is read by a
+//! server, which is told of just these turns, in their order; and what the server says of them is read
+//! by the client, each reply under its own request id.
+#![tactic(auto)]
+
+mod fault;
+pub mod laws;
+mod reply;
+mod turn;
+
+pub use fault::PairFault;
+pub use reply::Reply;
+pub use turn::Turn;
