@@ -11,7 +11,7 @@ use std::alloc::{AllocError, Global};
 use std::fmt::Write;
 use ua_builtin::{NodeId, StatusCode};
 use ua_structures::EndpointDescription;
-use ua_variant::{BoxedVariant, DataValue};
+use ua_variant::{DataValue, HeldVariant};
 
 /// Adds the answer to an item of a Read: `NODE CODE TYPE VALUE`, or `NODE CODE` where there is no
 /// value.
@@ -60,7 +60,7 @@ fn push_status(
 fn push_value_part(
     alloc: Global,
     out: &mut String,
-    value: &Option<BoxedVariant>,
+    value: &Option<HeldVariant>,
 ) -> Result<(), AllocError>
     ensures { OnOk result (string_bytes out.new ≡ string_bytes out.old ++ value_part value.now) }
 {

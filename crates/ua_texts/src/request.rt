@@ -19,7 +19,7 @@ use ua_services::{
     CreateSessionRequest, GetEndpointsRequest, ReadRequest, ReadValueId, Request, RequestHeader,
     WriteRequest, WriteValue, write_identity,
 };
-use ua_variant::{BoxedVariant, DataValue, Variant};
+use ua_variant::{DataValue, HeldVariant, Variant};
 
 /// The timeout that is asked for: 120000 ms, as the pattern of a Double.
 const SESSION_TIMEOUT: DoubleBits = DoubleBits {
@@ -149,18 +149,18 @@ pub fn read_item(node: NodeId, range: UaString) -> ReadValueId
 }
 
 /// The item of a Write that sets the Value of a node, without status and times.
-pub fn write_item(alloc: Global, node: NodeId, value: Variant) -> Result<WriteValue, AllocError>
-    ensures value { IfOk result (λ i. i ≡ value_for_node node (value_alone (variant_of value))) }
+pub fn write_item(node: NodeId, value: Variant) -> WriteValue
+    ensures value { result ≡ value_for_node node (value_alone (variant_of value)) }
     ensures encodable { IsTrue (node_id.encodable node) → IsTrue (data_value_format.encodable (value_alone (variant_of value)))
-        → IfOk result (λ i. IsTrue (write_value.encodable i)) }
+        → IsTrue (write_value.encodable result) }
 {
     let value = DataValue {
-        value: Some(BoxedVariant::new(alloc, value)?),
+        value: Some(HeldVariant::new(value)),
         status: None,
         source_timestamp: None,
         source_picoseconds: None,
         server_timestamp: None,
         server_picoseconds: None,
     };
-    Ok(WriteValue::of_value(node, value))
+    WriteValue::of_value(node, value)
 }
