@@ -6,4 +6,11 @@ mod Replies
 mod Steps
 mod Passing
 mod Events
+mod Exchanges
+mod Pendings
+mod Advancing
+mod Turning
+mod Handling
+mod Stepped
+mod Clean
 pub mod SaidInParts

@@ -33,7 +33,7 @@ rest_of piece taken = take (length piece - taken) (drop taken piece)
 pub rest-is : (piece : List ℕ) (taken : ℕ) → rest_of piece taken ≡ drop taken piece
 rest-is piece taken = ap (λ (k : ℕ). take k (drop taken piece)) (sym (length-drop taken piece)) ∙ take-length (drop taken piece)
 
-rest-length : (piece : List ℕ) (taken : ℕ) → length (rest_of piece taken) ≡ length piece - taken
+pub rest-length : (piece : List ℕ) (taken : ℕ) → length (rest_of piece taken) ≡ length piece - taken
 rest-length piece taken = ap length (rest-is piece taken) ∙ length-drop taken piece
 
 pub joined : (octets piece : List ℕ) (m n : ℕ) → (octets ++ take m piece) ++ take n (rest_of piece m) ≡ octets ++ take (m + n) piece
@@ -88,7 +88,7 @@ less-left l m n d h e k = omega (arith, h, e, k)
 pub within-piece : (piece : List ℕ) (taken n : ℕ) → taken ≤ length piece → n ≤ length (rest_of piece taken) → taken + n ≤ length piece
 within-piece piece taken n h k = less-left (length piece) taken n (length (rest_of piece taken)) h (rest-length piece taken) k
 
-fewer : (l m n d : ℕ) → m < l → d ≡ l - m → n ≤ d → (0 < d → 0 < n) → l - (m + n) < l - m
+pub fewer : (l m n d : ℕ) → m < l → d ≡ l - m → n ≤ d → (0 < d → 0 < n) → l - (m + n) < l - m
 fewer l m n d h e k some = let more = some (omega (arith, h, e)) in omega (arith, h, e, k, more)
 
 pub fewer-left : (piece : List ℕ) (taken n : ℕ) (answer : Result ServerEvent ChannelFault) → taken < length piece → Progress (rest_of piece taken) n answer → is_given_up answer ≡ true

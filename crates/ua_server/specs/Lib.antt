@@ -7,3 +7,5 @@ pub mod Reply
 pub mod Said
 pub mod Stepping
 pub mod Served
+pub mod Serving
+pub mod ServingParts

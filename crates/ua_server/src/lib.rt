@@ -23,13 +23,17 @@ mod attributes;
 mod endpoint;
 pub mod laws;
 mod reply;
+mod serve_fault;
 mod server;
 mod services;
+mod serving;
 mod session;
 mod sessions;
 mod step;
 
 pub use endpoint::Endpoint;
+pub use serve_fault::ServeFault;
 pub use server::Server;
 pub use services::Services;
+pub use serving::serve;
 pub use step::{End, Step, StepFault};

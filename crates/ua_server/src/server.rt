@@ -142,6 +142,7 @@ impl Server {
     ghost use Rattle.ua_channel.specs.declared.server.ServerChannel.{ServerChannel};
     ghost use Rattle.ua_frame.specs.declared.frame.Frame.{Frame};
     ghost use Rattle.ua_server.specs.Served.{channel_in};
+    ghost use Rattle.ua_server.specs.Serving.{IsClean};
     ghost use Rattle.ua_server.specs.State.{State};
     ghost use Rattle.ua_server.specs.Stepping.{AnsweredBehind, Advances, Stands, StepAnswers, Takes, is_given_up};
     ghost use Rattle.ua_server.specs.declared.step.StepFault.TheVariants as step_fault;
@@ -201,6 +202,14 @@ impl Server {
             Ok(found) => Ok(found.0),
             Err(fault) => Err(fault),
         }
+    }
+
+    /// Whether no frame and no message is unfinished.
+    pub(crate) fn is_clean(&self) -> bool
+        ensures { (octets : List ℕ) (frames : List Frame) (rest : List ℕ) → Holds (channel_in self.now) octets frames rest
+            → IsTrue result ↔ IsClean frames rest }
+    {
+        self.channel.open_count() == 0 && self.channel.held() == 0
     }
 
     /// What [`step`](Server::step) does, with whether something was answered.

@@ -1,0 +1,66 @@
+-- Octets that a line moves and moments that are given, one after the other.
+use Rattle.std.specs.Prelude.{◌≡◌, ℕ, ◌+◌, ◌≤◌, ℤ, List, [], ◌∷◌, ◌++◌, take, length, Option, Some, None, Ok, Err}
+use Rattle.std.proofs.Common.{refl, sym, ◌∙◌, ap, subst, append_assoc, append-nil, arith}
+use Rattle.std.proofs.Math.Seq.{take-length}
+use Rattle.ua_channel.specs.Line.{Traffic, Takes, WhereTold}
+use Rattle.ua_channel.specs.Moments.{Gives}
+use Rattle.ua_channel.specs.declared.line.LineFault.{LineFault}
+use Rattle.ua_server.proofs.Passing.{rest_of, joined}
+use Rattle.ua_server.specs.Serving.{Moves}
+use Rattle.ua_server.specs.ServingParts.{Exchanged}
+
+moves-then : (r s r' s' : List ℕ) (a b c : Traffic) → Moves r s a b → Moves r' s' b c → Moves (r ++ r') (s ++ s') a c
+moves-then r s r' s' a b c m n =
+    (m.0 ∙ (ap (λ (x : List ℕ). r ++ x) n.0 ∙ sym (append_assoc r r' c.coming)),
+    n.1 ∙ (ap (λ (x : List ℕ). x ++ s') m.1 ∙ append_assoc a.written s s'))
+
+pub told-then : (r s r' s' : List ℕ) (a b c : Option Traffic) → WhereTold (Moves r s) a b → WhereTold (Moves r' s') b c → WhereTold (Moves (r ++ r') (s ++ s')) a c
+told-then r s r' s' (Some a) (Some b) (Some c) m n = moves-then r s r' s' a b c m n
+told-then r s r' s' (Some a) (Some b) None m n = n
+told-then r s r' s' (Some a) None c m n = absurd m
+told-then r s r' s' None b c m n = subst (λ (o : Option Traffic). WhereTold (Moves r' s') o c) m n
+
+pub told-nothing : (a : Option Traffic) → WhereTold (Moves [] []) a a
+told-nothing (Some t) = (refl, sym (append-nil t.written))
+told-nothing None = refl
+
+pub gives-then : {M : Type 0} (gives : M → ℤ → M → Type 0) (a b c : M) (ts us : List ℤ) → Gives gives a ts b → Gives gives b us c → Gives gives a (ts ++ us) c
+gives-then {M = M} gives a b c [] us g h = subst (λ (x : M). Gives gives x us c) (sym g) h
+gives-then gives a b c (t ∷ ts) us g h = (g.0, g.1, gives-then gives g.0 b c ts us g.2 h)
+
+pub exchanged-then : {M : Type 0} (gives : M → ℤ → M → Type 0) (a b c : M) (r r' : List ℕ) (x y z : Option Traffic) (P P' Q : List ℕ → List ℤ → Type 0)
+    (e : Exchanged gives a b r x y P) → Exchanged gives b c r' y z P' → ((w : List ℕ) (ts : List ℤ) → P' w ts → Q (e.written ++ w) (e.ticks ++ ts)) → Exchanged gives a c (r ++ r') x z Q
+exchanged-then gives a b c r r' x y z P P' Q e f on = record {
+  written = e.written ++ f.written;
+  ticks = e.ticks ++ f.ticks;
+  moved = told-then r e.written r' f.written x y z e.moved f.moved;
+  given = gives-then gives a b c e.ticks f.ticks e.given f.given;
+  holds = on f.written f.ticks f.holds;
+}
+
+-- ---- one call of a line
+
+pub took : (n : ℕ) (octets : List ℕ) (a b : Option Traffic) → WhereTold (Takes (Ok n) octets) a b → WhereTold (Moves [] (take n octets)) a b
+took n octets (Some a) (Some b) t = (sym t.1, t.0)
+took n octets (Some a) None t = t
+took n octets None b t = t
+
+pub not-took : (f : LineFault) (octets : List ℕ) (a b : Option Traffic) → WhereTold (Takes (Err f) octets) a b → WhereTold (Moves [] []) a b
+not-took f octets (Some a) (Some b) t = (ap (λ (x : Traffic). x.coming) (sym t), ap (λ (x : Traffic). x.written) t ∙ sym (append-nil a.written))
+not-took f octets (Some a) None t = t
+not-took f octets None b t = t
+
+-- more octets are written
+pub wrote-more : (octets : List ℕ) (m n : ℕ) (a b c : Option Traffic) → WhereTold (Moves [] (take m octets)) a b → WhereTold (Takes (Ok n) (rest_of octets m)) b c → WhereTold (Moves [] (take (m + n) octets)) a c
+wrote-more octets m n a b c w t =
+    subst (λ (x : List ℕ). WhereTold (Moves [] x) a c) (joined [] octets m n) (told-then [] (take m octets) [] (take n (rest_of octets m)) a b c w (took n (rest_of octets m) b c t))
+
+pub wrote-no-more : (octets : List ℕ) (m : ℕ) (f : LineFault) (rest : List ℕ) (a b c : Option Traffic) → WhereTold (Moves [] (take m octets)) a b → WhereTold (Takes (Err f) rest) b c → WhereTold (Moves [] (take m octets)) a c
+wrote-no-more octets m f rest a b c w t =
+    subst (λ (x : List ℕ). WhereTold (Moves [] x) a c) (append-nil (take m octets)) (told-then [] (take m octets) [] [] a b c w (not-took f rest b c t))
+
+whole-taken : (l m : ℕ) → m ≤ l → l ≤ m → m ≡ l
+whole-taken l m h k = omega (arith, h, k)
+
+pub wrote-all : (octets : List ℕ) (m : ℕ) (a b : Option Traffic) → m ≤ length octets → length octets ≤ m → WhereTold (Moves [] (take m octets)) a b → WhereTold (Moves [] octets) a b
+wrote-all octets m a b h k w = subst (λ (x : List ℕ). WhereTold (Moves [] x) a b) (ap (λ (n : ℕ). take n octets) (whole-taken (length octets) m h k) ∙ take-length octets) w

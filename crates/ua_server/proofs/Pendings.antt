@@ -1,0 +1,111 @@
+-- What is said and not written yet.
+use Rattle.std.specs.Prelude.{◌≡◌, ℕ, ◌+◌, ◌≤◌, false, List, [], ◌∷◌, ◌++◌, length, None}
+use Rattle.std.proofs.Common.{refl, sym, ◌∙◌, ap, subst, append_assoc, append-nil, length-append, arith}
+use Rattle.ua_builtin.specs.declared.date_time.DateTime.{DateTime}
+use Rattle.ua_frame.specs.Run.{End, Going, Run, events}
+use Rattle.ua_frame.specs.declared.frame.Frame.{Frame}
+use Rattle.ua_frame.specs.declared.limits.Limits.{Limits}
+use Rattle.ua_channel.specs.ServerRules.{server_rules}
+use Rattle.ua_channel.specs.ServerStands.{limits_of, channel_of}
+use Rattle.ua_channel.specs.ServerTold.{Told}
+use Rattle.ua_server.specs.Said.{Course, left, said, used_in}
+use Rattle.ua_server.specs.Served.{channel_in}
+use Rattle.ua_server.specs.Serving.{AnsweredTo, AreAsked, BrokenOff, Nothing, told_at, end_at}
+use Rattle.ua_server.specs.Stepping.{Stands}
+use Rattle.ua_server.specs.declared.server.Server.{Server}
+use Rattle.ua_server.specs.ServingParts.{Keeps, Pending}
+use Rattle.ua_server.specs.State.{State}
+use Rattle.ua_server.proofs.SaidInParts.{used_in-append, left-more, said-more}
+
+module _ (limits : Limits) (channel : ℕ) (first : State) where
+  -- more octets are read
+  pub pending-on : (read more out written : List ℕ) (used : List DateTime) (now : State) → Pending limits channel first read out written used now → Pending limits channel first (read ++ more) out written used now
+  pending-on read more out written used now p = record {
+    front = p.front;
+    behind = p.behind ++ more;
+    front_is = ap (λ (x : List ℕ). x ++ more) p.front_is ∙ append_assoc p.front p.behind more;
+    before = p.before;
+    word = p.word;
+    ends = p.ends;
+    state_is = p.state_is;
+    all_used = p.all_used;
+    part = p.part;
+    written_is = p.written_is;
+    said_is = p.said_is;
+  }
+
+  -- more octets are written
+  pub pending-written : (read out written : List ℕ) (used : List DateTime) (now : State) (done left : List ℕ) → out ≡ done ++ left → Pending limits channel first read out written used now
+      → Pending limits channel first read left (written ++ done) used now
+  pending-written read out written used now done left e p = record {
+    front = p.front;
+    behind = p.behind;
+    front_is = p.front_is;
+    before = p.before;
+    word = p.word;
+    ends = p.ends;
+    state_is = p.state_is;
+    all_used = p.all_used;
+    part = p.part ++ done;
+    written_is = ap (λ (w : List ℕ). w ++ done) p.written_is ∙ append_assoc (said channel first p.before Going used) p.part done;
+    said_is = p.said_is ∙ (ap (λ (o : List ℕ). written ++ o) e ∙ sym (append_assoc written done left));
+  }
+
+  used-before : (before word : List Told) (n : ℕ) → n ≡ used_in (before ++ word) → used_in before ≤ n
+  used-before before word n e = omega (arith, e, used_in-append before word)
+
+  all-used : (told : List Told) (used kept : List DateTime) → length used ≡ used_in told → length kept ≤ 1 → (used_in told ≤ length (used ++ kept)) × (length (used ++ kept) ≤ used_in told + 1)
+  all-used told used kept e one =
+      let l = length-append used kept in
+      (omega (arith, e, l), omega (arith, e, l, one))
+
+  enough : (told : List Told) (n : ℕ) → n ≡ used_in told → used_in told ≤ n
+  enough told n e = omega (arith, e)
+
+  -- the connection breaks off there
+  pub pending-broken : (read out written : List ℕ) (used kept moments : List DateTime) (now : State) → moments ≡ used ++ kept → length kept ≤ 1 → Pending limits channel first read out written used now
+      → BrokenOff limits channel first read written moments now
+  pending-broken read out written used kept moments now is one p =
+      subst (λ (ms : List DateTime). BrokenOff limits channel first read written ms now) (sym is) (record {
+        front = p.front;
+        behind = p.behind;
+        front_is = p.front_is;
+        before = p.before;
+        word = p.word;
+        ends = p.ends;
+        state_is = ap (λ (c : Course). c.state) (left-more channel first (p.before ++ told_at p.word) used kept (enough (p.before ++ told_at p.word) (length used) p.all_used)) ∙ p.state_is;
+        asked = all-used (p.before ++ told_at p.word) used kept p.all_used one;
+        part = p.part;
+        written_is = p.written_is ∙ ap (λ (o : List ℕ). o ++ p.part) (sym (said-more channel first p.before Going used kept (used-before p.before (told_at p.word) (length used) p.all_used)));
+        unwritten = out;
+        said_is = said-more channel first (p.before ++ told_at p.word) (end_at p.word) used kept (enough (p.before ++ told_at p.word) (length used) p.all_used) ∙ p.said_is;
+      })
+
+  -- what was read is answered and written
+  pub answered-as : (read written : List ℕ) (frames : List Frame) (rest : List ℕ) (end : End ℕ) (told : List Told) (used kept moments : List DateTime) (now : State) → moments ≡ used ++ kept → length kept ≤ 1
+      → Run (server_rules limits channel) read frames rest end → events (server_rules limits channel) frames ≡ told → written ≡ said channel first told end used → (left channel first told used).state ≡ now → length used ≡ used_in told
+      → AnsweredTo limits channel first read written moments now frames rest end
+  answered-as read written frames rest end told used kept moments now is one run told_is written_is state_is used_is =
+      subst (λ (ms : List DateTime). AnsweredTo limits channel first read written ms now frames rest end) (sym is) (record {
+        run = run;
+        written_is = written_is ∙ (sym (said-more channel first told end used kept (enough told (length used) used_is)) ∙ ap (λ (t : List Told). said channel first t end (used ++ kept)) (sym told_is));
+        state_is = ap (λ (t : List Told). (left channel first t (used ++ kept)).state) told_is ∙ (ap (λ (c : Course). c.state) (left-more channel first told used kept (enough told (length used) used_is)) ∙ state_is);
+        asked = subst (λ (t : List Told). AreAsked t (used ++ kept)) (sym told_is) (all-used told used kept used_is one);
+      })
+
+-- before any octet
+pub keeps-first : (server : Server) (limits : Limits) (channel : ℕ) (first : State) → limits_of (channel_in server) ≡ limits → channel_of (channel_in server) ≡ channel → Stands (channel_in server) [] [] first [] first
+    → Keeps (record { server = server; moment = None; greeted = false; written = 0 }) limits channel first [] [] [] first
+unfolding left said
+keeps-first server limits channel first lim chan stands = record {
+  limits_is = lim;
+  channel_is = chan;
+  told = [];
+  used = [];
+  moments_are = refl;
+  stands = stands;
+  greeted_is = refl;
+  count_is = refl;
+  said_is = refl;
+  pending = record { front = []; behind = []; front_is = refl; before = []; word = Nothing; ends = (refl, refl); state_is = refl; all_used = refl; part = []; written_is = refl; said_is = refl };
+}

@@ -1,0 +1,93 @@
+-- What a step makes of a connection that is served, whatever moment it is given.
+use Rattle.std.specs.Prelude.{◌≡◌, ℕ, ℤ, Bool, true, false, List, [], ◌∷◌, ◌++◌, map, take, Option, None, Some, Result, Ok, Err}
+use Rattle.std.proofs.Common.{refl, sym, ◌∙◌, ap, subst}
+use Rattle.ua_builtin.specs.declared.date_time.DateTime.{DateTime}
+use Rattle.ua_frame.specs.declared.limits.Limits.{Limits}
+use Rattle.ua_channel.specs.Received.{listed}
+use Rattle.ua_channel.specs.ServerStands.{limits_of, channel_of}
+use Rattle.ua_channel.specs.ServerTold.{Told}
+use Rattle.ua_server.specs.Served.{channel_in}
+use Rattle.ua_server.specs.Serving.{moment_of, BrokenOff}
+use Rattle.ua_server.specs.ServingParts.{AdvancesTo, Asked, Keeps, Steps, noted}
+use Rattle.ua_server.specs.State.{State}
+use Rattle.ua_server.specs.Stepping.{AdvanceBy, Advances, Stands}
+use Rattle.ua_server.specs.declared.server.Server.{Server}
+use Rattle.ua_server.specs.declared.serving.Serving.{Serving}
+use Rattle.ua_server.specs.declared.step.Step.{Step}
+use Rattle.ua_server.specs.declared.step.StepFault.{StepFault}
+use Rattle.ua_server.proofs.Advancing.{advanced-quiet, advanced-saying, advanced-broken}
+
+-- an answer is noted
+pub noted-again : (server : Server) (m : Option DateTime) (greeted : Bool) (n : ℕ) → greeted ≡ true
+    → ◌≡◌ {A = Serving} (record { server = server; moment = None; greeted = greeted; written = n }) (noted (record { server = server; moment = m; greeted = greeted; written = n }))
+noted-again server m true n e = refl
+noted-again server m false n e = absurd cc
+
+pub noted-first : (server : Server) (m : Option DateTime) (greeted : Bool) (n : ℕ) → greeted ≡ false
+    → ◌≡◌ {A = Serving} (record { server = server; moment = m; greeted = true; written = n }) (noted (record { server = server; moment = m; greeted = greeted; written = n }))
+noted-first server m false n e = refl
+noted-first server m true n e = absurd cc
+
+module _ {M : Type 0} (gives : M → ℤ → M → Type 0) (m0 m1 : M) (limits : Limits) (channel : ℕ) (first : State) (x mid : Serving) (server : Server) (mom : DateTime) (piece read written : List ℕ) (given : List ℤ) (now0 now1 : State)
+    (kept : mid ≡ record x { moment = Some mom }) (a : Asked gives m0 m1 (λ ts. listed x.moment ++ map moment_of ts ≡ mom ∷ []))
+    (lim : limits_of (channel_in server) ≡ limits_of (channel_in mid.server)) (chan : channel_of (channel_in server) ≡ channel_of (channel_in mid.server)) (result : Result (Step × Bool) StepFault)
+    (answers : (octets : List ℕ) (told : List Told) (f : State) (moments : List DateTime) → Stands (channel_in mid.server) octets told f moments now0
+      → Advances (limits_of (channel_in mid.server)) (channel_of (channel_in mid.server)) mom piece result (channel_in server) octets told f moments now0 now1)
+    (k : Keeps x limits channel first read written given now0) where
+  abbrev l : Limits
+  l = limits_of (channel_in x.server)
+
+  abbrev c : ℕ
+  c = channel_of (channel_in x.server)
+
+  same : mid.server ≡ x.server
+  same = ap (λ (z : Serving). z.server) kept
+
+  lim-here : limits_of (channel_in server) ≡ limits_of (channel_in x.server)
+  lim-here = lim ∙ ap (λ (s : Server). limits_of (channel_in s)) same
+
+  chan-here : channel_of (channel_in server) ≡ channel_of (channel_in x.server)
+  chan-here = chan ∙ ap (λ (s : Server). channel_of (channel_in s)) same
+
+  own : Keeps x l c first read written given now0
+  own = subst (λ (v : Limits). Keeps x v c first read written given now0) (sym k.limits_is) (subst (λ (n : ℕ). Keeps x limits n first read written given now0) (sym k.channel_is) k)
+
+  advanced : Advances l c mom piece result (channel_in server) read own.told first own.used now0 now1
+  advanced =
+      subst (λ (s : Server). Advances (limits_of (channel_in s)) (channel_of (channel_in s)) mom piece result (channel_in server) read own.told first own.used now0 now1) same
+      (answers read own.told first own.used (subst (λ (s : Server). Stands (channel_in s) read own.told first own.used now0) (sym same) own.stands))
+
+  advanced-at : (r : Result (Step × Bool) StepFault) → result ≡ r → Advances l c mom piece r (channel_in server) read own.told first own.used now0 now1
+  advanced-at r is = subst (λ (v : Result (Step × Bool) StepFault). Advances l c mom piece v (channel_in server) read own.told first own.used now0 now1) is advanced
+
+  -- at the limits and the channel that are named
+  there : (P : Limits → ℕ → Type 0) → P l c → P limits channel
+  there P p = subst (λ (n : ℕ). P limits n) k.channel_is (subst (λ (v : Limits). P v c) k.limits_is p)
+
+  pub steps-quiet : (found : Step × Bool) → result ≡ Ok found → found.1 ≡ false → Asked gives m0 m1 (λ ts. Steps (Ok found.0) (record mid { server = server }) limits channel first piece read written (given ++ ts) now1)
+  steps-quiet found is quiet = record {
+    ticks = a.ticks;
+    given = a.given;
+    holds = subst (λ (z : Serving). AdvancesTo found.0.end (record z { server = server }) limits channel first (read ++ take found.0.taken piece) found.0.out.items written (given ++ a.ticks) now1) (sym kept)
+      (there (λ v n. AdvancesTo found.0.end (record x { server = server; moment = Some mom }) v n first (read ++ take found.0.taken piece) found.0.out.items written (given ++ a.ticks) now1)
+      (advanced-quiet x server mom piece read written given a.ticks first now0 now1 lim-here chan-here a.holds own found.0.end found.0.taken found.0.out.items
+      (subst (λ (b : Bool). AdvanceBy b c mom piece found.0.end found.0.taken found.0.out.items (channel_in server) read own.told first own.used now0 now1) quiet (advanced-at (Ok found) is))));
+  }
+
+  pub steps-saying : (found : Step × Bool) → result ≡ Ok found → found.1 ≡ true → Asked gives m0 m1 (λ ts. Steps (Ok found.0) (noted (record mid { server = server })) limits channel first piece read written (given ++ ts) now1)
+  steps-saying found is said = record {
+    ticks = a.ticks;
+    given = a.given;
+    holds = subst (λ (z : Serving). AdvancesTo found.0.end (noted (record z { server = server })) limits channel first (read ++ take found.0.taken piece) found.0.out.items written (given ++ a.ticks) now1) (sym kept)
+      (there (λ v n. AdvancesTo found.0.end (noted (record x { server = server; moment = Some mom })) v n first (read ++ take found.0.taken piece) found.0.out.items written (given ++ a.ticks) now1)
+      (advanced-saying x server mom piece read written given a.ticks first now0 now1 lim-here chan-here a.holds own found.0.end found.0.taken found.0.out.items
+      (subst (λ (b : Bool). AdvanceBy b c mom piece found.0.end found.0.taken found.0.out.items (channel_in server) read own.told first own.used now0 now1) said (advanced-at (Ok found) is))));
+  }
+
+  pub steps-broken : (f : StepFault) (y : Serving) → result ≡ Err f → Asked gives m0 m1 (λ ts. Steps (Err f) y limits channel first piece read written (given ++ ts) now1)
+  steps-broken f y is = record {
+    ticks = a.ticks;
+    given = a.given;
+    holds = there (λ v n. BrokenOff v n first (read ++ piece) written (map moment_of (given ++ a.ticks)) now1)
+      (advanced-broken x server mom piece read written given a.ticks first now0 now1 lim-here chan-here a.holds own f (advanced-at (Err f) is));
+  }

@@ -1,0 +1,130 @@
+-- What a turn makes of a connection that is served: a step, and its answer written.
+use Rattle.std.specs.Prelude.{◌≡◌, ℕ, ◌+◌, ◌≤◌, ℤ, List, [], ◌++◌, map, min, take, drop, length, Option, None, Some, Ok, Err}
+use Rattle.std.proofs.Common.{refl, sym, ◌∙◌, ap, subst, append_assoc, append-nil, length-append, take-append-drop, arith}
+use Rattle.std.proofs.lemmas.List.{length-take-le}
+use Rattle.ua_builtin.specs.declared.date_time.DateTime.{DateTime}
+use Rattle.ua_frame.specs.declared.limits.Limits.{Limits}
+use Rattle.ua_channel.specs.Line.{Traffic, WhereTold}
+use Rattle.ua_channel.specs.Received.{listed}
+use Rattle.ua_server.specs.Serving.{moment_of, greatest, BrokenOff, FailsBy, Moves}
+use Rattle.ua_server.specs.ServingParts.{AdvancesTo, Asked, Exchanged, Owes, Says, Steps, Turns, TurnsTo, counted}
+use Rattle.ua_server.specs.State.{State}
+use Rattle.ua_server.specs.declared.serve_fault.ServeFault.{ServeFault}
+use Rattle.ua_server.specs.declared.serve_fault.ServeFault.TheVariants as fault
+use Rattle.ua_server.specs.declared.serving.Serving.{Serving}
+use Rattle.ua_server.specs.declared.step.End.{End as Ending}
+use Rattle.ua_server.specs.declared.step.Step.{Step}
+use Rattle.ua_server.specs.declared.step.StepFault.{StepFault}
+use Rattle.ua_server.proofs.Exchanges.{told-nothing}
+use Rattle.ua_server.proofs.Pendings.{pending-written, pending-broken}
+
+-- ---- counting what is written
+
+counted-on : (n l k m : ℕ) → n ≡ min l greatest → m ≡ l + k → min (n + k) greatest ≡ min m greatest
+counted-on n l k m e f = omega (arith, e, f)
+
+count-all : (n : ℕ) (written out : List ℕ) → n ≡ min (length written) greatest → counted n (length out) ≡ min (length (written ++ out)) greatest
+count-all n written out e = counted-on n (length written) (length out) (length (written ++ out)) e (length-append written out)
+
+count-some : (n k : ℕ) (written out : List ℕ) → n ≡ min (length written) greatest → k ≤ length out → counted n k ≡ min (length (written ++ take k out)) greatest
+count-some n k written out e h = counted-on n (length written) k (length (written ++ take k out)) e (length-append written (take k out) ∙ ap (λ (i : ℕ). length written + i) (length-take-le k out h))
+
+module _ (limits : Limits) (channel : ℕ) (first : State) where
+  pub listed-one : (m : Option DateTime) → length (listed m) ≤ 1
+  listed-one None = omega arith
+  listed-one (Some m) = omega arith
+
+  -- all is written
+  owes-written : (x : Serving) (read out written : List ℕ) (ticks : List ℤ) (now : State) → Owes x limits channel first read out written ticks now
+      → Owes (record x { written = counted x.written (length out) }) limits channel first read [] (written ++ out) ticks now
+  owes-written x read out written ticks now o = record {
+    limits_is = o.limits_is;
+    channel_is = o.channel_is;
+    told = o.told;
+    used = o.used;
+    moments_are = o.moments_are;
+    stands = o.stands;
+    greeted_is = o.greeted_is;
+    count_is = count-all x.written written out o.count_is;
+    said_is = o.said_is ∙ sym (append-nil (written ++ out));
+    pending = pending-written limits channel first read out written o.used now out [] (sym (append-nil out)) o.pending;
+  }
+
+  turned : (end : Option Ending) (x : Serving) (read out written : List ℕ) (ticks : List ℤ) (now : State) → AdvancesTo end x limits channel first read out written ticks now
+      → TurnsTo end (record x { written = counted x.written (length out) }) limits channel first read (written ++ out) ticks now
+  turned None x read out written ticks now o = owes-written x read out written ticks now o
+  turned (Some end) x read out written ticks now e = e.ends
+
+  -- the first of it is written
+  unwritten : (end : Option Ending) (x : Serving) (read out written : List ℕ) (ticks : List ℤ) (now : State) (k : ℕ) → k ≤ length out → AdvancesTo end x limits channel first read out written ticks now
+      → FailsBy (fault.Write (counted x.written k)) limits channel first read (written ++ take k out) (map moment_of ticks) now
+  unwritten None x read out written ticks now k h o =
+      (pending-broken limits channel first read (drop k out) (written ++ take k out) o.used (listed x.moment) (map moment_of ticks) now o.moments_are (listed-one x.moment)
+        (pending-written limits channel first read out written o.used now (take k out) (drop k out) (sym (take-append-drop k out)) o.pending),
+      count-some x.written k written out o.count_is h)
+  unwritten (Some end) x read out written ticks now k h e =
+      (pending-broken limits channel first read (drop k out) (written ++ take k out) e.used e.kept (map moment_of ticks) now e.moments_are e.one
+        (pending-written limits channel first read out written e.used now (take k out) (drop k out) (sym (take-append-drop k out)) e.pending),
+      count-some x.written k written out e.count_is h)
+
+  -- more octets are read
+  pub broken-on : (read more written : List ℕ) (moments : List DateTime) (now : State) → BrokenOff limits channel first read written moments now → BrokenOff limits channel first (read ++ more) written moments now
+  broken-on read more written moments now b = record {
+    front = b.front;
+    behind = b.behind ++ more;
+    front_is = ap (λ (x : List ℕ). x ++ more) b.front_is ∙ append_assoc b.front b.behind more;
+    before = b.before;
+    word = b.word;
+    ends = b.ends;
+    state_is = b.state_is;
+    asked = b.asked;
+    part = b.part;
+    written_is = b.written_is;
+    unwritten = b.unwritten;
+    said_is = b.said_is;
+  }
+
+  pub fails-on : (f : ServeFault) (read more written : List ℕ) (moments : List DateTime) (now : State) → FailsBy f limits channel first read written moments now → FailsBy f limits channel first (read ++ more) written moments now
+  fails-on fault.Read read more written moments now b = b
+  fails-on (fault.Write n) read more written moments now b = (broken-on read more written moments now b.0, b.1)
+  fails-on fault.OutOfMemory read more written moments now b = broken-on read more written moments now b
+  fails-on fault.TooLong read more written moments now b = b
+
+  front-back : (read piece : List ℕ) (n : ℕ) → (read ++ take n piece) ++ drop n piece ≡ read ++ piece
+  front-back read piece n = append_assoc read (take n piece) (drop n piece) ∙ ap (λ (p : List ℕ). read ++ p) (take-append-drop n piece)
+
+  module _ {M : Type 0} (gives : M → ℤ → M → Type 0) (m0 m1 : M) (la lb : Option Traffic) (piece read written : List ℕ) (given : List ℤ) (now : State) where
+    pub turn-said : (step : Step) (y z : Serving) → Asked gives m0 m1 (λ ts. Steps (Ok step) y limits channel first piece read written (given ++ ts) now)
+        → z ≡ record y { written = counted y.written (length step.out.items) } → WhereTold (Moves [] step.out.items) la lb
+        → Exchanged gives m0 m1 [] la lb (λ more ts. Turns (Ok (step.taken, step.end)) z limits channel first piece read (written ++ more) (given ++ ts) now)
+    turn-said step y z a same moved = record {
+      written = step.out.items;
+      ticks = a.ticks;
+      moved = moved;
+      given = a.given;
+      holds = subst (λ (w : Serving). TurnsTo step.end w limits channel first (read ++ take step.taken piece) (written ++ step.out.items) (given ++ a.ticks) now) (sym same)
+        (turned step.end y (read ++ take step.taken piece) step.out.items written (given ++ a.ticks) now a.holds);
+    }
+
+    pub turn-unsaid : (step : Step) (y z : Serving) (f : ServeFault) → Asked gives m0 m1 (λ ts. Steps (Ok step) y limits channel first piece read written (given ++ ts) now) → Says step.out.items (Err f) y z la lb
+        → Exchanged gives m0 m1 [] la lb (λ more ts. Turns (Err f) z limits channel first piece read (written ++ more) (given ++ ts) now)
+    turn-unsaid step y z f a s = record {
+      written = take s.0 step.out.items;
+      ticks = a.ticks;
+      moved = s.3;
+      given = a.given;
+      holds = subst (λ (r : List ℕ). FailsBy f limits channel first r (written ++ take s.0 step.out.items) (map moment_of (given ++ a.ticks)) now) (front-back read piece step.taken)
+        (fails-on f (read ++ take step.taken piece) (drop step.taken piece) (written ++ take s.0 step.out.items) (map moment_of (given ++ a.ticks)) now
+        (subst (λ (g : ServeFault). FailsBy g limits channel first (read ++ take step.taken piece) (written ++ take s.0 step.out.items) (map moment_of (given ++ a.ticks)) now) (sym s.1)
+        (unwritten step.end y (read ++ take step.taken piece) step.out.items written (given ++ a.ticks) now s.0 s.2 a.holds)));
+    }
+
+    pub turn-broken : (g : StepFault) (y : Serving) → Asked gives m0 m1 (λ ts. Steps (Err g) y limits channel first piece read written (given ++ ts) now)
+        → Exchanged gives m0 m1 [] la la (λ more ts. Turns (Err fault.OutOfMemory) y limits channel first piece read (written ++ more) (given ++ ts) now)
+    turn-broken g y a = record {
+      written = [];
+      ticks = a.ticks;
+      moved = told-nothing la;
+      given = a.given;
+      holds = subst (λ (w : List ℕ). BrokenOff limits channel first (read ++ piece) w (map moment_of (given ++ a.ticks)) now) (sym (append-nil written)) a.holds;
+    }

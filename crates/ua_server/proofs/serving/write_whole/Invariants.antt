@@ -1,0 +1,14 @@
+use Rattle.std.proofs.Common.{◌≡◌, ◌≤◌, ◌-◌, [], take, length}
+use Rattle.ua_channel.specs.Line.{WhereTold}
+use Rattle.ua_server.specs.Serving.{Moves}
+use Rattle.ua_server.proofs.serving.write_whole.Given as goal
+
+abbrev pub invariant-loop-written : goal.invariant-loop-written
+invariant-loop-written g l = record {
+  within : l.written ≤ length l.octets;
+  moved : WhereTold (Moves [] (take l.written l.octets)) (g.L.Line.traffic l.fn.line) (g.L.Line.traffic l.line);
+  same : g.L.Line.failures l.line ≡ g.L.Line.failures l.fn.line;
+}
+
+abbrev pub decreases-loop-written : goal.decreases-loop-written
+decreases-loop-written g l = length l.octets - l.written

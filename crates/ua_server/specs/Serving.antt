@@ -1,0 +1,167 @@
+-- What serving a line comes to.
+use Rattle.std.specs.Prelude.{◌≡◌, ℕ, ◌+◌, ◌≤◌, ℤ, IsTrue, List, [], ◌∷◌, ◌++◌, map, min, length, Result, Ok, Err}
+use Rattle.ua_builtin.specs.declared.date_time.DateTime.{DateTime}
+use Rattle.ua_chunk.specs.Open.{open_ids}
+use Rattle.ua_frame.specs.Run.{End, Going, Stopped, Over, Run, events}
+use Rattle.ua_frame.specs.declared.frame.Frame.{Frame}
+use Rattle.ua_frame.specs.declared.limits.Limits.{Limits}
+use Rattle.ua_channel.specs.Line.{Traffic, one_more}
+use Rattle.ua_channel.specs.Moments.{Gives}
+use Rattle.ua_channel.specs.Received.{received}
+use Rattle.ua_channel.specs.ServerRules.{server_rules}
+use Rattle.ua_channel.specs.ServerTold.{Told}
+use Rattle.ua_channel.specs.Stops.{StopsAt}
+use Rattle.ua_server.specs.Said.{is_answered, left, said, used_in}
+use Rattle.ua_server.specs.State.{State}
+use Rattle.ua_server.specs.declared.serve_fault.ServeFault.{ServeFault}
+use Rattle.ua_server.specs.declared.serve_fault.ServeFault.TheVariants as fault
+use Rattle.ua_server.specs.declared.step.End.{End as Ending}
+use Rattle.ua_server.specs.declared.step.End.TheVariants as ending
+
+-- ---- moments
+
+-- the moment of so many ticks
+abbrev pub moment_of : ℤ → DateTime
+moment_of ticks = record { ticks = ticks }
+
+-- each of the moments is used by what was told, but perhaps the last one
+abbrev pub AreAsked : List Told → List DateTime → Type 0
+AreAsked told moments = (used_in told ≤ length moments) × (length moments ≤ used_in told + 1)
+
+-- ---- all that was read is answered
+
+-- these are the frames of what was read; what was written is what is said of it, and the state is the one that it leaves
+pub record AnsweredTo (limits : Limits) (channel : ℕ) (first : State) (read written : List ℕ) (moments : List DateTime) (now : State) (frames : List Frame) (rest : List ℕ) (end : End ℕ) : Type 0 where
+  pub run : Run (server_rules limits channel) read frames rest end
+  pub written_is : written ≡ said channel first (events (server_rules limits channel) frames) end moments
+  pub state_is : (left channel first (events (server_rules limits channel) frames) moments).state ≡ now
+  pub asked : AreAsked (events (server_rules limits channel) frames) moments
+
+-- the same of some frames, behind which the connection stands so
+pub record Answered (limits : Limits) (channel : ℕ) (first : State) (read written : List ℕ) (moments : List DateTime) (now : State) (end : End ℕ) : Type 0 where
+  pub frames : List Frame
+  pub rest : List ℕ
+  pub to : AnsweredTo limits channel first read written moments now frames rest end
+
+-- no frame and no message is unfinished
+abbrev pub IsClean : List Frame → List ℕ → Type 0
+IsClean frames rest = (rest ≡ []) × (open_ids (received frames).messages ≡ [])
+
+-- the input ended: no octets are to come, and this holds of the frames of what was read and of its rest
+pub record RanOut (limits : Limits) (channel : ℕ) (first : State) (read written : List ℕ) (moments : List DateTime) (now : State) (coming : List ℕ) (P : List Frame → List ℕ → Type 0) : Type 0 where
+  pub frames : List Frame
+  pub rest : List ℕ
+  pub to : AnsweredTo limits channel first read written moments now frames rest Going
+  pub none : coming ≡ []
+  pub stands : P frames rest
+
+-- ---- broken off
+
+-- the last word of a server: none yet, the answer to what it was told, or the ERR frame with a code
+pub data LastWord : Type 0 where
+  Nothing : LastWord
+  Answer : (t : Told) → LastWord
+  Refusal : (code : ℕ) → LastWord
+
+-- what it was told when it said that
+abbrev pub told_at : LastWord → List Told
+told_at Nothing = []
+told_at (Answer t) = t ∷ []
+told_at (Refusal code) = []
+
+-- how the connection stands where it said that
+abbrev pub end_at : LastWord → End ℕ
+end_at Nothing = Going
+end_at (Answer t) = Going
+end_at (Refusal code) = Stopped code
+
+-- these octets end with a frame that told this, which is answered, behind what the frames before it told
+pub record EndsAnswered (limits : Limits) (channel : ℕ) (octets : List ℕ) (before : List Told) (t : Told) : Type 0 where
+  pub frames : List Frame
+  pub frame : Frame
+  pub run : Run (server_rules limits channel) octets (frames ++ frame ∷ []) [] Going
+  pub told_is : events (server_rules limits channel) frames ≡ before
+  pub tells : (server_rules limits channel).tells frames frame ≡ t ∷ []
+  pub answered : IsTrue (is_answered t)
+
+-- these octets end with a frame, or the header of one, that is refused with this code, behind what the frames before it told
+pub record EndsRefused (limits : Limits) (channel : ℕ) (octets : List ℕ) (before : List Told) (code : ℕ) : Type 0 where
+  pub frames : List Frame
+  pub rest : List ℕ
+  pub run : Run (server_rules limits channel) octets frames rest (Stopped code)
+  pub stops : StopsAt (server_rules limits channel) frames rest code
+  pub told_is : events (server_rules limits channel) frames ≡ before
+
+-- these octets end where that was said, behind what was told before; there are none where nothing was said
+abbrev pub EndsAt : Limits → ℕ → List ℕ → List Told → LastWord → Type 0
+EndsAt limits channel octets before Nothing = (octets ≡ []) × (before ≡ [])
+EndsAt limits channel octets before (Answer t) = EndsAnswered limits channel octets before t
+EndsAt limits channel octets before (Refusal code) = EndsRefused limits channel octets before code
+
+-- it broke off: a front of what was read ends at its last word, which may not be written whole; all that is said before that word is, and
+-- the state is the one that the front leaves
+pub record BrokenOff (limits : Limits) (channel : ℕ) (first : State) (read written : List ℕ) (moments : List DateTime) (now : State) : Type 0 where
+  pub front : List ℕ
+  pub behind : List ℕ
+  pub front_is : read ≡ front ++ behind
+  pub before : List Told
+  pub word : LastWord
+  pub ends : EndsAt limits channel front before word
+  pub state_is : (left channel first (before ++ told_at word) moments).state ≡ now
+  pub asked : AreAsked (before ++ told_at word) moments
+  pub part : List ℕ
+  pub written_is : written ≡ said channel first before Going moments ++ part
+  pub unwritten : List ℕ
+  pub said_is : said channel first (before ++ told_at word) (end_at word) moments ≡ written ++ unwritten
+
+-- ---- by the answer
+
+-- the greatest number of 64 bits
+abbrev pub greatest : ℕ
+greatest = 0xFFFF_FFFF_FFFF_FFFF
+
+-- how a connection ended that its own octets ended
+abbrev pub EndsBy : Ending → Limits → ℕ → State → List ℕ → List ℕ → List DateTime → State → Type 0
+EndsBy ending.Closed limits channel first read written moments now = Answered limits channel first read written moments now Over
+EndsBy (ending.Refused code) limits channel first read written moments now = Answered limits channel first read written moments now (Stopped code.code)
+EndsBy ending.NoClose limits channel first read written moments now = ⊥
+EndsBy ending.Cut limits channel first read written moments now = ⊥
+
+-- how an answer failed; a failed write says how many octets were written in all, up to the greatest number
+abbrev pub FailsBy : ServeFault → Limits → ℕ → State → List ℕ → List ℕ → List DateTime → State → Type 0
+FailsBy fault.Read limits channel first read written moments now = ⊥
+FailsBy (fault.Write n) limits channel first read written moments now = BrokenOff limits channel first read written moments now × (n ≡ min (length written) greatest)
+FailsBy fault.OutOfMemory limits channel first read written moments now = BrokenOff limits channel first read written moments now
+FailsBy fault.TooLong limits channel first read written moments now = ⊥
+
+-- what serving comes to, where these octets were read and written at these moments, and these are to come
+abbrev pub ServesBy : Result Ending ServeFault → Limits → ℕ → State → List ℕ → List ℕ → List DateTime → State → List ℕ → Type 0
+ServesBy (Ok ending.Closed) limits channel first read written moments now coming = EndsBy ending.Closed limits channel first read written moments now
+ServesBy (Ok (ending.Refused code)) limits channel first read written moments now coming = EndsBy (ending.Refused code) limits channel first read written moments now
+ServesBy (Ok ending.NoClose) limits channel first read written moments now coming = RanOut limits channel first read written moments now coming IsClean
+ServesBy (Ok ending.Cut) limits channel first read written moments now coming = RanOut limits channel first read written moments now coming (λ frames rest. IsClean frames rest → ⊥)
+ServesBy (Err fault.Read) limits channel first read written moments now coming = Answered limits channel first read written moments now Going
+ServesBy (Err (fault.Write n)) limits channel first read written moments now coming = FailsBy (fault.Write n) limits channel first read written moments now
+ServesBy (Err fault.OutOfMemory) limits channel first read written moments now coming = FailsBy fault.OutOfMemory limits channel first read written moments now
+ServesBy (Err fault.TooLong) limits channel first read written moments now coming = Answered limits channel first read written moments now Going × (greatest ≤ length read)
+
+-- a line moved octets: those read were to come before those that still are, and those written stand behind those written before
+abbrev pub Moves : List ℕ → List ℕ → Traffic → Traffic → Type 0
+Moves read written before after = (before.coming ≡ read ++ after.coming) × (after.written ≡ before.written ++ written)
+
+-- a line that tells its octets was served from this state on: octets were read and written, and moments were given in turn
+pub record Serves {M : Type 0} (limits : Limits) (channel : ℕ) (gives : M → ℤ → M → Type 0) (first : State) (moments : M) (result : Result Ending ServeFault) (now : State) (later : M) (before after : Traffic) : Type 0 where
+  pub read : List ℕ
+  pub written : List ℕ
+  pub ticks : List ℤ
+  pub moved : Moves read written before after
+  pub given : Gives gives moments ticks later
+  pub comes_to : ServesBy result limits channel first read written (map moment_of ticks) now after.coming
+
+-- the count of failures of a line after a call: it moved on by one where the line is named as failing, and nowhere else
+abbrev pub LineFailed : {A : Type 0} → ℕ → Result A ServeFault → ℕ → Type 0
+LineFailed before (Ok a) after = after ≡ before
+LineFailed before (Err fault.Read) after = after ≡ one_more before
+LineFailed before (Err (fault.Write n)) after = after ≡ one_more before
+LineFailed before (Err fault.OutOfMemory) after = after ≡ before
+LineFailed before (Err fault.TooLong) after = after ≡ before

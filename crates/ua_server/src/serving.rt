@@ -1,0 +1,267 @@
+//! Serving a line.
+
+ghost use Rattle.std.specs.Prelude.{◌≡◌, ◌<◌, ℕ, List, [], IfOk, length};
+ghost use Rattle.ua_channel.specs.Line.{WhereTold};
+ghost use Rattle.ua_server.specs.Serving.{Serves, LineFailed};
+ghost use Rattle.ua_server.specs.ServingParts.{StopsWithin, Wrote, write_failures};
+ghost use Rattle.ua_server.specs.State.{begun};
+
+use crate::serve_fault::ServeFault;
+use crate::server::Server;
+use crate::services::Services;
+use crate::step::{End, Step, StepFault};
+use std::alloc::{AllocError, Global};
+use ua_builtin::DateTime;
+use ua_channel::{Line, Moments};
+use ua_frame::Limits;
+
+/// The most octets that are read at once.
+const PIECE: usize = 4096;
+
+/// Serves the client at the other end of a line, up to the end of its connection: reads pieces of at
+/// most 4096 octets, answers what they ask in order, and writes each answer whole, by as many calls as
+/// the line needs.
+///
+/// The services begin without a session. A moment is asked for before octets are looked at, unless the
+/// last one is not used yet; an OPN response and a reply use one each.
+pub fn serve<L: Line, M: Moments>(
+    alloc: Global,
+    line: &mut L,
+    services: &mut Services,
+    limits: Limits,
+    channel_id: u32,
+    moments: &mut M,
+) -> Result<End, ServeFault>
+    ensures serves { WhereTold (Serves limits channel_id M.gives (begun services.old) moments.old result services.new moments.new) (L.traffic line.old) (L.traffic line.new) }
+    ensures failed { LineFailed (L.failures line.old) result (L.failures line.new) }
+{
+    services.begin();
+    let mut serving = Serving::new(alloc, limits, channel_id);
+    match piece(alloc) {
+        Ok(mut buffer) => serving.run(line, services, moments, &mut buffer),
+        Err(_) => Err(ServeFault::OutOfMemory),
+    }
+}
+
+/// Room for the octets that are read at once.
+fn piece(alloc: Global) -> Result<Vec<u8>, AllocError>
+    ensures { IfOk result (λ buffer. 0 < length buffer.items) }
+{
+    let mut buffer = Vec::new(alloc);
+    buffer.resize(PIECE, 0)?;
+    Ok(buffer)
+}
+
+/// Writes octets whole. Where the line fails it says behind how many of them.
+fn write_whole<L: Line>(line: &mut L, octets: &[u8]) -> Result<(), usize>
+    ensures within { StopsWithin octets.now result }
+    ensures wrote { WhereTold (Wrote octets.now result) (L.traffic line.old) (L.traffic line.new) }
+    ensures failed { L.failures line.new ≡ write_failures result (L.failures line.old) }
+{
+    let mut written = 0;
+    while written < octets.len() {
+        match line.write(&octets[written..]) {
+            Ok(n) => written += n,
+            Err(_) => return Err(written),
+        }
+    }
+    Ok(())
+}
+
+/// A connection that is served, as far as it has come.
+#[derive(Drop)]
+pub struct Serving {
+    server: Server,
+    /// The moment that was asked for and is not used yet.
+    moment: Option<DateTime>,
+    /// Whether the ACK was made: what is answered behind it uses a moment.
+    greeted: bool,
+    /// How many octets were written, up to the greatest number.
+    written: u64,
+}
+
+impl Serving {
+    ghost use Rattle.std.specs.Prelude.{◌≡◌, ◌<◌, ◌≤◌, ◌++◌, ◌∷◌, ℕ, ℤ, List, [], map, IfOk, length, Bool, cond, None, Some};
+    ghost use Rattle.ua_builtin.specs.declared.date_time.DateTime.{DateTime};
+    ghost use Rattle.ua_channel.specs.Line.{WhereTold};
+    ghost use Rattle.ua_channel.specs.Received.{listed};
+    ghost use Rattle.ua_channel.specs.ServerStands.{Stands as Holds};
+    ghost use Rattle.ua_frame.specs.declared.frame.Frame.{Frame};
+    ghost use Rattle.ua_frame.specs.declared.limits.Limits.{Limits};
+    ghost use Rattle.ua_server.specs.Served.{channel_in};
+    ghost use Rattle.ua_server.specs.Serving.{moment_of, Moves, Serves, LineFailed};
+    ghost use Rattle.ua_server.specs.ServingParts.{Asked, Exchanged, Finishes, Handles, Keeps, Says, Steps, Turns, noted};
+    ghost use Rattle.ua_server.specs.Stepping.{Takes};
+    ghost use Rattle.ua_server.specs.State.{State};
+
+    /// Before the first octet of a client.
+    fn new(alloc: Global, limits: Limits, channel_id: u32) -> Serving
+        ensures { (first : State) → Keeps result limits channel_id first [] [] [] first }
+    {
+        Serving {
+            server: Server::new(alloc, limits, channel_id),
+            moment: None,
+            greeted: false,
+            written: 0,
+        }
+    }
+
+    /// How a connection ends whose input does.
+    fn finish(&self) -> End
+        ensures { (octets : List ℕ) (frames : List Frame) (rest : List ℕ) → Holds (channel_in self.now.server) octets frames rest
+            → Finishes result frames rest }
+    {
+        if self.server.is_clean() {
+            End::NoClose
+        } else {
+            End::Cut
+        }
+    }
+
+    /// The moment that is kept, or else the next one, which is kept then.
+    fn moment<M: Moments>(&mut self, moments: &mut M) -> DateTime
+        ensures asked { Asked M.gives moments.old moments.new (λ ticks. listed self.old.moment ++ map moment_of ticks ≡ result ∷ []) }
+        ensures kept { self.new ≡ record self.old { moment = Some result } }
+    {
+        match self.moment {
+            Some(moment) => moment,
+            None => {
+                let moment = DateTime {
+                    ticks: moments.next(),
+                };
+                self.moment = Some(moment);
+                moment
+            }
+        }
+    }
+
+    /// One step of the server. The moment that it used is kept no longer.
+    fn step<M: Moments>(
+        &mut self,
+        services: &mut Services,
+        moments: &mut M,
+        piece: &[u8],
+    ) -> Result<Step, StepFault>
+        ensures steps { (limits : Limits) (channel : ℕ) (first : State) (read written : List ℕ) (given : List ℤ) → Keeps self.old limits channel first read written given services.old
+            → Asked M.gives moments.old moments.new (λ ticks. Steps result self.new limits channel first piece.now read written (given ++ ticks) services.new) }
+        ensures progress { IfOk result (λ step. Takes piece.now step) }
+    {
+        let moment = self.moment(moments);
+        let (step, answered) = match self.server.advance(services, piece, moment) {
+            Ok(found) => found,
+            Err(fault) => return Err(fault),
+        };
+        if !answered {
+            return Ok(step);
+        }
+        self.note_answer();
+        Ok(step)
+    }
+
+    /// An answer was made. Those behind the ACK use the moment that is kept.
+    fn note_answer(&mut self)
+        ensures { self.new ≡ noted self.old }
+    {
+        if self.greeted {
+            self.moment = None;
+        } else {
+            self.greeted = true;
+        }
+    }
+
+    /// Writes octets whole, and counts them.
+    fn say<L: Line>(&mut self, line: &mut L, octets: &[u8]) -> Result<(), ServeFault>
+        ensures says { Says octets.now result self.old self.new (L.traffic line.old) (L.traffic line.new) }
+        ensures failed { LineFailed (L.failures line.old) result (L.failures line.new) }
+    {
+        match write_whole(line, octets) {
+            Ok(()) => {
+                self.written = self.written.saturating_add(octets.len() as u64);
+                Ok(())
+            }
+            Err(n) => Err(ServeFault::Write(self.written.saturating_add(n as u64))),
+        }
+    }
+
+    /// One step of the server, and its answer. Says how many octets were taken, and how the
+    /// connection ended, if it did.
+    fn turn<L: Line, M: Moments>(
+        &mut self,
+        line: &mut L,
+        services: &mut Services,
+        moments: &mut M,
+        piece: &[u8],
+    ) -> Result<(usize, Option<End>), ServeFault>
+        ensures turns { (limits : Limits) (channel : ℕ) (first : State) (read written : List ℕ) (given : List ℤ) → Keeps self.old limits channel first read written given services.old
+            → Exchanged M.gives moments.old moments.new [] (L.traffic line.old) (L.traffic line.new)
+                (λ more ticks. Turns result self.new limits channel first piece.now read (written ++ more) (given ++ ticks) services.new) }
+        ensures progress { IfOk result (λ turn. (turn.0 ≤ length piece.now) × (turn.1 ≡ None → 0 < length piece.now → 0 < turn.0)) }
+        ensures failed { LineFailed (L.failures line.old) result (L.failures line.new) }
+    {
+        let step = match self.step(services, moments, piece) {
+            Ok(step) => step,
+            Err(_) => return Err(ServeFault::OutOfMemory),
+        };
+        match self.say(line, &step.out) {
+            Ok(()) => Ok((step.taken, step.end)),
+            Err(fault) => Err(fault),
+        }
+    }
+
+    /// Answers a piece, up to its end or to that of the connection.
+    fn handle<L: Line, M: Moments>(
+        &mut self,
+        line: &mut L,
+        services: &mut Services,
+        moments: &mut M,
+        piece: &[u8],
+    ) -> Result<Option<End>, ServeFault>
+        ensures handles { (limits : Limits) (channel : ℕ) (first : State) (read written : List ℕ) (given : List ℤ) → Keeps self.old limits channel first read written given services.old
+            → Exchanged M.gives moments.old moments.new [] (L.traffic line.old) (L.traffic line.new)
+                (λ more ticks. Handles result self.new limits channel first (read ++ piece.now) (written ++ more) (given ++ ticks) services.new) }
+        ensures failed { LineFailed (L.failures line.old) result (L.failures line.new) }
+    {
+        let mut taken = 0;
+        while taken < piece.len() {
+            let (n, end) = match self.turn(line, services, moments, &piece[taken..]) {
+                Ok(turn) => turn,
+                Err(fault) => return Err(fault),
+            };
+            match end {
+                Some(end) => return Ok(Some(end)),
+                None => taken += n,
+            }
+        }
+        Ok(None)
+    }
+
+    /// Reads the line into this buffer again and again, and answers what it reads.
+    fn run<L: Line, M: Moments>(
+        &mut self,
+        line: &mut L,
+        services: &mut Services,
+        moments: &mut M,
+        buffer: &mut [u8],
+    ) -> Result<End, ServeFault>
+        requires { 0 < length buffer.old }
+        ensures serves { (limits : Limits) (channel : ℕ) (first : State) → Keeps self.old limits channel first [] [] [] services.old
+            → WhereTold (Serves limits channel M.gives first moments.old result services.new moments.new) (L.traffic line.old) (L.traffic line.new) }
+        ensures failed { LineFailed (L.failures line.old) result (L.failures line.new) }
+    {
+        for _reads in 0..u64::MAX {
+            let n = match line.read(buffer) {
+                Ok(n) => n,
+                Err(_) => return Err(ServeFault::Read),
+            };
+            if n == 0 {
+                return Ok(self.finish());
+            }
+            match self.handle(line, services, moments, &buffer[..n]) {
+                Ok(None) => {}
+                Ok(Some(end)) => return Ok(end),
+                Err(fault) => return Err(fault),
+            }
+        }
+        Err(ServeFault::TooLong)
+    }
+}
