@@ -1,6 +1,6 @@
-//! Tests of the dissector, against octets that are written out.
+//! Tests of the dissector and of serving a line, against octets that are written out.
 //!
-//! It stands above `ua_pair` so that this is proved once. Octets and lines were written by hand from the
+//! It stands above `ua_pair` and `ua_server` so that these are proved once. Octets and lines were written by hand from the
 //! tables of OPC 10000-6 and docs/PROGRAM.md, and never taken from the program's output.
 #![tactic(auto)]
 
@@ -10,5 +10,7 @@ mod conversations;
 mod lines;
 #[cfg(test)]
 mod refused;
+#[cfg(test)]
+mod serving;
 #[cfg(test)]
 mod streams;
