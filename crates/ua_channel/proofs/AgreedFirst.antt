@@ -92,8 +92,8 @@ unfolding content
 later_frame limits before f h a some place tells =
     let hel : f.kind ≡ Hel = agreeing_kind limits before f.kind f a tells in
     no_hello (receive_size limits (Some h)) (issued before == 0)
-      (subst (λ (k : Kind). IsTrue (lets_in (gate_behind limits (Some h) (issued before)) k)) hel
-      (subst (λ (o : Option Hello). IsTrue (lets_in (gate_behind limits o (issued before)) f.kind)) some place))
+    (subst (λ (k : Kind). IsTrue (lets_in (gate_behind limits (Some h) (issued before)) k)) hel
+    (subst (λ (o : Option Hello). IsTrue (lets_in (gate_behind limits o (issued before)) f.kind)) some place))
 
 -- ---- by what was told
 

@@ -151,9 +151,9 @@ module _ (x : Serving) (server : Server) (m : DateTime) (piece read written : Li
       let ds = append-nil (o.told ++ given_up q) in
       let us = append-nil o.used in
       let same : now0 ≡ now1 =
-        sym (state-here q) ∙ (ap (λ (k : ℕ). (left k first (o.told ++ given_up q) o.used).state) (sym chan)
-        ∙ (ap (λ (d : List Told). (left (channel_of ch) first d o.used).state) (sym ds)
-        ∙ (ap (λ (u : List DateTime). (left (channel_of ch) first ((o.told ++ given_up q) ++ []) u).state) (sym us) ∙ stands.state_is))) in
+      sym (state-here q) ∙ (ap (λ (k : ℕ). (left k first (o.told ++ given_up q) o.used).state) (sym chan)
+      ∙ (ap (λ (d : List Told). (left (channel_of ch) first d o.used).state) (sym ds)
+      ∙ (ap (λ (u : List DateTime). (left (channel_of ch) first ((o.told ++ given_up q) ++ []) u).state) (sym us) ∙ stands.state_is))) in
       record {
         limits_is = lim;
         channel_is = chan;
@@ -165,10 +165,10 @@ module _ (x : Serving) (server : Server) (m : DateTime) (piece read written : Li
         count_is = o.count_is;
         said_is = said-more-here out _ said_is;
         pending =
-          subst (λ (u : List DateTime). Pending l c first (read ++ take n piece) out written u now1) (sym us)
-          (subst (λ (s : State). Pending l c first (read ++ take n piece) out written o.used s) same
-          (subst (λ (w : List ℕ). Pending l c first (read ++ take n piece) w written o.used now0) (sym stops.1)
-          (pending-on l c first read (take n piece) [] written o.used now0 o.pending)));
+            subst (λ (u : List DateTime). Pending l c first (read ++ take n piece) out written u now1) (sym us)
+            (subst (λ (s : State). Pending l c first (read ++ take n piece) out written o.used s) same
+            (subst (λ (w : List ℕ). Pending l c first (read ++ take n piece) w written o.used now0) (sym stops.1)
+            (pending-on l c first read (take n piece) [] written o.used now0 o.pending)));
       }
   on-silent n out q (t ∷ more) none stops stands said_is = absurd cc
 
@@ -183,13 +183,13 @@ module _ (x : Serving) (server : Server) (m : DateTime) (piece read written : Li
       let g = stops.3 in
       let before = agreed-quiet c first o.told q o.used in
       let greets : (x.greeted ≡ false → (a : Agreement) × (t ≡ Agreed a)) =
-        λ e. agrees_first ch (read ++ take n piece) (o.told ++ given_up q) t g (before ∙ not-there (agreed_by o.told) (sym o.greeted_is ∙ e)) in
+      λ e. agrees_first ch (read ++ take n piece) (o.told ++ given_up q) t g (before ∙ not-there (agreed_by o.told) (sym o.greeted_is ∙ e)) in
       let greeted : (x.greeted ≡ true → (a : Agreement) → t ≡ Agreed a → ⊥) =
-        λ e a is. let b = there (agreed_by o.told) (sym o.greeted_is ∙ e) in agrees_once ch (read ++ take n piece) (o.told ++ given_up q) t g b.0 a (before ∙ b.1) is in
+      λ e a is. let b = there (agreed_by o.told) (sym o.greeted_is ∙ e) in agrees_once ch (read ++ take n piece) (o.told ++ given_up q) t g b.0 a (before ∙ b.1) is in
       let kept = kept-by x.greeted t m stops.2 greets greeted in
       let agreed : is_there (agreed_by ((o.told ++ given_up q) ++ t ∷ [])) ≡ true =
-        ap is_there (sym (left-agreement c first ((o.told ++ given_up q) ++ t ∷ []) o.used) ∙ ap (λ (d : Course). d.agreement) (left-append c first (o.told ++ given_up q) (t ∷ []) o.used))
-        ∙ agreed-behind c (left c first (o.told ++ given_up q) o.used) t x.greeted greets (o.greeted_is ∙ ap is_there (sym (left-agreement c first (o.told ++ given_up q) o.used ∙ before))) in
+      ap is_there (sym (left-agreement c first ((o.told ++ given_up q) ++ t ∷ []) o.used) ∙ ap (λ (d : Course). d.agreement) (left-append c first (o.told ++ given_up q) (t ∷ []) o.used))
+      ∙ agreed-behind c (left c first (o.told ++ given_up q) o.used) t x.greeted greets (o.greeted_is ∙ ap is_there (sym (left-agreement c first (o.told ++ given_up q) o.used ∙ before))) in
       record {
         limits_is = lim;
         channel_is = chan;
@@ -230,17 +230,17 @@ module _ (x : Serving) (server : Server) (m : DateTime) (piece read written : Li
       frames = s.closed.frames;
       rest = [];
       to = answered-as l c first (read ++ take n piece) (written ++ out) s.closed.frames [] Over ((o.told ++ given_up s.quiet) ++ Closed ∷ []) o.used (m ∷ []) (map moment_of (given ++ ts)) now1
-        moments-are one-kept (run-here (read ++ take n piece) s.closed.frames [] Over s.closed.run) (events-here s.closed.frames _ s.closed.told_is)
-        (sym (said-more-here out _ s.out_is)) s.left_is (close-used (o.told ++ given_up s.quiet) (length o.used) (used-here s.quiet));
+          moments-are one-kept (run-here (read ++ take n piece) s.closed.frames [] Over s.closed.run) (events-here s.closed.frames _ s.closed.told_is)
+          (sym (said-more-here out _ s.out_is)) s.left_is (close-used (o.told ++ given_up s.quiet) (length o.used) (used-here s.quiet));
     };
     used = o.used;
     kept = m ∷ [];
     moments_are = moments-are;
     one = one-kept;
     pending =
-      subst (λ (z : State). Pending l c first (read ++ take n piece) out written o.used z) (sym s.state_is)
-      (subst (λ (w : List ℕ). Pending l c first (read ++ take n piece) w written o.used now0) (sym s.silent)
-      (pending-on l c first read (take n piece) [] written o.used now0 o.pending));
+        subst (λ (z : State). Pending l c first (read ++ take n piece) out written o.used z) (sym s.state_is)
+        (subst (λ (w : List ℕ). Pending l c first (read ++ take n piece) w written o.used now0) (sym s.silent)
+        (pending-on l c first read (take n piece) [] written o.used now0 o.pending));
   }
   on-end (ending.Refused code) n out s = record {
     count_is = o.count_is;
@@ -248,8 +248,8 @@ module _ (x : Serving) (server : Server) (m : DateTime) (piece read written : Li
       frames = s.refused.frames;
       rest = s.refused.rest;
       to = answered-as l c first (read ++ take n piece) (written ++ out) s.refused.frames s.refused.rest (Stopped code.code) (o.told ++ given_up s.quiet) o.used (m ∷ []) (map moment_of (given ++ ts)) now1
-        moments-are one-kept (run-here (read ++ take n piece) s.refused.frames s.refused.rest (Stopped code.code) s.refused.run) (events-here s.refused.frames _ s.refused.told_is)
-        (sym (said-more-here out _ s.out_is)) s.left_is (used-here s.quiet);
+          moments-are one-kept (run-here (read ++ take n piece) s.refused.frames s.refused.rest (Stopped code.code) s.refused.run) (events-here s.refused.frames _ s.refused.told_is)
+          (sym (said-more-here out _ s.out_is)) s.left_is (used-here s.quiet);
     };
     used = o.used;
     kept = m ∷ [];
@@ -314,5 +314,5 @@ module _ (x : Serving) (server : Server) (m : DateTime) (piece read written : Li
         written_is = said-before w.quiet (m ∷ []);
         unwritten = (say c (course now0 (next_of (channel_in x.server)) (m ∷ []) (agreed_by o.told)) t).0;
         said_is = said-one c first before t o.used (m ∷ []) (course now0 (next_of (channel_in x.server)) [] (agreed_by o.told)) behind (room w.quiet)
-          ∙ ap (λ (s : List ℕ). s ++ (say c (course now0 (next_of (channel_in x.server)) (m ∷ []) (agreed_by o.told)) t).0) (said-silent c first o.told w.quiet o.used ∙ all-said);
+            ∙ ap (λ (s : List ℕ). s ++ (say c (course now0 (next_of (channel_in x.server)) (m ∷ []) (agreed_by o.told)) t).0) (said-silent c first o.told w.quiet o.used ∙ all-said);
       })

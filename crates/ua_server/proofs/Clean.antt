@@ -23,9 +23,10 @@ both-zero h l o e z y = omega (arith, e, z, y)
 pub clean-by-held : (cs : List Chunk) (rest : List ℕ) (count held : ℕ) → count ≡ length (open_ids cs) → held ≡ length rest + open_octets cs → count ≡ 0
     → IsTrue (nat_eq held 0) ↔ ((rest ≡ []) × (open_ids cs ≡ []))
 clean-by-held cs rest count held c h zero =
-    let none = nothing-in (open_ids cs) (sym c ∙ zero) in
-    (λ t. (nothing-in rest (first-zero held (length rest) (open_octets cs) h (eqb-true held 0 t)), none),
-    λ clean. eq-eqb held 0 (both-zero held (length rest) (open_octets cs) h (ap length clean.0) (none-held cs clean.1)))
+    let none = nothing-in (open_ids cs) (sym c ∙ zero) in (
+      λ t. (nothing-in rest (first-zero held (length rest) (open_octets cs) h (eqb-true held 0 t)), none),
+      λ clean. eq-eqb held 0 (both-zero held (length rest) (open_octets cs) h (ap length clean.0) (none-held cs clean.1)),
+    )
 
 pub not-clean : (cs : List Chunk) (rest : List ℕ) (count : ℕ) → count ≡ length (open_ids cs) → (count ≡ 0 → ⊥)
     → IsTrue (nat_eq count 0) ↔ ((rest ≡ []) × (open_ids cs ≡ []))

@@ -10,9 +10,10 @@ use Rattle.ua_server.specs.Serving.{Moves}
 use Rattle.ua_server.specs.ServingParts.{Exchanged}
 
 moves-then : (r s r' s' : List ℕ) (a b c : Traffic) → Moves r s a b → Moves r' s' b c → Moves (r ++ r') (s ++ s') a c
-moves-then r s r' s' a b c m n =
-    (m.0 ∙ (ap (λ (x : List ℕ). r ++ x) n.0 ∙ sym (append_assoc r r' c.coming)),
-    n.1 ∙ (ap (λ (x : List ℕ). x ++ s') m.1 ∙ append_assoc a.written s s'))
+moves-then r s r' s' a b c m n = (
+  m.0 ∙ (ap (λ (x : List ℕ). r ++ x) n.0 ∙ sym (append_assoc r r' c.coming)),
+  n.1 ∙ (ap (λ (x : List ℕ). x ++ s') m.1 ∙ append_assoc a.written s s'),
+)
 
 pub told-then : (r s r' s' : List ℕ) (a b c : Option Traffic) → WhereTold (Moves r s) a b → WhereTold (Moves r' s') b c → WhereTold (Moves (r ++ r') (s ++ s')) a c
 told-then r s r' s' (Some a) (Some b) (Some c) m n = moves-then r s r' s' a b c m n

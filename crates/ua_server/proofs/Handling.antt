@@ -82,12 +82,12 @@ module _ (limits : Limits) (channel : ℕ) (first : State) where
           → Handled (taken + n) m' lc y now' read written given
       handled-more n end is f =
           exchanged-then gives m0 m m' [] [] la lb lc (λ more ts. Keeps mid limits channel first there (written ++ more) (given ++ ts) now)
-            (λ more ts. Turns (Ok (n, end)) y limits channel first (rest_of piece taken) there ((written ++ so_far.written) ++ more) ((given ++ so_far.ticks) ++ ts) now')
-            (λ more ts. Keeps y limits channel first (read ++ take (taken + n) piece) (written ++ more) (given ++ ts) now') so_far f
-            (λ w ts h. moved-to (λ r u t. Keeps y limits channel first r u t now') (there ++ take n (rest_of piece taken)) (read ++ take (taken + n) piece)
-              ((written ++ so_far.written) ++ w) (written ++ (so_far.written ++ w)) ((given ++ so_far.ticks) ++ ts) (given ++ (so_far.ticks ++ ts))
-              (joined read piece taken n) (append_assoc written so_far.written w) (append_assoc given so_far.ticks ts)
-              (subst (λ (e : Option Ending). TurnsTo e y limits channel first (there ++ take n (rest_of piece taken)) ((written ++ so_far.written) ++ w) ((given ++ so_far.ticks) ++ ts) now') is h))
+          (λ more ts. Turns (Ok (n, end)) y limits channel first (rest_of piece taken) there ((written ++ so_far.written) ++ more) ((given ++ so_far.ticks) ++ ts) now')
+          (λ more ts. Keeps y limits channel first (read ++ take (taken + n) piece) (written ++ more) (given ++ ts) now') so_far f
+          (λ w ts h. moved-to (λ r u t. Keeps y limits channel first r u t now') (there ++ take n (rest_of piece taken)) (read ++ take (taken + n) piece)
+          ((written ++ so_far.written) ++ w) (written ++ (so_far.written ++ w)) ((given ++ so_far.ticks) ++ ts) (given ++ (so_far.ticks ++ ts))
+          (joined read piece taken n) (append_assoc written so_far.written w) (append_assoc given so_far.ticks ts)
+          (subst (λ (e : Option Ending). TurnsTo e y limits channel first (there ++ take n (rest_of piece taken)) ((written ++ so_far.written) ++ w) ((given ++ so_far.ticks) ++ ts) now') is h))
 
       back : (n : ℕ) → (there ++ take n (rest_of piece taken)) ++ drop n (rest_of piece taken) ≡ read ++ piece
       back n =
@@ -101,13 +101,13 @@ module _ (limits : Limits) (channel : ℕ) (first : State) where
           → Exchanged gives m0 m' [] la lc (λ more ts. Handles (Ok (Some e)) y limits channel first (read ++ piece) (written ++ more) (given ++ ts) now')
       handled-end n end e is f =
           exchanged-then gives m0 m m' [] [] la lb lc (λ more ts. Keeps mid limits channel first there (written ++ more) (given ++ ts) now)
-            (λ more ts. Turns (Ok (n, end)) y limits channel first (rest_of piece taken) there ((written ++ so_far.written) ++ more) ((given ++ so_far.ticks) ++ ts) now')
-            (λ more ts. EndsBy e limits channel first (read ++ piece) (written ++ more) (map moment_of (given ++ ts)) now') so_far f
-            (λ w ts h. moved-to (λ r u t. EndsBy e limits channel first r u (map moment_of t) now') ((there ++ take n (rest_of piece taken)) ++ drop n (rest_of piece taken)) (read ++ piece)
-              ((written ++ so_far.written) ++ w) (written ++ (so_far.written ++ w)) ((given ++ so_far.ticks) ++ ts) (given ++ (so_far.ticks ++ ts))
-              (back n) (append_assoc written so_far.written w) (append_assoc given so_far.ticks ts)
-              (ends-on e (there ++ take n (rest_of piece taken)) (drop n (rest_of piece taken)) ((written ++ so_far.written) ++ w) (map moment_of ((given ++ so_far.ticks) ++ ts)) now'
-              (subst (λ (o : Option Ending). TurnsTo o y limits channel first (there ++ take n (rest_of piece taken)) ((written ++ so_far.written) ++ w) ((given ++ so_far.ticks) ++ ts) now') is h)))
+          (λ more ts. Turns (Ok (n, end)) y limits channel first (rest_of piece taken) there ((written ++ so_far.written) ++ more) ((given ++ so_far.ticks) ++ ts) now')
+          (λ more ts. EndsBy e limits channel first (read ++ piece) (written ++ more) (map moment_of (given ++ ts)) now') so_far f
+          (λ w ts h. moved-to (λ r u t. EndsBy e limits channel first r u (map moment_of t) now') ((there ++ take n (rest_of piece taken)) ++ drop n (rest_of piece taken)) (read ++ piece)
+          ((written ++ so_far.written) ++ w) (written ++ (so_far.written ++ w)) ((given ++ so_far.ticks) ++ ts) (given ++ (so_far.ticks ++ ts))
+          (back n) (append_assoc written so_far.written w) (append_assoc given so_far.ticks ts)
+          (ends-on e (there ++ take n (rest_of piece taken)) (drop n (rest_of piece taken)) ((written ++ so_far.written) ++ w) (map moment_of ((given ++ so_far.ticks) ++ ts)) now'
+          (subst (λ (o : Option Ending). TurnsTo o y limits channel first (there ++ take n (rest_of piece taken)) ((written ++ so_far.written) ++ w) ((given ++ so_far.ticks) ++ ts) now') is h)))
 
       -- an answer fails
       pub handled-fault : (f : ServeFault)
@@ -115,12 +115,12 @@ module _ (limits : Limits) (channel : ℕ) (first : State) where
           → Exchanged gives m0 m' [] la lc (λ more ts. Handles (Err f) y limits channel first (read ++ piece) (written ++ more) (given ++ ts) now')
       handled-fault f t =
           exchanged-then gives m0 m m' [] [] la lb lc (λ more ts. Keeps mid limits channel first there (written ++ more) (given ++ ts) now)
-            (λ more ts. Turns (Err f) y limits channel first (rest_of piece taken) there ((written ++ so_far.written) ++ more) ((given ++ so_far.ticks) ++ ts) now')
-            (λ more ts. FailsBy f limits channel first (read ++ piece) (written ++ more) (map moment_of (given ++ ts)) now') so_far t
-            (λ w ts h. moved-to (λ r u o. FailsBy f limits channel first r u (map moment_of o) now') (there ++ rest_of piece taken) (read ++ piece)
-              ((written ++ so_far.written) ++ w) (written ++ (so_far.written ++ w)) ((given ++ so_far.ticks) ++ ts) (given ++ (so_far.ticks ++ ts))
-              (ap (λ (p : List ℕ). there ++ p) (rest-is piece taken) ∙ (append_assoc read (take taken piece) (drop taken piece) ∙ ap (λ (p : List ℕ). read ++ p) (take-append-drop taken piece)))
-              (append_assoc written so_far.written w) (append_assoc given so_far.ticks ts) h)
+          (λ more ts. Turns (Err f) y limits channel first (rest_of piece taken) there ((written ++ so_far.written) ++ more) ((given ++ so_far.ticks) ++ ts) now')
+          (λ more ts. FailsBy f limits channel first (read ++ piece) (written ++ more) (map moment_of (given ++ ts)) now') so_far t
+          (λ w ts h. moved-to (λ r u o. FailsBy f limits channel first r u (map moment_of o) now') (there ++ rest_of piece taken) (read ++ piece)
+          ((written ++ so_far.written) ++ w) (written ++ (so_far.written ++ w)) ((given ++ so_far.ticks) ++ ts) (given ++ (so_far.ticks ++ ts))
+          (ap (λ (p : List ℕ). there ++ p) (rest-is piece taken) ∙ (append_assoc read (take taken piece) (drop taken piece) ∙ ap (λ (p : List ℕ). read ++ p) (take-append-drop taken piece)))
+          (append_assoc written so_far.written w) (append_assoc given so_far.ticks ts) h)
 
       all-of : taken ≤ length piece → length piece ≤ taken → take taken piece ≡ piece
       all-of h k = let same : taken ≡ length piece = omega (arith, h, k) in ap (λ (n : ℕ). take n piece) same ∙ take-length piece
@@ -147,11 +147,11 @@ module _ (limits : Limits) (channel : ℕ) (first : State) where
       let g = k.stands.goes in
       let same = rules-at (channel_in x.server) k.limits_is k.channel_is in
       answered-as limits channel first read written g.frames g.rest Going k.told k.used (listed x.moment) (map moment_of given) now k.moments_are (listed-one limits channel first x.moment)
-        (subst (λ (R : Rules Told ℕ). Run R read g.frames g.rest Going) same g.stands.run)
-        (ap (λ (R : Rules Told ℕ). events R g.frames) (sym same) ∙ g.told_is)
-        (sym (k.said_is ∙ append-nil written))
-        (ap (λ (n : ℕ). (left n first k.told k.used).state) (sym k.channel_is) ∙ k.stands.state_is)
-        k.stands.used
+      (subst (λ (R : Rules Told ℕ). Run R read g.frames g.rest Going) same g.stands.run)
+      (ap (λ (R : Rules Told ℕ). events R g.frames) (sym same) ∙ g.told_is)
+      (sym (k.said_is ∙ append-nil written))
+      (ap (λ (n : ℕ). (left n first k.told k.used).state) (sym k.channel_is) ∙ k.stands.state_is)
+      k.stands.used
 
   pub still-going : (x : Serving) (read written : List ℕ) (given : List ℤ) (now : State) → Keeps x limits channel first read written given now → Answered limits channel first read written (map moment_of given) now Going
   still-going x read written given now k = record { frames = k.stands.goes.frames; rest = k.stands.goes.rest; to = keeps-answered x read written given now k }
@@ -217,7 +217,7 @@ module _ (limits : Limits) (channel : ℕ) (first : State) where
     pub serves-nothing : (la : Option Traffic) (x : Serving) (now : State) → Keeps x limits channel first [] [] [] now → WhereTold (Serves limits channel gives first m0 (Err fault.OutOfMemory) now m0) la la
     serves-nothing la x now k =
         served m0 [] la la (Err fault.OutOfMemory) now (λ w ts. Keeps x limits channel first [] w ts now) (record { written = []; ticks = []; moved = told-nothing la; given = refl; holds = k })
-          (λ b w ts is h. pending-broken limits channel first [] [] w h.used (listed x.moment) (map moment_of ts) now h.moments_are (listed-one limits channel first x.moment) h.pending)
+        (λ b w ts is h. pending-broken limits channel first [] [] w h.used (listed x.moment) (map moment_of ts) now h.moments_are (listed-one limits channel first x.moment) h.pending)
 
     -- a read is handed out
     read-on : (la lb lc : Option Traffic) (reads : ℕ) (m : M) (x : Serving) (now : State) (n : ℕ) (buffer : List ℕ) (s : Served la reads m lb x now) → WhereTold (Moves (take n buffer) []) lb lc
@@ -234,23 +234,23 @@ module _ (limits : Limits) (channel : ℕ) (first : State) where
         → WhereTold (Serves limits channel gives first m0 (Err fault.Read) now m) la lc
     read-failed la lb lc reads m x now f buffer s h =
         served m s.read la lc (Err fault.Read) now (λ written ts. Keeps x limits channel first s.read written ts now)
-          (subst (λ (r : List ℕ). Exchanged gives m0 m r la lc (λ written ts. Keeps x limits channel first s.read written ts now)) (append-nil s.read)
-          (read-on la lb lc reads m x now 0 [] s (not-handed f buffer lb lc h)))
-          (λ b w ts is k. still-going x s.read w ts now k)
+        (subst (λ (r : List ℕ). Exchanged gives m0 m r la lc (λ written ts. Keeps x limits channel first s.read written ts now)) (append-nil s.read)
+        (read-on la lb lc reads m x now 0 [] s (not-handed f buffer lb lc h)))
+        (λ b w ts is k. still-going x s.read w ts now k)
 
     pub read-ended : (la lb lc : Option Traffic) (reads : ℕ) (m : M) (x : Serving) (now : State) (n : ℕ) (buffer : List ℕ) (end : Ending) → Served la reads m lb x now → WhereTold (Hands (Ok n) buffer) lb lc → n ≡ 0 → 0 < length buffer
         → ((octets : List ℕ) (frames : List Frame) (rest : List ℕ) → Holds (channel_in x.server) octets frames rest → Finishes end frames rest)
         → WhereTold (Serves limits channel gives first m0 (Ok end) now m) la lc
     read-ended la lb lc reads m x now n buffer end s h zero room by =
         served m s.read la lc (Ok end) now (λ written ts. Keeps x limits channel first s.read written ts now)
-          (subst (λ (r : List ℕ). Exchanged gives m0 m r la lc (λ written ts. Keeps x limits channel first s.read written ts now)) (ap (λ (k : ℕ). s.read ++ take k buffer) zero ∙ append-nil s.read)
-          (read-on la lb lc reads m x now n buffer s (handed n buffer lb lc h)))
-          (λ b w ts is k. finished x end s.read w ts now b.coming k by (ended n buffer lb lc b h zero room is))
+        (subst (λ (r : List ℕ). Exchanged gives m0 m r la lc (λ written ts. Keeps x limits channel first s.read written ts now)) (ap (λ (k : ℕ). s.read ++ take k buffer) zero ∙ append-nil s.read)
+        (read-on la lb lc reads m x now n buffer s (handed n buffer lb lc h)))
+        (λ b w ts is k. finished x end s.read w ts now b.coming k by (ended n buffer lb lc b h zero room is))
 
     pub read-too-long : (la lb : Option Traffic) (reads : ℕ) (m : M) (x : Serving) (now : State) → greatest ≤ reads → Served la reads m lb x now → WhereTold (Serves limits channel gives first m0 (Err fault.TooLong) now m) la lb
     read-too-long la lb reads m x now h s =
         served m s.read la lb (Err fault.TooLong) now (λ written ts. Keeps x limits channel first s.read written ts now) s.exchanged
-          (λ b w ts is k. (still-going x s.read w ts now k, more-than greatest reads (length s.read) h s.enough))
+        (λ b w ts is k. (still-going x s.read w ts now k, more-than greatest reads (length s.read) h s.enough))
       where
         more-than : (a b c : ℕ) → a ≤ b → b ≤ c → a ≤ c
         more-than a b c p q = omega (arith, p, q)
@@ -265,8 +265,8 @@ module _ (limits : Limits) (channel : ℕ) (first : State) where
             written = s.exchanged.written ++ f.written;
             ticks = s.exchanged.ticks ++ f.ticks;
             moved = subst (λ (r : List ℕ). WhereTold (Moves r (s.exchanged.written ++ f.written)) la ld) (append-nil (s.read ++ take n buffer))
-              (subst (λ (w : List ℕ). WhereTold (Moves ((s.read ++ take n buffer) ++ []) (w ++ f.written)) la ld) (append-nil s.exchanged.written)
-              (told-then (s.read ++ take n buffer) (s.exchanged.written ++ []) [] f.written la lc ld (told-then s.read s.exchanged.written (take n buffer) [] la lb lc s.exchanged.moved (handed n buffer lb lc h)) f.moved));
+                (subst (λ (w : List ℕ). WhereTold (Moves ((s.read ++ take n buffer) ++ []) (w ++ f.written)) la ld) (append-nil s.exchanged.written)
+                (told-then (s.read ++ take n buffer) (s.exchanged.written ++ []) [] f.written la lc ld (told-then s.read s.exchanged.written (take n buffer) [] la lb lc s.exchanged.moved (handed n buffer lb lc h)) f.moved));
             given = gives-then gives m0 m m' s.exchanged.ticks f.ticks s.exchanged.given f.given;
             holds = f.holds;
           }
@@ -286,13 +286,13 @@ module _ (limits : Limits) (channel : ℕ) (first : State) where
           → WhereTold (Serves limits channel gives first m0 (Ok end) now' m') la ld
       served-end end f =
           served m' (s.read ++ take n buffer) la ld (Ok end) now' (λ written ts. EndsBy end limits channel first (s.read ++ take n buffer) written (map moment_of ts) now') (handles-on (Ok (Some end)) f)
-            (λ b w ts is k. ends-serves end (s.read ++ take n buffer) w (map moment_of ts) now' b.coming k)
+          (λ b w ts is k. ends-serves end (s.read ++ take n buffer) w (map moment_of ts) now' b.coming k)
 
       pub served-fault : (f : ServeFault) → Exchanged gives m m' [] lc ld (λ more ts. Handles (Err f) y limits channel first (s.read ++ take n buffer) (s.exchanged.written ++ more) (s.exchanged.ticks ++ ts) now')
           → WhereTold (Serves limits channel gives first m0 (Err f) now' m') la ld
       served-fault f e =
           served m' (s.read ++ take n buffer) la ld (Err f) now' (λ written ts. FailsBy f limits channel first (s.read ++ take n buffer) written (map moment_of ts) now') (handles-on (Err f) e)
-            (λ b w ts is k. fails-serves f (s.read ++ take n buffer) w (map moment_of ts) now' b.coming k)
+          (λ b w ts is k. fails-serves f (s.read ++ take n buffer) w (map moment_of ts) now' b.coming k)
 
 -- less of a piece is left behind a turn
 pub turns-fewer : (piece : List ℕ) (taken n : ℕ) → taken < length piece → n ≤ length (rest_of piece taken) → (0 < length (rest_of piece taken) → 0 < n) → length piece - (taken + n) < length piece - taken

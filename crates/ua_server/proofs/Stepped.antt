@@ -32,7 +32,7 @@ module _ {M : Type 0} (gives : M → ℤ → M → Type 0) (m0 m1 : M) (limits :
     (kept : mid ≡ record x { moment = Some mom }) (a : Asked gives m0 m1 (λ ts. listed x.moment ++ map moment_of ts ≡ mom ∷ []))
     (lim : limits_of (channel_in server) ≡ limits_of (channel_in mid.server)) (chan : channel_of (channel_in server) ≡ channel_of (channel_in mid.server)) (result : Result (Step × Bool) StepFault)
     (answers : (octets : List ℕ) (told : List Told) (f : State) (moments : List DateTime) → Stands (channel_in mid.server) octets told f moments now0
-      → Advances (limits_of (channel_in mid.server)) (channel_of (channel_in mid.server)) mom piece result (channel_in server) octets told f moments now0 now1)
+    → Advances (limits_of (channel_in mid.server)) (channel_of (channel_in mid.server)) mom piece result (channel_in server) octets told f moments now0 now1)
     (k : Keeps x limits channel first read written given now0) where
   abbrev l : Limits
   l = limits_of (channel_in x.server)
@@ -69,9 +69,9 @@ module _ {M : Type 0} (gives : M → ℤ → M → Type 0) (m0 m1 : M) (limits :
     ticks = a.ticks;
     given = a.given;
     holds = subst (λ (z : Serving). AdvancesTo found.0.end (record z { server = server }) limits channel first (read ++ take found.0.taken piece) found.0.out.items written (given ++ a.ticks) now1) (sym kept)
-      (there (λ v n. AdvancesTo found.0.end (record x { server = server; moment = Some mom }) v n first (read ++ take found.0.taken piece) found.0.out.items written (given ++ a.ticks) now1)
-      (advanced-quiet x server mom piece read written given a.ticks first now0 now1 lim-here chan-here a.holds own found.0.end found.0.taken found.0.out.items
-      (subst (λ (b : Bool). AdvanceBy b c mom piece found.0.end found.0.taken found.0.out.items (channel_in server) read own.told first own.used now0 now1) quiet (advanced-at (Ok found) is))));
+        (there (λ v n. AdvancesTo found.0.end (record x { server = server; moment = Some mom }) v n first (read ++ take found.0.taken piece) found.0.out.items written (given ++ a.ticks) now1)
+        (advanced-quiet x server mom piece read written given a.ticks first now0 now1 lim-here chan-here a.holds own found.0.end found.0.taken found.0.out.items
+        (subst (λ (b : Bool). AdvanceBy b c mom piece found.0.end found.0.taken found.0.out.items (channel_in server) read own.told first own.used now0 now1) quiet (advanced-at (Ok found) is))));
   }
 
   pub steps-saying : (found : Step × Bool) → result ≡ Ok found → found.1 ≡ true → Asked gives m0 m1 (λ ts. Steps (Ok found.0) (noted (record mid { server = server })) limits channel first piece read written (given ++ ts) now1)
@@ -79,9 +79,9 @@ module _ {M : Type 0} (gives : M → ℤ → M → Type 0) (m0 m1 : M) (limits :
     ticks = a.ticks;
     given = a.given;
     holds = subst (λ (z : Serving). AdvancesTo found.0.end (noted (record z { server = server })) limits channel first (read ++ take found.0.taken piece) found.0.out.items written (given ++ a.ticks) now1) (sym kept)
-      (there (λ v n. AdvancesTo found.0.end (noted (record x { server = server; moment = Some mom })) v n first (read ++ take found.0.taken piece) found.0.out.items written (given ++ a.ticks) now1)
-      (advanced-saying x server mom piece read written given a.ticks first now0 now1 lim-here chan-here a.holds own found.0.end found.0.taken found.0.out.items
-      (subst (λ (b : Bool). AdvanceBy b c mom piece found.0.end found.0.taken found.0.out.items (channel_in server) read own.told first own.used now0 now1) said (advanced-at (Ok found) is))));
+        (there (λ v n. AdvancesTo found.0.end (noted (record x { server = server; moment = Some mom })) v n first (read ++ take found.0.taken piece) found.0.out.items written (given ++ a.ticks) now1)
+        (advanced-saying x server mom piece read written given a.ticks first now0 now1 lim-here chan-here a.holds own found.0.end found.0.taken found.0.out.items
+        (subst (λ (b : Bool). AdvanceBy b c mom piece found.0.end found.0.taken found.0.out.items (channel_in server) read own.told first own.used now0 now1) said (advanced-at (Ok found) is))));
   }
 
   pub steps-broken : (f : StepFault) (y : Serving) → result ≡ Err f → Asked gives m0 m1 (λ ts. Steps (Err f) y limits channel first piece read written (given ++ ts) now1)
@@ -89,5 +89,5 @@ module _ {M : Type 0} (gives : M → ℤ → M → Type 0) (m0 m1 : M) (limits :
     ticks = a.ticks;
     given = a.given;
     holds = there (λ v n. BrokenOff v n first (read ++ piece) written (map moment_of (given ++ a.ticks)) now1)
-      (advanced-broken x server mom piece read written given a.ticks first now0 now1 lim-here chan-here a.holds own f (advanced-at (Err f) is));
+        (advanced-broken x server mom piece read written given a.ticks first now0 now1 lim-here chan-here a.holds own f (advanced-at (Err f) is));
   }

@@ -58,14 +58,16 @@ module _ (limits : Limits) (channel : ℕ) (first : State) where
   -- the first of it is written
   unwritten : (end : Option Ending) (x : Serving) (read out written : List ℕ) (ticks : List ℤ) (now : State) (k : ℕ) → k ≤ length out → AdvancesTo end x limits channel first read out written ticks now
       → FailsBy (fault.Write (counted x.written k)) limits channel first read (written ++ take k out) (map moment_of ticks) now
-  unwritten None x read out written ticks now k h o =
-      (pending-broken limits channel first read (drop k out) (written ++ take k out) o.used (listed x.moment) (map moment_of ticks) now o.moments_are (listed-one x.moment)
+  unwritten None x read out written ticks now k h o = (
+    pending-broken limits channel first read (drop k out) (written ++ take k out) o.used (listed x.moment) (map moment_of ticks) now o.moments_are (listed-one x.moment)
         (pending-written limits channel first read out written o.used now (take k out) (drop k out) (sym (take-append-drop k out)) o.pending),
-      count-some x.written k written out o.count_is h)
-  unwritten (Some end) x read out written ticks now k h e =
-      (pending-broken limits channel first read (drop k out) (written ++ take k out) e.used e.kept (map moment_of ticks) now e.moments_are e.one
+    count-some x.written k written out o.count_is h,
+  )
+  unwritten (Some end) x read out written ticks now k h e = (
+    pending-broken limits channel first read (drop k out) (written ++ take k out) e.used e.kept (map moment_of ticks) now e.moments_are e.one
         (pending-written limits channel first read out written e.used now (take k out) (drop k out) (sym (take-append-drop k out)) e.pending),
-      count-some x.written k written out e.count_is h)
+    count-some x.written k written out e.count_is h,
+  )
 
   -- more octets are read
   pub broken-on : (read more written : List ℕ) (moments : List DateTime) (now : State) → BrokenOff limits channel first read written moments now → BrokenOff limits channel first (read ++ more) written moments now
@@ -103,7 +105,7 @@ module _ (limits : Limits) (channel : ℕ) (first : State) where
       moved = moved;
       given = a.given;
       holds = subst (λ (w : Serving). TurnsTo step.end w limits channel first (read ++ take step.taken piece) (written ++ step.out.items) (given ++ a.ticks) now) (sym same)
-        (turned step.end y (read ++ take step.taken piece) step.out.items written (given ++ a.ticks) now a.holds);
+          (turned step.end y (read ++ take step.taken piece) step.out.items written (given ++ a.ticks) now a.holds);
     }
 
     pub turn-unsaid : (step : Step) (y z : Serving) (f : ServeFault) → Asked gives m0 m1 (λ ts. Steps (Ok step) y limits channel first piece read written (given ++ ts) now) → Says step.out.items (Err f) y z la lb
@@ -114,9 +116,9 @@ module _ (limits : Limits) (channel : ℕ) (first : State) where
       moved = s.3;
       given = a.given;
       holds = subst (λ (r : List ℕ). FailsBy f limits channel first r (written ++ take s.0 step.out.items) (map moment_of (given ++ a.ticks)) now) (front-back read piece step.taken)
-        (fails-on f (read ++ take step.taken piece) (drop step.taken piece) (written ++ take s.0 step.out.items) (map moment_of (given ++ a.ticks)) now
-        (subst (λ (g : ServeFault). FailsBy g limits channel first (read ++ take step.taken piece) (written ++ take s.0 step.out.items) (map moment_of (given ++ a.ticks)) now) (sym s.1)
-        (unwritten step.end y (read ++ take step.taken piece) step.out.items written (given ++ a.ticks) now s.0 s.2 a.holds)));
+          (fails-on f (read ++ take step.taken piece) (drop step.taken piece) (written ++ take s.0 step.out.items) (map moment_of (given ++ a.ticks)) now
+          (subst (λ (g : ServeFault). FailsBy g limits channel first (read ++ take step.taken piece) (written ++ take s.0 step.out.items) (map moment_of (given ++ a.ticks)) now) (sym s.1)
+          (unwritten step.end y (read ++ take step.taken piece) step.out.items written (given ++ a.ticks) now s.0 s.2 a.holds)));
     }
 
     pub turn-broken : (g : StepFault) (y : Serving) → Asked gives m0 m1 (λ ts. Steps (Err g) y limits channel first piece read written (given ++ ts) now)

@@ -194,7 +194,7 @@ impl Serving {
     ) -> Result<(usize, Option<End>), ServeFault>
         ensures turns { (limits : Limits) (channel : ℕ) (first : State) (read written : List ℕ) (given : List ℤ) → Keeps self.old limits channel first read written given services.old
             → Exchanged M.gives moments.old moments.new [] (L.traffic line.old) (L.traffic line.new)
-                (λ more ticks. Turns result self.new limits channel first piece.now read (written ++ more) (given ++ ticks) services.new) }
+            (λ more ticks. Turns result self.new limits channel first piece.now read (written ++ more) (given ++ ticks) services.new) }
         ensures progress { IfOk result (λ turn. (turn.0 ≤ length piece.now) × (turn.1 ≡ None → 0 < length piece.now → 0 < turn.0)) }
         ensures failed { LineFailed (L.failures line.old) result (L.failures line.new) }
     {
@@ -218,7 +218,7 @@ impl Serving {
     ) -> Result<Option<End>, ServeFault>
         ensures handles { (limits : Limits) (channel : ℕ) (first : State) (read written : List ℕ) (given : List ℤ) → Keeps self.old limits channel first read written given services.old
             → Exchanged M.gives moments.old moments.new [] (L.traffic line.old) (L.traffic line.new)
-                (λ more ticks. Handles result self.new limits channel first (read ++ piece.now) (written ++ more) (given ++ ticks) services.new) }
+            (λ more ticks. Handles result self.new limits channel first (read ++ piece.now) (written ++ more) (given ++ ticks) services.new) }
         ensures failed { LineFailed (L.failures line.old) result (L.failures line.new) }
     {
         let mut taken = 0;

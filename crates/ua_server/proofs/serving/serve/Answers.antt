@@ -10,7 +10,7 @@ run-requires g c = subst (λ (l : List ℕ). 0 < length l) (sym c.deref_mut.ensu
 pub returns-in-Ok-clause-serves : goal.returns-in-Ok-clause-serves
 returns-in-Ok-clause-serves g c =
     c.run.ensures.serves c.args.limits c.args.channel_id (begun c.args.services.now)
-      (subst (λ (s : State). Keeps c.new-serving.result c.args.limits c.args.channel_id (begun c.args.services.now) [] [] [] s) (sym c.begin.ensures) (c.new-serving.ensures (begun c.args.services.now)))
+    (subst (λ (s : State). Keeps c.new-serving.result c.args.limits c.args.channel_id (begun c.args.services.now) [] [] [] s) (sym c.begin.ensures) (c.new-serving.ensures (begun c.args.services.now)))
 
 pub returns-in-Ok-clause-failed : goal.returns-in-Ok-clause-failed
 returns-in-Ok-clause-failed g c = c.run.ensures.failed
@@ -18,7 +18,7 @@ returns-in-Ok-clause-failed g c = c.run.ensures.failed
 pub returns-clause-serves : goal.returns-clause-serves
 returns-clause-serves g c =
     serves-nothing c.args.limits c.args.channel_id (begun c.args.services.now) g.M.Moments.gives c.args.moments.now (g.L.Line.traffic c.args.line.now) c.new-serving.result c.begin.new.self
-      (subst (λ (s : State). Keeps c.new-serving.result c.args.limits c.args.channel_id (begun c.args.services.now) [] [] [] s) (sym c.begin.ensures) (c.new-serving.ensures (begun c.args.services.now)))
+    (subst (λ (s : State). Keeps c.new-serving.result c.args.limits c.args.channel_id (begun c.args.services.now) [] [] [] s) (sym c.begin.ensures) (c.new-serving.ensures (begun c.args.services.now)))
 
 pub returns-clause-failed : goal.returns-clause-failed
 returns-clause-failed g c = refl

@@ -35,8 +35,8 @@ pub loop-taken-preserved : goal.loop-taken-preserved
 loop-taken-preserved g c = record {
   within = within-piece c.args.piece.now c.loop-taken.taken c.in-Ok.turn.0 c.loop-taken.invariant.within c.in-Ok.ensures.progress.0;
   so_far = λ limits channel first read written given k.
-    let so = c.loop-taken.invariant.so_far limits channel first read written given k in
-    handled-more limits channel first g.M.Moments.gives c.args.moments.now (g.L.Line.traffic c.args.line.now) c.args.self.now c.args.services.now c.args.piece.now c.loop-taken.taken c.loop-taken.moments c.turn.new.moments (g.L.Line.traffic c.loop-taken.line) (g.L.Line.traffic c.turn.new.line) c.loop-taken.self c.turn.new.self c.loop-taken.services c.turn.new.services read written given so c.in-Ok.turn.0 c.in-Ok.turn.1 c.in-None.is (c.in-Ok.ensures.turns limits channel first (read ++ take c.loop-taken.taken c.args.piece.now) (written ++ so.written) (given ++ so.ticks) so.holds);
+      let so = c.loop-taken.invariant.so_far limits channel first read written given k in
+      handled-more limits channel first g.M.Moments.gives c.args.moments.now (g.L.Line.traffic c.args.line.now) c.args.self.now c.args.services.now c.args.piece.now c.loop-taken.taken c.loop-taken.moments c.turn.new.moments (g.L.Line.traffic c.loop-taken.line) (g.L.Line.traffic c.turn.new.line) c.loop-taken.self c.turn.new.self c.loop-taken.services c.turn.new.services read written given so c.in-Ok.turn.0 c.in-Ok.turn.1 c.in-None.is (c.in-Ok.ensures.turns limits channel first (read ++ take c.loop-taken.taken c.args.piece.now) (written ++ so.written) (given ++ so.ticks) so.holds);
   same = c.in-Ok.ensures.failed ∙ c.loop-taken.invariant.same;
 }
 

@@ -9,7 +9,7 @@ abbrev pub invariant-loop-taken : goal.invariant-loop-taken
 invariant-loop-taken g l = record {
   within : l.taken ≤ length l.piece;
   so_far : (limits : Limits) (channel : ℕ) (first : State) (read written : List ℕ) (given : List ℤ) → Keeps l.fn.self limits channel first read written given l.fn.services
-    → Handled limits channel first g.M.Moments.gives l.fn.moments (g.L.Line.traffic l.fn.line) l.fn.self l.fn.services l.piece l.taken l.moments (g.L.Line.traffic l.line) l.self l.services read written given;
+      → Handled limits channel first g.M.Moments.gives l.fn.moments (g.L.Line.traffic l.fn.line) l.fn.self l.fn.services l.piece l.taken l.moments (g.L.Line.traffic l.line) l.self l.services read written given;
   same : g.L.Line.failures l.line ≡ g.L.Line.failures l.fn.line;
 }
 

@@ -31,8 +31,8 @@ pub returns-in-Ok-Some-clause-serves : goal.returns-in-Ok-Some-clause-serves
 returns-in-Ok-Some-clause-serves g c = λ limits channel first k.
     let so = (c.loop-reads.invariant.so_far limits channel first k) in
     served-end limits channel first g.M.Moments.gives c.args.moments.now (g.L.Line.traffic c.args.line.now) (g.L.Line.traffic c.loop-reads.line) (g.L.Line.traffic c.read.new.self) (g.L.Line.traffic c.handle.new.line) c.loop-reads._reads c.loop-reads.moments c.handle.new.moments c.loop-reads.self c.handle.new.self c.loop-reads.services c.handle.new.services c.in-Ok.n c.read.new.buffer so c.in-Ok.ensures.octets c.in-Ok-Some.end
-      (subst (λ (o : Option End). Exchanged g.M.Moments.gives c.loop-reads.moments c.handle.new.moments [] (g.L.Line.traffic c.read.new.self) (g.L.Line.traffic c.handle.new.line) (λ more ts. Handles (Ok o) c.handle.new.self limits channel first (so.read ++ take c.in-Ok.n c.read.new.buffer) (so.exchanged.written ++ more) (so.exchanged.ticks ++ ts) c.handle.new.services)) c.in-Ok-Some.field-0-is
-      (c.in-Ok-Some.ensures.handles limits channel first so.read so.exchanged.written so.exchanged.ticks so.exchanged.holds))
+    (subst (λ (o : Option End). Exchanged g.M.Moments.gives c.loop-reads.moments c.handle.new.moments [] (g.L.Line.traffic c.read.new.self) (g.L.Line.traffic c.handle.new.line) (λ more ts. Handles (Ok o) c.handle.new.self limits channel first (so.read ++ take c.in-Ok.n c.read.new.buffer) (so.exchanged.written ++ more) (so.exchanged.ticks ++ ts) c.handle.new.services)) c.in-Ok-Some.field-0-is
+    (c.in-Ok-Some.ensures.handles limits channel first so.read so.exchanged.written so.exchanged.ticks so.exchanged.holds))
 
 pub returns-in-Ok-Some-clause-failed : goal.returns-in-Ok-Some-clause-failed
 returns-in-Ok-Some-clause-failed g c = c.in-Ok-Some.ensures.failed ∙ (c.in-Ok.ensures.failed ∙ c.loop-reads.invariant.same)
@@ -41,7 +41,7 @@ pub returns-in-Err-handle-clause-serves : goal.returns-in-Err-handle-clause-serv
 returns-in-Err-handle-clause-serves g c = λ limits channel first k.
     let so = (c.loop-reads.invariant.so_far limits channel first k) in
     served-fault limits channel first g.M.Moments.gives c.args.moments.now (g.L.Line.traffic c.args.line.now) (g.L.Line.traffic c.loop-reads.line) (g.L.Line.traffic c.read.new.self) (g.L.Line.traffic c.handle.new.line) c.loop-reads._reads c.loop-reads.moments c.handle.new.moments c.loop-reads.self c.handle.new.self c.loop-reads.services c.handle.new.services c.in-Ok.n c.read.new.buffer so c.in-Ok.ensures.octets c.in-Err-handle.fault
-      (c.in-Err-handle.ensures.handles limits channel first so.read so.exchanged.written so.exchanged.ticks so.exchanged.holds)
+    (c.in-Err-handle.ensures.handles limits channel first so.read so.exchanged.written so.exchanged.ticks so.exchanged.holds)
 
 pub returns-in-Err-handle-clause-failed : goal.returns-in-Err-handle-clause-failed
 returns-in-Err-handle-clause-failed g c = subst (λ (n : ℕ). LineFailed {A = End} n (Err c.in-Err-handle.fault) (g.L.Line.failures c.handle.new.line)) (c.in-Ok.ensures.failed ∙ c.loop-reads.invariant.same) c.in-Err-handle.ensures.failed
@@ -50,8 +50,8 @@ pub loop-reads-preserved : goal.loop-reads-preserved
 loop-reads-preserved g c = record {
   room = omega (arith, c.in-Ok.ensures.within);
   so_far = λ limits channel first k.
-    let so = (c.loop-reads.invariant.so_far limits channel first k) in
-    served-more limits channel first g.M.Moments.gives c.args.moments.now (g.L.Line.traffic c.args.line.now) (g.L.Line.traffic c.loop-reads.line) (g.L.Line.traffic c.read.new.self) (g.L.Line.traffic c.handle.new.line) c.loop-reads._reads c.loop-reads.moments c.handle.new.moments c.loop-reads.self c.handle.new.self c.loop-reads.services c.handle.new.services c.in-Ok.n c.read.new.buffer so c.in-Ok.ensures.octets (omega arith) c.in-Ok.ensures.within
+      let so = (c.loop-reads.invariant.so_far limits channel first k) in
+      served-more limits channel first g.M.Moments.gives c.args.moments.now (g.L.Line.traffic c.args.line.now) (g.L.Line.traffic c.loop-reads.line) (g.L.Line.traffic c.read.new.self) (g.L.Line.traffic c.handle.new.line) c.loop-reads._reads c.loop-reads.moments c.handle.new.moments c.loop-reads.self c.handle.new.self c.loop-reads.services c.handle.new.services c.in-Ok.n c.read.new.buffer so c.in-Ok.ensures.octets (omega arith) c.in-Ok.ensures.within
       (subst (λ (o : Option End). Exchanged g.M.Moments.gives c.loop-reads.moments c.handle.new.moments [] (g.L.Line.traffic c.read.new.self) (g.L.Line.traffic c.handle.new.line) (λ more ts. Handles (Ok o) c.handle.new.self limits channel first (so.read ++ take c.in-Ok.n c.read.new.buffer) (so.exchanged.written ++ more) (so.exchanged.ticks ++ ts) c.handle.new.services)) c.in-Ok-None.field-0-is
       (c.in-Ok-None.ensures.handles limits channel first so.read so.exchanged.written so.exchanged.ticks so.exchanged.holds));
   same = c.in-Ok-None.ensures.failed ∙ (c.in-Ok.ensures.failed ∙ c.loop-reads.invariant.same);

@@ -5,7 +5,7 @@ use Rattle.ua_server.specs.declared.serving.Serving.{Serving}
 use Rattle.ua_server.proofs.serving.Serving.say.Goals as goal
 
 pub returns-in-Ok-clause-says : goal.returns-in-Ok-clause-says
-returns-in-Ok-clause-says g c = 
+returns-in-Ok-clause-says g c =
     let counted_so : ℕ → Serving = λ n. record c.args.self.now { written = n } in
     (ap counted_so c.saturating_add-self.ensures, c.in-Ok.ensures.wrote)
 
@@ -13,7 +13,7 @@ pub returns-in-Ok-clause-failed : goal.returns-in-Ok-clause-failed
 returns-in-Ok-clause-failed g c = c.in-Ok.ensures.failed
 
 pub returns-in-Err-clause-says : goal.returns-in-Err-clause-says
-returns-in-Err-clause-says g c = 
+returns-in-Err-clause-says g c =
     let failed_behind : ℕ → ServeFault = λ n. fault.Write n in
     (c.in-Err.n, ap failed_behind c.saturating_add.ensures, c.in-Err.ensures.within, c.in-Err.ensures.wrote)
 

@@ -7,13 +7,13 @@ use Rattle.ua_server.proofs.serving.Serving.step.Goals as goal
 pub returns-in-Err-clause-steps : goal.returns-in-Err-clause-steps
 returns-in-Err-clause-steps g c = λ limits channel first read written given k.
     steps-broken g.M.Moments.gives c.args.moments.now c.moment-moment.new.moments limits channel first c.args.self.now c.moment-moment.new.self c.advance.new.self c.moment-moment.result c.args.piece.now read written given c.args.services.now c.advance.new.services
-      c.moment-moment.ensures.kept c.moment-moment.ensures.asked c.advance.ensures.limits c.advance.ensures.channel c.advance.result c.advance.ensures.answers k c.in-Err.fault
-      (record c.moment-moment.new.self { server = c.advance.new.self }) c.in-Err.is
+    c.moment-moment.ensures.kept c.moment-moment.ensures.asked c.advance.ensures.limits c.advance.ensures.channel c.advance.result c.advance.ensures.answers k c.in-Err.fault
+    (record c.moment-moment.new.self { server = c.advance.new.self }) c.in-Err.is
 
 pub returns-then-not-answered-clause-steps : goal.returns-then-not-answered-clause-steps
 returns-then-not-answered-clause-steps g c = λ limits channel first read written given k.
     steps-quiet g.M.Moments.gives c.args.moments.now c.moment-moment.new.moments limits channel first c.args.self.now c.moment-moment.new.self c.advance.new.self c.moment-moment.result c.args.piece.now read written given c.args.services.now c.advance.new.services
-      c.moment-moment.ensures.kept c.moment-moment.ensures.asked c.advance.ensures.limits c.advance.ensures.channel c.advance.result c.advance.ensures.answers k c.in-Ok.found c.in-Ok.is c.if-not-answered.true
+    c.moment-moment.ensures.kept c.moment-moment.ensures.asked c.advance.ensures.limits c.advance.ensures.channel c.advance.result c.advance.ensures.answers k c.in-Ok.found c.in-Ok.is c.if-not-answered.true
 
 pub returns-then-not-answered-clause-progress : goal.returns-then-not-answered-clause-progress
 returns-then-not-answered-clause-progress g c = c.in-Ok.ensures.progress
@@ -22,7 +22,7 @@ pub returns-clause-steps : goal.returns-clause-steps
 returns-clause-steps g c = λ limits channel first read written given k.
     subst (λ (z : Serving). Asked g.M.Moments.gives c.args.moments.now c.moment-moment.new.moments (λ ticks. Steps (Ok c.in-Ok.found.0) z limits channel first c.args.piece.now read written (given ++ ticks) c.advance.new.services)) (sym c.note_answer.ensures)
     (steps-saying g.M.Moments.gives c.args.moments.now c.moment-moment.new.moments limits channel first c.args.self.now c.moment-moment.new.self c.advance.new.self c.moment-moment.result c.args.piece.now read written given c.args.services.now c.advance.new.services
-      c.moment-moment.ensures.kept c.moment-moment.ensures.asked c.advance.ensures.limits c.advance.ensures.channel c.advance.result c.advance.ensures.answers k c.in-Ok.found c.in-Ok.is c.if-not-answered.false)
+    c.moment-moment.ensures.kept c.moment-moment.ensures.asked c.advance.ensures.limits c.advance.ensures.channel c.advance.result c.advance.ensures.answers k c.in-Ok.found c.in-Ok.is c.if-not-answered.false)
 
 pub returns-clause-progress : goal.returns-clause-progress
 returns-clause-progress g c = c.in-Ok.ensures.progress

@@ -17,8 +17,8 @@ pub returns-in-Ok-say-clause-turns : goal.returns-in-Ok-say-clause-turns
 returns-in-Ok-say-clause-turns g c = λ limits channel first read written given k.
     let counted_so : List ℕ → Serving = λ o. record c.step.new.self { written = counted c.step.new.self.written (length o) } in
     turn-said limits channel first g.M.Moments.gives c.args.moments.now c.step.new.moments (g.L.Line.traffic c.args.line.now) (g.L.Line.traffic c.say.new.line) c.args.piece.now read written given c.step.new.services c.in-Ok.step c.step.new.self c.say.new.self (c.in-Ok.ensures.steps limits channel first read written given k)
-      (c.in-Ok-say.ensures.says.0 ∙ ap counted_so c.deref.ensures.value)
-      (subst (λ (o : List ℕ). WhereTold (Moves [] o) (g.L.Line.traffic c.args.line.now) (g.L.Line.traffic c.say.new.line)) c.deref.ensures.value c.in-Ok-say.ensures.says.1)
+    (c.in-Ok-say.ensures.says.0 ∙ ap counted_so c.deref.ensures.value)
+    (subst (λ (o : List ℕ). WhereTold (Moves [] o) (g.L.Line.traffic c.args.line.now) (g.L.Line.traffic c.say.new.line)) c.deref.ensures.value c.in-Ok-say.ensures.says.1)
 
 pub returns-in-Ok-say-clause-progress : goal.returns-in-Ok-say-clause-progress
 returns-in-Ok-say-clause-progress g c = c.in-Ok.ensures.progress
@@ -29,7 +29,7 @@ returns-in-Ok-say-clause-failed g c = c.in-Ok-say.ensures.failed
 pub returns-clause-turns : goal.returns-clause-turns
 returns-clause-turns g c = λ limits channel first read written given k.
     turn-unsaid limits channel first g.M.Moments.gives c.args.moments.now c.step.new.moments (g.L.Line.traffic c.args.line.now) (g.L.Line.traffic c.say.new.line) c.args.piece.now read written given c.step.new.services c.in-Ok.step c.step.new.self c.say.new.self c.in-Err-say.fault (c.in-Ok.ensures.steps limits channel first read written given k)
-      (subst (λ (o : List ℕ). Says o (Err c.in-Err-say.fault) c.step.new.self c.say.new.self (g.L.Line.traffic c.args.line.now) (g.L.Line.traffic c.say.new.line)) c.deref.ensures.value c.in-Err-say.ensures.says)
+    (subst (λ (o : List ℕ). Says o (Err c.in-Err-say.fault) c.step.new.self c.say.new.self (g.L.Line.traffic c.args.line.now) (g.L.Line.traffic c.say.new.line)) c.deref.ensures.value c.in-Err-say.ensures.says)
 
 pub returns-clause-failed : goal.returns-clause-failed
 returns-clause-failed g c = c.in-Err-say.ensures.failed
