@@ -13,7 +13,6 @@ use Rattle.ua_client.specs.Site.{Site, At, id_at, lane_behind}
 use Rattle.ua_client.specs.Carried.{Carries}
 use Rattle.ua_client.specs.Hearing.{channel_of, untaken_of}
 use Rattle.ua_client.specs.Opening.{Opens}
-use Rattle.ua_client.specs.Ends.{ends}
 use Rattle.ua_client.specs.declared.client.Client.{Client}
 use Rattle.ua_client.specs.declared.connection.Connection.{Connection}
 use Rattle.ua_client.specs.declared.fault.ClientFault.{ClientFault}
@@ -36,16 +35,6 @@ IsDone x = x.is_done ≡ true
 -- a client that may be called
 abbrev pub IsReady : Client → Type 0
 IsReady x = x.is_done ≡ false
-
--- a client stands there, and may be called
-pub record Stands (x : Client) (s : Site) : Type 0 where
-  pub ready : x.is_done ≡ false
-  pub at : At (client_channel x) s
-
--- what a fault leaves: after a refusal to ask the client may be called, after any other it is done
-abbrev pub IsLeft : {A : Type 0} → Result A ClientFault → Client → Type 0
-IsLeft (Ok found) x = x.is_done ≡ false
-IsLeft (Err f) x = x.is_done ≡ ends f
 
 -- ---- opening
 

@@ -5,5 +5,4 @@ pub mod Told
 pub mod Hearing
 pub mod Site
 pub mod Opening
-pub mod Ends
 pub mod Client

@@ -4,8 +4,7 @@ use std::alloc::AllocError;
 use thiserror::Error;
 use ua_builtin::StatusCode;
 
-/// Why a call of a client did not do what it is for. After all of these but `TooLarge`, `NotWritable`
-/// and `Exhausted` the client is failed, and answers `Closed`.
+/// Why a call of a client did not do what it is for.
 #[derive(Clone, Copy, PartialEq, Eq, Debug, Error)]
 pub enum ClientFault {
     /// A read of the line failed.
@@ -47,21 +46,6 @@ pub enum ClientFault {
     /// The line was read 18446744073709551615 times.
     #[error("too many reads")]
     TooLong,
-}
-
-impl ClientFault {
-    ghost use Rattle.std.specs.Prelude.{◌≡◌};
-    ghost use Rattle.ua_client.specs.Ends.{ends};
-
-    /// Whether a client is failed after this: after all but a refusal to ask.
-    pub(crate) fn ends(self) -> bool
-        ensures { result ≡ ends self }
-    {
-        !matches!(
-            self,
-            ClientFault::TooLarge | ClientFault::NotWritable | ClientFault::Exhausted
-        )
-    }
 }
 
 impl From<AllocError> for ClientFault {
