@@ -2,7 +2,7 @@
 use Rattle.std.specs.Option.{unwrap_or}
 use Rattle.ua_builtin.specs.declared.status_code.StatusCode.{StatusCode}
 use Rattle.ua_texts.specs.Answers.{number_of}
-use Rattle.std.proofs.Common.{◌≡◌, ℕ, List, ◌++◌, Option, Some, None, Result, Ok, Err, OnOk, is_ok, if◌then◌else◌, Bool, true, false, ◌↔◌, refl, sym, ◌∙◌, ap, append_assoc}
+use Rattle.std.proofs.Common.{◌≡◌, ℕ, List, ◌++◌, Option, Some, None, Result, Ok, Err, OnOk, is_ok, if◌then◌else◌, refl, ◌∙◌, ap, append_assoc}
 
 pub then_one : {E : Type 0} (r : Result (Unit {0}) E) (old a b one new : List ℕ) → one ≡ old ++ a → new ≡ (if is_ok r then one ++ b else one) → OnOk r (new ≡ old ++ (a ++ b))
 then_one (Ok x) old a b one new h k = k ∙ ap (λ t. t ++ b) h ∙ append_assoc old a b
@@ -23,10 +23,6 @@ pub then_three : {E : Type 0} (r : Result (Unit {0}) E) (old a b c d one two thr
 then_three r old a b c d one two three new h k l m =
     on_ok r new (old ++ ((a ++ b) ++ (c ++ d))) (old ++ (a ++ (b ++ (c ++ d)))) (ap (λ t. old ++ t) (append_assoc a b (c ++ d)))
     (then_two r old (a ++ b) c d two three new (joined old a b one two h k) l m)
-
--- a write that is refused where nothing can be written is not refused else
-pub not_refused : {A E : Type 0} (r : Result A E) (e : E) (fits : Bool) → (r ≡ Err e) ↔ (fits ≡ false) → fits ≡ true → r ≡ Err e → ⊥
-not_refused r e fits h fit k = let never : false ≡ true = sym (h.0 k) ∙ fit in absurd cc
 
 -- the number of a status, or of Good where there is none
 pub status_number : (status : Option StatusCode) (good : StatusCode) → good.code ≡ 0 → (unwrap_or status good).code ≡ number_of status

@@ -4,5 +4,3 @@ mod Ends
 mod Rows
 mod Steps
 mod Scripts
-mod Asked
-pub mod Words

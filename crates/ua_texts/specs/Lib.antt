@@ -4,4 +4,3 @@ pub mod Answers
 pub mod Replies
 pub mod StepFault
 pub mod Script
-pub mod Requests

@@ -1,8 +1,8 @@
-//! What the program `ua` asks and prints, as texts: values and the lines of answers, the lines of
-//! scripts, and the requests that they stand for.
+//! What the program `ua` prints and what its scripts ask for, as texts: values, the lines of answers,
+//! and the lines of scripts.
 //!
-//! Its contract: each text is a function of the value, each line of a script asks for one step at
-//! most, and each request can be written.
+//! Its contract: each text is a function of the value, and each line of a script asks for one step at
+//! most.
 //!
 //! ```
 //! let steps = parse_script(alloc, "write\tns=1;s=Pump\tInt32\t6\nread\tns=1;s=Pump\n")?;
@@ -14,7 +14,6 @@
 mod answer;
 mod fault;
 mod reply;
-mod request;
 mod script;
 mod text;
 mod value;
@@ -22,10 +21,6 @@ mod value;
 pub use answer::{push_endpoint_line, push_read_line, push_write_line};
 pub use fault::{AnswerFault, ScriptFault};
 pub use reply::{push_endpoints, push_read_answers, push_write_answers};
-pub use request::{
-    activate_session_request, close_session_request, create_session_request, get_endpoints_request,
-    local_url, read_item, read_request, write_item, write_request,
-};
 pub use script::{ScriptLine, Step, parse_script};
 pub use text::{push_code, push_string};
 pub use value::{push_variant, type_name};

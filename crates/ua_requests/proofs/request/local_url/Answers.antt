@@ -1,8 +1,8 @@
 use Rattle.std.proofs.Common.{◌≡◌, ◌∙◌, ◌<◌, ◌^◌, Some, ap, arith}
 use Rattle.ua_builtin.specs.Counted.{text}
-use Rattle.ua_texts.specs.Requests.{local_url}
-use Rattle.ua_texts.proofs.Words.{local_url_fits}
-use Rattle.ua_texts.proofs.request.local_url.Goals as goal
+use Rattle.ua_requests.specs.Requests.{local_url}
+use Rattle.ua_requests.proofs.Words.{local_url_fits}
+use Rattle.ua_requests.proofs.request.local_url.Goals as goal
 
 pub returns-clause-encodable : goal.returns-clause-encodable
 unfolding local_url

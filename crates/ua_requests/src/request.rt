@@ -10,7 +10,7 @@ ghost use Rattle.ua_structures.specs.Field.{string};
 ghost use Rattle.ua_structures.specs.Plain.{request_header_of, value_for_node};
 ghost use Rattle.ua_variant.specs.Formats.{data_value_format};
 ghost use Rattle.ua_variant.specs.View.{variant_of};
-ghost use Rattle.ua_texts.specs.Requests.{activate_session, close_session, create_session, get_endpoints, local_url as url_of, part_of_node, read, value_alone, write};
+ghost use Rattle.ua_requests.specs.Requests.{activate_session, close_session, create_session, get_endpoints, local_url as url_of, part_of_node, read, value_alone, write};
 
 use std::alloc::{AllocError, Global};
 use ua_builtin::{DateTime, DoubleBits, NodeId, UaString, WriteFault};

@@ -2,9 +2,9 @@ use Rattle.std.proofs.Common.{rules}
 use Rattle.std.specs.Prelude.{IsTrue}
 use Rattle.ua_structures.specs.Field.{string}
 use Rattle.ua_structures.specs.Header.{request_header}
-use Rattle.ua_texts.proofs.Asked.{create_session_fits}
-use Rattle.ua_texts.proofs.Words.{client_uri_fits, name_fits, null_id_fits}
-use Rattle.ua_texts.proofs.request.create_session_request.Goals as goal
+use Rattle.ua_requests.proofs.Asked.{create_session_fits}
+use Rattle.ua_requests.proofs.Words.{client_uri_fits, name_fits, null_id_fits}
+use Rattle.ua_requests.proofs.request.create_session_request.Goals as goal
 
 pub returns-clause-encodable : goal.returns-clause-encodable
 returns-clause-encodable c = λ u.

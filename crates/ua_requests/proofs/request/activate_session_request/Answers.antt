@@ -2,10 +2,9 @@ use Rattle.std.proofs.Common.{◌∙◌, ap, Err}
 use Rattle.ua_builtin.specs.ExtensionObject.{extension_object}
 use Rattle.ua_services.specs.declared.request.Request.TheVariants.{ActivateSession}
 use Rattle.ua_structures.specs.Plain.{activate_session_of, request_header_of}
-use Rattle.ua_texts.proofs.Asked.{activate_session_fits}
-use Rattle.ua_texts.proofs.Ends.{not_refused}
-use Rattle.ua_texts.proofs.Words.{identity_fits, identity_named, named_fits}
-use Rattle.ua_texts.proofs.request.activate_session_request.Goals as goal
+use Rattle.ua_requests.proofs.Asked.{activate_session_fits, not_refused}
+use Rattle.ua_requests.proofs.Words.{identity_fits, identity_named, named_fits}
+use Rattle.ua_requests.proofs.request.activate_session_request.Goals as goal
 
 pub unreachable-requires : goal.unreachable-requires
 unreachable-requires c =

@@ -1,22 +1,28 @@
 -- Words that the program sends can be written.
-use Rattle.std.specs.Prelude.{◌≡◌, ◌<◌, ◌^◌, ◌++◌, ℕ, zero, suc, nat_lt, length, List, [], ◌∷◌, Bool, true, IsTrue, Option, Some, codes}
+use Rattle.std.specs.Prelude.{◌≡◌, ◌<◌, ◌^◌, ◌++◌, ℕ, zero, suc, nat_lt, length, List, [], ◌∷◌, Bool, true, ◌&&◌, IsTrue, Option, Some, codes}
 use Rattle.std.specs.Fmt.{decimal}
 use Rattle.std.specs.List.{list_all}
-use Rattle.std.specs.Str.{is_utf8, IsAscii}
+use Rattle.std.specs.Str.{is_utf8, IsAscii, IsUtf8}
 use Rattle.std.proofs.Common.{refl, ap, ◌∙◌, lit<, arith, length-append}
-use Rattle.std.proofs.lemmas.Bool.{ltb-true}
+use Rattle.std.proofs.lemmas.Bool.{ltb-true, lt-ltb}
 use Rattle.std.proofs.lemmas.Fmt.{IsAscii-decimal, length-decimal-le}
 use Rattle.std.proofs.lemmas.Str.{is_utf8-from_IsUtf8, IsUtf8-from_ascii, IsUtf8-append}
 use Rattle.ua_builtin.specs.Counted.{text, counted, first_negative}
 use Rattle.ua_builtin.specs.ExtensionObject.{extension_object}
 use Rattle.ua_builtin.specs.NodeId.{node_id, null_id}
-use Rattle.ua_nodes.proofs.Fits.{both_are, text_fits}
 use Rattle.ua_octets.specs.Number.{number_octets}
 use Rattle.ua_octets.proofs.Readers.{both_true}
 use Rattle.ua_services.specs.Identity.{identity_object}
 use Rattle.ua_structures.specs.Field.{string}
 use Rattle.ua_structures.specs.Session.{anonymous_identity_token}
-use Rattle.ua_texts.specs.Requests.{local_url}
+use Rattle.ua_requests.specs.Requests.{local_url}
+
+pub both_are : (a b : Bool) → a ≡ true → b ≡ true → a && b ≡ true
+both_are a b p q = ap (λ (t : Bool). t && b) p ∙ q
+
+text_fits : (v : List ℕ) → IsUtf8 v → length v < 2 ^ 31 → text.encodable (Some v) ≡ true
+unfolding text counted
+text_fits v u few = both_are (is_utf8 v) (nat_lt (length v) first_negative) (is_utf8-from_IsUtf8 v u) (lt-ltb (length v) first_negative (omega arith))
 
 -- each octet is ASCII
 abbrev are_ascii : List ℕ → Bool

@@ -1,11 +1,11 @@
 -- The requests of the program can be written.
-use Rattle.std.specs.Prelude.{ℕ, IsTrue, false, List, Option, None}
-use Rattle.std.proofs.Common.{refl, ◌∙◌}
+use Rattle.std.specs.Prelude.{◌≡◌, ◌↔◌, ℕ, Bool, IsTrue, true, false, List, Option, None, Result, Err}
+use Rattle.std.proofs.Common.{refl, sym, ◌∙◌}
 use Rattle.ua_builtin.specs.Counted.{text, counted}
 use Rattle.ua_builtin.specs.NodeId.{node_id}
 use Rattle.ua_builtin.specs.QualifiedName.{qualified_name}
 use Rattle.ua_builtin.specs.declared.node_id.NodeId.{NodeId}
-use Rattle.ua_nodes.proofs.Fits.{both_are}
+use Rattle.ua_requests.proofs.Words.{both_are}
 use Rattle.ua_octets.specs.Boolean.{boolean}
 use Rattle.ua_services.proofs.ByKind.{request-encodable}
 use Rattle.ua_services.specs.Request.{request}
@@ -23,7 +23,7 @@ use Rattle.ua_structures.specs.declared.discovery.GetEndpointsRequest.{GetEndpoi
 use Rattle.ua_structures.specs.declared.session.ActivateSessionRequest.{ActivateSessionRequest}
 use Rattle.ua_structures.specs.declared.session.CloseSessionRequest.{CloseSessionRequest}
 use Rattle.ua_structures.specs.declared.session.CreateSessionRequest.{CreateSessionRequest}
-use Rattle.ua_texts.specs.Requests.{part_of_node}
+use Rattle.ua_requests.specs.Requests.{part_of_node}
 
 pub get_endpoints_fits : (m : GetEndpointsRequest) → IsTrue (get_endpoints_request.encodable m) → IsTrue (request.encodable (GetEndpointsMessage m))
 get_endpoints_fits m h = request-encodable GetEndpoints m ∙ h
@@ -56,3 +56,9 @@ no_name_fits = refl
 pub part_fits : (node : NodeId) (range : Option (List ℕ)) → IsTrue (node_id.encodable node) → IsTrue (string.encodable range) → IsTrue (read_value_id.encodable (part_of_node node range))
 unfolding read_value_id
 part_fits node range h r = both_are (node_id.encodable node) _ h (both_are (string.encodable range) _ r no_name_fits)
+
+-- ---- writers
+
+-- a write that is refused where nothing can be written is not refused else
+pub not_refused : {A E : Type 0} (r : Result A E) (e : E) (fits : Bool) → (r ≡ Err e) ↔ (fits ≡ false) → fits ≡ true → r ≡ Err e → ⊥
+not_refused r e fits h fit k = let never : false ≡ true = sym (h.0 k) ∙ fit in absurd cc
