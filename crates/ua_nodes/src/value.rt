@@ -12,8 +12,9 @@ use crate::number::WholeNumber;
 use base64::DecodeAllocError;
 use base64::engine::general_purpose::STANDARD;
 use std::alloc::Global;
+use std::str::FromStr;
 use ua_builtin::{DateTime, DoubleBits, FloatBits, Guid, StatusCode, UaBytes, UaString};
-use ua_variant::{Dimensions, Scalar, Scalars, Variant};
+use ua_variant::{Dimensions, Pack, Scalar, Scalars, Variant};
 use uuid::Uuid;
 
 /// The longest text of a field, in octets.
@@ -86,14 +87,14 @@ fn parse_scalar(alloc: Global, kind: u8, text: &str) -> Result<Scalar, ValueFaul
 {
     match kind {
         1 => Ok(Scalar::Boolean(boolean(text)?)),
-        2 => Ok(Scalar::SByte(number(text)?)),
-        3 => Ok(Scalar::Byte(number(text)?)),
-        4 => Ok(Scalar::Int16(number(text)?)),
-        5 => Ok(Scalar::UInt16(number(text)?)),
-        6 => Ok(Scalar::Int32(number(text)?)),
-        7 => Ok(Scalar::UInt32(number(text)?)),
-        8 => Ok(Scalar::Int64(number(text)?)),
-        9 => Ok(Scalar::UInt64(number(text)?)),
+        2 => whole::<i8>(text),
+        3 => whole::<u8>(text),
+        4 => whole::<i16>(text),
+        5 => whole::<u16>(text),
+        6 => whole::<i32>(text),
+        7 => whole::<u32>(text),
+        8 => whole::<i64>(text),
+        9 => whole::<u64>(text),
         10 => Ok(Scalar::Float(FloatBits {
             bits: pattern(text, 8).ok_or(ValueFault::NotValue)? as u32,
         })),
@@ -115,14 +116,19 @@ fn parse_scalar(alloc: Global, kind: u8, text: &str) -> Result<Scalar, ValueFaul
     }
 }
 
+/// The whole number that a text denotes, as a scalar of its type.
+fn whole<T: WholeNumber + Pack>(text: &str) -> Result<Scalar, ValueFault>
+where
+    T::Err: Drop,
+    ensures { Denotes scalar_of (option_map leaf (option_map T.as_leaf (T.denoted text.now))) result }
+{
+    Ok(number::<T>(text)?.into_scalar())
+}
+
 fn boolean(text: &str) -> Result<bool, ValueFault>
     ensures { Denotes (λ b. b) (boolean_denoted text.now) result }
 {
-    match text {
-        "true" => Ok(true),
-        "false" => Ok(false),
-        _ => Err(ValueFault::NotValue),
-    }
+    bool::from_str(text).ok().ok_or(ValueFault::NotValue)
 }
 
 fn number<T: WholeNumber>(text: &str) -> Result<T, ValueFault>
