@@ -1,5 +1,6 @@
 -- A body, against the reader on lists.
-use Rattle.std.specs.Prelude.{◌≡◌, ℕ, ◌<◌, ◌≤◌, List, [], ◌∷◌, ◌++◌, length, Option, Some, None, Result, Ok, Err, IfOk, IsErrOf, ◌⊎◌}
+use Rattle.std.specs.Prelude.{◌≡◌, ℕ, ◌<◌, ◌≤◌, List, [], ◌∷◌, ◌++◌, length, Option, Some, None, Result, Ok, Err, IfOk, IsErrOf, IsErrAnd, ◌⊎◌}
+use Rattle.std.proofs.lemmas.Result.{err_from_is_err_and}
 use Rattle.std.proofs.Common.{refl, sym, ◌∙◌, ap, subst, arith, inl, inr}
 use Rattle.std.proofs.lemmas.List.{append-nil}
 use Rattle.ua_builtin.specs.Exact.{◌>>=◌, image_read}
@@ -103,3 +104,15 @@ image_found make read old new v h = ap (λ o. o >>= λ x. Some (make x.0, x.1)) 
 pub image_fails : {A B : Type 0} (make : A → B) (read : List ℕ → Option (A × List ℕ)) (old new : List ℕ) (e : ReadFault) → Gives read old new (Err e) → Gives (image_read make read) old new (Err e)
 image_fails make read old new NoValue h = ap (λ o. o >>= λ x. Some (make x.0, x.1)) h
 image_fails make read old new OutOfMemory h = tt
+
+-- ---- readers by case
+
+-- a fault that `?` hands on, where the case is known
+pub handed_on : {K B : Type 0} (reads : K → List ℕ → Option (B × List ℕ)) (kind k : K) (old new : List ℕ) (e : ReadFault) (r : Result B ReadFault) → kind ≡ k → IsErrAnd r (λ y. y ≡ e) → Gives (reads k) old new (Err e) → Gives (reads kind) old new r
+handed_on reads kind k old new e r is err h =
+    let p = err_from_is_err_and r err in
+    rw (is, p.1, p.2) h
+
+-- what is found, where the case is known
+pub found_in : {K B : Type 0} (reads : K → List ℕ → Option (B × List ℕ)) (kind k : K) (old : List ℕ) (found : B × List ℕ) → kind ≡ k → reads k old ≡ Some found → reads kind old ≡ Some found
+found_in reads kind k old found is h = ap (λ (t : _). reads t old) is ∙ h
