@@ -47,6 +47,12 @@ NoAnswers answers asked response (Service code) = fault_in response ≡ Some cod
 NoAnswers {A = A} answers asked response Unknown = (fault_in response ≡ None) × ((each : List A) → answers ≡ Some each → length each ≢ asked)
 NoAnswers answers asked response OutOfMemory = Unit {0}
 
+-- what a fault leaves of the text: all of it and no more, unless memory ran out
+abbrev pub Leaves : List ℕ → List ℕ → AnswerFault → Type 0
+Leaves old new (Service code) = new ≡ old
+Leaves old new Unknown = new ≡ old
+Leaves old new OutOfMemory = Unit {0}
+
 -- the lines of the list, none where it is null
 abbrev pub endpoint_lines : Option (List EndpointDescription) → List ℕ
 endpoint_lines None = []

@@ -3,7 +3,7 @@
 ghost use Rattle.std.specs.Prelude.{◌≡◌, ◌++◌, length, string_bytes, IfErr, OnOk};
 ghost use Rattle.std.specs.List.{flat_map};
 ghost use Rattle.ua_texts.specs.Answers.{endpoint_line, read_lines, write_lines};
-ghost use Rattle.ua_texts.specs.Replies.{AreAnswers, AreEndpoints, NoAnswers, NoEndpoints, endpoints_in, statuses_in, values_in};
+ghost use Rattle.ua_texts.specs.Replies.{AreAnswers, AreEndpoints, Leaves, NoAnswers, NoEndpoints, endpoints_in, statuses_in, values_in};
 
 use crate::answer::{push_endpoint_line, push_read_line, push_write_line};
 use crate::fault::AnswerFault;
@@ -22,6 +22,7 @@ pub fn push_read_answers(
 ) -> Result<(), AnswerFault>
     ensures lines { OnOk result (AreAnswers (values_in response.now) (length nodes.now) (read_lines nodes.now) (string_bytes out.old) (string_bytes out.new)) }
     ensures faults { IfErr result (NoAnswers (values_in response.now) (length nodes.now) response.now) }
+    ensures kept { IfErr result (Leaves (string_bytes out.old) (string_bytes out.new)) }
 {
     let answers = match response {
         Response::Read(message) => message.results.as_items(),
@@ -62,6 +63,7 @@ pub fn push_write_answers(
 ) -> Result<(), AnswerFault>
     ensures lines { OnOk result (AreAnswers (statuses_in response.now) (length nodes.now) (write_lines nodes.now) (string_bytes out.old) (string_bytes out.new)) }
     ensures faults { IfErr result (NoAnswers (statuses_in response.now) (length nodes.now) response.now) }
+    ensures kept { IfErr result (Leaves (string_bytes out.old) (string_bytes out.new)) }
 {
     let answers = match response {
         Response::Write(message) => message.results.as_items(),
@@ -97,6 +99,7 @@ fn push_write_lines(
 pub fn push_endpoints(out: &mut String, response: &Response) -> Result<(), AnswerFault>
     ensures lines { OnOk result (AreEndpoints (endpoints_in response.now) (string_bytes out.old) (string_bytes out.new)) }
     ensures faults { IfErr result (NoEndpoints response.now) }
+    ensures kept { IfErr result (Leaves (string_bytes out.old) (string_bytes out.new)) }
 {
     match response {
         Response::GetEndpoints(message) => {
