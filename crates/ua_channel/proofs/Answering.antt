@@ -95,3 +95,14 @@ taken_fault channel number moment piece n (fault.Refused code err) new octets be
     (subst (λ (z : List ℕ). Ended new z before (Stopped code.code)) (append_assoc octets (take n piece) (drop n piece) ∙ ap (λ (z : List ℕ). octets ++ z) (take-append-drop n piece)) (ended_behind new (octets ++ take n piece) (drop n piece) before code.code h.1), h.2)
 taken_fault channel number moment piece n fault.OutOfMemory new octets before h = h.1
 taken_fault channel number moment piece n fault.Closed new octets before h = h
+
+-- ---- after want of memory
+
+-- a channel that ended for want of memory is as it was but for its bound
+pub starved_with : (channel number : ℕ) (moment : DateTime) (piece : List ℕ) (n bound : ℕ) (f : ChannelFault) (x new : ServerChannel) (octets : List ℕ) (before : List Told) → f ≡ fault.OutOfMemory → new ≡ record x { bound = bound } → AnswersAt channel number moment piece n (Err f) x octets before
+    → AnswersAt channel number moment piece n (Err f) new octets before
+starved_with channel number moment piece n bound f x new octets before is new_is h =
+    let starved : AnswersAt channel number moment piece n (Err fault.OutOfMemory) x octets before = subst (λ (g : ChannelFault). AnswersAt channel number moment piece n (Err g) x octets before) is h in
+    let done : AnswersAt channel number moment piece n (Err fault.OutOfMemory) (record x { bound = bound }) octets before = (starved.0, record { phase = starved.1.phase; empty = starved.1.empty }) in
+    subst (λ (y : ServerChannel). AnswersAt channel number moment piece n (Err f) y octets before) (sym new_is)
+    (subst (λ (g : ChannelFault). AnswersAt channel number moment piece n (Err g) (record x { bound = bound }) octets before) (sym is) done)

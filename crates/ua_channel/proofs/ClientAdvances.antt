@@ -3,9 +3,9 @@ use Rattle.std.proofs.Common.{◌≡◌, ℕ, zero, suc, ◌∷◌, ◌<◌, ◌
 use Rattle.std.proofs.lemmas.List.{take_all}
 use Rattle.ua_channel.specs.Asks.{Placed}
 use Rattle.ua_channel.specs.Client.{SameClient, Goes, next_of}
-use Rattle.ua_channel.specs.ClientParts.{Steps, Advances, TellsEvent}
+use Rattle.ua_channel.specs.ClientParts.{Steps, Advances, TellsEvent, parts_of}
 use Rattle.ua_builtin.specs.declared.date_time.DateTime.{DateTime}
-use Rattle.ua_channel.specs.ClientAnswers.{ClientAnswers, AnswersEvent}
+use Rattle.ua_channel.specs.ClientAnswers.{ClientAnswers, AnswersEvent, ComesInParts}
 use Rattle.ua_channel.specs.declared.client.event.ClientEvent.{ClientEvent}
 use Rattle.ua_channel.specs.declared.client.event.ClientEvent.TheVariants as events
 use Rattle.ua_channel.specs.ClientTold.{Told}
@@ -83,6 +83,14 @@ pub far_some : (old mid new : ClientChannel) (piece behind : List ℕ) (at n : �
 far_some old mid new piece behind at n o e end is h steps =
     far_tells old mid new piece at n e h
     (λ asks octets told g. subst (λ (b : List ℕ). TellsEvent e new asks (octets ++ take n b) told) end (subst (λ (p : Option Event). Steps behind (Ok (n, p)) new asks octets told) is (steps asks octets told g)))
+
+pub far_parts : (old mid new : ClientChannel) (piece behind : List ℕ) (at n : ℕ) (o : Option Event) (e : Event) → behind ≡ drop at piece → o ≡ Some e → SoFar old piece at mid
+    → ((asks : List Placed) (octets : List ℕ) (told : List Told) → Goes mid asks octets told → ComesInParts (parts_of o) new asks (octets ++ take n behind))
+    → (asks : List Placed) (octets : List ℕ) (told : List Told) → Goes old asks octets told → ComesInParts (parts_of (Some e)) new asks (octets ++ take (at + n) piece)
+far_parts old mid new piece behind at n o e end is h parts = λ asks octets told g.
+    subst (λ (z : List ℕ). ComesInParts (parts_of (Some e)) new asks z) (append_assoc octets (take at piece) (take n (drop at piece)) ∙ ap (λ (z : List ℕ). octets ++ z) (take_more at n piece))
+    (subst (λ (b : List ℕ). ComesInParts (parts_of (Some e)) new asks ((octets ++ take at piece) ++ take n b)) end
+    (subst (λ (p : Option Event). ComesInParts (parts_of p) new asks ((octets ++ take at piece) ++ take n behind)) is (parts asks (octets ++ take at piece) told (h.goes asks octets told g))))
 
 pub far_err : (old mid new : ClientChannel) (piece behind : List ℕ) (at : ℕ) (fault : ClientTakeFault) → SoFar old piece at mid
     → ((asks : List Placed) (octets : List ℕ) (told : List Told) → Goes mid asks octets told → Steps behind (Err fault) new asks octets told)

@@ -10,7 +10,8 @@ use Rattle.ua_chunk.specs.declared.chunk.Chunk.{Chunk}
 use Rattle.ua_chunk.specs.declared.delivered.Delivered.{Delivered}
 use Rattle.ua_chunk.specs.declared.fault.AssembleFault.{AssembleFault}
 use Rattle.ua_chunk.specs.declared.fault.AssembleFault.TheVariants.{Sequence, Unreadable, TooManyOpen, MessageTooLarge, TooManyChunks, OutOfMemory, Closed}
-use Rattle.ua_channel.specs.ClientParts.{IsStopFor, Judged, why_of, of_chunk_fault, refused_reasons, unasked_reasons, known_reasons, IsAccepted, IsDeliveredWith, IsTakenWith, left_behind}
+use Rattle.ua_channel.proofs.MessageParts.{ends_in}
+use Rattle.ua_channel.specs.ClientParts.{parts_of, IsStopFor, Judged, why_of, of_chunk_fault, refused_reasons, unasked_reasons, known_reasons, IsAccepted, IsDeliveredWith, IsTakenWith, left_behind}
 use Rattle.ua_channel.specs.ClientTokens.{from_last}
 use Rattle.ua_channel.specs.ClientTold.{Why, told_item}
 use Rattle.ua_channel.specs.declared.client.event.Event.{Event}
@@ -64,6 +65,7 @@ module _ (old mid new : Talking) (cs : List Chunk) (c : Chunk) (d : Option Deliv
       limits = subst (λ (a : Assembler). SameLimits old.assembler a) (sym same_assembler) acc.limits;
       tells = ap (map told_item) acc.items_are ∙ h.event_is.tells;
       good = h.event_is.good;
+      parts = ends_in cs c d (parts_of e) h.event_is.parts acc.parts_are;
     }
 
   pub known_judged : (r : Result (Option Event) Stop) → first_reason (refused_reasons old cs c) ≡ None → Judged (unasked_reasons mid c.request) (IsDeliveredWith mid c.request c.token (ends c) d new) r

@@ -34,6 +34,7 @@ greeting_takes limits c g new is phase bound =
     subst (λ (d : Content). Takes limits nothing_received [] d new (Some (event.Agreed g.ack))) (sym is) (record {
       tells = refl;
       good = tt;
+      parts = tt;
       phase_is = subst (λ (p : Phase). InPhase limits p (after nothing_received (Acks (Some g.ack))) []) (sym phase) (refl, refl);
       bound_is = bound;
     })
@@ -44,6 +45,7 @@ pub opening_takes : (limits : Limits) (g : Agreed) (c : Content) (t : Talking) (
 opening_takes limits g c t new h phase = record {
   tells = h.tells;
   good = tt;
+  parts = tt;
   phase_is = subst (λ (p : Phase). InPhase limits p (after (greeted g) c) []) (sym phase) h.talks;
   ack_is = h.ack_is;
 }
@@ -54,6 +56,7 @@ pub reply_stays : (limits : Limits) (before : Received) (asked : List Asking) (c
 reply_stays limits before asked c t new e h phase = record {
   tells = h.tells;
   good = h.good;
+  parts = h.parts;
   phase_is = subst (λ (p : Phase). InPhase limits p (after before c) asked) (sym phase) h.talks;
   ack_is = h.ack_is;
 }
@@ -90,7 +93,7 @@ module _ (limits : Limits) (p : Phase) (before : Received) (asked : List Asking)
       subst (λ (k : List Asking). Judged (client_reasons limits before k (content f)) (Takes limits before k (content f) new) r) (sym here.1)
       (subst (λ (b : Received). Judged (client_reasons limits b [] (content f)) (Takes limits b [] (content f) new) r) (sym here.0)
       (judged_same (client_reasons limits (greeted g) [] (content f)) (client_reasons limits (greeted g) [] (content f)) (OpensChannel limits g (content f) new) (Takes limits (greeted g) [] (content f) new) r refl
-      (λ e none w. record { tells = w.tells; good = w.good; phase_is = w.phase_is; bound_is = size ∙ sym (ap (bound_behind limits) w.ack_is) }) (h (let_in_phase limits (AgreedTo g) before asked f here let_in))))
+      (λ e none w. record { tells = w.tells; good = w.good; parts = w.parts; phase_is = w.phase_is; bound_is = size ∙ sym (ap (bound_behind limits) w.ack_is) }) (h (let_in_phase limits (AgreedTo g) before asked f here let_in))))
 
   pub open_judged : (t : Talking) → p ≡ Open t → new.bound ≡ bound_behind limits before.ack
       → (Talks limits t before asked → LetsIn (reply_gate t.agreed.ack.send_buffer_size) f → Judged (client_reasons limits before asked (content f)) (StaysOpen limits before asked (content f) new) r)
@@ -98,7 +101,7 @@ module _ (limits : Limits) (p : Phase) (before : Received) (asked : List Asking)
   open_judged t is bound h =
       let here : InPhase limits (Open t) before asked = subst (λ (q : Phase). InPhase limits q before asked) is in_phase in
       judged_same (client_reasons limits before asked (content f)) (client_reasons limits before asked (content f)) (StaysOpen limits before asked (content f) new) (Takes limits before asked (content f) new) r refl
-      (λ e none w. record { tells = w.tells; good = w.good; phase_is = w.phase_is; bound_is = bound ∙ sym (ap (bound_behind limits) w.ack_is) }) (h here (let_in_phase limits (Open t) before asked f here let_in))
+      (λ e none w. record { tells = w.tells; good = w.good; parts = w.parts; phase_is = w.phase_is; bound_is = bound ∙ sym (ap (bound_behind limits) w.ack_is) }) (h here (let_in_phase limits (Open t) before asked f here let_in))
 
 -- ---- a whole frame
 
@@ -120,6 +123,7 @@ module _ (limits : Limits) (before : Received) (asked : List Asking) (c : Conten
         takes = record {
           tells = h.1.tells;
           good = h.1.good;
+          parts = h.1.parts;
           phase_is = subst (λ (p : Phase). InPhase limits p (after before c) asked) (sym phase) h.1.phase_is;
           bound_is = bound ∙ h.1.bound_is;
         };

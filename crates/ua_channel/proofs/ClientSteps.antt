@@ -1,6 +1,7 @@
 -- What one step of a client's channel comes to.
 use Rattle.std.proofs.Common.{◌≡◌, ℕ, ◌<◌, ◌≤◌, inl, inr, Bool, List, [], ◌∷◌, ◌++◌, Option, Some, None, Result, Ok, Err, length, take, refl, sym, ◌∙◌, ap, subst, arith, append-nil, append_assoc, length-append}
 use Rattle.std.specs.List.{AllByRecursion, concat}
+use Rattle.std.specs.Prelude.{IfOk}
 use Rattle.std.proofs.lemmas.Bool.{cases_lt}
 use Rattle.std.proofs.lemmas.List.{take-take, length-take-le}
 use Rattle.ua_builtin.specs.Reasons.{first_reason}
@@ -17,7 +18,9 @@ use Rattle.ua_frame.proofs.Streams.{frames_octets-push, run_part, run_frame, eve
 use Rattle.ua_channel.specs.Asks.{Asking, Placed, asked_before, asked_in, end_of}
 use Rattle.ua_channel.specs.Stops.{StopsAt}
 use Rattle.ua_channel.specs.Client.{SameClient, Stands, Goes, GoesTelling, Ended, IsDone, InPhase, rules_of, limits_of, phase_of, bound_of, bound_behind}
-use Rattle.ua_channel.specs.ClientParts.{JudgesWhole, GoesOn, Stopped as StoppedBy, FailsBy, IsFront, Steps, told_list}
+use Rattle.ua_channel.specs.ClientParts.{JudgesWhole, GoesOn, Stopped as StoppedBy, FailsBy, IsFront, Steps, told_list, parts_of}
+use Rattle.ua_channel.specs.ClientAnswers.{ComesInParts}
+use Rattle.ua_channel.specs.MessageParts.{MayEndIn}
 use Rattle.ua_channel.specs.ClientTable.{client_gate, client_rules, client_reasons}
 use Rattle.ua_channel.specs.ClientTold.{Told, Told as told, Why, ours}
 use Rattle.ua_channel.specs.Content.{content}
@@ -115,6 +118,13 @@ module _ (x : ClientChannel) (asks : List Placed) (octets : List ℕ) (told_befo
       pub telling_goes : (t : Told) → told_list e ≡ t ∷ [] → GoesTelling y asks (octets ++ p) told_before t
       telling_goes t one = record { frames = frames; frame = f; stands = stands_more; told_is = was; tells = g.takes.tells ∙ one }
 
+      ends_so : (parts : Option (List (List ℕ))) → MayEndIn (received frames).messages (content f) parts → ComesInParts parts y asks (octets ++ p)
+      ends_so None ends = tt
+      ends_so (Some parts) ends = record { frames = frames; frame = f; stands = stands_more; ends = ends }
+
+      pub telling_parts : ComesInParts (parts_of e) y asks (octets ++ p)
+      telling_parts = ends_so (parts_of e) g.takes.parts
+
     wrong_frame : (why : Why) → first_reason (client_reasons (limits_of x) (received frames) (asked_in asks) (content f)) ≡ Some why → WrongFrame (rules_of x asks) frames (rest ++ p) why
     wrong_frame why refused = record { frame = f; more = []; parts = whole ∙ sym (append-nil (frame_octets f)); sized = sized; let_in = let_in; refused = judged_so ∙ refused }
 
@@ -148,6 +158,16 @@ module _ (x : ClientChannel) (asks : List Placed) (octets : List ℕ) (told_befo
         subst (λ (t : List ℕ). Ended y asks (octets ++ t) told_before (record { code = code.code; peer = peer })) (sym is) (stopped_at (record { code = code.code; peer = peer }) j)
     frame_steps piece n (Err OutOfMemory) is j = j
     frame_steps piece n (Err Closed) is j = j
+
+    pub frame_parts : (piece : List ℕ) (n : ℕ) (r : Result (Option Event) ClientTakeFault) → take n piece ≡ p → JudgesWhole (limits_of x) (received frames) (asked_in asks) (content f) y r → IfOk r (λ e. ComesInParts (parts_of e) y asks (octets ++ take n piece))
+    frame_parts piece n (Ok None) is j = tt
+    frame_parts piece n (Ok (Some (event.Agreed ack))) is j = tt
+    frame_parts piece n (Ok (Some (event.Opened channel token))) is j = tt
+    frame_parts piece n (Ok (Some (event.Answered id message))) is j = subst (λ (t : List ℕ). ComesInParts (Some message) y asks (octets ++ t)) (sym is) (telling_parts (Some (event.Answered id message)) j)
+    frame_parts piece n (Ok (Some (event.Aborted id code))) is j = tt
+    frame_parts piece n (Ok (Some (event.Renewed token))) is j = tt
+    frame_parts piece n (Ok (Some (event.Failed code peer))) is j = tt
+    frame_parts piece n (Err fault) is j = tt
 
   -- ---- a header that is refused
 
@@ -196,7 +216,8 @@ goes_part x y piece front n f t is = λ asks octets told_before g.
 pub goes_frame : (x mid y : ClientChannel) (piece front : List ℕ) (n : ℕ) (f w : Frame) (r : Result (Option Event) ClientTakeFault) → IsFront x.reader.held piece front → TakesFrame x.reader front n f mid.reader → mid ≡ record x { reader = mid.reader } → f ≡ w
     → ((before : Received) (asked : List Asking) → InPhase (limits_of mid) (phase_of mid) before asked → bound_of mid ≡ bound_behind (limits_of mid) before.ack → mid.reader ≡ open_reader (client_gate before) [] → LetsIn (client_gate before) w
     → JudgesWhole (limits_of mid) before asked (content w) y r)
-    → SameClient mid y → (asks : List Placed) (octets : List ℕ) (told_before : List Told) → Goes x asks octets told_before → StepsWith piece n r y asks octets told_before
+    → SameClient mid y → (asks : List Placed) (octets : List ℕ) (told_before : List Told) → Goes x asks octets told_before
+    → StepsWith piece n r y asks octets told_before × IfOk r (λ e. ComesInParts (parts_of e) y asks (octets ++ take n piece))
 goes_frame x mid y piece front n f w r fr t is frame_is judges same = λ asks octets told_before g.
     let h = g.stands in
     let limits_same : limits_of mid ≡ limits_of x = ap limits_of is in
@@ -210,8 +231,21 @@ goes_frame x mid y piece front n f w r fr t is frame_is judges same = λ asks oc
     subst (λ (l : Limits). InPhase l (phase_of mid) (received g.frames) (asked_in asks)) (sym limits_same) (subst (λ (p : Phase). InPhase (limits_of x) p (received g.frames) (asked_in asks)) (sym (ap phase_of is)) h.phase_is) in
     let bound : bound_of mid ≡ bound_behind (limits_of mid) (received g.frames).ack = ap bound_of is ∙ (h.bound_is ∙ ap (λ (l : Limits). bound_behind l (received g.frames).ack) (sym limits_same)) in
     let reader : mid.reader ≡ open_reader (client_gate (received g.frames)) [] = t.new_is ∙ ap (λ (k : Gate). open_reader k []) gate in
-    frame_steps x asks octets told_before g.frames g.rest h g.told_is y f (take n piece) (sym same.limits ∙ limits_same) some whole t.sized let_in piece n r refl
-    (subst (λ (l : Limits). JudgesWhole l (received g.frames) (asked_in asks) (content f) y r) limits_same (subst (λ (k : Frame). JudgesWhole (limits_of mid) (received g.frames) (asked_in asks) (content k) y r) (sym frame_is) (judges (received g.frames) (asked_in asks) phase bound reader (subst (λ (k : Frame). LetsIn (client_gate (received g.frames)) k) frame_is let_in))))
+    let judged : JudgesWhole (limits_of x) (received g.frames) (asked_in asks) (content f) y r =
+    subst (λ (l : Limits). JudgesWhole l (received g.frames) (asked_in asks) (content f) y r) limits_same (subst (λ (k : Frame). JudgesWhole (limits_of mid) (received g.frames) (asked_in asks) (content k) y r) (sym frame_is) (judges (received g.frames) (asked_in asks) phase bound reader (subst (λ (k : Frame). LetsIn (client_gate (received g.frames)) k) frame_is let_in))) in (
+      frame_steps x asks octets told_before g.frames g.rest h g.told_is y f (take n piece) (sym same.limits ∙ limits_same) some whole t.sized let_in piece n r refl judged,
+      frame_parts x asks octets told_before g.frames g.rest h g.told_is y f (take n piece) (sym same.limits ∙ limits_same) some whole t.sized let_in piece n r refl judged,
+    )
+
+-- a fault of the reader hands no message out
+pub fault_parts : (y : ClientChannel) (asks : List Placed) (octets : List ℕ) (fault : FrameFault) (e : Option Event) → FailsBy fault (Ok e) → ComesInParts (parts_of e) y asks octets
+fault_parts y asks octets fault None fails = tt
+fault_parts y asks octets fault (Some (event.Agreed ack)) fails = tt
+fault_parts y asks octets fault (Some (event.Opened channel token)) fails = tt
+fault_parts y asks octets fault (Some (event.Answered id message)) fails = absurd fails
+fault_parts y asks octets fault (Some (event.Aborted id code)) fails = tt
+fault_parts y asks octets fault (Some (event.Renewed token)) fails = tt
+fault_parts y asks octets fault (Some (event.Failed code peer)) fails = tt
 
 refused_at : (x : ClientChannel) (z : Reader) (front : List ℕ) (fault : FrameFault) (code : ℕ) → ReaderTakes x.reader front (Err fault) z → header_code fault ≡ Some code → Refuses x.reader front fault z
 refused_at x z front frame_fault.UnknownType code t e = t

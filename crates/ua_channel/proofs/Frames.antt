@@ -136,7 +136,7 @@ module _ (old new : ServerChannel) (before : Received) (f : Frame) (limits : lim
   pub clo_taken : (chunk : Chunk) → f.kind ≡ Clo → chunk_in f ≡ Some chunk → new.phase ≡ Done → JudgesClose (limits_of old) (channel_of old) before (Closes chunk) (Ok tt) → JudgesFrame old before (content f) (Ok (Some event.Closed)) new
   clo_taken chunk is found phase j =
       subst (λ (c : Content). JudgesFrame old before c (Ok (Some event.Closed)) new) (sym (content_clo f chunk is found))
-      (record { accepted = j; tells = refl }, (phase, bound ∙ ap (λ (l : Limits). bound_after l before) (sym limits)))
+      (record { accepted = j; tells = refl; parts = tt }, (phase, bound ∙ ap (λ (l : Limits). bound_after l before) (sym limits)))
 
   pub first_taken : (a : Agreement) (r : Running) (e : Event) → f.kind ≡ Opn → HasGreeted (limits_of old) a before → new.phase ≡ Open r → JudgesFirst (limits_of old) (channel_of old) before (Opens (opening_of f.body)) (Ok (r, e)) → JudgesFrame old before (content f) (Ok (Some e)) new
   first_taken a r e is g phase j =
@@ -159,6 +159,7 @@ hel_taken old new before f a limits is none phase bound agrees =
       record {
         accepted = agrees.accepted (channel_of old) before;
         tells = ap (λ (o : Option Hello). server_tells (limits_of old) before (Greets o)) agrees.reads ∙ ap (λ (x : Agreement). told.Agreed x ∷ []) (sym agrees.agreement_is);
+        parts = tt;
       },
       subst (λ (b : Received). GoesOn b.closed new b) (sym received) same,
     )

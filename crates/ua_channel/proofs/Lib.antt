@@ -1,6 +1,7 @@
 pub mod OneFrameMore
 pub mod Greets
 pub mod Openings
+pub mod MessageParts
 pub mod Runs
 pub mod Frames
 pub mod Phases

@@ -1,4 +1,5 @@
 -- A piece, taken step by step.
+use Rattle.std.specs.Prelude.{IfOk}
 use Rattle.std.proofs.Common.{◌≡◌, ℕ, ◌+◌, ◌-◌, ◌<◌, ◌≤◌, List, ◌++◌, Option, Some, None, Result, Ok, Err, refl, sym, ◌∙◌, ap, subst, arith, length, take, drop, append_assoc, append-nil}
 use Rattle.std.proofs.Math.Seq.{take-add, take-length}
 use Rattle.std.proofs.lemmas.List.{length-drop}
@@ -6,7 +7,8 @@ use Rattle.ua_channel.specs.declared.server.ServerChannel.{ServerChannel}
 use Rattle.ua_channel.specs.declared.server_event.Event.{Event}
 use Rattle.ua_channel.specs.declared.server_fault.StepFault.{StepFault}
 use Rattle.ua_channel.specs.declared.server_fault.StepFault.TheVariants as step
-use Rattle.ua_channel.specs.ServerAnswers.{Tells, Steps, Progress, Nexts, Took}
+use Rattle.ua_channel.specs.ServerAnswers.{Tells, Steps, Progress, Nexts, Took, ComesInParts}
+use Rattle.ua_channel.specs.ServerEvents.{parts_of}
 use Rattle.ua_channel.specs.ServerStands.{limits_of, channel_of, Goes, RefusedAt}
 use Rattle.ua_channel.specs.ServerTold.{Told}
 
@@ -61,6 +63,13 @@ module _ (old now next : ServerChannel) (piece : List ℕ) (taken n : ℕ) (answ
       let p : Progress {A = Option Event} {E = StepFault} (take (length piece - taken) (drop taken piece)) n (Ok (Some e)) = subst (λ (a : Result (Option Event) StepFault). Progress (take (length piece - taken) (drop taken piece)) n a) is progress in
       let some : 0 < n = p.1 (omega (arith, rest_length, room)) in
       (omega (arith, some), omega (arith, p.0, rest_length, room), tells_there e _ _ told (joined octets) (subst (λ (a : Result (Option Event) StepFault). Steps (take (length piece - taken) (drop taken piece)) n a next (octets ++ take taken piece) told) is (step_from octets told g)))
+
+  -- a step that hands a message out
+  pub parts_told : ((octets : List ℕ) (told : List Told) → Goes now octets told → IfOk answer (λ e. ComesInParts (parts_of e) next (octets ++ take n (take (length piece - taken) (drop taken piece)))))
+      → (e : Event) → answer ≡ Ok (Some e) → (octets : List ℕ) (told : List Told) → Goes old octets told → ComesInParts (parts_of (Some e)) next (octets ++ take (taken + n) piece)
+  parts_told parts e is octets told g =
+      subst (λ (z : List ℕ). ComesInParts (parts_of (Some e)) next z) (joined octets)
+      (subst (λ (a : Result (Option Event) StepFault). IfOk a (λ o. ComesInParts (parts_of o) next ((octets ++ take taken piece) ++ take n (take (length piece - taken) (drop taken piece))))) is (parts (octets ++ take taken piece) told (t.goes octets told g)))
 
   failed : (fault : StepFault) → n ≤ length (take (length piece - taken) (drop taken piece)) → (octets : List ℕ) (told : List Told) → Steps (take (length piece - taken) (drop taken piece)) n (Err fault) next (octets ++ take taken piece) told → Nexts piece (taken + n) (Err fault) next octets told
   failed (step.Refused code) within octets told h = (omega (arith, within, rest_length, room), subst (λ (z : List ℕ). RefusedAt next z told code.code) (joined octets) h)

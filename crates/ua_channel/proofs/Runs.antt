@@ -12,23 +12,27 @@ use Rattle.ua_chunk.specs.declared.delivered.Delivered.{Delivered}
 use Rattle.ua_chunk.specs.Assembling.{SameLimits, last_number, octet_limit, chunk_limit}
 use Rattle.ua_chunk.specs.Assembling as assembling
 use Rattle.ua_chunk.specs.Delivered.{given}
+use Rattle.ua_chunk.specs.Gathered.{bodies, gathered}
 use Rattle.ua_chunk.specs.Refusal.{IsFor, reasons, refusal}
 use Rattle.ua_chunk.specs.Sequence.{may_follow}
 use Rattle.ua_channel.specs.declared.running.Running.{Running}
-use Rattle.ua_chunk.specs.View.{items_of}
+use Rattle.ua_chunk.specs.View.{items_of, HasParts}
 use Rattle.ua_channel.specs.declared.server_event.Event.{Event}
+use Rattle.ua_channel.specs.declared.server_event.Event.TheVariants as event
 use Rattle.ua_channel.specs.declared.server_fault.StepFault.{StepFault}
 use Rattle.ua_channel.specs.declared.server_fault.StepFault.TheVariants as step
 use Rattle.ua_channel.specs.declared.server_opening.Opened.{Opened}
 use Rattle.ua_channel.specs.Agreement.{Agreement}
-use Rattle.ua_channel.specs.Content.{Opening, opening_of}
+use Rattle.ua_channel.specs.Content.{Content, Opening, opening_of}
 use Rattle.ua_channel.specs.Content.Content.{Opens, Sends, Closes}
 use Rattle.ua_channel.specs.Received.{Received, number_or, after}
-use Rattle.ua_channel.specs.ServerEvents.{told_of, told_list}
+use Rattle.ua_channel.specs.MessageParts.{MayEndIn, parts_in}
+use Rattle.ua_channel.specs.ServerEvents.{told_of, told_list, parts_of}
 use Rattle.ua_channel.specs.ServerFaults.{of_chunk_fault}
 use Rattle.ua_channel.specs.ServerParts.{HasGreeted, JudgesFirst, JudgesOpening, OpensSo, Judges, Stays, Takes, ids_reasons}
 use Rattle.ua_channel.specs.ServerRefusals.{last_used, or_first, server_reasons}
 use Rattle.ua_channel.specs.ServerTold.{Told, Told as told, told_item, issued}
+use Rattle.ua_channel.proofs.MessageParts.{ends_in}
 
 -- the code of a fault of the assembler
 pub fault_code : AssembleFault → ℕ
@@ -90,10 +94,10 @@ module _ (limits : Limits) (r : Running) (before : Received) (channel : ℕ) (c 
 
   -- a chunk that is taken
   pub takes_message : (d : Option Delivered) (e : Option Event) (new : Assembler) → first_reason (ids_reasons c channel r.used r.issued) ≡ None → refusal (octet_limit r.assembler) (chunk_limit r.assembler) (last_number r.assembler) before.messages c ≡ None
-      → given before.messages c ≡ items_of d → told_list e ≡ map (told_item c.token) (items_of d) → assembling.Stands new (before.messages ++ c ∷ []) → last_number new ≡ Some c.sequence → SameLimits r.assembler new
+      → given before.messages c ≡ items_of d → HasParts d (bodies (gathered before.messages c)) → told_list e ≡ map (told_item c.token) (items_of d) → parts_of e ≡ parts_in d → assembling.Stands new (before.messages ++ c ∷ []) → last_number new ≡ Some c.sequence → SameLimits r.assembler new
       → Takes limits channel before (Sends c) e × Stays limits (record r { assembler = new; used = c.token }) (after before (Sends c))
-  takes_message d e new ids good items event stands last same = (
-    record { accepted = sends_judged ids ∙ ap (option_map fault_code) good; tells = ap (map (told_item c.token)) items ∙ sym event },
+  takes_message d e new ids good items parts event same_parts stands last same = (
+    record { accepted = sends_judged ids ∙ ap (option_map fault_code) good; tells = ap (map (told_item c.token)) items ∙ sym event; parts = ends_in before.messages c d (parts_of e) same_parts parts },
     record {
       hello = stays.hello;
       hello_is = stays.hello_is;
@@ -127,6 +131,15 @@ module _ (limits : Limits) (r : Running) (before : Received) (channel : ℕ) (c 
   refuses_message fault e r' ids h is = subst (λ (x : StepFault). Judges limits channel before (Sends c) (Err x) r') (sym is) (judged_fault fault r' ids h)
 
 -- ---- an OPN
+
+-- an event that a token was issued hands no message out
+opened_in : (before : List Chunk) (c : Content) (e : Option Event) (id handle token lifetime : ℕ) → told_list e ≡ told.Opened id handle token lifetime ∷ [] → MayEndIn before c (parts_of e)
+opened_in before c None id handle token lifetime is = tt
+opened_in before c (Some (event.Agreed a)) id handle token lifetime is = tt
+opened_in before c (Some (event.Opened i h t l)) id handle token lifetime is = tt
+opened_in before c (Some (event.Asked i t message)) id handle token lifetime is = absurd cc
+opened_in before c (Some (event.Aborted i)) id handle token lifetime is = tt
+opened_in before c (Some event.Closed) id handle token lifetime is = tt
 
 -- what a fault of an OPN comes to
 pub judges_opening : (limits : Limits) (channel count : ℕ) (before : Received) (body : List ℕ) (e : StepFault) (r : Running) → issued before ≡ count → JudgesOpening channel count body (Err e) → Judges limits channel before (Opens (opening_of body)) (Err e) r
@@ -168,7 +181,11 @@ module _ (limits : Limits) (r : Running) (before : Received) (channel : ℕ) (bo
       → assembling.Stands new before.messages → last_number new ≡ Some o.sequence → SameLimits r.assembler new
       → Takes limits channel before (Opens (opening_of body)) e × Stays limits (record r { assembler = new; issued = r.issued + 1 }) (after before (Opens (opening_of body)))
   takes_renewal e new follows left event stands last same = (
-    record { accepted = remain_numbered follows ∙ ap (λ (b : Bool). first_reason ((0x8081_0000, b) ∷ [])) left; tells = so.tells limits before stays.issued_is ∙ sym event },
+    record {
+      accepted = remain_numbered follows ∙ ap (λ (b : Bool). first_reason ((0x8081_0000, b) ∷ [])) left;
+      tells = so.tells limits before stays.issued_is ∙ sym event;
+      parts = opened_in before.messages (Opens (opening_of body)) e o.request o.handle (r.issued + 1) o.lifetime event;
+    },
     record {
       hello = stays.hello;
       hello_is = stays.hello_is;
@@ -198,6 +215,7 @@ takes_first limits channel before a body o e new g so event stands last octets c
             ∙ (ap (λ (n : Option ℕ). first_reason ((0x8088_0000, not (may_follow n o.sequence)) ∷ (0x8081_0000, eqb (issued before) 4294967295) ∷ [])) (ap (λ (b : Received). b.last) g.before_is)
             ∙ ap (λ (n : ℕ). first_reason ((0x8081_0000, eqb n 4294967295) ∷ [])) count);
         tells = so.tells limits before count ∙ ap (λ (t : Told). t ∷ []) (sym event);
+        parts = opened_in before.messages (Opens (opening_of body)) (Some e) o.request o.handle 1 o.lifetime (ap (λ (t : Told). t ∷ []) event);
       },
       record {
         hello = g.hello;

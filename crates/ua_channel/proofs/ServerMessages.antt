@@ -3,7 +3,6 @@ use Rattle.std.proofs.Common.{◌≡◌, ℕ, ◌+◌, List, [], ◌∷◌, ◌+
 use Rattle.std.proofs.lemmas.Grind.{flat_map-append}
 use Rattle.std.proofs.lemmas.List.{map-append}
 use Rattle.ua_frame.specs.declared.frame.Frame.{Frame}
-use Rattle.ua_frame.specs.declared.hello.Hello.{Hello}
 use Rattle.ua_frame.specs.declared.limits.Limits.{Limits}
 use Rattle.ua_frame.specs.After.{each_from, each_after}
 use Rattle.ua_frame.specs.Run.{events}
@@ -18,7 +17,6 @@ use Rattle.ua_channel.specs.Received.{Received, after, received}
 use Rattle.ua_channel.specs.ServerMessages.{message_in, message_of, messages_in}
 use Rattle.ua_channel.specs.ServerRules.{server_rules}
 use Rattle.ua_channel.specs.ServerTold.{Told, issued, opened_by, request_of, server_tells, told_item}
-use Rattle.ua_channel.specs.ServerTold.Told.{Asked, GaveUp}
 use Rattle.ua_channel.proofs.OneFrameMore.{received-push, received-nil}
 
 abbrev Message : Type 0

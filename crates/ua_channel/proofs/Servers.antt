@@ -1,4 +1,5 @@
 -- What a server's channel makes of one call of its reader.
+use Rattle.std.specs.Prelude.{IfOk}
 use Rattle.std.proofs.Common.{◌≡◌, ℕ, ◌+◌, ◌-◌, ◌<◌, ◌≤◌, min, ◌⊎◌, inl, inr, Bool, true, false, IsTrue, List, [], ◌∷◌, ◌++◌, Option, Some, None, Result, Ok, Err, refl, sym, ◌∙◌, ap, subst, arith, length, take, drop, append_assoc, append-nil, length-append, take-append-drop}
 use Rattle.std.proofs.Math.Seq.{take-length}
 use Rattle.std.proofs.lemmas.Bool.{cases_lt}
@@ -24,8 +25,8 @@ use Rattle.ua_channel.specs.declared.server_fault.StepFault.TheVariants.{Refused
 use Rattle.ua_channel.specs.declared.server_fault.StepFault.TheVariants as step
 use Rattle.ua_channel.specs.Content.{content}
 use Rattle.ua_channel.specs.Received.{Received, received, after}
-use Rattle.ua_channel.specs.ServerAnswers.{Tells, Steps}
-use Rattle.ua_channel.specs.ServerEvents.{told_of}
+use Rattle.ua_channel.specs.ServerAnswers.{Tells, Steps, ComesInParts}
+use Rattle.ua_channel.specs.ServerEvents.{told_of, parts_of}
 use Rattle.ua_channel.specs.ServerFaults.{of_frame_fault}
 use Rattle.ua_channel.specs.ServerParts.{Takes as TakesIt}
 use Rattle.ua_channel.specs.ServerRefusals.{server_reasons}
@@ -152,6 +153,15 @@ module _ (x : ServerChannel) (octets piece : List ℕ) (n : ℕ) (told : List To
   tells_by (inner.Aborted id) takes on = telling (inner.Aborted id) takes on (λ z. absurd cc)
   tells_by inner.Closed takes on = closes takes on
 
+  parts_by : (e : Event) → TakesIt (limits_of x) (channel_of x) (received g.frames) (content f) (Some e) → GoesOn (after (received g.frames) (content f)).closed new (after (received g.frames) (content f)) → ComesInParts (parts_of (Some e)) new (octets ++ take n piece)
+  unfolding new
+  parts_by (inner.Agreed a) takes on = tt
+  parts_by (inner.Opened id handle token lifetime) takes on = tt
+  parts_by (inner.Asked id token message) takes on =
+      record { frames = g.frames; frame = f; stands = stands_on takes.accepted (telling_open (limits_of x) (received g.frames) (content f) (told_of (inner.Asked id token message)) takes.tells (λ z. absurd cc) open_before) on; ends = takes.parts }
+  parts_by (inner.Aborted id) takes on = tt
+  parts_by inner.Closed takes on = tt
+
   on_by : (z : Bool) (a : Received) → GoesOn z (with_parts x r p b) a → GoesOn z new a
   unfolding new
   on_by false a h = record { phase_is = h.phase_is; bound_is = h.bound_is }
@@ -170,18 +180,27 @@ module _ (x : ServerChannel) (octets piece : List ℕ) (n : ℕ) (told : List To
   frame_steps (Err OutOfMemory) j = record { phase = j; empty = empty_now }
   frame_steps (Err step.Closed) j = j
 
+  -- a message comes in its parts
+  pub frame_parts : (answer : Result (Option Event) StepFault) → JudgesFrame (with_parts x r x.phase x.bound) (received g.frames) (content f) answer (with_parts x r p b) → IfOk answer (λ e. ComesInParts (parts_of e) (with_parts x r' p b) (octets ++ take n piece))
+  unfolding new
+  frame_parts (Ok None) j = tt
+  frame_parts (Ok (Some e)) j = parts_by e j.0 (on_as j.1)
+  frame_parts (Err fault) j = tt
+
 abbrev with_gate : Gate → Reader → Reader
 with_gate gate r = record r { gate = gate }
 
 -- one call of the reader that has a frame
 pub step_frame : (x y : ServerChannel) (octets piece : List ℕ) (n : ℕ) (told : List Told) (f : Frame) (r z : Reader) (gate : Gate) (answer : Result (Option Event) StepFault) → Goes x octets told → TakesFrame x.reader piece n f r → y ≡ with_parts x r y.phase y.bound → gate ≡ phase_gate y.phase → z ≡ with_gate gate y.reader
-    → ((before : Received) → Holds (with_parts x r x.phase x.bound) before → IsTrue (lets_in (phase_gate x.phase) f.kind) → JudgesFrame (with_parts x r x.phase x.bound) before (content f) answer y) → Steps piece n answer (record y { reader = z }) octets told
+    → ((before : Received) → Holds (with_parts x r x.phase x.bound) before → IsTrue (lets_in (phase_gate x.phase) f.kind) → JudgesFrame (with_parts x r x.phase x.bound) before (content f) answer y)
+    → Steps piece n answer (record y { reader = z }) octets told × IfOk answer (λ e. ComesInParts (parts_of e) (record y { reader = z }) (octets ++ take n piece))
 step_frame x y octets piece n told f r z gate answer g t kept gate_at z_is judges =
     let z_at : z ≡ with_gate (phase_gate y.phase) r = z_is ∙ (ap (λ (h : Gate). with_gate h y.reader) gate_at ∙ ap (λ (c : ServerChannel). with_gate (phase_gate y.phase) c.reader) kept) in
     let holds : Holds (with_parts x r x.phase x.bound) (received g.frames) = record { phase_is = g.stands.holds.phase_is; bound_is = g.stands.holds.bound_is } in
     let here : IsTrue (lets_in (phase_gate x.phase) f.kind) = let_in_here x octets piece n told f r z y.phase y.bound g t z_at in
-    subst (λ (c : ServerChannel). Steps piece n answer (record c { reader = z }) octets told) (sym kept)
-    (frame_steps x octets piece n told f r z y.phase y.bound g t z_at answer (subst (λ (c : ServerChannel). JudgesFrame (with_parts x r x.phase x.bound) (received g.frames) (content f) answer c) kept (judges (received g.frames) holds here)))
+    let judged = subst (λ (c : ServerChannel). JudgesFrame (with_parts x r x.phase x.bound) (received g.frames) (content f) answer c) kept (judges (received g.frames) holds here) in
+    subst (λ (c : ServerChannel). Steps piece n answer (record c { reader = z }) octets told × IfOk answer (λ e. ComesInParts (parts_of e) (record c { reader = z }) (octets ++ take n piece))) (sym kept)
+    (frame_steps x octets piece n told f r z y.phase y.bound g t z_at answer judged, frame_parts x octets piece n told f r z y.phase y.bound g t z_at answer judged)
 
 -- ---- a header that is refused
 

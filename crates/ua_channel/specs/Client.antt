@@ -14,6 +14,8 @@ use Rattle.ua_channel.specs.Asks.{Asking, Placed, asked_in}
 use Rattle.ua_channel.specs.ClientAsks.{Talks, ask_reasons, renew_reasons, Calls, Renews, closing_octets}
 use Rattle.ua_channel.specs.ClientTable.{client_gate, client_rules, ack_gate, answer_gate, reply_gate}
 use Rattle.ua_channel.specs.ClientTold.{Told, Why}
+use Rattle.ua_channel.specs.Content.{content}
+use Rattle.ua_channel.specs.MessageParts.{EndsIn}
 use Rattle.ua_channel.specs.Received.{Received, received, nothing_received}
 use Rattle.ua_channel.specs.Stops.{StopsAt}
 use Rattle.ua_channel.specs.declared.client.channel.ClientChannel.{ClientChannel}
@@ -110,6 +112,13 @@ pub record GoesTelling (x : ClientChannel) (asks : List Placed) (octets : List �
   pub stands : Stands x asks octets (frames ++ frame ∷ []) []
   pub told_is : events (rules_of x asks) frames ≡ told
   pub tells : (rules_of x asks).tells frames frame ≡ e ∷ []
+
+-- it goes on after these asks and octets, of which the last frame ends a message in these parts
+pub record EndsMessage (x : ClientChannel) (asks : List Placed) (octets : List ℕ) (parts : List (List ℕ)) : Type 0 where
+  pub frames : List Frame
+  pub frame : Frame
+  pub stands : Stands x asks octets (frames ++ frame ∷ []) []
+  pub ends : EndsIn (received frames).messages (content frame) parts
 
 -- it ended after these asks and octets, whose good frames told this, and what stands behind them is refused for this
 pub record Ended (x : ClientChannel) (asks : List Placed) (octets : List ℕ) (told : List Told) (why : Why) : Type 0 where

@@ -1,11 +1,11 @@
 -- What a client's channel answers to a piece.
-use Rattle.std.specs.Prelude.{◌≡◌, ℕ, ◌≤◌, ◌<◌, length, take, List, ◌++◌, Result, Ok, Err}
+use Rattle.std.specs.Prelude.{◌≡◌, ℕ, ◌≤◌, ◌<◌, length, take, List, ◌++◌, Option, Some, None, Result, Ok, Err}
 use Rattle.std.specs.List.{concat}
 use Rattle.ua_builtin.specs.declared.date_time.DateTime.{DateTime}
 use Rattle.ua_frame.specs.declared.ack.Ack.{Ack}
 use Rattle.ua_frame.specs.Frames.{frame_octets}
 use Rattle.ua_channel.specs.Asks.{Placed}
-use Rattle.ua_channel.specs.Client.{Goes, GoesTelling, Ended, IsDone}
+use Rattle.ua_channel.specs.Client.{Goes, GoesTelling, EndsMessage, Ended, IsDone}
 use Rattle.ua_channel.specs.ClientSends.{first_open}
 use Rattle.ua_channel.specs.ClientTold.{Told, Told as told}
 use Rattle.ua_channel.specs.declared.client.channel.ClientChannel.{ClientChannel}
@@ -53,6 +53,16 @@ ClientAnswers moment piece (Ok (n, event.Failed code peer)) new asks octets befo
 ClientAnswers moment piece (Ok (n, event.Renewed token)) new asks octets before = Tells moment (event.Renewed token) new asks (octets ++ take n piece) before
 ClientAnswers moment piece (Err OutOfMemory) new asks octets before = IsDone new
 ClientAnswers moment piece (Err Closed) new asks octets before = ⊥
+
+-- the parts of the message that is handed out, if one is
+abbrev pub parts_handed : ClientEvent → Option (List (List ℕ))
+parts_handed (event.Answered id message) = Some message
+parts_handed other = None
+
+-- a message, where one is handed out behind these octets, comes in the parts in which its chunks brought it
+abbrev pub ComesInParts : Option (List (List ℕ)) → ClientChannel → List Placed → List ℕ → Type 0
+ComesInParts None new asks octets = Unit {0}
+ComesInParts (Some parts) new asks octets = EndsMessage new asks octets parts
 
 -- what is taken is within the piece, and is something unless the piece is empty
 abbrev pub Progress : {A : Type 0} → List ℕ → Result (ℕ × A) ClientTakeFault → Type 0

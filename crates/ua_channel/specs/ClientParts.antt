@@ -13,10 +13,10 @@ use Rattle.ua_frame.specs.Kinds.{has_flag, least_size}
 use Rattle.ua_frame.specs.Reader.{open_reader}
 use Rattle.ua_chunk.specs.Assembling.{Stands, SameLimits, octet_limit, chunk_limit, last_number}
 use Rattle.ua_chunk.specs.Delivered.{given}
-use Rattle.ua_chunk.specs.Gathered.{ends}
+use Rattle.ua_chunk.specs.Gathered.{ends, gathered, bodies}
 use Rattle.ua_chunk.specs.Refusal.{reasons}
 use Rattle.ua_chunk.specs.Sequence.{may_follow}
-use Rattle.ua_chunk.specs.View.{items_of}
+use Rattle.ua_chunk.specs.View.{items_of, HasParts}
 use Rattle.ua_chunk.specs.declared.chunk.Chunk.{Chunk}
 use Rattle.ua_chunk.specs.declared.delivered.Delivered.{Delivered}
 use Rattle.ua_chunk.specs.declared.fault.AssembleFault.{AssembleFault}
@@ -33,7 +33,8 @@ use Rattle.ua_channel.specs.ClientTable.{client_gate, client_reasons, is_other, 
 use Rattle.ua_channel.specs.ClientTokens.{answer_in, responses, opened_ids, channel_in, held_tokens, from_last}
 use Rattle.ua_channel.specs.ClientTold.{Told, Told as told, Why, ours, peers, client_tells, told_item}
 use Rattle.ua_channel.specs.Content.{Opening, Content}
-use Rattle.ua_channel.specs.Content.Content.{Opens}
+use Rattle.ua_channel.specs.Content.Content.{Opens, Sends}
+use Rattle.ua_channel.specs.MessageParts.{MayEndIn, parts_in}
 use Rattle.ua_channel.specs.Received.{Received, after, nothing_received, listed}
 use Rattle.ua_channel.specs.declared.client.agreed.Agreed.{Agreed}
 use Rattle.ua_channel.specs.declared.client.answer.Answer.{Answer}
@@ -154,6 +155,16 @@ abbrev pub told_list : Option Event → List Told
 told_list None = []
 told_list (Some e) = told_by e
 
+-- the parts of the message of an event, if it has one
+abbrev pub parts_of : Option Event → Option (List (List ℕ))
+parts_of None = None
+parts_of (Some (event.Agreed ack)) = None
+parts_of (Some (event.Opened channel token)) = None
+parts_of (Some (event.Answered id message)) = Some message
+parts_of (Some (event.Aborted id code)) = None
+parts_of (Some (event.Renewed token)) = None
+parts_of (Some (event.Failed code peer)) = None
+
 -- it is no failure
 abbrev pub IsGood : Option Event → Type 0
 IsGood None = Unit {0}
@@ -265,11 +276,13 @@ pub record IsAccepted (old : Talking) (cs : List Chunk) (c : Chunk) (new : Talki
   pub last_is : last_number new.assembler ≡ Some c.sequence
   pub limits : SameLimits old.assembler new.assembler
   pub items_are : given cs c ≡ items_of d
+  pub parts_are : HasParts d (bodies (gathered cs c))
 
--- an event is what was delivered
+-- an event is what was delivered, in the same parts
 pub record DeliversEvent (d : Option Delivered) (e : Option Event) : Type 0 where
   pub tells : map told_item (items_of d) ≡ told_list e
   pub good : IsGood e
+  pub parts : parts_of e ≡ parts_in d
 
 -- what is kept of a channel with what a chunk of this request and token delivered, which it ended or not
 pub record IsDeliveredWith (old : Talking) (request token : ℕ) (ending : Bool) (d : Option Delivered) (new : Talking) (e : Option Event) : Type 0 where
@@ -288,6 +301,7 @@ pub record IsTakenWith (old : Talking) (cs : List Chunk) (c : Chunk) (new : Talk
   pub limits : SameLimits old.assembler new.assembler
   pub tells : map told_item (given cs c) ≡ told_list e
   pub good : IsGood e
+  pub parts : MayEndIn cs (Sends c) (parts_of e)
 
 -- whatever comes of it
 abbrev pub any_event : Unit {0} → Type 0
@@ -299,6 +313,7 @@ any_event e = Unit {0}
 pub record TakesFrame (limits : Limits) (before : Received) (asked : List Asking) (c : Content) (new : Talking) (e : Option Event) : Type 0 where
   pub tells : client_tells before c ≡ told_list e
   pub good : IsGood e
+  pub parts : MayEndIn before.messages c (parts_of e)
   pub talks : Talks limits new (after before c) asked
   pub ack_is : (after before c).ack ≡ before.ack
 
@@ -306,6 +321,7 @@ pub record TakesFrame (limits : Limits) (before : Received) (asked : List Asking
 pub record Takes (limits : Limits) (before : Received) (asked : List Asking) (c : Content) (new : ClientChannel) (e : Option Event) : Type 0 where
   pub tells : client_tells before c ≡ told_list e
   pub good : IsGood e
+  pub parts : MayEndIn before.messages c (parts_of e)
   pub phase_is : InPhase limits (phase_of new) (after before c) asked
   pub bound_is : bound_of new ≡ bound_behind limits (after before c).ack
 
@@ -313,6 +329,7 @@ pub record Takes (limits : Limits) (before : Received) (asked : List Asking) (c 
 pub record OpensChannel (limits : Limits) (agreed : Agreed) (c : Content) (new : ClientChannel) (e : Option Event) : Type 0 where
   pub tells : client_tells (greeted agreed) c ≡ told_list e
   pub good : IsGood e
+  pub parts : MayEndIn [] c (parts_of e)
   pub phase_is : InPhase limits (phase_of new) (after (greeted agreed) c) []
   pub ack_is : (after (greeted agreed) c).ack ≡ Some agreed.ack
 
@@ -320,6 +337,7 @@ pub record OpensChannel (limits : Limits) (agreed : Agreed) (c : Content) (new :
 pub record StaysOpen (limits : Limits) (before : Received) (asked : List Asking) (c : Content) (new : ClientChannel) (e : Option Event) : Type 0 where
   pub tells : client_tells before c ≡ told_list e
   pub good : IsGood e
+  pub parts : MayEndIn before.messages c (parts_of e)
   pub phase_is : InPhase limits (phase_of new) (after before c) asked
   pub ack_is : (after before c).ack ≡ before.ack
 

@@ -4,6 +4,8 @@ pub mod Received
 -- Why either end refuses a frame, and where octets stop at what is refused.
 pub mod Refusals
 pub mod Stops
+-- In which parts either end hands out a message.
+pub mod MessageParts
 -- A server: what it agrees to, what frames tell it, which it refuses, and which come next; what it sends; where it stands, and what
 -- it answers. Last what its parts make of a frame.
 pub mod Agreement

@@ -17,7 +17,7 @@ use Rattle.ua_channel.specs.declared.server_fault.StepFault.{StepFault}
 use Rattle.ua_channel.specs.declared.server_fault.StepFault.TheVariants as step
 use Rattle.ua_channel.specs.ServerEvents.{told_of}
 use Rattle.ua_channel.specs.ServerSends.{AreSent, counted_by}
-use Rattle.ua_channel.specs.ServerStands.{limits_of, channel_of, next_of, IsDone, Goes, GoesTelling, Ended, ClosedAt, RefusedAt}
+use Rattle.ua_channel.specs.ServerStands.{limits_of, channel_of, next_of, IsDone, Goes, GoesTelling, EndsMessage, Ended, ClosedAt, RefusedAt}
 use Rattle.ua_channel.specs.ServerTold.{Told}
 use Rattle.ua_channel.specs.ServerTold.{Told as told}
 
@@ -43,6 +43,11 @@ Hands channel number moment (Send sent) new octets before = Sends channel number
 Hands channel number moment (Asked id message) new octets before = Asks id message new octets before × (next_of new ≡ number)
 Hands channel number moment (Aborted id) new octets before = GoesTelling new octets before (told.GaveUp id) × (next_of new ≡ number)
 Hands channel number moment event.Closed new octets before = ClosedAt new octets (before ++ told.Closed ∷ [])
+
+-- a message, where one is handed out behind these octets, comes in the parts in which its chunks brought it
+abbrev pub ComesInParts : Option (List (List ℕ)) → ServerChannel → List ℕ → Type 0
+ComesInParts None new octets = Unit {0}
+ComesInParts (Some parts) new octets = EndsMessage new octets parts
 
 -- how many octets of a piece are taken with an event: all where nothing came, else some
 abbrev pub Counts : List ℕ → ℕ → ServerEvent → Type 0

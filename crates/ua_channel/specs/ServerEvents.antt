@@ -1,8 +1,10 @@
--- Events of a server, as what frames tell.
-use Rattle.std.specs.Prelude.{List, [], ◌∷◌, Option, Some, None}
+-- Events of a server, as what frames tell, and the parts of their messages.
+use Rattle.std.specs.Prelude.{ℕ, List, [], ◌∷◌, Option, Some, None}
 use Rattle.std.specs.List.{concat}
 use Rattle.ua_channel.specs.declared.server_event.Event.{Event}
 use Rattle.ua_channel.specs.declared.server_event.Event.TheVariants as event
+use Rattle.ua_channel.specs.declared.server_event.ServerEvent.{ServerEvent}
+use Rattle.ua_channel.specs.declared.server_event.ServerEvent.TheVariants as handed
 use Rattle.ua_channel.specs.ServerTold.{Told, Agreed, Opened, Asked, GaveUp, Closed}
 
 -- an event as what a frame tells: the octets of a message are its parts, joined
@@ -17,3 +19,17 @@ told_of event.Closed = Closed
 abbrev pub told_list : Option Event → List Told
 told_list None = []
 told_list (Some e) = told_of e ∷ []
+
+-- the parts of the message of an event, if it has one
+abbrev pub parts_of : Option Event → Option (List (List ℕ))
+parts_of None = None
+parts_of (Some (event.Agreed agreement)) = None
+parts_of (Some (event.Opened request handle token lifetime)) = None
+parts_of (Some (event.Asked request token message)) = Some message
+parts_of (Some (event.Aborted request)) = None
+parts_of (Some event.Closed) = None
+
+-- the parts of the message that is handed out, if one is
+abbrev pub parts_handed : ServerEvent → Option (List (List ℕ))
+parts_handed (handed.Asked id message) = Some message
+parts_handed other = None

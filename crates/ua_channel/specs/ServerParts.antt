@@ -24,8 +24,9 @@ use Rattle.ua_channel.specs.declared.server_opening.Opened.{Opened}
 use Rattle.ua_channel.specs.Agreement.{Agreement, agreement_of}
 use Rattle.ua_channel.specs.Content.{Content, opening_of}
 use Rattle.ua_channel.specs.Content.Content.{Greets, Opens}
+use Rattle.ua_channel.specs.MessageParts.{MayEndIn}
 use Rattle.ua_channel.specs.Received.{Received, nothing_received, after}
-use Rattle.ua_channel.specs.ServerEvents.{told_list}
+use Rattle.ua_channel.specs.ServerEvents.{told_list, parts_of}
 use Rattle.ua_channel.specs.ServerRefusals.{last_used, type_wanted, server_reasons}
 use Rattle.ua_channel.specs.ServerRules.{receive_size}
 use Rattle.ua_channel.specs.ServerTold.{issued, lifetime_for, server_tells}
@@ -115,10 +116,11 @@ pub record Stays (limits : Limits) (r : Running) (before : Received) : Type 0 wh
   pub chunks : chunk_limit r.assembler ≡ limits.max_chunk_count
   pub goes_on : before.closed ≡ false
 
--- a frame that carries this is taken after what was received, and tells this
+-- a frame that carries this is taken after what was received, and tells this, a message in its parts
 pub record Takes (limits : Limits) (channel : ℕ) (before : Received) (c : Content) (e : Option Event) : Type 0 where
   pub accepted : first_reason (server_reasons limits channel before c) ≡ None
   pub tells : server_tells limits before c ≡ told_list e
+  pub parts : MayEndIn before.messages c (parts_of e)
 
 -- a frame that carries this is refused with this code after what was received
 abbrev pub IsRefused : Limits → ℕ → Received → Content → ℕ → Type 0

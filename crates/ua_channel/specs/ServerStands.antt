@@ -17,7 +17,8 @@ use Rattle.ua_channel.specs.declared.server_event.Event.{Event}
 use Rattle.ua_channel.specs.declared.server_fault.StepFault.{StepFault}
 use Rattle.ua_channel.specs.declared.server_fault.StepFault.TheVariants.{Refused, Closed, OutOfMemory}
 use Rattle.ua_channel.specs.Agreement.{lane_of}
-use Rattle.ua_channel.specs.Content.{Content}
+use Rattle.ua_channel.specs.Content.{Content, content}
+use Rattle.ua_channel.specs.MessageParts.{EndsIn}
 use Rattle.ua_channel.specs.Received.{Received, nothing_received, after, received}
 use Rattle.ua_channel.specs.ServerParts.{HasGreeted, Stays, Takes, IsRefused}
 use Rattle.ua_channel.specs.ServerRules.{receive_size, opening_gate, running_gate, server_gate, server_rules}
@@ -126,6 +127,13 @@ pub record GoesTelling (x : ServerChannel) (octets : List ℕ) (told : List Told
   pub stands : Stands x octets (frames ++ frame ∷ []) []
   pub told_is : events (rules_of x) frames ≡ told
   pub tells : (rules_of x).tells frames frame ≡ e ∷ []
+
+-- it goes on after these octets, of which the last frame ends a message in these parts
+pub record EndsMessage (x : ServerChannel) (octets : List ℕ) (parts : List (List ℕ)) : Type 0 where
+  pub frames : List Frame
+  pub frame : Frame
+  pub stands : Stands x octets (frames ++ frame ∷ []) []
+  pub ends : EndsIn (received frames).messages (content frame) parts
 
 -- it ended so after these octets, whose good frames told this
 pub record Ended (x : ServerChannel) (octets : List ℕ) (told : List Told) (end : End ℕ) : Type 0 where

@@ -61,14 +61,15 @@ fn hello_gate() -> Gate
 }
 
 impl ServerChannel {
-    ghost use Rattle.std.specs.Prelude.{◌≡◌, ◌<◌, ◌≤◌, ◌+◌, ◌^◌, ◌↔◌, [], ℕ, List, length, Ok, Err, IfOk, IfSome, MatchOption, MatchResult, OnOk, OnErr, IsErrOf, IsTrue};
+    ghost use Rattle.std.specs.Prelude.{◌≡◌, ◌<◌, ◌≤◌, ◌+◌, ◌++◌, ◌^◌, ◌↔◌, [], ℕ, List, length, take, Some, Ok, Err, IfOk, IfSome, MatchOption, MatchResult, OnOk, OnErr, IsErrOf, IsTrue};
     ghost use Rattle.ua_frame.specs.declared.frame.Frame.{Frame};
     ghost use Rattle.ua_frame.specs.Kinds.{lets_in};
     ghost use Rattle.ua_chunk.specs.declared.lane.Lane.{Lane};
     ghost use Rattle.ua_chunk.specs.Open.{open_ids, open_octets};
     ghost use Rattle.ua_channel.specs.Content.{content};
     ghost use Rattle.ua_channel.specs.Received.{Received, received};
-    ghost use Rattle.ua_channel.specs.ServerAnswers.{Tells, Steps, Progress, Nexts, Answered, AnswersAt, ServerAnswers};
+    ghost use Rattle.ua_channel.specs.ServerAnswers.{Tells, Steps, Progress, Nexts, Answered, AnswersAt, ServerAnswers, ComesInParts};
+    ghost use Rattle.ua_channel.specs.ServerEvents.{parts_of, parts_handed};
     ghost use Rattle.ua_channel.specs.ServerParts.{HasShape, Stays};
     ghost use Rattle.ua_channel.specs.ServerRules.{receive_size};
     ghost use Rattle.ua_channel.specs.ServerSends.{IsReply, RepliesGo};
@@ -194,6 +195,7 @@ impl ServerChannel {
     /// One call of the reader, and what its frame comes to, with the octets that were taken.
     fn step(&mut self, piece: &[u8]) -> (usize, Result<Option<Event>, StepFault>)
         ensures steps { (octets : List ℕ) (told : List Told) → Goes self.old octets told → Steps piece.now result.0 result.1 self.new octets told }
+        ensures parts { (octets : List ℕ) (told : List Told) → Goes self.old octets told → IfOk result.1 (λ e. ComesInParts (parts_of e) self.new (octets ++ take result.0 piece.now)) }
         ensures progress { Progress piece.now result.0 result.1 }
         ensures limits { limits_of self.new ≡ limits_of self.old }
         ensures channel { channel_of self.new ≡ channel_of self.old }
@@ -220,6 +222,7 @@ impl ServerChannel {
     /// and says how many it took.
     fn next_event(&mut self, piece: &[u8]) -> (usize, Result<Option<Event>, StepFault>)
         ensures nexts { (octets : List ℕ) (told : List Told) → Goes self.old octets told → Nexts piece.now result.0 result.1 self.new octets told }
+        ensures parts { (octets : List ℕ) (told : List Told) → Goes self.old octets told → IfOk result.1 (λ e. ComesInParts (parts_of e) self.new (octets ++ take result.0 piece.now)) }
         ensures progress { Progress piece.now result.0 result.1 }
         ensures limits { limits_of self.new ≡ limits_of self.old }
         ensures channel { channel_of self.new ≡ channel_of self.old }
@@ -259,6 +262,7 @@ impl ServerChannel {
     fn answer(&mut self, event: Event, moment: DateTime) -> Result<ServerEvent, ChannelFault>
         ensures answers { (octets : List ℕ) (told : List Told) → Tells event self.old octets told
             → Answered (channel_of self.old) (next_of self.old) moment result self.new octets told }
+        ensures parts { (octets : List ℕ) → ComesInParts (parts_of (Some event)) self.old octets → IfOk result (λ e. ComesInParts (parts_handed e) self.new octets) }
         ensures limits { limits_of self.new ≡ limits_of self.old }
         ensures channel { channel_of self.new ≡ channel_of self.old }
     {
@@ -298,6 +302,29 @@ impl ServerChannel {
         }
     }
 
+    /// Takes octets up to the end of the first frame at which there is something to be answered, else
+    /// the whole piece, and says how many it took. The moment is that of an OPN response.
+    fn go_on(
+        &mut self,
+        piece: &[u8],
+        moment: DateTime,
+    ) -> (usize, Result<ServerEvent, ChannelFault>)
+        ensures answers { (octets : List ℕ) (told : List Told) → Goes self.old octets told
+            → AnswersAt (channel_of self.old) (next_of self.old) moment piece.now result.0 result.1 self.new octets told }
+        ensures parts { (octets : List ℕ) (told : List Told) → Goes self.old octets told
+            → IfOk result.1 (λ e. ComesInParts (parts_handed e) self.new (octets ++ take result.0 piece.now)) }
+        ensures progress { Progress piece.now result.0 result.1 }
+        ensures limits { limits_of self.new ≡ limits_of self.old }
+        ensures channel { channel_of self.new ≡ channel_of self.old }
+    {
+        let (n, outcome) = self.next_event(piece);
+        match outcome {
+            Ok(None) => (n, Ok(ServerEvent::NeedMore)),
+            Ok(Some(event)) => (n, self.answer(event, moment)),
+            Err(fault) => (n, Err(ChannelFault::of_step(fault))),
+        }
+    }
+
     /// Takes octets as [`take`](ServerChannel::take) does, and says at a refusal too how many: up to
     /// the end of the frame that is refused, or to the eighth octet of the header that is.
     pub fn advance(
@@ -307,20 +334,30 @@ impl ServerChannel {
     ) -> (usize, Result<ServerEvent, ChannelFault>)
         ensures answers { (octets : List ℕ) (told : List Told) → Goes self.old octets told
             → AnswersAt (channel_of self.old) (next_of self.old) moment piece.now result.0 result.1 self.new octets told }
+        // A message that is handed out is the bodies of its chunks: nothing is joined.
+        ensures parts { (octets : List ℕ) (told : List Told) → Goes self.old octets told
+            → IfOk result.1 (λ e. ComesInParts (parts_handed e) self.new (octets ++ take result.0 piece.now)) }
         ensures progress { Progress piece.now result.0 result.1 }
         ensures within { result.0 ≤ length piece.now }
         ensures closed { IsDone self.old → (result.0 ≡ 0) × (result.1 ≡ Err fault.Closed) × (self.new ≡ self.old) }
+        // After want of memory, the bound is what it was before the call.
+        ensures starved { IsErrOf result.1 fault.OutOfMemory → bound_of self.new ≡ bound_of self.old }
         ensures limits { limits_of self.new ≡ limits_of self.old }
         ensures channel { channel_of self.new ≡ channel_of self.old }
     {
         if self.is_done() {
             return (0, Err(ChannelFault::Closed));
         }
-        let (n, outcome) = self.next_event(piece);
-        match outcome {
-            Ok(None) => (n, Ok(ServerEvent::NeedMore)),
-            Ok(Some(event)) => (n, self.answer(event, moment)),
-            Err(fault) => (n, Err(ChannelFault::of_step(fault))),
+        let bound = self.bound;
+        let (n, answer) = self.go_on(piece, moment);
+        match answer {
+            Ok(event) => (n, Ok(event)),
+            Err(fault) => {
+                if let ChannelFault::OutOfMemory = fault {
+                    self.bound = bound;
+                }
+                (n, Err(fault))
+            }
         }
     }
 
@@ -334,7 +371,12 @@ impl ServerChannel {
     ) -> Result<(usize, ServerEvent), ChannelFault>
         ensures answers { (octets : List ℕ) (told : List Told) → Goes self.old octets told
             → ServerAnswers (channel_of self.old) (next_of self.old) moment piece.now result self.new octets told }
+        // A message that is handed out is the bodies of its chunks: nothing is joined.
+        ensures parts { (octets : List ℕ) (told : List Told) → Goes self.old octets told
+            → IfOk result (λ r. ComesInParts (parts_handed r.1) self.new (octets ++ take r.0 piece.now)) }
         ensures closed { IsDone self.old → (result ≡ Err fault.Closed) × (self.new ≡ self.old) }
+        // After want of memory, the bound is what it was before the call.
+        ensures starved { IsErrOf result fault.OutOfMemory → bound_of self.new ≡ bound_of self.old }
         ensures limits { limits_of self.new ≡ limits_of self.old }
         ensures channel { channel_of self.new ≡ channel_of self.old }
     {

@@ -1,6 +1,6 @@
 //! A client's channel.
 
-ghost use Rattle.std.specs.Prelude.{◌≡◌, ◌≤◌, ◌<◌, ◌++◌, ◌∷◌, [], List, ℕ, length, IsTrue, Err, IfOk, OnOk, OnErr};
+ghost use Rattle.std.specs.Prelude.{◌≡◌, ◌≤◌, ◌<◌, ◌++◌, ◌∷◌, [], List, ℕ, length, take, IsTrue, Some, Err, IfOk, IsErrOf, OnOk, OnErr};
 ghost use Rattle.ua_octets.specs.Counted.{text};
 ghost use Rattle.ua_frame.specs.Frames.{LetsIn, frame_octets};
 ghost use Rattle.ua_frame.specs.Reader.{open_reader};
@@ -8,16 +8,16 @@ ghost use Rattle.ua_frame.specs.declared.frame.Frame.{Frame};
 ghost use Rattle.ua_channel.specs.Asks.{Asking, Placed};
 ghost use Rattle.ua_channel.specs.Asks.Asking.{Call, Renewal};
 ghost use Rattle.ua_channel.specs.Client.{Stands, Goes, IsDone, InPhase, SameClient, limits_of, url_of, next_of, phase_of, bound_of, bound_behind, held_octets, call_refused, renewal_refused, closing_refused, JudgesLength, SendsCall, SendsRenewal, SendsClosing};
-ghost use Rattle.ua_channel.specs.ClientAnswers.{ClientAnswers, AnswersEvent, Progress};
+ghost use Rattle.ua_channel.specs.ClientAnswers.{ClientAnswers, AnswersEvent, ComesInParts, Progress, parts_handed};
 ghost use Rattle.ua_channel.specs.ClientAsks.{Talks, AnswersFor};
-ghost use Rattle.ua_channel.specs.ClientParts.{Judged, JudgesWhole, HasRoom, Takes, OpensChannel, StaysOpen, FailsBy, IsFront, Steps, Advances, TellsEvent, greeted};
+ghost use Rattle.ua_channel.specs.ClientParts.{Judged, JudgesWhole, HasRoom, Takes, OpensChannel, StaysOpen, FailsBy, IsFront, Steps, Advances, TellsEvent, greeted, parts_of};
 ghost use Rattle.ua_channel.specs.ClientSends.{hello_frame, hello_to};
 ghost use Rattle.ua_channel.specs.ClientTable.{client_gate, client_reasons, ack_gate, answer_gate, reply_gate};
 ghost use Rattle.ua_channel.specs.ClientTold.{Told};
 ghost use Rattle.ua_channel.specs.Content.{content};
 ghost use Rattle.ua_channel.specs.Received.{Received, nothing_received, received};
 ghost use Rattle.ua_channel.specs.declared.client.fault.AskFault.TheVariants.{NotOpen};
-ghost use Rattle.ua_channel.specs.declared.client.fault.ClientTakeFault.TheVariants.{Closed};
+ghost use Rattle.ua_channel.specs.declared.client.fault.ClientTakeFault.TheVariants.{Closed, OutOfMemory};
 
 use crate::client::address::Address;
 use crate::client::agreed::Agreed;
@@ -334,6 +334,8 @@ impl ClientChannel {
     /// One call of the reader, and what its frame comes to.
     fn step(&mut self, piece: &[u8]) -> Result<(usize, Option<Event>), ClientTakeFault>
         ensures steps { (asks : List Placed) (octets : List ℕ) (told : List Told) → Goes self.old asks octets told → Steps piece.now result self.new asks octets told }
+        ensures parts { (asks : List Placed) (octets : List ℕ) (told : List Told) → Goes self.old asks octets told
+            → IfOk result (λ r. ComesInParts (parts_of r.1) self.new asks (octets ++ take r.0 piece.now)) }
         ensures progress { Progress piece.now result }
         ensures same { SameClient self.old self.new }
         ensures next { next_of self.new ≡ next_of self.old }
@@ -357,6 +359,8 @@ impl ClientChannel {
     /// Takes octets up to the end of the first frame that tells something, else the whole piece.
     fn advance(&mut self, piece: &[u8]) -> Result<(usize, Option<Event>), ClientTakeFault>
         ensures advances { (asks : List Placed) (octets : List ℕ) (told : List Told) → Goes self.old asks octets told → Advances piece.now result self.new asks octets told }
+        ensures parts { (asks : List Placed) (octets : List ℕ) (told : List Told) → Goes self.old asks octets told
+            → IfOk result (λ r. ComesInParts (parts_of r.1) self.new asks (octets ++ take r.0 piece.now)) }
         ensures progress { Progress piece.now result }
         ensures closed { IsDone self.old → (result ≡ Err Closed) × (self.new ≡ self.old) }
         ensures same { SameClient self.old self.new }
@@ -380,6 +384,8 @@ impl ClientChannel {
     fn answer(&mut self, event: Event, moment: DateTime) -> Result<ClientEvent, ClientTakeFault>
         ensures answers { (asks : List Placed) (octets : List ℕ) (told : List Told) → TellsEvent event self.old asks octets told
             → AnswersEvent moment result self.new asks octets told }
+        ensures parts { (asks : List Placed) (octets : List ℕ) → ComesInParts (parts_of (Some event)) self.old asks octets
+            → IfOk result (λ e. ComesInParts (parts_handed e) self.new asks octets) }
         ensures same { SameClient self.old self.new }
         ensures next { next_of self.new ≡ next_of self.old }
     {
@@ -399,16 +405,17 @@ impl ClientChannel {
         }
     }
 
-    /// Takes octets up to the end of the first frame at which there is something to be sent or to be
-    /// told, else the whole piece. The moment is that of the OPN. A header that is refused ends at its
-    /// eighth octet. After a failure the channel is closed.
-    pub fn take(
+    /// Takes octets up to the end of the first frame that tells something, and answers what that
+    /// comes to, else takes the whole piece. The moment is that of the OPN.
+    fn go_on(
         &mut self,
         piece: &[u8],
         moment: DateTime,
     ) -> Result<(usize, ClientEvent), ClientTakeFault>
         ensures answers { (asks : List Placed) (octets : List ℕ) (told : List Told) → Goes self.old asks octets told
             → ClientAnswers moment piece.now result self.new asks octets told }
+        ensures parts { (asks : List Placed) (octets : List ℕ) (told : List Told) → Goes self.old asks octets told
+            → IfOk result (λ r. ComesInParts (parts_handed r.1) self.new asks (octets ++ take r.0 piece.now)) }
         ensures progress { Progress piece.now result }
         ensures closed { IsDone self.old → (result ≡ Err Closed) × (self.new ≡ self.old) }
         ensures same { SameClient self.old self.new }
@@ -423,6 +430,36 @@ impl ClientChannel {
                 },
             },
             Err(fault) => Err(fault),
+        }
+    }
+
+    /// Takes octets up to the end of the first frame at which there is something to be sent or to be
+    /// told, else the whole piece. The moment is that of the OPN. A header that is refused ends at its
+    /// eighth octet. After a failure the channel is closed.
+    pub fn take(
+        &mut self,
+        piece: &[u8],
+        moment: DateTime,
+    ) -> Result<(usize, ClientEvent), ClientTakeFault>
+        ensures answers { (asks : List Placed) (octets : List ℕ) (told : List Told) → Goes self.old asks octets told
+            → ClientAnswers moment piece.now result self.new asks octets told }
+        // A message that is handed out is the bodies of its chunks: nothing is joined.
+        ensures parts { (asks : List Placed) (octets : List ℕ) (told : List Told) → Goes self.old asks octets told
+            → IfOk result (λ r. ComesInParts (parts_handed r.1) self.new asks (octets ++ take r.0 piece.now)) }
+        ensures progress { Progress piece.now result }
+        ensures closed { IsDone self.old → (result ≡ Err Closed) × (self.new ≡ self.old) }
+        // After want of memory, the bound is what it was before the call.
+        ensures starved { IsErrOf result OutOfMemory → bound_of self.new ≡ bound_of self.old }
+        ensures same { SameClient self.old self.new }
+        ensures next { next_of self.new ≡ next_of self.old }
+    {
+        let bound = self.bound;
+        match self.go_on(piece, moment) {
+            Err(ClientTakeFault::OutOfMemory) => {
+                self.bound = bound;
+                Err(ClientTakeFault::OutOfMemory)
+            }
+            taken => taken,
         }
     }
 }

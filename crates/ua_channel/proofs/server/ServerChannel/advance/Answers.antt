@@ -1,28 +1,30 @@
-use Rattle.std.proofs.Common.{◌≡◌, Result, Ok, Option, Some, None, ◌++◌, ap, subst, take}
-use Rattle.ua_channel.specs.declared.numbers.Numbers.{Numbers}
-use Rattle.ua_channel.specs.declared.server_event.Event.{Event}
-use Rattle.ua_channel.specs.declared.server_fault.StepFault.{StepFault}
-use Rattle.ua_channel.specs.ServerAnswers.{Nexts}
+use Rattle.std.specs.Prelude.{IfOk}
+use Rattle.std.proofs.Common.{◌++◌, take, Result, Err, sym, subst}
+use Rattle.ua_channel.specs.declared.server.ServerChannel.{ServerChannel}
+use Rattle.ua_channel.specs.declared.server_event.ServerEvent.{ServerEvent}
+use Rattle.ua_channel.specs.declared.server_fault.ChannelFault.{ChannelFault}
+use Rattle.ua_channel.specs.ServerAnswers.{AnswersAt, ComesInParts}
+use Rattle.ua_channel.specs.ServerEvents.{parts_handed}
 use Rattle.ua_channel.specs.ServerStands.{channel_of, next_of}
-use Rattle.ua_channel.proofs.Answering.{answers_nothing, answers_event, answers_fault}
+use Rattle.ua_channel.proofs.Answering.{starved_with}
+use Rattle.ua_channel.proofs.server.ServerChannel.advance.Goals.{in-OutOfMemory, in_default}
 use Rattle.ua_channel.proofs.server.ServerChannel.advance.Goals as goal
 
-pub returns-in-Ok-None-clause-answers : goal.returns-in-Ok-None-clause-answers
-returns-in-Ok-None-clause-answers c = λ octets told g.
-    let is : ◌≡◌ {A = Result (Option Event) StepFault} c.next_event-n.result.1 (Ok None) = rw c.in-Ok-None.field-0-is at c.in-Ok-None.is in
-    answers_nothing (channel_of c.args.self.now) (next_of c.args.self.now) c.args.moment c.args.piece.now c.next_event-n.result.0 c.next_event-n.new.self octets told
-    (subst (λ (o : Result (Option Event) StepFault). Nexts c.args.piece.now c.next_event-n.result.0 o c.next_event-n.new.self octets told) is (c.next_event-n.ensures.nexts octets told g))
-    (ap (λ (k : Numbers). k.next) c.next_event-n.ensures.numbers)
+pub returns-in-Ok-clause-answers : goal.returns-in-Ok-clause-answers
+returns-in-Ok-clause-answers c = λ octets told g.
+    subst (λ (a : Result ServerEvent ChannelFault). AnswersAt (channel_of c.args.self.now) (next_of c.args.self.now) c.args.moment c.args.piece.now c.go_on-n.result.0 a c.go_on-n.new.self octets told) c.in-Ok.is (c.go_on-n.ensures.answers octets told g)
 
-pub returns-in-Ok-Some-clause-answers : goal.returns-in-Ok-Some-clause-answers
-returns-in-Ok-Some-clause-answers c = λ octets told g.
-    let is : ◌≡◌ {A = Result (Option Event) StepFault} c.next_event-n.result.1 (Ok (Some c.in-Ok-Some.event)) = rw c.in-Ok-Some.field-0-is at c.in-Ok-Some.is in
-    answers_event (channel_of c.args.self.now) (channel_of c.next_event-n.new.self) (next_of c.args.self.now) (next_of c.next_event-n.new.self) c.args.moment c.args.piece.now c.next_event-n.result.0 c.in-Ok-Some.event c.answer.result c.next_event-n.new.self c.answer.new.self octets told
-    c.next_event-n.ensures.channel (ap (λ (k : Numbers). k.next) c.next_event-n.ensures.numbers)
-    (subst (λ (o : Result (Option Event) StepFault). Nexts c.args.piece.now c.next_event-n.result.0 o c.next_event-n.new.self octets told) is (c.next_event-n.ensures.nexts octets told g))
-    (c.answer.ensures.answers (octets ++ take c.next_event-n.result.0 c.args.piece.now) told)
+pub returns-in-Ok-clause-parts : goal.returns-in-Ok-clause-parts
+returns-in-Ok-clause-parts c = λ octets told g.
+    subst (λ (a : Result ServerEvent ChannelFault). IfOk a (λ e. ComesInParts (parts_handed e) c.go_on-n.new.self (octets ++ take c.go_on-n.result.0 c.args.piece.now))) c.in-Ok.is (c.go_on-n.ensures.parts octets told g)
 
-pub returns-in-Err-clause-answers : goal.returns-in-Err-clause-answers
-returns-in-Err-clause-answers c = λ octets told g.
-    answers_fault (channel_of c.args.self.now) (next_of c.args.self.now) c.args.moment c.args.piece.now c.next_event-n.result.0 c.in-Err.fault c.of_step.result c.next_event-n.new.self octets told
-    (subst (λ (o : Result (Option Event) StepFault). Nexts c.args.piece.now c.next_event-n.result.0 o c.next_event-n.new.self octets told) c.in-Err.is (c.next_event-n.ensures.nexts octets told g)) c.of_step.ensures
+pub returns-after-fault-clause-answers : goal.returns-after-fault-clause-answers
+returns-after-fault-clause-answers c = λ octets told g.
+    let failed : AnswersAt (channel_of c.args.self.now) (next_of c.args.self.now) c.args.moment c.args.piece.now c.go_on-n.result.0 (Err c.in-Err.fault) c.go_on-n.new.self octets told =
+    subst (λ (a : Result ServerEvent ChannelFault). AnswersAt (channel_of c.args.self.now) (next_of c.args.self.now) c.args.moment c.args.piece.now c.go_on-n.result.0 a c.go_on-n.new.self octets told) c.in-Err.is (c.go_on-n.ensures.answers octets told g) in
+    elim c.match-fault.branch [
+      | in-OutOfMemory w ↦
+          starved_with (channel_of c.args.self.now) (next_of c.args.self.now) c.args.moment c.args.piece.now c.go_on-n.result.0 c.args.self.now.bound c.in-Err.fault c.go_on-n.new.self c.match-fault.self octets told w.in-OutOfMemory.is w.self-is failed
+      | in_default w ↦
+          subst (λ (y : ServerChannel). AnswersAt (channel_of c.args.self.now) (next_of c.args.self.now) c.args.moment c.args.piece.now c.go_on-n.result.0 (Err c.in-Err.fault) y octets told) (sym w.self-is) failed
+    ]

@@ -2,7 +2,7 @@ use Rattle.std.proofs.Common.{◌≡◌, ◌+◌, Result, Ok, Option, Some, None
 use Rattle.ua_channel.specs.declared.server_event.Event.{Event}
 use Rattle.ua_channel.specs.declared.server_fault.StepFault.{StepFault}
 use Rattle.ua_channel.specs.ServerAnswers.{Progress}
-use Rattle.ua_channel.proofs.Pieces.{progress_there, progress_nothing, took_nothing, took_more, nexts_told, nexts_failed, nexts_nothing}
+use Rattle.ua_channel.proofs.Pieces.{progress_there, progress_nothing, took_nothing, took_more, nexts_told, parts_told, nexts_failed, nexts_nothing}
 use Rattle.ua_channel.proofs.server.ServerChannel.next_event.Goals as goal
 
 pub loop-taken-init : goal.loop-taken-init
@@ -17,6 +17,11 @@ pub returns-in-Ok-Some-clause-nexts : goal.returns-in-Ok-Some-clause-nexts
 returns-in-Ok-Some-clause-nexts c =
     let is : ◌≡◌ {A = Result (Option Event) StepFault} c.step-n.result.1 (Ok (Some c.in-Ok-Some.event)) = rw c.in-Ok-Some.field-0-is at c.in-Ok-Some.is in
     nexts_told c.args.self.now c.loop-taken.self c.step-n.new.self c.args.piece.now c.loop-taken.taken c.step-n.result.0 c.step-n.result.1 c.loop-taken.invariant c.loop-taken-test.true c.step-n.ensures.steps c.step-n.ensures.progress c.in-Ok-Some.event is
+
+pub returns-in-Ok-Some-clause-parts : goal.returns-in-Ok-Some-clause-parts
+returns-in-Ok-Some-clause-parts c =
+    let is : ◌≡◌ {A = Result (Option Event) StepFault} c.step-n.result.1 (Ok (Some c.in-Ok-Some.event)) = rw c.in-Ok-Some.field-0-is at c.in-Ok-Some.is in
+    parts_told c.args.self.now c.loop-taken.self c.step-n.new.self c.args.piece.now c.loop-taken.taken c.step-n.result.0 c.step-n.result.1 c.loop-taken.invariant c.loop-taken-test.true c.step-n.ensures.steps c.step-n.ensures.progress c.step-n.ensures.parts c.in-Ok-Some.event is
 
 pub returns-in-Err-clause-nexts : goal.returns-in-Err-clause-nexts
 returns-in-Err-clause-nexts c = nexts_failed c.args.self.now c.loop-taken.self c.step-n.new.self c.args.piece.now c.loop-taken.taken c.step-n.result.0 c.step-n.result.1 c.loop-taken.invariant c.loop-taken-test.true c.step-n.ensures.steps c.step-n.ensures.progress c.in-Err.fault c.in-Err.is

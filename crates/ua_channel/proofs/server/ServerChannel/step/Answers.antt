@@ -11,7 +11,12 @@ on_frame-answer-requires c =
 pub returns-in-Ok-default-Some-clause-steps : goal.returns-in-Ok-default-Some-clause-steps
 returns-in-Ok-default-Some-clause-steps c = λ octets told g.
     let taken : TakesFrame c.args.self.now.reader c.args.piece.now c.in-Ok-default-Some.n c.in-Ok-default-Some.frame c.take.new.self = rw c.in-Ok-default-Some.field-0-1-is at c.in-Ok-default-Some.ensures.takes in
-    step_frame c.args.self.now c.on_frame-answer.new.self octets c.args.piece.now c.in-Ok-default-Some.n told c.in-Ok-default-Some.frame c.take.new.self c.set_gate.new.self c.gate-gate.result c.on_frame-answer.result g taken c.on_frame-answer.ensures.kept c.gate-gate.ensures c.set_gate.ensures c.on_frame-answer.ensures.judges
+    (step_frame c.args.self.now c.on_frame-answer.new.self octets c.args.piece.now c.in-Ok-default-Some.n told c.in-Ok-default-Some.frame c.take.new.self c.set_gate.new.self c.gate-gate.result c.on_frame-answer.result g taken c.on_frame-answer.ensures.kept c.gate-gate.ensures c.set_gate.ensures c.on_frame-answer.ensures.judges).0
+
+pub returns-in-Ok-default-Some-clause-parts : goal.returns-in-Ok-default-Some-clause-parts
+returns-in-Ok-default-Some-clause-parts c = λ octets told g.
+    let taken : TakesFrame c.args.self.now.reader c.args.piece.now c.in-Ok-default-Some.n c.in-Ok-default-Some.frame c.take.new.self = rw c.in-Ok-default-Some.field-0-1-is at c.in-Ok-default-Some.ensures.takes in
+    (step_frame c.args.self.now c.on_frame-answer.new.self octets c.args.piece.now c.in-Ok-default-Some.n told c.in-Ok-default-Some.frame c.take.new.self c.set_gate.new.self c.gate-gate.result c.on_frame-answer.result g taken c.on_frame-answer.ensures.kept c.gate-gate.ensures c.set_gate.ensures c.on_frame-answer.ensures.judges).1
 
 pub returns-in-Err-clause-steps : goal.returns-in-Err-clause-steps
 returns-in-Err-clause-steps c = λ octets told g.

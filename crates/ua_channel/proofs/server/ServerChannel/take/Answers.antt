@@ -1,7 +1,9 @@
-use Rattle.std.proofs.Common.{Result, subst}
+use Rattle.std.specs.Prelude.{IfOk}
+use Rattle.std.proofs.Common.{◌++◌, take, Result, subst}
 use Rattle.ua_channel.specs.declared.server_event.ServerEvent.{ServerEvent}
 use Rattle.ua_channel.specs.declared.server_fault.ChannelFault.{ChannelFault}
-use Rattle.ua_channel.specs.ServerAnswers.{AnswersAt}
+use Rattle.ua_channel.specs.ServerAnswers.{AnswersAt, ComesInParts}
+use Rattle.ua_channel.specs.ServerEvents.{parts_handed}
 use Rattle.ua_channel.specs.ServerStands.{channel_of, next_of}
 use Rattle.ua_channel.proofs.Answering.{taken_fault}
 use Rattle.ua_channel.proofs.server.ServerChannel.take.Goals as goal
@@ -14,3 +16,7 @@ pub returns-in-Err-clause-answers : goal.returns-in-Err-clause-answers
 returns-in-Err-clause-answers c = λ octets told g.
     taken_fault (channel_of c.args.self.now) (next_of c.args.self.now) c.args.moment c.args.piece.now c.advance-n.result.0 c.in-Err.fault c.advance-n.new.self octets told
     (subst (λ (a : Result ServerEvent ChannelFault). AnswersAt (channel_of c.args.self.now) (next_of c.args.self.now) c.args.moment c.args.piece.now c.advance-n.result.0 a c.advance-n.new.self octets told) c.in-Err.is (c.advance-n.ensures.answers octets told g))
+
+pub returns-in-Ok-clause-parts : goal.returns-in-Ok-clause-parts
+returns-in-Ok-clause-parts c = λ octets told g.
+    subst (λ (a : Result ServerEvent ChannelFault). IfOk a (λ e. ComesInParts (parts_handed e) c.advance-n.new.self (octets ++ take c.advance-n.result.0 c.args.piece.now))) c.in-Ok.is (c.advance-n.ensures.parts octets told g)

@@ -1,16 +1,7 @@
-use Rattle.std.proofs.Common.{◌++◌, take}
-use Rattle.ua_channel.proofs.ClientAdvances.{take_ok, take_err, event_told, nothing_told}
+use Rattle.ua_channel.specs.Client.{IsDone}
 use Rattle.ua_channel.proofs.client.channel.ClientChannel.take.Goals as goal
 
-pub returns-in-None-clause-answers : goal.returns-in-None-clause-answers
-returns-in-None-clause-answers c = λ asks octets told g. nothing_told c.args.piece.now c.in-Ok.n c.in-Ok.found c.advance.new.self asks octets told c.in-None.is (c.in-Ok.ensures.advances asks octets told g)
-
-pub returns-in-Ok-answer-clause-answers : goal.returns-in-Ok-answer-clause-answers
-returns-in-Ok-answer-clause-answers c = λ asks octets told g.
-    take_ok c.args.moment c.args.piece.now c.in-Ok.n c.in-Ok-answer.answer c.answer.new.self asks octets told
-    (c.in-Ok-answer.ensures.answers asks (octets ++ take c.in-Ok.n c.args.piece.now) told (event_told c.args.piece.now c.in-Ok.n c.in-Ok.found c.in-Some.event c.advance.new.self asks octets told c.in-Some.is (c.in-Ok.ensures.advances asks octets told g)))
-
-pub returns-in-Err-answer-clause-answers : goal.returns-in-Err-answer-clause-answers
-returns-in-Err-answer-clause-answers c = λ asks octets told g.
-    take_err c.args.moment c.args.piece.now c.in-Err-answer.fault c.answer.new.self asks octets (octets ++ take c.in-Ok.n c.args.piece.now) told
-    (c.in-Err-answer.ensures.answers asks (octets ++ take c.in-Ok.n c.args.piece.now) told (event_told c.args.piece.now c.in-Ok.n c.in-Ok.found c.in-Some.event c.advance.new.self asks octets told c.in-Some.is (c.in-Ok.ensures.advances asks octets told g)))
+pub returns-in-Err-OutOfMemory-clause-answers : goal.returns-in-Err-OutOfMemory-clause-answers
+returns-in-Err-OutOfMemory-clause-answers c = λ asks octets told g.
+    let done : IsDone c.go_on.new.self = rw c.in-Err-OutOfMemory.field-0-is at c.in-Err-OutOfMemory.ensures.answers asks octets told g in
+    record { phase = done.phase; empty = done.empty }
