@@ -14,8 +14,8 @@ use Rattle.ua_channel.specs.declared.server_event.ServerEvent.TheVariants.{NeedM
 use Rattle.ua_channel.specs.declared.server_event.ServerEvent.TheVariants as event
 use Rattle.ua_channel.specs.declared.server_fault.ChannelFault.{ChannelFault}
 use Rattle.ua_channel.specs.declared.server_fault.ChannelFault.TheVariants as fault
-use Rattle.ua_channel.specs.declared.server_fault.StepFault.{StepFault}
-use Rattle.ua_channel.specs.declared.server_fault.StepFault.TheVariants as step
+use Rattle.ua_channel.specs.declared.step_fault.StepFault.{StepFault}
+use Rattle.ua_channel.specs.declared.step_fault.StepFault.TheVariants as step
 use Rattle.ua_channel.specs.ServerAnswers.{Sends, ServerAnswers, AnswersAt, Tells, Nexts, Answered}
 use Rattle.ua_channel.specs.ServerFaults.{of_step}
 use Rattle.ua_channel.specs.ServerSends.{opened_frame}

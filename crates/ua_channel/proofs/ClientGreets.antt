@@ -3,7 +3,6 @@ use Rattle.std.proofs.Common.{◌≡◌, ℕ, List, [], Bool, Option, Some, None
 use Rattle.ua_builtin.specs.Reasons.{first_reason}
 use Rattle.ua_frame.specs.declared.ack.Ack.{Ack}
 use Rattle.ua_frame.specs.declared.frame.Frame.{Frame}
-use Rattle.ua_frame.specs.declared.kind.Kind.{Kind}
 use Rattle.ua_frame.specs.declared.kind.Kind.TheVariants as kind
 use Rattle.ua_frame.specs.declared.limits.Limits.{Limits}
 use Rattle.ua_frame.specs.Messages.{ack, error}
@@ -12,12 +11,13 @@ use Rattle.ua_channel.specs.Asks.{Asking}
 use Rattle.ua_channel.specs.ClientParts.{IsStopFor, Judged, error_reasons, ack_reasons, IsAgreed}
 use Rattle.ua_channel.specs.ClientTable.{client_reasons}
 use Rattle.ua_channel.specs.ClientTold.{Why}
-use Rattle.ua_channel.specs.Content.{Content, content, content_by}
+use Rattle.ua_channel.specs.Content.{Content, content}
 use Rattle.ua_channel.specs.Content.Content.{Acks, Fails}
 use Rattle.ua_channel.specs.Received.{Received, nothing_received}
 use Rattle.ua_channel.specs.declared.client.agreed.Agreed.{Agreed}
 use Rattle.ua_channel.specs.declared.client.fault.Stop.{Stop}
 use Rattle.ua_channel.specs.declared.client.fault.Stop.TheVariants.{Refused, Peer, OutOfMemory, Closed}
+use Rattle.ua_channel.proofs.Carried.{content_ack, content_err}
 
 -- ---- other reasons with the same first one
 
@@ -30,16 +30,6 @@ stops_same rs ss Closed same h = h
 pub judged_same : {A : Type 0} (rs ss : List (Why × Bool)) (P Q : A → Type 0) (r : Result A Stop) → first_reason ss ≡ first_reason rs → ((a : A) → first_reason rs ≡ None → P a → Q a) → Judged rs P r → Judged ss Q r
 judged_same rs ss P Q (Ok a) same more h = (same ∙ h.0, more a h.0 h.1)
 judged_same rs ss P Q (Err stop) same more h = stops_same rs ss stop same h
-
--- ---- what frames carry, by their kinds
-
-pub content_ack : (f : Frame) → f.kind ≡ kind.Ack → content f ≡ Acks (whole_of ack f.body)
-unfolding content
-content_ack f is = ap (λ (k : Kind). content_by k f) is
-
-pub content_err : (f : Frame) → f.kind ≡ kind.Err → content f ≡ Fails (whole_of error f.body)
-unfolding content
-content_err f is = ap (λ (k : Kind). content_by k f) is
 
 -- ---- ACK and ERR
 

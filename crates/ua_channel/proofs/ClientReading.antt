@@ -74,7 +74,7 @@ use Rattle.ua_channel.proofs.Askings.{all-push, all-weaken, asked_in-push, pendi
 use Rattle.ua_channel.proofs.ClientAsking.{first_unset}
 use Rattle.ua_channel.proofs.ClientTakes.{IsReady, IsSent, all_asked, fits_one, fits_pieces, told_chunks, tokens_used}
 use Rattle.ua_channel.proofs.ClientTalks.{first_tail, responses-push, opened_ids-push, tokens_of-push, channel_in-push, no_ids, no_responses, no_tokens, awaited_later, later_tells}
-use Rattle.ua_channel.proofs.Frames.{content_ack, content_opn}
+use Rattle.ua_channel.proofs.Carried.{content_ack, content_opn}
 use Rattle.ua_channel.proofs.HeldTokens.{from_last-again, held_by-push, latest-from_last, latest-push, stays_in}
 use Rattle.ua_channel.proofs.OneFrameMore.{received-nil, received-push}
 use Rattle.ua_channel.proofs.ReadOn.{events_on, no_events, one_octets, run_on, run_one}

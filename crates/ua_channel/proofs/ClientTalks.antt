@@ -8,7 +8,6 @@ use Rattle.std.proofs.lemmas.Grind.{flat_map-append}
 use Rattle.ua_builtin.specs.Reasons.{first_reason, renamed_reason}
 use Rattle.ua_chunk.specs.Refusal.{reasons}
 use Rattle.ua_frame.specs.declared.frame.Frame.{Frame}
-use Rattle.ua_frame.specs.declared.kind.Kind.{Kind}
 use Rattle.ua_frame.specs.declared.kind.Kind.TheVariants.{Msg, Opn}
 use Rattle.ua_chunk.specs.Layout.{chunk_in}
 use Rattle.ua_frame.specs.declared.limits.Limits.{Limits}
@@ -26,7 +25,7 @@ use Rattle.ua_channel.specs.ClientParts.{parts_of, why_of, IsStopFor, Judged, Is
 use Rattle.ua_channel.specs.ClientTable.{client_reasons, is_awaited}
 use Rattle.ua_channel.specs.ClientTokens.{answer_in, response_listed, id_listed, responses, opened_ids, channel_in, tokens_of, from_last, held_by, held_tokens}
 use Rattle.ua_channel.specs.ClientTold.{Told, Told as told, ours, client_tells, told_response}
-use Rattle.ua_channel.specs.Content.{Opening, Content, content, content_by, opening_of, sends}
+use Rattle.ua_channel.specs.Content.{Opening, Content, content, opening_of}
 use Rattle.ua_channel.specs.Content.Content.{Opens, Sends}
 use Rattle.ua_channel.specs.Received.{Received, after, listed, latest, number_or}
 use Rattle.ua_channel.specs.declared.client.agreed.Agreed.{Agreed}
@@ -34,6 +33,7 @@ use Rattle.ua_channel.specs.declared.client.answer.Answer.{Answer}
 use Rattle.ua_channel.specs.declared.client.event.Event.{Event}
 use Rattle.ua_channel.specs.declared.client.fault.Stop.{Stop}
 use Rattle.ua_channel.specs.declared.client.talking.Talking.{Talking}
+use Rattle.ua_channel.proofs.Carried.{content_opn, content_msg}
 use Rattle.ua_channel.proofs.ClientGreets.{judged_same}
 use Rattle.ua_channel.proofs.Askings.{pending_below, pending_calls-more, pending_renewals-more, renewal_below, all-push}
 use Rattle.ua_channel.proofs.ClientAsking.{first_unset}
@@ -259,14 +259,6 @@ last_unset a b (r ∷ rs) e = last_unset a b rs (first_tail r.0 r.1 (rs ++ (a, b
 not_false : (b : Bool) → not b ≡ false → b ≡ true
 not_false true e = refl
 not_false false e = absurd cc
-
-content_opn : (f : Frame) → f.kind ≡ Opn → content f ≡ Opens (opening_of f.body)
-unfolding content
-content_opn f is = ap (λ (k : Kind). content_by k f) is
-
-content_msg : (f : Frame) (c : Chunk) → f.kind ≡ Msg → chunk_in f ≡ Some c → content f ≡ Sends c
-unfolding content
-content_msg f c is found = ap (λ (k : Kind). content_by k f) is ∙ ap sends found
 
 pub first_judged : (limits : Limits) (g : Agreed) (f : Frame) (a : Answer) (r : Result Talking Stop) → f.kind ≡ Opn → IsAnswerOf (opening_of f.body) a → Judged (first_reasons a) (IsOpenedWith limits g a) r
     → Judged (client_reasons limits (greeted g) [] (content f)) (IsOpenedBy limits g (content f)) r

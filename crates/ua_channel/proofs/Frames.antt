@@ -8,8 +8,6 @@ use Rattle.ua_frame.specs.declared.kind.Kind.TheVariants as kind
 use Rattle.ua_frame.specs.declared.limits.Limits.{Limits}
 use Rattle.ua_frame.specs.Hello.{hello_gate, hello_in}
 use Rattle.ua_frame.specs.Kinds.{lets_in}
-use Rattle.ua_frame.specs.Messages.{ack}
-use Rattle.ua_frame.specs.Whole.{whole_of}
 use Rattle.ua_chunk.specs.declared.chunk.Chunk.{Chunk}
 use Rattle.ua_chunk.specs.Layout.{chunk_in}
 use Rattle.ua_channel.specs.declared.running.Running.{Running}
@@ -18,16 +16,17 @@ use Rattle.ua_channel.specs.declared.server.Phase.TheVariants.{Greeted, Open, Do
 use Rattle.ua_channel.specs.declared.server.ServerChannel.{ServerChannel}
 use Rattle.ua_channel.specs.declared.server_event.Event.{Event}
 use Rattle.ua_channel.specs.declared.server_event.Event.TheVariants as event
-use Rattle.ua_channel.specs.declared.server_fault.StepFault.{StepFault}
-use Rattle.ua_channel.specs.declared.server_fault.StepFault.TheVariants.{Refused, Closed, OutOfMemory}
+use Rattle.ua_channel.specs.declared.step_fault.StepFault.{StepFault}
+use Rattle.ua_channel.specs.declared.step_fault.StepFault.TheVariants.{Refused, Closed, OutOfMemory}
 use Rattle.ua_channel.specs.Agreement.{Agreement}
-use Rattle.ua_channel.specs.Content.{Content, sends, closes, opening_of, content_by, content}
-use Rattle.ua_channel.specs.Content.Content.{Greets, Acks, Opens, Sends, Closes}
+use Rattle.ua_channel.specs.Content.{Content, opening_of, content}
+use Rattle.ua_channel.specs.Content.Content.{Greets, Opens, Sends, Closes}
 use Rattle.ua_channel.specs.Received.{Received, nothing_received, or_before, after}
 use Rattle.ua_channel.specs.ServerParts.{AgreesTo, JudgesHello, HasGreeted, JudgesFirst, Stays, Judges, JudgesClose}
 use Rattle.ua_channel.specs.ServerRules.{opening_gate}
 use Rattle.ua_channel.specs.ServerStands.{InPhase, phase_gate, limits_of, channel_of, bound_behind, bound_after, Holds, GoesOn, JudgesFrame}
 use Rattle.ua_channel.specs.ServerTold.{Told as told, server_tells}
+use Rattle.ua_channel.proofs.Carried.{content_hel, content_opn, content_msg, content_clo}
 
 -- ---- the kinds that are let in
 
@@ -53,28 +52,6 @@ was x before p is h = subst (λ (q : Phase). InPhase (limits_of x) q before) (sy
 
 pub placed : (x : ServerChannel) (p : Phase) (k : Kind) → p ≡ x.phase → IsTrue (lets_in (phase_gate x.phase) k) → IsTrue (lets_in (phase_gate p) k)
 placed x p k is h = subst (λ (q : Phase). IsTrue (lets_in (phase_gate q) k)) (sym is) h
-
--- ---- what frames of a kind carry
-
-pub content_hel : (f : Frame) → f.kind ≡ Hel → content f ≡ Greets (hello_in f.body)
-unfolding content
-content_hel f e = ap (λ (k : Kind). content_by k f) e
-
-pub content_ack : (f : Frame) → f.kind ≡ kind.Ack → content f ≡ Acks (whole_of ack f.body)
-unfolding content
-content_ack f e = ap (λ (k : Kind). content_by k f) e
-
-pub content_opn : (f : Frame) → f.kind ≡ Opn → content f ≡ Opens (opening_of f.body)
-unfolding content
-content_opn f e = ap (λ (k : Kind). content_by k f) e
-
-pub content_msg : (f : Frame) (c : Chunk) → f.kind ≡ Msg → chunk_in f ≡ Some c → content f ≡ Sends c
-unfolding content
-content_msg f c e h = ap (λ (k : Kind). content_by k f) e ∙ ap sends h
-
-pub content_clo : (f : Frame) (c : Chunk) → f.kind ≡ Clo → chunk_in f ≡ Some c → content f ≡ Closes c
-unfolding content
-content_clo f c e h = ap (λ (k : Kind). content_by k f) e ∙ ap closes h
 
 -- ---- faults
 

@@ -3,6 +3,7 @@ pub mod Greets
 pub mod Openings
 pub mod MessageParts
 pub mod Runs
+pub mod Carried
 pub mod Frames
 pub mod Phases
 mod ServerMessages

@@ -14,13 +14,13 @@ use Rattle.ua_chunk.specs.declared.fault.OpenFault.TheVariants.{Unreadable, Poli
 use Rattle.ua_chunk.specs.Layout.{sequence_header}
 use Rattle.ua_chunk.specs.Opening.{SecurityHeader, channel_of, policy_of, policy_header, is_none_policy, opening_behind, opening_with, opening_in, sequence_fault, headers_fault, open_refusal}
 use Rattle.ua_chunk.specs.Sequence.{may_follow}
-use Rattle.ua_channel.specs.declared.server_fault.StepFault.{StepFault}
-use Rattle.ua_channel.specs.declared.server_fault.StepFault.TheVariants as step
+use Rattle.ua_channel.specs.declared.step_fault.StepFault.{StepFault}
+use Rattle.ua_channel.specs.declared.step_fault.StepFault.TheVariants as step
 use Rattle.ua_channel.specs.declared.server_opening.Asked.{Asked}
 use Rattle.ua_channel.specs.Content.{Opening, opening_numbered, opening_secured, opening_of}
 use Rattle.ua_channel.specs.Content.Content.{Opens}
 use Rattle.ua_channel.specs.Received.{Received}
-use Rattle.ua_channel.specs.ServerFaults.{of_open_fault}
+use Rattle.ua_channel.specs.StepFaults.{of_open_fault}
 use Rattle.ua_channel.specs.ServerParts.{IsAskedIn, ReadsAsked, asked_reasons, OpensSo, JudgesOpening}
 use Rattle.ua_channel.specs.ServerRefusals.{type_wanted, server_reasons}
 use Rattle.ua_channel.specs.ServerTold.{Told as told, request_of, issued, server_tells}

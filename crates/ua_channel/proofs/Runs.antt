@@ -19,8 +19,8 @@ use Rattle.ua_channel.specs.declared.running.Running.{Running}
 use Rattle.ua_chunk.specs.View.{items_of, HasParts}
 use Rattle.ua_channel.specs.declared.server_event.Event.{Event}
 use Rattle.ua_channel.specs.declared.server_event.Event.TheVariants as event
-use Rattle.ua_channel.specs.declared.server_fault.StepFault.{StepFault}
-use Rattle.ua_channel.specs.declared.server_fault.StepFault.TheVariants as step
+use Rattle.ua_channel.specs.declared.step_fault.StepFault.{StepFault}
+use Rattle.ua_channel.specs.declared.step_fault.StepFault.TheVariants as step
 use Rattle.ua_channel.specs.declared.server_opening.Opened.{Opened}
 use Rattle.ua_channel.specs.Agreement.{Agreement}
 use Rattle.ua_channel.specs.Content.{Content, Opening, opening_of}
@@ -28,26 +28,19 @@ use Rattle.ua_channel.specs.Content.Content.{Opens, Sends, Closes}
 use Rattle.ua_channel.specs.Received.{Received, number_or, after}
 use Rattle.ua_channel.specs.MessageParts.{MayEndIn, parts_in}
 use Rattle.ua_channel.specs.ServerEvents.{told_of, told_list, parts_of}
-use Rattle.ua_channel.specs.ServerFaults.{of_chunk_fault}
+use Rattle.ua_channel.specs.StepFaults.{fault_code, of_chunk_fault}
 use Rattle.ua_channel.specs.ServerParts.{HasGreeted, JudgesFirst, JudgesOpening, OpensSo, Judges, Stays, Takes, ids_reasons}
 use Rattle.ua_channel.specs.ServerRefusals.{last_used, or_first, server_reasons}
 use Rattle.ua_channel.specs.ServerTold.{Told, Told as told, told_item, issued}
 use Rattle.ua_channel.proofs.MessageParts.{ends_in}
 
 -- the code of a fault of the assembler
-pub fault_code : AssembleFault → ℕ
-fault_code Sequence = 0x8088_0000
-fault_code Unreadable = 0x8007_0000
-fault_code TooManyOpen = 0x8081_0000
-fault_code MessageTooLarge = 0x80B8_0000
-fault_code TooManyChunks = 0x80B8_0000
-fault_code OutOfMemory = 0
-fault_code Closed = 0
+abbrev pub refused_code : AssembleFault → ℕ
+refused_code fault = fault_code 0x80B8_0000 fault
 
 -- a MSG is judged by its ids, and then as the assembler judges its chunk
 pub judged_sends : (limits : Limits) (channel : ℕ) (before : Received) (c : Chunk) → first_reason (server_reasons limits channel before (Sends c))
-    ≡ first_reason (ids_reasons c channel (last_used before) (issued before) ++ map (renamed_reason fault_code) (reasons limits.max_message_size limits.max_chunk_count before.last before.messages c))
-unfolding fault_code
+    ≡ first_reason (ids_reasons c channel (last_used before) (issued before) ++ map (renamed_reason refused_code) (reasons limits.max_message_size limits.max_chunk_count before.last before.messages c))
 judged_sends limits channel before c = refl
 
 -- a CLO is judged by its ids, and then by its number
@@ -63,7 +56,7 @@ module _ (limits : Limits) (r : Running) (before : Received) (channel : ℕ) (c 
   pub sends_ids_refused : (code : ℕ) → first_reason (ids_reasons c channel r.used r.issued) ≡ Some code → first_reason (server_reasons limits channel before (Sends c)) ≡ Some code
   sends_ids_refused code e =
       judged_sends limits channel before c
-      ∙ first_among (ids_reasons c channel (last_used before) (issued before)) (map (renamed_reason fault_code) (reasons limits.max_message_size limits.max_chunk_count before.last before.messages c)) code (ap first_reason ids_as ∙ e)
+      ∙ first_among (ids_reasons c channel (last_used before) (issued before)) (map (renamed_reason refused_code) (reasons limits.max_message_size limits.max_chunk_count before.last before.messages c)) code (ap first_reason ids_as ∙ e)
 
   pub closes_ids_refused : (code : ℕ) → first_reason (ids_reasons c channel r.used r.issued) ≡ Some code → first_reason (server_reasons limits channel before (Closes c)) ≡ Some code
   closes_ids_refused code e =
@@ -77,12 +70,12 @@ module _ (limits : Limits) (r : Running) (before : Received) (channel : ℕ) (c 
       ∙ (ap (λ (n : ℕ). refusal limits.max_message_size n (last_number r.assembler) before.messages c) stays.chunks
       ∙ ap (λ (o : Option ℕ). refusal limits.max_message_size limits.max_chunk_count o before.messages c) (sym stays.last_is))
 
-  pub sends_judged : first_reason (ids_reasons c channel r.used r.issued) ≡ None → first_reason (server_reasons limits channel before (Sends c)) ≡ option_map fault_code (refusal (octet_limit r.assembler) (chunk_limit r.assembler) (last_number r.assembler) before.messages c)
+  pub sends_judged : first_reason (ids_reasons c channel r.used r.issued) ≡ None → first_reason (server_reasons limits channel before (Sends c)) ≡ option_map refused_code (refusal (octet_limit r.assembler) (chunk_limit r.assembler) (last_number r.assembler) before.messages c)
   sends_judged e =
       judged_sends limits channel before c
-      ∙ (first_behind (ids_reasons c channel (last_used before) (issued before)) (map (renamed_reason fault_code) (reasons limits.max_message_size limits.max_chunk_count before.last before.messages c)) (ap first_reason ids_as ∙ e)
-      ∙ (first_reason-map fault_code (reasons limits.max_message_size limits.max_chunk_count before.last before.messages c)
-      ∙ ap (option_map fault_code) (sym refusal_as)))
+      ∙ (first_behind (ids_reasons c channel (last_used before) (issued before)) (map (renamed_reason refused_code) (reasons limits.max_message_size limits.max_chunk_count before.last before.messages c)) (ap first_reason ids_as ∙ e)
+      ∙ (first_reason-map refused_code (reasons limits.max_message_size limits.max_chunk_count before.last before.messages c)
+      ∙ ap (option_map refused_code) (sym refusal_as)))
 
   pub closes_judged : first_reason (ids_reasons c channel r.used r.issued) ≡ None → first_reason (server_reasons limits channel before (Closes c)) ≡ first_reason ((0x8088_0000, not (may_follow (last_number r.assembler) c.sequence)) ∷ [])
   closes_judged e =
@@ -97,7 +90,7 @@ module _ (limits : Limits) (r : Running) (before : Received) (channel : ℕ) (c 
       → given before.messages c ≡ items_of d → HasParts d (bodies (gathered before.messages c)) → told_list e ≡ map (told_item c.token) (items_of d) → parts_of e ≡ parts_in d → assembling.Stands new (before.messages ++ c ∷ []) → last_number new ≡ Some c.sequence → SameLimits r.assembler new
       → Takes limits channel before (Sends c) e × Stays limits (record r { assembler = new; used = c.token }) (after before (Sends c))
   takes_message d e new ids good items parts event same_parts stands last same = (
-    record { accepted = sends_judged ids ∙ ap (option_map fault_code) good; tells = ap (map (told_item c.token)) items ∙ sym event; parts = ends_in before.messages c d (parts_of e) same_parts parts },
+    record { accepted = sends_judged ids ∙ ap (option_map refused_code) good; tells = ap (map (told_item c.token)) items ∙ sym event; parts = ends_in before.messages c d (parts_of e) same_parts parts },
     record {
       hello = stays.hello;
       hello_is = stays.hello_is;
@@ -115,18 +108,17 @@ module _ (limits : Limits) (r : Running) (before : Received) (channel : ℕ) (c 
   )
 
   judged_fault : (fault : AssembleFault) (r' : Running) → first_reason (ids_reasons c channel r.used r.issued) ≡ None → IsFor (refusal (octet_limit r.assembler) (chunk_limit r.assembler) (last_number r.assembler) before.messages c) fault
-      → Judges limits channel before (Sends c) (Err (of_chunk_fault fault)) r'
-  unfolding fault_code
-  judged_fault Sequence r' ids h = sends_judged ids ∙ ap (option_map fault_code) h
-  judged_fault Unreadable r' ids h = sends_judged ids ∙ ap (option_map fault_code) h
-  judged_fault TooManyOpen r' ids h = sends_judged ids ∙ ap (option_map fault_code) h
-  judged_fault MessageTooLarge r' ids h = sends_judged ids ∙ ap (option_map fault_code) h
-  judged_fault TooManyChunks r' ids h = sends_judged ids ∙ ap (option_map fault_code) h
+      → Judges limits channel before (Sends c) (Err (of_chunk_fault 0x80B8_0000 fault)) r'
+  judged_fault Sequence r' ids h = sends_judged ids ∙ ap (option_map refused_code) h
+  judged_fault Unreadable r' ids h = sends_judged ids ∙ ap (option_map refused_code) h
+  judged_fault TooManyOpen r' ids h = sends_judged ids ∙ ap (option_map refused_code) h
+  judged_fault MessageTooLarge r' ids h = sends_judged ids ∙ ap (option_map refused_code) h
+  judged_fault TooManyChunks r' ids h = sends_judged ids ∙ ap (option_map refused_code) h
   judged_fault OutOfMemory r' ids h = tt
   judged_fault Closed r' ids h = h
 
   -- a chunk that is refused
-  pub refuses_message : (fault : AssembleFault) (e : StepFault) (r' : Running) → first_reason (ids_reasons c channel r.used r.issued) ≡ None → IsFor (refusal (octet_limit r.assembler) (chunk_limit r.assembler) (last_number r.assembler) before.messages c) fault → e ≡ of_chunk_fault fault
+  pub refuses_message : (fault : AssembleFault) (e : StepFault) (r' : Running) → first_reason (ids_reasons c channel r.used r.issued) ≡ None → IsFor (refusal (octet_limit r.assembler) (chunk_limit r.assembler) (last_number r.assembler) before.messages c) fault → e ≡ of_chunk_fault 0x80B8_0000 fault
       → Judges limits channel before (Sends c) (Err e) r'
   refuses_message fault e r' ids h is = subst (λ (x : StepFault). Judges limits channel before (Sends c) (Err x) r') (sym is) (judged_fault fault r' ids h)
 
@@ -160,10 +152,10 @@ module _ (limits : Limits) (r : Running) (before : Received) (channel : ℕ) (bo
   pub refuses_number : IsFalse (may_follow (last_number r.assembler) o.sequence) → first_reason (server_reasons limits channel before (Opens (opening_of body))) ≡ Some 0x8088_0000
   refuses_number e = remain ∙ ap (λ (b : Bool). first_reason ((0x8088_0000, not b) ∷ (0x8081_0000, eqb (issued before) 4294967295) ∷ [])) (ap (λ (n : Option ℕ). may_follow n o.sequence) stays.last_is ∙ e)
 
-  renewal_fault : (fault : AssembleFault) (r' : Running) → fault ≡ Sequence → IsFalse (may_follow (last_number r.assembler) o.sequence) → Judges limits channel before (Opens (opening_of body)) (Err (of_chunk_fault fault)) r'
-  renewal_fault fault r' is e = subst (λ (x : AssembleFault). Judges limits channel before (Opens (opening_of body)) (Err (of_chunk_fault x)) r') (sym is) (refuses_number e)
+  renewal_fault : (fault : AssembleFault) (r' : Running) → fault ≡ Sequence → IsFalse (may_follow (last_number r.assembler) o.sequence) → Judges limits channel before (Opens (opening_of body)) (Err (of_chunk_fault 0x80B8_0000 fault)) r'
+  renewal_fault fault r' is e = subst (λ (x : AssembleFault). Judges limits channel before (Opens (opening_of body)) (Err (of_chunk_fault 0x80B8_0000 x)) r') (sym is) (refuses_number e)
 
-  pub refuses_renewal : (fault : AssembleFault) (e : StepFault) (r' : Running) → fault ≡ Sequence → IsFalse (may_follow (last_number r.assembler) o.sequence) → e ≡ of_chunk_fault fault → Judges limits channel before (Opens (opening_of body)) (Err e) r'
+  pub refuses_renewal : (fault : AssembleFault) (e : StepFault) (r' : Running) → fault ≡ Sequence → IsFalse (may_follow (last_number r.assembler) o.sequence) → e ≡ of_chunk_fault 0x80B8_0000 fault → Judges limits channel before (Opens (opening_of body)) (Err e) r'
   refuses_renewal fault e r' first breaks is = subst (λ (x : StepFault). Judges limits channel before (Opens (opening_of body)) (Err x) r') (sym is) (renewal_fault fault r' first breaks)
 
   remain_numbered : IsTrue (may_follow (last_number r.assembler) o.sequence) → first_reason (server_reasons limits channel before (Opens (opening_of body))) ≡ first_reason ((0x8081_0000, eqb r.issued 4294967295) ∷ [])

@@ -41,7 +41,7 @@ use Rattle.ua_channel.proofs.Frames.{hel_only, opn_only}
 use Rattle.ua_channel.proofs.OneFrameMore.{received-nil, received-push}
 use Rattle.ua_channel.proofs.Phases.{greeted_by}
 use Rattle.ua_channel.proofs.PairedCalls.{none_holds, was_pending}
-use Rattle.ua_channel.proofs.Runs.{fault_code, judged_closes, judged_sends}
+use Rattle.ua_channel.proofs.Runs.{refused_code, judged_closes, judged_sends}
 
 -- ---- a HEL
 
@@ -107,14 +107,14 @@ module _ (limits : Limits) (channel : ℕ) (b : Received) where
       record { on = was_pending (eqb c.channel channel) all.0; taken = was_pending (is_taken b c.token) all.1.0 }
 
   rows_of : Chunk → List (ℕ × Bool)
-  rows_of c = map (renamed_reason fault_code) (reasons limits.max_message_size limits.max_chunk_count b.last b.messages c)
+  rows_of c = map (renamed_reason refused_code) (reasons limits.max_message_size limits.max_chunk_count b.last b.messages c)
 
   message_apart : (c : Chunk) → first_reason (server_reasons limits channel b (Sends c)) ≡ None → (may_follow b.last c.sequence ≡ true) × (message_refusal limits.max_message_size limits.max_chunk_count b.messages c ≡ None)
   unfolding rows_of
   message_apart c e =
       (apart limits.max_message_size limits.max_chunk_count b.last b.messages c).0
-      (none_named fault_code (refusal limits.max_message_size limits.max_chunk_count b.last b.messages c)
-      (sym (first_reason-map fault_code (reasons limits.max_message_size limits.max_chunk_count b.last b.messages c))
+      (none_named refused_code (refusal limits.max_message_size limits.max_chunk_count b.last b.messages c)
+      (sym (first_reason-map refused_code (reasons limits.max_message_size limits.max_chunk_count b.last b.messages c))
       ∙ none_then (ids_reasons c channel (last_used b) (issued b)) (rows_of c) (sym (judged_sends limits channel b c) ∙ e)))
 
   sends_split : (c : Chunk) → first_reason (server_reasons limits channel b (Sends c)) ≡ None → first_reason (ids_reasons c channel (last_used b) (issued b)) ≡ None
@@ -126,8 +126,8 @@ module _ (limits : Limits) (channel : ℕ) (b : Received) where
   message_taken c g follows good =
       judged_sends limits channel b c
       ∙ (first_behind (ids_reasons c channel (last_used b) (issued b)) (rows_of c) (ids_taken c g)
-      ∙ (first_reason-map fault_code (reasons limits.max_message_size limits.max_chunk_count b.last b.messages c)
-      ∙ ap (option_map fault_code) ((apart limits.max_message_size limits.max_chunk_count b.last b.messages c).1 (follows, good))))
+      ∙ (first_reason-map refused_code (reasons limits.max_message_size limits.max_chunk_count b.last b.messages c)
+      ∙ ap (option_map refused_code) ((apart limits.max_message_size limits.max_chunk_count b.last b.messages c).1 (follows, good))))
 
 -- ---- one frame
 

@@ -59,7 +59,7 @@ use Rattle.ua_channel.specs.ServerRefusals.{is_taken, last_used, or_first, serve
 use Rattle.ua_channel.specs.ServerRules.{gate_behind, opening_gate, receive_size, running_gate, server_gate, server_rules}
 use Rattle.ua_channel.specs.ServerTold.{Told, Told as event, issued, server_tells, told_item}
 use Rattle.ua_channel.proofs.Askings.{all-weaken}
-use Rattle.ua_channel.proofs.Frames.{content_clo, content_hel, content_opn}
+use Rattle.ua_channel.proofs.Carried.{content_clo, content_hel, content_opn}
 use Rattle.ua_channel.proofs.OneFrameMore.{received-nil, received-push}
 use Rattle.ua_channel.proofs.ClientFrames.{hello_length}
 use Rattle.ua_channel.proofs.Openings.{HasHeaders, opens}

@@ -28,7 +28,7 @@ use Rattle.ua_channel.specs.ServerRefusals.{is_taken, last_used, server_reasons}
 use Rattle.ua_channel.specs.ServerRules.{gate_behind, receive_size, running_gate, server_gate, server_rules}
 use Rattle.ua_channel.specs.ServerTold.{Told, issued, server_tells, told_item}
 use Rattle.ua_channel.proofs.Phases.{greeted_by}
-use Rattle.ua_channel.proofs.Runs.{fault_code, judged_sends}
+use Rattle.ua_channel.proofs.Runs.{refused_code, judged_sends}
 use Rattle.ua_channel.proofs.WithChunks.{one_more}
 use Rattle.ua_channel.proofs.Written.{IsNumbered, chunk_carried, chunk_flag, chunk_size}
 
@@ -73,10 +73,10 @@ module _ (limits : Limits) (channel token : ℕ) (h : Hello) (base : List Chunk)
       ap (λ (cs : List Chunk). message_refusal limits.max_message_size limits.max_chunk_count cs c) r.messages_are ∙ (fresh_message limits.max_message_size limits.max_chunk_count base us c none ∙ good) in
       let accepted : refusal limits.max_message_size limits.max_chunk_count b.last b.messages c ≡ None =
       (apart limits.max_message_size limits.max_chunk_count b.last b.messages c).1 (ap (λ (o : Option ℕ). may_follow o c.sequence) r.last_is ∙ follows, message) in
-      let rows = map (renamed_reason fault_code) (reasons limits.max_message_size limits.max_chunk_count b.last b.messages c) in
+      let rows = map (renamed_reason refused_code) (reasons limits.max_message_size limits.max_chunk_count b.last b.messages c) in
       judged_sends limits channel b c
       ∙ (first_behind (ids_reasons c channel (last_used b) (issued b)) rows (ids_good c b sent.channel_is sent.token_is r.taken)
-      ∙ (first_reason-map fault_code (reasons limits.max_message_size limits.max_chunk_count b.last b.messages c) ∙ ap (option_map fault_code) accepted))
+      ∙ (first_reason-map refused_code (reasons limits.max_message_size limits.max_chunk_count b.last b.messages c) ∙ ap (option_map refused_code) accepted))
 
   gate_is : (last : Option ℕ) (us : List Chunk) (b : Received) → IsReady h token last base us b → server_gate limits b ≡ running_gate (receive_size limits (Some h))
   gate_is last us b r = ap (λ (o : Option Hello). gate_behind limits o (issued b)) r.hello_is ∙ greeted_by (receive_size limits (Some h)) (issued b) r.some

@@ -20,14 +20,14 @@ use Rattle.ua_channel.specs.declared.server.Phase.TheVariants.{Done}
 use Rattle.ua_channel.specs.declared.server.ServerChannel.{ServerChannel}
 use Rattle.ua_channel.specs.declared.server_event.Event.{Event}
 use Rattle.ua_channel.specs.declared.server_event.Event.TheVariants as inner
-use Rattle.ua_channel.specs.declared.server_fault.StepFault.{StepFault}
-use Rattle.ua_channel.specs.declared.server_fault.StepFault.TheVariants.{Refused, OutOfMemory}
-use Rattle.ua_channel.specs.declared.server_fault.StepFault.TheVariants as step
+use Rattle.ua_channel.specs.declared.step_fault.StepFault.{StepFault}
+use Rattle.ua_channel.specs.declared.step_fault.StepFault.TheVariants.{Refused, OutOfMemory}
+use Rattle.ua_channel.specs.declared.step_fault.StepFault.TheVariants as step
 use Rattle.ua_channel.specs.Content.{content}
 use Rattle.ua_channel.specs.Received.{Received, received, after}
 use Rattle.ua_channel.specs.ServerAnswers.{Tells, Steps, ComesInParts}
 use Rattle.ua_channel.specs.ServerEvents.{told_of, parts_of}
-use Rattle.ua_channel.specs.ServerFaults.{of_frame_fault}
+use Rattle.ua_channel.specs.StepFaults.{of_frame_fault}
 use Rattle.ua_channel.specs.ServerParts.{Takes as TakesIt}
 use Rattle.ua_channel.specs.ServerRefusals.{server_reasons}
 use Rattle.ua_channel.specs.ServerRules.{server_gate}

@@ -24,7 +24,7 @@ use Rattle.ua_chunk.proofs.Pieces.{full_pieces, next_small}
 use Rattle.ua_chunk.proofs.ReaderLaws.{frame_of_chunk}
 use Rattle.ua_channel.specs.Content.{content, opening_numbered, opening_of, opening_secured}
 use Rattle.ua_channel.specs.Content.Content.{Sends}
-use Rattle.ua_channel.proofs.Frames.{content_msg}
+use Rattle.ua_channel.proofs.Carried.{content_msg}
 
 -- ---- chunks
 

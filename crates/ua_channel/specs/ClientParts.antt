@@ -1,15 +1,12 @@
 -- What the parts of a client make of a frame.
-use Rattle.std.specs.Prelude.{◌≡◌, ℕ, ◌≤◌, ◌<◌, ◌==◌, Bool, true, false, ◌||◌, if◌then◌else◌, not, map, nat_le, is_none, length, take, List, [], ◌∷◌, ◌++◌, IsTrue, Option, Some, None, Result, Ok, Err}
+use Rattle.std.specs.Prelude.{◌≡◌, ℕ, ◌≤◌, ◌<◌, ◌==◌, Bool, true, false, ◌||◌, if◌then◌else◌, not, map, nat_le, is_none, length, take, List, [], ◌∷◌, ◌++◌, Option, Some, None, Result, Ok, Err}
 use Rattle.std.specs.List.{concat, filter}
 use Rattle.ua_builtin.specs.Reasons.{first_reason, renamed_reason}
-use Rattle.ua_builtin.specs.Status.{of_code}
 use Rattle.ua_frame.specs.declared.ack.Ack.{Ack}
 use Rattle.ua_frame.specs.declared.error.ErrorFrame.{ErrorFrame}
 use Rattle.ua_frame.specs.declared.fault.FrameFault.{FrameFault}
-use Rattle.ua_frame.specs.declared.frame.Frame.{Frame}
 use Rattle.ua_frame.specs.declared.limits.Limits.{Limits}
-use Rattle.ua_frame.specs.Frames.{frame_size, header_code}
-use Rattle.ua_frame.specs.Kinds.{has_flag, least_size}
+use Rattle.ua_frame.specs.Frames.{header_code}
 use Rattle.ua_frame.specs.Reader.{open_reader}
 use Rattle.ua_chunk.specs.Assembling.{Stands, SameLimits, octet_limit, chunk_limit, last_number}
 use Rattle.ua_chunk.specs.Delivered.{given}
@@ -20,9 +17,7 @@ use Rattle.ua_chunk.specs.View.{items_of, HasParts}
 use Rattle.ua_chunk.specs.declared.chunk.Chunk.{Chunk}
 use Rattle.ua_chunk.specs.declared.delivered.Delivered.{Delivered}
 use Rattle.ua_chunk.specs.declared.fault.AssembleFault.{AssembleFault}
-use Rattle.ua_chunk.specs.declared.fault.AssembleFault.TheVariants as chunk_fault
 use Rattle.ua_chunk.specs.declared.fault.OpenFault.{OpenFault}
-use Rattle.ua_chunk.specs.declared.fault.OpenFault.TheVariants as open_fault
 use Rattle.ua_services.specs.declared.open.OpenAnswer.{OpenAnswer}
 use Rattle.ua_services.specs.declared.open.OpenAnswer.TheVariants.{Open as Opened}
 use Rattle.ua_structures.specs.declared.secure_channel.OpenResponse.{OpenResponse}
@@ -36,6 +31,9 @@ use Rattle.ua_channel.specs.Content.{Opening, Content}
 use Rattle.ua_channel.specs.Content.Content.{Opens, Sends}
 use Rattle.ua_channel.specs.MessageParts.{MayEndIn, parts_in}
 use Rattle.ua_channel.specs.Received.{Received, after, nothing_received, listed}
+use Rattle.ua_channel.specs.StepFaults as step_faults
+use Rattle.ua_channel.specs.declared.step_fault.StepFault.{StepFault}
+use Rattle.ua_channel.specs.declared.step_fault.StepFault.TheVariants as step
 use Rattle.ua_channel.specs.declared.client.agreed.Agreed.{Agreed}
 use Rattle.ua_channel.specs.declared.client.answer.Answer.{Answer}
 use Rattle.ua_channel.specs.declared.client.channel.ClientChannel.{ClientChannel}
@@ -49,21 +47,19 @@ use Rattle.ua_channel.specs.declared.client.fault.Stop.TheVariants.{Refused, Pee
 
 -- ---- faults
 
--- what a fault of an assembler comes to
+-- what stops a channel where a frame is not taken
+abbrev pub stop_of : StepFault → Stop
+stop_of (step.Refused code) = Refused code
+stop_of step.OutOfMemory = OutOfMemory
+stop_of step.Closed = Closed
+
+-- what a fault of an assembler comes to: a message that is too large is refused with Bad_ResponseTooLarge
 abbrev pub of_chunk_fault : AssembleFault → Stop
-of_chunk_fault chunk_fault.Sequence = Refused (of_code 0x8088_0000)
-of_chunk_fault chunk_fault.Unreadable = Refused (of_code 0x8007_0000)
-of_chunk_fault chunk_fault.TooManyOpen = Refused (of_code 0x8081_0000)
-of_chunk_fault chunk_fault.MessageTooLarge = Refused (of_code 0x80B9_0000)
-of_chunk_fault chunk_fault.TooManyChunks = Refused (of_code 0x80B9_0000)
-of_chunk_fault chunk_fault.OutOfMemory = OutOfMemory
-of_chunk_fault chunk_fault.Closed = Closed
+of_chunk_fault fault = stop_of (step_faults.of_chunk_fault 0x80B9_0000 fault)
 
 -- what a fault of an OPN frame comes to
 abbrev pub of_open_fault : OpenFault → Stop
-of_open_fault open_fault.Unreadable = Refused (of_code 0x8007_0000)
-of_open_fault open_fault.Policy = Refused (of_code 0x8055_0000)
-of_open_fault open_fault.OutOfMemory = OutOfMemory
+of_open_fault fault = stop_of (step_faults.of_open_fault fault)
 
 -- a channel stops for the first of these reasons, or for want of memory
 abbrev pub IsStopFor : List (Why × Bool) → Stop → Type 0
@@ -76,11 +72,6 @@ IsStopFor reasons Closed = ⊥
 abbrev pub Judged : {A : Type 0} → List (Why × Bool) → (A → Type 0) → Result A Stop → Type 0
 Judged reasons Good (Ok a) = (first_reason reasons ≡ None) × Good a
 Judged reasons Good (Err stop) = IsStopFor reasons stop
-
--- a frame that a gate let in has a flag of its kind, and the least size of its kind
-pub record HasRoom (f : Frame) : Type 0 where
-  pub flag : IsTrue (has_flag f.kind f.flag)
-  pub least : least_size f.kind ≤ frame_size f
 
 -- ---- ACK and ERR
 
@@ -232,13 +223,7 @@ token_reasons t c = (ours 0x807F_0000, not (c.channel == t.channel)) ∷ (ours 0
 
 -- why a client's channel stops for what an assembler refuses
 abbrev pub why_of : AssembleFault → Why
-why_of chunk_fault.Sequence = ours 0x8088_0000
-why_of chunk_fault.Unreadable = ours 0x8007_0000
-why_of chunk_fault.TooManyOpen = ours 0x8081_0000
-why_of chunk_fault.MessageTooLarge = ours 0x80B9_0000
-why_of chunk_fault.TooManyChunks = ours 0x80B9_0000
-why_of chunk_fault.OutOfMemory = ours 0
-why_of chunk_fault.Closed = ours 0
+why_of fault = ours (step_faults.fault_code 0x80B9_0000 fault)
 
 -- why its assembler refuses a chunk behind these
 abbrev pub refused_reasons : Talking → List Chunk → Chunk → List (Why × Bool)

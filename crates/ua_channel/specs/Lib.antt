@@ -4,6 +4,7 @@ pub mod Received
 -- Why either end refuses a frame, and where octets stop at what is refused.
 pub mod Refusals
 pub mod Stops
+pub mod StepFaults
 -- In which parts either end hands out a message.
 pub mod MessageParts
 -- A server: what it agrees to, what frames tell it, which it refuses, and which come next; what it sends; where it stands, and what

@@ -13,8 +13,8 @@ use Rattle.ua_channel.specs.declared.server_event.ServerEvent.TheVariants.{NeedM
 use Rattle.ua_channel.specs.declared.server_event.ServerEvent.TheVariants as event
 use Rattle.ua_channel.specs.declared.server_fault.ChannelFault.{ChannelFault}
 use Rattle.ua_channel.specs.declared.server_fault.ChannelFault.TheVariants.{Refused, Closed, OutOfMemory}
-use Rattle.ua_channel.specs.declared.server_fault.StepFault.{StepFault}
-use Rattle.ua_channel.specs.declared.server_fault.StepFault.TheVariants as step
+use Rattle.ua_channel.specs.declared.step_fault.StepFault.{StepFault}
+use Rattle.ua_channel.specs.declared.step_fault.StepFault.TheVariants as step
 use Rattle.ua_channel.specs.ServerEvents.{told_of}
 use Rattle.ua_channel.specs.ServerSends.{AreSent, counted_by}
 use Rattle.ua_channel.specs.ServerStands.{limits_of, channel_of, next_of, IsDone, Goes, GoesTelling, EndsMessage, Ended, ClosedAt, RefusedAt}

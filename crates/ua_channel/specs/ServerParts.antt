@@ -1,13 +1,10 @@
 -- What the parts of a server make of one frame.
-use Rattle.std.specs.Prelude.{◌≡◌, ℕ, ◌<◌, ◌≤◌, ◌+◌, ◌==◌, pos, nat_lt, nat_le, Bool, false, ◌&&◌, not, IsTrue, List, [], ◌∷◌, Option, Some, None, Result, Ok, Err}
+use Rattle.std.specs.Prelude.{◌≡◌, ℕ, ◌<◌, ◌≤◌, ◌+◌, ◌==◌, pos, nat_lt, nat_le, Bool, false, ◌&&◌, not, List, [], ◌∷◌, Option, Some, None, Result, Ok, Err}
 use Rattle.std.proofs.Common.{int_eq}
 use Rattle.ua_builtin.specs.Reasons.{first_reason}
-use Rattle.ua_frame.specs.declared.frame.Frame.{Frame}
 use Rattle.ua_frame.specs.declared.hello.Hello.{Hello}
 use Rattle.ua_frame.specs.declared.limits.Limits.{Limits}
-use Rattle.ua_frame.specs.Frames.{frame_size}
 use Rattle.ua_frame.specs.Hello.{hello_in}
-use Rattle.ua_frame.specs.Kinds.{has_flag, least_size}
 use Rattle.ua_services.specs.Message.{message, body_of}
 use Rattle.ua_structures.specs.SecureChannel.{open_request}
 use Rattle.ua_structures.specs.declared.secure_channel.OpenRequest.{OpenRequest}
@@ -17,8 +14,8 @@ use Rattle.ua_chunk.specs.declared.chunk.Chunk.{Chunk}
 use Rattle.ua_chunk.specs.Sequence.{may_follow}
 use Rattle.ua_channel.specs.declared.running.Running.{Running}
 use Rattle.ua_channel.specs.declared.server_event.Event.{Event}
-use Rattle.ua_channel.specs.declared.server_fault.StepFault.{StepFault}
-use Rattle.ua_channel.specs.declared.server_fault.StepFault.TheVariants.{Refused, Closed, OutOfMemory}
+use Rattle.ua_channel.specs.declared.step_fault.StepFault.{StepFault}
+use Rattle.ua_channel.specs.declared.step_fault.StepFault.TheVariants.{Refused, Closed, OutOfMemory}
 use Rattle.ua_channel.specs.declared.server_opening.Asked.{Asked}
 use Rattle.ua_channel.specs.declared.server_opening.Opened.{Opened}
 use Rattle.ua_channel.specs.Agreement.{Agreement, agreement_of}
@@ -31,11 +28,6 @@ use Rattle.ua_channel.specs.ServerRefusals.{last_used, type_wanted, server_reaso
 use Rattle.ua_channel.specs.ServerRules.{receive_size}
 use Rattle.ua_channel.specs.ServerTold.{issued, lifetime_for, server_tells}
 use Rattle.ua_channel.specs.ServerTold.{Told as told}
-
--- a frame whose flag and size are those of its kind, as each one has that a reader hands out
-pub record HasShape (f : Frame) : Type 0 where
-  pub flag : IsTrue (has_flag f.kind f.flag)
-  pub least : least_size f.kind ≤ frame_size f
 
 -- ---- HEL
 

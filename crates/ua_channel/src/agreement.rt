@@ -3,7 +3,7 @@
 ghost use Rattle.std.specs.Prelude.{◌≡◌, ◌<◌, ◌+◌, ◌^◌};
 ghost use Rattle.ua_channel.specs.ServerParts.{JudgesHello};
 
-use crate::server_fault::StepFault;
+use crate::step_fault::StepFault;
 use std::alloc::Global;
 use std::marker::Model;
 use ua_builtin::{StatusCode, Wire};

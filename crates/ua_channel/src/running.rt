@@ -4,8 +4,8 @@ ghost use Rattle.std.specs.Prelude.{◌≡◌, pos, option_map};
 
 use crate::agreement::Agreement;
 use crate::server_event::Event;
-use crate::server_fault::StepFault;
 use crate::server_opening::judge_opening;
+use crate::step_fault::StepFault;
 use std::alloc::Global;
 use ua_builtin::StatusCode;
 use ua_chunk::{Assembler, Chunk, Lane};
@@ -126,7 +126,7 @@ impl Running {
                 self.used = token;
                 Ok(Event::of_delivered(token, delivered))
             }
-            Err(fault) => Err(StepFault::of_chunk(fault)),
+            Err(fault) => Err(StepFault::of_chunk(fault, StatusCode::BAD_REQUEST_TOO_LARGE)),
         }
     }
 
@@ -140,7 +140,7 @@ impl Running {
         }
         match self.assembler.step(chunk.sequence) {
             Ok(()) => Ok(()),
-            Err(fault) => Err(StepFault::of_chunk(fault)),
+            Err(fault) => Err(StepFault::of_chunk(fault, StatusCode::BAD_REQUEST_TOO_LARGE)),
         }
     }
 
@@ -156,7 +156,7 @@ impl Running {
     {
         let opened = judge_opening(alloc, channel, self.issued, frame)?;
         if let Err(fault) = self.assembler.step(opened.sequence) {
-            return Err(StepFault::of_chunk(fault));
+            return Err(StepFault::of_chunk(fault, StatusCode::BAD_REQUEST_TOO_LARGE));
         }
         if self.issued == u32::MAX {
             return Err(StepFault::Refused(StatusCode::BAD_TCP_NOT_ENOUGH_RESOURCES));

@@ -2,11 +2,10 @@
 
 ghost use Rattle.std.specs.Prelude.{◌≡◌};
 
-use std::alloc::AllocError;
+use crate::step_fault::StepFault;
 use thiserror::Error;
 use ua_builtin::StatusCode;
-use ua_chunk::{AssembleFault, OpenFault};
-use ua_frame::{FrameFault, error_frame};
+use ua_frame::error_frame;
 
 /// Why a server's channel ended. It then takes nothing more.
 #[derive(Clone, Copy, PartialEq, Eq, Debug, Error)]
@@ -36,14 +35,6 @@ pub enum ReplyFault {
     OutOfMemory,
 }
 
-/// Why a frame is not taken.
-#[derive(Clone, Copy)]
-pub enum StepFault {
-    Refused(StatusCode),
-    Closed,
-    OutOfMemory,
-}
-
 impl ChannelFault {
     ghost use Rattle.ua_channel.specs.ServerFaults.{of_step};
 
@@ -59,59 +50,5 @@ impl ChannelFault {
             StepFault::Closed => ChannelFault::Closed,
             StepFault::OutOfMemory => ChannelFault::OutOfMemory,
         }
-    }
-}
-
-impl StepFault {
-    ghost use Rattle.ua_channel.specs.ServerFaults.{of_frame_fault, of_open_fault, of_chunk_fault};
-
-    /// What a fault of the frame reader comes to.
-    pub(crate) fn of_frame(fault: FrameFault) -> StepFault
-        ensures { result ≡ of_frame_fault fault }
-    {
-        match fault.code() {
-            Some(code) => StepFault::Refused(code),
-            None if matches!(fault, FrameFault::Closed) => StepFault::Closed,
-            None => StepFault::OutOfMemory,
-        }
-    }
-
-    /// What a fault of an OPN's headers comes to.
-    pub(crate) fn of_open(fault: OpenFault) -> StepFault
-        ensures { result ≡ of_open_fault fault }
-    {
-        match fault {
-            OpenFault::Unreadable => StepFault::Refused(StatusCode::BAD_DECODING_ERROR),
-            OpenFault::Policy => StepFault::Refused(StatusCode::BAD_SECURITY_POLICY_REJECTED),
-            OpenFault::OutOfMemory => StepFault::OutOfMemory,
-        }
-    }
-
-    /// What a fault of the assembler comes to.
-    pub(crate) fn of_chunk(fault: AssembleFault) -> StepFault
-        ensures { result ≡ of_chunk_fault fault }
-    {
-        match fault {
-            AssembleFault::Sequence => StepFault::Refused(StatusCode::BAD_SEQUENCE_NUMBER_INVALID),
-            AssembleFault::Unreadable => StepFault::Refused(StatusCode::BAD_DECODING_ERROR),
-            AssembleFault::TooManyOpen => {
-                StepFault::Refused(StatusCode::BAD_TCP_NOT_ENOUGH_RESOURCES)
-            }
-            AssembleFault::MessageTooLarge | AssembleFault::TooManyChunks => {
-                StepFault::Refused(StatusCode::BAD_REQUEST_TOO_LARGE)
-            }
-            AssembleFault::OutOfMemory => StepFault::OutOfMemory,
-            AssembleFault::Closed => StepFault::Closed,
-        }
-    }
-}
-
-impl From<AllocError> for StepFault {
-    ghost use Rattle.ua_channel.specs.declared.server_fault.StepFault.TheVariants.{OutOfMemory};
-
-    ghost from_gives = { λ _ e. e ≡ OutOfMemory };
-
-    fn from(_: AllocError) -> StepFault {
-        StepFault::OutOfMemory
     }
 }

@@ -6,7 +6,7 @@ ghost use Rattle.ua_channel.specs.ServerParts.{AsksFor, ReadsAsked, asked_reason
 ghost use Rattle.ua_channel.specs.ServerTold.{lifetime_for};
 
 use crate::server_event::Event;
-use crate::server_fault::StepFault;
+use crate::step_fault::StepFault;
 use std::alloc::Global;
 use ua_builtin::{Octets, ReadFault, StatusCode};
 use ua_chunk::read_open;

@@ -10,11 +10,11 @@ ghost use Rattle.ua_channel.specs.Asks.Asking.{Call, Renewal};
 ghost use Rattle.ua_channel.specs.Client.{Stands, Goes, IsDone, InPhase, SameClient, limits_of, url_of, next_of, phase_of, bound_of, bound_behind, held_octets, call_refused, renewal_refused, closing_refused, JudgesLength, SendsCall, SendsRenewal, SendsClosing};
 ghost use Rattle.ua_channel.specs.ClientAnswers.{ClientAnswers, AnswersEvent, ComesInParts, Progress, parts_handed};
 ghost use Rattle.ua_channel.specs.ClientAsks.{Talks, AnswersFor};
-ghost use Rattle.ua_channel.specs.ClientParts.{Judged, JudgesWhole, HasRoom, Takes, OpensChannel, StaysOpen, FailsBy, IsFront, Steps, Advances, TellsEvent, greeted, parts_of};
+ghost use Rattle.ua_channel.specs.ClientParts.{Judged, JudgesWhole, Takes, OpensChannel, StaysOpen, FailsBy, IsFront, Steps, Advances, TellsEvent, greeted, parts_of};
 ghost use Rattle.ua_channel.specs.ClientSends.{hello_frame, hello_to};
 ghost use Rattle.ua_channel.specs.ClientTable.{client_gate, client_reasons, ack_gate, answer_gate, reply_gate};
 ghost use Rattle.ua_channel.specs.ClientTold.{Told};
-ghost use Rattle.ua_channel.specs.Content.{content};
+ghost use Rattle.ua_channel.specs.Content.{HasShape, content};
 ghost use Rattle.ua_channel.specs.Received.{Received, nothing_received, received};
 ghost use Rattle.ua_channel.specs.declared.client.fault.AskFault.TheVariants.{NotOpen};
 ghost use Rattle.ua_channel.specs.declared.client.fault.ClientTakeFault.TheVariants.{Closed, OutOfMemory};
@@ -249,7 +249,7 @@ impl ClientChannel {
 
     /// Takes a frame of an open channel.
     fn on_reply(&mut self, mut talking: Talking, frame: Frame) -> Result<Option<Event>, Stop>
-        requires { HasRoom frame }
+        requires { HasShape frame }
         ensures judges { (before : Received) (asked : List Asking) → Talks (limits_of self.old) talking before asked
             → LetsIn (reply_gate talking.agreed.ack.send_buffer_size) frame
             → Judged (client_reasons (limits_of self.old) before asked (content frame)) (StaysOpen (limits_of self.old) before asked (content frame) self.new) result }
@@ -267,7 +267,7 @@ impl ClientChannel {
 
     /// Goes on by a frame.
     fn on_frame(&mut self, frame: Frame) -> Result<Option<Event>, Stop>
-        requires { HasRoom frame }
+        requires { HasShape frame }
         ensures judges { (before : Received) (asked : List Asking) → InPhase (limits_of self.old) (phase_of self.old) before asked
             → bound_of self.old ≡ bound_behind (limits_of self.old) before.ack → LetsIn (client_gate before) frame
             → Judged (client_reasons (limits_of self.old) before asked (content frame)) (Takes (limits_of self.old) before asked (content frame) self.new) result }
@@ -284,7 +284,7 @@ impl ClientChannel {
 
     /// What a frame comes to, and the gate for the next one.
     fn on_whole(&mut self, frame: Frame) -> Result<Option<Event>, ClientTakeFault>
-        requires room { HasRoom frame }
+        requires shape { HasShape frame }
         requires empty { self.old.reader.held ≡ [] }
         ensures judges { (before : Received) (asked : List Asking) → InPhase (limits_of self.old) (phase_of self.old) before asked
             → bound_of self.old ≡ bound_behind (limits_of self.old) before.ack → self.old.reader ≡ open_reader (client_gate before) [] → LetsIn (client_gate before) frame

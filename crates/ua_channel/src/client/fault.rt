@@ -1,6 +1,7 @@
 //! Why a client's channel does not answer.
 
 use crate::client::event::Event;
+use crate::step_fault::StepFault;
 use std::alloc::AllocError;
 use thiserror::Error;
 use ua_builtin::StatusCode;
@@ -88,24 +89,24 @@ pub enum Stop {
 
 impl Stop {
     ghost use Rattle.std.specs.Prelude.{◌≡◌};
-    ghost use Rattle.ua_channel.specs.ClientParts.{of_chunk_fault, of_open_fault, failure_of};
+    ghost use Rattle.ua_channel.specs.ClientParts.{stop_of, of_chunk_fault, of_open_fault, failure_of};
+
+    /// What stops a channel where a frame is not taken.
+    pub(crate) fn of_step(fault: StepFault) -> Stop
+        ensures { result ≡ stop_of fault }
+    {
+        match fault {
+            StepFault::Refused(code) => Stop::Refused(code),
+            StepFault::Closed => Stop::Closed,
+            StepFault::OutOfMemory => Stop::OutOfMemory,
+        }
+    }
 
     /// What a fault of an assembler comes to.
     pub(crate) fn of_chunk(fault: AssembleFault) -> Stop
         ensures { result ≡ of_chunk_fault fault }
     {
-        match fault {
-            AssembleFault::Sequence => Stop::Refused(StatusCode::BAD_SEQUENCE_NUMBER_INVALID),
-            AssembleFault::Unreadable => Stop::Refused(StatusCode::BAD_DECODING_ERROR),
-            AssembleFault::TooManyOpen => {
-                Stop::Refused(StatusCode::BAD_TCP_NOT_ENOUGH_RESOURCES)
-            }
-            AssembleFault::MessageTooLarge | AssembleFault::TooManyChunks => {
-                Stop::Refused(StatusCode::BAD_RESPONSE_TOO_LARGE)
-            }
-            AssembleFault::OutOfMemory => Stop::OutOfMemory,
-            AssembleFault::Closed => Stop::Closed,
-        }
+        Stop::of_step(StepFault::of_chunk(fault, StatusCode::BAD_RESPONSE_TOO_LARGE))
     }
 
     /// The event of a channel that this stops, or the fault of its call.
@@ -124,11 +125,7 @@ impl Stop {
     pub(crate) fn of_open(fault: OpenFault) -> Stop
         ensures { result ≡ of_open_fault fault }
     {
-        match fault {
-            OpenFault::Unreadable => Stop::Refused(StatusCode::BAD_DECODING_ERROR),
-            OpenFault::Policy => Stop::Refused(StatusCode::BAD_SECURITY_POLICY_REJECTED),
-            OpenFault::OutOfMemory => Stop::OutOfMemory,
-        }
+        Stop::of_step(StepFault::of_open(fault))
     }
 }
 

@@ -11,10 +11,10 @@ ghost use Rattle.ua_chunk.specs.Refusal.{passes};
 ghost use Rattle.ua_channel.specs.Asks.{Asking};
 ghost use Rattle.ua_channel.specs.Asks.Asking.{Call, Renewal};
 ghost use Rattle.ua_channel.specs.ClientAsks.{Talks, lane_of, more_reasons, renew_reasons, is_too_large, Calls, Renews, AnswersCall, JudgesCall, AnswersFor, AsBefore};
-ghost use Rattle.ua_channel.specs.ClientParts.{Judged, HasRoom, greeted, first_reasons, IsOpenedWith, IsOpenedBy, renewal_reasons, IsRenewedWith, TellsRenewal, token_reasons, chunk_reasons, refused_reasons, unasked_reasons, known_reasons, any_event, drops_first, left_behind, IsAccepted, IsDeliveredWith, IsTakenWith, TakesFrame, DeliversEvent};
+ghost use Rattle.ua_channel.specs.ClientParts.{Judged, greeted, first_reasons, IsOpenedWith, IsOpenedBy, renewal_reasons, IsRenewedWith, TellsRenewal, token_reasons, chunk_reasons, refused_reasons, unasked_reasons, known_reasons, any_event, drops_first, left_behind, IsAccepted, IsDeliveredWith, IsTakenWith, TakesFrame, DeliversEvent};
 ghost use Rattle.ua_channel.specs.ClientTable.{client_reasons, answer_gate, reply_gate};
 ghost use Rattle.ua_channel.specs.ClientTokens.{from_last};
-ghost use Rattle.ua_channel.specs.Content.{content};
+ghost use Rattle.ua_channel.specs.Content.{HasShape, content};
 ghost use Rattle.ua_channel.specs.Received.{Received};
 
 use crate::client::agreed::Agreed;
@@ -261,7 +261,7 @@ impl Talking {
 
     /// Takes a frame.
     pub fn on_frame(&mut self, alloc: Global, frame: Frame) -> Result<Option<Event>, Stop>
-        requires { HasRoom frame }
+        requires { HasShape frame }
         ensures { (limits : Limits) (before : Received) (asked : List Asking) → Talks limits self.old before asked
             → LetsIn (reply_gate self.old.agreed.ack.send_buffer_size) frame
             → Judged (client_reasons limits before asked (content frame)) (TakesFrame limits before asked (content frame) self.new) result }

@@ -2,7 +2,7 @@ use Rattle.std.specs.Prelude.{IfOk}
 use Rattle.std.proofs.Common.{◌≡◌, Result, Ok, Option, Some, None, ◌++◌, ap, subst, take}
 use Rattle.ua_channel.specs.declared.numbers.Numbers.{Numbers}
 use Rattle.ua_channel.specs.declared.server_event.Event.{Event}
-use Rattle.ua_channel.specs.declared.server_fault.StepFault.{StepFault}
+use Rattle.ua_channel.specs.declared.step_fault.StepFault.{StepFault}
 use Rattle.ua_channel.specs.ServerAnswers.{ComesInParts, Nexts}
 use Rattle.ua_channel.specs.ServerEvents.{parts_of}
 use Rattle.ua_channel.specs.ServerStands.{channel_of, next_of}

@@ -1,6 +1,6 @@
 use Rattle.std.proofs.Common.{◌≡◌, ◌+◌, Result, Ok, Option, Some, None, subst}
 use Rattle.ua_channel.specs.declared.server_event.Event.{Event}
-use Rattle.ua_channel.specs.declared.server_fault.StepFault.{StepFault}
+use Rattle.ua_channel.specs.declared.step_fault.StepFault.{StepFault}
 use Rattle.ua_channel.specs.ServerAnswers.{Progress}
 use Rattle.ua_channel.proofs.Pieces.{progress_there, progress_nothing, took_nothing, took_more, nexts_told, parts_told, nexts_failed, nexts_nothing}
 use Rattle.ua_channel.proofs.server.ServerChannel.next_event.Goals as goal

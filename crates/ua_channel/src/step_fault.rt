@@ -1,0 +1,70 @@
+//! Why an end does not take a frame, whichever end it is.
+
+ghost use Rattle.std.specs.Prelude.{◌≡◌};
+
+use std::alloc::AllocError;
+use ua_builtin::StatusCode;
+use ua_chunk::{AssembleFault, OpenFault};
+use ua_frame::FrameFault;
+
+/// Why a frame is not taken.
+#[derive(Clone, Copy)]
+pub enum StepFault {
+    Refused(StatusCode),
+    Closed,
+    OutOfMemory,
+}
+
+impl StepFault {
+    ghost use Rattle.ua_channel.specs.StepFaults.{of_frame_fault, of_open_fault, of_chunk_fault};
+
+    /// What a fault of the frame reader comes to.
+    pub(crate) fn of_frame(fault: FrameFault) -> StepFault
+        ensures { result ≡ of_frame_fault fault }
+    {
+        match fault.code() {
+            Some(code) => StepFault::Refused(code),
+            None if matches!(fault, FrameFault::Closed) => StepFault::Closed,
+            None => StepFault::OutOfMemory,
+        }
+    }
+
+    /// What a fault of an OPN's headers comes to.
+    pub(crate) fn of_open(fault: OpenFault) -> StepFault
+        ensures { result ≡ of_open_fault fault }
+    {
+        match fault {
+            OpenFault::Unreadable => StepFault::Refused(StatusCode::BAD_DECODING_ERROR),
+            OpenFault::Policy => StepFault::Refused(StatusCode::BAD_SECURITY_POLICY_REJECTED),
+            OpenFault::OutOfMemory => StepFault::OutOfMemory,
+        }
+    }
+
+    /// What a fault of the assembler comes to, where this is the code of a message that is too large.
+    pub(crate) fn of_chunk(fault: AssembleFault, too_large: StatusCode) -> StepFault
+        ensures { result ≡ of_chunk_fault too_large.code fault }
+    {
+        match fault {
+            AssembleFault::Sequence => StepFault::Refused(StatusCode::BAD_SEQUENCE_NUMBER_INVALID),
+            AssembleFault::Unreadable => StepFault::Refused(StatusCode::BAD_DECODING_ERROR),
+            AssembleFault::TooManyOpen => {
+                StepFault::Refused(StatusCode::BAD_TCP_NOT_ENOUGH_RESOURCES)
+            }
+            AssembleFault::MessageTooLarge | AssembleFault::TooManyChunks => {
+                StepFault::Refused(too_large)
+            }
+            AssembleFault::OutOfMemory => StepFault::OutOfMemory,
+            AssembleFault::Closed => StepFault::Closed,
+        }
+    }
+}
+
+impl From<AllocError> for StepFault {
+    ghost use Rattle.ua_channel.specs.declared.step_fault.StepFault.TheVariants.{OutOfMemory};
+
+    ghost from_gives = { λ _ e. e ≡ OutOfMemory };
+
+    fn from(_: AllocError) -> StepFault {
+        StepFault::OutOfMemory
+    }
+}
