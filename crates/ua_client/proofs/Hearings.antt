@@ -16,7 +16,7 @@ use Rattle.ua_channel.specs.declared.client.event.ClientEvent.{ClientEvent}
 use Rattle.ua_channel.specs.declared.client.event.ClientEvent.TheVariants as event
 use Rattle.ua_channel.specs.declared.client.fault.ClientTakeFault.{ClientTakeFault}
 use Rattle.ua_channel.specs.declared.client.fault.ClientTakeFault.TheVariants as take_fault
-use Rattle.ua_client.specs.Hearing.{channel_of, untaken_of, failure_of, effort, Keeps, TellsEvent, Moves, Listens, ListensAt, is_channel_fault, of_take_fault, failures_behind, Fills, FillsAt, Hears, HearsAt, StopsAt}
+use Rattle.ua_client.specs.Hearing.{channel_of, untaken_of, failure_of, effort, Keeps, TellsEvent, Moves, Listens, ListensAt, is_channel_fault, of_take_fault, failures_behind, Fills, FillsAt, Hears, HearsAt, is_hearing_fault, StopsAt}
 use Rattle.ua_client.specs.declared.connection.Connection.{Connection}
 use Rattle.ua_client.specs.declared.fault.ClientFault.{ClientFault}
 use Rattle.ua_client.specs.declared.fault.ClientFault.TheVariants as fault
@@ -202,6 +202,7 @@ module _ (old now mid : Connection) (before at then : Option Traffic) (reads lef
           keeps = keeps-here (Ok done) f new l.keeps;
           answers = listened (Ok (Some e)) l;
           less = omega (arith, smaller, fewer, few);
+          faults = tt;
           stops = spent-then f.got f.found.1;
         }
 
@@ -217,6 +218,7 @@ module _ (old now mid : Connection) (before at then : Option Traffic) (reads lef
     listen-fault fault.TooLarge asks octets told h = absurd h
     listen-fault fault.NotWritable asks octets told h = absurd h
     listen-fault fault.Exhausted asks octets told h = absurd h
+    listen-fault fault.TooManyTokens asks octets told h = absurd h
     listen-fault fault.Closed asks octets told h = absurd h
     listen-fault fault.TooLong asks octets told h = absurd h
 
@@ -233,7 +235,24 @@ module _ (old now mid : Connection) (before at then : Option Traffic) (reads lef
     channel-stops fault.TooLarge got h = tt
     channel-stops fault.NotWritable got h = tt
     channel-stops fault.Exhausted got h = tt
+    channel-stops fault.TooManyTokens got h = tt
     channel-stops fault.TooLong got h = absurd cc
+
+    channel-heard : (x : ClientFault) → is_channel_fault x ≡ true → is_hearing_fault x ≡ true
+    channel-heard (fault.Peer code) h = refl
+    channel-heard (fault.Refused code) h = refl
+    channel-heard fault.OutOfMemory h = refl
+    channel-heard fault.Closed h = refl
+    channel-heard fault.Read h = refl
+    channel-heard fault.Write h = absurd cc
+    channel-heard fault.Ended h = refl
+    channel-heard fault.UnknownResponse h = absurd cc
+    channel-heard (fault.Service code) h = absurd cc
+    channel-heard fault.TooLarge h = absurd cc
+    channel-heard fault.NotWritable h = absurd cc
+    channel-heard fault.Exhausted h = absurd cc
+    channel-heard fault.TooManyTokens h = absurd cc
+    channel-heard fault.TooLong h = refl
 
     pub hears-failure : (x : ClientFault) → Listens mid new moment (Err x) → Hears old new moment before then reads less (Err x)
     hears-failure x l = record {
@@ -241,6 +260,7 @@ module _ (old now mid : Connection) (before at then : Option Traffic) (reads lef
       keeps = keeps-here (Ok done) f new l.keeps;
       answers = λ asks octets told g. listen-fault x asks (octets ++ (q.moves.taken ++ l.taken)) told (listened (Err x) l asks octets told g);
       less = tt;
+      faults = channel-heard x l.faults;
       stops = channel-stops x (q.moves.got ++ f.got) l.faults;
     }
 
@@ -256,6 +276,7 @@ module _ (old now mid : Connection) (before at then : Option Traffic) (reads lef
   moment-free moment fault.TooLarge got h asks octets told g = absurd h
   moment-free moment fault.NotWritable got h asks octets told g = absurd h
   moment-free moment fault.Exhausted got h asks octets told g = absurd h
+  moment-free moment fault.TooManyTokens got h asks octets told g = absurd h
   moment-free moment fault.Closed got h asks octets told g = absurd h
   moment-free moment fault.OutOfMemory got h asks octets told g = absurd h
 
@@ -271,8 +292,25 @@ module _ (old now mid : Connection) (before at then : Option Traffic) (reads lef
   read-stops fault.TooLarge got h = absurd h
   read-stops fault.NotWritable got h = absurd h
   read-stops fault.Exhausted got h = absurd h
+  read-stops fault.TooManyTokens got h = absurd h
   read-stops fault.Closed got h = absurd h
   read-stops fault.OutOfMemory got h = absurd h
+
+  read-heard : (x : ClientFault) (got : List ℕ) → FillsAt {A = Unit {0}} left less got mid then (Err x) → is_hearing_fault x ≡ true
+  read-heard (fault.Peer code) got h = refl
+  read-heard (fault.Refused code) got h = refl
+  read-heard fault.OutOfMemory got h = refl
+  read-heard fault.Closed got h = refl
+  read-heard fault.Read got h = refl
+  read-heard fault.Write got h = absurd h
+  read-heard fault.Ended got h = refl
+  read-heard fault.UnknownResponse got h = absurd h
+  read-heard (fault.Service code) got h = absurd h
+  read-heard fault.TooLarge got h = absurd h
+  read-heard fault.NotWritable got h = absurd h
+  read-heard fault.Exhausted got h = absurd h
+  read-heard fault.TooManyTokens got h = absurd h
+  read-heard fault.TooLong got h = refl
 
   pub hears-read : (moment : DateTime) (x : ClientFault) → Fills {A = Unit {0}} now mid at then left less (Err x) → Hears old mid moment before then reads less (Err x)
   hears-read moment x f = record {
@@ -281,6 +319,7 @@ module _ (old now mid : Connection) (before at then : Option Traffic) (reads lef
     answers = λ asks octets told g. moment-free moment x f.got f.found asks (octets ++ (q.moves.taken ++ [])) told
         (subst (λ (t : List ℕ). Goes (channel_of mid) asks (octets ++ t) told) (sym (append-nil q.moves.taken)) (goes-then (Err x) f asks octets told g));
     less = tt;
+    faults = read-heard x f.got f.found;
     stops = read-stops x f.got f.found;
   }
 
@@ -320,6 +359,7 @@ channel-failures A (fault.Service code) h n = refl
 channel-failures A fault.TooLarge h n = refl
 channel-failures A fault.NotWritable h n = refl
 channel-failures A fault.Exhausted h n = refl
+channel-failures A fault.TooManyTokens h n = refl
 channel-failures A fault.TooLong h n = refl
 
 pub none-of : {A : Type 0} (o : Option A) → ((x : A) → o ≡ Some x → ⊥) → o ≡ None

@@ -4,3 +4,5 @@ pub mod Hearsay
 pub mod Openings
 pub mod Lanes
 pub mod Closings
+pub mod Renewals
+pub mod Renewings

@@ -6,7 +6,7 @@ use Rattle.std.specs.List.{list_any}
 use Rattle.ua_builtin.specs.declared.date_time.DateTime.{DateTime}
 use Rattle.ua_frame.specs.After.{each_after}
 use Rattle.ua_channel.specs.Asks.{Placed}
-use Rattle.ua_channel.specs.Client.{Goes, Stands, limits_of, url_of}
+use Rattle.ua_channel.specs.Client.{Goes, GoesTelling, Stands, limits_of, url_of}
 use Rattle.ua_channel.specs.ClientTold.{Told}
 use Rattle.ua_channel.specs.Line.{Traffic, WhereTold}
 use Rattle.ua_channel.specs.declared.client.channel.ClientChannel.{ClientChannel}
@@ -14,7 +14,7 @@ use Rattle.ua_channel.specs.declared.client.event.ClientEvent.{ClientEvent}
 use Rattle.ua_channel.specs.declared.client.event.ClientEvent.TheVariants as event
 use Rattle.ua_client.specs.Carried.{Carries, WritesFront}
 use Rattle.ua_client.specs.Hearing.{channel_of, untaken_of, Keeps, Moves, Says, Hears, HearsAt, StopsAt, most_reads}
-use Rattle.ua_client.specs.Opening.{is_agreed, is_opened, GoesWithout, WaitsAt, Waits, any_done, hello_octets, open_octets, BreaksOpening, Opens}
+use Rattle.ua_client.specs.Opening.{is_agreed, is_opened, GoesWithout, GoesUntil, WaitsAt, Waits, any_done, hello_octets, open_octets, BreaksOpening, Opens}
 use Rattle.ua_client.specs.declared.connection.Connection.{Connection}
 use Rattle.ua_client.specs.declared.fault.ClientFault.{ClientFault}
 use Rattle.ua_client.specs.declared.fault.ClientFault.TheVariants as fault
@@ -102,7 +102,7 @@ any-right : (wanted : Told → Bool) (us vs : List Told) → list_any wanted vs 
 any-right wanted [] vs i = i
 any-right wanted (y ∷ us) vs i = or-true (wanted y) (list_any wanted (us ++ vs)) (any-right wanted us vs i)
 
-any-left : (wanted : Told → Bool) (us vs : List Told) → list_any wanted us ≡ true → list_any wanted (us ++ vs) ≡ true
+pub any-left : (wanted : Told → Bool) (us vs : List Told) → list_any wanted us ≡ true → list_any wanted (us ++ vs) ≡ true
 any-left wanted [] vs i = absurd cc
 any-left wanted (y ∷ us) vs i = or-more (wanted y) (list_any wanted us) (list_any wanted (us ++ vs)) i (λ e. any-left wanted us vs e)
 
@@ -152,9 +152,9 @@ module _ (test : ClientEvent → Bool) (wanted : Told → Bool) (tests : Tests t
     spent = spent-more h.moves.got h.stops;
   }
 
-  pub waits-found : {A : Type 0} (P : A → Type 0) (goes_on : GoesOnBehind) (e : ClientEvent) (found : A) → test e ≡ true → ((t : Told) → Says moment e t → P found)
+  pub waits-found : {A : Type 0} (P : A → Type 0) (e : ClientEvent) (found : A) → test e ≡ true → ((t : Told) → Says moment e t → P found)
       → Hears now new moment at then left less (Ok e) → Waits wanted P old new before then reads less (Ok found)
-  waits-found P goes_on e found own holds h = record {
+  waits-found P e found own holds h = record {
     moves = moves-behind old now new [] [] before at then w.moves h.moves;
     keeps = keeps-then old now new w.keeps h.keeps;
     answers = λ asks octets told g.
@@ -165,12 +165,11 @@ module _ (test : ClientEvent → Bool) (wanted : Told → Bool) (tests : Tests t
             none = on.none;
             last = says.0;
             is_wanted = tests moment e says.0 says.1 ∙ own;
-            goes = subst (λ (o : List ℕ). Goes (channel_of new) asks o (told ++ (on.heard ++ says.0 ∷ []))) (append_assoc octets w.moves.taken h.moves.taken)
-                (subst (λ (all : List Told). Goes (channel_of new) asks ((octets ++ w.moves.taken) ++ h.moves.taken) all) (append_assoc told on.heard (says.0 ∷ []))
-                (goes_on (channel_of new) asks ((octets ++ w.moves.taken) ++ h.moves.taken) (told ++ on.heard) says.0 says.2));
+            tells = subst (λ (o : List ℕ). GoesTelling (channel_of new) asks o (told ++ on.heard) says.0) (append_assoc octets w.moves.taken h.moves.taken) says.2;
           },
           holds says.0 says.1,
         );
+    faults = tt;
     stops = spent-more h.moves.got h.stops;
   }
 
@@ -182,6 +181,7 @@ module _ (test : ClientEvent → Bool) (wanted : Told → Bool) (tests : Tests t
         let on = w.goes asks octets told g in
         by x asks (octets ++ (w.moves.taken ++ h.moves.taken)) told on.heard on.none
         (subst (λ (o : List ℕ). HearsAt moment (Err x) (channel_of new) asks o (told ++ on.heard)) (append_assoc octets w.moves.taken h.moves.taken) (h.answers asks (octets ++ w.moves.taken) (told ++ on.heard) on.goes));
+    faults = h.faults;
     stops = stops x h.moves.got h.stops;
   }
     where
@@ -198,6 +198,7 @@ module _ (test : ClientEvent → Bool) (wanted : Told → Bool) (tests : Tests t
       by fault.TooLarge asks octets told heard none k = absurd k
       by fault.NotWritable asks octets told heard none k = absurd k
       by fault.Exhausted asks octets told heard none k = absurd k
+      by fault.TooManyTokens asks octets told heard none k = absurd k
       by fault.Closed asks octets told heard none k = absurd k
 
       stops : (y : ClientFault) (got : List ℕ) → StopsAt {A = ClientEvent} left less got new then (Err y) → StopsAt {A = A} reads less (w.moves.got ++ got) new then (Err y)
@@ -212,8 +213,14 @@ module _ (test : ClientEvent → Bool) (wanted : Told → Bool) (tests : Tests t
       stops fault.TooLarge got k = tt
       stops fault.NotWritable got k = tt
       stops fault.Exhausted got k = tt
+      stops fault.TooManyTokens got k = tt
       stops fault.Closed got k = tt
       stops fault.OutOfMemory got k = tt
+
+-- where what is waited for was told, a channel goes on
+pub until-goes : GoesOnBehind → (wanted : Told → Bool) (x : ClientChannel) (asks : List Placed) (octets : List ℕ) (told : List Told) (u : GoesUntil wanted x asks octets told) → Goes x asks octets (told ++ (u.heard ++ u.last ∷ []))
+until-goes goes_on wanted x asks octets told u =
+    subst (λ (all : List Told). Goes x asks octets all) (append_assoc told u.heard (u.last ∷ [])) (goes_on x asks octets (told ++ u.heard) u.last u.tells)
 
 -- ---- the opening
 
@@ -275,6 +282,7 @@ module _ (moment : DateTime) (x mid : Connection) (hello : List ℕ) (a b c : Op
       by fault.TooLarge k = absurd k
       by fault.NotWritable k = absurd k
       by fault.Exhausted k = absurd k
+      by fault.TooManyTokens k = absurd k
       by fault.Closed k = absurd k
 
       stops : (y : ClientFault) → StopsAt {A = B} most_reads left h.moves.got mid c (Err y) → StopsAt {A = A} most_reads most_reads h.moves.got mid c (Err y)
@@ -289,15 +297,16 @@ module _ (moment : DateTime) (x mid : Connection) (hello : List ℕ) (a b c : Op
       stops fault.TooLarge k = tt
       stops fault.NotWritable k = tt
       stops fault.Exhausted k = tt
+      stops fault.TooManyTokens k = tt
       stops fault.Closed k = tt
       stops fault.OutOfMemory k = tt
 
   module _ {B : Type 0} (P : B → Type 0) (found : B) (h : Waits is_agreed P x mid b c most_reads left (Ok found)) (opening : List ℕ) (open_is : P found → opening ≡ open_octets moment) where
     -- what an ACK told
-    agreed-told : Goes (channel_of x) [] [] [] → (told : List Told) × (list_any is_agreed told ≡ true) × Goes (channel_of mid) [] h.moves.taken told
-    agreed-told g =
+    agreed-told : GoesOnBehind → Goes (channel_of x) [] [] [] → (told : List Told) × (list_any is_agreed told ≡ true) × Goes (channel_of mid) [] h.moves.taken told
+    agreed-told goes_on g =
         let u = (h.answers [] [] [] g).0 in
-        (u.heard ++ u.last ∷ [], any-last is_agreed u.heard u.last u.is_wanted, u.goes)
+        (u.heard ++ u.last ∷ [], any-last is_agreed u.heard u.last u.is_wanted, until-goes goes_on is_agreed (channel_of mid) [] h.moves.taken [] u)
 
     opening-is : Goes (channel_of x) [] [] [] → opening ≡ open_octets moment
     opening-is g = open_is (h.answers [] [] [] g).1
@@ -322,7 +331,7 @@ module _ (moment : DateTime) (x mid : Connection) (hello : List ℕ) (a b c : Op
           stops = tt;
         }
 
-    module _ (d e : Option Traffic) (new : Connection) (less : ℕ) (v : WhereTold (Carries [] opening) c d) where
+    module _ (goes_on : GoesOnBehind) (d e : Option Traffic) (new : Connection) (less : ℕ) (v : WhereTold (Carries [] opening) c d) where
       abbrev both-moves : Moves mid new [] d e → Moves x new (hello ++ opening) a e
       both-moves m = moves-behind x mid new hello opening a c e (sent-first x mid hello a b c w h.moves) (sent-first mid new opening c d e v m)
 
@@ -336,12 +345,12 @@ module _ (moment : DateTime) (x mid : Connection) (hello : List ℕ) (a b c : Op
         moves = both-moves k.moves;
         keeps = keeps-then x mid new h.keeps k.keeps;
         answers = λ g.
-            let t = agreed-told g in
+            let t = agreed-told goes_on g in
             let u = (k.answers [] h.moves.taken t.0 t.2).0 in (
               both-sent g,
               record {
                 told = t.0 ++ (u.heard ++ u.last ∷ []);
-                goes = u.goes;
+                goes = until-goes goes_on is_opened (channel_of new) [] (h.moves.taken ++ k.moves.taken) t.0 u;
                 agreed = any-left is_agreed t.0 (u.heard ++ u.last ∷ []) t.1;
                 opened = any-right is_opened t.0 (u.heard ++ u.last ∷ []) (any-right is_opened u.heard (u.last ∷ []) (ap (λ (y : Bool). y || false) u.is_wanted));
               },
@@ -355,7 +364,7 @@ module _ (moment : DateTime) (x mid : Connection) (hello : List ℕ) (a b c : Op
         sent = hello ++ opening;
         moves = both-moves k.moves;
         keeps = keeps-then x mid new h.keeps k.keeps;
-        answers = λ g. let t = agreed-told g in by f g t.0 t.1 (k.answers [] h.moves.taken t.0 t.2);
+        answers = λ g. let t = agreed-told goes_on g in by f g t.0 t.1 (k.answers [] h.moves.taken t.0 t.2);
         stops = stops f k.stops;
       }
         where
@@ -373,6 +382,7 @@ module _ (moment : DateTime) (x mid : Connection) (hello : List ℕ) (a b c : Op
           by fault.TooLarge g told agreed i = absurd i
           by fault.NotWritable g told agreed i = absurd i
           by fault.Exhausted g told agreed i = absurd i
+          by fault.TooManyTokens g told agreed i = absurd i
           by fault.Closed g told agreed i = absurd i
 
           stops : (y : ClientFault) → StopsAt {A = Unit {0}} left less k.moves.got new e (Err y) → StopsAt {A = Unit {0}} most_reads most_reads (h.moves.got ++ k.moves.got) new e (Err y)
@@ -387,6 +397,7 @@ module _ (moment : DateTime) (x mid : Connection) (hello : List ℕ) (a b c : Op
           stops fault.TooLarge i = tt
           stops fault.NotWritable i = tt
           stops fault.Exhausted i = tt
+          stops fault.TooManyTokens i = tt
           stops fault.Closed i = tt
           stops fault.OutOfMemory i = tt
 
@@ -419,5 +430,6 @@ breaks-as {A} {B} moment old new before after f h = record { sent = h.sent; move
     stops fault.TooLarge i = i
     stops fault.NotWritable i = i
     stops fault.Exhausted i = i
+    stops fault.TooManyTokens i = i
     stops fault.Closed i = i
     stops fault.OutOfMemory i = i

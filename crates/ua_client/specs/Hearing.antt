@@ -159,6 +159,17 @@ HearsAt moment (Err fault.Read) new asks octets told = Goes new asks octets told
 HearsAt moment (Err fault.TooLong) new asks octets told = Goes new asks octets told
 HearsAt moment (Err other) new asks octets told = ⊥
 
+-- the faults of hearing: those of the channel, and those of a read
+abbrev pub is_hearing_fault : ClientFault → Bool
+is_hearing_fault (fault.Peer code) = true
+is_hearing_fault (fault.Refused code) = true
+is_hearing_fault fault.OutOfMemory = true
+is_hearing_fault fault.Closed = true
+is_hearing_fault fault.Read = true
+is_hearing_fault fault.Ended = true
+is_hearing_fault fault.TooLong = true
+is_hearing_fault other = false
+
 -- at the end of the input all is taken, and a line that tells its octets has none to come; too many reads are as many as octets came
 abbrev pub StopsAt : {A : Type 0} → ℕ → ℕ → List ℕ → Connection → Option Traffic → Result A ClientFault → Type 0
 StopsAt reads left got new after (Ok found) = reads ≤ left + length got
@@ -173,4 +184,5 @@ pub record Hears (old new : Connection) (moment : DateTime) (before after : Opti
   pub answers : (asks : List Placed) (octets : List ℕ) (told : List Told) → Goes (channel_of old) asks octets told
       → HearsAt moment result (channel_of new) asks (octets ++ moves.taken) told
   pub less : IfOk result (λ e. effort left new < effort reads old)
+  pub faults : IfErr result (λ f. is_hearing_fault f ≡ true)
   pub stops : StopsAt reads left moves.got new after result

@@ -6,3 +6,4 @@ pub mod Hearing
 pub mod Site
 pub mod Opening
 pub mod Client
+pub mod Renewing

@@ -1,19 +1,19 @@
 -- How a client opens its connection: it sends the HEL, behind the ACK the OPN, and waits until the channel is open
 -- (OPC 10000-6, 6.7 and 7.1).
-use Rattle.std.specs.Prelude.{◌≡◌, ◌⊎◌, ◌++◌, ℕ, Bool, true, false, List, [], ◌∷◌, Option, Result, Ok, Err}
+use Rattle.std.specs.Prelude.{◌≡◌, ◌⊎◌, ◌++◌, ℕ, Bool, true, false, List, [], Option, Result, Ok, Err, IfErr}
 use Rattle.std.specs.List.{list_any}
 use Rattle.ua_octets.specs.Format.{Extends}
 use Rattle.ua_builtin.specs.declared.date_time.DateTime.{DateTime}
 use Rattle.ua_frame.specs.Frames.{frame_octets}
 use Rattle.ua_frame.specs.declared.limits.Limits.{Limits}
 use Rattle.ua_channel.specs.Asks.{Placed}
-use Rattle.ua_channel.specs.Client.{Goes, Ended, limits_of, url_of}
+use Rattle.ua_channel.specs.Client.{Goes, GoesTelling, Ended, limits_of, url_of}
 use Rattle.ua_channel.specs.ClientSends.{first_open, hello_frame, hello_to}
 use Rattle.ua_channel.specs.ClientTold.{Told, Why, ours, peers}
 use Rattle.ua_channel.specs.ClientTold.Told.{Agreed, Opened, Answered, GaveUp, Renewed}
 use Rattle.ua_channel.specs.Line.{Traffic}
 use Rattle.ua_channel.specs.declared.client.channel.ClientChannel.{ClientChannel}
-use Rattle.ua_client.specs.Hearing.{channel_of, most_reads, Keeps, Moves, StopsAt}
+use Rattle.ua_client.specs.Hearing.{channel_of, is_hearing_fault, most_reads, Keeps, Moves, StopsAt}
 use Rattle.ua_client.specs.declared.connection.Connection.{Connection}
 use Rattle.ua_client.specs.declared.fault.ClientFault.{ClientFault}
 use Rattle.ua_client.specs.declared.fault.ClientFault.TheVariants as fault
@@ -42,13 +42,13 @@ pub record GoesWithout (wanted : Told → Bool) (x : ClientChannel) (asks : List
   pub none : list_any wanted heard ≡ false
   pub goes : Goes x asks octets (told ++ heard)
 
--- more was told, and the last of it is the first that is waited for
+-- more was told, and the last of it is the first that is waited for; nothing stands behind its frame
 pub record GoesUntil (wanted : Told → Bool) (x : ClientChannel) (asks : List Placed) (octets : List ℕ) (told : List Told) : Type 0 where
   pub heard : List Told
   pub none : list_any wanted heard ≡ false
   pub last : Told
   pub is_wanted : wanted last ≡ true
-  pub goes : Goes x asks octets (told ++ (heard ++ last ∷ []))
+  pub tells : GoesTelling x asks octets (told ++ heard) last
 
 -- more was told, and nothing of it is what is waited for, when the connection ended
 pub record EndsWithout (wanted : Told → Bool) (x : ClientChannel) (asks : List Placed) (octets : List ℕ) (told : List Told) (why : Why) : Type 0 where
@@ -72,6 +72,7 @@ pub record Waits {A : Type 0} (wanted : Told → Bool) (P : A → Type 0) (old n
   pub moves : Moves old new [] before after
   pub keeps : Keeps old new
   pub answers : (asks : List Placed) (octets : List ℕ) (told : List Told) → Goes (channel_of old) asks octets told → WaitsAt wanted P result (channel_of new) asks (octets ++ moves.taken) told
+  pub faults : IfErr result (λ f. is_hearing_fault f ≡ true)
   pub stops : StopsAt reads left moves.got new after result
 
 -- whatever is answered

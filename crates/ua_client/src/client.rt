@@ -2,8 +2,9 @@
 
 ghost use Rattle.std.specs.Prelude.{◌≡◌, ◌⊎◌, IsTrue, Err};
 ghost use Rattle.ua_octets.specs.Counted.{text};
-ghost use Rattle.ua_client.specs.Client.{OpensNothing, OpensClient, IsDone, IsReady, Closes, client_channel};
+ghost use Rattle.ua_client.specs.Client.{OpensNothing, OpensClient, IsDone, IsReady, Closes, client_channel, connection_of};
 ghost use Rattle.ua_client.specs.Hearing.{failures_behind};
+ghost use Rattle.ua_client.specs.Renewing.{Renews, StandsBehind, IsRefusal};
 ghost use Rattle.ua_client.specs.declared.fault.ClientFault.TheVariants.{Closed};
 
 use crate::connection::Connection;
@@ -48,6 +49,29 @@ impl Client {
             }),
             Err(fault) => Err(fault),
         }
+    }
+
+    /// Renews the token of the channel: asks for a further one by the OPN (OPC 10000-4, 5.6.2), and waits
+    /// until it came. Calls go out under it from then on.
+    ///
+    /// After `TooManyTokens` and `Exhausted` nothing has changed; after any other fault the client is
+    /// done.
+    pub fn renew<L: Line>(&mut self, line: &mut L, moment: DateTime) -> Result<(), ClientFault>
+        ensures renews { IsReady self.old → Renews moment (connection_of self.old) (connection_of self.new) (L.traffic line.old) (L.traffic line.new) result }
+        ensures stands { IsReady self.old → StandsBehind result self.new }
+        ensures unchanged { IsRefusal result → (self.new ≡ self.old) × (line.new ≡ line.old) }
+        ensures closed { IsDone self.old → (result ≡ Err Closed) × (self.new ≡ self.old) × (line.new ≡ line.old) }
+        ensures failed { L.failures line.new ≡ failures_behind (L.failures line.old) result }
+    {
+        if self.is_done {
+            return Err(ClientFault::Closed);
+        }
+        let result = self.connection.renew(line, moment);
+        self.is_done = !matches!(
+            result,
+            Ok(()) | Err(ClientFault::TooManyTokens | ClientFault::Exhausted)
+        );
+        result
     }
 
     /// Closes the channel by the CLO, after which the client is done.

@@ -46,6 +46,9 @@ pub enum ClientFault {
     /// The line was read 18446744073709551615 times.
     #[error("too many reads")]
     TooLong,
+    /// 16 tokens are held, from the last one that the server used to the newest.
+    #[error("too many tokens are held")]
+    TooManyTokens,
 }
 
 impl From<AllocError> for ClientFault {

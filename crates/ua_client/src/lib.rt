@@ -15,6 +15,7 @@ mod fault;
 pub mod laws;
 mod opening;
 mod piece;
+mod renewing;
 mod sending;
 
 pub use client::Client;

@@ -79,6 +79,7 @@ impl Connection {
         ensures opens { Opens moment self.old self.new (L.traffic line.old) (L.traffic line.new) result }
         ensures failed { L.failures line.new ≡ failures_behind (L.failures line.old) result }
     {
+        client_goes_on();
         let mut reads = u64::MAX;
         let Ok(hello) = self.channel.hello() else {
             return Err(ClientFault::OutOfMemory);

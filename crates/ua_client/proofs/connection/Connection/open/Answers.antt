@@ -19,5 +19,5 @@ returns-in_default-write_whole-2-clause-opens g c =
 pub returns-clause-opens : goal.returns-clause-opens
 returns-clause-opens g c =
     opens-last c.args.moment c.args.self.now c.wait_for_opening.new.self c.deref.result.now (g.L.Line.traffic c.args.line.now) (g.L.Line.traffic c.write_whole.new.line) (g.L.Line.traffic c.wait_for_opening.new.line) c.wait_for_opening.new.reads (c.deref.ensures.value ∙ c.in-Ok.ensures) c.in-Ok-write_whole.ensures.written
-    _ c.in-Ok-wait_for_opening.opening c.in-Ok-wait_for_opening.ensures.waits c.deref-2.result.now (λ e. c.deref-2.ensures.value ∙ e) (g.L.Line.traffic c.write_whole-2.new.line) (g.L.Line.traffic c.wait_until_open.new.line) c.wait_until_open.new.self c.wait_until_open.new.reads c.in-Ok-write_whole-2.ensures.written
+    _ c.in-Ok-wait_for_opening.opening c.in-Ok-wait_for_opening.ensures.waits c.deref-2.result.now (λ e. c.deref-2.ensures.value ∙ e) c.client_goes_on.ensures (g.L.Line.traffic c.write_whole-2.new.line) (g.L.Line.traffic c.wait_until_open.new.line) c.wait_until_open.new.self c.wait_until_open.new.reads c.in-Ok-write_whole-2.ensures.written
     c.wait_until_open.result c.wait_until_open.ensures.waits

@@ -24,7 +24,7 @@ returns-in_err-octets-clause-failed g c =
 pub returns-in-Send-clause-waits : goal.returns-in-Send-clause-waits
 returns-in-Send-clause-waits g c =
     waits-found is_send is_agreed tests-agreed c.args.self.now c.loop-octets.self c.hear.new.self (g.L.Line.traffic c.args.line.now) (g.L.Line.traffic c.loop-octets.line) (g.L.Line.traffic c.hear.new.line)
-    c.args.reads.now c.loop-octets.reads c.hear.new.reads c.args.moment c.loop-octets.invariant.lacks (λ octets. octets.items ≡ open_octets c.args.moment) c.client_goes_on.ensures c.in_ok-octets.field-0 c.in-Send.octets (ap is_send c.in-Send.is) (λ t s. (subst (λ (e : ClientEvent). Says c.args.moment e t) c.in-Send.is s).0) c.in_ok-octets.ensures.hears
+    c.args.reads.now c.loop-octets.reads c.hear.new.reads c.args.moment c.loop-octets.invariant.lacks (λ octets. octets.items ≡ open_octets c.args.moment) c.in_ok-octets.field-0 c.in-Send.octets (ap is_send c.in-Send.is) (λ t s. (subst (λ (e : ClientEvent). Says c.args.moment e t) c.in-Send.is s).0) c.in_ok-octets.ensures.hears
 
 pub loop-octets-preserved : goal.loop-octets-preserved
 loop-octets-preserved g c = record {

@@ -24,7 +24,7 @@ returns-in_err-hear-clause-failed g c =
 pub returns-in-Open-clause-waits : goal.returns-in-Open-clause-waits
 returns-in-Open-clause-waits g c =
     waits-found is_open is_opened tests-opened c.args.self.now c.loop.self c.hear.new.self (g.L.Line.traffic c.args.line.now) (g.L.Line.traffic c.loop.line) (g.L.Line.traffic c.hear.new.line)
-    c.args.reads.now c.loop.reads c.hear.new.reads c.args.moment c.loop.invariant.lacks any_done c.client_goes_on.ensures c.in_ok-hear.field-0 tt (ap is_open c.in-Open.is) (λ t s. tt) c.in_ok-hear.ensures.hears
+    c.args.reads.now c.loop.reads c.hear.new.reads c.args.moment c.loop.invariant.lacks any_done c.in_ok-hear.field-0 tt (ap is_open c.in-Open.is) (λ t s. tt) c.in_ok-hear.ensures.hears
 
 pub loop-preserved : goal.loop-preserved
 loop-preserved g c = record {

@@ -1,0 +1,389 @@
+-- How the token of a channel is renewed.
+use Rattle.std.specs.Prelude.{◌≡◌, ◌⊎◌, ℕ, ◌+◌, ◌≤◌, nat_le, Bool, true, false, is_some, List, [], ◌∷◌, ◌++◌, length, Option, Some, None, Result, Ok, Err, IfErr}
+use Rattle.std.proofs.Common.{refl, sym, ◌∙◌, ap, subst, inl, inr, append_assoc, append-nil, arith}
+use Rattle.std.proofs.lemmas.List.{length-append}
+use Rattle.std.specs.List.{list_any}
+use Rattle.ua_builtin.specs.Reasons.{first_reason}
+use Rattle.ua_builtin.specs.declared.date_time.DateTime.{DateTime}
+use Rattle.ua_frame.specs.Frames.{frame_octets}
+use Rattle.ua_frame.specs.declared.frame.Frame.{Frame}
+use Rattle.ua_frame.specs.declared.limits.Limits.{Limits}
+use Rattle.ua_chunk.specs.Sequence.{next_number}
+use Rattle.ua_chunk.specs.declared.lane.Lane.{Lane}
+use Rattle.ua_channel.specs.Asks.{Asking, Placed, asked_in, next_id, pending_renewals, renewals}
+use Rattle.ua_channel.specs.Asks.Asking.{Renewal}
+use Rattle.ua_channel.specs.Client.{Goes, GoesTelling, InPhase, IsNotOpen, IsRenewal, SameClient, SendsRenewal, Stands, limits_of, next_of, phase_of, renew_refusal, renewal_refused}
+use Rattle.ua_channel.specs.ClientAsks.{IsFor, most_tokens, no_id}
+use Rattle.ua_channel.specs.ClientSends.{renewal_frame}
+use Rattle.ua_channel.specs.ClientTokens.{held_tokens, opened_ids}
+use Rattle.ua_channel.specs.ClientTold.{Told}
+use Rattle.ua_channel.specs.ClientTold.Told.{Agreed, Opened, Answered, GaveUp, Renewed}
+use Rattle.ua_channel.specs.Line.{Traffic, WhereTold}
+use Rattle.ua_channel.specs.Received.{Received, listed, received}
+use Rattle.ua_channel.specs.declared.client.channel.ClientChannel.{ClientChannel}
+use Rattle.ua_channel.specs.declared.client.event.ClientEvent.{ClientEvent}
+use Rattle.ua_channel.specs.declared.client.event.ClientEvent.TheVariants as event
+use Rattle.ua_channel.specs.declared.client.fault.AskFault.{AskFault}
+use Rattle.ua_channel.specs.declared.client.fault.AskFault.TheVariants as ask_fault
+use Rattle.ua_channel.specs.declared.client.phase.Phase.{Phase}
+use Rattle.ua_channel.specs.declared.client.phase.Phase.TheVariants as phase
+use Rattle.ua_channel.proofs.Askings.{asked_in-push, renewals-push}
+use Rattle.ua_channel.proofs.Opened.{client_open}
+use Rattle.ua_client.specs.Carried.{Carries, WritesFront}
+use Rattle.ua_client.specs.Hearing.{channel_of, is_hearing_fault, untaken_of, most_reads, Keeps, Moves, StopsAt}
+use Rattle.ua_client.specs.Opening.{is_opened, any_done, GoesUntil, WaitsAt, Waits}
+use Rattle.ua_client.specs.Renewing.{is_renewed, IsSettled, IsRefusal, renewal_refusal, refused_by, of_renew_fault, renewal_by, renewal_at, asks_renewed, IsRenewed, RenewsAt, Renews}
+use Rattle.ua_client.specs.Site.{Site, At, id_at, lane_behind}
+use Rattle.ua_client.specs.declared.connection.Connection.{Connection}
+use Rattle.ua_client.specs.declared.fault.ClientFault.{ClientFault}
+use Rattle.ua_client.specs.declared.fault.ClientFault.TheVariants as fault
+use Rattle.ua_client.proofs.Carrying.{carried-nothing, sends-front}
+use Rattle.ua_client.proofs.Hearings.{GoesOnBehind}
+use Rattle.ua_client.proofs.Lanes.{lane-talks}
+use Rattle.ua_client.proofs.Openings.{Tests, any-left, sent-first}
+use Rattle.ua_client.proofs.Renewals.{tokens-answer, tokens-told, tokens-append, told-opened}
+
+-- ---- events
+
+-- an event is a further token
+abbrev pub is_token : ClientEvent → Bool
+is_token event.NeedMore = false
+is_token (event.Send sent) = false
+is_token event.Open = false
+is_token (event.Answered id message) = false
+is_token (event.Aborted id code) = false
+is_token (event.Failed code peer) = false
+is_token (event.Renewed token) = true
+
+pub tests-renewed : Tests is_token is_renewed
+tests-renewed moment event.NeedMore t h = absurd h
+tests-renewed moment (event.Send sent) t h = ap is_renewed h.1.1
+tests-renewed moment event.Open t h = ap is_renewed h.1.1
+tests-renewed moment (event.Answered id message) t h = ap is_renewed h
+tests-renewed moment (event.Aborted id code) t h = ap is_renewed h
+tests-renewed moment (event.Failed code peer) t h = absurd h
+tests-renewed moment (event.Renewed token) t h = ap is_renewed h
+
+pub not-token : (e : ClientEvent) → ((token : _) → e ≡ event.Renewed token → ⊥) → is_token e ≡ false
+not-token event.NeedMore h = refl
+not-token (event.Send sent) h = refl
+not-token event.Open h = refl
+not-token (event.Answered id message) h = refl
+not-token (event.Aborted id code) h = refl
+not-token (event.Failed code peer) h = refl
+not-token (event.Renewed token) h = absurd (h token refl)
+
+the-token : (t : Told) → is_renewed t ≡ true → (token : ℕ) × (t ≡ Renewed token)
+the-token (Agreed ack) h = absurd cc
+the-token (Opened channel token) h = absurd cc
+the-token (Answered id octets) h = absurd cc
+the-token (GaveUp id code) h = absurd cc
+the-token (Renewed token) h = (token, refl)
+
+-- ---- why it is not asked
+
+-- the reasons of a channel on which no renewal is pending
+abbrev asked-reasons : Bool → Bool → Option AskFault
+asked-reasons many used = first_reason ((ask_fault.TooManyTokens, many) ∷ (ask_fault.Exhausted, used) ∷ [])
+
+-- and those of a client
+abbrev site-reasons : Bool → Bool → Option ClientFault
+site-reasons many used = first_reason ((fault.TooManyTokens, many) ∷ (fault.Exhausted, used) ∷ [])
+
+not-some : {A : Type 0} (o : Option A) → listed o ≡ [] → is_some o ≡ false
+not-some None h = refl
+not-some (Some x) h = absurd cc
+
+judging-in : (limits : Limits) (p : Phase) (before : Received) (asked : List Asking) → InPhase limits p before asked → (IsNotOpen p → ⊥) → pending_renewals (opened_ids before.openings) asked ≡ []
+    → renew_refusal p ≡ asked-reasons (nat_le most_tokens (length (held_tokens before))) (nat_le no_id (next_id asked))
+judging-in limits phase.Waiting before asked h some none = absurd (some tt)
+judging-in limits (phase.Agreed a) before asked h some none = absurd (some tt)
+judging-in limits (phase.Open t) before asked h some none =
+    ap (λ (b : Bool). first_reason ((ask_fault.RenewPending, b) ∷ (ask_fault.TooManyTokens, nat_le most_tokens (length t.tokens.items)) ∷ (ask_fault.Exhausted, nat_le no_id t.next) ∷ [])) (not-some t.renewal (h.renewal_is ∙ none))
+    ∙ (ap (λ (ns : List ℕ). asked-reasons (nat_le most_tokens (length ns)) (nat_le no_id t.next)) h.tokens_are
+    ∙ ap (λ (n : ℕ). asked-reasons (nat_le most_tokens (length (held_tokens before))) (nat_le no_id n)) h.next_is)
+judging-in limits phase.Done before asked h some none = absurd (some tt)
+
+no-length : (ids : List ℕ) → length ids ≤ 0 → ids ≡ []
+no-length [] h = refl
+no-length (id ∷ ids) h = absurd (omega (arith, h))
+
+module _ (x : ClientChannel) (s : Site) (at : At x s) (settled : IsSettled s) where
+  none-pending : pending_renewals (opened_ids (received at.goes.frames).openings) (asked_in s.asks) ≡ []
+  none-pending =
+      let few = tokens-answer (limits_of x) s.asks at.goes.frames at.goes.stands.run.good in
+      let all : length (renewals (asked_in s.asks)) ≤ tokens-told s.told = settled.renewed in
+      let told = ap tokens-told at.goes.told_is in
+      no-length (pending_renewals (opened_ids (received at.goes.frames).openings) (asked_in s.asks)) (omega (arith, few, all, told))
+
+  is-open : IsNotOpen (phase_of x) → ⊥
+  is-open n =
+      told-opened (limits_of x) s.asks at.goes.frames (ap (list_any is_opened) at.goes.told_is ∙ settled.opened)
+      ((client_open x s.asks s.octets at.goes.frames at.goes.rest at.goes.stands).0 n)
+
+  -- why the channel refuses, by where the client stands
+  pub channel-refuses : renewal_refused x ≡ asked-reasons (nat_le most_tokens (length (held_tokens s.before))) (nat_le no_id (id_at s))
+  channel-refuses =
+      judging-in (limits_of x) (phase_of x) (received at.goes.frames) (asked_in s.asks) at.goes.stands.phase_is is-open none-pending
+      ∙ ap (λ (b : Received). asked-reasons (nat_le most_tokens (length (held_tokens b))) (nat_le no_id (id_at s))) at.before_is
+
+nothing-refused : (many used : Bool) → asked-reasons many used ≡ None → site-reasons many used ≡ None
+nothing-refused true used h = absurd cc
+nothing-refused false true h = absurd cc
+nothing-refused false false h = refl
+
+abbrev Either : AskFault → Option AskFault → Type 0
+Either f reason = (reason ≡ Some f) ⊎ ((f ≡ ask_fault.OutOfMemory) × (reason ≡ None))
+
+either-for : (f : AskFault) (reason : Option AskFault) → IsFor reason f → Either f reason
+either-for ask_fault.NotOpen reason h = inl h
+either-for ask_fault.TooManyPending reason h = inl h
+either-for ask_fault.RenewPending reason h = inl h
+either-for ask_fault.TooManyTokens reason h = inl h
+either-for ask_fault.Exhausted reason h = inl h
+either-for ask_fault.RequestTooLarge reason h = inl h
+either-for ask_fault.OutOfMemory reason h = inr (refl, h)
+
+same-fault : (f g : AskFault) → ◌≡◌ {A = Option AskFault} (Some f) (Some g) → f ≡ g
+same-fault f g e = cc
+
+module _ (A : Type 0) (s : Site) (moment : DateTime) (new : ClientChannel) where
+  abbrev Refuses : Option ClientFault → AskFault → Type 0
+  Refuses reason f = (refused_by {A = A} (Err (of_renew_fault f)) ≡ reason) × RenewsAt {A = A} s moment new [] [] (Err (of_renew_fault f))
+
+  refuses-by : (many used : Bool) (f : AskFault) → Either f (asked-reasons many used) → Refuses (site-reasons many used) f
+  refuses-by true used f (inl e) = subst (λ (g : AskFault). Refuses (Some fault.TooManyTokens) g) (same-fault ask_fault.TooManyTokens f e) (refl, (refl, refl))
+  refuses-by false true f (inl e) = subst (λ (g : AskFault). Refuses (Some fault.Exhausted) g) (same-fault ask_fault.Exhausted f e) (refl, (refl, refl))
+  refuses-by false false f (inl e) = absurd cc
+  refuses-by true used f (inr e) = absurd cc
+  refuses-by false true f (inr e) = absurd cc
+  refuses-by false false f (inr e) = subst (λ (g : AskFault). Refuses None g) (sym e.0) (refl, inl refl)
+
+  refuses-at : (x : ClientChannel) → At x s → IsSettled s → (f : AskFault) → IsFor (renewal_refused x) f → Refuses (renewal_refusal s) f
+  refuses-at x at settled f h =
+      refuses-by (nat_le most_tokens (length (held_tokens s.before))) (nat_le no_id (id_at s)) f
+      (either-for f (asked-reasons (nat_le most_tokens (length (held_tokens s.before))) (nat_le no_id (id_at s))) (subst (λ (r : Option AskFault). IsFor r f) (channel-refuses x s at settled) h))
+
+-- a refusal does not stop what is read
+refusal-stops : (A : Type 0) (f : AskFault) (x : Connection) (t : Option Traffic) → StopsAt {A = A} most_reads most_reads [] x t (Err (of_renew_fault f))
+refusal-stops A ask_fault.NotOpen x t = tt
+refusal-stops A ask_fault.TooManyPending x t = tt
+refusal-stops A ask_fault.RenewPending x t = tt
+refusal-stops A ask_fault.TooManyTokens x t = tt
+refusal-stops A ask_fault.Exhausted x t = tt
+refusal-stops A ask_fault.RequestTooLarge x t = tt
+refusal-stops A ask_fault.OutOfMemory x t = tt
+
+-- it was not asked
+pub renews-refused : {A : Type 0} (moment : DateTime) (x y : Connection) (t : Option Traffic) (f : AskFault) → y ≡ x → IsFor (renewal_refused (channel_of x)) f → Renews {A = A} moment x y t t (Err (of_renew_fault f))
+renews-refused {A} moment x y t f same h = record {
+  sent = [];
+  moves = record { got = []; taken = []; parts = append-nil (untaken_of x) ∙ ap untaken_of (sym same); carried = carried-nothing t };
+  same = record { limits = ap (λ (z : Connection). limits_of (channel_of z)) (sym same); url = ap (λ (z : Connection). (channel_of z).address.url) (sym same) };
+  judged = λ s at settled. (refuses-at A s moment (channel_of y) (channel_of x) at settled f h).0;
+  answers = λ s at settled. (refuses-at A s moment (channel_of y) (channel_of x) at settled f h).1;
+  stops = refusal-stops A f y t;
+}
+
+-- ---- what is asked
+
+-- a renewal was asked: what was refused, what is sent, where the channel then stands
+pub record Asks (moment : DateTime) (old new : ClientChannel) (id : ℕ) (out : List ℕ) : Type 0 where
+  pub refused : renewal_refused old ≡ None
+  pub sends : SendsRenewal old (next_of old) moment id out (next_of new)
+  pub stands : (asks : List Placed) (octets : List ℕ) (frames : List Frame) (rest : List ℕ) → Stands old asks octets frames rest → Stands new (asks ++ (length octets, Renewal id) ∷ []) octets frames rest
+  pub same : SameClient old new
+
+-- the same, where what is sent is named in another way
+pub asks-as : (moment : DateTime) (old new : ClientChannel) (id : ℕ) (out sent : List ℕ) → sent ≡ out → Asks moment old new id out → Asks moment old new id sent
+asks-as moment old new id out sent same h = subst (λ (o : List ℕ). Asks moment old new id o) (sym same) h
+
+asking-in : (limits : Limits) (p : Phase) (before : Received) (asked : List Asking) (number : ℕ) (moment : DateTime) (id : ℕ) (out : List ℕ) (next : ℕ) → InPhase limits p before asked → IsRenewal p number moment id out next
+    → (id ≡ next_id asked) × (out ≡ renewal_by (lane_behind before) number (next_id asked) moment) × (next ≡ next_number number)
+asking-in limits phase.Waiting before asked number moment id out next h c = absurd c
+asking-in limits (phase.Agreed a) before asked number moment id out next h c = absurd c
+asking-in limits (phase.Open t) before asked number moment id out next h c = (
+  c.id_is ∙ h.next_is,
+  c.out_is
+      ∙ (ap (λ (n : ℕ). frame_octets (renewal_frame t.channel number n moment)) (c.id_is ∙ h.next_is)
+      ∙ ap (λ (l : Option Lane). renewal_by l number (next_id asked) moment) (sym (lane-talks limits t before asked h))),
+  c.next_is,
+)
+asking-in limits phase.Done before asked number moment id out next h c = absurd c
+
+module _ (moment : DateTime) (x y : ClientChannel) (id : ℕ) (out : List ℕ) (asked : Asks moment x y id out) (s : Site) (at : At x s) where
+  abbrev asking : (id ≡ id_at s) × (out ≡ renewal_by (lane_behind (received at.goes.frames)) (next_of x) (id_at s) moment) × (next_of y ≡ next_number (next_of x))
+  asking = asking-in (limits_of x) (phase_of x) (received at.goes.frames) (asked_in s.asks) (next_of x) moment id out (next_of y) at.goes.stands.phase_is asked.sends
+
+  pub out-is : out ≡ renewal_at s moment
+  out-is =
+      asking.1
+      ∙ (ap (λ (b : Received). renewal_by (lane_behind b) (next_of x) (id_at s) moment) at.before_is
+      ∙ ap (λ (n : ℕ). renewal_by (lane_behind s.before) n (id_at s) moment) at.number_is)
+
+  pub next-is : next_of y ≡ next_number s.number
+  next-is = asking.2 ∙ ap next_number at.number_is
+
+  pub goes-asked : Goes y (asks_renewed s) s.octets s.told
+  goes-asked = record {
+    frames = at.goes.frames;
+    rest = at.goes.rest;
+    stands = subst (λ (n : ℕ). Stands y (s.asks ++ (length s.octets, Renewal n) ∷ []) s.octets at.goes.frames at.goes.rest) asking.0 (asked.stands s.asks s.octets at.goes.frames at.goes.rest at.goes.stands);
+    told_is = at.goes.told_is;
+  }
+
+  pub none-refused : IsSettled s → renewal_refusal s ≡ None
+  none-refused settled =
+      nothing-refused (nat_le most_tokens (length (held_tokens s.before))) (nat_le no_id (id_at s)) (sym (channel-refuses x s at settled) ∙ asked.refused)
+
+-- ---- one more renewal, and one more token
+
+settled-more : (s : Site) (heard : List Told) (token : ℕ) (before : Received) (octets : List ℕ) (number : ℕ) → IsSettled s
+    → IsSettled (record { asks = asks_renewed s; octets = octets; before = before; told = s.told ++ (heard ++ Renewed token ∷ []); number = number })
+settled-more s heard token before octets number h =
+    let asked : length (renewals (asked_in (asks_renewed s))) ≡ length (renewals (asked_in s.asks)) + 1 =
+    ap (λ (asked : List Asking). length (renewals asked)) (asked_in-push s.asks (length s.octets, Renewal (id_at s)))
+    ∙ (ap length (renewals-push (asked_in s.asks) (Renewal (id_at s))) ∙ length-append (renewals (asked_in s.asks)) (id_at s ∷ [])) in
+    let told = tokens-append s.told (heard ++ Renewed token ∷ []) in
+    let more = tokens-append heard (Renewed token ∷ []) in
+    let few : length (renewals (asked_in s.asks)) ≤ tokens-told s.told = h.renewed in
+    record { opened = any-left is_opened s.told (heard ++ Renewed token ∷ []) h.opened; renewed = omega (arith, asked, told, more, few) }
+
+-- ---- what comes of it
+
+module _ (moment : DateTime) (x mid new : Connection) (id : ℕ) (out : List ℕ) (asked : Asks moment (channel_of x) (channel_of mid) id out) (untaken : untaken_of mid ≡ untaken_of x) (a b c : Option Traffic) where
+  abbrev moves-from : (sent : List ℕ) → Moves mid new sent a c → Moves x new sent a c
+  moves-from sent m = record { got = m.got; taken = m.taken; parts = ap (λ (o : List ℕ). o ++ m.got) (sym untaken) ∙ m.parts; carried = m.carried }
+
+  -- the OPN was not written whole
+  pub renews-unwritten : {A : Type 0} → new ≡ mid → WhereTold (WritesFront out) a c → Renews {A = A} moment x new a c (Err fault.Write)
+  renews-unwritten same h =
+      let front = sends-front out a c h in
+      record {
+        sent = front.0;
+        moves = record { got = []; taken = []; parts = append-nil (untaken_of x) ∙ (sym untaken ∙ ap untaken_of (sym same)); carried = front.2 };
+        same = subst (λ (z : Connection). SameClient (channel_of x) (channel_of z)) (sym same) asked.same;
+        judged = λ s at settled. sym (none-refused moment (channel_of x) (channel_of mid) id out asked s at settled);
+        answers = λ s at settled. (record { more = front.1.more; parts = sym (out-is moment (channel_of x) (channel_of mid) id out asked s at) ∙ front.1.parts }, refl);
+        stops = tt;
+      }
+
+  module _ (goes_on : GoesOnBehind) (left : ℕ) (w : WhereTold (Carries [] out) a b) where
+    same-behind : Keeps mid new → SameClient (channel_of x) (channel_of new)
+    same-behind k = record { limits = asked.same.limits ∙ k.same.limits; url = asked.same.url ∙ k.same.url }
+
+    renewed-at : (taken : List ℕ) → Keeps mid new → (s : Site) → At (channel_of x) s → IsSettled s → GoesUntil is_renewed (channel_of new) (asks_renewed s) (s.octets ++ taken) s.told → (t : Site) × IsRenewed (channel_of new) s t taken
+    renewed-at taken k s at settled u =
+        let token = the-token u.last u.is_wanted in
+        let tells : GoesTelling (channel_of new) (asks_renewed s) (s.octets ++ taken) (s.told ++ u.heard) (Renewed token.0) =
+        subst (λ (e : Told). GoesTelling (channel_of new) (asks_renewed s) (s.octets ++ taken) (s.told ++ u.heard) e) token.1 u.tells in
+        let goes : Goes (channel_of new) (asks_renewed s) (s.octets ++ taken) (s.told ++ (u.heard ++ Renewed token.0 ∷ [])) =
+        subst (λ (all : List Told). Goes (channel_of new) (asks_renewed s) (s.octets ++ taken) all) (append_assoc s.told u.heard (Renewed token.0 ∷ []))
+        (goes_on (channel_of new) (asks_renewed s) (s.octets ++ taken) (s.told ++ u.heard) (Renewed token.0) tells) in
+        let t : Site = record { asks = asks_renewed s; octets = s.octets ++ taken; before = received goes.frames; told = s.told ++ (u.heard ++ Renewed token.0 ∷ []); number = next_number s.number } in (
+          t,
+          record {
+            at = record { goes = goes; before_is = refl; number_is = k.next ∙ next-is moment (channel_of x) (channel_of mid) id out asked s at };
+            asks = refl;
+            octets = refl;
+            number = refl;
+            heard = u.heard;
+            token = token.0;
+            none_before = u.none;
+            tells = tells;
+            told = refl;
+            settled = settled-more s u.heard token.0 (received goes.frames) (s.octets ++ taken) (next_number s.number) settled;
+          },
+        )
+
+    pub renews-last : (r : Result (Unit {0}) ClientFault) → Waits is_renewed any_done mid new b c most_reads left r → Renews moment x new a c r
+    renews-last (Ok done) h = record {
+      sent = out;
+      moves = moves-from out (sent-first mid new out a b c w h.moves);
+      same = same-behind h.keeps;
+      judged = λ s at settled. sym (none-refused moment (channel_of x) (channel_of mid) id out asked s at settled);
+      answers = λ s at settled. (
+        out-is moment (channel_of x) (channel_of mid) id out asked s at,
+        renewed-at h.moves.taken h.keeps s at settled (h.answers (asks_renewed s) s.octets s.told (goes-asked moment (channel_of x) (channel_of mid) id out asked s at)).0,
+      );
+      stops = omega arith;
+    }
+    renews-last (Err f) h = record {
+      sent = out;
+      moves = moves-from out (sent-first mid new out a b c w h.moves);
+      same = same-behind h.keeps;
+      judged = λ s at settled.
+          unrefused f s h.moves.taken (h.answers (asks_renewed s) s.octets s.told (goes-asked moment (channel_of x) (channel_of mid) id out asked s at))
+          ∙ sym (none-refused moment (channel_of x) (channel_of mid) id out asked s at settled);
+      answers = λ s at settled.
+          by f s h.moves.taken (out-is moment (channel_of x) (channel_of mid) id out asked s at)
+          (h.answers (asks_renewed s) s.octets s.told (goes-asked moment (channel_of x) (channel_of mid) id out asked s at));
+      stops = stops f h.stops;
+    }
+      where
+        unrefused : (y : ClientFault) (s : Site) (taken : List ℕ) → WaitsAt is_renewed any_done (Err y) (channel_of new) (asks_renewed s) (s.octets ++ taken) s.told → refused_by {A = Unit {0}} (Err y) ≡ None
+        unrefused fault.Read s taken k = refl
+        unrefused fault.Ended s taken k = refl
+        unrefused fault.TooLong s taken k = refl
+        unrefused (fault.Peer code) s taken k = refl
+        unrefused (fault.Refused code) s taken k = refl
+        unrefused fault.OutOfMemory s taken k = refl
+        unrefused fault.Write s taken k = refl
+        unrefused fault.UnknownResponse s taken k = refl
+        unrefused (fault.Service code) s taken k = refl
+        unrefused fault.TooLarge s taken k = refl
+        unrefused fault.NotWritable s taken k = refl
+        unrefused fault.Exhausted s taken k = absurd k
+        unrefused fault.TooManyTokens s taken k = absurd k
+        unrefused fault.Closed s taken k = refl
+
+        by : (y : ClientFault) (s : Site) (taken : List ℕ) → out ≡ renewal_at s moment → WaitsAt is_renewed any_done (Err y) (channel_of new) (asks_renewed s) (s.octets ++ taken) s.told
+            → RenewsAt {A = Unit {0}} s moment (channel_of new) out taken (Err y)
+        by fault.Read s taken e k = (e, k)
+        by fault.Ended s taken e k = (e, k)
+        by fault.TooLong s taken e k = (e, k)
+        by (fault.Peer code) s taken e k = (e, k)
+        by (fault.Refused code) s taken e k = (e, k)
+        by fault.OutOfMemory s taken e k = inr e
+        by fault.Write s taken e k = absurd k
+        by fault.UnknownResponse s taken e k = absurd k
+        by (fault.Service code) s taken e k = absurd k
+        by fault.TooLarge s taken e k = absurd k
+        by fault.NotWritable s taken e k = absurd k
+        by fault.Exhausted s taken e k = absurd k
+        by fault.TooManyTokens s taken e k = absurd k
+        by fault.Closed s taken e k = absurd k
+
+        stops : (y : ClientFault) → StopsAt {A = Unit {0}} most_reads left h.moves.got new c (Err y) → StopsAt {A = Unit {0}} most_reads most_reads h.moves.got new c (Err y)
+        stops fault.TooLong k = k
+        stops fault.Ended k = k
+        stops fault.Read k = tt
+        stops fault.Write k = tt
+        stops (fault.Peer code) k = tt
+        stops (fault.Refused code) k = tt
+        stops fault.UnknownResponse k = tt
+        stops (fault.Service code) k = tt
+        stops fault.TooLarge k = tt
+        stops fault.NotWritable k = tt
+        stops fault.Exhausted k = tt
+        stops fault.TooManyTokens k = tt
+        stops fault.Closed k = tt
+        stops fault.OutOfMemory k = tt
+
+-- what is met while a token is waited for is no refusal
+pub heard-none : {A : Type 0} (r : Result A ClientFault) → IfErr r (λ f. is_hearing_fault f ≡ true) → IsRefusal r → ⊥
+heard-none (Ok done) h k = k
+heard-none (Err fault.TooManyTokens) h k = absurd cc
+heard-none (Err fault.Exhausted) h k = absurd cc
+heard-none (Err (fault.Peer code)) h k = k
+heard-none (Err (fault.Refused code)) h k = k
+heard-none (Err fault.OutOfMemory) h k = k
+heard-none (Err fault.Closed) h k = k
+heard-none (Err fault.Read) h k = k
+heard-none (Err fault.Write) h k = k
+heard-none (Err fault.Ended) h k = k
+heard-none (Err fault.UnknownResponse) h k = k
+heard-none (Err (fault.Service code)) h k = k
+heard-none (Err fault.TooLarge) h k = k
+heard-none (Err fault.NotWritable) h k = k
+heard-none (Err fault.TooLong) h k = k

@@ -1,0 +1,145 @@
+-- How a client renews the token of its channel: it sends an OPN, and waits until a further token came (OPC 10000-4, 5.6.2; OPC 10000-6,
+-- 6.7.2).
+use Rattle.std.specs.Prelude.{◌≡◌, ◌⊎◌, ◌≤◌, ◌++◌, nat_le, ℕ, Bool, true, false, List, [], ◌∷◌, length, Option, Some, None, Result, Ok, Err}
+use Rattle.std.specs.List.{filter, list_any}
+use Rattle.ua_octets.specs.Format.{Extends}
+use Rattle.ua_builtin.specs.Reasons.{first_reason}
+use Rattle.ua_builtin.specs.declared.date_time.DateTime.{DateTime}
+use Rattle.ua_frame.specs.Frames.{frame_octets}
+use Rattle.ua_chunk.specs.Sequence.{next_number}
+use Rattle.ua_chunk.specs.declared.lane.Lane.{Lane}
+use Rattle.ua_channel.specs.Asks.{Placed, asked_in, renewals}
+use Rattle.ua_channel.specs.Asks.Asking.{Renewal}
+use Rattle.ua_channel.specs.Client.{GoesTelling, SameClient}
+use Rattle.ua_channel.specs.ClientAsks.{most_tokens, no_id}
+use Rattle.ua_channel.specs.ClientSends.{renewal_frame}
+use Rattle.ua_channel.specs.ClientTokens.{held_tokens}
+use Rattle.ua_channel.specs.ClientTold.{Told}
+use Rattle.ua_channel.specs.ClientTold.Told.{Agreed, Opened, Answered, GaveUp, Renewed}
+use Rattle.ua_channel.specs.Line.{Traffic}
+use Rattle.ua_channel.specs.declared.client.channel.ClientChannel.{ClientChannel}
+use Rattle.ua_channel.specs.declared.client.fault.AskFault.{AskFault}
+use Rattle.ua_channel.specs.declared.client.fault.AskFault.TheVariants as ask_fault
+use Rattle.ua_client.specs.Client.{IsDone, IsReady}
+use Rattle.ua_client.specs.Hearing.{channel_of, most_reads, Moves, StopsAt}
+use Rattle.ua_client.specs.Opening.{is_opened, any_done, WaitsAt}
+use Rattle.ua_client.specs.Site.{Site, At, id_at, lane_behind}
+use Rattle.ua_client.specs.declared.client.Client.{Client}
+use Rattle.ua_client.specs.declared.connection.Connection.{Connection}
+use Rattle.ua_client.specs.declared.fault.ClientFault.{ClientFault}
+use Rattle.ua_client.specs.declared.fault.ClientFault.TheVariants as fault
+
+-- ---- between two calls
+
+-- a further token came
+abbrev pub is_renewed : Told → Bool
+is_renewed (Agreed ack) = false
+is_renewed (Opened channel token) = false
+is_renewed (Answered id octets) = false
+is_renewed (GaveUp id code) = false
+is_renewed (Renewed token) = true
+
+-- a client may be called there: its channel is open, and each renewal that it asked is answered, as no fewer further tokens came than it
+-- asked for
+pub record IsSettled (s : Site) : Type 0 where
+  pub opened : list_any is_opened s.told ≡ true
+  pub renewed : length (renewals (asked_in s.asks)) ≤ length (filter is_renewed s.told)
+
+-- ---- why it is not asked
+
+-- why a renewal is not asked there, in the order in which it is judged: the client holds 16 tokens, from the last one that the server
+-- used to the newest; or all request ids were used
+abbrev pub renewal_reasons : Site → List (ClientFault × Bool)
+renewal_reasons s = (fault.TooManyTokens, nat_le most_tokens (length (held_tokens s.before))) ∷ (fault.Exhausted, nat_le no_id (id_at s)) ∷ []
+
+-- why it is not asked there, if it is not
+abbrev pub renewal_refusal : Site → Option ClientFault
+renewal_refusal s = first_reason (renewal_reasons s)
+
+-- for which of these reasons a renewal was not asked, if for one
+abbrev pub refused_by : {A : Type 0} → Result A ClientFault → Option ClientFault
+refused_by (Ok done) = None
+refused_by (Err fault.TooManyTokens) = Some fault.TooManyTokens
+refused_by (Err fault.Exhausted) = Some fault.Exhausted
+refused_by (Err other) = None
+
+-- it was not asked, for one of these reasons
+abbrev pub IsRefusal : {A : Type 0} → Result A ClientFault → Type 0
+IsRefusal (Ok done) = ⊥
+IsRefusal (Err fault.TooManyTokens) = Unit {0}
+IsRefusal (Err fault.Exhausted) = Unit {0}
+IsRefusal (Err other) = ⊥
+
+-- what a refusal of the channel comes to; where a client may be called, it meets no other than these three
+abbrev pub of_renew_fault : AskFault → ClientFault
+of_renew_fault ask_fault.TooManyTokens = fault.TooManyTokens
+of_renew_fault ask_fault.Exhausted = fault.Exhausted
+of_renew_fault ask_fault.OutOfMemory = fault.OutOfMemory
+of_renew_fault other = fault.Closed
+
+-- ---- what is asked
+
+-- the OPN that renews the token of the channel of a lane, at this moment, with this sequence number and request id
+abbrev pub renewal_by : Option Lane → ℕ → ℕ → DateTime → List ℕ
+renewal_by None number id moment = []
+renewal_by (Some lane) number id moment = frame_octets (renewal_frame lane.channel number id moment)
+
+-- the OPN of a client that stands there
+abbrev pub renewal_at : Site → DateTime → List ℕ
+renewal_at s moment = renewal_by (lane_behind s.before) s.number (id_at s) moment
+
+-- what is asked once a renewal is asked there, under the next request id
+abbrev pub asks_renewed : Site → List Placed
+asks_renewed s = s.asks ++ (length s.octets, Renewal (id_at s)) ∷ []
+
+-- ---- what becomes of it
+
+-- a renewal is answered: behind these octets, the last of which is the last of the frame that brought the token, the client stands there
+pub record IsRenewed (new : ClientChannel) (s t : Site) (taken : List ℕ) : Type 0 where
+  pub at : At new t
+  pub asks : t.asks ≡ asks_renewed s
+  pub octets : t.octets ≡ s.octets ++ taken
+  pub number : t.number ≡ next_number s.number
+  pub heard : List Told
+  pub token : ℕ
+  pub none_before : list_any is_renewed heard ≡ false
+  pub tells : GoesTelling new t.asks t.octets (s.told ++ heard) (Renewed token)
+  pub told : t.told ≡ s.told ++ (heard ++ Renewed token ∷ [])
+  pub settled : IsSettled t
+
+-- a renewal that was asked there is not answered
+abbrev pub BreaksRenewing : Site → DateTime → ClientChannel → List ℕ → List ℕ → ClientFault → Type 0
+BreaksRenewing s moment new sent taken f = (sent ≡ renewal_at s moment) × WaitsAt is_renewed any_done (Err f) new (asks_renewed s) (s.octets ++ taken) s.told
+
+-- what becomes of a renewal there: what was sent and taken, and where the channel then stands
+abbrev pub RenewsAt : {A : Type 0} → Site → DateTime → ClientChannel → List ℕ → List ℕ → Result A ClientFault → Type 0
+RenewsAt s moment new sent taken (Ok done) = (sent ≡ renewal_at s moment) × ((t : Site) × IsRenewed new s t taken)
+RenewsAt s moment new sent taken (Err fault.Write) = Extends sent (renewal_at s moment) × (taken ≡ [])
+RenewsAt s moment new sent taken (Err fault.OutOfMemory) = (sent ≡ []) ⊎ (sent ≡ renewal_at s moment)
+RenewsAt s moment new sent taken (Err fault.TooManyTokens) = (sent ≡ []) × (taken ≡ [])
+RenewsAt s moment new sent taken (Err fault.Exhausted) = (sent ≡ []) × (taken ≡ [])
+RenewsAt s moment new sent taken (Err fault.Read) = BreaksRenewing s moment new sent taken fault.Read
+RenewsAt s moment new sent taken (Err fault.Ended) = BreaksRenewing s moment new sent taken fault.Ended
+RenewsAt s moment new sent taken (Err fault.TooLong) = BreaksRenewing s moment new sent taken fault.TooLong
+RenewsAt s moment new sent taken (Err (fault.Peer code)) = BreaksRenewing s moment new sent taken (fault.Peer code)
+RenewsAt s moment new sent taken (Err (fault.Refused code)) = BreaksRenewing s moment new sent taken (fault.Refused code)
+RenewsAt s moment new sent taken (Err other) = ⊥
+
+-- a renewal of the token, at this moment, over a line
+pub record Renews {A : Type 0} (moment : DateTime) (old new : Connection) (before after : Option Traffic) (result : Result A ClientFault) : Type 0 where
+  pub sent : List ℕ
+  pub moves : Moves old new sent before after
+  pub same : SameClient (channel_of old) (channel_of new)
+  -- it is refused just for the first reason that holds where the client stands
+  pub judged : (s : Site) → At (channel_of old) s → IsSettled s → refused_by result ≡ renewal_refusal s
+  pub answers : (s : Site) → At (channel_of old) s → IsSettled s → RenewsAt s moment (channel_of new) sent moves.taken result
+  pub stops : StopsAt most_reads most_reads moves.got new after result
+
+-- ---- the client behind it
+
+-- a client may be called again behind a renewal and where none was asked; else it is done
+abbrev pub StandsBehind : {A : Type 0} → Result A ClientFault → Client → Type 0
+StandsBehind (Ok done) x = IsReady x
+StandsBehind (Err fault.TooManyTokens) x = IsReady x
+StandsBehind (Err fault.Exhausted) x = IsReady x
+StandsBehind (Err other) x = IsDone x
