@@ -1,9 +1,9 @@
 -- Which renewals are answered: each further token that came answers one.
-use Rattle.std.specs.Prelude.{◌≡◌, ℕ, ◌+◌, ◌≤◌, Bool, true, false, cond, not, ◌||◌, List, [], ◌∷◌, ◌++◌, length, map, Option, Some, None}
+use Rattle.std.specs.Prelude.{◌≡◌, ℕ, ◌+◌, ◌≤◌, Bool, true, false, cond, not, ◌&&◌, ◌||◌, if◌then◌else◌, List, [], ◌∷◌, ◌++◌, length, map, Option, Some, None}
 use Rattle.std.proofs.Common.{refl, sym, ◌∙◌, ap, subst, eqb, ltb, append_assoc, append-nil, arith}
 use Rattle.std.specs.List.{filter, flat_map, list_any, AllByRecursion}
 use Rattle.std.proofs.lemmas.Bool.{eqb-true}
-use Rattle.std.proofs.lemmas.List.{length-append}
+use Rattle.std.proofs.lemmas.List.{length-append, map-append}
 use Rattle.std.proofs.lemmas.Grind.{flat_map-append}
 use Rattle.std.proofs.lemmas.List.Folds.{list_any-append}
 use Rattle.ua_builtin.specs.Reasons.{first_reason}
@@ -22,11 +22,14 @@ use Rattle.ua_structures.specs.declared.secure_channel.OpenResponse.{OpenRespons
 use Rattle.ua_channel.specs.Asks.{Asking, Placed, asked_before, asked_in, end_of, is_in, pending_renewals, renewals}
 use Rattle.ua_channel.specs.Asks.Asking.{Call, Renewal}
 use Rattle.ua_channel.specs.ClientTable.{client_reasons, client_rules, is_awaited, of_numbers}
-use Rattle.ua_channel.specs.ClientTokens.{answer_in, answer_behind, id_listed, opened_ids, response_listed, responses}
+use Rattle.ua_channel.specs.ClientTokens.{answer_in, answer_behind, from_last, held_by, held_tokens, id_listed, opened_ids, response_listed, responses, tokens_of}
 use Rattle.ua_channel.specs.ClientTold.{Told, client_tells, told_ack, told_item, told_response}
+use Rattle.ua_channel.specs.ClientTold.Told.{Agreed, Answered, GaveUp, Renewed}
 use Rattle.ua_channel.specs.Content.{Content, Opening, content}
 use Rattle.ua_channel.specs.Content.Content.{Greets, Acks, Fails, Opens, Sends, Closes, Nothing}
-use Rattle.ua_channel.specs.Received.{Received, after, has_some, received}
+use Rattle.ua_channel.specs.Received.{Received, after, has_some, latest, received}
+use Rattle.ua_channel.proofs.ClientTalks.{responses-push}
+use Rattle.ua_channel.proofs.HeldTokens.{latest-push}
 use Rattle.ua_channel.proofs.OneFrameMore.{received-push}
 use Rattle.ua_client.specs.Opening.{is_opened}
 use Rattle.ua_client.specs.Renewing.{is_renewed}
@@ -339,3 +342,64 @@ opened-from limits asks start (f ∷ fs) h =
 pub told-opened : (limits : Limits) (asks : List Placed) (frames : List Frame) → list_any is_opened (events (client_rules limits asks) frames) ≡ true → responses (received frames).openings ≡ [] → ⊥
 unfolding each_after
 told-opened limits asks frames h none = let e = sym (ap has_some none) ∙ opened-from limits asks [] frames h in absurd cc
+
+-- ---- which token is the newest
+
+latest-kept : (n : ℕ) (ms : List ℕ) (m k : ℕ) → latest (from_last n (ms ++ m ∷ [])) ≡ Some k → k ≡ m
+latest-kept n [] m k e = one-kept (eqb m n && true) m k e
+  where
+    one-kept : (b : Bool) (m k : ℕ) → latest (if b then m ∷ [] else []) ≡ Some k → k ≡ m
+    one-kept true m k e = cc
+    one-kept false m k e = absurd cc
+latest-kept n (x ∷ ms) m k e = more-kept (eqb x n && not (is_in n (ms ++ m ∷ []))) x ms m k (latest-kept n ms m k) e
+  where
+    more-kept : (b : Bool) (x : ℕ) (ms : List ℕ) (m k : ℕ) → (latest (from_last n (ms ++ m ∷ [])) ≡ Some k → k ≡ m) → latest (if b then x ∷ (ms ++ m ∷ []) else from_last n (ms ++ m ∷ [])) ≡ Some k → k ≡ m
+    more-kept true x ms m k h e = let l = sym (latest-push (x ∷ ms) m) ∙ e in cc
+    more-kept false x ms m k h e = h e
+
+latest-held : (used : Option ℕ) (ms : List ℕ) (m k : ℕ) → latest (held_by used (ms ++ m ∷ [])) ≡ Some k → k ≡ m
+latest-held None ms m k e = let l = sym (latest-push ms m) ∙ e in cc
+latest-held (Some n) ms m k e = latest-kept n ms m k e
+
+-- the newest token that is held behind an OPN is the one that it brings
+newest-held : (before : Received) (o : Opening) (r : OpenResponse) (k : ℕ) → answer_in o ≡ Some (Open r) → latest (held_tokens (after before (Opens o))) ≡ Some k → k ≡ r.token_id
+unfolding held_tokens tokens_of
+newest-held before o r k is e =
+    let more : tokens_of (responses (before.openings ++ o ∷ [])) ≡ tokens_of (responses before.openings) ++ r.token_id ∷ [] =
+    ap tokens_of (responses-push before.openings o r is) ∙ map-append (λ (q : OpenResponse). q.token_id) (responses before.openings) (r ∷ []) in
+    latest-held before.used (tokens_of (responses before.openings)) r.token_id k (ap (λ (ms : List ℕ). latest (held_by before.used ms)) (sym more) ∙ e)
+
+same-token : (t : Told) (ts : List Told) (token : ℕ) → t ∷ ts ≡ Renewed token ∷ [] → t ≡ Renewed token
+same-token t ts token e = cc
+
+told-token : (rs : List OpenResponse) (r : OpenResponse) (token : ℕ) → told_response rs r ≡ Renewed token → r.token_id ≡ token
+told-token [] r token e = absurd cc
+told-token (q ∷ qs) r token e = cc
+
+not-items : (items : List Item) (token : ℕ) → map told_item items ≡ Renewed token ∷ [] → ⊥
+not-items [] token e = absurd cc
+not-items (Whole id octets ∷ items) token e = let x = same-token (Answered id octets) (map told_item items) token e in absurd cc
+not-items (Aborted id code reason ∷ items) token e = let x = same-token (GaveUp id code) (map told_item items) token e in absurd cc
+
+not-ack : (o : Option Ack) (token : ℕ) → told_ack o ≡ Renewed token ∷ [] → ⊥
+not-ack None token e = absurd cc
+not-ack (Some a) token e = let x = same-token (Agreed a) [] token e in absurd cc
+
+newest-by : (before : Received) (o : Opening) (answer : Option OpenAnswer) (token k : ℕ) → answer_in o ≡ answer → map (told_response (responses before.openings)) (response_listed answer) ≡ Renewed token ∷ []
+    → latest (held_tokens (after before (Opens o))) ≡ Some k → k ≡ token
+newest-by before o None token k is e h = absurd cc
+newest-by before o (Some (Fault f)) token k is e h = absurd cc
+newest-by before o (Some (Open r)) token k is e h = newest-held before o r k is h ∙ told-token (responses before.openings) r token (same-token (told_response (responses before.openings) r) [] token e)
+
+newest-told : (before : Received) (c : Content) (token k : ℕ) → client_tells before c ≡ Renewed token ∷ [] → latest (held_tokens (after before c)) ≡ Some k → k ≡ token
+newest-told before (Greets hello) token k e h = absurd cc
+newest-told before (Acks ack) token k e h = absurd (not-ack ack token e)
+newest-told before (Fails error) token k e h = absurd cc
+newest-told before (Opens o) token k e h = newest-by before o (answer_in o) token k refl e h
+newest-told before (Sends c) token k e h = absurd (not-items (given before.messages c) token e)
+newest-told before (Closes c) token k e h = absurd cc
+newest-told before Nothing token k e h = absurd cc
+
+-- where a further token was told, it is the newest that is held
+pub newest-renewed : (before : List Frame) (f : Frame) (token k : ℕ) → client_tells (received before) (content f) ≡ Renewed token ∷ [] → latest (held_tokens (received (before ++ f ∷ []))) ≡ Some k → k ≡ token
+newest-renewed before f token k e h = newest-told (received before) (content f) token k e (ap (λ (b : Received). latest (held_tokens b)) (sym (received-push before f)) ∙ h)

@@ -19,7 +19,7 @@ use Rattle.ua_channel.specs.ClientTokens.{held_tokens, opened_ids}
 use Rattle.ua_channel.specs.ClientTold.{Told}
 use Rattle.ua_channel.specs.ClientTold.Told.{Agreed, Opened, Answered, GaveUp, Renewed}
 use Rattle.ua_channel.specs.Line.{Traffic, WhereTold}
-use Rattle.ua_channel.specs.Received.{Received, listed, received}
+use Rattle.ua_channel.specs.Received.{Received, latest, listed, received}
 use Rattle.ua_channel.specs.declared.client.channel.ClientChannel.{ClientChannel}
 use Rattle.ua_channel.specs.declared.client.event.ClientEvent.{ClientEvent}
 use Rattle.ua_channel.specs.declared.client.event.ClientEvent.TheVariants as event
@@ -28,10 +28,11 @@ use Rattle.ua_channel.specs.declared.client.fault.AskFault.TheVariants as ask_fa
 use Rattle.ua_channel.specs.declared.client.phase.Phase.{Phase}
 use Rattle.ua_channel.specs.declared.client.phase.Phase.TheVariants as phase
 use Rattle.ua_channel.proofs.Askings.{asked_in-push, renewals-push}
+use Rattle.ua_channel.proofs.ClientReadings.{stands_once}
 use Rattle.ua_channel.proofs.Opened.{client_open}
 use Rattle.ua_client.specs.Carried.{Carries, WritesFront}
 use Rattle.ua_client.specs.Hearing.{channel_of, is_hearing_fault, untaken_of, most_reads, Keeps, Moves, StopsAt}
-use Rattle.ua_client.specs.Opening.{is_opened, any_done, GoesUntil, WaitsAt, Waits}
+use Rattle.ua_client.specs.Opening.{is_opened, any_done, GoesUntil, IsOpened, WaitsAt, Waits}
 use Rattle.ua_client.specs.Renewing.{is_renewed, IsSettled, IsRefusal, renewal_refusal, refused_by, of_renew_fault, renewal_by, renewal_at, asks_renewed, IsRenewed, RenewsAt, Renews}
 use Rattle.ua_client.specs.Site.{Site, At, id_at, lane_behind}
 use Rattle.ua_client.specs.declared.connection.Connection.{Connection}
@@ -41,7 +42,7 @@ use Rattle.ua_client.proofs.Carrying.{carried-nothing, sends-front}
 use Rattle.ua_client.proofs.Hearings.{GoesOnBehind}
 use Rattle.ua_client.proofs.Lanes.{lane-talks}
 use Rattle.ua_client.proofs.Openings.{Tests, any-left, sent-first}
-use Rattle.ua_client.proofs.Renewals.{tokens-answer, tokens-told, tokens-append, told-opened}
+use Rattle.ua_client.proofs.Renewals.{newest-renewed, tokens-answer, tokens-told, tokens-append, told-opened}
 
 -- ---- events
 
@@ -126,6 +127,20 @@ module _ (x : ClientChannel) (s : Site) (at : At x s) (settled : IsSettled s) wh
   channel-refuses =
       judging-in (limits_of x) (phase_of x) (received at.goes.frames) (asked_in s.asks) at.goes.stands.phase_is is-open none-pending
       ∙ ap (λ (b : Received). asked-reasons (nat_le most_tokens (length (held_tokens b))) (nat_le no_id (id_at s))) at.before_is
+
+newest-in : (limits : Limits) (p : Phase) (before : Received) (asked : List Asking) → InPhase limits p before asked → (IsNotOpen p → ⊥) → (k : ℕ) × (latest (held_tokens before) ≡ Some k)
+newest-in limits phase.Waiting before asked h some = absurd (some tt)
+newest-in limits (phase.Agreed a) before asked h some = absurd (some tt)
+newest-in limits (phase.Open t) before asked h some = (t.newest, h.newest_is)
+newest-in limits phase.Done before asked h some = absurd (some tt)
+
+-- a further token that was told last is the newest
+newest-at : (x : ClientChannel) (s : Site) (at : At x s) → IsSettled s → (told : List Told) (token : ℕ) → GoesTelling x s.asks s.octets told (Renewed token) → latest (held_tokens s.before) ≡ Some token
+newest-at x s at settled told token g =
+    let found = newest-in (limits_of x) (phase_of x) (received at.goes.frames) (asked_in s.asks) at.goes.stands.phase_is (is-open x s at settled) in
+    let frames : at.goes.frames ≡ g.frames ++ g.frame ∷ [] = (stands_once x s.asks s.octets at.goes.frames (g.frames ++ g.frame ∷ []) at.goes.rest [] at.goes.stands g.stands).0 in
+    let same : found.0 ≡ token = newest-renewed g.frames g.frame token found.0 g.tells (ap (λ (fs : List Frame). latest (held_tokens (received fs))) (sym frames) ∙ found.1) in
+    ap (λ (b : Received). latest (held_tokens b)) (sym at.before_is) ∙ (found.1 ∙ ap (λ (k : ℕ). Some k) same)
 
 nothing-refused : (many used : Bool) → asked-reasons many used ≡ None → site-reasons many used ≡ None
 nothing-refused true used h = absurd cc
@@ -280,10 +295,12 @@ module _ (moment : DateTime) (x mid new : Connection) (id : ℕ) (out : List ℕ
         let goes : Goes (channel_of new) (asks_renewed s) (s.octets ++ taken) (s.told ++ (u.heard ++ Renewed token.0 ∷ [])) =
         subst (λ (all : List Told). Goes (channel_of new) (asks_renewed s) (s.octets ++ taken) all) (append_assoc s.told u.heard (Renewed token.0 ∷ []))
         (goes_on (channel_of new) (asks_renewed s) (s.octets ++ taken) (s.told ++ u.heard) (Renewed token.0) tells) in
-        let t : Site = record { asks = asks_renewed s; octets = s.octets ++ taken; before = received goes.frames; told = s.told ++ (u.heard ++ Renewed token.0 ∷ []); number = next_number s.number } in (
+        let t : Site = record { asks = asks_renewed s; octets = s.octets ++ taken; before = received goes.frames; told = s.told ++ (u.heard ++ Renewed token.0 ∷ []); number = next_number s.number } in
+        let at-last : At (channel_of new) t = record { goes = goes; before_is = refl; number_is = k.next ∙ next-is moment (channel_of x) (channel_of mid) id out asked s at } in
+        let still : IsSettled t = settled-more s u.heard token.0 (received goes.frames) (s.octets ++ taken) (next_number s.number) settled in (
           t,
           record {
-            at = record { goes = goes; before_is = refl; number_is = k.next ∙ next-is moment (channel_of x) (channel_of mid) id out asked s at };
+            at = at-last;
             asks = refl;
             octets = refl;
             number = refl;
@@ -292,7 +309,8 @@ module _ (moment : DateTime) (x mid new : Connection) (id : ℕ) (out : List ℕ
             none_before = u.none;
             tells = tells;
             told = refl;
-            settled = settled-more s u.heard token.0 (received goes.frames) (s.octets ++ taken) (next_number s.number) settled;
+            newest = newest-at (channel_of new) t at-last still (s.told ++ u.heard) token.0 tells;
+            settled = still;
           },
         )
 
@@ -387,3 +405,24 @@ heard-none (Err (fault.Service code)) h k = k
 heard-none (Err fault.TooLarge) h k = k
 heard-none (Err fault.NotWritable) h k = k
 heard-none (Err fault.TooLong) h k = k
+
+-- ---- a client that may be called
+
+none-asked : length (renewals (asked_in [])) ≡ 0
+unfolding renewals asked_in
+none-asked = refl
+
+pub opened-settled : (x : ClientChannel) (octets : List ℕ) → IsOpened x octets → (s : Site) × (s.octets ≡ octets) × At x s × IsSettled s
+opened-settled x octets h = (
+  record { asks = []; octets = octets; before = received h.goes.frames; told = h.told; number = next_of x },
+  refl,
+  record { goes = h.goes; before_is = refl; number_is = refl },
+  record { opened = h.opened; renewed = let none = none-asked in omega (arith, none) },
+)
+
+pub later-settled : (s t : Site) (more : List Told) → IsSettled s → renewals (asked_in t.asks) ≡ renewals (asked_in s.asks) → t.told ≡ s.told ++ more → IsSettled t
+later-settled s t more h asked told =
+    let asks = ap length asked in
+    let all : tokens-told t.told ≡ tokens-told s.told + tokens-told more = ap tokens-told told ∙ tokens-append s.told more in
+    let few : length (renewals (asked_in s.asks)) ≤ tokens-told s.told = h.renewed in
+    record { opened = ap (list_any is_opened) told ∙ any-left is_opened s.told more h.opened; renewed = omega (arith, few, asks, all) }

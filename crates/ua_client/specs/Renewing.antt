@@ -17,6 +17,7 @@ use Rattle.ua_channel.specs.ClientTokens.{held_tokens}
 use Rattle.ua_channel.specs.ClientTold.{Told}
 use Rattle.ua_channel.specs.ClientTold.Told.{Agreed, Opened, Answered, GaveUp, Renewed}
 use Rattle.ua_channel.specs.Line.{Traffic}
+use Rattle.ua_channel.specs.Received.{latest}
 use Rattle.ua_channel.specs.declared.client.channel.ClientChannel.{ClientChannel}
 use Rattle.ua_channel.specs.declared.client.fault.AskFault.{AskFault}
 use Rattle.ua_channel.specs.declared.client.fault.AskFault.TheVariants as ask_fault
@@ -105,6 +106,8 @@ pub record IsRenewed (new : ClientChannel) (s t : Site) (taken : List ℕ) : Typ
   pub none_before : list_any is_renewed heard ≡ false
   pub tells : GoesTelling new t.asks t.octets (s.told ++ heard) (Renewed token)
   pub told : t.told ≡ s.told ++ (heard ++ Renewed token ∷ [])
+  -- calls go out under it
+  pub newest : latest (held_tokens t.before) ≡ Some token
   pub settled : IsSettled t
 
 -- a renewal that was asked there is not answered

@@ -1,12 +1,15 @@
-//! Laws of what a client hears of its calls.
+//! Laws of what a client hears of its calls, and of where it may be called.
 //!
 //! Each function does nothing; its contract is the law.
 
-ghost use Rattle.std.specs.Prelude.{◌≡◌, ◌+◌, ℕ, List, []};
-ghost use Rattle.ua_channel.specs.Asks.{Placed, asked_in, next_id};
+ghost use Rattle.std.specs.Prelude.{◌≡◌, ◌+◌, ◌++◌, ℕ, List, []};
+ghost use Rattle.ua_channel.specs.Asks.{Placed, asked_in, next_id, renewals};
 ghost use Rattle.ua_channel.specs.Client.{Goes, GoesTelling};
 ghost use Rattle.ua_channel.specs.ClientTold.{Told};
 ghost use Rattle.ua_channel.specs.declared.client.channel.ClientChannel.{ClientChannel};
+ghost use Rattle.ua_client.specs.Opening.{IsOpened};
+ghost use Rattle.ua_client.specs.Renewing.{IsSettled};
+ghost use Rattle.ua_client.specs.Site.{Site, At};
 ghost use Rattle.ua_client.specs.Told.{told_of, IsFirstOf};
 
 use ua_channel::client_laws::{client_goes_on, client_pairs, client_tells_delivered};
@@ -27,3 +30,10 @@ pub fn calls_are_told_behind()
     client_pairs();
     client_tells_delivered();
 }
+
+/// Behind its opening a client may be called; and it stays so with more told, where no renewal more
+/// was asked.
+pub fn clients_are_settled()
+    ensures opened { (x : ClientChannel) (octets : List ℕ) → IsOpened x octets → (s : Site) × (s.octets ≡ octets) × At x s × IsSettled s }
+    ensures later { (s t : Site) (more : List Told) → IsSettled s → renewals (asked_in t.asks) ≡ renewals (asked_in s.asks) → t.told ≡ s.told ++ more → IsSettled t }
+{}
