@@ -1,6 +1,6 @@
 //! Arrays of some hundred elements: none of them is refused for want of memory.
 
-use crate::checks::value_of;
+use crate::checks::{repeated, value_of};
 use crate::elements::SHORTEST;
 use crate::variants::reads;
 use std::alloc::Global;
@@ -132,11 +132,7 @@ fn keeps_three_hundred_texts(rt: HostRuntime) {
 
 // An array of 300 octets, of the numbers 0 and 1 in turn.
 fn bits(rt: &impl Abort, alloc: Global, kind: u8) -> Vec<u8> {
-    let mut octets = front(rt, alloc, kind);
-    for _ in 0..150 {
-        octets.extend_from_slice(&[0, 1]).expect(rt, "memory");
-    }
-    octets
+    repeated(rt, front(rt, alloc, kind), &[0, 1], 150)
 }
 
 #[test]
@@ -161,10 +157,7 @@ fn keeps_the_dimensions_of_three_hundred_elements(rt: HostRuntime) {
 fn ones(rt: &impl Abort, alloc: Global) -> Vec<u8> {
     let mut octets = [0xC3, 1, 0, 0, 0, 7].to_vec(alloc).expect(rt, "memory");
     octets.extend_from_slice(&COUNT).expect(rt, "memory");
-    for _ in 0..300 {
-        octets.extend_from_slice(&[1, 0, 0, 0]).expect(rt, "memory");
-    }
-    octets
+    repeated(rt, octets, &[1, 0, 0, 0], 300)
 }
 
 #[test]

@@ -46,6 +46,15 @@ pub fn bytes(rt: &impl Abort, alloc: Global, octets: &[u8]) -> UaBytes {
     UaBytes::new(Some(octets.to_vec(alloc).expect(rt, "memory")))
 }
 
+/// The octets so many times behind those in front.
+pub fn repeated(rt: &impl Abort, front: Vec<u8>, octets: &[u8], times: u32) -> Vec<u8> {
+    let mut all = front;
+    for _ in 0..times {
+        all.extend_from_slice(octets).expect(rt, "memory");
+    }
+    all
+}
+
 /// The octets so many times, and then a 0.
 pub fn nested(rt: &impl Abort, alloc: Global, around: &[u8], times: u32) -> Vec<u8> {
     let mut octets = Vec::new(alloc);

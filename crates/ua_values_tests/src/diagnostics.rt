@@ -64,13 +64,22 @@ fn refuses_what_encodes_none_without_memory(rt: HostRuntime) {
     }
 }
 
+fn two_and_three(rt: &impl Abort, alloc: Global) -> Dimensions {
+    Dimensions::new([2, 3].to_vec(alloc).expect(rt, "memory"))
+}
+
 #[test]
 fn hands_out_dimensions(rt: HostRuntime) {
     let alloc = rt.alloc();
-    let sizes = [2, 3].to_vec(alloc).expect(&rt, "memory");
-    let dims = Dimensions::new(sizes);
-    let copy = dims.try_clone(alloc).expect(&rt, "memory");
-    assert_eq!(rt; dims.as_slice(), [2, 3].as_slice());
-    assert_eq!(rt; copy.into_vec().as_slice(), [2, 3].as_slice());
+    assert_eq!(rt; two_and_three(&rt, alloc).as_slice(), [2, 3].as_slice());
     assert_eq!(rt; Dimensions::none(alloc).as_slice().len(), 0);
+}
+
+#[test]
+fn clones_dimensions(rt: HostRuntime) {
+    let alloc = rt.alloc();
+    let copy = two_and_three(&rt, alloc)
+        .try_clone(alloc)
+        .expect(&rt, "memory");
+    assert_eq!(rt; copy.into_vec().as_slice(), [2, 3].as_slice());
 }

@@ -14,6 +14,23 @@ fn array_in(rt: &impl Abort, alloc: Global, octets: &[u8]) -> Scalars {
     items.expect(rt, "elements")
 }
 
+/// That octets are an array of these elements.
+fn holds_items<T: Pack + PartialEq>(rt: &impl Abort, alloc: Global, octets: &[u8], items: &[T]) {
+    let array = array_in(rt, alloc, octets);
+    let held = array.as_items::<T>().expect(rt, "one type");
+    assert!(rt; held == items);
+}
+
+/// An array that is made of these elements.
+fn array_of<T: Pack>(rt: &impl Abort, alloc: Global, kind: u8, items: &[T]) -> Variant {
+    let items = Vec::from_slice(alloc, items).expect(rt, "memory");
+    Variant::Many {
+        kind,
+        items: Some(Scalars::from_items(items)),
+        dims: Dimensions::none(alloc),
+    }
+}
+
 /// That octets are read as an array of these elements, which is written as these octets again.
 fn reads_items<T: Pack + PartialEq>(
     rt: &impl Abort,
@@ -23,15 +40,8 @@ fn reads_items<T: Pack + PartialEq>(
     items: &[T],
     written: &[u8],
 ) {
-    let array = array_in(rt, alloc, octets);
-    let held = array.as_items::<T>().expect(rt, "one type");
-    assert!(rt; held == items);
-    let made = Variant::Many {
-        kind,
-        items: Some(Scalars::from_items(Vec::from_slice(alloc, items).expect(rt, "memory"))),
-        dims: Dimensions::none(alloc),
-    };
-    assert_written(rt, alloc, &made, written);
+    holds_items(rt, alloc, octets, items);
+    assert_written(rt, alloc, &array_of(rt, alloc, kind, items), written);
 }
 
 #[test]

@@ -55,13 +55,11 @@ fn does_not_write_arrays_of_a_reserved_id(rt: HostRuntime) {
 #[test]
 fn does_not_write_negative_dimensions(rt: HostRuntime) {
     let alloc = rt.alloc();
-    let mut items = Vec::new(alloc);
-    items.push(Scalar::Byte(7)).expect(&rt, "memory");
-    items.push(Scalar::Byte(8)).expect(&rt, "memory");
+    let items = [7u8, 8].to_vec(alloc).expect(&rt, "memory");
     let sizes = [-1, -2].to_vec(alloc).expect(&rt, "memory");
     let value = Variant::Many {
         kind: 3,
-        items: Some(Scalars::new(items)),
+        items: Some(Scalars::from_items(items)),
         dims: Dimensions::new(sizes),
     };
     assert_refused(&rt, alloc, &value);
