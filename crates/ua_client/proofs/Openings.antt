@@ -106,7 +106,7 @@ pub any-left : (wanted : Told → Bool) (us vs : List Told) → list_any wanted 
 any-left wanted [] vs i = absurd cc
 any-left wanted (y ∷ us) vs i = or-more (wanted y) (list_any wanted us) (list_any wanted (us ++ vs)) i (λ e. any-left wanted us vs e)
 
-any-last : (wanted : Told → Bool) (told : List Told) (t : Told) → wanted t ≡ true → list_any wanted (told ++ t ∷ []) ≡ true
+pub any-last : (wanted : Told → Bool) (told : List Told) (t : Told) → wanted t ≡ true → list_any wanted (told ++ t ∷ []) ≡ true
 any-last wanted told t k = any-right wanted told (t ∷ []) (ap (λ (v : Bool). v || false) k)
 
 -- ---- waiting
@@ -349,10 +349,11 @@ module _ (moment : DateTime) (x mid : Connection) (hello : List ℕ) (a b c : Op
             let u = (k.answers [] h.moves.taken t.0 t.2).0 in (
               both-sent g,
               record {
-                told = t.0 ++ (u.heard ++ u.last ∷ []);
-                goes = until-goes goes_on is_opened (channel_of new) [] (h.moves.taken ++ k.moves.taken) t.0 u;
-                agreed = any-left is_agreed t.0 (u.heard ++ u.last ∷ []) t.1;
-                opened = any-right is_opened t.0 (u.heard ++ u.last ∷ []) (any-right is_opened u.heard (u.last ∷ []) (ap (λ (y : Bool). y || false) u.is_wanted));
+                told = t.0 ++ u.heard;
+                last = u.last;
+                tells = u.tells;
+                agreed = any-left is_agreed t.0 u.heard t.1;
+                opened = u.is_wanted;
               },
             );
         stops = omega arith;

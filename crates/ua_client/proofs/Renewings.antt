@@ -41,7 +41,7 @@ use Rattle.ua_client.specs.declared.fault.ClientFault.TheVariants as fault
 use Rattle.ua_client.proofs.Carrying.{carried-nothing, sends-front}
 use Rattle.ua_client.proofs.Hearings.{GoesOnBehind}
 use Rattle.ua_client.proofs.Lanes.{lane-talks}
-use Rattle.ua_client.proofs.Openings.{Tests, any-left, sent-first}
+use Rattle.ua_client.proofs.Openings.{Tests, any-last, any-left, sent-first}
 use Rattle.ua_client.proofs.Renewals.{newest-renewed, tokens-answer, tokens-told, tokens-append, told-opened}
 
 -- ---- events
@@ -412,13 +412,14 @@ none-asked : length (renewals (asked_in [])) ≡ 0
 unfolding renewals asked_in
 none-asked = refl
 
-pub opened-settled : (x : ClientChannel) (octets : List ℕ) → IsOpened x octets → (s : Site) × (s.octets ≡ octets) × At x s × IsSettled s
-opened-settled x octets h = (
-  record { asks = []; octets = octets; before = received h.goes.frames; told = h.told; number = next_of x },
-  refl,
-  record { goes = h.goes; before_is = refl; number_is = refl },
-  record { opened = h.opened; renewed = let none = none-asked in omega (arith, none) },
-)
+pub opened-settled : GoesOnBehind → (x : ClientChannel) (octets : List ℕ) → IsOpened x octets → (s : Site) × (s.octets ≡ octets) × At x s × IsSettled s
+opened-settled goes_on x octets h =
+    let goes = goes_on x [] octets h.told h.last h.tells in (
+      record { asks = []; octets = octets; before = received goes.frames; told = h.told ++ h.last ∷ []; number = next_of x },
+      refl,
+      record { goes = goes; before_is = refl; number_is = refl },
+      record { opened = any-last is_opened h.told h.last h.opened; renewed = let none = none-asked in omega (arith, none) },
+    )
 
 pub later-settled : (s t : Site) (more : List Told) → IsSettled s → renewals (asked_in t.asks) ≡ renewals (asked_in s.asks) → t.told ≡ s.told ++ more → IsSettled t
 later-settled s t more h asked told =

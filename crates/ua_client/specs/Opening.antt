@@ -89,12 +89,13 @@ hello_octets limits url = frame_octets (hello_frame (hello_to limits url))
 abbrev pub open_octets : DateTime → List ℕ
 open_octets moment = frame_octets (first_open moment)
 
--- the channel of this connection is open: among what its frames told are an ACK and, last, that the channel is open
+-- the channel of this connection is open: behind an ACK, the last of the frames told so, and nothing stands behind it
 pub record IsOpened (x : ClientChannel) (octets : List ℕ) : Type 0 where
   pub told : List Told
-  pub goes : Goes x [] octets told
+  pub last : Told
+  pub tells : GoesTelling x [] octets told last
   pub agreed : list_any is_agreed told ≡ true
-  pub opened : list_any is_opened told ≡ true
+  pub opened : is_opened last ≡ true
 
 -- the connection was not opened: no ACK came behind the HEL; or one came, the OPN was sent, and nothing opened the channel behind it
 abbrev pub BreaksWaiting : List ℕ → List ℕ → ClientChannel → List ℕ → List ℕ → ClientFault → Type 0

@@ -36,4 +36,6 @@ pub fn calls_are_told_behind()
 pub fn clients_are_settled()
     ensures opened { (x : ClientChannel) (octets : List ℕ) → IsOpened x octets → (s : Site) × (s.octets ≡ octets) × At x s × IsSettled s }
     ensures later { (s t : Site) (more : List Told) → IsSettled s → renewals (asked_in t.asks) ≡ renewals (asked_in s.asks) → t.told ≡ s.told ++ more → IsSettled t }
-{}
+{
+    client_goes_on();
+}
