@@ -6,3 +6,5 @@ pub mod Lanes
 pub mod Closings
 pub mod Renewals
 pub mod Renewings
+pub mod Requests
+pub mod Askings

@@ -7,3 +7,4 @@ pub mod Site
 pub mod Opening
 pub mod Client
 pub mod Renewing
+pub mod Sent

@@ -12,6 +12,7 @@
 mod client;
 mod connection;
 mod fault;
+mod group;
 pub mod laws;
 mod opening;
 mod piece;

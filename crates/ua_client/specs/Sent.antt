@@ -1,0 +1,98 @@
+-- What a client sends: the chunks of its calls, and which of them it does not ask.
+use Rattle.std.specs.Prelude.{◌≡◌, ◌<◌, ◌+◌, ◌++◌, ℕ, Bool, true, false, List, [], ◌∷◌, map, length, Option, Some, None, Result, Ok, Err}
+use Rattle.ua_builtin.specs.Reasons.{or_else}
+use Rattle.ua_chunk.specs.Cutting.{chunks_of, chunks_octets, number_after, pieces}
+use Rattle.ua_chunk.specs.declared.lane.Lane.{Lane}
+use Rattle.ua_services.specs.Request.{request}
+use Rattle.ua_services.specs.declared.request.Request.{Request}
+use Rattle.ua_channel.specs.Asks.{Placed, asked_in, next_id}
+use Rattle.ua_channel.specs.Asks.Asking.{Call}
+use Rattle.ua_channel.specs.Client.{Stands, next_of, ask_refusal}
+use Rattle.ua_channel.specs.Received.{received}
+use Rattle.ua_channel.specs.declared.client.channel.ClientChannel.{ClientChannel}
+use Rattle.ua_frame.specs.declared.frame.Frame.{Frame}
+use Rattle.ua_channel.specs.declared.client.fault.AskFault.{AskFault}
+use Rattle.ua_channel.specs.declared.client.fault.AskFault.TheVariants as ask_fault
+use Rattle.ua_channel.specs.declared.client.phase.Phase.{Phase}
+use Rattle.ua_client.specs.Site.{lane_behind}
+use Rattle.ua_client.specs.declared.fault.ClientFault.{ClientFault}
+use Rattle.ua_client.specs.declared.fault.ClientFault.TheVariants as fault
+
+-- ---- the chunks of calls
+
+-- the chunks of a body, numbered from here on under this request id
+abbrev pub call_octets : Option Lane → ℕ → ℕ → List ℕ → List ℕ
+call_octets None number id body = []
+call_octets (Some lane) number id body = chunks_octets (chunks_of lane body number id)
+
+-- the number behind the chunks of a body
+abbrev pub number_behind : Option Lane → ℕ → List ℕ → ℕ
+number_behind None number body = number
+number_behind (Some lane) number body = number_after number (pieces lane.room body)
+
+-- the chunks of bodies in order, numbered on, under request ids from this one on
+abbrev pub calls_octets : Option Lane → ℕ → ℕ → List (List ℕ) → List ℕ
+calls_octets lane number id [] = []
+calls_octets lane number id (body ∷ bodies) = call_octets lane number id body ++ calls_octets lane (number_behind lane number body) (id + 1) bodies
+
+-- the number behind the chunks of bodies
+abbrev pub numbers_behind : Option Lane → ℕ → List (List ℕ) → ℕ
+numbers_behind lane number [] = number
+numbers_behind lane number (body ∷ bodies) = numbers_behind lane (number_behind lane number body) bodies
+
+-- so many calls, asked at this place under request ids from this one on
+abbrev pub calls_at : ℕ → ℕ → List (List ℕ) → List Placed
+calls_at place id [] = []
+calls_at place id (body ∷ bodies) = (place, Call id) ∷ calls_at place (id + 1) bodies
+
+-- the bodies of requests, each the canonical encoding (OPC 10000-6, 5.2.9)
+abbrev pub bodies_of : List Request → List (List ℕ)
+bodies_of requests = map request.canonical requests
+
+-- ---- what is not asked
+
+-- a refusal to ask as a fault of the client; a client whose channel is open and whose calls are all answered meets no other
+abbrev pub of_ask : Option AskFault → Option ClientFault
+of_ask None = None
+of_ask (Some ask_fault.Exhausted) = Some fault.Exhausted
+of_ask (Some ask_fault.RequestTooLarge) = Some fault.TooLarge
+of_ask (Some other) = Some fault.Closed
+
+-- why a request is not asked in this phase behind so many others, by whether it can be encoded
+abbrev pub refusal_by : Bool → Phase → ℕ → List ℕ → Option ClientFault
+refusal_by false phase more body = Some fault.NotWritable
+refusal_by true phase more body = of_ask (ask_refusal phase more body)
+
+-- why a request is not asked in this phase behind so many others
+abbrev pub request_refusal : Phase → ℕ → Request → Option ClientFault
+request_refusal phase more m = refusal_by (request.encodable m) phase more (request.canonical m)
+
+-- why a group of requests is not asked in this phase behind so many others: the first reason against the first of them that has one
+abbrev pub group_refusal : Phase → ℕ → List Request → Option ClientFault
+group_refusal phase more [] = None
+group_refusal phase more (m ∷ ms) = or_else (request_refusal phase more m) (group_refusal phase (more + 1) ms)
+
+-- what is answered where there may be a reason against it: none, this reason, or memory was refused
+abbrev pub AnswersBy : {A : Type 0} → Option ClientFault → Result A ClientFault → Type 0
+AnswersBy reason (Ok found) = reason ≡ None
+AnswersBy reason (Err fault.OutOfMemory) = Unit {0}
+AnswersBy reason (Err other) = reason ≡ Some other
+
+-- ---- what is asked
+
+-- a group of calls of these bodies was asked behind these asks and octets, whose frames are these: where the channel then stands, what is
+-- to be sent, the request id of the first
+pub record AsksGroup (bodies : List (List ℕ)) (old new : ClientChannel) (asks : List Placed) (octets : List ℕ) (frames : List Frame) (rest : List ℕ) (out : List ℕ) : Type 0 where
+  pub stands : Stands new (asks ++ calls_at (length octets) (next_id (asked_in asks)) bodies) octets frames rest
+  pub out_is : out ≡ calls_octets (lane_behind (received frames)) (next_of old) (next_id (asked_in asks)) bodies
+  pub next_is : next_of new ≡ numbers_behind (lane_behind (received frames)) (next_of old) bodies
+
+-- the same, and this is the request id of the first
+abbrev pub AsksFrom : List (List ℕ) → ClientChannel → ClientChannel → List Placed → List ℕ → List Frame → List ℕ → ℕ × List ℕ → Type 0
+AsksFrom bodies old new asks octets frames rest found = (0 < length bodies → found.0 ≡ next_id (asked_in asks)) × AsksGroup bodies old new asks octets frames rest found.1
+
+-- what is answered where a group is asked that was judged
+abbrev pub AsksOr : {A : Type 0} → (A → Type 0) → Result A ClientFault → Type 0
+AsksOr asks (Ok found) = asks found
+AsksOr asks (Err fault.OutOfMemory) = Unit {0}
+AsksOr asks (Err other) = ⊥

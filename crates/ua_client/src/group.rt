@@ -1,0 +1,152 @@
+//! Groups of calls: judged whole, and then asked.
+
+ghost use Rattle.std.specs.Prelude.{◌≡◌, ◌<◌, ◌++◌, ◌↔◌, ℕ, List, Some, None, length, map, IfOk, IfErr, OnOk, IsTrue, IsFalse, IsErrOf};
+ghost use Rattle.ua_octets.specs.declared.fault.WriteFault.TheVariants.{NotWritable};
+ghost use Rattle.ua_frame.specs.declared.frame.Frame.{Frame};
+ghost use Rattle.ua_services.specs.Request.{request};
+ghost use Rattle.ua_channel.specs.Asks.{Placed};
+ghost use Rattle.ua_channel.specs.Client.{Stands, SameClient, phase_of, ask_refusal};
+ghost use Rattle.ua_client.specs.Sent.{of_ask, AnswersBy, request_refusal, group_refusal, bodies_of, AsksFrom, AsksOr};
+ghost use Rattle.ua_client.specs.declared.fault.ClientFault.TheVariants.{OutOfMemory};
+
+use crate::fault::ClientFault;
+use std::alloc::Global;
+use std::marker::Model;
+use ua_builtin::WriteFault;
+use ua_channel::{AskFault, ClientChannel};
+use ua_services::{Request, write_request};
+
+/// The body of a call, which is not empty.
+#[derive(Drop)]
+pub struct Body {
+    octets: Vec<u8>,
+}
+
+impl Model for Body {
+    ghost use Rattle.std.specs.Prelude.{List, ℕ, ◌<◌, length};
+
+    ghost Value = { List ℕ };
+
+    ghost view = { λ b. b.octets.items };
+
+    ghost invariant = { λ b. 0 < length b.octets.items };
+}
+
+impl Body {
+    /// The body of a request: its canonical encoding.
+    #[tactic(auto, using(crate::proofs::Requests::request_takes_some))]
+    fn of(alloc: Global, message: &Request) -> Result<Body, WriteFault>
+        ensures ok { IfOk result (λ b. b ≡ request.canonical message.now) }
+        ensures encodable { OnOk result (IsTrue (request.encodable message.now)) }
+        ensures refused { IsErrOf result NotWritable ↔ IsFalse (request.encodable message.now) }
+    {
+        let mut octets = Vec::new(alloc);
+        match write_request(message, &mut octets) {
+            Ok(()) => Ok(Body { octets }),
+            Err(fault) => Err(fault),
+        }
+    }
+
+    /// Its octets.
+    fn octets(&self) -> &[u8]
+        ensures value { result.now ≡ self.now }
+        ensures some { 0 < length self.now }
+    {
+        let _len = self.octets.len();
+        self.octets.as_slice()
+    }
+}
+
+/// A refusal to ask, as a fault of the client.
+fn of_ask(fault: AskFault) -> ClientFault
+    ensures { Some result ≡ of_ask (Some fault) }
+{
+    match fault {
+        AskFault::Exhausted => ClientFault::Exhausted,
+        AskFault::RequestTooLarge => ClientFault::TooLarge,
+        AskFault::NotOpen
+        | AskFault::TooManyPending
+        | AskFault::RenewPending
+        | AskFault::TooManyTokens
+        | AskFault::OutOfMemory => ClientFault::Closed,
+    }
+}
+
+/// Whether a channel would ask a call of a body behind so many others.
+fn judge_body(channel: &ClientChannel, before: usize, body: &Body) -> Result<(), ClientFault>
+    ensures { AnswersBy (of_ask (ask_refusal (phase_of channel.now) before body.now)) result }
+{
+    match channel.judge(before, body.octets().len()) {
+        Ok(()) => Ok(()),
+        Err(fault) => Err(of_ask(fault)),
+    }
+}
+
+/// The body of a request, where a channel would ask it behind so many others.
+fn judge_request(
+    alloc: Global,
+    channel: &ClientChannel,
+    before: usize,
+    message: &Request,
+) -> Result<Body, ClientFault>
+    ensures judged { AnswersBy (request_refusal (phase_of channel.now) before message.now) result }
+    ensures body { IfOk result (λ b. b ≡ request.canonical message.now) }
+{
+    let body = match Body::of(alloc, message) {
+        Ok(body) => body,
+        Err(WriteFault::NotWritable) => return Err(ClientFault::NotWritable),
+        Err(WriteFault::OutOfMemory) => return Err(ClientFault::OutOfMemory),
+    };
+    match judge_body(channel, before, &body) {
+        Ok(()) => Ok(body),
+        Err(fault) => Err(fault),
+    }
+}
+
+/// The bodies of a group of requests, where a channel would ask all of them.
+pub fn judge_group(
+    alloc: Global,
+    channel: &ClientChannel,
+    requests: &[Request],
+) -> Result<Vec<Body>, ClientFault>
+    ensures judged { AnswersBy (group_refusal (phase_of channel.now) 0 requests.now) result }
+    ensures bodies { IfOk result (λ bodies. bodies.items ≡ bodies_of requests.now) }
+{
+    let mut bodies = Vec::new(alloc);
+    for message in requests {
+        let body = match judge_request(alloc, channel, bodies.len(), message) {
+            Ok(body) => body,
+            Err(fault) => return Err(fault),
+        };
+        let Ok(()) = bodies.push(body) else {
+            return Err(ClientFault::OutOfMemory);
+        };
+    }
+    Ok(bodies)
+}
+
+/// The chunks of a call of each body, in order, and the request id of the first.
+pub fn ask_group(
+    alloc: Global,
+    channel: &mut ClientChannel,
+    bodies: &[Body],
+) -> Result<(u32, Vec<u8>), ClientFault>
+    ensures asks { (asks : List Placed) (octets : List ℕ) (frames : List Frame) (rest : List ℕ) → Stands channel.old asks octets frames rest
+        → AsksOr (λ found. AsksFrom bodies.now channel.old channel.new asks octets frames rest (found.0, found.1.items)) result }
+    ensures same { SameClient channel.old channel.new }
+    ensures memory { IfErr result (λ fault. fault ≡ OutOfMemory) }
+{
+    let mut out = Vec::new(alloc);
+    let mut first = None;
+    for body in bodies {
+        let (id, octets) = match channel.ask(body.octets()) {
+            Ok(asked) => asked,
+            Err(_) => return Err(ClientFault::OutOfMemory),
+        };
+        let Ok(()) = out.extend_from_slice(&octets) else {
+            return Err(ClientFault::OutOfMemory);
+        };
+        first = Some(first.unwrap_or(id));
+    }
+    Ok((first.unwrap_or(0), out))
+}
