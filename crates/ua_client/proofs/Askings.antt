@@ -58,8 +58,8 @@ octets-push : (lane : Option Lane) (number id : ℕ) (bodies : List (List ℕ)) 
 octets-push lane number id [] body = append-nil (call_octets lane number id body) ∙ ap (λ (n : ℕ). call_octets lane number n body) (sym (add-zero id))
 octets-push lane number id (b ∷ bodies) body =
     ap (λ (o : List ℕ). call_octets lane number id b ++ o)
-      (octets-push lane (number_behind lane number b) (id + 1) bodies body
-      ∙ ap (λ (n : ℕ). calls_octets lane (number_behind lane number b) (id + 1) bodies ++ call_octets lane (numbers_behind lane (number_behind lane number b) bodies) n body) (on id (length bodies)))
+    (octets-push lane (number_behind lane number b) (id + 1) bodies body
+    ∙ ap (λ (n : ℕ). calls_octets lane (number_behind lane number b) (id + 1) bodies ++ call_octets lane (numbers_behind lane (number_behind lane number b) bodies) n body) (on id (length bodies)))
     ∙ sym (append_assoc (call_octets lane number id b) (calls_octets lane (number_behind lane number b) (id + 1) bodies) (call_octets lane (numbers_behind lane (number_behind lane number b) bodies) (id + suc (length bodies)) body))
   where
     on : (a b : ℕ) → (a + 1) + b ≡ a + suc b
@@ -98,13 +98,13 @@ asks-more bodies body old mid new asks octets frames rest out id more g stands s
     let id_is : id ≡ first + length bodies = s.id_is ∙ next-calls asks (length octets) first bodies in
     record {
       stands = subst (λ (xs : List Placed). Stands new xs octets frames rest)
-        (append_assoc asks here ((length octets, Call id) ∷ [])
-        ∙ ap (λ (xs : List Placed). asks ++ xs) (ap (λ (n : ℕ). here ++ (length octets, Call n) ∷ []) id_is ∙ sym (calls-push (length octets) first bodies body)))
-        (stands (asks ++ here) octets frames rest g.stands);
+          (append_assoc asks here ((length octets, Call id) ∷ [])
+          ∙ ap (λ (xs : List Placed). asks ++ xs) (ap (λ (n : ℕ). here ++ (length octets, Call n) ∷ []) id_is ∙ sym (calls-push (length octets) first bodies body)))
+          (stands (asks ++ here) octets frames rest g.stands);
       out_is = ap (λ (o : List ℕ). o ++ more) g.out_is
-        ∙ (ap (λ (o : List ℕ). calls_octets lane (next_of old) first bodies ++ o)
-            (s.out_is ∙ (ap (λ (n : ℕ). call_octets lane n id body) g.next_is ∙ ap (λ (n : ℕ). call_octets lane (numbers_behind lane (next_of old) bodies) n body) id_is))
-        ∙ sym (octets-push lane (next_of old) first bodies body));
+          ∙ (ap (λ (o : List ℕ). calls_octets lane (next_of old) first bodies ++ o)
+          (s.out_is ∙ (ap (λ (n : ℕ). call_octets lane n id body) g.next_is ∙ ap (λ (n : ℕ). call_octets lane (numbers_behind lane (next_of old) bodies) n body) id_is))
+          ∙ sym (octets-push lane (next_of old) first bodies body));
       next_is = s.next_is ∙ (ap (λ (n : ℕ). number_behind lane n body) g.next_is ∙ sym (numbers-push lane (next_of old) bodies body));
     }
 
@@ -141,9 +141,10 @@ pub asked-more : (bodies : List (List ℕ)) (body : List ℕ) (old mid new : Cli
     → IsCall (phase_of mid) (next_of mid) body id more (next_of new) → SameClient mid new → Asked (bodies ++ body ∷ []) old new (out ++ more) (Some (unwrap_or first id))
 asked-more bodies body old mid new out first id more a stands sent same = record {
   asks = λ xs os fs r s.
-    let g = a.asks xs os fs r s in
-    (asks-more bodies body old mid new xs os fs r out id more g.0 stands sent,
-     first-more bodies body first id (next_id (asked_in xs)) g.1 (λ none. first-id bodies old mid xs os fs r out (next_of mid) body id more (next_of new) g.0 none sent));
+      let g = a.asks xs os fs r s in (
+        asks-more bodies body old mid new xs os fs r out id more g.0 stands sent,
+        first-more bodies body first id (next_id (asked_in xs)) g.1 (λ none. first-id bodies old mid xs os fs r out (next_of mid) body id more (next_of new) g.0 none sent),
+      );
   same = record { limits = a.same.limits ∙ same.limits; url = a.same.url ∙ same.url };
 }
 

@@ -8,3 +8,9 @@ pub mod Renewals
 pub mod Renewings
 pub mod Requests
 pub mod Askings
+pub mod Filling
+pub mod Answering
+pub mod Incoming
+pub mod GroupCalls
+pub mod Grouping
+pub mod Ones

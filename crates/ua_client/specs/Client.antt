@@ -1,5 +1,5 @@
 -- A client: when it is done, where it stands, how it is opened and closed.
-use Rattle.std.specs.Prelude.{◌≡◌, ℕ, true, false, List, [], Option, Some, None, Result, Ok, Err}
+use Rattle.std.specs.Prelude.{◌≡◌, ℕ, Bool, true, false, List, [], Option, Some, None, Result, Ok, Err}
 use Rattle.ua_octets.specs.Format.{Extends}
 use Rattle.ua_builtin.specs.declared.date_time.DateTime.{DateTime}
 use Rattle.ua_frame.specs.Frames.{frame_octets}
@@ -35,6 +35,18 @@ IsDone x = x.is_done ≡ true
 -- a client that may be called
 abbrev pub IsReady : Client → Type 0
 IsReady x = x.is_done ≡ false
+
+-- a client is done after this fault: after all but those of a group of calls that was not asked
+abbrev pub ends : ClientFault → Bool
+ends fault.TooLarge = false
+ends fault.NotWritable = false
+ends fault.Exhausted = false
+ends other = true
+
+-- a client behind calls: it may be called again, but for a fault after which it is done
+abbrev pub IsLeft : {A : Type 0} → Result A ClientFault → Client → Type 0
+IsLeft (Ok found) x = x.is_done ≡ false
+IsLeft (Err f) x = x.is_done ≡ ends f
 
 -- ---- opening
 

@@ -8,3 +8,5 @@ pub mod Opening
 pub mod Client
 pub mod Renewing
 pub mod Sent
+pub mod Replies
+pub mod Calls

@@ -1,18 +1,22 @@
 //! A client over a line.
 
-ghost use Rattle.std.specs.Prelude.{◌≡◌, ◌⊎◌, IsTrue, Err};
+ghost use Rattle.std.specs.Prelude.{◌≡◌, ◌⊎◌, ◌∷◌, [], length, IsTrue, IfOk, Err};
 ghost use Rattle.ua_octets.specs.Counted.{text};
-ghost use Rattle.ua_client.specs.Client.{OpensNothing, OpensClient, IsDone, IsReady, Closes, client_channel, connection_of};
+ghost use Rattle.ua_client.specs.Calls.{CallsAll};
+ghost use Rattle.ua_client.specs.Client.{OpensNothing, OpensClient, IsDone, IsReady, IsLeft, Closes, client_channel, connection_of};
 ghost use Rattle.ua_client.specs.Hearing.{failures_behind};
 ghost use Rattle.ua_client.specs.Renewing.{Renews, StandsBehind, IsRefusal};
 ghost use Rattle.ua_client.specs.declared.fault.ClientFault.TheVariants.{Closed};
 
 use crate::connection::Connection;
 use crate::fault::ClientFault;
+use crate::reply::Reply;
 use std::alloc::Global;
+use std::slice;
 use ua_builtin::{DateTime, UaString};
 use ua_channel::Line;
 use ua_frame::Limits;
+use ua_services::Request;
 
 /// A client whose channel is open.
 #[derive(Drop)]
@@ -48,6 +52,55 @@ impl Client {
                 is_done: false,
             }),
             Err(fault) => Err(fault),
+        }
+    }
+
+    /// The reply to a request: [`Client::call_all`] of one.
+    pub fn call<L: Line>(
+        &mut self,
+        line: &mut L,
+        request: &Request,
+        moment: DateTime,
+    ) -> Result<Reply, ClientFault>
+        ensures calls { IsReady self.old → CallsAll (λ reply. reply ∷ []) (request.now ∷ []) (connection_of self.old) (connection_of self.new) (L.traffic line.old) (L.traffic line.new) result }
+        ensures left { IsReady self.old → IsLeft result self.new }
+        ensures closed { IsDone self.old → (result ≡ Err Closed) × (self.new ≡ self.old) × (line.new ≡ line.old) }
+        ensures failed { L.failures line.new ≡ failures_behind (L.failures line.old) result }
+    {
+        match self.call_all(line, slice::from_ref(request), moment) {
+            Ok(replies) => Ok(only_reply(replies)),
+            Err(fault) => Err(fault),
+        }
+    }
+
+    /// The replies to requests, in their order. The requests are asked in groups of at most 64: each is
+    /// judged whole, written and then answered. After `TooLarge`, `NotWritable` and `Exhausted` the client
+    /// is as behind the groups before, and nothing of the group was written; after any other fault it is
+    /// done.
+    pub fn call_all<L: Line>(
+        &mut self,
+        line: &mut L,
+        requests: &[Request],
+        moment: DateTime,
+    ) -> Result<Vec<Reply>, ClientFault>
+        ensures calls { IsReady self.old → CallsAll (λ replies. replies.items) requests.now (connection_of self.old) (connection_of self.new) (L.traffic line.old) (L.traffic line.new) result }
+        ensures count { IfOk result (λ replies. length replies.items ≡ length requests.now) }
+        ensures left { IsReady self.old → IsLeft result self.new }
+        ensures closed { IsDone self.old → (result ≡ Err Closed) × (self.new ≡ self.old) × (line.new ≡ line.old) }
+        ensures failed { L.failures line.new ≡ failures_behind (L.failures line.old) result }
+    {
+        if self.is_done {
+            return Err(ClientFault::Closed);
+        }
+        match self
+            .connection
+            .call_groups(self.alloc, line, requests, moment)
+        {
+            Ok(replies) => Ok(replies),
+            Err(fault) => {
+                self.is_done = fault.ends();
+                Err(fault)
+            }
         }
     }
 
@@ -87,4 +140,12 @@ impl Client {
         self.is_done = true;
         self.connection.close(line, moment)
     }
+}
+
+/// The reply of a group of one.
+fn only_reply(mut replies: Vec<Reply>) -> Reply
+    requires { length replies.items ≡ 1 }
+    ensures { replies.items ≡ result ∷ [] }
+{
+    replies.remove(0)
 }

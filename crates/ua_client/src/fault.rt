@@ -4,7 +4,8 @@ use std::alloc::AllocError;
 use thiserror::Error;
 use ua_builtin::StatusCode;
 
-/// Why a call of a client did not do what it is for.
+/// Why a call of a client did not do what it is for. After all of these but `TooLarge`, `NotWritable`
+/// and `Exhausted` the client is done, and answers `Closed`.
 #[derive(Clone, Copy, PartialEq, Eq, Debug, Error)]
 pub enum ClientFault {
     /// A read of the line failed.
@@ -49,6 +50,21 @@ pub enum ClientFault {
     /// 16 tokens are held, from the last one that the server used to the newest.
     #[error("too many tokens are held")]
     TooManyTokens,
+}
+
+impl ClientFault {
+    ghost use Rattle.std.specs.Prelude.{◌≡◌};
+    ghost use Rattle.ua_client.specs.Client.{ends};
+
+    /// Whether a client is done after this: after all but what is judged of calls before they are asked.
+    pub(crate) fn ends(self) -> bool
+        ensures { result ≡ ends self }
+    {
+        !matches!(
+            self,
+            ClientFault::TooLarge | ClientFault::NotWritable | ClientFault::Exhausted
+        )
+    }
 }
 
 impl From<AllocError> for ClientFault {

@@ -1,15 +1,20 @@
 //! A client of OPC UA Binary over a line, under the security policy None (OPC 10000-4, 5.5 and 5.6;
 //! OPC 10000-6, 6.7 and 7.1).
 //!
-//! Its contract is that of [`Client::open`]: what it writes, and from which octets it answers.
+//! Its contracts are those of [`Client::open`] and [`Client::call_all`]: what they write, and from which
+//! octets they answer.
 //!
 //! ```
 //! let mut client = Client::open(alloc, &mut line, limits, url, moment)?;
+//! let reply = client.call(&mut line, &request, moment)?;
+//! let replies = client.call_all(&mut line, &requests, moment)?;
 //! client.close(&mut line, moment)?;
 //! ```
 #![tactic(auto)]
 
+mod calling;
 mod client;
+mod collecting;
 mod connection;
 mod fault;
 mod group;
@@ -17,7 +22,9 @@ pub mod laws;
 mod opening;
 mod piece;
 mod renewing;
+mod reply;
 mod sending;
 
 pub use client::Client;
 pub use fault::ClientFault;
+pub use reply::Reply;

@@ -1,0 +1,117 @@
+-- Which reply a message is to which request.
+use Rattle.std.specs.Prelude.{◌≡◌, ◌+◌, ◌<◌, ◌++◌, ℕ, zero, suc, Bool, true, false, List, [], ◌∷◌, length, Option, Some, None, Result, Ok, Err}
+use Rattle.std.specs.List.{concat}
+use Rattle.std.proofs.Common.{refl, sym, ◌∙◌, ap, subst, eqb, get_or, set, arith}
+use Rattle.ua_builtin.specs.declared.date_time.DateTime.{DateTime}
+use Rattle.ua_builtin.specs.declared.status_code.StatusCode.{StatusCode}
+use Rattle.ua_channel.specs.ClientTold.{Told}
+use Rattle.ua_channel.specs.ClientTold.Told.{Agreed, Opened, Answered, GaveUp, Renewed}
+use Rattle.ua_channel.specs.declared.client.event.ClientEvent.{ClientEvent}
+use Rattle.ua_channel.specs.declared.client.event.ClientEvent.TheVariants as event
+use Rattle.ua_services.specs.Request.{kind_of}
+use Rattle.ua_services.specs.declared.request.Request.{Request}
+use Rattle.ua_services.specs.declared.request.RequestKind.{RequestKind}
+use Rattle.ua_services.specs.declared.response.Response.{Response}
+use Rattle.ua_client.specs.Hearing.{Says}
+use Rattle.ua_client.specs.Replies.{IsAnswer, IsNoAnswer, ReadsAnswer, IsPlace, IsOfNone, IsAt, PlacesReply, AreSlots, FillsSlots}
+use Rattle.ua_client.specs.Told.{is_told_of, IsFirstOf}
+use Rattle.ua_client.specs.declared.fault.ClientFault.{ClientFault}
+use Rattle.ua_client.specs.declared.fault.ClientFault.TheVariants as fault
+use Rattle.ua_client.specs.declared.reply.Reply.{Reply}
+use Rattle.ua_client.specs.declared.reply.Reply.TheVariants.{Response as Responds, Aborted}
+use Rattle.ua_client.proofs.Filling.{eqb-other, is-at, slots-other, slots-set, misanswered-at}
+
+-- ---- its place
+
+of-none : (first count id : ℕ) → IsPlace first id count None → (n : ℕ) → n < count → eqb id (first + n) ≡ false
+of-none first count id h n few = eqb-other id (first + n) (h n few)
+
+pub answered_none : (requests : List Request) (first id : ℕ) (octets : List ℕ) → IsPlace first id (length requests) None → PlacesReply requests first (Answered id octets) (Ok None)
+answered_none requests first id octets h = of-none first (length requests) id h
+
+pub gave_up_none : (requests : List Request) (first id : ℕ) (code : StatusCode) → IsPlace first id (length requests) None → PlacesReply requests first (GaveUp id code) (Ok None)
+gave_up_none requests first id code h = of-none first (length requests) id h
+
+pub answered_at : (requests : List Request) (first id : ℕ) (octets : List ℕ) (n : ℕ) (request d : Request) (kind : RequestKind) (m : Response) → IsPlace first id (length requests) (Some n)
+    → request ≡ get_or requests n d → kind ≡ kind_of request → IsAnswer kind octets m → PlacesReply requests first (Answered id octets) (Ok (Some (n, Responds m)))
+answered_at requests first id octets n request d kind m h e k a =
+    (request, is-at requests n request d h.0 e, (octets, ap (λ (i : ℕ). Answered i octets) h.1, subst (λ (q : RequestKind). IsAnswer q octets m) k a))
+
+pub misanswered_by : (requests : List Request) (first id : ℕ) (octets : List ℕ) (n : ℕ) (request d : Request) (kind : RequestKind) (x : ClientFault) → IsPlace first id (length requests) (Some n)
+    → request ≡ get_or requests n d → kind ≡ kind_of request → ReadsAnswer kind octets (Err x) → PlacesReply requests first (Answered id octets) (Err x)
+misanswered_by requests first id octets n request d kind fault.UnknownResponse h e k a =
+    (n, request, is-at requests n request d h.0 e, (octets, ap (λ (i : ℕ). Answered i octets) h.1, subst (λ (q : RequestKind). IsNoAnswer q octets) k a))
+misanswered_by requests first id octets n request d kind fault.OutOfMemory h e k a = tt
+misanswered_by requests first id octets n request d kind fault.Read h e k a = absurd a
+misanswered_by requests first id octets n request d kind fault.Write h e k a = absurd a
+misanswered_by requests first id octets n request d kind fault.Ended h e k a = absurd a
+misanswered_by requests first id octets n request d kind (fault.Peer code) h e k a = absurd a
+misanswered_by requests first id octets n request d kind (fault.Refused code) h e k a = absurd a
+misanswered_by requests first id octets n request d kind (fault.Service code) h e k a = absurd a
+misanswered_by requests first id octets n request d kind fault.TooLarge h e k a = absurd a
+misanswered_by requests first id octets n request d kind fault.NotWritable h e k a = absurd a
+misanswered_by requests first id octets n request d kind fault.Exhausted h e k a = absurd a
+misanswered_by requests first id octets n request d kind fault.Closed h e k a = absurd a
+misanswered_by requests first id octets n request d kind fault.TooLong h e k a = absurd a
+
+-- the request at a place that a list has
+request-at : (requests : List Request) (n : ℕ) → n < length requests → (request : Request) × IsAt requests n request
+request-at [] n few = absurd (omega (arith, few))
+request-at (r ∷ rs) zero few = (r, refl)
+request-at (r ∷ rs) (suc n) few = request-at rs n (omega (arith, few))
+
+pub gave_up_at : (requests : List Request) (first id : ℕ) (code : StatusCode) (n : ℕ) → IsPlace first id (length requests) (Some n) → PlacesReply requests first (GaveUp id code) (Ok (Some (n, Aborted code)))
+gave_up_at requests first id code n h =
+    let r = request-at requests n h.0 in
+    (r.0, r.1, ap (λ (i : ℕ). GaveUp i code) h.1)
+
+-- ---- what an event brings
+
+of-no-call : (requests : List Request) (first : ℕ) (t other : Told) → t ≡ other → ((n : ℕ) → is_told_of n other ≡ false) → PlacesReply requests first t (Ok None)
+of-no-call requests first t other e h = λ n few. ap (is_told_of (first + n)) e ∙ h (first + n)
+
+pub placed_other : (requests : List Request) (first : ℕ) (e : ClientEvent) → ((id : ℕ) (message : List (List ℕ)) → e ≡ event.Answered id message → ⊥) → ((id : ℕ) (code : StatusCode) → e ≡ event.Aborted id code → ⊥)
+    → (m : DateTime) (t : Told) → Says m e t → PlacesReply requests first t (Ok None)
+placed_other requests first event.NeedMore answered aborted m t h = absurd h
+placed_other requests first (event.Send sent) answered aborted m t h = of-no-call requests first t (Agreed h.1.0) h.1.1 (λ n. refl)
+placed_other requests first event.Open answered aborted m t h = of-no-call requests first t (Opened h.0 h.1.0) h.1.1 (λ n. refl)
+placed_other requests first (event.Answered id message) answered aborted m t h = absurd (answered id message refl)
+placed_other requests first (event.Aborted id code) answered aborted m t h = absurd (aborted id code refl)
+placed_other requests first (event.Failed code peer) answered aborted m t h = absurd h
+placed_other requests first (event.Renewed token) answered aborted m t h = of-no-call requests first t (Renewed token) h (λ n. refl)
+
+pub placed_answered : (requests : List Request) (first id : ℕ) (message : List (List ℕ)) (e : ClientEvent) (result : Result (Option (ℕ × Reply)) ClientFault) → e ≡ event.Answered id message
+    → PlacesReply requests first (Answered id (concat message)) result → (m : DateTime) (t : Told) → Says m e t → PlacesReply requests first t result
+placed_answered requests first id message e result is h m t says =
+    subst (λ (o : Told). PlacesReply requests first o result) (sym (subst (λ (x : ClientEvent). Says m x t) is says)) h
+
+pub placed_aborted : (requests : List Request) (first id : ℕ) (code : StatusCode) (e : ClientEvent) (result : Result (Option (ℕ × Reply)) ClientFault) → e ≡ event.Aborted id code
+    → PlacesReply requests first (GaveUp id code) result → (m : DateTime) (t : Told) → Says m e t → PlacesReply requests first t result
+placed_aborted requests first id code e result is h m t says =
+    subst (λ (o : Told). PlacesReply requests first o result) (sym (subst (λ (x : ClientEvent). Says m x t) is says)) h
+
+-- ---- slots
+
+pub fills_none : (requests : List Request) (first : ℕ) (told : List Told) (t : Told) (slots : List (Option Reply)) → PlacesReply requests first t (Ok None) → AreSlots requests first told slots
+    → FillsSlots requests first (told ++ t ∷ []) slots (Ok tt)
+fills_none requests first told t slots h s = slots-other requests first told t slots h s
+
+pub fills_some : (requests : List Request) (first : ℕ) (told : List Told) (t : Told) (slots : List (Option Reply)) (n : ℕ) (reply : Reply) → PlacesReply requests first t (Ok (Some (n, reply))) → IsFirstOf told t
+    → AreSlots requests first told slots → FillsSlots requests first (told ++ t ∷ []) (set slots n (Some reply)) (Ok tt)
+fills_some requests first told t slots n reply h once s = slots-set requests first told t slots n h.0 reply s h.1 once h.2
+
+pub fills_fault : (requests : List Request) (first : ℕ) (told : List Told) (t : Told) (slots : List (Option Reply)) (x : ClientFault) → PlacesReply requests first t (Err x) → IsFirstOf told t
+    → FillsSlots requests first (told ++ t ∷ []) slots (Err x)
+fills_fault requests first told t slots fault.UnknownResponse h once = misanswered-at requests first told t h.0 h.1 h.2 once h.3
+fills_fault requests first told t slots fault.OutOfMemory h once = tt
+fills_fault requests first told t slots fault.Read h once = absurd h
+fills_fault requests first told t slots fault.Write h once = absurd h
+fills_fault requests first told t slots fault.Ended h once = absurd h
+fills_fault requests first told t slots (fault.Peer code) h once = absurd h
+fills_fault requests first told t slots (fault.Refused code) h once = absurd h
+fills_fault requests first told t slots (fault.Service code) h once = absurd h
+fills_fault requests first told t slots fault.TooLarge h once = absurd h
+fills_fault requests first told t slots fault.NotWritable h once = absurd h
+fills_fault requests first told t slots fault.Exhausted h once = absurd h
+fills_fault requests first told t slots fault.Closed h once = absurd h
+fills_fault requests first told t slots fault.TooLong h once = absurd h

@@ -1,0 +1,371 @@
+-- What becomes of groups of calls.
+use Rattle.std.specs.Prelude.{◌≡◌, ℕ, ◌+◌, ◌-◌, ◌≤◌, ◌<◌, Bool, true, false, cond, is_none, OnOk, OnErr, List, [], ◌∷◌, ◌++◌, length, map, take, drop, min, Option, Some, None, Result, Ok, Err}
+use Rattle.std.proofs.Common.{refl, sym, ◌∙◌, ap, subst, append_assoc, append-nil, arith, suc, add-zero}
+use Rattle.std.proofs.Math.Seq.{take-add, take-length}
+use Rattle.std.proofs.lemmas.List.{length-append, length-drop}
+use Rattle.std.specs.List.{AllByRecursion, concat, list_any}
+use Rattle.ua_builtin.specs.Reasons.{or_else}
+use Rattle.ua_octets.specs.Format.{Extends}
+use Rattle.ua_frame.specs.declared.frame.Frame.{Frame}
+use Rattle.ua_services.specs.Request.{request}
+use Rattle.ua_services.specs.declared.request.Request.{Request}
+use Rattle.ua_channel.specs.Asks.{Placed, asked_in, next_id}
+use Rattle.ua_channel.specs.Client.{Goes, Stands, SameClient, ask_refusal, phase_of, next_of}
+use Rattle.ua_channel.specs.ClientTold.{Told}
+use Rattle.ua_channel.specs.Line.{Traffic, WhereTold, one_more}
+use Rattle.ua_channel.specs.Received.{Received, received}
+use Rattle.ua_channel.specs.declared.client.channel.ClientChannel.{ClientChannel}
+use Rattle.ua_channel.specs.declared.client.fault.AskFault.{AskFault}
+use Rattle.ua_channel.specs.declared.client.fault.AskFault.TheVariants as ask_fault
+use Rattle.ua_channel.specs.declared.client.phase.Phase.{Phase}
+use Rattle.ua_client.specs.Site.{Site, At, id_at, lane_behind}
+use Rattle.ua_client.specs.Calls.{asked_at, sent_at, AreUntold, GoesOn, Collects, CollectsAt, Answered, BreaksAt, GroupAt, CallsGroup, somes, none_for}
+use Rattle.ua_client.specs.Carried.{Carries, WritesFront}
+use Rattle.ua_client.specs.Hearing.{channel_of, untaken_of, most_reads, Moves, StopsAt, is_line_fault, failures_behind}
+use Rattle.ua_client.specs.Replies.{AreReplies, AreSlots, IsMisanswered, IsUnanswered}
+use Rattle.ua_client.specs.Told.{told_of}
+use Rattle.ua_client.specs.Sent.{calls_octets, numbers_behind, calls_at, bodies_of, of_ask, refusal_by, request_refusal, group_refusal, AnswersBy, AsksGroup, AsksFrom, AsksOr}
+use Rattle.ua_client.specs.declared.connection.Connection.{Connection}
+use Rattle.ua_client.specs.declared.fault.ClientFault.{ClientFault}
+use Rattle.ua_client.specs.declared.fault.ClientFault.TheVariants as fault
+use Rattle.ua_client.specs.declared.reply.Reply.{Reply}
+use Rattle.ua_client.proofs.Carrying.{carried-nothing, carried-then, carried-as, sends-front}
+use Rattle.ua_client.proofs.Incoming.{all-answered, all-there, collects-none}
+use Rattle.ua_client.proofs.Hearings.{moves-behind}
+
+-- ---- refusals to ask
+
+-- the faults of a refusal to ask
+abbrev pub is_asking_fault : ClientFault → Bool
+is_asking_fault fault.TooLarge = true
+is_asking_fault fault.NotWritable = true
+is_asking_fault fault.Exhausted = true
+is_asking_fault fault.Closed = true
+is_asking_fault other = false
+
+by-ask : (o : Option AskFault) (x : ClientFault) → of_ask o ≡ Some x → is_asking_fault x ≡ true
+by-ask None x e = absurd cc
+by-ask (Some ask_fault.Exhausted) x e = ap taken (sym e)
+  where
+    taken : Option ClientFault → Bool
+    taken None = true
+    taken (Some y) = is_asking_fault y
+by-ask (Some ask_fault.RequestTooLarge) x e = ap taken (sym e)
+  where
+    taken : Option ClientFault → Bool
+    taken None = true
+    taken (Some y) = is_asking_fault y
+by-ask (Some ask_fault.NotOpen) x e = ap taken (sym e)
+  where
+    taken : Option ClientFault → Bool
+    taken None = true
+    taken (Some y) = is_asking_fault y
+by-ask (Some ask_fault.TooManyPending) x e = ap taken (sym e)
+  where
+    taken : Option ClientFault → Bool
+    taken None = true
+    taken (Some y) = is_asking_fault y
+by-ask (Some ask_fault.RenewPending) x e = ap taken (sym e)
+  where
+    taken : Option ClientFault → Bool
+    taken None = true
+    taken (Some y) = is_asking_fault y
+by-ask (Some ask_fault.TooManyTokens) x e = ap taken (sym e)
+  where
+    taken : Option ClientFault → Bool
+    taken None = true
+    taken (Some y) = is_asking_fault y
+by-ask (Some ask_fault.OutOfMemory) x e = ap taken (sym e)
+  where
+    taken : Option ClientFault → Bool
+    taken None = true
+    taken (Some y) = is_asking_fault y
+
+by-request : (b : Bool) (phase : Phase) (more : ℕ) (body : List ℕ) (x : ClientFault) → refusal_by b phase more body ≡ Some x → is_asking_fault x ≡ true
+by-request true phase more body x e = by-ask (ask_refusal phase more body) x e
+by-request false phase more body x e = ap taken (sym e)
+  where
+    taken : Option ClientFault → Bool
+    taken None = true
+    taken (Some y) = is_asking_fault y
+
+by-either : (a b : Option ClientFault) (x : ClientFault) → ((y : ClientFault) → a ≡ Some y → is_asking_fault y ≡ true) → (b ≡ Some x → is_asking_fault x ≡ true) → or_else a b ≡ Some x → is_asking_fault x ≡ true
+by-either None b x h k e = k e
+by-either (Some y) b x h k e = h x e
+
+pub by-group : (phase : Phase) (more : ℕ) (requests : List Request) (x : ClientFault) → group_refusal phase more requests ≡ Some x → is_asking_fault x ≡ true
+by-group phase more [] x e = absurd cc
+by-group phase more (m ∷ ms) x e =
+    by-either (request_refusal phase more m) (group_refusal phase (more + 1) ms) x
+    (λ y f. by-request (request.encodable m) phase more (request.canonical m) y f) (by-group phase (more + 1) ms x) e
+
+-- ---- a group
+
+untold-from : (requests : List Request) (id : ℕ) (told : List Told) → ((n : ℕ) → told_of (id + n) told ≡ []) → AreUntold requests id told
+untold-from [] id told h = tt
+untold-from (r ∷ rs) id told h = (
+  subst (λ (k : ℕ). told_of k told ≡ []) (add-zero id) (h 0),
+  untold-from rs (id + 1) told (λ n. subst (λ (k : ℕ). told_of k told ≡ []) (on id n) (h (suc n))),
+)
+  where
+    on : (a b : ℕ) → a + suc b ≡ (a + 1) + b
+    on a b = omega arith
+
+-- the law of what is told of calls that are not asked yet
+abbrev pub ToldBehind : Type 0
+ToldBehind = (x : ClientChannel) (asks : List Placed) (octets : List ℕ) (told : List Told) (n : ℕ) → Goes x asks octets told → told_of (next_id (asked_in asks) + n) told ≡ []
+
+-- nothing moved
+abbrev pub moves-nothing : (x y : Connection) (t : Option Traffic) → untaken_of y ≡ untaken_of x → Moves x y [] t t
+moves-nothing x y t same = record { got = []; taken = []; parts = append-nil (untaken_of x) ∙ sym same; carried = carried-nothing t }
+
+-- before anything is asked
+pub group-refused : {A : Type 0} (requests : List Request) (x : Connection) (t : Option Traffic) (reads : ℕ) (f : ClientFault) (replies : List Reply)
+    → AnswersBy {A = Unit {0}} (group_refusal (phase_of (channel_of x)) 0 requests) (Err f) → CallsGroup {A = A} requests x x t t reads reads (Err f) replies replies
+group-refused {A} requests x t reads f replies h = record {
+  sent = [];
+  moves = moves-nothing x x t refl;
+  same = record { limits = refl; url = refl };
+  answers = λ s at. breaks f h s at;
+  stops = stops f h;
+}
+  where
+    breaks : (y : ClientFault) → AnswersBy {A = Unit {0}} (group_refusal (phase_of (channel_of x)) 0 requests) (Err y) → (s : Site) → At (channel_of x) s → BreaksAt requests s x [] [] y
+    breaks fault.TooLarge e s at = (refl, refl, at, e)
+    breaks fault.NotWritable e s at = (refl, refl, at, e)
+    breaks fault.Exhausted e s at = (refl, refl, at, e)
+    breaks fault.Closed e s at = (refl, refl, at, e)
+    breaks fault.OutOfMemory e s at = record { more = sent_at s requests; parts = refl }
+    breaks fault.Read e s at = let no : is_asking_fault fault.Read ≡ true = by-group (phase_of (channel_of x)) 0 requests fault.Read e in absurd cc
+    breaks fault.Write e s at = let no : is_asking_fault fault.Write ≡ true = by-group (phase_of (channel_of x)) 0 requests fault.Write e in absurd cc
+    breaks fault.Ended e s at = let no : is_asking_fault fault.Ended ≡ true = by-group (phase_of (channel_of x)) 0 requests fault.Ended e in absurd cc
+    breaks (fault.Peer code) e s at = let no : is_asking_fault (fault.Peer code) ≡ true = by-group (phase_of (channel_of x)) 0 requests (fault.Peer code) e in absurd cc
+    breaks (fault.Refused code) e s at = let no : is_asking_fault (fault.Refused code) ≡ true = by-group (phase_of (channel_of x)) 0 requests (fault.Refused code) e in absurd cc
+    breaks fault.UnknownResponse e s at = let no : is_asking_fault fault.UnknownResponse ≡ true = by-group (phase_of (channel_of x)) 0 requests fault.UnknownResponse e in absurd cc
+    breaks (fault.Service code) e s at = let no : is_asking_fault (fault.Service code) ≡ true = by-group (phase_of (channel_of x)) 0 requests (fault.Service code) e in absurd cc
+    breaks fault.TooLong e s at = let no : is_asking_fault fault.TooLong ≡ true = by-group (phase_of (channel_of x)) 0 requests fault.TooLong e in absurd cc
+
+    stops : (y : ClientFault) → AnswersBy {A = Unit {0}} (group_refusal (phase_of (channel_of x)) 0 requests) (Err y) → StopsAt {A = A} reads reads [] x t (Err y)
+    stops fault.TooLarge e = tt
+    stops fault.NotWritable e = tt
+    stops fault.Exhausted e = tt
+    stops fault.Closed e = tt
+    stops fault.OutOfMemory e = tt
+    stops fault.Read e = tt
+    stops fault.Write e = tt
+    stops fault.Ended e = let no : is_asking_fault fault.Ended ≡ true = by-group (phase_of (channel_of x)) 0 requests fault.Ended e in absurd cc
+    stops (fault.Peer code) e = tt
+    stops (fault.Refused code) e = tt
+    stops fault.UnknownResponse e = tt
+    stops (fault.Service code) e = tt
+    stops fault.TooLong e = let no : is_asking_fault fault.TooLong ≡ true = by-group (phase_of (channel_of x)) 0 requests fault.TooLong e in absurd cc
+
+-- a refusal to ask is no fault of the line
+pub refused-failures : (requests : List Request) (phase : Phase) (x : ClientFault) → AnswersBy {A = Unit {0}} (group_refusal phase 0 requests) (Err x) → (n : ℕ) → cond (is_line_fault x) (one_more n) n ≡ n
+refused-failures requests phase fault.Read e n = let no : is_asking_fault fault.Read ≡ true = by-group phase 0 requests fault.Read e in absurd cc
+refused-failures requests phase fault.Write e n = let no : is_asking_fault fault.Write ≡ true = by-group phase 0 requests fault.Write e in absurd cc
+refused-failures requests phase fault.Ended e n = refl
+refused-failures requests phase (fault.Peer code) e n = refl
+refused-failures requests phase (fault.Refused code) e n = refl
+refused-failures requests phase fault.UnknownResponse e n = refl
+refused-failures requests phase (fault.Service code) e n = refl
+refused-failures requests phase fault.TooLarge e n = refl
+refused-failures requests phase fault.NotWritable e n = refl
+refused-failures requests phase fault.Exhausted e n = refl
+refused-failures requests phase fault.Closed e n = refl
+refused-failures requests phase fault.OutOfMemory e n = refl
+refused-failures requests phase fault.TooLong e n = refl
+
+-- no memory to ask
+pub group-unasked : {A : Type 0} (requests : List Request) (old new : Connection) (t : Option Traffic) (reads : ℕ) (replies : List Reply) (f : ClientFault)
+    → untaken_of new ≡ untaken_of old → SameClient (channel_of old) (channel_of new) → f ≡ fault.OutOfMemory → CallsGroup {A = A} requests old new t t reads reads (Err f) replies replies
+group-unasked {A} requests old new t reads replies f piece same e = subst (λ (x : ClientFault). CallsGroup {A = A} requests old new t t reads reads (Err x) replies replies) (sym e) (record {
+  sent = [];
+  moves = moves-nothing old new t piece;
+  same = same;
+  answers = λ s at. record { more = sent_at s requests; parts = refl };
+  stops = tt;
+})
+
+-- these requests were asked: the channel then, the request id of the first, and what is to be sent
+pub record IsAsked (requests : List Request) (old mid : Connection) (first : ℕ) (out : List ℕ) : Type 0 where
+  pub bodies : List (List ℕ)
+  pub bodies_are : bodies ≡ bodies_of requests
+  pub piece : untaken_of mid ≡ untaken_of old
+  pub same : SameClient (channel_of old) (channel_of mid)
+  pub some : 0 < length requests
+  pub asks : (xs : List Placed) (os : List ℕ) (fs : List Frame) (r : List ℕ) → Stands (channel_of old) xs os fs r → AsksFrom bodies (channel_of old) (channel_of mid) xs os fs r (first, out)
+
+module _ (requests : List Request) (old mid : Connection) (first : ℕ) (out : List ℕ) (q : IsAsked requests old mid first out) where
+  module _ (s : Site) (at : At (channel_of old) s) where
+    asked : AsksFrom (bodies_of requests) (channel_of old) (channel_of mid) s.asks s.octets at.goes.frames at.goes.rest (first, out)
+    asked = subst (λ (bs : List (List ℕ)). AsksFrom bs (channel_of old) (channel_of mid) s.asks s.octets at.goes.frames at.goes.rest (first, out)) q.bodies_are
+        (q.asks s.asks s.octets at.goes.frames at.goes.rest at.goes.stands)
+
+    goes-asked : Goes (channel_of mid) (asked_at s requests) s.octets s.told
+    goes-asked = record { frames = at.goes.frames; rest = at.goes.rest; stands = asked.1.stands; told_is = at.goes.told_is }
+
+    sent-asked : out ≡ sent_at s requests
+    sent-asked =
+        asked.1.out_is
+        ∙ (ap (λ (b : Received). calls_octets (lane_behind b) (next_of (channel_of old)) (id_at s) (bodies_of requests)) at.before_is
+        ∙ ap (λ (n : ℕ). calls_octets (lane_behind s.before) n (id_at s) (bodies_of requests)) at.number_is)
+
+    next-asked : next_of (channel_of mid) ≡ numbers_behind (lane_behind s.before) s.number (bodies_of requests)
+    next-asked =
+        asked.1.next_is
+        ∙ (ap (λ (b : Received). numbers_behind (lane_behind b) (next_of (channel_of old)) (bodies_of requests)) at.before_is
+        ∙ ap (λ (n : ℕ). numbers_behind (lane_behind s.before) n (bodies_of requests)) at.number_is)
+
+    length-bodies : length (bodies_of requests) ≡ length requests
+    length-bodies = counted requests
+      where
+        counted : (ms : List Request) → length (bodies_of ms) ≡ length ms
+        counted [] = refl
+        counted (m ∷ ms) = ap suc (counted ms)
+
+    first-asked : first ≡ id_at s
+    first-asked = let n = length-bodies in asked.0 (let some = q.some in omega (arith, n, some))
+
+    untold-asked : ToldBehind → AreUntold requests first s.told
+    untold-asked law = subst (λ (n : ℕ). AreUntold requests n s.told) (sym first-asked) (untold-from requests (id_at s) s.told (λ n. law (channel_of old) s.asks s.octets s.told n at.goes))
+
+  -- a write that failed
+  pub group-unwritten : {A : Type 0} (before after : Option Traffic) (reads : ℕ) (replies : List Reply) → WhereTold (WritesFront out) before after
+      → CallsGroup {A = A} requests old mid before after reads reads (Err fault.Write) replies replies
+  group-unwritten before after reads replies h =
+      let front = sends-front out before after h in
+      record {
+        sent = front.0;
+        moves = record { got = []; taken = []; parts = append-nil (untaken_of old) ∙ sym q.piece; carried = front.2 };
+        same = q.same;
+        answers = λ s at. (record { more = front.1.more; parts = sym (sent-asked s at) ∙ front.1.parts }, refl);
+        stops = tt;
+      }
+
+  module _ (law : ToldBehind) (new : Connection) (before written after : Option Traffic) (reads left : ℕ) (w : WhereTold (Carries [] out) before written) where
+    abbrev written-moves : Moves mid new [] written after → Moves old new out before after
+    written-moves m = record {
+      got = m.got;
+      taken = m.taken;
+      parts = ap (λ (u : List ℕ). u ++ m.got) (sym q.piece) ∙ m.parts;
+      carried = carried-as m.got (out ++ []) m.got out before after refl (append-nil out) (carried-then [] out m.got [] before written after w m.carried);
+    }
+
+    same-then : SameClient (channel_of mid) (channel_of new) → SameClient (channel_of old) (channel_of new)
+    same-then k = record { limits = q.same.limits ∙ k.limits; url = q.same.url ∙ k.url }
+
+    module _ {B : Type 0} (view : B → List (Option Reply)) where
+      collected : (result : Result B ClientFault) (c : Collects view requests first mid new written after reads left result) (s : Site) (at : At (channel_of old) s)
+          → CollectsAt view requests (id_at s) new after result (asked_at s requests) (s.octets ++ c.moves.taken) s.told
+      collected result c s at =
+          subst (λ (n : ℕ). CollectsAt view requests n new after result (asked_at s requests) (s.octets ++ c.moves.taken) s.told) (first-asked s at)
+          (c.answers (asked_at s requests) s.octets s.told (goes-asked s at) (untold-asked s at law))
+
+      -- a reply that does not come, or is none
+      pub group-broken : {A : Type 0} (f : ClientFault) (replies : List Reply) → Collects view requests first mid new written after reads left (Err f)
+          → CallsGroup {A = A} requests old new before after reads left (Err f) replies replies
+      group-broken {A} f replies c = record {
+        sent = out;
+        moves = written-moves c.moves;
+        same = same-then c.keeps.same;
+        answers = λ s at. breaks f s at (collected (Err f) c s at);
+        stops = stops f c.stops;
+      }
+        where
+          breaks : (y : ClientFault) (s : Site) (at : At (channel_of old) s) → CollectsAt view requests (id_at s) new after (Err y) (asked_at s requests) (s.octets ++ c.moves.taken) s.told → BreaksAt requests s new out c.moves.taken y
+          breaks (fault.Peer code) s at h = (sent-asked s at, h)
+          breaks (fault.Refused code) s at h = (sent-asked s at, h)
+          breaks fault.Ended s at h = (sent-asked s at, h)
+          breaks fault.Read s at h = (sent-asked s at, h)
+          breaks fault.TooLong s at h = (sent-asked s at, h)
+          breaks fault.UnknownResponse s at h = (sent-asked s at, h)
+          breaks fault.OutOfMemory s at h = record { more = []; parts = sym (sent-asked s at) ∙ sym (append-nil out) }
+          breaks fault.Write s at h = absurd h
+          breaks fault.TooLarge s at h = absurd h
+          breaks fault.NotWritable s at h = absurd h
+          breaks fault.Exhausted s at h = absurd h
+          breaks fault.Closed s at h = absurd h
+          breaks (fault.Service code) s at h = absurd h
+
+          stops : (y : ClientFault) → StopsAt {A = B} reads left c.moves.got new after (Err y) → StopsAt {A = A} reads left c.moves.got new after (Err y)
+          stops (fault.Peer code) h = h
+          stops (fault.Refused code) h = h
+          stops fault.Ended h = h
+          stops fault.Read h = h
+          stops fault.TooLong h = h
+          stops fault.UnknownResponse h = h
+          stops fault.OutOfMemory h = h
+          stops fault.Write h = h
+          stops fault.TooLarge h = h
+          stops fault.NotWritable h = h
+          stops fault.Exhausted h = h
+          stops fault.Closed h = h
+          stops (fault.Service code) h = h
+
+      -- no memory for the replies
+      pub group-unkept : {A : Type 0} (found : B) (had have : List Reply) → Collects view requests first mid new written after reads left (Ok found)
+          → CallsGroup {A = A} requests old new before after reads left (Err fault.OutOfMemory) had have
+      group-unkept found had have c = record {
+        sent = out;
+        moves = written-moves c.moves;
+        same = same-then c.keeps.same;
+        answers = λ s at. record { more = []; parts = sym (sent-asked s at) ∙ sym (append-nil out) };
+        stops = tt;
+      }
+
+      -- all replies came
+      pub group-answered : {A : Type 0} (done : A) (found : B) (had have : List Reply) → Collects view requests first mid new written after reads left (Ok found) → have ≡ had ++ somes (view found)
+          → CallsGroup {A = A} requests old new before after reads left (Ok done) had have
+      group-answered done found had have c kept = record {
+        sent = out;
+        moves = written-moves c.moves;
+        same = same-then c.keeps.same;
+        answers = λ s at.
+            let h = collected (Ok found) c s at in (
+              sent-asked s at,
+              (
+                record { asks = asked_at s requests; octets = s.octets ++ c.moves.taken; before = received h.1.frames; told = s.told ++ h.0; number = next_of (channel_of new) },
+                somes (view found),
+                record { goes = h.1; before_is = refl; number_is = refl },
+                record {
+                  asks = refl;
+                  octets = refl;
+                  heard = h.0;
+                  told = refl;
+                  number = c.keeps.next ∙ next-asked s at;
+                  replies_are = all-answered requests (id_at s) (s.told ++ h.0) (view found) h.2.0 h.2.1;
+                },
+                kept,
+              ),
+            );
+        stops = c.stops;
+      }
+
+      -- the replies that came are kept, or there is no memory for them
+      pub group-kept : (result : Result (Unit {0}) ClientFault) (found : B) (had have : List Reply) → Collects view requests first mid new written after reads left (Ok found)
+          → OnOk result (have ≡ had ++ somes (view found)) → OnErr result (result ≡ Err fault.OutOfMemory) → CallsGroup requests old new before after reads left result had have
+      group-kept (Ok done) found had have c kept none = group-answered done found had have c kept
+      group-kept (Err f) found had have c kept none =
+          subst (λ (r : Result (Unit {0}) ClientFault). CallsGroup requests old new before after reads left r had have) (sym none) (group-unkept found had have c)
+
+-- no memory for the slots of the replies
+pub group-unslotted : {A : Type 0} (requests : List Request) (old mid : Connection) (first : ℕ) (out : List ℕ) → IsAsked requests old mid first out → ToldBehind → (before after : Option Traffic) (reads : ℕ)
+    → WhereTold (Carries [] out) before after → (f : ClientFault) (replies : List Reply) → f ≡ fault.OutOfMemory → CallsGroup {A = A} requests old mid before after reads reads (Err f) replies replies
+group-unslotted {A} requests old mid first out q law before after reads w f replies e =
+    subst (λ (x : ClientFault). CallsGroup {A = A} requests old mid before after reads reads (Err x) replies replies) (sym e)
+    (group-broken requests old mid first out q law mid before after after reads reads w (λ (done : Unit {0}). none_for requests) fault.OutOfMemory replies (collects-none (λ (done : Unit {0}). none_for requests) requests first mid after reads))
+
+-- so many replies more
+pub kept-count : (result : Result (Unit {0}) ClientFault) (had have : List Reply) (slots : List (Option Reply)) (n : ℕ) → OnOk result (have ≡ had ++ somes slots) → list_any is_none slots ≡ false → length slots ≡ n
+    → OnOk result (length have ≡ length had + n)
+kept-count (Ok done) had have slots n kept none count = ap length kept ∙ (length-append had (somes slots) ∙ ap (λ (k : ℕ). length had + k) (all-there slots none ∙ count))
+kept-count (Err f) had have slots n kept none count = tt
+
+-- no memory is no fault of the line
+pub kept-failures : (result : Result (Unit {0}) ClientFault) → OnErr result (result ≡ Err fault.OutOfMemory) → (n : ℕ) → failures_behind n result ≡ n
+kept-failures (Ok done) h n = refl
+kept-failures (Err f) h n = ap (λ (r : Result (Unit {0}) ClientFault). failures_behind n r) h
+
+pub memory-failures : (x : ClientFault) → x ≡ fault.OutOfMemory → (n : ℕ) → cond (is_line_fault x) (one_more n) n ≡ n
+memory-failures x e n = ap (λ (y : ClientFault). cond (is_line_fault y) (one_more n) n) e

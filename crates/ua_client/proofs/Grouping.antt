@@ -1,0 +1,175 @@
+-- Groups of calls, one behind another.
+use Rattle.std.specs.Prelude.{◌≡◌, ℕ, ◌+◌, ◌-◌, ◌≤◌, ◌<◌, Bool, true, false, List, [], ◌∷◌, ◌++◌, length, take, drop, min, Option, Some, None, Result, Ok, Err}
+use Rattle.std.proofs.Common.{refl, sym, ◌∙◌, ap, subst, append_assoc, append-nil, arith, zero, suc}
+use Rattle.std.proofs.Math.Seq.{take-add, take-length}
+use Rattle.std.proofs.lemmas.List.{length-append, length-drop, take-append-drop}
+use Rattle.std.specs.List.{AllByRecursion}
+use Rattle.ua_services.specs.declared.request.Request.{Request}
+use Rattle.ua_channel.specs.Client.{SameClient}
+use Rattle.ua_channel.specs.Line.{Traffic}
+use Rattle.ua_client.specs.Site.{Site, At}
+use Rattle.ua_client.specs.Calls.{sent_at, Answered, BreaksAt, GroupAt, CallsGroup, Rounds, all_of, AreGroups, AnsweredAll, BrokenAll, AllAt, CallsAll}
+use Rattle.ua_client.specs.Calls.Rounds.{NoRound, OneRound}
+use Rattle.ua_client.specs.Hearing.{channel_of, untaken_of, most_reads, Moves, StopsAt}
+use Rattle.ua_client.specs.declared.connection.Connection.{Connection}
+use Rattle.ua_client.specs.declared.fault.ClientFault.{ClientFault}
+use Rattle.ua_client.specs.declared.fault.ClientFault.TheVariants as fault
+use Rattle.ua_client.specs.declared.reply.Reply.{Reply}
+use Rattle.ua_client.proofs.Hearings.{moves-behind}
+use Rattle.ua_client.proofs.GroupCalls.{moves-nothing}
+
+-- ---- lists of groups
+
+concat-push : (groups : List (List Request)) (group : List Request) → all_of (groups ++ group ∷ []) ≡ all_of groups ++ group
+concat-push [] group = append-nil group
+concat-push (g ∷ groups) group = ap (λ (ms : List Request). g ++ ms) (concat-push groups group) ∙ sym (append_assoc g (all_of groups) group)
+
+groups-push : (groups : List (List Request)) (group : List Request) → AreGroups groups → 0 < length group → length group ≤ 64 → AreGroups (groups ++ group ∷ [])
+groups-push [] group h some few = ((some, few), tt)
+groups-push (g ∷ groups) group h some few = (h.0, groups-push groups group h.1 some few)
+
+-- the requests from one place up to another
+abbrev pub between : List Request → ℕ → ℕ → List Request
+between requests start end = take (end - start) (drop start requests)
+
+up-to : (requests : List Request) (start end : ℕ) → start ≤ end → take start requests ++ between requests start end ≡ take end requests
+up-to requests start end h = sym (take-add start (end - start) requests) ∙ ap (λ (n : ℕ). take n requests) (whole start end h)
+  where
+    whole : (a b : ℕ) → a ≤ b → a + (b - a) ≡ b
+    whole a b k = omega (arith, k)
+
+pub length-between : (requests : List Request) (start end : ℕ) → start ≤ end → end ≤ length requests → length (between requests start end) ≡ end - start
+length-between requests start end h k = taken (drop start requests) (end - start) (fits (length (drop start requests)) (length-drop start requests))
+  where
+    fits : (l : ℕ) → l ≡ length requests - start → end - start ≤ l
+    fits l e = omega (arith, e, h, k)
+
+    taken : (ms : List Request) (n : ℕ) → n ≤ length ms → length (take n ms) ≡ n
+    taken [] zero few = refl
+    taken [] (suc n) few = absurd (omega (arith, few))
+    taken (m ∷ ms) zero few = refl
+    taken (m ∷ ms) (suc n) few = ap suc (taken ms n (omega (arith, few)))
+
+-- ---- one group more
+
+-- these requests are answered
+pub record Called (requests : List Request) (old now : Connection) (before at : Option Traffic) (left : ℕ) (replies : List Reply) : Type 0 where
+  pub sent : List ℕ
+  pub moves : Moves old now sent before at
+  pub same : SameClient (channel_of old) (channel_of now)
+  pub answers : (s : Site) → At (channel_of old) s → AnsweredAll requests s (channel_of now) sent moves.taken replies
+  pub spent : most_reads ≤ left + length moves.got
+
+pub called-nothing : (x : Connection) (t : Option Traffic) → Called [] x x t t most_reads []
+called-nothing x t = record {
+  sent = [];
+  moves = moves-nothing x x t refl;
+  same = record { limits = refl; url = refl };
+  answers = λ s at. record { groups = []; parts = refl; sized = tt; behind = s; at = at; rounds = NoRound };
+  spent = omega arith;
+}
+
+module _ (requests group : List Request) (old now new : Connection) (before at then : Option Traffic) (left less : ℕ) (replies next : List Reply)
+    (some : 0 < length group) (few : length group ≤ 64) (c : Called requests old now before at left replies) where
+  same-then : SameClient (channel_of now) (channel_of new) → SameClient (channel_of old) (channel_of new)
+  same-then k = record { limits = c.same.limits ∙ k.limits; url = c.same.url ∙ k.url }
+
+  spent-then : (got : List ℕ) → left ≤ less + length got → most_reads ≤ less + length (c.moves.got ++ got)
+  spent-then got h = let l = length-append c.moves.got got in let s = c.spent in omega (arith, l, s, h)
+
+  pub called-more : {A : Type 0} (done : A) → CallsGroup {A = A} group now new at then left less (Ok done) replies next → Called (requests ++ group) old new before then less next
+  called-more done g = record {
+    sent = c.sent ++ g.sent;
+    moves = moves-behind old now new c.sent g.sent before at then c.moves g.moves;
+    same = same-then g.same;
+    answers = λ s h.
+        let a = c.answers s h in
+        let b = g.answers a.behind a.at in
+        record {
+          groups = a.groups ++ group ∷ [];
+          parts = ap (λ (ms : List Request). ms ++ group) a.parts ∙ sym (concat-push a.groups group);
+          sized = groups-push a.groups group a.sized some few;
+          behind = b.1.0;
+          at = b.1.2;
+          rounds = subst (λ (rs : List Reply). Rounds s (a.groups ++ group ∷ []) b.1.0 (c.sent ++ g.sent) (c.moves.taken ++ g.moves.taken) rs) (sym b.1.4)
+              (subst (λ (o : List ℕ). Rounds s (a.groups ++ group ∷ []) b.1.0 (c.sent ++ o) (c.moves.taken ++ g.moves.taken) (replies ++ b.1.1)) (sym b.0)
+              (OneRound group a.rounds b.1.3));
+        };
+    spent = spent-then g.moves.got g.stops;
+  }
+
+  pub calls-broken : {A B : Type 0} (view : B → List Reply) (all behind : List Request) (f : ClientFault) → all ≡ requests ++ (group ++ behind) → CallsGroup {A = A} group now new at then left less (Err f) replies next
+      → CallsAll view all old new before then (Err f)
+  calls-broken {A} {B} view all behind f parts g = record {
+    sent = c.sent ++ g.sent;
+    moves = moves-behind old now new c.sent g.sent before at then c.moves g.moves;
+    same = same-then g.same;
+    answers = λ s h.
+        let a = c.answers s h in
+        record {
+          groups = a.groups;
+          group = group;
+          others = behind;
+          parts = parts ∙ ap (λ (ms : List Request). ms ++ (group ++ behind)) a.parts;
+          sized = groups-push a.groups group a.sized some few;
+          behind = a.behind;
+          sent_before = c.sent;
+          sent_then = g.sent;
+          sent_parts = refl;
+          taken_before = c.moves.taken;
+          taken_then = g.moves.taken;
+          taken_parts = refl;
+          replies = replies;
+          rounds = a.rounds;
+          breaks = g.answers a.behind a.at;
+        };
+    stops = stops f g.stops;
+  }
+    where
+      stops : (y : ClientFault) → StopsAt {A = A} left less g.moves.got new then (Err y) → StopsAt {A = B} most_reads most_reads (c.moves.got ++ g.moves.got) new then (Err y)
+      stops fault.TooLong h = let l = length-append c.moves.got g.moves.got in let s = c.spent in omega (arith, l, s, h)
+      stops fault.Ended h = h
+      stops (fault.Peer code) h = tt
+      stops (fault.Refused code) h = tt
+      stops fault.Read h = tt
+      stops fault.UnknownResponse h = tt
+      stops fault.OutOfMemory h = tt
+      stops fault.Write h = tt
+      stops fault.TooLarge h = tt
+      stops fault.NotWritable h = tt
+      stops fault.Exhausted h = tt
+      stops fault.Closed h = tt
+      stops (fault.Service code) h = tt
+
+pub calls-all : {A : Type 0} (view : A → List Reply) (requests done : List Request) (old now : Connection) (before at : Option Traffic) (left : ℕ) (found : A)
+    → Called done old now before at left (view found) → done ≡ requests → CallsAll view requests old now before at (Ok found)
+calls-all view requests done old now before at left found c e = record {
+  sent = c.sent;
+  moves = c.moves;
+  same = c.same;
+  answers = λ s h. subst (λ (ms : List Request). AnsweredAll ms s (channel_of now) c.sent c.moves.taken (view found)) e (c.answers s h);
+  stops = omega arith;
+}
+
+pub all-taken : (requests : List Request) (n : ℕ) → length requests ≤ n → take n requests ≡ requests
+all-taken [] zero few = refl
+all-taken [] (suc n) few = refl
+all-taken (r ∷ rs) zero few = absurd (omega (arith, few))
+all-taken (r ∷ rs) (suc n) few = ap (λ (ms : List Request). r ∷ ms) (all-taken rs n (omega (arith, few)))
+
+-- ---- places
+
+pub called-to : (requests : List Request) (start end : ℕ) (old now : Connection) (before at : Option Traffic) (left : ℕ) (replies : List Reply) → start ≤ end
+    → Called (take start requests ++ between requests start end) old now before at left replies → Called (take end requests) old now before at left replies
+called-to requests start end old now before at left replies h c = subst (λ (ms : List Request). Called ms old now before at left replies) (up-to requests start end h) c
+
+pub split-at : (requests : List Request) (start end : ℕ) → start ≤ end → requests ≡ take start requests ++ (between requests start end ++ drop end requests)
+split-at requests start end h =
+    sym (sym (append_assoc (take start requests) (between requests start end) (drop end requests))
+    ∙ (ap (λ (ms : List Request). ms ++ drop end requests) (up-to requests start end h) ∙ take-append-drop end requests))
+
+pub group-some : (requests : List Request) (start end : ℕ) → start < end → end ≤ length requests → 0 < length (between requests start end)
+group-some requests start end h k = let l = length-between requests start end (omega (arith, h)) k in omega (arith, l, h)
+
+pub group-few : (requests : List Request) (start end : ℕ) → start ≤ end → end ≤ length requests → end ≤ start + 64 → length (between requests start end) ≤ 64
+group-few requests start end h k most = let l = length-between requests start end h k in omega (arith, l, most)

@@ -1,0 +1,258 @@
+-- How the replies of a group of calls come in.
+use Rattle.std.specs.Prelude.{◌≡◌, ℕ, ◌+◌, ◌≤◌, ◌<◌, ◌⊎◌, Bool, true, false, cond, ◌||◌, is_none, List, [], ◌∷◌, ◌++◌, length, map, take, Option, Some, None, Result, Ok, Err}
+use Rattle.std.proofs.Common.{refl, sym, ◌∙◌, ap, subst, inl, inr, append_assoc, append-nil, arith, zero, suc}
+use Rattle.std.proofs.lemmas.List.{length-append}
+use Rattle.std.specs.List.{list_any}
+use Rattle.ua_builtin.specs.declared.date_time.DateTime.{DateTime}
+use Rattle.ua_channel.specs.Asks.{Placed}
+use Rattle.ua_channel.specs.Client.{Goes, GoesTelling, Ended}
+use Rattle.ua_channel.specs.ClientTold.{Told}
+use Rattle.ua_channel.specs.Line.{Traffic, one_more}
+use Rattle.ua_channel.specs.declared.client.channel.ClientChannel.{ClientChannel}
+use Rattle.ua_channel.specs.declared.client.event.ClientEvent.{ClientEvent}
+use Rattle.ua_services.specs.declared.request.Request.{Request}
+use Rattle.ua_client.specs.Calls.{AreUntold, Collects, CollectsAt, GoesOn, none_for, somes}
+use Rattle.ua_client.specs.Hearing.{channel_of, untaken_of, Keeps, Moves, Says, TellsEvent, Hears, HearsAt, StopsAt, is_line_fault}
+use Rattle.ua_client.specs.Replies.{AreReplies, AreSlots, IsSlot, IsUnanswered, IsMisanswered, FillsSlots, is_reading_fault}
+use Rattle.ua_client.specs.Told.{told_of, IsFirstOf}
+use Rattle.ua_client.specs.declared.connection.Connection.{Connection}
+use Rattle.ua_client.specs.declared.fault.ClientFault.{ClientFault}
+use Rattle.ua_client.specs.declared.fault.ClientFault.TheVariants as fault
+use Rattle.ua_client.specs.declared.reply.Reply.{Reply}
+use Rattle.ua_client.proofs.Carrying.{carried-nothing}
+use Rattle.ua_client.proofs.Hearings.{keeps-all, keeps-then, moves-behind, GoesOnBehind}
+
+-- ---- slots
+
+untold-slots : (requests : List Request) (first : ℕ) (told : List Told) → AreUntold requests first told → AreSlots requests first told (none_for requests)
+untold-slots [] first told h = tt
+untold-slots (r ∷ rs) first told h = (h.0, untold-slots rs (first + 1) told h.1)
+
+pub unanswered : (requests : List Request) (first : ℕ) (told : List Told) (slots : List (Option Reply)) → AreSlots requests first told slots → list_any is_none slots ≡ true → IsUnanswered requests first told
+unanswered [] first told [] h e = absurd cc
+unanswered [] first told (slot ∷ slots) h e = absurd h
+unanswered (r ∷ rs) first told [] h e = absurd h
+unanswered (r ∷ rs) first told (None ∷ slots) h e = inl h.0
+unanswered (r ∷ rs) first told (Some reply ∷ slots) h e = inr (unanswered rs (first + 1) told slots h.1 e)
+
+pub all-answered : (requests : List Request) (first : ℕ) (told : List Told) (slots : List (Option Reply)) → AreSlots requests first told slots → list_any is_none slots ≡ false → AreReplies requests first told (somes slots)
+all-answered [] first told [] h e = tt
+all-answered [] first told (slot ∷ slots) h e = absurd h
+all-answered (r ∷ rs) first told [] h e = absurd h
+all-answered (r ∷ rs) first told (None ∷ slots) h e = absurd cc
+all-answered (r ∷ rs) first told (Some reply ∷ slots) h e = (h.0, all-answered rs (first + 1) told slots h.1 e)
+
+pub all-there : (slots : List (Option Reply)) → list_any is_none slots ≡ false → length (somes slots) ≡ length slots
+all-there [] e = refl
+all-there (None ∷ slots) e = absurd cc
+all-there (Some reply ∷ slots) e = ap suc (all-there slots e)
+
+-- one slot more
+pub none-more : (requests : List Request) (n : ℕ) → n < length requests → none_for (take n requests) ++ None ∷ [] ≡ none_for (take (n + 1) requests)
+none-more [] n few = absurd (omega (arith, few))
+none-more (r ∷ rs) zero few = refl
+none-more (r ∷ rs) (suc n) few = ap (λ (slots : List (Option Reply)). None ∷ slots) (none-more rs n (omega (arith, few))) ∙ ap (λ (k : ℕ). none_for (take k (r ∷ rs))) (on n)
+  where
+    on : (a : ℕ) → suc (a + 1) ≡ suc a + 1
+    on a = omega arith
+
+pub slot-more : (requests : List Request) (slots : List (Option Reply)) → slots ≡ none_for (take (length slots) requests) → length slots < length requests → slots ++ None ∷ [] ≡ none_for (take (length (slots ++ None ∷ [])) requests)
+slot-more requests slots e few =
+    ap (λ (ss : List (Option Reply)). ss ++ None ∷ []) e
+    ∙ (none-more requests (length slots) few
+    ∙ ap (λ (k : ℕ). none_for (take k requests)) (sym (length-append slots (None ∷ []))))
+
+-- a fault of reading an answer is none of the line
+pub reading-failures : (x : ClientFault) → is_reading_fault x ≡ true → (n : ℕ) → cond (is_line_fault x) (one_more n) n ≡ n
+reading-failures fault.UnknownResponse h n = refl
+reading-failures fault.OutOfMemory h n = refl
+reading-failures fault.Read h n = absurd cc
+reading-failures fault.Write h n = absurd cc
+reading-failures fault.Ended h n = refl
+reading-failures (fault.Peer code) h n = refl
+reading-failures (fault.Refused code) h n = refl
+reading-failures (fault.Service code) h n = refl
+reading-failures fault.TooLarge h n = refl
+reading-failures fault.NotWritable h n = refl
+reading-failures fault.Exhausted h n = refl
+reading-failures fault.Closed h n = refl
+reading-failures fault.TooLong h n = refl
+
+-- ---- one event more
+
+-- so far these replies came
+pub record Waiting (requests : List Request) (first : ℕ) (old now : Connection) (before at : Option Traffic) (reads left : ℕ) (slots : List (Option Reply)) : Type 0 where
+  pub moves : Moves old now [] before at
+  pub keeps : Keeps old now
+  pub goes : (asks : List Placed) (octets : List ℕ) (told : List Told) → Goes (channel_of old) asks octets told → AreUntold requests first told
+      → GoesOn (channel_of now) asks (octets ++ moves.taken) told (λ all. AreSlots requests first all slots)
+  pub spent : reads ≤ left + length moves.got
+  pub count : length slots ≡ length requests
+
+length-none : (requests : List Request) → length (none_for requests) ≡ length requests
+length-none [] = refl
+length-none (r ∷ rs) = ap suc (length-none rs)
+
+pub waits-first : (requests : List Request) (first : ℕ) (x : Connection) (t : Option Traffic) (reads : ℕ) (slots : List (Option Reply)) → slots ≡ none_for requests → Waiting requests first x x t t reads reads slots
+waits-first requests first x t reads slots e = record {
+  moves = record { got = []; taken = []; parts = append-nil (untaken_of x); carried = carried-nothing t };
+  keeps = keeps-all x;
+  goes = λ asks octets told g none. (
+    [],
+    subst (λ (o : List ℕ). Goes (channel_of x) asks o (told ++ [])) (sym (append-nil octets)) (subst (λ (h : List Told). Goes (channel_of x) asks octets h) (sym (append-nil told)) g),
+    subst (λ (h : List Told). AreSlots requests first h slots) (sym (append-nil told)) (subst (λ (ss : List (Option Reply)). AreSlots requests first told ss) (sym e) (untold-slots requests first told none)),
+  );
+  spent = omega arith;
+  count = ap length e ∙ length-none requests;
+}
+
+abbrev pub ToldOnce : Type 0
+ToldOnce = (x : ClientChannel) (asks : List Placed) (octets : List ℕ) (told : List Told) (t : Told) → GoesTelling x asks octets told t → IsFirstOf told t
+
+module _ (requests : List Request) (first : ℕ) (old now new : Connection) (before at then : Option Traffic) (reads left less : ℕ) (slots : List (Option Reply)) (moment : DateTime)
+    (w : Waiting requests first old now before at reads left slots) where
+  spent-more : (more : List ℕ) → left ≤ less + length more → reads ≤ less + length (w.moves.got ++ more)
+  spent-more more h = let l = length-append w.moves.got more in let s = w.spent in omega (arith, l, s, h)
+
+  module _ (e : ClientEvent) (h : Hears now new moment at then left less (Ok e)) (goes_on : GoesOnBehind) (once : ToldOnce) where
+    -- the history behind an event
+    behind : (P : List Told → Type 0) (asks : List Placed) (octets : List ℕ) (told : List Told) → Goes (channel_of old) asks octets told → AreUntold requests first told
+        → ((all : List Told) (t : Told) → Says moment e t → IsFirstOf all t → AreSlots requests first all slots → P (all ++ t ∷ []))
+        → GoesOn (channel_of new) asks (octets ++ (w.moves.taken ++ h.moves.taken)) told P
+    behind P asks octets told g none filled =
+        let on = w.goes asks octets told g none in
+        let heard : List Told = on.0 in
+        let says = h.answers asks (octets ++ w.moves.taken) (told ++ heard) on.1 in
+        let t : Told = says.0 in
+        let whole : List ℕ = (octets ++ w.moves.taken) ++ h.moves.taken in
+        let further : Goes (channel_of new) asks whole ((told ++ heard) ++ t ∷ []) = goes_on (channel_of new) asks whole (told ++ heard) t says.2 in
+        let is : P ((told ++ heard) ++ t ∷ []) = filled (told ++ heard) t says.1 (once (channel_of new) asks whole (told ++ heard) t says.2) on.2 in (
+          heard ++ t ∷ [],
+          subst (λ (o : List ℕ). Goes (channel_of new) asks o (told ++ (heard ++ t ∷ []))) (append_assoc octets w.moves.taken h.moves.taken)
+              (subst (λ (all : List Told). Goes (channel_of new) asks whole all) (append_assoc told heard (t ∷ [])) further),
+          subst P (append_assoc told heard (t ∷ [])) is,
+        )
+
+    pub waits-more : (next : List (Option Reply)) → length next ≡ length slots
+        → ((m : DateTime) (all : List Told) (t : Told) → Says m e t → IsFirstOf all t → AreSlots requests first all slots → AreSlots requests first (all ++ t ∷ []) next)
+        → Waiting requests first old new before then reads less next
+    waits-more next same filled = record {
+      moves = moves-behind old now new [] [] before at then w.moves h.moves;
+      keeps = keeps-then old now new w.keeps h.keeps;
+      goes = λ asks octets told g none. behind (λ all. AreSlots requests first all next) asks octets told g none (filled moment);
+      spent = spent-more h.moves.got h.stops;
+      count = same ∙ w.count;
+    }
+
+    misread-by : {A : Type 0} (view : A → List (Option Reply)) (x : ClientFault) (next : List (Option Reply))
+        → ((m : DateTime) (all : List Told) (t : Told) → Says m e t → IsFirstOf all t → AreSlots requests first all slots → FillsSlots requests first (all ++ t ∷ []) next (Err x))
+        → (asks : List Placed) (octets : List ℕ) (told : List Told) → Goes (channel_of old) asks octets told → AreUntold requests first told
+        → CollectsAt view requests first new then (Err x) asks (octets ++ (w.moves.taken ++ h.moves.taken)) told
+    misread-by view fault.UnknownResponse next filled asks octets told g none = behind (IsMisanswered requests first) asks octets told g none (filled moment)
+    misread-by view fault.OutOfMemory next filled asks octets told g none = tt
+    misread-by view fault.Read next filled asks octets told g none = absurd (behind (λ all. ⊥) asks octets told g none (filled moment)).2
+    misread-by view fault.Write next filled asks octets told g none = absurd (behind (λ all. ⊥) asks octets told g none (filled moment)).2
+    misread-by view fault.Ended next filled asks octets told g none = absurd (behind (λ all. ⊥) asks octets told g none (filled moment)).2
+    misread-by view (fault.Peer code) next filled asks octets told g none = absurd (behind (λ all. ⊥) asks octets told g none (filled moment)).2
+    misread-by view (fault.Refused code) next filled asks octets told g none = absurd (behind (λ all. ⊥) asks octets told g none (filled moment)).2
+    misread-by view (fault.Service code) next filled asks octets told g none = absurd (behind (λ all. ⊥) asks octets told g none (filled moment)).2
+    misread-by view fault.TooLarge next filled asks octets told g none = absurd (behind (λ all. ⊥) asks octets told g none (filled moment)).2
+    misread-by view fault.NotWritable next filled asks octets told g none = absurd (behind (λ all. ⊥) asks octets told g none (filled moment)).2
+    misread-by view fault.Exhausted next filled asks octets told g none = absurd (behind (λ all. ⊥) asks octets told g none (filled moment)).2
+    misread-by view fault.Closed next filled asks octets told g none = absurd (behind (λ all. ⊥) asks octets told g none (filled moment)).2
+    misread-by view fault.TooLong next filled asks octets told g none = absurd (behind (λ all. ⊥) asks octets told g none (filled moment)).2
+
+  -- a fault of the line or of the channel while replies are missing
+  heard-fault : {A : Type 0} (view : A → List (Option Reply)) (x : ClientFault) (h : Hears now new moment at then left less (Err x)) → list_any is_none slots ≡ true
+      → (asks : List Placed) (octets : List ℕ) (told : List Told) → Goes (channel_of old) asks octets told → AreUntold requests first told
+      → CollectsAt view requests first new then (Err x) asks (octets ++ (w.moves.taken ++ h.moves.taken)) told
+  heard-fault view x h missing asks octets told g none = by x (subst (λ (o : List ℕ). HearsAt moment (Err x) (channel_of new) asks o (told ++ on.0)) (append_assoc octets w.moves.taken h.moves.taken) (h.answers asks (octets ++ w.moves.taken) (told ++ on.0) on.1))
+    where
+      on : GoesOn (channel_of now) asks (octets ++ w.moves.taken) told (λ all. AreSlots requests first all slots)
+      on = w.goes asks octets told g none
+
+      some : IsUnanswered requests first (told ++ on.0)
+      some = unanswered requests first (told ++ on.0) slots on.2 missing
+
+      by : (y : ClientFault) → HearsAt moment (Err y) (channel_of new) asks (octets ++ (w.moves.taken ++ h.moves.taken)) (told ++ on.0) → CollectsAt view requests first new then (Err y) asks (octets ++ (w.moves.taken ++ h.moves.taken)) told
+      by (fault.Peer code) k = (on.0, k)
+      by (fault.Refused code) k = (on.0, k)
+      by fault.Ended k = (on.0, k, some)
+      by fault.Read k = (on.0, k, some)
+      by fault.TooLong k = (on.0, k, some)
+      by fault.OutOfMemory k = tt
+      by fault.UnknownResponse k = absurd k
+      by fault.Write k = absurd k
+      by (fault.Service code) k = absurd k
+      by fault.TooLarge k = absurd k
+      by fault.NotWritable k = absurd k
+      by fault.Exhausted k = absurd k
+      by fault.Closed k = absurd k
+
+  stops-behind : (A : Type 0) (x : ClientFault) (got : List ℕ) → StopsAt {A = ClientEvent} left less got new then (Err x) → StopsAt {A = A} reads less (w.moves.got ++ got) new then (Err x)
+  stops-behind A fault.TooLong got h = let l = length-append w.moves.got got in let s = w.spent in omega (arith, l, s, h)
+  stops-behind A fault.Ended got h = h
+  stops-behind A fault.Read got h = tt
+  stops-behind A fault.Write got h = tt
+  stops-behind A (fault.Peer code) got h = tt
+  stops-behind A (fault.Refused code) got h = tt
+  stops-behind A fault.UnknownResponse got h = tt
+  stops-behind A (fault.Service code) got h = tt
+  stops-behind A fault.TooLarge got h = tt
+  stops-behind A fault.NotWritable got h = tt
+  stops-behind A fault.Exhausted got h = tt
+  stops-behind A fault.Closed got h = tt
+  stops-behind A fault.OutOfMemory got h = tt
+
+  pub collects-heard : {A : Type 0} (view : A → List (Option Reply)) (x : ClientFault) → Hears now new moment at then left less (Err x) → list_any is_none slots ≡ true
+      → Collects view requests first old new before then reads less (Err x)
+  collects-heard {A} view x h missing = record {
+    moves = moves-behind old now new [] [] before at then w.moves h.moves;
+    keeps = keeps-then old now new w.keeps h.keeps;
+    answers = heard-fault view x h missing;
+    stops = stops-behind A x h.moves.got h.stops;
+  }
+
+  pub collects-misread : {A : Type 0} (view : A → List (Option Reply)) (e : ClientEvent) (x : ClientFault) (next : List (Option Reply)) → Hears now new moment at then left less (Ok e) → GoesOnBehind → ToldOnce
+      → ((m : DateTime) (all : List Told) (t : Told) → Says m e t → IsFirstOf all t → AreSlots requests first all slots → FillsSlots requests first (all ++ t ∷ []) next (Err x))
+      → is_reading_fault x ≡ true → Collects view requests first old new before then reads less (Err x)
+  collects-misread {A} view e x next h goes_on once filled few = record {
+    moves = moves-behind old now new [] [] before at then w.moves h.moves;
+    keeps = keeps-then old now new w.keeps h.keeps;
+    answers = misread-by e h goes_on once view x next filled;
+    stops = reading-stops A x (w.moves.got ++ h.moves.got) few;
+  }
+    where
+      reading-stops : (B : Type 0) (y : ClientFault) (got : List ℕ) → is_reading_fault y ≡ true → StopsAt {A = B} reads less got new then (Err y)
+      reading-stops B fault.UnknownResponse got f = tt
+      reading-stops B fault.OutOfMemory got f = tt
+      reading-stops B fault.TooLong got f = absurd cc
+      reading-stops B fault.Ended got f = absurd cc
+      reading-stops B fault.Read got f = tt
+      reading-stops B fault.Write got f = tt
+      reading-stops B (fault.Peer code) got f = tt
+      reading-stops B (fault.Refused code) got f = tt
+      reading-stops B (fault.Service code) got f = tt
+      reading-stops B fault.TooLarge got f = tt
+      reading-stops B fault.NotWritable got f = tt
+      reading-stops B fault.Exhausted got f = tt
+      reading-stops B fault.Closed got f = tt
+
+  pub collects-all : {A : Type 0} (view : A → List (Option Reply)) (found : A) → slots ≡ view found → list_any is_none slots ≡ false → Collects view requests first old now before at reads left (Ok found)
+  collects-all view found e none = record {
+    moves = w.moves;
+    keeps = w.keeps;
+    answers = λ asks octets told g n.
+        let on = w.goes asks octets told g n in
+        (on.0, on.1, (subst (λ (ss : List (Option Reply)). AreSlots requests first (told ++ on.0) ss) e on.2, subst (λ (ss : List (Option Reply)). list_any is_none ss ≡ false) e none));
+    stops = w.spent;
+  }
+
+-- no memory to wait for any reply
+pub collects-none : {A : Type 0} (view : A → List (Option Reply)) (requests : List Request) (first : ℕ) (x : Connection) (t : Option Traffic) (reads : ℕ) → Collects view requests first x x t t reads reads (Err fault.OutOfMemory)
+collects-none view requests first x t reads = record {
+  moves = record { got = []; taken = []; parts = append-nil (untaken_of x); carried = carried-nothing t };
+  keeps = keeps-all x;
+  answers = λ asks octets told g n. tt;
+  stops = tt;
+}

@@ -1,0 +1,170 @@
+-- What a client's calls come to: groups of at most 64, each judged whole, written and then answered.
+use Rattle.std.specs.Prelude.{◌≡◌, ◌+◌, ◌<◌, ◌≤◌, ◌++◌, ℕ, List, [], ◌∷◌, map, length, is_none, false, Option, Some, None, Result, Ok, Err}
+use Rattle.std.specs.List.{AllByRecursion, list_any}
+use Rattle.ua_octets.specs.Format.{Extends}
+use Rattle.ua_channel.specs.Asks.{Placed}
+use Rattle.ua_channel.specs.Client.{Goes, Ended, SameClient, phase_of}
+use Rattle.ua_channel.specs.ClientTold.{Told, ours, peers}
+use Rattle.ua_channel.specs.Line.{Traffic}
+use Rattle.ua_channel.specs.declared.client.channel.ClientChannel.{ClientChannel}
+use Rattle.ua_services.specs.declared.request.Request.{Request}
+use Rattle.ua_client.specs.Hearing.{channel_of, most_reads, Keeps, Moves, StopsAt}
+use Rattle.ua_client.specs.Site.{Site, At, id_at, lane_behind}
+use Rattle.ua_client.specs.Told.{told_of}
+use Rattle.ua_client.specs.Replies.{AreReplies, AreSlots, IsMisanswered, IsUnanswered}
+use Rattle.ua_client.specs.Sent.{calls_octets, numbers_behind, calls_at, bodies_of, group_refusal}
+use Rattle.ua_client.specs.declared.connection.Connection.{Connection}
+use Rattle.ua_client.specs.declared.fault.ClientFault.{ClientFault}
+use Rattle.ua_client.specs.declared.fault.ClientFault.TheVariants as fault
+use Rattle.ua_client.specs.declared.reply.Reply.{Reply}
+
+-- ---- what is asked
+
+-- what is asked once these requests are asked there
+abbrev pub asked_at : Site → List Request → List Placed
+asked_at s requests = s.asks ++ calls_at (length s.octets) (id_at s) (bodies_of requests)
+
+-- the chunks of the bodies of requests that are asked there
+abbrev pub sent_at : Site → List Request → List ℕ
+sent_at s requests = calls_octets (lane_behind s.before) s.number (id_at s) (bodies_of requests)
+
+-- ---- waiting for replies
+
+-- behind these octets a client that asked so goes on, and more was told
+abbrev pub GoesOn : ClientChannel → List Placed → List ℕ → List Told → (List Told → Type 0) → Type 0
+GoesOn x asks octets told P = (heard : List Told) × Goes x asks octets (told ++ heard) × P (told ++ heard)
+
+-- what became of the replies to calls of these requests, whose request ids are counted from the first
+abbrev pub CollectsAt : {A : Type 0} → (A → List (Option Reply)) → List Request → ℕ → Connection → Option Traffic → Result A ClientFault → List Placed → List ℕ → List Told → Type 0
+CollectsAt view requests first new after (Ok found) asks octets told = GoesOn (channel_of new) asks octets told (λ all. AreSlots requests first all (view found) × (list_any is_none (view found) ≡ false))
+CollectsAt view requests first new after (Err (fault.Peer code)) asks octets told = (heard : List Told) × Ended (channel_of new) asks octets (told ++ heard) (peers code.code)
+CollectsAt view requests first new after (Err (fault.Refused code)) asks octets told = (heard : List Told) × Ended (channel_of new) asks octets (told ++ heard) (ours code.code)
+CollectsAt view requests first new after (Err fault.Ended) asks octets told = GoesOn (channel_of new) asks octets told (IsUnanswered requests first)
+CollectsAt view requests first new after (Err fault.Read) asks octets told = GoesOn (channel_of new) asks octets told (IsUnanswered requests first)
+CollectsAt view requests first new after (Err fault.TooLong) asks octets told = GoesOn (channel_of new) asks octets told (IsUnanswered requests first)
+CollectsAt view requests first new after (Err fault.UnknownResponse) asks octets told = GoesOn (channel_of new) asks octets told (IsMisanswered requests first)
+CollectsAt view requests first new after (Err fault.OutOfMemory) asks octets told = Unit {0}
+CollectsAt view requests first new after (Err other) asks octets told = ⊥
+
+-- the replies that there are, in order
+abbrev pub somes : List (Option Reply) → List Reply
+somes [] = []
+somes (None ∷ slots) = somes slots
+somes (Some reply ∷ slots) = reply ∷ somes slots
+
+-- no reply to any of these
+abbrev pub none_for : List Request → List (Option Reply)
+none_for requests = map (λ (r : Request). None) requests
+
+-- nothing was told yet of calls of these requests, whose request ids are counted from the first
+abbrev pub AreUntold : List Request → ℕ → List Told → Type 0
+AreUntold [] id told = Unit {0}
+AreUntold (request ∷ requests) id told = (told_of id told ≡ []) × AreUntold requests (id + 1) told
+
+-- the octets up to the last reply that was waited for, or up to a fault
+pub record Collects {A : Type 0} (view : A → List (Option Reply)) (requests : List Request) (first : ℕ) (old new : Connection) (before after : Option Traffic) (reads left : ℕ) (result : Result A ClientFault) : Type 0 where
+  pub moves : Moves old new [] before after
+  pub keeps : Keeps old new
+  pub answers : (asks : List Placed) (octets : List ℕ) (told : List Told) → Goes (channel_of old) asks octets told → AreUntold requests first told
+      → CollectsAt view requests first new after result asks (octets ++ moves.taken) told
+  pub stops : StopsAt reads left moves.got new after result
+
+-- ---- a group of calls
+
+-- a group of calls is answered: behind these octets a client that stood here stands there, and these are the replies
+pub record Answered (requests : List Request) (s t : Site) (taken : List ℕ) (replies : List Reply) : Type 0 where
+  pub asks : t.asks ≡ asked_at s requests
+  pub octets : t.octets ≡ s.octets ++ taken
+  pub heard : List Told
+  pub told : t.told ≡ s.told ++ heard
+  pub number : t.number ≡ numbers_behind (lane_behind s.before) s.number (bodies_of requests)
+  pub replies_are : AreReplies requests (id_at s) t.told replies
+
+-- a group of calls that was asked here is not answered
+abbrev pub BreaksAt : List Request → Site → Connection → List ℕ → List ℕ → ClientFault → Type 0
+BreaksAt requests s new sent taken (fault.Peer code) = (sent ≡ sent_at s requests) × ((heard : List Told) × Ended (channel_of new) (asked_at s requests) (s.octets ++ taken) (s.told ++ heard) (peers code.code))
+BreaksAt requests s new sent taken (fault.Refused code) = (sent ≡ sent_at s requests) × ((heard : List Told) × Ended (channel_of new) (asked_at s requests) (s.octets ++ taken) (s.told ++ heard) (ours code.code))
+BreaksAt requests s new sent taken fault.Ended = (sent ≡ sent_at s requests) × GoesOn (channel_of new) (asked_at s requests) (s.octets ++ taken) s.told (IsUnanswered requests (id_at s))
+BreaksAt requests s new sent taken fault.Read = (sent ≡ sent_at s requests) × GoesOn (channel_of new) (asked_at s requests) (s.octets ++ taken) s.told (IsUnanswered requests (id_at s))
+BreaksAt requests s new sent taken fault.TooLong = (sent ≡ sent_at s requests) × GoesOn (channel_of new) (asked_at s requests) (s.octets ++ taken) s.told (IsUnanswered requests (id_at s))
+BreaksAt requests s new sent taken fault.UnknownResponse = (sent ≡ sent_at s requests) × GoesOn (channel_of new) (asked_at s requests) (s.octets ++ taken) s.told (IsMisanswered requests (id_at s))
+BreaksAt requests s new sent taken fault.Write = Extends sent (sent_at s requests) × (taken ≡ [])
+BreaksAt requests s new sent taken fault.OutOfMemory = Extends sent (sent_at s requests)
+BreaksAt requests s new sent taken fault.TooLarge = (sent ≡ []) × (taken ≡ []) × At (channel_of new) s × (group_refusal (phase_of (channel_of new)) 0 requests ≡ Some fault.TooLarge)
+BreaksAt requests s new sent taken fault.NotWritable = (sent ≡ []) × (taken ≡ []) × At (channel_of new) s × (group_refusal (phase_of (channel_of new)) 0 requests ≡ Some fault.NotWritable)
+BreaksAt requests s new sent taken fault.Exhausted = (sent ≡ []) × (taken ≡ []) × At (channel_of new) s × (group_refusal (phase_of (channel_of new)) 0 requests ≡ Some fault.Exhausted)
+BreaksAt requests s new sent taken fault.Closed = (sent ≡ []) × (taken ≡ []) × At (channel_of new) s × (group_refusal (phase_of (channel_of new)) 0 requests ≡ Some fault.Closed)
+BreaksAt requests s new sent taken other = ⊥
+
+-- what becomes of a group of calls that is asked here, with the replies that were there before and those that are there then
+abbrev pub GroupAt : {A : Type 0} → List Request → Site → Connection → List ℕ → List ℕ → Result A ClientFault → List Reply → List Reply → Type 0
+GroupAt requests s new sent taken (Ok done) before after =
+    (sent ≡ sent_at s requests) × ((t : Site) × (replies : List Reply) × At (channel_of new) t × Answered requests s t taken replies × (after ≡ before ++ replies))
+GroupAt requests s new sent taken (Err f) before after = BreaksAt requests s new sent taken f
+
+-- a group of calls
+pub record CallsGroup {A : Type 0} (requests : List Request) (old new : Connection) (before after : Option Traffic) (reads left : ℕ) (result : Result A ClientFault) (had have : List Reply) : Type 0 where
+  pub sent : List ℕ
+  pub moves : Moves old new sent before after
+  pub same : SameClient (channel_of old) (channel_of new)
+  pub answers : (s : Site) → At (channel_of old) s → GroupAt requests s new sent moves.taken result had have
+  pub stops : StopsAt reads left moves.got new after result
+
+-- ---- groups of calls, one behind another
+
+-- groups of calls are answered, each asked where those before it left the client: what was sent and taken, and the replies
+pub data Rounds (s : Site) : List (List Request) → Site → List ℕ → List ℕ → List Reply → Type 0 where
+  NoRound : Rounds s [] s [] [] []
+  OneRound : {groups : List (List Request)} {m t : Site} {sent taken part : List ℕ} {replies added : List Reply} (group : List Request)
+      → Rounds s groups m sent taken replies → Answered group m t part added → Rounds s (groups ++ group ∷ []) t (sent ++ sent_at m group) (taken ++ part) (replies ++ added)
+
+-- ---- all calls
+
+-- the requests of groups, in order
+abbrev pub all_of : List (List Request) → List Request
+all_of [] = []
+all_of (group ∷ groups) = group ++ all_of groups
+
+-- each group has a call, and at most 64
+abbrev pub AreGroups : List (List Request) → Type 0
+AreGroups groups = AllByRecursion (λ (g : List Request). (0 < length g) × (length g ≤ 64)) groups
+
+-- requests are answered in groups
+pub record AnsweredAll (requests : List Request) (s : Site) (x : ClientChannel) (sent taken : List ℕ) (replies : List Reply) : Type 0 where
+  pub groups : List (List Request)
+  pub parts : requests ≡ all_of groups
+  pub sized : AreGroups groups
+  pub behind : Site
+  pub at : At x behind
+  pub rounds : Rounds s groups behind sent taken replies
+
+-- behind groups that are answered, the next one is not
+pub record BrokenAll (requests : List Request) (s : Site) (new : Connection) (sent taken : List ℕ) (f : ClientFault) : Type 0 where
+  pub groups : List (List Request)
+  pub group : List Request
+  pub others : List Request
+  pub parts : requests ≡ all_of groups ++ (group ++ others)
+  pub sized : AreGroups (groups ++ group ∷ [])
+  pub behind : Site
+  pub sent_before : List ℕ
+  pub sent_then : List ℕ
+  pub sent_parts : sent ≡ sent_before ++ sent_then
+  pub taken_before : List ℕ
+  pub taken_then : List ℕ
+  pub taken_parts : taken ≡ taken_before ++ taken_then
+  pub replies : List Reply
+  pub rounds : Rounds s groups behind sent_before taken_before replies
+  pub breaks : BreaksAt group behind new sent_then taken_then f
+
+-- what becomes of requests that are called here
+abbrev pub AllAt : {A : Type 0} → (A → List Reply) → List Request → Site → Connection → List ℕ → List ℕ → Result A ClientFault → Type 0
+AllAt view requests s new sent taken (Ok found) = AnsweredAll requests s (channel_of new) sent taken (view found)
+AllAt view requests s new sent taken (Err f) = BrokenAll requests s new sent taken f
+
+-- requests that are called in groups
+pub record CallsAll {A : Type 0} (view : A → List Reply) (requests : List Request) (old new : Connection) (before after : Option Traffic) (result : Result A ClientFault) : Type 0 where
+  pub sent : List ℕ
+  pub moves : Moves old new sent before after
+  pub same : SameClient (channel_of old) (channel_of new)
+  pub answers : (s : Site) → At (channel_of old) s → AllAt view requests s new sent moves.taken result
+  pub stops : StopsAt most_reads most_reads moves.got new after result

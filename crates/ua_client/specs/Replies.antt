@@ -1,0 +1,115 @@
+-- The replies to a client's calls: each is what was told under the request id of its call.
+use Rattle.std.specs.Prelude.{◌≡◌, ◌+◌, ◌==◌, ◌<◌, ◌≤◌, ◌++◌, ◌⊎◌, ℕ, zero, suc, Bool, true, false, List, [], ◌∷◌, length, Option, Some, None, Result, Ok, Err}
+use Rattle.ua_channel.specs.ClientTold.{Told}
+use Rattle.ua_channel.specs.ClientTold.Told.{Answered, GaveUp}
+use Rattle.ua_services.specs.Message.{IsBody}
+use Rattle.ua_services.specs.Request.{kind_of}
+use Rattle.ua_services.specs.Response.{response, Answers, kind_of as kind_of_response}
+use Rattle.ua_services.specs.declared.request.Request.{Request}
+use Rattle.ua_services.specs.declared.request.RequestKind.{RequestKind}
+use Rattle.ua_services.specs.declared.response.Response.{Response}
+use Rattle.ua_client.specs.Told.{is_told_of, told_of}
+use Rattle.ua_client.specs.declared.fault.ClientFault.{ClientFault}
+use Rattle.ua_client.specs.declared.fault.ClientFault.TheVariants as fault
+use Rattle.ua_client.specs.declared.reply.Reply.{Reply}
+use Rattle.ua_client.specs.declared.reply.Reply.TheVariants.{Response as Responds, Aborted}
+
+-- ---- responses
+
+-- octets are the body of a response that answers a request of this kind: it is of the request's own kind, or a ServiceFault
+-- (OPC 10000-4, 5.3)
+abbrev pub IsAnswer : RequestKind → List ℕ → Response → Type 0
+IsAnswer kind octets m = IsBody response m octets × Answers (kind_of_response m) kind
+
+-- they are not
+abbrev pub IsNoAnswer : RequestKind → List ℕ → Type 0
+IsNoAnswer kind octets = (m : Response) → IsAnswer kind octets m → ⊥
+
+-- what octets are read as
+abbrev pub ReadsAnswer : RequestKind → List ℕ → Result Response ClientFault → Type 0
+ReadsAnswer kind octets (Ok m) = IsAnswer kind octets m
+ReadsAnswer kind octets (Err fault.UnknownResponse) = IsNoAnswer kind octets
+ReadsAnswer kind octets (Err fault.OutOfMemory) = Unit {0}
+ReadsAnswer kind octets (Err other) = ⊥
+
+-- octets are no answer, or memory was refused
+abbrev pub is_reading_fault : ClientFault → Bool
+is_reading_fault fault.UnknownResponse = true
+is_reading_fault fault.OutOfMemory = true
+is_reading_fault other = false
+
+-- ---- replies
+
+-- the reply to a request of this kind, whose call has this request id, is this one that was told
+abbrev pub IsReplyBy : RequestKind → ℕ → Told → Reply → Type 0
+IsReplyBy kind id t (Responds m) = (octets : List ℕ) × (t ≡ Answered id octets) × IsAnswer kind octets m
+IsReplyBy kind id t (Aborted code) = t ≡ GaveUp id code
+
+-- a message that was told under the request id of a call is no answer to its request
+abbrev pub IsMisanswer : RequestKind → ℕ → Told → Type 0
+IsMisanswer kind id t = (octets : List ℕ) × (t ≡ Answered id octets) × IsNoAnswer kind octets
+
+-- the reply to a request is the one thing that was told of its call
+abbrev pub IsReply : Request → ℕ → List Told → Reply → Type 0
+IsReply request id told reply = (t : Told) × (told_of id told ≡ t ∷ []) × IsReplyBy (kind_of request) id t reply
+
+-- each reply is that of its own request, where the calls of the requests have request ids from this one on
+abbrev pub AreReplies : List Request → ℕ → List Told → List Reply → Type 0
+AreReplies [] id told [] = Unit {0}
+AreReplies [] id told (reply ∷ replies) = ⊥
+AreReplies (request ∷ requests) id told [] = ⊥
+AreReplies (request ∷ requests) id told (reply ∷ replies) = IsReply request id told reply × AreReplies requests (id + 1) told replies
+
+-- one of the calls was answered by what is no answer to its request
+abbrev pub IsMisanswered : List Request → ℕ → List Told → Type 0
+IsMisanswered [] id told = ⊥
+IsMisanswered (request ∷ requests) id told = ((t : Told) × (told_of id told ≡ t ∷ []) × IsMisanswer (kind_of request) id t) ⊎ IsMisanswered requests (id + 1) told
+
+-- nothing was told of one of the calls
+abbrev pub IsUnanswered : List Request → ℕ → List Told → Type 0
+IsUnanswered [] id told = ⊥
+IsUnanswered (request ∷ requests) id told = (told_of id told ≡ []) ⊎ IsUnanswered requests (id + 1) told
+
+-- ---- replies that are still waited for
+
+-- the reply to a request, if there is one: nothing was told of its call, or the reply was
+abbrev pub IsSlot : Request → ℕ → List Told → Option Reply → Type 0
+IsSlot request id told None = told_of id told ≡ []
+IsSlot request id told (Some reply) = IsReply request id told reply
+
+-- the replies to requests, as far as there are any
+abbrev pub AreSlots : List Request → ℕ → List Told → List (Option Reply) → Type 0
+AreSlots [] id told [] = Unit {0}
+AreSlots [] id told (slot ∷ slots) = ⊥
+AreSlots (request ∷ requests) id told [] = ⊥
+AreSlots (request ∷ requests) id told (slot ∷ slots) = IsSlot request id told slot × AreSlots requests (id + 1) told slots
+
+-- the request at a place of a list
+abbrev pub IsAt : List Request → ℕ → Request → Type 0
+IsAt [] n request = ⊥
+IsAt (r ∷ rs) zero request = request ≡ r
+IsAt (r ∷ rs) (suc n) request = IsAt rs n request
+
+-- what was told is of none of so many calls from this request id on
+abbrev pub IsOfNone : ℕ → ℕ → Told → Type 0
+IsOfNone first count t = (n : ℕ) → n < count → is_told_of (first + n) t ≡ false
+
+-- the place of a request id among so many from the first on
+abbrev pub IsPlace : ℕ → ℕ → ℕ → Option ℕ → Type 0
+IsPlace first id count None = (n : ℕ) → n < count → id ≡ first + n → ⊥
+IsPlace first id count (Some n) = (n < count) × (id ≡ first + n)
+
+-- the reply that something told is to one of the requests, at its place; none where it is of none of their calls
+abbrev pub PlacesReply : List Request → ℕ → Told → Result (Option (ℕ × Reply)) ClientFault → Type 0
+PlacesReply requests first t (Ok None) = IsOfNone first (length requests) t
+PlacesReply requests first t (Ok (Some (n, reply))) = (request : Request) × IsAt requests n request × IsReplyBy (kind_of request) (first + n) t reply
+PlacesReply requests first t (Err fault.UnknownResponse) = (n : ℕ) × (request : Request) × IsAt requests n request × IsMisanswer (kind_of request) (first + n) t
+PlacesReply requests first t (Err fault.OutOfMemory) = Unit {0}
+PlacesReply requests first t (Err other) = ⊥
+
+-- what became of the replies behind something more that was told
+abbrev pub FillsSlots : List Request → ℕ → List Told → List (Option Reply) → Result (Unit {0}) ClientFault → Type 0
+FillsSlots requests first told slots (Ok done) = AreSlots requests first told slots
+FillsSlots requests first told slots (Err fault.UnknownResponse) = IsMisanswered requests first told
+FillsSlots requests first told slots (Err fault.OutOfMemory) = Unit {0}
+FillsSlots requests first told slots (Err other) = ⊥

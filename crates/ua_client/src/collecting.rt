@@ -1,0 +1,123 @@
+//! Waiting for the replies of a group of calls.
+
+ghost use Rattle.std.specs.Prelude.{◌≡◌, ◌++◌, ◌∷◌, [], length, is_none, false, None, Err, IfOk, IfErr, OnOk, OnErr};
+ghost use Rattle.std.specs.List.{list_any};
+ghost use Rattle.ua_client.specs.Calls.{Collects, somes, none_for};
+ghost use Rattle.ua_client.specs.Hearing.{failures_behind};
+ghost use Rattle.ua_client.specs.declared.fault.ClientFault.TheVariants.{OutOfMemory};
+
+use crate::connection::Connection;
+use crate::fault::ClientFault;
+use crate::laws::calls_are_told_once;
+use crate::reply::{Reply, place_reply};
+use std::alloc::Global;
+use ua_builtin::DateTime;
+use ua_channel::Line;
+use ua_channel::client_laws::client_goes_on;
+use ua_services::Request;
+
+/// Adds a slot without a reply.
+fn add_slot(slots: &mut Vec<Option<Reply>>) -> Result<(), ClientFault>
+    ensures ok { OnOk result (slots.new.items ≡ slots.old.items ++ None ∷ []) }
+    ensures err { OnErr result (result ≡ Err OutOfMemory) }
+{
+    match slots.push(None) {
+        Ok(()) => Ok(()),
+        Err(failed) => {
+            drop(failed);
+            Err(ClientFault::OutOfMemory)
+        }
+    }
+}
+
+/// Makes a slot without a reply for each of so many requests.
+fn make_slots(slots: &mut Vec<Option<Reply>>, requests: &[Request]) -> Result<(), ClientFault>
+    requires { slots.old.items ≡ [] }
+    ensures none { OnOk result (slots.new.items ≡ none_for requests.now) }
+    ensures err { OnErr result (result ≡ Err OutOfMemory) }
+{
+    while slots.len() < requests.len() {
+        add_slot(slots)?;
+    }
+    Ok(())
+}
+
+/// A slot without a reply for each of these requests.
+pub fn empty_slots(alloc: Global, requests: &[Request]) -> Result<Vec<Option<Reply>>, ClientFault>
+    ensures none { IfOk result (λ slots. slots.items ≡ none_for requests.now) }
+    ensures err { IfErr result (λ fault. fault ≡ OutOfMemory) }
+{
+    let mut slots = Vec::new(alloc);
+    match make_slots(&mut slots, requests) {
+        Ok(()) => Ok(slots),
+        Err(_) => {
+            drop(slots);
+            Err(ClientFault::OutOfMemory)
+        }
+    }
+}
+
+/// Whether a reply is missing.
+fn is_waiting(slots: &[Option<Reply>]) -> bool
+    ensures { result ≡ list_any is_none slots.now }
+{
+    slots.iter().any(|slot| slot.is_none())
+}
+
+/// Adds a reply.
+fn add_reply(replies: &mut Vec<Reply>, reply: Reply) -> Result<(), ClientFault>
+    ensures ok { OnOk result (replies.new.items ≡ replies.old.items ++ reply ∷ []) }
+    ensures err { OnErr result (result ≡ Err OutOfMemory) }
+{
+    match replies.push(reply) {
+        Ok(()) => Ok(()),
+        Err(failed) => {
+            drop(failed);
+            Err(ClientFault::OutOfMemory)
+        }
+    }
+}
+
+/// Adds the replies that there are, in order.
+pub fn append_replies(
+    mut slots: Vec<Option<Reply>>,
+    replies: &mut Vec<Reply>,
+) -> Result<(), ClientFault>
+    ensures ok { OnOk result (replies.new.items ≡ replies.old.items ++ somes slots.items) }
+    ensures err { OnErr result (result ≡ Err OutOfMemory) }
+{
+    while !slots.is_empty() {
+        if let Some(reply) = slots.remove(0) {
+            add_reply(replies, reply)?;
+        }
+    }
+    Ok(())
+}
+
+impl Connection {
+    /// Waits until each of these requests is answered, whose calls have request ids from the first on.
+    pub fn collect<L: Line>(
+        &mut self,
+        alloc: Global,
+        line: &mut L,
+        reads: &mut u64,
+        requests: &[Request],
+        first: u32,
+        moment: DateTime,
+        slots: &mut Vec<Option<Reply>>,
+    ) -> Result<(), ClientFault>
+        requires { slots.old.items ≡ none_for requests.now }
+        ensures collects { Collects (λ done. slots.new.items) requests.now first self.old self.new (L.traffic line.old) (L.traffic line.new) reads.old reads.new result }
+        ensures count { length slots.new.items ≡ length requests.now }
+        ensures whole { OnOk result (list_any is_none slots.new.items ≡ false) }
+        ensures failed { L.failures line.new ≡ failures_behind (L.failures line.old) result }
+    {
+        client_goes_on();
+        calls_are_told_once();
+        while is_waiting(slots) {
+            let event = self.hear(line, reads, moment)?;
+            place_reply(alloc, requests, first, event, slots)?;
+        }
+        Ok(())
+    }
+}
