@@ -5,7 +5,11 @@
 #![tactic(auto)]
 
 #[cfg(test)]
+mod clients;
+#[cfg(test)]
 mod conversations;
+#[cfg(test)]
+mod fixture;
 #[cfg(test)]
 mod lines;
 #[cfg(test)]
@@ -14,3 +18,5 @@ mod refused;
 mod serving;
 #[cfg(test)]
 mod streams;
+#[cfg(test)]
+mod sweeps;

@@ -1,34 +1,13 @@
 //! What a server writes to the client of the conversation, whatever the line gives and takes at once.
 
+use crate::fixture::{MOMENT, served, services};
 use crate::lines::joined;
 use crate::streams::{CLIENT_STREAM, SERVER_STREAM};
 use std::alloc::Global;
 use std::process::Abort;
-use ua_builtin::UaString;
-use ua_channel::{ListMoments, MemoryLine};
-use ua_frame::Limits;
-use ua_nodes::NodeTable;
-use ua_server::{End, Endpoint, ServeFault, Services, serve};
-
-// The services of the program, over a node ns=1;s=Pump that is the Int32 5.
-fn services(rt: &impl Abort, alloc: Global) -> Services {
-    let nodes = NodeTable::load(alloc, "ns=1;s=Pump\trw\tPump\tInt32\t5\n").expect(rt, "a table");
-    let url = UaString::from_str(alloc, "opc.tcp://localhost:4840").expect(rt, "memory");
-    let application_uri = UaString::from_str(alloc, "urn:ua:server").expect(rt, "memory");
-    let name = UaString::from_str(alloc, "ua").expect(rt, "memory");
-    assert!(rt; ua_builtin::Wire::is_encodable(&url));
-    assert!(rt; ua_builtin::Wire::is_encodable(&application_uri));
-    assert!(rt; ua_builtin::Wire::is_encodable(&name));
-    Services::new(
-        nodes,
-        Endpoint {
-            url,
-            application_uri,
-            name,
-            message_limit: 1_048_576,
-        },
-    )
-}
+use ua_builtin::Octets;
+use ua_channel::MemoryLine;
+use ua_server::{End, ServeFault, Services};
 
 /// How many octets of the client come; how many a read gives and a write takes at most; which read
 /// and which write fails.
@@ -59,26 +38,22 @@ fn line(rt: &impl Abort, alloc: Global, course: Course<'_>) -> MemoryLine {
     )
 }
 
-// That serving comes to this, and writes so many of the server's octets.
+// That serving comes to this, and writes so many of the server's octets; the services that it leaves.
 fn serves(
     rt: &impl Abort,
     alloc: Global,
     course: Course<'_>,
     wanted: Result<End, ServeFault>,
     written: usize,
-) {
+) -> Services {
     let mut line = line(rt, alloc, course);
     let mut services = services(rt, alloc);
-    let limits = Limits::new(65535, 65535, 1_048_576, 256).expect(rt, "limits");
-    let mut ticks = Vec::new(alloc);
-    ticks.push(116_444_736_000_000_000).expect(rt, "memory");
-    let mut moments = ListMoments::new(ticks);
-    let found = serve(alloc, &mut line, &mut services, limits, 1, &mut moments);
-    drop(services);
+    let found = served(rt, alloc, &mut line, &mut services);
     assert_eq!(rt; found, wanted);
     let mut octets = joined(rt, alloc, SERVER_STREAM);
     octets.truncate(written);
     assert_eq!(rt; line.written(), octets.as_slice());
+    services
 }
 
 #[test]
@@ -91,7 +66,7 @@ fn answers_a_client_in_any_pieces(rt: HostRuntime) {
         (&[100][..], &[7][..]),
     ] {
         let course = (757, reads, writes, None, None);
-        serves(&rt, alloc, course, Ok(End::Closed), 783);
+        let _closed = serves(&rt, alloc, course, Ok(End::Closed), 783);
     }
 }
 
@@ -99,25 +74,52 @@ fn answers_a_client_in_any_pieces(rt: HostRuntime) {
 #[test]
 fn tells_an_end_within_a_message_from_one_behind_it(rt: HostRuntime) {
     let alloc = rt.alloc();
-    serves(&rt, alloc, (690, &[], &[], None, None), Ok(End::Cut), 731);
-    serves(
-        &rt,
-        alloc,
-        (700, &[], &[], None, None),
-        Ok(End::NoClose),
-        783,
-    );
+    let within = (690, &[][..], &[][..], None, None);
+    let _left = serves(&rt, alloc, within, Ok(End::Cut), 731);
+    let behind = (700, &[][..], &[][..], None, None);
+    let _left = serves(&rt, alloc, behind, Ok(End::NoClose), 783);
 }
 
-// The third read fails behind 200 octets; the fifth write is the reply to the Write; the sixth write
-// of 100 octets is the third of the reply to CreateSession.
+/// The body of a ServiceFault to the client's Read: BadSessionIdInvalid.
+const NO_SESSION: &[u8] =
+    b"\x01\0\x8D\x01\0\x80\x3E\xD5\xDE\xB1\x9D\x01\x05\0\0\0\0\0\x25\x80\0\xFF\xFF\xFF\xFF\0\0\0";
+
+/// BadSessionNotActivated.
+const NOT_ACTIVATED: &[u8] =
+    b"\x01\0\x8D\x01\0\x80\x3E\xD5\xDE\xB1\x9D\x01\x05\0\0\0\0\0\x27\x80\0\xFF\xFF\xFF\xFF\0\0\0";
+
+/// The Int32 6 with both times.
+const SIX: &[u8] =
+    b"\x01\0\x7A\x02\0\x80\x3E\xD5\xDE\xB1\x9D\x01\x05\0\0\0\0\0\0\0\0\xFF\xFF\xFF\xFF\0\0\0\x01\0\0\0\x0D\x06\x06\0\0\0\0\x80\x3E\xD5\xDE\xB1\x9D\x01\0\x80\x3E\xD5\xDE\xB1\x9D\x01\xFF\xFF\xFF\xFF";
+
+// What services answer to the client's Read.
+fn answers_the_read(rt: &impl Abort, alloc: Global, services: &mut Services, wanted: &[u8]) {
+    let client = joined(rt, alloc, CLIENT_STREAM);
+    let body = client.get(564..640).expect(rt, "a Read");
+    let said = services
+        .reply(alloc, &mut Octets::new(body), MOMENT)
+        .expect(rt, "memory");
+    assert_eq!(rt; said.as_slice(), wanted);
+}
+
+// The third read fails behind 200 octets.
 #[test]
-fn says_how_far_it_came_where_the_line_fails(rt: HostRuntime) {
+fn stands_where_a_read_fails(rt: HostRuntime) {
     let alloc = rt.alloc();
     let read = (757, &[100usize][..], &[][..], Some(3), None);
-    serves(&rt, alloc, read, Err(ServeFault::Read), 163);
+    let mut left = serves(&rt, alloc, read, Err(ServeFault::Read), 163);
+    answers_the_read(&rt, alloc, &mut left, NO_SESSION);
+}
+
+// The fifth write is the reply to the Write; the sixth write of 100 octets is the third of the reply to
+// CreateSession.
+#[test]
+fn says_how_far_it_came_where_a_write_fails(rt: HostRuntime) {
+    let alloc = rt.alloc();
     let fifth = (757, &[][..], &[][..], None, Some(5));
-    serves(&rt, alloc, fifth, Err(ServeFault::Write(585)), 585);
+    let mut left = serves(&rt, alloc, fifth, Err(ServeFault::Write(585)), 585);
+    answers_the_read(&rt, alloc, &mut left, SIX);
     let sixth = (757, &[][..], &[100usize][..], None, Some(6));
-    serves(&rt, alloc, sixth, Err(ServeFault::Write(363)), 363);
+    let mut left = serves(&rt, alloc, sixth, Err(ServeFault::Write(363)), 363);
+    answers_the_read(&rt, alloc, &mut left, NOT_ACTIVATED);
 }

@@ -232,6 +232,112 @@ pub const SERVER_STREAM: &[&[u8]] = &[
     b"\0\xFF\xFF\xFF\xFF\0\0\0", // diagnostics, string table, additional header
 ];
 
+/// What the client sends behind its Write where it renews its token first: 349 octets.
+pub const RENEWING_END: &[&[u8]] = &[
+    // OPN of 132 octets
+    b"OPNF\x84\0\0\0",
+    b"\x01\0\0\0", // channel
+    b"\x2F\0\0\0",
+    b"http://opcfoundation.org/UA/SecurityPolicy#None", // security policy
+    b"\xFF\xFF\xFF\xFF\xFF\xFF\xFF\xFF", // certificate, thumbprint
+    b"\x05\0\0\0\x05\0\0\0", // sequence number, request id
+    b"\x01\0\xBE\x01", // i=446
+    b"\0\0", // authentication token
+    b"\0\x80\x3E\xD5\xDE\xB1\x9D\x01", // timestamp
+    b"\0\0\0\0", // request handle
+    b"\0\0\0\0\xFF\xFF\xFF\xFF\0\0\0\0\0\0\0", // diagnostics, audit entry, timeout hint, additional header
+    b"\0\0\0\0", // protocol version
+    b"\x01\0\0\0", // Renew
+    b"\x01\0\0\0", // None
+    b"\xFF\xFF\xFF\xFF", // nonce
+    b"\x80\xEE\x36\0", // lifetime
+
+    // MSG of 100 octets
+    b"MSGF\x64\0\0\0",
+    b"\x01\0\0\0\x02\0\0\0", // channel, token
+    b"\x06\0\0\0\x06\0\0\0", // sequence number, request id
+    b"\x01\0\x77\x02", // i=631
+    b"\x01\x02\x01\0", // authentication token
+    b"\0\x80\x3E\xD5\xDE\xB1\x9D\x01", // timestamp
+    b"\x06\0\0\0", // request handle
+    b"\0\0\0\0\xFF\xFF\xFF\xFF\0\0\0\0\0\0\0", // diagnostics, audit entry, timeout hint, additional header
+    b"\0\0\0\0\0\0\0\0", // max age
+    b"\x02\0\0\0", // both times
+    b"\x01\0\0\0", // one item
+    b"\x03\x01\0\x04\0\0\0Pump", // node id
+    b"\x0D\0\0\0", // the Value
+    b"\xFF\xFF\xFF\xFF", // index range
+    b"\0\0\xFF\xFF\xFF\xFF", // data encoding
+
+    // MSG of 60 octets
+    b"MSGF\x3C\0\0\0",
+    b"\x01\0\0\0\x02\0\0\0", // channel, token
+    b"\x07\0\0\0\x07\0\0\0", // sequence number, request id
+    b"\x01\0\xD9\x01", // i=473
+    b"\x01\x02\x01\0", // authentication token
+    b"\0\x80\x3E\xD5\xDE\xB1\x9D\x01", // timestamp
+    b"\x07\0\0\0", // request handle
+    b"\0\0\0\0\xFF\xFF\xFF\xFF\0\0\0\0\0\0\0", // diagnostics, audit entry, timeout hint, additional header
+    b"\0", // delete subscriptions
+
+    // CLO of 57 octets
+    b"CLOF\x39\0\0\0",
+    b"\x01\0\0\0\x02\0\0\0", // channel, token
+    b"\x08\0\0\0\x08\0\0\0", // sequence number, request id
+    b"\x01\0\xC4\x01", // i=452
+    b"\0\0", // authentication token
+    b"\0\x80\x3E\xD5\xDE\xB1\x9D\x01", // timestamp
+    b"\x08\0\0\0", // request handle
+    b"\0\0\0\0\xFF\xFF\xFF\xFF\0\0\0\0\0\0\0", // diagnostics, audit entry, timeout hint, additional header
+];
+
+/// What the server sends behind its reply to the Write where the client renews its token: 269 octets.
+pub const RENEWED_END: &[&[u8]] = &[
+    // OPN of 135 octets
+    b"OPNF\x87\0\0\0",
+    b"\x01\0\0\0", // channel
+    b"\x2F\0\0\0",
+    b"http://opcfoundation.org/UA/SecurityPolicy#None", // security policy
+    b"\xFF\xFF\xFF\xFF\xFF\xFF\xFF\xFF", // certificate, thumbprint
+    b"\x05\0\0\0\x05\0\0\0", // sequence number, request id
+    b"\x01\0\xC1\x01", // i=449
+    b"\0\x80\x3E\xD5\xDE\xB1\x9D\x01", // timestamp
+    b"\0\0\0\0", // request handle
+    b"\0\0\0\0", // service result
+    b"\0\xFF\xFF\xFF\xFF\0\0\0", // diagnostics, string table, additional header
+    b"\0\0\0\0", // protocol version
+    b"\x01\0\0\0", // channel id
+    b"\x02\0\0\0", // token id
+    b"\0\x80\x3E\xD5\xDE\xB1\x9D\x01", // created at
+    b"\x80\xEE\x36\0", // lifetime
+    b"\xFF\xFF\xFF\xFF", // nonce
+
+    // MSG of 82 octets
+    b"MSGF\x52\0\0\0",
+    b"\x01\0\0\0\x02\0\0\0", // channel, token
+    b"\x06\0\0\0\x06\0\0\0", // sequence number, request id
+    b"\x01\0\x7A\x02", // i=634
+    b"\0\x80\x3E\xD5\xDE\xB1\x9D\x01", // timestamp
+    b"\x06\0\0\0", // request handle
+    b"\0\0\0\0", // service result
+    b"\0\xFF\xFF\xFF\xFF\0\0\0", // diagnostics, string table, additional header
+    b"\x01\0\0\0", // one result
+    b"\x0D\x06\x06\0\0\0", // the Int32 6 with both times
+    b"\0\x80\x3E\xD5\xDE\xB1\x9D\x01", // source time
+    b"\0\x80\x3E\xD5\xDE\xB1\x9D\x01", // server time
+    b"\xFF\xFF\xFF\xFF", // diagnostics
+
+    // MSG of 52 octets
+    b"MSGF\x34\0\0\0",
+    b"\x01\0\0\0\x02\0\0\0", // channel, token
+    b"\x07\0\0\0\x07\0\0\0", // sequence number, request id
+    b"\x01\0\xDC\x01", // i=476
+    b"\0\x80\x3E\xD5\xDE\xB1\x9D\x01", // timestamp
+    b"\x07\0\0\0", // request handle
+    b"\0\0\0\0", // service result
+    b"\0\xFF\xFF\xFF\xFF\0\0\0", // diagnostics, string table, additional header
+];
+
 /// The lines of what the client sends, up to and with those of its Read.
 pub const CLIENT_FRONT: &str = "\
 0 HEL 56 version 0 receive 65535 send 65535 message 1048576 chunks 256 url opc.tcp://localhost:4840
