@@ -152,6 +152,31 @@ fn renews_a_token(rt: HostRuntime) {
     );
 }
 
+// A reply of two chunks, and the abort of another reply.
+#[test]
+fn hands_a_reply_out_in_its_parts(rt: HostRuntime) {
+    let mut channel = opened(&rt, rt.alloc());
+    for wanted in 2..4u32 {
+        assert!(rt; matches!(channel.ask(b"ab"), Ok((id, _)) if id == wanted));
+    }
+    let front = b"MSGC\x1A\0\0\0\x07\0\0\0\x01\0\0\0\x02\0\0\0\x02\0\0\0cd";
+    let (_, event) = channel.take(front, MOMENT).expect(&rt, "an event");
+    assert!(rt; matches!(event, ClientEvent::NeedMore));
+    assert_eq!(rt; channel.held(), 2);
+    let last = b"MSGF\x19\0\0\0\x07\0\0\0\x01\0\0\0\x03\0\0\0\x02\0\0\0e";
+    let (_, event) = channel.take(last, MOMENT).expect(&rt, "an event");
+    let ClientEvent::Answered(2, message) = event else {
+        panic!(rt; "a reply");
+    };
+    let [first, second] = message.parts() else {
+        panic!(rt; "two parts");
+    };
+    assert_eq!(rt; (first.len(), second.len(), channel.held()), (2, 1, 0));
+    let abort = b"MSGA \0\0\0\x07\0\0\0\x01\0\0\0\x04\0\0\0\x03\0\0\0\0\0\xB9\x80\xFF\xFF\xFF\xFF";
+    let (_, event) = channel.take(abort, MOMENT).expect(&rt, "an event");
+    assert!(rt; matches!(event, ClientEvent::Aborted(3, code) if code.code == 0x80B9_0000));
+}
+
 #[test]
 fn asks_at_most_sixty_four_calls_at_once(rt: HostRuntime) {
     let mut channel = opened(&rt, rt.alloc());

@@ -378,6 +378,40 @@ fn refuses_behind_the_opening(rt: HostRuntime) {
     }
 }
 
+/// What is refused at its eighth octet between the HEL and the OPN: a MSG and a second HEL.
+const BEFORE_THE_OPENING: [&[u8]; 2] = [
+    b"MSGF\x19\0\0\0\x07\0\0\0\x01\0\0\0\x02\0\0\0\x02\0\0\0\xAA",
+    HEL,
+];
+
+// That a channel refuses octets with this code at the eighth of them.
+fn refuses_a_header(rt: &impl Abort, channel: &mut ServerChannel, octets: &[u8], wanted: u32) {
+    match channel.advance(octets, MOMENT) {
+        (n, Err(ChannelFault::Refused { code, .. })) => {
+            assert_eq!(rt; (n, code.code), (8, wanted));
+        }
+        _ => panic!(rt; "no refusal"),
+    }
+}
+
+#[test]
+fn takes_nothing_but_an_opening_behind_a_hel(rt: HostRuntime) {
+    for octets in BEFORE_THE_OPENING {
+        let mut channel = server(&rt, rt.alloc(), 1_048_576);
+        takes(&rt, rt.alloc(), &mut channel, (HEL, Answer::Sends(ACK)));
+        refuses_a_header(&rt, &mut channel, octets, 0x807E_0000);
+        has_ended(&rt, &mut channel);
+    }
+}
+
+#[test]
+fn refuses_the_largest_size_at_the_eighth_octet(rt: HostRuntime) {
+    let mut channel = opened(&rt, rt.alloc(), 1_048_576);
+    let octets = b"MSGF\xFF\xFF\xFF\x7F\x07\0\0\0\x01\0\0\0";
+    refuses_a_header(&rt, &mut channel, octets, 0x8080_0000);
+    has_ended(&rt, &mut channel);
+}
+
 #[test]
 fn talks_until_the_close(rt: HostRuntime) {
     let mut channel = opened(&rt, rt.alloc(), 1_048_576);
@@ -488,6 +522,24 @@ fn holds_up_to_its_bound(rt: HostRuntime) {
     let front = octets.as_slice().get(..65534).expect(&rt, "a front");
     takes(&rt, rt.alloc(), &mut channel, (front, Answer::Waits));
     assert_eq!(rt; channel.held(), 4_259_838);
+}
+
+// A message of chunks of 3, 0 and 2 octets: its parts are the first and the last.
+#[test]
+fn hands_a_message_out_in_its_parts(rt: HostRuntime) {
+    let mut channel = opened(&rt, rt.alloc(), 1_048_576);
+    let sequence = goes_on(&rt, rt.alloc(), &mut channel, (2, 2), &[3, 0]);
+    let octets = chunk(&rt, rt.alloc(), b'F', (sequence, 2), 2);
+    let (_, event) = channel
+        .take(octets.as_slice(), MOMENT)
+        .expect(&rt, "an event");
+    let ServerEvent::Asked(2, message) = event else {
+        panic!(rt; "a message");
+    };
+    let [first, last] = message.parts() else {
+        panic!(rt; "two parts");
+    };
+    assert_eq!(rt; (first.len(), last.len()), (3, 2));
 }
 
 // A channel that holds 256 empty chunks of the request id 2, and the next sequence number.
