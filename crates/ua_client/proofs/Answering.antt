@@ -52,6 +52,7 @@ misanswered_by requests first id octets n request d kind fault.TooLarge h e k a 
 misanswered_by requests first id octets n request d kind fault.NotWritable h e k a = absurd a
 misanswered_by requests first id octets n request d kind fault.Exhausted h e k a = absurd a
 misanswered_by requests first id octets n request d kind fault.Closed h e k a = absurd a
+misanswered_by requests first id octets n request d kind fault.TooManyTokens h e k a = absurd a
 misanswered_by requests first id octets n request d kind fault.TooLong h e k a = absurd a
 
 -- the request at a place that a list has
@@ -114,4 +115,5 @@ fills_fault requests first told t slots fault.TooLarge h once = absurd h
 fills_fault requests first told t slots fault.NotWritable h once = absurd h
 fills_fault requests first told t slots fault.Exhausted h once = absurd h
 fills_fault requests first told t slots fault.Closed h once = absurd h
+fills_fault requests first told t slots fault.TooManyTokens h once = absurd h
 fills_fault requests first told t slots fault.TooLong h once = absurd h

@@ -144,6 +144,7 @@ group-refused {A} requests x t reads f replies h = record {
     breaks fault.UnknownResponse e s at = let no : is_asking_fault fault.UnknownResponse ≡ true = by-group (phase_of (channel_of x)) 0 requests fault.UnknownResponse e in absurd cc
     breaks (fault.Service code) e s at = let no : is_asking_fault (fault.Service code) ≡ true = by-group (phase_of (channel_of x)) 0 requests (fault.Service code) e in absurd cc
     breaks fault.TooLong e s at = let no : is_asking_fault fault.TooLong ≡ true = by-group (phase_of (channel_of x)) 0 requests fault.TooLong e in absurd cc
+    breaks fault.TooManyTokens e s at = let no : is_asking_fault fault.TooManyTokens ≡ true = by-group (phase_of (channel_of x)) 0 requests fault.TooManyTokens e in absurd cc
 
     stops : (y : ClientFault) → AnswersBy {A = Unit {0}} (group_refusal (phase_of (channel_of x)) 0 requests) (Err y) → StopsAt {A = A} reads reads [] x t (Err y)
     stops fault.TooLarge e = tt
@@ -159,6 +160,7 @@ group-refused {A} requests x t reads f replies h = record {
     stops fault.UnknownResponse e = tt
     stops (fault.Service code) e = tt
     stops fault.TooLong e = let no : is_asking_fault fault.TooLong ≡ true = by-group (phase_of (channel_of x)) 0 requests fault.TooLong e in absurd cc
+    stops fault.TooManyTokens e = let no : is_asking_fault fault.TooManyTokens ≡ true = by-group (phase_of (channel_of x)) 0 requests fault.TooManyTokens e in absurd cc
 
 -- a refusal to ask is no fault of the line
 pub refused-failures : (requests : List Request) (phase : Phase) (x : ClientFault) → AnswersBy {A = Unit {0}} (group_refusal phase 0 requests) (Err x) → (n : ℕ) → cond (is_line_fault x) (one_more n) n ≡ n
@@ -173,6 +175,7 @@ refused-failures requests phase fault.TooLarge e n = refl
 refused-failures requests phase fault.NotWritable e n = refl
 refused-failures requests phase fault.Exhausted e n = refl
 refused-failures requests phase fault.Closed e n = refl
+refused-failures requests phase fault.TooManyTokens e n = refl
 refused-failures requests phase fault.OutOfMemory e n = refl
 refused-failures requests phase fault.TooLong e n = refl
 
@@ -286,6 +289,7 @@ module _ (requests : List Request) (old mid : Connection) (first : ℕ) (out : L
           breaks fault.NotWritable s at h = absurd h
           breaks fault.Exhausted s at h = absurd h
           breaks fault.Closed s at h = absurd h
+          breaks fault.TooManyTokens s at h = absurd h
           breaks (fault.Service code) s at h = absurd h
 
           stops : (y : ClientFault) → StopsAt {A = B} reads left c.moves.got new after (Err y) → StopsAt {A = A} reads left c.moves.got new after (Err y)
@@ -301,6 +305,7 @@ module _ (requests : List Request) (old mid : Connection) (first : ℕ) (out : L
           stops fault.NotWritable h = h
           stops fault.Exhausted h = h
           stops fault.Closed h = h
+          stops fault.TooManyTokens h = h
           stops (fault.Service code) h = h
 
       -- no memory for the replies

@@ -139,6 +139,7 @@ module _ (requests group : List Request) (old now new : Connection) (before at t
       stops fault.NotWritable h = tt
       stops fault.Exhausted h = tt
       stops fault.Closed h = tt
+      stops fault.TooManyTokens h = tt
       stops (fault.Service code) h = tt
 
 pub calls-all : {A : Type 0} (view : A → List Reply) (requests done : List Request) (old now : Connection) (before at : Option Traffic) (left : ℕ) (found : A)

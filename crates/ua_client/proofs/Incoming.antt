@@ -76,6 +76,7 @@ reading-failures fault.TooLarge h n = refl
 reading-failures fault.NotWritable h n = refl
 reading-failures fault.Exhausted h n = refl
 reading-failures fault.Closed h n = refl
+reading-failures fault.TooManyTokens h n = refl
 reading-failures fault.TooLong h n = refl
 
 -- ---- one event more
@@ -160,6 +161,7 @@ module _ (requests : List Request) (first : ℕ) (old now new : Connection) (bef
     misread-by view fault.NotWritable next filled asks octets told g none = absurd (behind (λ all. ⊥) asks octets told g none (filled moment)).2
     misread-by view fault.Exhausted next filled asks octets told g none = absurd (behind (λ all. ⊥) asks octets told g none (filled moment)).2
     misread-by view fault.Closed next filled asks octets told g none = absurd (behind (λ all. ⊥) asks octets told g none (filled moment)).2
+    misread-by view fault.TooManyTokens next filled asks octets told g none = absurd (behind (λ all. ⊥) asks octets told g none (filled moment)).2
     misread-by view fault.TooLong next filled asks octets told g none = absurd (behind (λ all. ⊥) asks octets told g none (filled moment)).2
 
   -- a fault of the line or of the channel while replies are missing
@@ -188,6 +190,7 @@ module _ (requests : List Request) (first : ℕ) (old now new : Connection) (bef
       by fault.NotWritable k = absurd k
       by fault.Exhausted k = absurd k
       by fault.Closed k = absurd k
+      by fault.TooManyTokens k = absurd k
 
   stops-behind : (A : Type 0) (x : ClientFault) (got : List ℕ) → StopsAt {A = ClientEvent} left less got new then (Err x) → StopsAt {A = A} reads less (w.moves.got ++ got) new then (Err x)
   stops-behind A fault.TooLong got h = let l = length-append w.moves.got got in let s = w.spent in omega (arith, l, s, h)
@@ -202,6 +205,7 @@ module _ (requests : List Request) (first : ℕ) (old now new : Connection) (bef
   stops-behind A fault.NotWritable got h = tt
   stops-behind A fault.Exhausted got h = tt
   stops-behind A fault.Closed got h = tt
+  stops-behind A fault.TooManyTokens got h = tt
   stops-behind A fault.OutOfMemory got h = tt
 
   pub collects-heard : {A : Type 0} (view : A → List (Option Reply)) (x : ClientFault) → Hears now new moment at then left less (Err x) → list_any is_none slots ≡ true
@@ -237,6 +241,7 @@ module _ (requests : List Request) (first : ℕ) (old now new : Connection) (bef
       reading-stops B fault.NotWritable got f = tt
       reading-stops B fault.Exhausted got f = tt
       reading-stops B fault.Closed got f = tt
+      reading-stops B fault.TooManyTokens got f = tt
 
   pub collects-all : {A : Type 0} (view : A → List (Option Reply)) (found : A) → slots ≡ view found → list_any is_none slots ≡ false → Collects view requests first old now before at reads left (Ok found)
   collects-all view found e none = record {

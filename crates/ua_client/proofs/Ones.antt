@@ -24,6 +24,7 @@ stops-as A B reads left got new after fault.TooLarge h = tt
 stops-as A B reads left got new after fault.NotWritable h = tt
 stops-as A B reads left got new after fault.Exhausted h = tt
 stops-as A B reads left got new after fault.Closed h = tt
+stops-as A B reads left got new after fault.TooManyTokens h = tt
 stops-as A B reads left got new after fault.OutOfMemory h = tt
 
 -- the reply to one request

@@ -41,9 +41,10 @@ abbrev pub ends : ClientFault → Bool
 ends fault.TooLarge = false
 ends fault.NotWritable = false
 ends fault.Exhausted = false
+ends fault.TooManyTokens = false
 ends other = true
 
--- a client behind calls: it may be called again, but for a fault after which it is done
+-- a client behind a call: it may be called again, but for a fault after which it is done
 abbrev pub IsLeft : {A : Type 0} → Result A ClientFault → Client → Type 0
 IsLeft (Ok found) x = x.is_done ≡ false
 IsLeft (Err f) x = x.is_done ≡ ends f

@@ -21,11 +21,9 @@ use Rattle.ua_channel.specs.Received.{latest}
 use Rattle.ua_channel.specs.declared.client.channel.ClientChannel.{ClientChannel}
 use Rattle.ua_channel.specs.declared.client.fault.AskFault.{AskFault}
 use Rattle.ua_channel.specs.declared.client.fault.AskFault.TheVariants as ask_fault
-use Rattle.ua_client.specs.Client.{IsDone, IsReady}
 use Rattle.ua_client.specs.Hearing.{channel_of, most_reads, Moves, StopsAt}
 use Rattle.ua_client.specs.Opening.{is_opened, any_done, WaitsAt}
 use Rattle.ua_client.specs.Site.{Site, At, id_at, lane_behind}
-use Rattle.ua_client.specs.declared.client.Client.{Client}
 use Rattle.ua_client.specs.declared.connection.Connection.{Connection}
 use Rattle.ua_client.specs.declared.fault.ClientFault.{ClientFault}
 use Rattle.ua_client.specs.declared.fault.ClientFault.TheVariants as fault
@@ -139,10 +137,3 @@ pub record Renews {A : Type 0} (moment : DateTime) (old new : Connection) (befor
   pub stops : StopsAt most_reads most_reads moves.got new after result
 
 -- ---- the client behind it
-
--- a client may be called again behind a renewal and where none was asked; else it is done
-abbrev pub StandsBehind : {A : Type 0} → Result A ClientFault → Client → Type 0
-StandsBehind (Ok done) x = IsReady x
-StandsBehind (Err fault.TooManyTokens) x = IsReady x
-StandsBehind (Err fault.Exhausted) x = IsReady x
-StandsBehind (Err other) x = IsDone x

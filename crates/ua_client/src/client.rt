@@ -5,7 +5,7 @@ ghost use Rattle.ua_octets.specs.Counted.{text};
 ghost use Rattle.ua_client.specs.Calls.{CallsAll};
 ghost use Rattle.ua_client.specs.Client.{OpensNothing, OpensClient, IsDone, IsReady, IsLeft, Closes, client_channel, connection_of};
 ghost use Rattle.ua_client.specs.Hearing.{failures_behind};
-ghost use Rattle.ua_client.specs.Renewing.{Renews, StandsBehind, IsRefusal};
+ghost use Rattle.ua_client.specs.Renewing.{Renews, IsRefusal};
 ghost use Rattle.ua_client.specs.declared.fault.ClientFault.TheVariants.{Closed};
 
 use crate::connection::Connection;
@@ -111,7 +111,7 @@ impl Client {
     /// done.
     pub fn renew<L: Line>(&mut self, line: &mut L, moment: DateTime) -> Result<(), ClientFault>
         ensures renews { IsReady self.old → Renews moment (connection_of self.old) (connection_of self.new) (L.traffic line.old) (L.traffic line.new) result }
-        ensures stands { IsReady self.old → StandsBehind result self.new }
+        ensures left { IsReady self.old → IsLeft result self.new }
         ensures unchanged { IsRefusal result → (self.new ≡ self.old) × (line.new ≡ line.old) }
         ensures closed { IsDone self.old → (result ≡ Err Closed) × (self.new ≡ self.old) × (line.new ≡ line.old) }
         ensures failed { L.failures line.new ≡ failures_behind (L.failures line.old) result }
@@ -119,12 +119,13 @@ impl Client {
         if self.is_done {
             return Err(ClientFault::Closed);
         }
-        let result = self.connection.renew(line, moment);
-        self.is_done = !matches!(
-            result,
-            Ok(()) | Err(ClientFault::TooManyTokens | ClientFault::Exhausted)
-        );
-        result
+        match self.connection.renew(line, moment) {
+            Ok(()) => Ok(()),
+            Err(fault) => {
+                self.is_done = fault.ends();
+                Err(fault)
+            }
+        }
     }
 
     /// Closes the channel by the CLO, after which the client is done.

@@ -56,13 +56,16 @@ impl ClientFault {
     ghost use Rattle.std.specs.Prelude.{◌≡◌};
     ghost use Rattle.ua_client.specs.Client.{ends};
 
-    /// Whether a client is done after this: after all but what is judged of calls before they are asked.
+    /// Whether a client is done after this: after all but what is judged before anything is asked.
     pub(crate) fn ends(self) -> bool
         ensures { result ≡ ends self }
     {
         !matches!(
             self,
-            ClientFault::TooLarge | ClientFault::NotWritable | ClientFault::Exhausted
+            ClientFault::TooLarge
+                | ClientFault::NotWritable
+                | ClientFault::Exhausted
+                | ClientFault::TooManyTokens
         )
     }
 }
