@@ -1,5 +1,5 @@
 -- Which reply a message is to which request.
-use Rattle.std.specs.Prelude.{◌≡◌, ◌+◌, ◌<◌, ◌++◌, ℕ, zero, suc, Bool, true, false, List, [], ◌∷◌, length, Option, Some, None, Result, Ok, Err}
+use Rattle.std.specs.Prelude.{◌≡◌, ◌+◌, ◌<◌, ◌++◌, ℕ, zero, suc, false, List, [], ◌∷◌, length, Option, Some, None, Result, Ok, Err}
 use Rattle.std.specs.List.{concat}
 use Rattle.std.proofs.Common.{refl, sym, ◌∙◌, ap, subst, eqb, get_or, set, arith}
 use Rattle.ua_builtin.specs.declared.date_time.DateTime.{DateTime}
@@ -13,7 +13,7 @@ use Rattle.ua_services.specs.declared.request.Request.{Request}
 use Rattle.ua_services.specs.declared.request.RequestKind.{RequestKind}
 use Rattle.ua_services.specs.declared.response.Response.{Response}
 use Rattle.ua_client.specs.Hearing.{Says}
-use Rattle.ua_client.specs.Replies.{IsAnswer, IsNoAnswer, ReadsAnswer, IsPlace, IsOfNone, IsAt, PlacesReply, AreSlots, FillsSlots}
+use Rattle.ua_client.specs.Replies.{IsAnswer, IsNoAnswer, ReadsAnswer, IsPlace, IsAt, PlacesReply, AreSlots, FillsSlots}
 use Rattle.ua_client.specs.Told.{is_told_of, IsFirstOf}
 use Rattle.ua_client.specs.declared.fault.ClientFault.{ClientFault}
 use Rattle.ua_client.specs.declared.fault.ClientFault.TheVariants as fault

@@ -1,16 +1,12 @@
 -- How replies come to the places of their requests.
-use Rattle.std.specs.Prelude.{◌≡◌, ◌≢◌, ◌+◌, ◌<◌, ◌≤◌, ◌++◌, ◌==◌, ◌⊎◌, ℕ, zero, suc, Bool, true, false, cond, List, [], ◌∷◌, length, Option, Some, None, Result, Ok, Err, slice_set}
-use Rattle.std.proofs.Common.{refl, sym, ◌∙◌, ap, subst, inl, inr, eqb, get_or, set, rules, append_assoc, append-nil, arith, add-zero, add-suc, add_assoc}
-use Rattle.std.specs.List.{concat, filter}
+use Rattle.std.specs.Prelude.{◌≡◌, ◌+◌, ◌<◌, ◌++◌, ℕ, zero, suc, Bool, true, false, cond, List, [], ◌∷◌, length, Option, Some, None}
+use Rattle.std.proofs.Common.{refl, ◌∙◌, ap, subst, inl, inr, eqb, get_or, set, rules, append-nil, arith, add-zero}
 use Rattle.std.proofs.lemmas.Bool.{eqb-true}
-use Rattle.ua_chunk.proofs.Lists.{filter_append}
-use Rattle.ua_builtin.specs.declared.status_code.StatusCode.{StatusCode}
 use Rattle.ua_channel.specs.ClientTold.{Told}
-use Rattle.ua_channel.specs.ClientTold.Told.{Agreed, Opened, Answered, GaveUp, Renewed}
 use Rattle.ua_services.specs.Request.{kind_of}
 use Rattle.ua_services.specs.declared.request.Request.{Request}
 use Rattle.ua_services.specs.declared.request.RequestKind.{RequestKind}
-use Rattle.ua_client.specs.Replies.{IsReplyBy, IsReply, AreReplies, IsMisanswer, IsMisanswered, IsUnanswered, IsSlot, AreSlots, IsAt, IsOfNone}
+use Rattle.ua_client.specs.Replies.{IsReplyBy, IsMisanswer, IsMisanswered, IsSlot, AreSlots, IsAt, IsOfNone}
 use Rattle.ua_client.specs.Told.{is_told_of, told_of, IsFirstOf}
 use Rattle.ua_client.proofs.Hearsay.{told-more}
 use Rattle.ua_client.specs.declared.reply.Reply.{Reply}

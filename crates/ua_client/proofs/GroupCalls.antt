@@ -1,11 +1,9 @@
 -- What becomes of groups of calls.
-use Rattle.std.specs.Prelude.{◌≡◌, ℕ, ◌+◌, ◌-◌, ◌≤◌, ◌<◌, Bool, true, false, cond, is_none, OnOk, OnErr, List, [], ◌∷◌, ◌++◌, length, map, take, drop, min, Option, Some, None, Result, Ok, Err}
-use Rattle.std.proofs.Common.{refl, sym, ◌∙◌, ap, subst, append_assoc, append-nil, arith, suc, add-zero}
-use Rattle.std.proofs.Math.Seq.{take-add, take-length}
-use Rattle.std.proofs.lemmas.List.{length-append, length-drop}
-use Rattle.std.specs.List.{AllByRecursion, concat, list_any}
+use Rattle.std.specs.Prelude.{◌≡◌, ℕ, ◌+◌, ◌<◌, Bool, true, false, cond, is_none, OnOk, OnErr, List, [], ◌∷◌, ◌++◌, length, Option, Some, None, Result, Ok, Err}
+use Rattle.std.proofs.Common.{refl, sym, ◌∙◌, ap, subst, append-nil, arith, suc, add-zero}
+use Rattle.std.proofs.lemmas.List.{length-append}
+use Rattle.std.specs.List.{list_any}
 use Rattle.ua_builtin.specs.Reasons.{or_else}
-use Rattle.ua_octets.specs.Format.{Extends}
 use Rattle.ua_frame.specs.declared.frame.Frame.{Frame}
 use Rattle.ua_services.specs.Request.{request}
 use Rattle.ua_services.specs.declared.request.Request.{Request}
@@ -19,19 +17,17 @@ use Rattle.ua_channel.specs.declared.client.fault.AskFault.{AskFault}
 use Rattle.ua_channel.specs.declared.client.fault.AskFault.TheVariants as ask_fault
 use Rattle.ua_channel.specs.declared.client.phase.Phase.{Phase}
 use Rattle.ua_client.specs.Site.{Site, At, id_at, lane_behind}
-use Rattle.ua_client.specs.Calls.{asked_at, sent_at, AreUntold, GoesOn, Collects, CollectsAt, Answered, BreaksAt, GroupAt, CallsGroup, somes, none_for}
+use Rattle.ua_client.specs.Calls.{asked_at, sent_at, AreUntold, Collects, CollectsAt, BreaksAt, CallsGroup, somes, none_for}
 use Rattle.ua_client.specs.Carried.{Carries, WritesFront}
-use Rattle.ua_client.specs.Hearing.{channel_of, untaken_of, most_reads, Moves, StopsAt, is_line_fault, failures_behind}
-use Rattle.ua_client.specs.Replies.{AreReplies, AreSlots, IsMisanswered, IsUnanswered}
+use Rattle.ua_client.specs.Hearing.{channel_of, untaken_of, Moves, StopsAt, is_line_fault, failures_behind}
 use Rattle.ua_client.specs.Told.{told_of}
-use Rattle.ua_client.specs.Sent.{calls_octets, numbers_behind, calls_at, bodies_of, of_ask, refusal_by, request_refusal, group_refusal, AnswersBy, AsksGroup, AsksFrom, AsksOr}
+use Rattle.ua_client.specs.Sent.{calls_octets, numbers_behind, bodies_of, of_ask, refusal_by, request_refusal, group_refusal, AnswersBy, AsksFrom}
 use Rattle.ua_client.specs.declared.connection.Connection.{Connection}
 use Rattle.ua_client.specs.declared.fault.ClientFault.{ClientFault}
 use Rattle.ua_client.specs.declared.fault.ClientFault.TheVariants as fault
 use Rattle.ua_client.specs.declared.reply.Reply.{Reply}
 use Rattle.ua_client.proofs.Carrying.{carried-nothing, carried-then, carried-as, sends-front}
 use Rattle.ua_client.proofs.Incoming.{all-answered, all-there, collects-none}
-use Rattle.ua_client.proofs.Hearings.{moves-behind}
 
 -- ---- refusals to ask
 

@@ -1,16 +1,15 @@
 -- Groups of calls, one behind another.
-use Rattle.std.specs.Prelude.{◌≡◌, ℕ, ◌+◌, ◌-◌, ◌≤◌, ◌<◌, Bool, true, false, List, [], ◌∷◌, ◌++◌, length, take, drop, min, Option, Some, None, Result, Ok, Err}
+use Rattle.std.specs.Prelude.{◌≡◌, ℕ, ◌+◌, ◌-◌, ◌≤◌, ◌<◌, List, [], ◌∷◌, ◌++◌, length, take, drop, Option, Ok, Err}
 use Rattle.std.proofs.Common.{refl, sym, ◌∙◌, ap, subst, append_assoc, append-nil, arith, zero, suc}
-use Rattle.std.proofs.Math.Seq.{take-add, take-length}
+use Rattle.std.proofs.Math.Seq.{take-add}
 use Rattle.std.proofs.lemmas.List.{length-append, length-drop, take-append-drop}
-use Rattle.std.specs.List.{AllByRecursion}
 use Rattle.ua_services.specs.declared.request.Request.{Request}
 use Rattle.ua_channel.specs.Client.{SameClient}
 use Rattle.ua_channel.specs.Line.{Traffic}
 use Rattle.ua_client.specs.Site.{Site, At}
-use Rattle.ua_client.specs.Calls.{sent_at, Answered, BreaksAt, GroupAt, CallsGroup, Rounds, all_of, AreGroups, AnsweredAll, BrokenAll, AllAt, CallsAll}
+use Rattle.ua_client.specs.Calls.{CallsGroup, Rounds, all_of, AreGroups, AnsweredAll, CallsAll}
 use Rattle.ua_client.specs.Calls.Rounds.{NoRound, OneRound}
-use Rattle.ua_client.specs.Hearing.{channel_of, untaken_of, most_reads, Moves, StopsAt}
+use Rattle.ua_client.specs.Hearing.{channel_of, most_reads, Moves, StopsAt}
 use Rattle.ua_client.specs.declared.connection.Connection.{Connection}
 use Rattle.ua_client.specs.declared.fault.ClientFault.{ClientFault}
 use Rattle.ua_client.specs.declared.fault.ClientFault.TheVariants as fault

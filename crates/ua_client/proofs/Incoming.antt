@@ -1,20 +1,20 @@
 -- How the replies of a group of calls come in.
-use Rattle.std.specs.Prelude.{◌≡◌, ℕ, ◌+◌, ◌≤◌, ◌<◌, ◌⊎◌, Bool, true, false, cond, ◌||◌, is_none, List, [], ◌∷◌, ◌++◌, length, map, take, Option, Some, None, Result, Ok, Err}
+use Rattle.std.specs.Prelude.{◌≡◌, ℕ, ◌+◌, ◌≤◌, ◌<◌, true, false, cond, is_none, List, [], ◌∷◌, ◌++◌, length, take, Option, Some, None, Ok, Err}
 use Rattle.std.proofs.Common.{refl, sym, ◌∙◌, ap, subst, inl, inr, append_assoc, append-nil, arith, zero, suc}
 use Rattle.std.proofs.lemmas.List.{length-append}
 use Rattle.std.specs.List.{list_any}
 use Rattle.ua_builtin.specs.declared.date_time.DateTime.{DateTime}
 use Rattle.ua_channel.specs.Asks.{Placed}
-use Rattle.ua_channel.specs.Client.{Goes, GoesTelling, Ended}
+use Rattle.ua_channel.specs.Client.{Goes, GoesTelling}
 use Rattle.ua_channel.specs.ClientTold.{Told}
 use Rattle.ua_channel.specs.Line.{Traffic, one_more}
 use Rattle.ua_channel.specs.declared.client.channel.ClientChannel.{ClientChannel}
 use Rattle.ua_channel.specs.declared.client.event.ClientEvent.{ClientEvent}
 use Rattle.ua_services.specs.declared.request.Request.{Request}
 use Rattle.ua_client.specs.Calls.{AreUntold, Collects, CollectsAt, GoesOn, none_for, somes}
-use Rattle.ua_client.specs.Hearing.{channel_of, untaken_of, Keeps, Moves, Says, TellsEvent, Hears, HearsAt, StopsAt, is_line_fault}
-use Rattle.ua_client.specs.Replies.{AreReplies, AreSlots, IsSlot, IsUnanswered, IsMisanswered, FillsSlots, is_reading_fault}
-use Rattle.ua_client.specs.Told.{told_of, IsFirstOf}
+use Rattle.ua_client.specs.Hearing.{channel_of, untaken_of, Keeps, Moves, Says, Hears, HearsAt, StopsAt, is_line_fault}
+use Rattle.ua_client.specs.Replies.{AreReplies, AreSlots, IsUnanswered, IsMisanswered, FillsSlots, is_reading_fault}
+use Rattle.ua_client.specs.Told.{IsFirstOf}
 use Rattle.ua_client.specs.declared.connection.Connection.{Connection}
 use Rattle.ua_client.specs.declared.fault.ClientFault.{ClientFault}
 use Rattle.ua_client.specs.declared.fault.ClientFault.TheVariants as fault

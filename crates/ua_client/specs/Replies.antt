@@ -1,5 +1,5 @@
 -- The replies to a client's calls: each is what was told under the request id of its call.
-use Rattle.std.specs.Prelude.{◌≡◌, ◌+◌, ◌==◌, ◌<◌, ◌≤◌, ◌++◌, ◌⊎◌, ℕ, zero, suc, Bool, true, false, List, [], ◌∷◌, length, Option, Some, None, Result, Ok, Err}
+use Rattle.std.specs.Prelude.{◌≡◌, ◌+◌, ◌<◌, ◌⊎◌, ℕ, zero, suc, Bool, true, false, List, [], ◌∷◌, length, Option, Some, None, Result, Ok, Err}
 use Rattle.ua_channel.specs.ClientTold.{Told}
 use Rattle.ua_channel.specs.ClientTold.Told.{Answered, GaveUp}
 use Rattle.ua_services.specs.Message.{IsBody}

@@ -16,6 +16,9 @@ use ua_channel::Line;
 use ua_channel::client_laws::client_goes_on;
 use ua_services::Request;
 
+// What holds a reply is dropped by a call here and in `reply.rt`: dropped in place, each kind of reply
+// would be a case of each function that drops one.
+
 /// Adds a slot without a reply.
 fn add_slot(slots: &mut Vec<Option<Reply>>) -> Result<(), ClientFault>
     ensures ok { OnOk result (slots.new.items ≡ slots.old.items ++ None ∷ []) }
@@ -30,7 +33,7 @@ fn add_slot(slots: &mut Vec<Option<Reply>>) -> Result<(), ClientFault>
     }
 }
 
-/// Makes a slot without a reply for each of so many requests.
+/// Makes a slot without a reply for each of these requests.
 fn make_slots(slots: &mut Vec<Option<Reply>>, requests: &[Request]) -> Result<(), ClientFault>
     requires { slots.old.items ≡ [] }
     ensures none { OnOk result (slots.new.items ≡ none_for requests.now) }

@@ -1,4 +1,4 @@
-use Rattle.std.proofs.Common.{◌≡◌, ◌∷◌, [], refl, Ok, Err}
+use Rattle.std.proofs.Common.{◌∷◌, []}
 use Rattle.ua_client.specs.declared.fault.ClientFault.TheVariants.{Closed}
 use Rattle.ua_client.specs.declared.reply.Reply.{Reply}
 use Rattle.ua_client.proofs.Ones.{calls-one, breaks-one, fault-as, found-none}

@@ -1,11 +1,10 @@
-use Rattle.std.proofs.Common.{◌≡◌, Err, Ok, refl, sym, ◌∙◌, subst}
-use Rattle.std.specs.Prelude.{ℕ, List, [], Option}
+use Rattle.std.proofs.Common.{refl, sym, ◌∙◌, subst}
+use Rattle.std.specs.Prelude.{ℕ, List, []}
 use Rattle.std.proofs.lemmas.Result.{err_from_is_err_and}
 use Rattle.ua_channel.specs.Client.{phase_of}
 use Rattle.ua_channel.specs.Line.{WhereTold}
 use Rattle.ua_client.specs.Carried.{Carries, WritesFront}
 use Rattle.ua_client.specs.declared.connection.Connection.{Connection}
-use Rattle.ua_client.specs.declared.reply.Reply.{Reply}
 use Rattle.ua_client.proofs.GroupCalls.{IsAsked, group-refused, refused-failures, group-unasked, memory-failures, group-unwritten, group-unslotted, group-broken, group-kept, kept-count, kept-failures}
 use Rattle.ua_client.proofs.connection.Connection.call_group.Goals as goal
 
