@@ -120,7 +120,7 @@ agreement_is limits o =
     same_agreement (min limits.receive_buffer_size 65535) (min limits.send_buffer_size 65535) limits.max_message_size limits.max_chunk_count
     (omega (arith, o.receives)) (omega (arith, o.sends)) o.takes_octets o.takes_chunks
 
-url_fits : IsTrue (text.encodable (Some url))
+pub url_fits : IsTrue (text.encodable (Some url))
 url_fits = word_fits url refl refl
 
 hello_fits : (h : Hello) → h ≡ greeting → IsTrue (hello.encodable h)

@@ -5,3 +5,7 @@ mod Waiting
 mod Asking
 mod Saying
 mod Hearing
+mod Pieces
+mod Serving
+mod Hearings
+mod Asked

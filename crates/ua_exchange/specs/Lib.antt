@@ -8,3 +8,4 @@ pub mod Replies
 pub mod Exchanged
 pub mod Groups
 pub mod Reading
+pub mod Standing

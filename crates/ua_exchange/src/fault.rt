@@ -1,5 +1,6 @@
 //! Why two ends make no exchange.
 
+use std::alloc::AllocError;
 use thiserror::Error;
 use ua_channel::AskFault;
 
@@ -16,4 +17,30 @@ pub enum PairFault {
     /// Memory was refused.
     #[error("out of memory")]
     OutOfMemory,
+}
+
+impl PairFault {
+    ghost use Rattle.std.specs.Prelude.{◌≡◌};
+    ghost use Rattle.ua_exchange.specs.Standing.{fault_of_turn};
+
+    /// Why the turn of this index is not asked.
+    pub(crate) fn of_turn(index: usize, fault: AskFault) -> PairFault
+        ensures { result ≡ fault_of_turn index fault }
+    {
+        match fault {
+            AskFault::OutOfMemory => PairFault::OutOfMemory,
+            fault => PairFault::Request(index, fault),
+        }
+    }
+}
+
+impl From<AllocError> for PairFault {
+    ghost use Rattle.std.specs.Prelude.{◌≡◌};
+    ghost use Rattle.ua_exchange.specs.declared.fault.PairFault.TheVariants.{OutOfMemory};
+
+    ghost from_gives = { λ _ e. e ≡ OutOfMemory };
+
+    fn from(_: AllocError) -> PairFault {
+        PairFault::OutOfMemory
+    }
 }

@@ -6,9 +6,13 @@
 //! by the client, each reply under its own request id.
 #![tactic(auto)]
 
+mod client_end;
+mod cuts;
 mod fault;
 pub mod laws;
+mod programs;
 mod reply;
+mod server_end;
 mod turn;
 
 pub use fault::PairFault;

@@ -1,0 +1,140 @@
+//! The client's end of an exchange.
+
+ghost use Rattle.std.specs.Prelude.{◌≡◌, ◌<◌, ◌++◌, false, length, IsTrue, IfOk, OnOk, IfErr, IsErrOf};
+ghost use Rattle.ua_octets.specs.declared.fault.WriteFault.TheVariants.{NotWritable};
+ghost use Rattle.ua_services.specs.Request.{request};
+ghost use Rattle.ua_exchange.specs.Standing.{AsksCall, AsksNext, Greets, HearsEvent, RenewsNext, SaysClose};
+ghost use Rattle.ua_exchange.specs.declared.turn.Turn.TheVariants.{Ask};
+ghost use Rattle.ua_exchange.specs.declared.fault.PairFault.TheVariants.{OutOfMemory};
+
+use crate::cuts::Cuts;
+use crate::fault::PairFault;
+use crate::programs::{limits, url};
+use std::alloc::{AllocError, Global};
+use ua_builtin::{DateTime, WriteFault};
+use ua_channel::{AskFault, ClientChannel, ClientEvent};
+use ua_services::{Request, write_request};
+
+/// The encoding of a request.
+#[tactic(auto, using(crate::proofs::Asking::request_takes_some))]
+fn encode(alloc: Global, message: &Request) -> Result<Vec<u8>, WriteFault>
+    ensures body { IfOk result (λ body. body.items ≡ request.canonical message.now) }
+    ensures some { IfOk result (λ body. 0 < length body.items) }
+    ensures encodable { OnOk result (IsTrue (request.encodable message.now)) }
+    ensures refused { IsErrOf result NotWritable → request.encodable message.now ≡ false }
+{
+    let mut body = Vec::new(alloc);
+    match write_request(message, &mut body) {
+        Ok(()) => Ok(body),
+        Err(fault) => Err(fault),
+    }
+}
+
+/// The client's end: its channel, how many of the server's octets it took, and what it said.
+#[derive(Drop)]
+pub struct ClientEnd {
+    alloc: Global,
+    channel: ClientChannel,
+    taken: usize,
+    pub said: Vec<u8>,
+}
+
+impl ClientEnd {
+    /// A client that has said its HEL.
+    #[tactic(auto, using(crate::proofs::Asked::greets, crate::proofs::Asked::text_fits))]
+    pub fn new(alloc: Global) -> Result<ClientEnd, AllocError>
+        ensures { IfOk result (λ e. Greets e) }
+    {
+        let channel = ClientChannel::new(alloc, limits(), url(alloc)?);
+        let said = channel.hello()?;
+        Ok(ClientEnd {
+            alloc,
+            channel,
+            taken: 0,
+            said,
+        })
+    }
+
+    /// Adds octets to what it said.
+    pub fn say(&mut self, octets: &[u8]) -> Result<(), PairFault>
+        ensures said { OnOk result (self.new.said.items ≡ self.old.said.items ++ octets.now) }
+        ensures kept { self.new ≡ record self.old { said = self.new.said } }
+        ensures failed { IfErr result (λ fault. fault ≡ OutOfMemory) }
+    {
+        match self.said.extend_from_slice(octets) {
+            Ok(()) => Ok(()),
+            Err(_) => Err(PairFault::OutOfMemory),
+        }
+    }
+
+    /// Takes what the server wrote since, in pieces, up to the next event; `None` where it is all
+    /// taken.
+    pub fn next_event(
+        &mut self,
+        down: &[u8],
+        cuts: &mut Cuts,
+        moment: DateTime,
+    ) -> Result<Option<ClientEvent>, PairFault>
+        ensures { HearsEvent moment result self.old self.new down.now }
+    {
+        while self.taken < down.len() {
+            let piece = cuts.front(&down[self.taken..]);
+            let Ok((count, event)) = self.channel.take(piece, moment) else {
+                return Err(PairFault::OutOfMemory);
+            };
+            self.taken += count;
+            cuts.took(count);
+            match event {
+                ClientEvent::NeedMore => {}
+                event => return Ok(Some(event)),
+            }
+        }
+        Ok(None)
+    }
+
+    // ---- turns
+
+    /// Asks a request with this body, the turn of this index.
+    fn ask_body(&mut self, body: &[u8], index: usize) -> Result<(), PairFault>
+        requires { 0 < length body.now }
+        ensures { AsksCall body.now index result self.old self.new }
+    {
+        match self.channel.ask(body) {
+            Ok((_, octets)) => self.say(&octets),
+            Err(fault) => Err(PairFault::of_turn(index, fault)),
+        }
+    }
+
+    /// Asks a request, the turn of this index.
+    #[tactic(auto, using(crate::proofs::Asked::not_written, crate::proofs::Asked::no_memory_for))]
+    pub fn call(&mut self, request: &Request, index: usize) -> Result<(), PairFault>
+        ensures { AsksNext (Ask request.now) index result self.old self.new }
+    {
+        match encode(self.alloc, request) {
+            Ok(body) => self.ask_body(&body, index),
+            Err(WriteFault::NotWritable) => Err(PairFault::NotWritable(index)),
+            Err(WriteFault::OutOfMemory) => Err(PairFault::OutOfMemory),
+        }
+    }
+
+    /// Renews the token, in the turn of this index.
+    pub fn renew(&mut self, index: usize, moment: DateTime) -> Result<(), PairFault>
+        ensures { RenewsNext moment index result self.old self.new }
+    {
+        match self.channel.renew(moment) {
+            Ok((_, octets)) => self.say(&octets),
+            Err(fault) => Err(PairFault::of_turn(index, fault)),
+        }
+    }
+
+    /// Says that the channel is closed.
+    #[tactic(auto, using(crate::proofs::Asked::no_close))]
+    pub fn close(&mut self, moment: DateTime) -> Result<(), PairFault>
+        ensures { SaysClose moment result self.old self.new }
+    {
+        match self.channel.close(moment) {
+            Ok(octets) => self.say(&octets),
+            Err(_) => Err(PairFault::OutOfMemory),
+        }
+    }
+}

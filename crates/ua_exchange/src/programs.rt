@@ -1,0 +1,34 @@
+//! What the two ends are: those of the program `ua`.
+
+ghost use Rattle.std.specs.Prelude.{◌≡◌, Some, IfOk};
+ghost use Rattle.ua_exchange.specs.Programs.{AreOurs, url as server_url};
+
+use std::alloc::{AllocError, Global};
+use ua_builtin::UaString;
+use ua_frame::Limits;
+
+/// The most octets of a frame, each way.
+const FRAME_SIZE: u32 = 65535;
+
+/// The most octets of a message.
+const MESSAGE_SIZE: u32 = 1_048_576;
+
+/// The most chunks of a message.
+const CHUNK_COUNT: u32 = 256;
+
+/// Where the server is found.
+const URL: &str = "opc.tcp://localhost:4840";
+
+/// The limits of both ends.
+pub fn limits() -> Limits
+    ensures { AreOurs result }
+{
+    Limits::new(FRAME_SIZE, FRAME_SIZE, MESSAGE_SIZE, CHUNK_COUNT).unwrap()
+}
+
+/// The URL of the server.
+pub fn url(alloc: Global) -> Result<UaString, AllocError>
+    ensures { IfOk result (λ u. u ≡ Some server_url) }
+{
+    UaString::from_str(alloc, URL)
+}
