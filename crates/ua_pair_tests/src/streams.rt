@@ -115,7 +115,7 @@ pub const CLIENT_STREAM: &[&[u8]] = &[
     b"\x01\0\xC4\x01", // i=452
     b"\0\0", // authentication token
     b"\0\x80\x3E\xD5\xDE\xB1\x9D\x01", // timestamp
-    b"\x07\0\0\0", // request handle
+    b"\0\0\0\0", // request handle
     b"\0\0\0\0\xFF\xFF\xFF\xFF\0\0\0\0\0\0\0", // diagnostics, audit entry, timeout hint, additional header
 ];
 
@@ -287,7 +287,7 @@ pub const RENEWING_END: &[&[u8]] = &[
     b"\x01\0\xC4\x01", // i=452
     b"\0\0", // authentication token
     b"\0\x80\x3E\xD5\xDE\xB1\x9D\x01", // timestamp
-    b"\x08\0\0\0", // request handle
+    b"\0\0\0\0", // request handle
     b"\0\0\0\0\xFF\xFF\xFF\xFF\0\0\0\0\0\0\0", // diagnostics, audit entry, timeout hint, additional header
 ];
 
