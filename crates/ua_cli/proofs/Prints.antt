@@ -1,9 +1,10 @@
 -- What is printed of a file.
-use Rattle.std.proofs.Common.{◌≡◌, ℕ, Bool, true, false, List, [], ◌++◌, sym, refl, ap, subst, ◌∙◌}
+use Rattle.std.proofs.Common.{◌≡◌, ℕ, Bool, true, false, List, [], ◌++◌, sym, refl, ap, subst, ◌∙◌, Option}
 use Rattle.ua_pair.specs.declared.side.Side.{Side}
 use Rattle.ua_pair.specs.Dissected.{AreLines, AddsLines}
 use Rattle.ua_cli.specs.Digits.{HoldsOctets, IsHex}
-use Rattle.ua_cli.specs.Printed.{AreLinesOf, AreSomeLines}
+use Rattle.std.specs.Io.KnownBytes.{Appends}
+use Rattle.ua_cli.specs.Printed.{AreLinesOf, AreSomeLines, HasDissected}
 
 -- lines that were added to an empty text
 pub alone : (side : Side) (octets old new : List ℕ) → old ≡ [] → AddsLines side octets old new → AreLines side octets new
@@ -20,3 +21,7 @@ of_digits hex side content digits octets text asked is same lines = record { oct
 -- they are the lines of some octets
 pub of_some : (hex : Bool) (side : Side) (content text : List ℕ) → AreLinesOf hex side content text → AreSomeLines text
 of_some hex side content text l = record { side = side; octets = l.octets; lines = l.lines }
+
+-- they were added to a writer
+pub added_lines : (text shown : List ℕ) (old new : Option (List ℕ)) → AreSomeLines text → shown ≡ text → Appends old new shown → HasDissected old new
+added_lines text shown old new lines same added = record { text = text; lines = lines; added = subst (λ t. Appends old new t) same added }

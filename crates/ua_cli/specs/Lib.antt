@@ -1,2 +1,5 @@
 pub mod Digits
+pub mod Moment
+pub mod Refused
+pub mod Served
 pub mod Printed

@@ -1,9 +1,10 @@
 -- What the program prints of a file, and what a run leaves on a stream.
-use Rattle.std.specs.Prelude.{ℕ, Bool, List, Option}
+use Rattle.std.specs.Prelude.{◌⊎◌, ℕ, Bool, List, Option}
 use Rattle.std.specs.Io.KnownBytes.{Appends}
 use Rattle.ua_pair.specs.declared.side.Side.{Side}
 use Rattle.ua_pair.specs.Dissected.{AreLines}
 use Rattle.ua_cli.specs.Digits.{HoldsOctets}
+use Rattle.ua_cli.specs.Served.{HasServed}
 
 -- the text is the lines of the octets of this side that a file with this content holds, with `--hex` or without
 pub record AreLinesOf (hex : Bool) (side : Side) (content text : List ℕ) : Type 0 where
@@ -18,7 +19,17 @@ pub record AreSomeLines (text : List ℕ) : Type 0 where
   pub lines : AreLines side octets text
 
 -- a writer that held the old octets then holds the lines of some octets behind them
-pub record HasPrinted (old new : Option (List ℕ)) : Type 0 where
+pub record HasDissected (old new : Option (List ℕ)) : Type 0 where
   pub text : List ℕ
   pub lines : AreSomeLines text
   pub added : Appends old new text
+
+-- a writer that held the old octets then holds behind them the first lines of `ua serve` on some port
+pub record HasBegunServing (old new : Option (List ℕ)) : Type 0 where
+  pub port : ℕ
+  pub connections : ℕ
+  pub lines : HasServed port connections old new
+
+-- what a run adds that does what its words ask for
+abbrev pub HasPrinted : Option (List ℕ) → Option (List ℕ) → Type 0
+HasPrinted old new = HasDissected old new ⊎ HasBegunServing old new

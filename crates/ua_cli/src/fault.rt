@@ -2,6 +2,7 @@
 
 use std::alloc::AllocError;
 use thiserror::Error;
+use ua_nodes::LineReason;
 
 /// Why a command stopped; its text stands behind `ua: ` on standard error.
 #[derive(Clone, Copy, PartialEq, Eq, Debug, Error)]
@@ -10,6 +11,12 @@ pub enum Fault<'a> {
     CannotRead(&'a str),
     #[error("{0} is not hexadecimal")]
     NotHexadecimal(&'a str),
+    /// The first bad line of a node file, and the first reason against it.
+    #[error("line {line}: {reason}")]
+    Line { line: usize, reason: LineReason },
+    /// A port cannot be listened on, or gives no connection.
+    #[error("cannot listen")]
+    CannotListen,
     #[error("no memory")]
     NoMemory,
 }

@@ -1,7 +1,10 @@
-//! Files of octets.
+//! Files.
 
 ghost use Rattle.std.specs.Prelude.{◌≡◌, ◌⊎◌, ℕ, List, IfOk, IfErr};
 ghost use Rattle.ua_cli.specs.Digits.{digits_in, IsHex};
+ghost use Rattle.ua_nodes.specs.NodeFile.{WriteNodes, node_lines};
+ghost use Rattle.ua_nodes.specs.Sound.{IsSound};
+ghost use Rattle.ua_cli.specs.Refused.{RefusesNodes};
 ghost use Rattle.ua_cli.specs.declared.fault.Fault.TheVariants.{CannotRead, NoMemory, NotHexadecimal};
 
 use crate::fault::Fault;
@@ -9,6 +12,7 @@ use hex::FromHexError;
 use std::alloc::{AllocError, Global};
 use std::rt::Files;
 use std::{fs, io};
+use ua_nodes::{LoadFault, NodeTable};
 
 /// The octets of a file.
 pub fn read_file<'a, R: Files + AllocGlobal>(rt: &R, file: &'a str) -> Result<Vec<u8>, Fault<'a>>
@@ -45,5 +49,28 @@ pub fn decode_hex<'a>(alloc: Global, file: &'a str, text: &[u8]) -> Result<Vec<u
         Ok(octets) => Ok(octets),
         Err(FromHexError::OutOfMemory) => Err(Fault::NoMemory),
         Err(_) => Err(Fault::NotHexadecimal(file)),
+    }
+}
+
+/// The text of a file; one that is not UTF-8 cannot be read.
+pub fn read_text<'a, R: Files + AllocGlobal>(rt: &R, file: &'a str) -> Result<String, Fault<'a>>
+    ensures { IfErr result (λ fault. (fault ≡ NoMemory) ⊎ (fault ≡ CannotRead file.entry)) }
+{
+    match String::from_utf8(read_file(rt, file)?) {
+        Ok(text) => Ok(text),
+        Err(_) => Err(Fault::CannotRead(file)),
+    }
+}
+
+/// The nodes that the lines of a text write.
+pub fn parse_nodes<'a>(alloc: Global, text: &str) -> Result<NodeTable, Fault<'a>>
+    ensures nodes { IfOk result (λ nodes. WriteNodes (node_lines text.now) nodes) }
+    ensures sound { IfOk result (λ nodes. IsSound nodes) }
+    ensures faults { IfErr result (λ fault. RefusesNodes text.now fault) }
+{
+    match NodeTable::load(alloc, text) {
+        Ok(nodes) => Ok(nodes),
+        Err(LoadFault::Line { line, reason }) => Err(Fault::Line { line, reason }),
+        Err(LoadFault::OutOfMemory) => Err(Fault::NoMemory),
     }
 }

@@ -3,10 +3,19 @@
 #![tactic(auto)]
 
 mod arguments;
+mod clock_moments;
 mod dissect;
 mod fault;
 mod input;
+#[cfg(test)]
+mod lines_tests;
+mod number;
+mod output;
 mod run;
+mod serve;
+#[cfg(test)]
+mod serve_tests;
+mod tcp_line;
 #[cfg(test)]
 mod tests;
 

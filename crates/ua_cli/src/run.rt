@@ -1,24 +1,30 @@
 //! The program's commands.
 
-ghost use Rattle.std.specs.Prelude.{◌≡◌, ◌≤◌, ◌≢◌, ◌⊎◌, string_bytes, IfOk, OnOk};
+ghost use Rattle.std.specs.Prelude.{◌≡◌, ◌≤◌, ◌≢◌, ◌⊎◌, IfErr, OnOk};
 ghost use Rattle.std.specs.Io.KnownBytes.{Appends};
 ghost use Rattle.std.specs.IoError.{error_kind};
 ghost use Rattle.std.specs.declared.io.ErrorKind.TheVariants.{OutOfMemory};
-ghost use Rattle.ua_cli.specs.Printed.{AreSomeLines, HasPrinted};
+ghost use Rattle.ua_cli.specs.Printed.{HasBegunServing, HasDissected, HasPrinted};
+ghost use Rattle.ua_cli.specs.declared.output.Stop.TheVariants.{Output};
 
 use crate::arguments::{self, Dissect, Request};
 use crate::dissect::dissect_content;
 use crate::fault::Fault;
 use crate::input::read_file;
+use crate::output::{Stop, say, write_text};
+use crate::serve::serve_connections;
 use clap::error::ErrorKind;
+use std::alloc::Global;
 use std::convert::AsStr;
 use std::io;
 use std::io::Write;
+use std::net::Net;
 use std::rt::Files;
+use std::time::Clock;
 
 /// Runs the program on its words, of which the first is its name. The status is 0 where the
 /// command is done, 1 where it met a fault or a writer failed, 2 where the words don't parse.
-pub fn run<S: AsStr, R: Files + AllocGlobal, O: Write, E: Write>(
+pub fn run<S: AsStr, R: Files + Net + Clock + AllocGlobal, O: Write, E: Write>(
     rt: &R,
     words: &[S],
     out: &mut O,
@@ -28,38 +34,60 @@ pub fn run<S: AsStr, R: Files + AllocGlobal, O: Write, E: Write>(
     ensures done { result ≡ 0 → HasPrinted (O.contents out.old) (O.contents out.new) }
     ensures silent { result ≡ 0 → err.new ≡ err.old }
     ensures refused { result ≡ 2 → out.new ≡ out.old }
-    ensures streams { (out.new ≡ out.old) ⊎ (err.new ≡ err.old) }
+    ensures streams { (out.new ≡ out.old) ⊎ (err.new ≡ err.old) ⊎ HasBegunServing (O.contents out.old) (O.contents out.new) }
 {
     let asked = match arguments::parse(rt.alloc(), words) {
-        Ok(Request::Dissect(asked)) => asked,
-        Ok(Request::Nothing) => return print(err, "ua: a command is missing\n", 2),
-        Err(error) if error.kind() == ErrorKind::OutOfMemory => return print(
-            err,
-            "ua: no memory\n",
-            1,
-        ),
-        Err(error) => {
-            return match format!(in rt.alloc(); "{error}") {
-                Ok(text) => print(err, text.as_str(), 2),
-                Err(_) => print(err, "ua: no memory\n", 1),
-            };
-        }
+        Ok(asked) => asked,
+        Err(error) => return refuse(rt.alloc(), &error, err),
     };
-    match dissect(rt, &asked) {
-        Ok(text) => print(out, text.as_str(), 0),
-        Err(fault) => match format!(in rt.alloc(); "ua: {fault}\n") {
-            Ok(text) => print(err, text.as_str(), 1),
-            Err(_) => print(err, "ua: no memory\n", 1),
-        },
+    let done = match asked {
+        Request::Dissect(asked) => dissect(rt, &asked, out),
+        Request::Serve(asked) => serve_connections(rt, &asked, out),
+        Request::NoNumber => return print(err, "ua: a number is not from 1 to 65535\n", 2),
+        Request::Nothing => return print(err, "ua: a command is missing\n", 2),
+    };
+    match done {
+        Ok(()) => 0,
+        Err(Stop::Fault(fault)) => tell(rt.alloc(), &fault, err),
+        Err(Stop::Output) => 1,
     }
 }
 
-/// What `ua dissect` prints.
-fn dissect<'a, R: Files + AllocGlobal>(rt: &R, asked: &Dissect<'a>) -> Result<String, Fault<'a>>
-    ensures { IfOk result (λ text. AreSomeLines (string_bytes text)) }
+/// Tells why words don't parse. The status is 2, or 1 where memory was refused or `err` fails.
+fn refuse<E: Write>(alloc: Global, error: &clap::Error, err: &mut E) -> u8
+    ensures { (result ≡ 1) ⊎ (result ≡ 2) }
+{
+    if error.kind() == ErrorKind::OutOfMemory {
+        return print(err, "ua: no memory\n", 1);
+    }
+    match format!(in alloc; "{error}") {
+        Ok(text) => print(err, text.as_str(), 2),
+        Err(_) => print(err, "ua: no memory\n", 1),
+    }
+}
+
+/// Tells a fault. The status is 1.
+fn tell<E: Write>(alloc: Global, fault: &Fault<'_>, err: &mut E) -> u8
+    ensures { result ≡ 1 }
+{
+    match format!(in alloc; "ua: {fault}\n") {
+        Ok(text) => print(err, text.as_str(), 1),
+        Err(_) => print(err, "ua: no memory\n", 1),
+    }
+}
+
+/// Prints the frames and messages of a file.
+fn dissect<'a, R: Files + AllocGlobal, O: Write>(
+    rt: &R,
+    asked: &Dissect<'a>,
+    out: &mut O,
+) -> Result<(), Stop<'a>>
+    ensures dissected { OnOk result (HasDissected (O.contents out.old) (O.contents out.new)) }
+    ensures stopped { IfErr result (λ stop. (stop ≡ Output) ⊎ (out.new ≡ out.old)) }
 {
     let content = read_file(rt, asked.file)?;
-    dissect_content(rt.alloc(), asked, content.as_slice())
+    let text = dissect_content(rt.alloc(), asked, content.as_slice())?;
+    say(out, &text)
 }
 
 /// Tells why the words of the command line could not be gathered. The status is 2 where a word is
@@ -83,11 +111,4 @@ fn print<W: Write>(to: &mut W, text: &str, status: u8) -> u8
         Ok(()) => status,
         Err(_) => 1,
     }
-}
-
-fn write_text<W: Write>(to: &mut W, text: &str) -> io::Result<()>
-    ensures { OnOk result (Appends (W.contents to.old) (W.contents to.new) text.now) }
-{
-    to.write_all(text.as_bytes())?;
-    to.flush()
 }

@@ -2,9 +2,11 @@
 
 use crate::run::{refuse_words, run};
 use std::io::Write;
+use std::net::{Net, TcpListener};
 use std::process::Abort;
 use std::rt::Files;
 use std::test::Fail;
+use std::time::Clock;
 use std::{fs, io};
 
 /// The HEL of a client that takes 65535 octets each way, to `opc.tcp://localhost:4840`.
@@ -69,7 +71,7 @@ impl Write for Unflushed {
 }
 
 /// Runs `ua` on words, and compares what it writes and its status.
-fn expect_run<R: Files + AllocGlobal + Abort>(
+fn expect_run<R: Files + Net + Clock + AllocGlobal + Abort>(
     rt: &R,
     words: &[&str],
     want_out: &str,
@@ -86,7 +88,7 @@ fn expect_run<R: Files + AllocGlobal + Abort>(
 }
 
 /// Puts octets into a file, and runs `ua dissect` on it.
-fn expect_dissected<R: Files + AllocGlobal + Abort>(
+fn expect_dissected<R: Files + Net + Clock + AllocGlobal + Abort>(
     rt: &R,
     octets: &[u8],
     want: &str,
@@ -217,14 +219,49 @@ fn names_a_file_that_it_cannot_read(rt: HostRuntime) -> Result<(), Fail> {
 }
 
 #[test]
+fn serves_no_nodes_that_a_file_does_not_write(rt: HostRuntime) -> Result<(), Fail> {
+    let words = ["ua", "serve", "nodes.txt", "4840"];
+    fs::write(&rt, "nodes.txt", b"\xFF")?;
+    expect_run(&rt, &words, "", "ua: cannot read nodes.txt\n", 1)?;
+    let rows = [
+        ("# pumps\r\n\r\ni=1\tr\tOne\tByte", "ua: line 3: Fields\n"),
+        ("i=1\tr\tOne\tByte\t256\n", "ua: line 1: Value\n"),
+        (
+            "i=1\tr\tOne\tByte\t1\nns=0;i=1\tr\tOne\tByte\t1\n",
+            "ua: line 2: Duplicate\n",
+        ),
+    ];
+    for (nodes, fault) in rows {
+        fs::write(&rt, "nodes.txt", nodes)?;
+        expect_run(&rt, &words, "", fault, 1)?;
+    }
+    Ok(())
+}
+
+#[test]
+fn takes_no_port_that_is_taken(rt: HostRuntime) -> Result<(), Fail> {
+    fs::write(&rt, "nodes.txt", "")?;
+    let listener = TcpListener::bind(&rt, "127.0.0.1:0")?;
+    let port = listener.local_addr()?.port().to_string(rt.alloc())?;
+    let words = ["ua", "serve", "nodes.txt", port.as_str()];
+    expect_run(&rt, &words, "", "ua: cannot listen\n", 1)
+}
+
+#[test]
 fn refuses_words_that_do_not_parse(rt: HostRuntime) -> Result<(), Fail> {
-    let rows: [&[&str]; 6] = [
+    let rows: [&[&str]; 12] = [
         &[],
         &["ua"],
         &["ua", "dissect"],
         &["ua", "dissect", "a", "b"],
         &["ua", "walk"],
         &["ua", "--help"],
+        &["ua", "serve", "nodes.txt"],
+        &["ua", "serve", "nodes.txt", "0"],
+        &["ua", "serve", "nodes.txt", "65536"],
+        &["ua", "serve", "nodes.txt", "+5"],
+        &["ua", "serve", "nodes.txt", "5", "--connections", "0"],
+        &["ua", "serve", "nodes.txt", "5", "--connections", "x"],
     ];
     for words in rows {
         let mut out = Vec::new(rt.alloc());

@@ -1,0 +1,61 @@
+//! What is printed as a command goes on.
+
+ghost use Rattle.std.specs.Prelude.{◌≡◌, IfErr, OnOk};
+ghost use Rattle.std.specs.Io.KnownBytes.{Appends};
+ghost use Rattle.ua_cli.specs.declared.output.Stop.TheVariants.{Output};
+
+use crate::fault::Fault;
+use std::alloc::AllocError;
+use std::io;
+use std::io::Write;
+
+/// Why a command stops.
+#[derive(Clone, Copy, PartialEq, Eq, Debug)]
+pub enum Stop<'a> {
+    /// A fault, which is told.
+    Fault(Fault<'a>),
+    /// What it prints cannot be written.
+    Output,
+}
+
+impl<'a> From<Fault<'a>> for Stop<'a> {
+    ghost use Rattle.std.specs.Prelude.{◌≡◌};
+    ghost use Rattle.ua_cli.specs.declared.output.Stop.TheVariants as stop;
+
+    ghost from_gives = { λ fault stopped. stopped ≡ stop.Fault fault };
+
+    fn from(fault: Fault<'a>) -> Self {
+        Stop::Fault(fault)
+    }
+}
+
+impl From<AllocError> for Stop<'_> {
+    ghost use Rattle.std.specs.Prelude.{◌≡◌};
+    ghost use Rattle.ua_cli.specs.declared.fault.Fault.TheVariants.{NoMemory};
+    ghost use Rattle.ua_cli.specs.declared.output.Stop.TheVariants as stop;
+
+    ghost from_gives = { λ _ stopped. stopped ≡ stop.Fault NoMemory };
+
+    fn from(_: AllocError) -> Self {
+        Stop::Fault(Fault::NoMemory)
+    }
+}
+
+/// Prints a text, whole.
+pub fn say<'a, O: Write>(out: &mut O, text: &str) -> Result<(), Stop<'a>>
+    ensures said { OnOk result (Appends (O.contents out.old) (O.contents out.new) text.now) }
+    ensures failed { IfErr result (λ stop. stop ≡ Output) }
+{
+    match write_text(out, text) {
+        Ok(()) => Ok(()),
+        Err(_) => Err(Stop::Output),
+    }
+}
+
+/// Writes a text and flushes it.
+pub fn write_text<W: Write>(to: &mut W, text: &str) -> io::Result<()>
+    ensures { OnOk result (Appends (W.contents to.old) (W.contents to.new) text.now) }
+{
+    to.write_all(text.as_bytes())?;
+    to.flush()
+}
