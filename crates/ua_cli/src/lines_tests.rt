@@ -18,7 +18,7 @@ fn a_line_carries_octets_over_a_connection(rt: HostRuntime) -> Result<(), Fail> 
     assert_eq!(rt; near.write(b"Pump"), Ok(4));
     let mut buffer = [0; 8];
     assert_eq!(rt; far.read(&mut buffer), Ok(4));
-    assert_eq!(rt; buffer.as_slice(), b"Pump\0\0\0\0");
+    assert_eq!(rt; buffer.as_slice(), b"Pump\0\0\0\0".as_slice());
     drop(near);
     assert_eq!(rt; far.read(&mut buffer), Ok(0));
     Ok(())
@@ -70,6 +70,7 @@ fn a_write_that_takes_nothing_is_a_failure(rt: HostRuntime) {
 }
 
 /// A clock that stands at this time, or fails.
+#[derive(Drop)]
 struct Stopped(Option<Duration>);
 
 impl Clock for Stopped {

@@ -80,39 +80,42 @@ fn serves_a_connection(rt: HostRuntime) -> Result<(), Fail> {
     Ok(())
 }
 
-/// How many octets of the client come, which read and which write fails, and what is said then.
-type Course = (usize, Option<usize>, Option<usize>, &'static str);
+/// The number of a connection, how many octets of the client come, which read and which write fails,
+/// and what is said then.
+type Course = (u32, usize, Option<usize>, Option<usize>, &'static str);
 
 /// What is said of a connection over such a line.
 fn said(rt: &impl Abort, alloc: Global, course: Course) -> String {
-    let (len, fail_read, fail_write, _) = course;
+    let (number, len, fail_read, fail_write, _) = course;
     let mut octets = hex::decode(alloc, CLIENT).expect(rt, "octets");
     octets.truncate(len);
-    let all = Vec::new(alloc);
-    let mut line = MemoryLine::new(alloc, octets, all, Vec::new(alloc), fail_read, fail_write);
+    let (reads, writes) = (Vec::new(alloc), Vec::new(alloc));
+    let mut line = MemoryLine::new(alloc, octets, reads, writes, fail_read, fail_write);
     let mut served = services(alloc, NODES, 4840).expect(rt, "services");
-    serve_line(
-        alloc,
-        &mut line,
-        &mut served,
-        65535,
-        &mut moments(rt, alloc),
-    )
-    .expect(rt, "memory")
+    let mut moments = moments(rt, alloc);
+    serve_line(alloc, &mut line, &mut served, number, &mut moments).expect(rt, "memory")
 }
 
+// The client's messages name the channel 1.
 #[test]
 fn says_what_became_of_a_connection(rt: HostRuntime) {
     let alloc = rt.alloc();
-    let rows: [Course; 5] = [
-        (757, None, None, "connection 65535 Closed\n"),
-        (700, None, None, "connection 65535 NoClose\n"),
-        (690, None, None, "connection 65535 Cut\n"),
-        (757, Some(1), None, "connection 65535 Read\n"),
-        (757, None, Some(2), "connection 65535 Write\n"),
+    let rows: [Course; 6] = [
+        (1, 757, None, None, "connection 1 Closed\n"),
+        (1, 700, None, None, "connection 1 NoClose\n"),
+        (1, 690, None, None, "connection 1 Cut\n"),
+        (1, 757, Some(1), None, "connection 1 Read\n"),
+        (1, 757, None, Some(2), "connection 1 Write\n"),
+        (
+            65535,
+            757,
+            None,
+            None,
+            "connection 65535 Refused 807F0000\n",
+        ),
     ];
     for course in rows {
         let text = said(&rt, alloc, course);
-        assert_eq!(rt; text.as_str(), course.3);
+        assert_eq!(rt; text.as_str(), course.4);
     }
 }
