@@ -148,7 +148,7 @@ group-refused {A} requests x t reads f replies h = record {
     stops fault.Exhausted e = tt
     stops fault.Closed e = tt
     stops fault.OutOfMemory e = tt
-    stops fault.Read e = tt
+    stops fault.Read e = let no : is_asking_fault fault.Read ≡ true = by-group (phase_of (channel_of x)) 0 requests fault.Read e in absurd cc
     stops fault.Write e = tt
     stops fault.Ended e = let no : is_asking_fault fault.Ended ≡ true = by-group (phase_of (channel_of x)) 0 requests fault.Ended e in absurd cc
     stops (fault.Peer code) e = tt

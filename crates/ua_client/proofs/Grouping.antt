@@ -126,11 +126,11 @@ module _ (requests group : List Request) (old now new : Connection) (before at t
   }
     where
       stops : (y : ClientFault) → StopsAt {A = A} left less g.moves.got new then (Err y) → StopsAt {A = B} most_reads most_reads (c.moves.got ++ g.moves.got) new then (Err y)
-      stops fault.TooLong h = let l = length-append c.moves.got g.moves.got in let s = c.spent in omega (arith, l, s, h)
+      stops fault.TooLong h = (h.0, let l = length-append c.moves.got g.moves.got in let s = c.spent in let few = h.1 in omega (arith, l, s, few))
       stops fault.Ended h = h
       stops (fault.Peer code) h = tt
       stops (fault.Refused code) h = tt
-      stops fault.Read h = tt
+      stops fault.Read h = h
       stops fault.UnknownResponse h = tt
       stops fault.OutOfMemory h = tt
       stops fault.Write h = tt

@@ -227,7 +227,7 @@ module _ (old now mid : Connection) (before at then : Option Traffic) (reads lef
     channel-stops (fault.Refused code) got h = tt
     channel-stops fault.OutOfMemory got h = tt
     channel-stops fault.Closed got h = tt
-    channel-stops fault.Read got h = tt
+    channel-stops fault.Read got h = absurd cc
     channel-stops fault.Write got h = tt
     channel-stops fault.Ended got h = absurd cc
     channel-stops fault.UnknownResponse got h = tt
@@ -281,9 +281,9 @@ module _ (old now mid : Connection) (before at then : Option Traffic) (reads lef
   moment-free moment fault.OutOfMemory got h asks octets told g = absurd h
 
   read-stops : (x : ClientFault) (got : List ℕ) → FillsAt {A = Unit {0}} left less got mid then (Err x) → StopsAt {A = ClientEvent} reads less (q.moves.got ++ got) mid then (Err x)
-  read-stops fault.TooLong got h = let l = length-append q.moves.got got in let s = q.spent in omega (arith, l, s, h)
+  read-stops fault.TooLong got h = (h.0, let l = length-append q.moves.got got in let s = q.spent in let few = h.1 in omega (arith, l, s, few))
   read-stops fault.Ended got h = h
-  read-stops fault.Read got h = tt
+  read-stops fault.Read got h = h
   read-stops fault.Write got h = absurd h
   read-stops (fault.Peer code) got h = absurd h
   read-stops (fault.Refused code) got h = absurd h

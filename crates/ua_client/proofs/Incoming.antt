@@ -193,9 +193,9 @@ module _ (requests : List Request) (first : ℕ) (old now new : Connection) (bef
       by fault.TooManyTokens k = absurd k
 
   stops-behind : (A : Type 0) (x : ClientFault) (got : List ℕ) → StopsAt {A = ClientEvent} left less got new then (Err x) → StopsAt {A = A} reads less (w.moves.got ++ got) new then (Err x)
-  stops-behind A fault.TooLong got h = let l = length-append w.moves.got got in let s = w.spent in omega (arith, l, s, h)
+  stops-behind A fault.TooLong got h = (h.0, let l = length-append w.moves.got got in let s = w.spent in let few = h.1 in omega (arith, l, s, few))
   stops-behind A fault.Ended got h = h
-  stops-behind A fault.Read got h = tt
+  stops-behind A fault.Read got h = h
   stops-behind A fault.Write got h = tt
   stops-behind A (fault.Peer code) got h = tt
   stops-behind A (fault.Refused code) got h = tt
@@ -232,7 +232,7 @@ module _ (requests : List Request) (first : ℕ) (old now new : Connection) (bef
       reading-stops B fault.OutOfMemory got f = tt
       reading-stops B fault.TooLong got f = absurd cc
       reading-stops B fault.Ended got f = absurd cc
-      reading-stops B fault.Read got f = tt
+      reading-stops B fault.Read got f = absurd cc
       reading-stops B fault.Write got f = tt
       reading-stops B (fault.Peer code) got f = tt
       reading-stops B (fault.Refused code) got f = tt

@@ -14,7 +14,7 @@ use Rattle.ua_client.specs.declared.reply.Reply.{Reply}
 stops-as : (A B : Type 0) (reads left : ℕ) (got : List ℕ) (new : Connection) (after : Option Traffic) (f : ClientFault) → StopsAt {A = A} reads left got new after (Err f) → StopsAt {A = B} reads left got new after (Err f)
 stops-as A B reads left got new after fault.TooLong h = h
 stops-as A B reads left got new after fault.Ended h = h
-stops-as A B reads left got new after fault.Read h = tt
+stops-as A B reads left got new after fault.Read h = h
 stops-as A B reads left got new after fault.Write h = tt
 stops-as A B reads left got new after (fault.Peer code) h = tt
 stops-as A B reads left got new after (fault.Refused code) h = tt

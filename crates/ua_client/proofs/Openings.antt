@@ -202,9 +202,9 @@ module _ (test : ClientEvent → Bool) (wanted : Told → Bool) (tests : Tests t
       by fault.Closed asks octets told heard none k = absurd k
 
       stops : (y : ClientFault) (got : List ℕ) → StopsAt {A = ClientEvent} left less got new then (Err y) → StopsAt {A = A} reads less (w.moves.got ++ got) new then (Err y)
-      stops fault.TooLong got k = let l = length-append w.moves.got got in let s = w.spent in omega (arith, l, s, k)
+      stops fault.TooLong got k = (k.0, let l = length-append w.moves.got got in let s = w.spent in let few = k.1 in omega (arith, l, s, few))
       stops fault.Ended got k = k
-      stops fault.Read got k = tt
+      stops fault.Read got k = k
       stops fault.Write got k = tt
       stops (fault.Peer code) got k = tt
       stops (fault.Refused code) got k = tt
@@ -288,7 +288,7 @@ module _ (moment : DateTime) (x mid : Connection) (hello : List ℕ) (a b c : Op
       stops : (y : ClientFault) → StopsAt {A = B} most_reads left h.moves.got mid c (Err y) → StopsAt {A = A} most_reads most_reads h.moves.got mid c (Err y)
       stops fault.TooLong k = k
       stops fault.Ended k = k
-      stops fault.Read k = tt
+      stops fault.Read k = k
       stops fault.Write k = tt
       stops (fault.Peer code) k = tt
       stops (fault.Refused code) k = tt
@@ -387,9 +387,9 @@ module _ (moment : DateTime) (x mid : Connection) (hello : List ℕ) (a b c : Op
           by fault.Closed g told agreed i = absurd i
 
           stops : (y : ClientFault) → StopsAt {A = Unit {0}} left less k.moves.got new e (Err y) → StopsAt {A = Unit {0}} most_reads most_reads (h.moves.got ++ k.moves.got) new e (Err y)
-          stops fault.TooLong i = let l = length-append h.moves.got k.moves.got in let s = h.stops in omega (arith, l, s, i)
+          stops fault.TooLong i = (i.0, let l = length-append h.moves.got k.moves.got in let s = h.stops in let few = i.1 in omega (arith, l, s, few))
           stops fault.Ended i = i
-          stops fault.Read i = tt
+          stops fault.Read i = i
           stops fault.Write i = tt
           stops (fault.Peer code) i = tt
           stops (fault.Refused code) i = tt

@@ -375,7 +375,7 @@ module _ (moment : DateTime) (x mid new : Connection) (id : ℕ) (out : List ℕ
         stops : (y : ClientFault) → StopsAt {A = Unit {0}} most_reads left h.moves.got new c (Err y) → StopsAt {A = Unit {0}} most_reads most_reads h.moves.got new c (Err y)
         stops fault.TooLong k = k
         stops fault.Ended k = k
-        stops fault.Read k = tt
+        stops fault.Read k = k
         stops fault.Write k = tt
         stops (fault.Peer code) k = tt
         stops (fault.Refused code) k = tt

@@ -132,9 +132,9 @@ effort reads x = 4097 * reads + length (untaken_of x)
 -- is the end of the input; or the line failed
 abbrev pub FillsAt : {A : Type 0} → ℕ → ℕ → List ℕ → Connection → Option Traffic → Result A ClientFault → Type 0
 FillsAt reads left got new after (Ok found) = (0 < length (untaken_of new)) × (reads ≤ left + length got)
-FillsAt reads left got new after (Err fault.TooLong) = reads ≡ 0
+FillsAt reads left got new after (Err fault.TooLong) = (untaken_of new ≡ []) × (reads ≡ 0)
 FillsAt reads left got new after (Err fault.Ended) = (untaken_of new ≡ []) × IsAtEnd after
-FillsAt reads left got new after (Err fault.Read) = Unit {0}
+FillsAt reads left got new after (Err fault.Read) = untaken_of new ≡ []
 FillsAt reads left got new after (Err other) = ⊥
 
 -- where all is taken, the next piece was read, behind so many reads that were left before and after
@@ -173,7 +173,8 @@ is_hearing_fault other = false
 -- at the end of the input all is taken, and a line that tells its octets has none to come; too many reads are as many as octets came
 abbrev pub StopsAt : {A : Type 0} → ℕ → ℕ → List ℕ → Connection → Option Traffic → Result A ClientFault → Type 0
 StopsAt reads left got new after (Ok found) = reads ≤ left + length got
-StopsAt reads left got new after (Err fault.TooLong) = reads ≤ length got
+StopsAt reads left got new after (Err fault.TooLong) = (untaken_of new ≡ []) × (reads ≤ length got)
+StopsAt reads left got new after (Err fault.Read) = untaken_of new ≡ []
 StopsAt reads left got new after (Err fault.Ended) = (untaken_of new ≡ []) × IsAtEnd after
 StopsAt reads left got new after (Err other) = Unit {0}
 

@@ -4,8 +4,8 @@ use std::alloc::AllocError;
 use thiserror::Error;
 use ua_builtin::StatusCode;
 
-/// Why a call of a client did not do what it is for. After all of these but `TooLarge`, `NotWritable`
-/// and `Exhausted` the client is done, and answers `Closed`.
+/// Why a call of a client did not do what it is for. After all of these but `TooLarge`, `NotWritable`,
+/// `Exhausted` and `TooManyTokens` the client is done, and answers `Closed`.
 #[derive(Clone, Copy, PartialEq, Eq, Debug, Error)]
 pub enum ClientFault {
     /// A read of the line failed.
@@ -44,7 +44,7 @@ pub enum ClientFault {
     /// Memory was refused.
     #[error("out of memory")]
     OutOfMemory,
-    /// The line was read 18446744073709551615 times.
+    /// The line handed out as many octets as a call may make reads, 18446744073709551615.
     #[error("too many reads")]
     TooLong,
     /// 16 tokens are held, from the last one that the server used to the newest.

@@ -1,8 +1,8 @@
 //! A client of OPC UA Binary over a line, under the security policy None (OPC 10000-4, 5.5 and 5.6;
 //! OPC 10000-6, 6.7 and 7.1).
 //!
-//! Its contracts are those of [`Client::open`] and [`Client::call_all`]: what they write, and from which
-//! octets they answer.
+//! Its contracts are those of [`Client::open`], [`Client::call_all`], [`Client::renew`] and
+//! [`Client::close`]: what they write, and from which octets they answer.
 //!
 //! ```
 //! let mut client = Client::open(alloc, &mut line, limits, url, moment)?;
