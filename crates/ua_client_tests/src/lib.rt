@@ -5,8 +5,14 @@
 #![tactic(auto)]
 
 #[cfg(test)]
+mod asking;
+#[cfg(test)]
+mod calling;
+#[cfg(test)]
 mod frames;
 #[cfg(test)]
 mod lines;
 #[cfg(test)]
 mod renewing;
+#[cfg(test)]
+mod sessions;
