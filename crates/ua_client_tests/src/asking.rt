@@ -6,7 +6,7 @@ use std::process::Abort;
 use std::slice;
 use ua_builtin::{Identifier, NodeId, UaString};
 use ua_channel::MemoryLine;
-use ua_client::{Client, Reply};
+use ua_client::{Client, ClientFault, Reply};
 use ua_requests::{
     activate_session_request, close_session_request, create_session_request, local_url, read_item,
     read_request, write_item, write_request,
@@ -100,4 +100,28 @@ pub fn answers_a_group(
     assert!(rt; replies.is_empty());
     drop(replies);
     is_in(rt, alloc, reply, frame);
+}
+
+// Why a call is not answered.
+fn fault_of(found: Result<Reply, ClientFault>) -> Option<ClientFault> {
+    match found {
+        Ok(reply) => {
+            drop(reply);
+            None
+        }
+        Err(fault) => Some(fault),
+    }
+}
+
+/// That a call of this request is not answered, for this reason.
+pub fn refuses(
+    rt: &impl Abort,
+    client: &mut Client,
+    line: &mut MemoryLine,
+    request: Request,
+    wanted: ClientFault,
+) {
+    let found = client.call(line, &request, MOMENT);
+    drop(request);
+    assert_eq!(rt; fault_of(found), Some(wanted));
 }

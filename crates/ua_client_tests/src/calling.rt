@@ -1,15 +1,16 @@
 //! Calls of a session.
 
-use crate::asking::{activate, answers, answers_a_group, close, create, read, write};
+use crate::asking::{activate, answers, answers_a_group, close, create, read, refuses, write};
 use crate::frames::{ACK, HEL, OPN};
 use crate::lines::{AT_ONCE, Course, MOMENT, joined, line, opened};
 use crate::sessions::{
-    ACTIVATE, ACTIVATED, CLO, CLOSE, CLOSED, CREATE, CREATED, OPENED, READ, SIX, WRITE, WRITTEN,
+    ACTIVATE, ACTIVATED, CLO, CLOSE, CLOSED, CREATE, CREATED, OPENED, READ, SIX, SIX_TO_THE_WRITE,
+    WRITE, WRITTEN,
 };
 use std::alloc::Global;
 use std::process::Abort;
 use ua_channel::MemoryLine;
-use ua_client::Client;
+use ua_client::{Client, ClientFault};
 
 // That CreateSession and ActivateSession are answered.
 fn begins(rt: &impl Abort, alloc: Global, client: &mut Client, line: &mut MemoryLine) {
@@ -59,4 +60,114 @@ fn calls_octet_by_octet(rt: HostRuntime) {
 #[test]
 fn calls_by_seven_octets(rt: HostRuntime) {
     calls(&rt, rt.alloc(), (&[7], &[7], None, None));
+}
+
+// That a client is done behind a fault, and has written these frames.
+fn is_done(
+    rt: &impl Abort,
+    alloc: Global,
+    client: &mut Client,
+    line: &mut MemoryLine,
+    written: &[&[u8]],
+) {
+    refuses(rt, client, line, close(), ClientFault::Closed);
+    assert_eq!(rt; client.close(line, MOMENT), Err(ClientFault::Closed));
+    let octets = joined(rt, alloc, written);
+    assert_eq!(rt; line.written(), octets.as_slice());
+}
+
+#[test]
+fn tells_a_response_of_another_kind(rt: HostRuntime) {
+    let alloc = rt.alloc();
+    let coming = joined(
+        &rt,
+        alloc,
+        &[ACK, OPENED, CREATED, ACTIVATED, SIX_TO_THE_WRITE],
+    );
+    let mut line = line(&rt, alloc, coming, AT_ONCE);
+    let mut client = opened(&rt, alloc, &mut line);
+    begins(&rt, alloc, &mut client, &mut line);
+    refuses(
+        &rt,
+        &mut client,
+        &mut line,
+        write(&rt, alloc),
+        ClientFault::UnknownResponse,
+    );
+    is_done(
+        &rt,
+        alloc,
+        &mut client,
+        &mut line,
+        &[HEL, OPN, CREATE, ACTIVATE, WRITE],
+    );
+}
+
+// Each read gives a frame; the fourth is that of the answer to ActivateSession.
+#[test]
+fn says_that_a_read_fails(rt: HostRuntime) {
+    let alloc = rt.alloc();
+    let coming = joined(&rt, alloc, &[ACK, OPENED, CREATED, ACTIVATED]);
+    let course = (
+        &[28usize, 135, 358, 64, 64, 82, 52][..],
+        &[][..],
+        Some(4),
+        None,
+    );
+    let mut line = line(&rt, alloc, coming, course);
+    let mut client = opened(&rt, alloc, &mut line);
+    answers(
+        &rt,
+        alloc,
+        &mut client,
+        &mut line,
+        create(&rt, alloc),
+        CREATED,
+    );
+    refuses(
+        &rt,
+        &mut client,
+        &mut line,
+        activate(&rt, alloc),
+        ClientFault::Read,
+    );
+    is_done(
+        &rt,
+        alloc,
+        &mut client,
+        &mut line,
+        &[HEL, OPN, CREATE, ACTIVATE],
+    );
+}
+
+// The third write is that of CreateSession.
+#[test]
+fn says_that_a_write_fails(rt: HostRuntime) {
+    let alloc = rt.alloc();
+    let coming = joined(&rt, alloc, &[ACK, OPENED, CREATED]);
+    let mut line = line(&rt, alloc, coming, (&[], &[], None, Some(3)));
+    let mut client = opened(&rt, alloc, &mut line);
+    refuses(
+        &rt,
+        &mut client,
+        &mut line,
+        create(&rt, alloc),
+        ClientFault::Write,
+    );
+    is_done(&rt, alloc, &mut client, &mut line, &[HEL, OPN]);
+}
+
+#[test]
+fn asks_nothing_for_no_requests(rt: HostRuntime) {
+    let alloc = rt.alloc();
+    let coming = joined(&rt, alloc, &[ACK, OPENED]);
+    let mut line = line(&rt, alloc, coming, AT_ONCE);
+    let mut client = opened(&rt, alloc, &mut line);
+    let replies = client
+        .call_all(&mut line, &[], MOMENT)
+        .expect(&rt, "replies");
+    assert_eq!(&rt; replies.len(), 0);
+    drop(replies);
+    let written = joined(&rt, alloc, &[HEL, OPN]);
+    assert_eq!(&rt; line.written(), written.as_slice());
 }
