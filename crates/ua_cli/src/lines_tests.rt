@@ -1,5 +1,7 @@
 //! Lines over connections and moments of clocks: what no clause says of them.
 
+ghost use Rattle.std.specs.Prelude.{◌≤◌, IfOk};
+
 use crate::clock_moments::ClockMoments;
 use crate::tcp_line::TcpLine;
 use std::io;
@@ -29,7 +31,9 @@ fn a_line_carries_octets_over_a_connection(rt: HostRuntime) -> Result<(), Fail> 
 struct Answers(Option<usize>);
 
 impl Answers {
-    fn answer(&self, most: usize) -> io::Result<usize> {
+    fn answer(&self, most: usize) -> io::Result<usize>
+        ensures bound { IfOk result (λ n. n ≤ most) }
+    {
         match self.0 {
             Some(n) => Ok(n.min(most)),
             None => Err(io::Error::from(io::ErrorKind::Other)),
