@@ -412,10 +412,11 @@ none-asked : length (renewals (asked_in [])) ≡ 0
 unfolding renewals asked_in
 none-asked = refl
 
-pub opened-settled : GoesOnBehind → (x : ClientChannel) (octets : List ℕ) → IsOpened x octets → (s : Site) × (s.octets ≡ octets) × At x s × IsSettled s
+pub opened-settled : GoesOnBehind → (x : ClientChannel) (octets : List ℕ) → IsOpened x octets → (s : Site) × (s.octets ≡ octets) × (s.asks ≡ []) × At x s × IsSettled s
 opened-settled goes_on x octets h =
     let goes = goes_on x [] octets h.told h.last h.tells in (
       record { asks = []; octets = octets; before = received goes.frames; told = h.told ++ h.last ∷ []; number = next_of x },
+      refl,
       refl,
       record { goes = goes; before_is = refl; number_is = refl },
       record { opened = any-last is_opened h.told h.last h.opened; renewed = let none = none-asked in omega (arith, none) },

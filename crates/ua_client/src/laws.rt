@@ -31,10 +31,10 @@ pub fn calls_are_told_behind()
     client_tells_delivered();
 }
 
-/// Behind its opening a client may be called; and it stays so with more told, where no renewal more
-/// was asked.
+/// Behind its opening a client has asked nothing and may be called; and it stays so with more told,
+/// where no renewal more was asked.
 pub fn clients_are_settled()
-    ensures opened { (x : ClientChannel) (octets : List ℕ) → IsOpened x octets → (s : Site) × (s.octets ≡ octets) × At x s × IsSettled s }
+    ensures opened { (x : ClientChannel) (octets : List ℕ) → IsOpened x octets → (s : Site) × (s.octets ≡ octets) × (s.asks ≡ []) × At x s × IsSettled s }
     ensures later { (s t : Site) (more : List Told) → IsSettled s → renewals (asked_in t.asks) ≡ renewals (asked_in s.asks) → t.told ≡ s.told ++ more → IsSettled t }
 {
     client_goes_on();
