@@ -22,6 +22,7 @@ pub mod ClientFrames
 pub mod ClientGreets
 pub mod ClientAsking
 pub mod ClientStands
+mod AskedNext
 pub mod ClientOpenings
 pub mod ClientTalks
 pub mod ClientPhases

@@ -5,7 +5,7 @@ ghost use Rattle.ua_octets.specs.Counted.{text};
 ghost use Rattle.ua_frame.specs.Frames.{LetsIn, frame_octets};
 ghost use Rattle.ua_frame.specs.Reader.{open_reader};
 ghost use Rattle.ua_frame.specs.declared.frame.Frame.{Frame};
-ghost use Rattle.ua_channel.specs.Asks.{Asking, Placed};
+ghost use Rattle.ua_channel.specs.Asks.{Asking, Placed, asked_in, next_id};
 ghost use Rattle.ua_channel.specs.Asks.Asking.{Call, Renewal};
 ghost use Rattle.ua_channel.specs.Client.{Stands, Goes, IsDone, InPhase, SameClient, limits_of, url_of, next_of, phase_of, bound_of, bound_behind, held_octets, call_refused, renewal_refused, closing_refused, JudgesLength, SendsCall, SendsRenewal, SendsClosing};
 ghost use Rattle.ua_channel.specs.ClientAnswers.{ClientAnswers, AnswersEvent, ComesInParts, Progress, parts_handed};
@@ -38,6 +38,9 @@ const FIRST_SIZE: u32 = 8192;
 
 /// The most messages that may be unfinished.
 const MOST_OPEN: usize = 4;
+
+/// The request id of what is asked first: the OPN takes 1.
+const FIRST_ID: u32 = 2;
 
 /// The client's end of a connection and its secure channel (OPC 10000-6, 6.7 and 7.1), with no IO:
 /// octets that came go in, octets to be sent come out.
@@ -107,6 +110,25 @@ impl ClientChannel {
     }
 
     // ---- what is sent
+
+    /// The URL of the server.
+    #[inline]
+    pub fn url(&self) -> &UaString
+        ensures { result.now ≡ url_of self.now }
+    {
+        &self.address.url
+    }
+
+    /// The request id of what is asked next.
+    pub fn next_id(&self) -> u32
+        ensures { (asks : List Placed) (octets : List ℕ) (frames : List Frame) (rest : List ℕ) → Stands self.now asks octets frames rest
+            → result ≡ next_id (asked_in asks) }
+    {
+        match &self.phase {
+            Phase::Open(talking) => talking.next,
+            _ => FIRST_ID,
+        }
+    }
 
     /// The HEL that begins the connection, whatever came so far.
     pub fn hello(&self) -> Result<Vec<u8>, AllocError>
