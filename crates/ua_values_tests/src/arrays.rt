@@ -1,8 +1,8 @@
 //! Arrays of some hundred elements: none of them is refused for want of memory.
 
-use crate::checks::{repeated, value_of};
+use crate::checks::repeated;
 use crate::elements::SHORTEST;
-use crate::variants::reads;
+use crate::trees::{reads, size_of};
 use std::alloc::Global;
 use std::process::Abort;
 use ua_variant::Variant;
@@ -34,8 +34,8 @@ fn reads_three_hundred_elements_of_every_type(rt: HostRuntime) {
     let alloc = rt.alloc();
     for (kind, least) in SHORTEST {
         let octets = zeros(&rt, alloc, kind, least);
-        let value = value_of::<Variant>(&rt, alloc, &octets);
-        assert_eq!(rt; value.count(), 301);
+        let (_, count) = size_of::<Variant>(&rt, alloc, &octets);
+        assert_eq!(rt; count, 301);
     }
 }
 
@@ -77,7 +77,7 @@ fn keeps_three_hundred_elements_in_order(rt: HostRuntime) {
     let alloc = rt.alloc();
     for (kind, before, behind) in ELEMENTS {
         let octets = numbered(&rt, alloc, kind, before, behind);
-        reads(&rt, alloc, &octets, (1, 301), &octets);
+        reads::<Variant>(&rt, alloc, &octets, (1, 301), &octets);
     }
 }
 
@@ -85,7 +85,7 @@ fn keeps_three_hundred_elements_in_order(rt: HostRuntime) {
 fn keeps_three_hundred_objects_in_order(rt: HostRuntime) {
     let alloc = rt.alloc();
     let octets = numbered(&rt, alloc, 22, &[1, 5], &[1, 0xFF, 0xFF, 0xFF, 0xFF]);
-    reads(&rt, alloc, &octets, (1, 301), &octets);
+    reads::<Variant>(&rt, alloc, &octets, (1, 301), &octets);
 }
 
 // Type ids of values that hold one number, the depth and count of 300 of them, and the octets in
@@ -101,7 +101,7 @@ fn keeps_three_hundred_values_that_hold_values(rt: HostRuntime) {
     let alloc = rt.alloc();
     for (kind, size, before, behind) in HOLDERS {
         let octets = numbered(&rt, alloc, kind, before, behind);
-        reads(&rt, alloc, &octets, size, &octets);
+        reads::<Variant>(&rt, alloc, &octets, size, &octets);
     }
 }
 
@@ -125,9 +125,9 @@ fn texts(rt: &impl Abort, alloc: Global, kind: u8, flags: &[u8]) -> Vec<u8> {
 fn keeps_three_hundred_texts(rt: HostRuntime) {
     let alloc = rt.alloc();
     let strings = texts(&rt, alloc, 12, &[]);
-    reads(&rt, alloc, &strings, (1, 301), &strings);
+    reads::<Variant>(&rt, alloc, &strings, (1, 301), &strings);
     let localized = texts(&rt, alloc, 21, &[2]);
-    reads(&rt, alloc, &localized, (1, 301), &localized);
+    reads::<Variant>(&rt, alloc, &localized, (1, 301), &localized);
 }
 
 // An array of 300 octets, of the numbers 0 and 1 in turn.
@@ -140,7 +140,7 @@ fn keeps_three_hundred_octets(rt: HostRuntime) {
     let alloc = rt.alloc();
     for kind in [1, 2, 3] {
         let octets = bits(&rt, alloc, kind);
-        reads(&rt, alloc, &octets, (1, 301), &octets);
+        reads::<Variant>(&rt, alloc, &octets, (1, 301), &octets);
     }
 }
 
@@ -150,7 +150,7 @@ fn keeps_the_dimensions_of_three_hundred_elements(rt: HostRuntime) {
     let mut octets = bits(&rt, alloc, 0x43);
     let dims = [2, 0, 0, 0, 3, 0, 0, 0, 100, 0, 0, 0];
     octets.extend_from_slice(&dims).expect(&rt, "memory");
-    reads(&rt, alloc, &octets, (1, 303), &octets);
+    reads::<Variant>(&rt, alloc, &octets, (1, 303), &octets);
 }
 
 // 300 dimensions of size 1.
@@ -164,5 +164,5 @@ fn ones(rt: &impl Abort, alloc: Global) -> Vec<u8> {
 fn keeps_three_hundred_dimensions(rt: HostRuntime) {
     let alloc = rt.alloc();
     let octets = ones(&rt, alloc);
-    reads(&rt, alloc, &octets, (1, 302), &octets);
+    reads::<Variant>(&rt, alloc, &octets, (1, 302), &octets);
 }

@@ -1,6 +1,7 @@
 //! DataValues.
 
-use crate::checks::{assert_written, is_refused, value_of};
+use crate::checks::{is_refused, value_of};
+use crate::trees::reads;
 use ua_variant::DataValue;
 
 // Every field: the Int32 42, Good, source time 1 and picoseconds 2, server time 3 and 4.
@@ -12,19 +13,14 @@ const FULL: [u8; 30] = [
 #[test]
 fn reads_all_fields(rt: HostRuntime) {
     let value = value_of::<DataValue>(&rt, rt.alloc(), &FULL);
-    assert_eq!(rt; value.depth(), 2);
-    assert_eq!(rt; value.count(), 8);
-    assert!(rt; value.writable());
-    assert_eq!(rt; value.source_picoseconds, Some(2));
-    assert_eq!(rt; value.server_picoseconds, Some(4));
+    let picoseconds = (value.source_picoseconds, value.server_picoseconds);
+    drop(value);
+    assert_eq!(rt; picoseconds, (Some(2), Some(4)));
 }
 
 #[test]
 fn writes_all_fields_of_a_clone(rt: HostRuntime) {
-    let alloc = rt.alloc();
-    let value = value_of::<DataValue>(&rt, alloc, &FULL);
-    let copy = value.try_clone(alloc).expect(&rt, "memory");
-    assert_written(&rt, alloc, &copy, &FULL);
+    reads::<DataValue>(&rt, rt.alloc(), &FULL, (2, 8), &FULL);
 }
 
 #[test]

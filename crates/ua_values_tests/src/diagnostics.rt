@@ -1,18 +1,10 @@
 //! DiagnosticInfo and dimensions.
 
-use crate::checks::{assert_written, is_refused, nested, value_of};
+use crate::checks::{is_refused, nested, value_of};
+use crate::trees::reads;
 use std::alloc::Global;
 use std::process::Abort;
 use ua_parts::{DiagnosticInfo, Dimensions};
-
-// The depth and count of what octets encode, and what is written for a clone of it.
-fn reads(rt: &impl Abort, alloc: Global, octets: &[u8], size: (u32, u64), written: &[u8]) {
-    let value = value_of::<DiagnosticInfo>(rt, alloc, octets);
-    assert_eq!(rt; (value.depth(), value.count()), size);
-    assert!(rt; value.writable());
-    let copy = value.try_clone(alloc).expect(rt, "memory");
-    assert_written(rt, alloc, &copy, written);
-}
 
 // Every field, with an empty info within.
 const FULL: [u8; 27] = [
@@ -22,29 +14,34 @@ const FULL: [u8; 27] = [
 #[test]
 fn reads_all_fields(rt: HostRuntime) {
     let alloc = rt.alloc();
-    reads(&rt, alloc, &FULL, (2, 8), &FULL);
+    reads::<DiagnosticInfo>(&rt, alloc, &FULL, (2, 8), &FULL);
     let value = value_of::<DiagnosticInfo>(&rt, alloc, &FULL);
-    assert_eq!(rt; value.symbolic_id, Some(1));
-    assert_eq!(rt; value.namespace_uri, Some(2));
-    assert_eq!(rt; value.locale, Some(3));
-    assert_eq!(rt; value.localized_text, Some(4));
-    assert!(rt; value.inner.is_some());
+    let numbers = [
+        value.symbolic_id,
+        value.namespace_uri,
+        value.locale,
+        value.localized_text,
+    ];
+    let has_inner = value.inner.is_some();
+    drop(value);
+    assert_eq!(rt; numbers, [Some(1), Some(2), Some(3), Some(4)]);
+    assert!(rt; has_inner);
 }
 
 #[test]
 fn reads_a_flagged_null_info_as_an_absent_one(rt: HostRuntime) {
     let alloc = rt.alloc();
     let null = [0x10, 0xFF, 0xFF, 0xFF, 0xFF];
-    reads(&rt, alloc, &null, (1, 1), &[0]);
+    reads::<DiagnosticInfo>(&rt, alloc, &null, (1, 1), &[0]);
     let empty = [0x10, 0, 0, 0, 0];
-    reads(&rt, alloc, &empty, (1, 2), &empty);
+    reads::<DiagnosticInfo>(&rt, alloc, &empty, (1, 2), &empty);
 }
 
 #[test]
 fn reads_a_hundred_levels(rt: HostRuntime) {
     let alloc = rt.alloc();
     let deep = nested(&rt, alloc, &[0x40], 99);
-    reads(&rt, alloc, &deep, (100, 100), &deep);
+    reads::<DiagnosticInfo>(&rt, alloc, &deep, (100, 100), &deep);
     let deeper = nested(&rt, alloc, &[0x40], 100);
     assert!(rt; is_refused::<DiagnosticInfo>(alloc, &deeper));
 }

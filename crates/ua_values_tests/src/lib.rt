@@ -32,4 +32,6 @@ mod sources;
 #[cfg(test)]
 mod texts;
 #[cfg(test)]
+mod trees;
+#[cfg(test)]
 mod variants;

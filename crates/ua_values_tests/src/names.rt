@@ -1,6 +1,6 @@
 //! QualifiedNames, LocalizedTexts and ExtensionObjects.
 
-use crate::checks::{bytes, is_refused, reads, text};
+use crate::checks::{bytes, is_refused, keeps, reads_forms, text};
 use ua_builtin::{
     ExtensionBody, ExtensionObject, Identifier, LocalizedText, NodeId, QualifiedName, UaBytes,
     UaString, XmlElement,
@@ -14,8 +14,7 @@ fn a_name_stands_behind_its_namespace(rt: HostRuntime) {
         name: text(&rt, alloc, "x"),
     };
     let octets = [2, 0, 1, 0, 0, 0, 0x78];
-    reads(&rt, alloc, &octets, &name, &octets);
-    assert!(rt; name.try_clone().expect(&rt, "memory") == name);
+    keeps(&rt, alloc, &octets, name.try_clone(), name);
 }
 
 #[test]
@@ -26,19 +25,17 @@ fn a_text_stands_behind_its_locale(rt: HostRuntime) {
         text: text(&rt, alloc, "hi"),
     };
     let octets = [0x03, 2, 0, 0, 0, 0x65, 0x6E, 2, 0, 0, 0, 0x68, 0x69];
-    reads(&rt, alloc, &octets, &hello, &octets);
-    assert!(rt; hello.try_clone().expect(&rt, "memory") == hello);
+    keeps(&rt, alloc, &octets, hello.try_clone(), hello);
 }
 
 #[test]
 fn a_flag_for_a_null_locale_is_dropped(rt: HostRuntime) {
-    let alloc = rt.alloc();
     let empty = LocalizedText {
         locale: UaString::null(),
         text: UaString::null(),
     };
-    reads(&rt, alloc, &[0x01, 0xFF, 0xFF, 0xFF, 0xFF], &empty, &[0x00]);
-    assert!(rt; empty.try_clone().expect(&rt, "memory") == empty);
+    let flagged: [&[u8]; 1] = [&[0x01, 0xFF, 0xFF, 0xFF, 0xFF]];
+    reads_forms(&rt, rt.alloc(), &flagged, empty.try_clone(), empty, &[0x00]);
 }
 
 #[test]
@@ -49,8 +46,7 @@ fn a_body_stands_behind_its_kind(rt: HostRuntime) {
         body: ExtensionBody::ByteString(bytes(&rt, alloc, &[0xAB])),
     };
     let octets = [0x01, 0x00, 0x41, 0x01, 0x01, 1, 0, 0, 0, 0xAB];
-    reads(&rt, alloc, &octets, &object, &octets);
-    assert!(rt; object.try_clone().expect(&rt, "memory") == object);
+    keeps(&rt, alloc, &octets, object.try_clone(), object);
 }
 
 #[test]
@@ -60,8 +56,7 @@ fn no_body_differs_from_a_null_one(rt: HostRuntime) {
         type_id: NodeId::new(0, Identifier::Numeric(72)),
         body: ExtensionBody::Absent,
     };
-    reads(&rt, alloc, &[0x00, 0x48, 0x00], &bare, &[0x00, 0x48, 0x00]);
-    assert!(rt; bare.try_clone().expect(&rt, "memory") == bare);
+    keeps(&rt, alloc, &[0x00, 0x48, 0x00], bare.try_clone(), bare);
     let null = ExtensionObject {
         type_id: NodeId::new(0, Identifier::Numeric(72)),
         body: ExtensionBody::Xml(XmlElement {
@@ -69,8 +64,7 @@ fn no_body_differs_from_a_null_one(rt: HostRuntime) {
         }),
     };
     let octets = [0x00, 0x48, 0x02, 0xFF, 0xFF, 0xFF, 0xFF];
-    reads(&rt, alloc, &octets, &null, &octets);
-    assert!(rt; null.try_clone().expect(&rt, "memory") == null);
+    keeps(&rt, alloc, &octets, null.try_clone(), null);
 }
 
 #[test]

@@ -1,6 +1,6 @@
 //! NodeIds and ExpandedNodeIds.
 
-use crate::checks::{bytes, is_refused, reads, text};
+use crate::checks::{bytes, is_refused, keeps, reads_forms, text};
 use ua_builtin::{ExpandedNodeId, Identifier, NodeId, UaString};
 
 fn i72() -> NodeId {
@@ -9,17 +9,14 @@ fn i72() -> NodeId {
 
 #[test]
 fn reads_three_forms_of_one_node_id(rt: HostRuntime) {
-    let alloc = rt.alloc();
     let node = i72();
     let forms: [&[u8]; 3] = [
         &[0x00, 0x48],
         &[0x01, 0x00, 0x48, 0x00],
         &[0x02, 0x00, 0x00, 0x48, 0x00, 0x00, 0x00],
     ];
-    for form in forms {
-        reads(&rt, alloc, form, &node, &[0x00, 0x48]);
-    }
-    assert!(rt; node.try_clone().expect(&rt, "memory") == node);
+    let written = [0x00, 0x48];
+    reads_forms(&rt, rt.alloc(), &forms, node.try_clone(), node, &written);
 }
 
 #[test]
@@ -29,8 +26,7 @@ fn reads_a_node_id_with_a_text(rt: HostRuntime) {
         0x03, 0x01, 0x00, 0x06, 0x00, 0x00, 0x00, 0x48, 0x6F, 0x74, 0xE6, 0xB0, 0xB4,
     ];
     let node = NodeId::new(1, Identifier::Text(text(&rt, alloc, "Hot水")));
-    reads(&rt, alloc, &octets, &node, &octets);
-    assert!(rt; node.try_clone().expect(&rt, "memory") == node);
+    keeps(&rt, alloc, &octets, node.try_clone(), node);
     assert!(rt; is_refused::<NodeId>(alloc, &octets[..12]));
 }
 
@@ -42,23 +38,23 @@ fn reads_a_node_id_with_octets(rt: HostRuntime) {
     ];
     let held = bytes(&rt, alloc, &[0xDE, 0xAD, 0xBE, 0xEF]);
     let node = NodeId::new(2, Identifier::Opaque(held));
-    reads(&rt, alloc, &octets, &node, &octets);
-    assert!(rt; node.try_clone().expect(&rt, "memory") == node);
+    keeps(&rt, alloc, &octets, node.try_clone(), node);
 }
 
 #[test]
 fn a_flag_for_what_is_not_there_is_dropped(rt: HostRuntime) {
-    let alloc = rt.alloc();
     let here = ExpandedNodeId {
         node_id: i72(),
         namespace_uri: UaString::null(),
         server_index: 0,
     };
-    let null_uri = [0x80, 0x48, 0xFF, 0xFF, 0xFF, 0xFF];
-    reads(&rt, alloc, &null_uri, &here, &[0x00, 0x48]);
-    let index_0 = [0x40, 0x48, 0x00, 0x00, 0x00, 0x00];
-    reads(&rt, alloc, &index_0, &here, &[0x00, 0x48]);
-    assert!(rt; here.try_clone().expect(&rt, "memory") == here);
+    // a null uri, the index 0
+    let forms: [&[u8]; 2] = [
+        &[0x80, 0x48, 0xFF, 0xFF, 0xFF, 0xFF],
+        &[0x40, 0x48, 0x00, 0x00, 0x00, 0x00],
+    ];
+    let written = [0x00, 0x48];
+    reads_forms(&rt, rt.alloc(), &forms, here.try_clone(), here, &written);
 }
 
 #[test]
@@ -69,8 +65,7 @@ fn an_index_stands_behind_its_flag(rt: HostRuntime) {
         server_index: 5,
     };
     let octets = [0x41, 0x01, 0x48, 0x00, 0x05, 0x00, 0x00, 0x00];
-    reads(&rt, rt.alloc(), &octets, &elsewhere, &octets);
-    assert!(rt; elsewhere.try_clone().expect(&rt, "memory") == elsewhere);
+    keeps(&rt, rt.alloc(), &octets, elsewhere.try_clone(), elsewhere);
 }
 
 #[test]

@@ -1,6 +1,6 @@
 //! NodeIds as texts.
 
-use crate::checks::bytes;
+use crate::checks::{assert_same, bytes};
 use std::alloc::Global;
 use std::process::Abort;
 use ua_builtin::{Identifier, NodeId, TextFault, UaBytes, UaString};
@@ -40,8 +40,9 @@ fn parsed(rt: &impl Abort, alloc: Global, text: &str) -> NodeId {
 }
 
 // That a NodeId is printed so.
-fn assert_text(rt: &impl Abort, alloc: Global, node: &NodeId, want: &str) {
+fn assert_text(rt: &impl Abort, alloc: Global, node: NodeId, want: &str) {
     let text = node.to_text(alloc).expect(rt, "memory");
+    drop(node);
     assert_eq!(rt; text.as_str(), want);
 }
 
@@ -49,8 +50,7 @@ fn assert_text(rt: &impl Abort, alloc: Global, node: &NodeId, want: &str) {
 fn texts_of_node_ids_both_ways(rt: HostRuntime) {
     let alloc = rt.alloc();
     for (given, printed) in TEXTS {
-        let node = parsed(&rt, alloc, given);
-        assert_text(&rt, alloc, &node, printed);
+        assert_text(&rt, alloc, parsed(&rt, alloc, given), printed);
     }
 }
 
@@ -59,15 +59,14 @@ fn clones_of_node_ids_are_equal(rt: HostRuntime) {
     let alloc = rt.alloc();
     for (given, _) in TEXTS {
         let node = parsed(&rt, alloc, given);
-        let copy = node.try_clone().expect(&rt, "memory");
-        assert!(rt; copy == node);
+        assert_same(&rt, node.try_clone().expect(&rt, "memory"), node);
     }
 }
 
 #[test]
 fn a_text_names_a_number(rt: HostRuntime) {
     let node = parsed(&rt, rt.alloc(), "ns=0;i=85");
-    assert!(rt; node == NodeId::new(0, Identifier::Numeric(85)));
+    assert_same(&rt, node, NodeId::new(0, Identifier::Numeric(85)));
 }
 
 #[test]
@@ -75,16 +74,16 @@ fn prints_octets_in_base64(rt: HostRuntime) {
     let alloc = rt.alloc();
     let held = bytes(&rt, alloc, &[0xDE, 0xAD, 0xBE, 0xEF]);
     let node = NodeId::new(2, Identifier::Opaque(held));
-    assert_text(&rt, alloc, &node, "ns=2;b=3q2+7w==");
+    assert_text(&rt, alloc, node, "ns=2;b=3q2+7w==");
 }
 
 #[test]
 fn a_null_identifier_prints_as_an_empty_one(rt: HostRuntime) {
     let alloc = rt.alloc();
     let null = NodeId::new(3, Identifier::Text(UaString::null()));
-    assert_text(&rt, alloc, &null, "ns=3;s=");
+    assert_text(&rt, alloc, null, "ns=3;s=");
     let null = NodeId::new(0, Identifier::Opaque(UaBytes::null()));
-    assert_text(&rt, alloc, &null, "b=");
+    assert_text(&rt, alloc, null, "b=");
 }
 
 #[test]

@@ -1,7 +1,7 @@
 //! Booleans, whole numbers, patterns, moments, codes and Guids.
 
 use crate::checks::{is_refused, reads};
-use ua_builtin::{DateTime, DoubleBits, FloatBits, Guid, Octets, StatusCode, Wire};
+use ua_builtin::{DateTime, DoubleBits, FloatBits, Guid, StatusCode};
 use uuid::Uuid;
 
 #[test]
@@ -70,14 +70,13 @@ fn a_guid_has_its_first_fields_turned(rt: HostRuntime) {
 
 #[test]
 fn a_pair_is_one_value_behind_the_other(rt: HostRuntime) {
-    let alloc = rt.alloc();
-    let mut src = Octets::new(&[2, 1, 0xFF]);
-    let (first, second) = <(u16, bool)>::read(alloc, &mut src, 100).expect(&rt, "two values");
-    assert_eq!(rt; first, 0x0102);
-    assert!(rt; second);
-    let mut out = Vec::new(alloc);
-    (first, second).write(&mut out).expect(&rt, "an encoding");
-    assert_eq!(rt; out.as_slice(), [2, 1, 1].as_slice());
+    reads(
+        &rt,
+        rt.alloc(),
+        &[2, 1, 0xFF],
+        &(0x0102u16, true),
+        &[2, 1, 1],
+    );
 }
 
 #[test]

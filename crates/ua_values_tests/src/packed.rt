@@ -1,6 +1,7 @@
 //! Arrays that are held in a vector of their own type.
 
-use crate::checks::{assert_written, is_refused, value_of};
+use crate::checks::{assert_written, is_nothing, is_refused, repeated, value_of};
+use crate::variants::items_of;
 use std::alloc::Global;
 use std::process::Abort;
 use ua_builtin::{DateTime, FloatBits, StatusCode};
@@ -8,17 +9,15 @@ use ua_variant::{Dimensions, Pack, Scalar, Scalars, Variant};
 
 /// The elements of the array that the octets encode.
 fn array_in(rt: &impl Abort, alloc: Global, octets: &[u8]) -> Scalars {
-    let Variant::Many { items, .. } = value_of::<Variant>(rt, alloc, octets) else {
-        panic!(rt; "no array");
-    };
-    items.expect(rt, "elements")
+    items_of(rt, value_of::<Variant>(rt, alloc, octets))
 }
 
 /// That octets are an array of these elements.
 fn holds_items<T: Pack + PartialEq>(rt: &impl Abort, alloc: Global, octets: &[u8], items: &[T]) {
     let array = array_in(rt, alloc, octets);
-    let held = array.as_items::<T>().expect(rt, "one type");
-    assert!(rt; held == items);
+    let is_held = array.as_items::<T>() == Some(items);
+    drop(array);
+    assert!(rt; is_held);
 }
 
 /// An array that is made of these elements.
@@ -41,7 +40,7 @@ fn reads_items<T: Pack + PartialEq>(
     written: &[u8],
 ) {
     holds_items(rt, alloc, octets, items);
-    assert_written(rt, alloc, &array_of(rt, alloc, kind, items), written);
+    assert_written(rt, alloc, array_of(rt, alloc, kind, items), written);
 }
 
 #[test]
@@ -83,55 +82,94 @@ fn holds_elements_of_one_type_in_a_vector_of_it(rt: HostRuntime) {
     );
 }
 
+// Whether octets are an array that is held in a vector of this type.
+fn is_packed<T: Pack>(rt: &impl Abort, alloc: Global, octets: &[u8]) -> bool {
+    let array = array_in(rt, alloc, octets);
+    let is_packed = array.as_items::<T>().is_some();
+    drop(array);
+    is_packed
+}
+
 #[test]
 fn holds_no_other_elements_so(rt: HostRuntime) {
     let alloc = rt.alloc();
-    let bytes = array_in(&rt, alloc, &[0x83, 1, 0, 0, 0, 0xFE]);
-    assert!(rt; bytes.as_items::<i8>().is_none());
-    let texts = array_in(&rt, alloc, &[0x8C, 1, 0, 0, 0, 1, 0, 0, 0, 0x41]);
-    assert!(rt; texts.as_items::<u8>().is_none());
+    let bytes = [0x83, 1, 0, 0, 0, 0xFE];
+    assert!(rt; !is_packed::<i8>(&rt, alloc, &bytes));
+    let texts = [0x8C, 1, 0, 0, 0, 1, 0, 0, 0, 0x41];
+    assert!(rt; !is_packed::<u8>(&rt, alloc, &texts));
 }
 
 /// The element at a place of the array that the octets encode.
 fn element_at(rt: &impl Abort, alloc: Global, octets: &[u8], place: usize) -> Option<Scalar> {
     let array = array_in(rt, alloc, octets);
-    array.get(alloc, place).expect(rt, "memory")
+    let element = array.get(alloc, place);
+    drop(array);
+    element.expect(rt, "memory")
+}
+
+// Whether an element is the Byte 1.
+fn is_byte_1(element: Option<Scalar>) -> bool {
+    let is_so = matches!(&element, Some(Scalar::Byte(1)));
+    drop(element);
+    is_so
+}
+
+// Whether an element is the String A.
+fn is_letter_a(element: Option<Scalar>) -> bool {
+    let is_so = matches!(&element, Some(Scalar::String(text)) if text.as_str() == Some("A"));
+    drop(element);
+    is_so
 }
 
 #[test]
 fn gives_the_element_at_a_place(rt: HostRuntime) {
     let alloc = rt.alloc();
     let bytes = [0x83, 2, 0, 0, 0, 0xFE, 1];
-    let second = element_at(&rt, alloc, &bytes, 1);
-    assert!(rt; matches!(&second, Some(Scalar::Byte(1))));
-    assert!(rt; element_at(&rt, alloc, &bytes, 2).is_none());
+    assert!(rt; is_byte_1(element_at(&rt, alloc, &bytes, 1)));
+    assert!(rt; is_nothing(element_at(&rt, alloc, &bytes, 2)));
     let texts = [0x8C, 1, 0, 0, 0, 1, 0, 0, 0, 0x41];
-    let first = element_at(&rt, alloc, &texts, 0);
-    assert!(rt; matches!(&first, Some(Scalar::String(text)) if text.as_str() == Some("A")));
-    assert!(rt; element_at(&rt, alloc, &texts, 1).is_none());
+    assert!(rt; is_letter_a(element_at(&rt, alloc, &texts, 0)));
+    assert!(rt; is_nothing(element_at(&rt, alloc, &texts, 1)));
+}
+
+// The numbers from 0 to 999, as an array of UInt16.
+fn thousand_numbers(rt: &impl Abort, alloc: Global) -> Vec<u8> {
+    let front = [0x85, 0xE8, 3, 0, 0].to_vec(alloc);
+    let mut octets = front.expect(rt, "memory");
+    for n in 0..1000u16 {
+        octets
+            .extend_from_slice(&n.to_le_bytes())
+            .expect(rt, "memory");
+    }
+    octets
+}
+
+// That an array holds its places as elements, at both ends of blocks too.
+fn assert_places(rt: &impl Abort, array: &Scalars) {
+    let items = array.as_items::<u16>().expect(rt, "one type");
+    for place in [0, 1, 255, 256, 257, 511, 512, 999] {
+        assert!(rt; items.get(place).copied() == Some(place as u16));
+    }
+}
+
+// The elements 255 to 257 of an array.
+fn middle_of(rt: &impl Abort, alloc: Global, array: Scalars) -> Scalars {
+    assert!(rt; array.len() >= 258);
+    let part = array.part(alloc, 255, 258);
+    drop(array);
+    part.expect(rt, "memory")
 }
 
 #[test]
 fn reads_arrays_longer_than_a_block(rt: HostRuntime) {
     let alloc = rt.alloc();
-    let mut octets = Vec::new(alloc);
-    octets
-        .extend_from_slice(&[0x85, 0xE8, 3, 0, 0])
-        .expect(&rt, "memory");
-    for n in 0..1000u16 {
-        octets
-            .extend_from_slice(&[(n % 256) as u8, (n / 256) as u8])
-            .expect(&rt, "memory");
-    }
+    let mut octets = thousand_numbers(&rt, alloc);
     let array = array_in(&rt, alloc, &octets);
-    let items = array.as_items::<u16>().expect(&rt, "one type");
-    let places = [0, 1, 255, 256, 257, 511, 512, 999];
-    for place in places {
-        assert!(rt; items.get(place).copied() == Some(place as u16));
-    }
-    assert!(rt; array.len() >= 258);
-    let part = array.part(alloc, 255, 258).expect(&rt, "memory");
-    assert_eq!(rt; part.as_items::<u16>(), Some([255, 256, 257].as_slice()));
+    assert_places(&rt, &array);
+    let part = middle_of(&rt, alloc, array);
+    let is_kept = part.as_items::<u16>() == Some([255, 256, 257].as_slice());
+    drop(part);
+    assert!(rt; is_kept);
     octets.pop();
     assert!(rt; is_refused::<Variant>(alloc, &octets));
 }
@@ -141,12 +179,7 @@ fn reads_arrays_longer_than_a_block(rt: HostRuntime) {
 #[test]
 fn makes_no_room_for_elements_that_nested_arrays_claim(rt: HostRuntime) {
     let alloc = rt.alloc();
-    let mut octets = Vec::new(alloc);
-    for _ in 0..98 {
-        octets
-            .extend_from_slice(&[0x98, 0x40, 0x42, 0x0F, 0])
-            .expect(&rt, "memory");
-    }
+    let mut octets = repeated(&rt, Vec::new(alloc), &[0x98, 0x40, 0x42, 0x0F, 0], 98);
     octets.resize(1_000_490, 0).expect(&rt, "memory");
     assert!(rt; is_refused::<Variant>(alloc, &octets));
 }

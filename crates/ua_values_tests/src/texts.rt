@@ -1,28 +1,19 @@
 //! Strings, ByteStrings and XmlElements.
 
-use crate::checks::{bytes, is_refused, reads, text};
+use crate::checks::{bytes, is_refused, keeps, reads_forms, text};
 use ua_builtin::{UaBytes, UaString, XmlElement};
 
 const NULL: [u8; 4] = [0xFF, 0xFF, 0xFF, 0xFF];
 
 #[test]
-fn null_and_empty_texts_differ(rt: HostRuntime) {
+fn null_and_empty_texts_differ_and_are_cloned(rt: HostRuntime) {
     let alloc = rt.alloc();
     let null = UaString::null();
-    reads(&rt, alloc, &NULL, &null, &NULL);
-    reads(&rt, alloc, &[0xFE, 0xFF, 0xFF, 0xFF], &null, &NULL);
+    let forms: [&[u8]; 2] = [&NULL, &[0xFE, 0xFF, 0xFF, 0xFF]];
+    reads_forms(&rt, alloc, &forms, null.try_clone(), null, &NULL);
     let empty = text(&rt, alloc, "");
-    reads(&rt, alloc, &[0, 0, 0, 0], &empty, &[0, 0, 0, 0]);
-    assert!(rt; empty != null);
-}
-
-#[test]
-fn texts_are_cloned(rt: HostRuntime) {
-    let empty = text(&rt, rt.alloc(), "");
-    let copy = empty.try_clone().expect(&rt, "memory");
-    assert!(rt; copy == empty);
-    let null = UaString::null().try_clone().expect(&rt, "memory");
-    assert!(rt; null == UaString::null());
+    assert!(rt; empty != UaString::null());
+    keeps(&rt, alloc, &[0, 0, 0, 0], empty.try_clone(), empty);
 }
 
 #[test]
@@ -40,9 +31,7 @@ fn octets_are_read_and_cloned(rt: HostRuntime) {
     let alloc = rt.alloc();
     let held = bytes(&rt, alloc, &[0xAB, 0xCD]);
     let octets = [2, 0, 0, 0, 0xAB, 0xCD];
-    reads(&rt, alloc, &octets, &held, &octets);
-    let copy = held.try_clone().expect(&rt, "memory");
-    assert!(rt; copy == held);
+    keeps(&rt, alloc, &octets, held.try_clone(), held);
 }
 
 #[test]
@@ -61,9 +50,7 @@ fn an_element_is_octets(rt: HostRuntime) {
         octets: bytes(&rt, alloc, &[0xAB, 0xCD]),
     };
     let octets = [2, 0, 0, 0, 0xAB, 0xCD];
-    reads(&rt, alloc, &octets, &element, &octets);
-    let copy = element.try_clone().expect(&rt, "memory");
-    assert!(rt; copy == element);
+    keeps(&rt, alloc, &octets, element.try_clone(), element);
 }
 
 #[test]

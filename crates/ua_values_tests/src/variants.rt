@@ -1,25 +1,17 @@
 //! Variants.
 
-use crate::checks::{assert_written, is_refused, nested, value_of};
+use crate::checks::{assert_written, is_refused, nested};
+use crate::trees::reads;
 use std::alloc::Global;
 use std::process::Abort;
 use ua_variant::{BoxedVariant, DataValue, Dimensions, Elements, Scalar, Scalars, Variant};
-
-/// The depth and count of what octets encode, and what is written for a clone of it.
-pub fn reads(rt: &impl Abort, alloc: Global, octets: &[u8], size: (u32, u64), written: &[u8]) {
-    let value = value_of::<Variant>(rt, alloc, octets);
-    assert_eq!(rt; (value.depth(), value.count()), size);
-    assert!(rt; value.writable());
-    let copy = value.try_clone(alloc).expect(rt, "memory");
-    assert_written(rt, alloc, &copy, written);
-}
 
 // A value of the type id with this encoding.
 fn reads_scalar(rt: &impl Abort, alloc: Global, kind: u8, depth: u32, one: &[u8]) {
     let mut scalar = Vec::new(alloc);
     scalar.push(kind).expect(rt, "memory");
     scalar.extend_from_slice(one).expect(rt, "memory");
-    reads(rt, alloc, &scalar, (depth, 2), &scalar);
+    reads::<Variant>(rt, alloc, &scalar, (depth, 2), &scalar);
 }
 
 // An array of two values of the type id with this encoding.
@@ -29,7 +21,7 @@ fn reads_pair(rt: &impl Abort, alloc: Global, kind: u8, depth: u32, one: &[u8]) 
     array.extend_from_slice(&[2, 0, 0, 0]).expect(rt, "memory");
     array.extend_from_slice(one).expect(rt, "memory");
     array.extend_from_slice(one).expect(rt, "memory");
-    reads(rt, alloc, &array, (depth, 3), &array);
+    reads::<Variant>(rt, alloc, &array, (depth, 3), &array);
 }
 
 #[test]
@@ -45,11 +37,11 @@ fn reads_measures_clones_and_writes(rt: HostRuntime) {
         (&[0x19, 0], (2, 2)),
     ];
     for (octets, size) in rows {
-        reads(&rt, alloc, octets, size, octets);
+        reads::<Variant>(&rt, alloc, octets, size, octets);
     }
     let flagged = [0xC6, 1, 0, 0, 0, 0x2A, 0, 0, 0, 0xFF, 0xFF, 0xFF, 0xFF];
     let plain = [0x86, 1, 0, 0, 0, 0x2A, 0, 0, 0];
-    reads(&rt, alloc, &flagged, (1, 2), &plain);
+    reads::<Variant>(&rt, alloc, &flagged, (1, 2), &plain);
 }
 
 // The type ids of values that hold no further value, and an encoding of each.
@@ -164,7 +156,7 @@ fn reads_a_hundred_levels(rt: HostRuntime) {
     let alloc = rt.alloc();
     let array = [0x98, 1, 0, 0, 0];
     let deep = nested(&rt, alloc, &array, 99);
-    reads(&rt, alloc, &deep, (100, 100), &deep);
+    reads::<Variant>(&rt, alloc, &deep, (100, 100), &deep);
     let deeper = nested(&rt, alloc, &array, 100);
     assert!(rt; is_refused::<Variant>(alloc, &deeper));
 }
@@ -186,22 +178,33 @@ fn writes_an_array_that_was_made(rt: HostRuntime) {
     let alloc = rt.alloc();
     let octets = [0x86, 2, 0, 0, 0, 7, 0, 0, 0, 0xFF, 0xFF, 0xFF, 0xFF];
     let array = seven_and_minus_one(&rt, alloc);
-    assert_written(&rt, alloc, &array, &octets);
+    assert_written(&rt, alloc, array, &octets);
+}
+
+// The array, out of a box.
+fn unboxed(rt: &impl Abort, alloc: Global) -> Variant {
+    let array = seven_and_minus_one(rt, alloc);
+    let boxed = BoxedVariant::new(alloc, array).expect(rt, "memory");
+    assert_eq!(rt; boxed.get().count(), 3);
+    boxed.into_inner()
+}
+
+/// The elements of an array.
+pub fn items_of(rt: &impl Abort, value: Variant) -> Scalars {
+    let Variant::Many { items, .. } = value else {
+        panic!(rt; "no array");
+    };
+    items.expect(rt, "elements")
 }
 
 #[test]
 fn takes_a_value_apart(rt: HostRuntime) {
-    let alloc = rt.alloc();
-    let array = seven_and_minus_one(&rt, alloc);
-    let boxed = BoxedVariant::new(alloc, array).expect(&rt, "memory");
-    assert_eq!(rt; boxed.get().count(), 3);
-    let Variant::Many { items, .. } = boxed.into_inner() else {
-        panic!(rt; "no array");
-    };
-    let items = items.expect(&rt, "elements");
+    let items = items_of(&rt, unboxed(&rt, rt.alloc()));
     assert_eq!(rt; items.len(), 2);
     let Elements::Mixed(scalars) = items.into_elements() else {
         panic!(rt; "elements of one type");
     };
-    assert_eq!(rt; scalars.len(), 2);
+    let count = scalars.len();
+    drop(scalars);
+    assert_eq!(rt; count, 2);
 }
