@@ -1,6 +1,7 @@
 //! Messages joined from their chunks.
 
-use crate::chunks::{ABORT, Answer, Row, accepts_all};
+use crate::chunks::{ABORT, Answer, Row, accepts, accepts_all};
+use std::process::Abort;
 use ua_chunk::{AssembleFault, Assembler, Flag};
 
 const INTERLEAVED: [Row; 7] = [
@@ -17,6 +18,7 @@ const INTERLEAVED: [Row; 7] = [
 fn joins_interleaved_messages(rt: HostRuntime) {
     let mut assembler = Assembler::new(rt.alloc(), 0, 0, None);
     accepts_all(&rt, rt.alloc(), &mut assembler, &INTERLEAVED);
+    drop(assembler);
 }
 
 // Four messages that go on, and a fifth of one chunk.
@@ -40,38 +42,65 @@ const FIFTH: [Row; 2] = [
     (Flag::F, 7, 2, &[1], Answer::Refused(AssembleFault::Closed)),
 ];
 
+// How many messages are open, and how many octets of them are kept.
+fn keeps(rt: &impl Abort, assembler: &Assembler, open: usize, octets: usize) {
+    assert!(rt; assembler.open_count() == open && assembler.held() == octets);
+}
+
 #[test]
 fn keeps_four_messages_open(rt: HostRuntime) {
     let mut assembler = Assembler::new(rt.alloc(), 0, 0, None);
     accepts_all(&rt, rt.alloc(), &mut assembler, &FOUR_OPEN);
-    assert_eq!(rt; (assembler.open_count(), assembler.held()), (4, 4));
+    keeps(&rt, &assembler, 4, 4);
     accepts_all(&rt, rt.alloc(), &mut assembler, &FIFTH);
-    assert_eq!(rt; (assembler.open_count(), assembler.held()), (0, 0));
+    keeps(&rt, &assembler, 0, 0);
+    drop(assembler);
 }
 
 // An abort's body with an octet behind its reason.
 const LONG_ABORT: &[u8] = &[0x00, 0x00, 0xB9, 0x80, 0xFF, 0xFF, 0xFF, 0xFF, 0x00];
 
+// That abort behind the number 1.
+const LONG: [Row; 2] = [
+    (
+        Flag::A,
+        2,
+        7,
+        LONG_ABORT,
+        Answer::Refused(AssembleFault::Unreadable),
+    ),
+    (
+        Flag::A,
+        3,
+        7,
+        LONG_ABORT,
+        Answer::Refused(AssembleFault::Sequence),
+    ),
+];
+
 #[test]
 fn judges_the_number_before_the_abort(rt: HostRuntime) {
-    let rows = [(2, AssembleFault::Unreadable), (3, AssembleFault::Sequence)];
-    for (sequence, fault) in rows {
+    for row in &LONG {
         let mut assembler = Assembler::new(rt.alloc(), 0, 0, Some(1));
-        let row: Row = (Flag::A, sequence, 7, LONG_ABORT, Answer::Refused(fault));
-        accepts_all(&rt, rt.alloc(), &mut assembler, &[row]);
+        accepts(&rt, rt.alloc(), &mut assembler, row);
+        drop(assembler);
     }
 }
 
+// The last number, the next one, and the answer to it.
+const NUMBERS: [(u32, u32, Result<(), AssembleFault>); 4] = [
+    (4294966272, 1, Ok(())),
+    (4294966272, 4294966273, Ok(())),
+    (4294966272, 1024, Err(AssembleFault::Sequence)),
+    (4294966271, 1, Err(AssembleFault::Sequence)),
+];
+
 #[test]
 fn takes_numbers_that_follow(rt: HostRuntime) {
-    let rows = [
-        (4294966272, 1, Ok(())),
-        (4294966272, 4294966273, Ok(())),
-        (4294966272, 1024, Err(AssembleFault::Sequence)),
-        (4294966271, 1, Err(AssembleFault::Sequence)),
-    ];
-    for (last, sequence, expected) in rows {
-        let mut assembler = Assembler::new(rt.alloc(), 0, 0, Some(last));
-        assert_eq!(rt; assembler.step(sequence), expected);
+    for row in &NUMBERS {
+        let mut assembler = Assembler::new(rt.alloc(), 0, 0, Some(row.0));
+        let answer = assembler.step(row.1);
+        drop(assembler);
+        assert!(rt; answer == row.2);
     }
 }

@@ -1,6 +1,6 @@
 //! The headers of chunks, and of openings.
 
-use crate::chunks::body_of;
+use crate::chunks::{body_of, same};
 use std::alloc::Global;
 use std::process::Abort;
 use ua_chunk::{Flag, NONE_POLICY, OpenFault, read_chunk, read_open};
@@ -16,9 +16,11 @@ fn reads_the_headers_of_a_chunk(rt: HostRuntime) {
     };
     assert!(rt; frame.body.len() >= 16);
     let chunk = read_chunk(frame);
-    assert_eq!(rt; (chunk.channel, chunk.token, chunk.flag), (1, 2, Flag::C));
-    assert_eq!(rt; (chunk.sequence, chunk.request), (3, 4));
-    assert_eq!(rt; chunk.body.as_slice(), [0x2A].as_slice());
+    let numbers = [chunk.channel, chunk.token, chunk.sequence, chunk.request];
+    same(&rt, &numbers, &[1, 2, 3, 4]);
+    assert!(rt; chunk.flag == Flag::C);
+    same(&rt, chunk.body.as_slice(), &[0x2A]);
+    drop(chunk);
 }
 
 // The frame of an opening: the channel 1, these octets, and these.
@@ -41,6 +43,14 @@ fn none_policy(rt: &impl Abort, alloc: Global) -> Vec<u8> {
     none
 }
 
+// The frame of an opening under the policy None.
+fn none_opening(rt: &impl Abort, alloc: Global, rest: &[u8]) -> Frame {
+    let policy = none_policy(rt, alloc);
+    let frame = opening(rt, alloc, policy.as_slice(), rest);
+    drop(policy);
+    frame
+}
+
 // A null certificate and thumbprint, the sequence number 9, the request id 1, and a body.
 const WHOLE: &[u8] = b"\xFF\xFF\xFF\xFF\xFF\xFF\xFF\xFF\x09\x00\x00\x00\x01\x00\x00\x00\x2A";
 
@@ -49,28 +59,40 @@ const NULLS: &[u8] = b"\xFF\xFF\xFF\xFF\xFF\xFF\xFF\xFF";
 
 #[test]
 fn reads_an_opening_under_the_policy_none(rt: HostRuntime) {
-    let policy = none_policy(&rt, rt.alloc());
-    let Ok(chunk) = read_open(opening(&rt, rt.alloc(), &policy, WHOLE)) else {
+    let Ok(chunk) = read_open(none_opening(&rt, rt.alloc(), WHOLE)) else {
         panic!(rt; "no opening");
     };
-    assert_eq!(rt; (chunk.channel, chunk.sequence, chunk.request), (1, 9, 1));
-    assert_eq!(rt; chunk.body.as_slice(), [0x2A].as_slice());
+    same(
+        &rt,
+        &[chunk.channel, chunk.sequence, chunk.request],
+        &[1, 9, 1],
+    );
+    same(&rt, chunk.body.as_slice(), &[0x2A]);
+    drop(chunk);
 }
+
+// That an opening is refused for this reason.
+fn refuses(rt: &impl Abort, frame: Frame, fault: OpenFault) {
+    let found = read_open(frame).err();
+    assert!(rt; found == Some(fault));
+}
+
+const CUT: [&[u8]; 2] = [NULLS, b"\xFF\xFF\xFF"];
 
 #[test]
 fn refuses_an_opening_that_is_cut(rt: HostRuntime) {
-    let policy = none_policy(&rt, rt.alloc());
-    for rest in [NULLS, b"\xFF\xFF\xFF".as_slice()] {
-        let answer = read_open(opening(&rt, rt.alloc(), &policy, rest));
-        assert!(rt; matches!(answer, Err(OpenFault::Unreadable)));
+    for rest in &CUT {
+        let frame = none_opening(&rt, rt.alloc(), rest);
+        refuses(&rt, frame, OpenFault::Unreadable);
     }
 }
 
+const OTHERS: [(&[u8], &[u8]); 2] = [(b"\x01\x00\x00\x00x", NULLS), (b"\xFF\xFF\xFF\xFF", WHOLE)];
+
 #[test]
 fn refuses_an_opening_under_another_policy(rt: HostRuntime) {
-    let rows: [(&[u8], &[u8]); 2] = [(b"\x01\x00\x00\x00x", NULLS), (b"\xFF\xFF\xFF\xFF", WHOLE)];
-    for (policy, rest) in rows {
-        let answer = read_open(opening(&rt, rt.alloc(), policy, rest));
-        assert!(rt; matches!(answer, Err(OpenFault::Policy)));
+    for row in &OTHERS {
+        let frame = opening(&rt, rt.alloc(), row.0, row.1);
+        refuses(&rt, frame, OpenFault::Policy);
     }
 }

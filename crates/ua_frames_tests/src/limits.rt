@@ -1,6 +1,6 @@
 //! Limits of a message's chunks and octets.
 
-use crate::chunks::{ABORT, Answer, Row, accepts_all};
+use crate::chunks::{ABORT, Answer, Row, accepts, accepts_all};
 use std::alloc::Global;
 use std::process::Abort;
 use ua_chunk::{AssembleFault, Assembler, Flag};
@@ -10,7 +10,7 @@ fn filled(rt: &impl Abort, alloc: Global) -> Assembler {
     let mut assembler = Assembler::new(alloc, 0, 256, None);
     for sequence in 1..257 {
         let row: Row = (Flag::C, sequence, 7, &[], Answer::Waits);
-        accepts_all(rt, alloc, &mut assembler, &[row]);
+        accepts(rt, alloc, &mut assembler, &row);
     }
     assembler
 }
@@ -36,9 +36,10 @@ const NEXT: [Row; 3] = [
 
 #[test]
 fn counts_chunks_of_a_message(rt: HostRuntime) {
-    for row in NEXT {
+    for row in &NEXT {
         let mut assembler = filled(&rt, rt.alloc());
-        accepts_all(&rt, rt.alloc(), &mut assembler, &[row]);
+        accepts(&rt, rt.alloc(), &mut assembler, row);
+        drop(assembler);
     }
 }
 
@@ -60,4 +61,5 @@ const SIXTEEN: [Row; 4] = [
 fn counts_octets_of_a_message(rt: HostRuntime) {
     let mut assembler = Assembler::new(rt.alloc(), 16, 0, None);
     accepts_all(&rt, rt.alloc(), &mut assembler, &SIXTEEN);
+    drop(assembler);
 }

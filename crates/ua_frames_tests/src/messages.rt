@@ -1,5 +1,6 @@
 //! HEL, ACK and ERR as octets.
 
+use crate::chunks::same;
 use std::alloc::Global;
 use std::process::Abort;
 use ua_builtin::{StatusCode, UaString, Wire};
@@ -13,11 +14,12 @@ pub const HEL: &[u8] =
 pub const ACK: &[u8] = b"ACKF\x1C\0\0\0\0\0\0\0\xFF\xFF\0\0\xFF\xFF\0\0\0\0\x10\0\0\x01\0\0";
 
 // That a message behind its header is these octets.
-fn assert_frame<T: Wire>(rt: &impl Abort, alloc: Global, value: &T, octets: &[u8]) {
+fn is_written<T: Wire + Drop>(rt: &impl Abort, alloc: Global, value: T, octets: &[u8]) {
     assert!(rt; octets.len() > 8);
     let mut out = Vec::new(alloc);
     value.write(&mut out).expect(rt, "an encoding");
-    assert_eq!(rt; out.as_slice(), &octets[8..]);
+    drop(value);
+    same(rt, out.as_slice(), &octets[8..]);
 }
 
 #[test]
@@ -31,7 +33,7 @@ fn writes_a_hello(rt: HostRuntime) {
         max_chunk_count: 0,
         endpoint_url: url.expect(&rt, "memory"),
     };
-    assert_frame(&rt, rt.alloc(), &hello, HEL);
+    is_written(&rt, rt.alloc(), hello, HEL);
 }
 
 #[test]
@@ -43,7 +45,7 @@ fn writes_an_acknowledge(rt: HostRuntime) {
         max_message_size: 1_048_576,
         max_chunk_count: 256,
     };
-    assert_frame(&rt, rt.alloc(), &ack, ACK);
+    is_written(&rt, rt.alloc(), ack, ACK);
 }
 
 #[test]
@@ -53,5 +55,5 @@ fn writes_an_error(rt: HostRuntime) {
         reason: UaString::null(),
     };
     let octets = b"ERRF\x10\0\0\0\0\0\x81\x80\xFF\xFF\xFF\xFF";
-    assert_frame(&rt, rt.alloc(), &error, octets);
+    is_written(&rt, rt.alloc(), error, octets);
 }

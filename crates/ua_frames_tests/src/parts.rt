@@ -3,6 +3,8 @@
 ghost use Rattle.std.specs.Prelude.{◌<◌, ◌^◌, length};
 ghost use Rattle.std.specs.List.{concat};
 
+use crate::chunks::same;
+use crate::readers::frame_of;
 use bytes::Bytes;
 use std::alloc::Global;
 use std::process::Abort;
@@ -14,15 +16,24 @@ const NODE: [u8; 13] = [
     0x03, 0x01, 0x00, 0x06, 0x00, 0x00, 0x00, 0x48, 0x6F, 0x74, 0xE6, 0xB0, 0xB4,
 ];
 
+// ns=1;s=Hot水
+fn hot_water(rt: &impl Abort, alloc: Global) -> NodeId {
+    let text = UaString::from_str(alloc, "Hot水").expect(rt, "memory");
+    NodeId::new(1, Identifier::Text(text))
+}
+
 /// Whether the parts are the octets of `ns=1;s=Hot水`, all of which are taken.
 fn is_hot_water(rt: &impl Abort, alloc: Global, parts: &[Bytes]) -> bool
     requires { length (concat parts.now) < 2 ^ 64 }
 {
     let mut src = Parts::new(parts);
-    assert_eq!(rt; src.left(), 13);
+    assert!(rt; src.left() == 13);
     let node = NodeId::read(alloc, &mut src, 1).expect(rt, "a NodeId");
-    let text = UaString::from_str(alloc, "Hot水").expect(rt, "memory");
-    src.left() == 0 && node == NodeId::new(1, Identifier::Text(text))
+    let expected = hot_water(rt, alloc);
+    let is_same = node == expected;
+    drop(node);
+    drop(expected);
+    src.left() == 0 && is_same
 }
 
 #[test]
@@ -35,6 +46,7 @@ fn reads_a_node_id_in_five_parts(rt: HostRuntime) {
         Bytes::from_static(b"\xB0\xB4"),
     ];
     assert!(rt; is_hot_water(&rt, rt.alloc(), &parts));
+    drop(parts);
 }
 
 #[test]
@@ -46,7 +58,9 @@ fn reads_a_node_id_in_every_two_parts(rt: HostRuntime) {
             node.slice(cut..13).expect(&rt, "owners"),
         ];
         assert!(rt; is_hot_water(&rt, rt.alloc(), &parts));
+        drop(parts);
     }
+    drop(node);
 }
 
 #[test]
@@ -56,8 +70,30 @@ fn parts_that_end_early_hold_no_value(rt: HostRuntime) {
         Bytes::new(),
         Bytes::from_static(b"\x74\xE6\xB0"),
     ];
-    let mut src = Parts::new(&parts);
-    assert!(rt; NodeId::read(rt.alloc(), &mut src, 1).is_err());
+    let read = NodeId::read(rt.alloc(), &mut Parts::new(&parts), 1);
+    drop(parts);
+    assert!(rt; read.err().is_some());
+}
+
+// What is passed over of "abc", and what is left.
+fn passes_over(rt: &impl Abort, src: &mut Parts<'_>) {
+    assert!(rt; src.skip(0));
+    assert!(rt; !src.skip(4));
+    assert!(rt; src.skip(1));
+}
+
+// That "bc" is taken.
+fn takes_two(rt: &impl Abort, src: &mut Parts<'_>) {
+    let mut two = [0, 0];
+    assert!(rt; src.take_into(&mut two));
+    same(rt, &two, b"bc");
+}
+
+// That nothing is left.
+fn is_over(rt: &impl Abort, src: &mut Parts<'_>) {
+    assert!(rt; src.left() == 0);
+    assert!(rt; !src.take_into(&mut [0, 0]));
+    assert!(rt; src.take_into(&mut []));
 }
 
 #[test]
@@ -69,29 +105,24 @@ fn a_source_of_parts_passes_over_octets(rt: HostRuntime) {
         Bytes::new(),
     ];
     let mut src = Parts::new(&parts);
-    assert!(rt; src.skip(0));
-    assert!(rt; !src.skip(4));
-    assert!(rt; src.skip(1));
-    let mut two = [0, 0];
-    assert!(rt; src.take_into(&mut two));
-    assert_eq!(rt; two.as_slice(), b"bc".as_slice());
-    assert_eq!(rt; src.left(), 0);
-    assert!(rt; !src.take_into(&mut two));
-    assert!(rt; src.take_into(&mut []));
+    passes_over(&rt, &mut src);
+    takes_two(&rt, &mut src);
+    is_over(&rt, &mut src);
+    drop(parts);
 }
+
+// Two frames of 24 octets.
+const PIECE: &[u8] = b"CLOF\x18\0\0\0first body 16 ocCLOF\x18\0\0\0other body 16 oc";
 
 #[test]
 fn a_body_stays_when_its_reader_goes_on(rt: HostRuntime) {
-    let piece = b"CLOF\x18\0\0\0first body 16 ocCLOF\x18\0\0\0other body 16 oc";
     let gate = Gate::new(65535).taking(Kind::Clo);
     let mut reader = FrameReader::new(rt.alloc(), gate);
-    let (n, first) = reader.take(piece).expect(&rt, "a frame");
-    assert_eq!(rt; n, 24);
-    let first = first.expect(&rt, "a frame").body;
-    let (n, other) = reader.take(&piece[24..]).expect(&rt, "a frame");
-    assert_eq!(rt; n, 24);
-    let other = other.expect(&rt, "a frame").body;
+    let first = frame_of(&rt, &mut reader, PIECE, 24, Kind::Clo).body;
+    let other = frame_of(&rt, &mut reader, &PIECE[24..], 24, Kind::Clo).body;
     drop(reader);
-    assert_eq!(rt; first.as_slice(), b"first body 16 oc".as_slice());
-    assert_eq!(rt; other.as_slice(), b"other body 16 oc".as_slice());
+    same(&rt, first.as_slice(), b"first body 16 oc");
+    drop(first);
+    same(&rt, other.as_slice(), b"other body 16 oc");
+    drop(other);
 }
