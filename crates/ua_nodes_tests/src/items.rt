@@ -1,34 +1,202 @@
 //! Items of Read and Write.
 
-use crate::fixture::{FILE, MOMENT, id, item, reads, table, text, value_alone, write, writes};
+use crate::fixture::{
+    FILE, MOMENT, Row, Value, all_read, id, item, reads, sets, table, text, text_or_null, value_of,
+};
 use std::alloc::Global;
 use std::process::Abort;
-use ua_builtin::{DateTime, NodeId, StatusCode, UaString};
-use ua_nodes::{Access, InsertFault, Node, NodeTable, Stamps, parse_value};
-use ua_variant::{DataValue, Scalar, Variant};
+use ua_builtin::NodeId;
+use ua_nodes::{Access, InsertFault, Node, NodeTable, Stamps};
+use ua_structures::ReadValueId;
 
-fn int32(number: i32) -> DataValue {
-    value_alone(Variant::One(Scalar::Int32(number)))
+const ATTRIBUTES: [Row; 12] = [
+    ("i=2001", 14, &[0x01, 0x11, 0x00, 0x0A]),
+    ("i=2001", 17, &[0x01, 0x03, 0x01]),
+    ("i=2001", 18, &[0x01, 0x03, 0x01]),
+    ("i=2001", 13, &[0x01, 0x0A, 0x00, 0x00, 0xD0, 0xC0]),
+    ("i=2001", 5, &[0x02, 0x00, 0x00, 0x35, 0x80]),
+    ("i=9999", 5, &[0x02, 0x00, 0x00, 0x34, 0x80]),
+    ("i=2001", 1, &[0x01, 0x11, 0x01, 0x00, 0xD1, 0x07]),
+    ("i=2001", 2, &[0x01, 0x06, 0x02, 0x00, 0x00, 0x00]),
+    (
+        "ns=1;s=Row",
+        3,
+        &[
+            0x01, 0x14, 0x01, 0x00, 0x03, 0x00, 0x00, 0x00, 0x52, 0x6F, 0x77,
+        ],
+    ),
+    (
+        "ns=1;s=Row",
+        4,
+        &[0x01, 0x15, 0x02, 0x03, 0x00, 0x00, 0x00, 0x52, 0x6F, 0x77],
+    ),
+    ("ns=1;s=Row", 14, &[0x01, 0x11, 0x00, 0x06]),
+    ("ns=1;s=Row", 17, &[0x01, 0x03, 0x03]),
+];
+
+#[test]
+fn attributes_are_read(rt: HostRuntime) {
+    let table = table(&rt, rt.alloc(), FILE);
+    all_read(&rt, rt.alloc(), &table, Stamps::Neither, &ATTRIBUTES);
+    drop(table);
 }
 
-fn no_value() -> DataValue {
-    DataValue {
-        value: None,
-        status: Some(StatusCode { code: 0 }),
-        source_timestamp: None,
-        source_picoseconds: None,
-        server_timestamp: None,
-        server_picoseconds: None,
+// What an item of a Read asks for: an attribute, a range, the namespace and the name of an
+// encoding; and the encoding of the answer.
+type Asked = (
+    u32,
+    Option<&'static str>,
+    u16,
+    Option<&'static str>,
+    &'static [u8],
+);
+
+fn asked(rt: &impl Abort, alloc: Global, node: &str, row: &Asked) -> ReadValueId {
+    let (attribute, range, namespace, encoding, _) = *row;
+    let mut item = item(rt, alloc, node, attribute);
+    item.index_range = text_or_null(rt, alloc, range);
+    item.data_encoding.namespace = namespace;
+    item.data_encoding.name = text_or_null(rt, alloc, encoding);
+    item
+}
+
+// The answers to items of Reads.
+fn all_asked(
+    rt: &impl Abort,
+    alloc: Global,
+    table: &NodeTable,
+    node: &str,
+    stamps: Stamps,
+    rows: &[Asked],
+) {
+    for row in rows {
+        reads(rt, alloc, table, asked(rt, alloc, node, row), stamps, row.4);
     }
 }
 
-fn parsed(rt: &impl Abort, alloc: Global, kind: u8, array: bool, text: &str) -> DataValue {
-    value_alone(parse_value(alloc, kind, array, text).expect(rt, "a value"))
+const REFUSED: [Asked; 4] = [
+    (13, None, 0, None, &[0x02, 0x00, 0x00, 0x3A, 0x80]),
+    (
+        13,
+        None,
+        0,
+        Some("Default XML"),
+        &[0x02, 0x00, 0x00, 0x38, 0x80],
+    ),
+    (
+        13,
+        Some("0"),
+        0,
+        Some("Default XML"),
+        &[0x02, 0x00, 0x00, 0x36, 0x80],
+    ),
+    (
+        0,
+        Some("0"),
+        0,
+        Some("Default XML"),
+        &[0x02, 0x00, 0x00, 0x35, 0x80],
+    ),
+];
+
+#[test]
+fn items_of_a_read_are_refused_in_order(rt: HostRuntime) {
+    let table = table(&rt, rt.alloc(), "i=1\tw\ta\tByte\t1");
+    all_asked(&rt, rt.alloc(), &table, "i=1", Stamps::Both, &REFUSED);
+    drop(table);
 }
 
-fn node(rt: &impl Abort, alloc: Global, id: NodeId) -> Node {
+// A Float, the Int32 7, an array of no Int32, twice no value but the status Good, and Null.
+const VALUES: [Value; 6] = [
+    ("i=2001", &[0x01, 0x0A, 0x00, 0x00, 0x00, 0x00]),
+    ("ns=1;s=Row", &[0x01, 0x06, 0x07, 0x00, 0x00, 0x00]),
+    ("ns=1;s=Row", &[0x01, 0x86, 0x00, 0x00, 0x00, 0x00]),
+    ("ns=1;s=Row", &[0x02, 0x00, 0x00, 0x00, 0x00]),
+    ("i=9999", &[0x02, 0x00, 0x00, 0x00, 0x00]),
+    ("ns=1;s=Row", &[0x01, 0x00]),
+];
+
+const CODES: [u32; 6] = [
+    0x803B_0000,
+    0x8074_0000,
+    0x0000_0000,
+    0x8073_0000,
+    0x8034_0000,
+    0x8074_0000,
+];
+
+// The array of the file then.
+const EMPTY: [Row; 1] = [("ns=1;s=Row", 13, &[0x01, 0x86, 0x00, 0x00, 0x00, 0x00])];
+
+#[test]
+fn items_of_a_write_are_refused(rt: HostRuntime) {
+    let mut table = table(&rt, rt.alloc(), FILE);
+    sets(&rt, rt.alloc(), &mut table, &VALUES, &CODES);
+    all_read(&rt, rt.alloc(), &table, Stamps::Neither, &EMPTY);
+    drop(table);
+}
+
+const PUMP: &str = "ns=1;s=Pump\trw\tPump\tInt32\t5";
+
+// The Int32 6; and 7 with the status Good, the source time 1, its picoseconds, and the server
+// time 2.
+const SIX_AND_SEVEN: [Value; 2] = [
+    ("ns=1;s=Pump", &[0x01, 0x06, 0x06, 0x00, 0x00, 0x00]),
+    (
+        "ns=1;s=Pump",
+        &[
+            0x1F, 0x06, 0x07, 0x00, 0x00, 0x00, 0x00, 0x00, 0x00, 0x00, 0x01, 0x00, 0x00, 0x00,
+            0x00, 0x00, 0x00, 0x00, 0x09, 0x00, 0x02, 0x00, 0x00, 0x00, 0x00, 0x00, 0x00, 0x00,
+        ],
+    ),
+];
+
+// Value, status, source time and picoseconds, server time.
+const SEVEN: [Row; 1] = [(
+    "ns=1;s=Pump",
+    13,
+    &[
+        0x1F, 0x06, 0x07, 0x00, 0x00, 0x00, 0x00, 0x00, 0x00, 0x00, 0x01, 0x00, 0x00, 0x00, 0x00,
+        0x00, 0x00, 0x00, 0x09, 0x00, 0x00, 0x80, 0x3E, 0xD5, 0xDE, 0xB1, 0x9D, 0x01,
+    ],
+)];
+
+#[test]
+fn a_write_keeps_status_and_source_time(rt: HostRuntime) {
+    let mut table = table(&rt, rt.alloc(), PUMP);
+    sets(&rt, rt.alloc(), &mut table, &SIX_AND_SEVEN, &[0, 0]);
+    all_read(&rt, rt.alloc(), &table, Stamps::Both, &SEVEN);
+    drop(table);
+}
+
+// The Int32 6, with picoseconds and no time.
+const SIX: [Value; 1] = [(
+    "ns=1;s=Pump",
+    &[0x11, 0x06, 0x06, 0x00, 0x00, 0x00, 0x09, 0x00],
+)];
+
+// The value, the moment as source time, and as server time.
+const SIX_THEN: [Row; 1] = [(
+    "ns=1;s=Pump",
+    13,
+    &[
+        0x0D, 0x06, 0x06, 0x00, 0x00, 0x00, 0x00, 0x80, 0x3E, 0xD5, 0xDE, 0xB1, 0x9D, 0x01, 0x00,
+        0x80, 0x3E, 0xD5, 0xDE, 0xB1, 0x9D, 0x01,
+    ],
+)];
+
+#[test]
+fn a_write_without_a_source_time_has_the_moment(rt: HostRuntime) {
+    let mut table = table(&rt, rt.alloc(), PUMP);
+    sets(&rt, rt.alloc(), &mut table, &SIX, &[0]);
+    all_read(&rt, rt.alloc(), &table, Stamps::Both, &SIX_THEN);
+    drop(table);
+    assert_eq!(rt; MOMENT.ticks, 116_444_736_000_000_000);
+}
+
+fn node(rt: &impl Abort, alloc: Global, node_id: &str) -> Node {
     Node {
-        id,
+        id: id(rt, alloc, node_id),
         name: text(rt, alloc, "Level"),
         kind: 10,
         array: false,
@@ -36,172 +204,18 @@ fn node(rt: &impl Abort, alloc: Global, id: NodeId) -> Node {
             readable: true,
             writable: false,
         },
-        value: parse_value(alloc, 10, false, "0xC0D00000").expect(rt, "a value"),
+        value: value_of(rt, alloc, &[0x0A, 0x00, 0x00, 0xD0, 0xC0]),
         status: None,
         source_time: None,
         source_picoseconds: None,
     }
 }
 
-#[test]
-fn attributes_are_read(rt: HostRuntime) {
-    let alloc = rt.alloc();
-    let table = table(&rt, alloc, FILE);
-    let rows: [(&str, u32, &[u8]); 12] = [
-        ("i=2001", 14, &[0x01, 0x11, 0x00, 0x0A]),
-        ("i=2001", 17, &[0x01, 0x03, 0x01]),
-        ("i=2001", 18, &[0x01, 0x03, 0x01]),
-        ("i=2001", 13, &[0x01, 0x0A, 0x00, 0x00, 0xD0, 0xC0]),
-        ("i=2001", 5, &[0x02, 0x00, 0x00, 0x35, 0x80]),
-        ("i=9999", 5, &[0x02, 0x00, 0x00, 0x34, 0x80]),
-        ("i=2001", 1, &[0x01, 0x11, 0x01, 0x00, 0xD1, 0x07]),
-        ("i=2001", 2, &[0x01, 0x06, 0x02, 0x00, 0x00, 0x00]),
-        (
-            "ns=1;s=Row",
-            3,
-            &[
-                0x01, 0x14, 0x01, 0x00, 0x03, 0x00, 0x00, 0x00, 0x52, 0x6F, 0x77,
-            ],
-        ),
-        (
-            "ns=1;s=Row",
-            4,
-            &[0x01, 0x15, 0x02, 0x03, 0x00, 0x00, 0x00, 0x52, 0x6F, 0x77],
-        ),
-        ("ns=1;s=Row", 14, &[0x01, 0x11, 0x00, 0x06]),
-        ("ns=1;s=Row", 17, &[0x01, 0x03, 0x03]),
-    ];
-    for (node, attribute, octets) in rows {
-        let item = item(&rt, alloc, node, attribute);
-        reads(&rt, alloc, &table, &item, Stamps::Neither, octets);
-    }
-}
-
-#[test]
-fn items_of_a_read_are_refused_in_order(rt: HostRuntime) {
-    let alloc = rt.alloc();
-    let table = table(&rt, alloc, "i=1\tw\ta\tByte\t1");
-    let mut item = item(&rt, alloc, "i=1", 13);
-    reads(
-        &rt,
-        alloc,
-        &table,
-        &item,
-        Stamps::Both,
-        &[0x02, 0x00, 0x00, 0x3A, 0x80],
-    );
-    item.data_encoding.name = text(&rt, alloc, "Default XML");
-    reads(
-        &rt,
-        alloc,
-        &table,
-        &item,
-        Stamps::Both,
-        &[0x02, 0x00, 0x00, 0x38, 0x80],
-    );
-    item.index_range = text(&rt, alloc, "0");
-    reads(
-        &rt,
-        alloc,
-        &table,
-        &item,
-        Stamps::Both,
-        &[0x02, 0x00, 0x00, 0x36, 0x80],
-    );
-    item.attribute_id = 0;
-    reads(
-        &rt,
-        alloc,
-        &table,
-        &item,
-        Stamps::Both,
-        &[0x02, 0x00, 0x00, 0x35, 0x80],
-    );
-}
-
-#[test]
-fn items_of_a_write_are_refused(rt: HostRuntime) {
-    let alloc = rt.alloc();
-    let mut table = table(&rt, alloc, FILE);
-    let mut items = Vec::new(alloc);
-    for item in [
-        write(
-            &rt,
-            alloc,
-            "i=2001",
-            parsed(&rt, alloc, 10, false, "0x00000000"),
-        ),
-        write(&rt, alloc, "ns=1;s=Row", int32(7)),
-        write(&rt, alloc, "ns=1;s=Row", parsed(&rt, alloc, 6, true, "")),
-        write(&rt, alloc, "ns=1;s=Row", no_value()),
-        write(&rt, alloc, "i=9999", no_value()),
-        write(&rt, alloc, "ns=1;s=Row", value_alone(Variant::Null)),
-    ] {
-        items.push(item).expect(&rt, "memory");
-    }
-    let codes = [
-        0x803B_0000,
-        0x8074_0000,
-        0x0000_0000,
-        0x8073_0000,
-        0x8034_0000,
-        0x8074_0000,
-    ];
-    writes(&rt, alloc, &mut table, items, &codes);
-    let item = item(&rt, alloc, "ns=1;s=Row", 13);
-    reads(
-        &rt,
-        alloc,
-        &table,
-        &item,
-        Stamps::Neither,
-        &[0x01, 0x86, 0x00, 0x00, 0x00, 0x00],
-    );
-}
-
-#[test]
-fn a_write_keeps_status_and_source_time(rt: HostRuntime) {
-    let alloc = rt.alloc();
-    let mut table = table(&rt, alloc, "ns=1;s=Pump\trw\tPump\tInt32\t5");
-    let mut items = Vec::new(alloc);
-    let mut last = int32(7);
-    last.status = Some(StatusCode { code: 0 });
-    last.source_timestamp = Some(DateTime { ticks: 1 });
-    last.source_picoseconds = Some(9);
-    last.server_timestamp = Some(DateTime { ticks: 2 });
-    for value in [int32(6), last] {
-        items
-            .push(write(&rt, alloc, "ns=1;s=Pump", value))
-            .expect(&rt, "memory");
-    }
-    writes(&rt, alloc, &mut table, items, &[0, 0]);
-    let item = item(&rt, alloc, "ns=1;s=Pump", 13);
-    // value, status, source time and picoseconds, server time
-    let octets = [
-        0x1F, 0x06, 0x07, 0x00, 0x00, 0x00, 0x00, 0x00, 0x00, 0x00, 0x01, 0x00, 0x00, 0x00, 0x00,
-        0x00, 0x00, 0x00, 0x09, 0x00, 0x00, 0x80, 0x3E, 0xD5, 0xDE, 0xB1, 0x9D, 0x01,
-    ];
-    reads(&rt, alloc, &table, &item, Stamps::Both, &octets);
-}
-
-#[test]
-fn a_write_without_a_source_time_has_the_moment(rt: HostRuntime) {
-    let alloc = rt.alloc();
-    let mut table = table(&rt, alloc, "ns=1;s=Pump\trw\tPump\tInt32\t5");
-    let mut items = Vec::new(alloc);
-    let mut value = int32(6);
-    value.source_picoseconds = Some(9);
-    items
-        .push(write(&rt, alloc, "ns=1;s=Pump", value))
-        .expect(&rt, "memory");
-    writes(&rt, alloc, &mut table, items, &[0]);
-    let item = item(&rt, alloc, "ns=1;s=Pump", 13);
-    let octets = [
-        0x0D, 0x06, 0x06, 0x00, 0x00, 0x00, 0x00, 0x80, 0x3E, 0xD5, 0xDE, 0xB1, 0x9D, 0x01, 0x00,
-        0x80, 0x3E, 0xD5, 0xDE, 0xB1, 0x9D, 0x01,
-    ];
-    reads(&rt, alloc, &table, &item, Stamps::Both, &octets);
-    assert_eq!(rt; MOMENT.ticks, 116_444_736_000_000_000);
+// That the node in front has this NodeId, and that none stands behind it.
+fn holds_one(rt: &impl Abort, table: &NodeTable, id: &NodeId) {
+    let (shown, _) = table.get_index(0).expect(rt, "a node");
+    assert!(rt; *shown == *id);
+    assert!(rt; table.len() == 1 && table.get_index(1).is_none());
 }
 
 #[test]
@@ -209,47 +223,38 @@ fn a_second_node_of_one_id_is_a_duplicate(rt: HostRuntime) {
     let alloc = rt.alloc();
     let mut table = NodeTable::new(alloc);
     assert!(rt; table.is_empty());
-    let first = node(&rt, alloc, id(&rt, alloc, "i=2001"));
-    assert!(rt; table.insert(first).is_ok());
-    let again = node(&rt, alloc, id(&rt, alloc, "ns=0;i=02001"));
-    assert_eq!(rt; table.insert(again), Err(InsertFault::Duplicate));
-    assert_eq!(rt; table.len(), 1);
-    let (shown, _) = table.get_index(0).expect(&rt, "a node");
-    assert!(rt; *shown == id(&rt, alloc, "i=2001"));
-    assert!(rt; table.get_index(1).is_none());
+    let first = table.insert(node(&rt, alloc, "i=2001"));
+    let again = table.insert(node(&rt, alloc, "ns=0;i=02001"));
+    assert!(rt; first == Ok(()));
+    assert!(rt; again == Err(InsertFault::Duplicate));
+    let only = id(&rt, alloc, "i=2001");
+    holds_one(&rt, &table, &only);
+    drop(only);
+    drop(table);
 }
+
+// An empty range, and the encoding of values and others.
+const WHOLE: [Asked; 3] = [
+    (
+        13,
+        Some(""),
+        0,
+        Some("Default Binary"),
+        &[0x01, 0x0A, 0x00, 0x00, 0xD0, 0xC0],
+    ),
+    (
+        13,
+        Some(""),
+        1,
+        Some("Default Binary"),
+        &[0x02, 0x00, 0x00, 0x38, 0x80],
+    ),
+    (13, Some(""), 1, None, &[0x01, 0x0A, 0x00, 0x00, 0xD0, 0xC0]),
+];
 
 #[test]
 fn an_empty_range_is_no_range(rt: HostRuntime) {
-    let alloc = rt.alloc();
-    let table = table(&rt, alloc, FILE);
-    let mut item = item(&rt, alloc, "i=2001", 13);
-    item.index_range = text(&rt, alloc, "");
-    item.data_encoding.name = text(&rt, alloc, "Default Binary");
-    reads(
-        &rt,
-        alloc,
-        &table,
-        &item,
-        Stamps::Source,
-        &[0x01, 0x0A, 0x00, 0x00, 0xD0, 0xC0],
-    );
-    item.data_encoding.namespace = 1;
-    reads(
-        &rt,
-        alloc,
-        &table,
-        &item,
-        Stamps::Source,
-        &[0x02, 0x00, 0x00, 0x38, 0x80],
-    );
-    item.data_encoding.name = UaString::null();
-    reads(
-        &rt,
-        alloc,
-        &table,
-        &item,
-        Stamps::Source,
-        &[0x01, 0x0A, 0x00, 0x00, 0xD0, 0xC0],
-    );
+    let table = table(&rt, rt.alloc(), FILE);
+    all_asked(&rt, rt.alloc(), &table, "i=2001", Stamps::Source, &WHOLE);
+    drop(table);
 }

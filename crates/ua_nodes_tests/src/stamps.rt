@@ -1,14 +1,12 @@
 //! Which times go with the answers to a Read.
 
-use crate::fixture::{FILE, item, reads, table, value_alone, write, writes};
+use crate::fixture::{FILE, Row, Value, all_read, item, reads, sets, table};
 use std::alloc::Global;
 use std::process::Abort;
-use ua_builtin::DateTime;
 use ua_nodes::{NodeTable, Stamps};
-use ua_variant::{Scalar, Variant};
 
 // Attributes of the nodes of the file, and their values with the moment as server time.
-const SERVER_TIMES: [(&str, u32, &[u8]); 4] = [
+const SERVER_TIMES: [Row; 4] = [
     (
         "i=2001",
         13,
@@ -41,37 +39,37 @@ const SERVER_TIMES: [(&str, u32, &[u8]); 4] = [
 
 #[test]
 fn the_moment_is_the_server_time_of_every_attribute(rt: HostRuntime) {
-    let alloc = rt.alloc();
-    let table = table(&rt, alloc, FILE);
-    for (node, attribute, octets) in SERVER_TIMES {
-        let item = item(&rt, alloc, node, attribute);
-        reads(&rt, alloc, &table, &item, Stamps::Server, octets);
-        reads(&rt, alloc, &table, &item, Stamps::Both, octets);
-    }
-}
-
-#[test]
-fn no_other_attribute_than_the_value_has_a_source_time(rt: HostRuntime) {
-    let alloc = rt.alloc();
-    let table = pump(&rt, alloc);
-    let level = item(&rt, alloc, "ns=1;s=Pump", 17);
-    let octets = [0x01, 0x03, 0x03];
-    reads(&rt, alloc, &table, &level, Stamps::Source, &octets);
-    reads(&rt, alloc, &table, &level, Stamps::Neither, &octets);
+    let table = table(&rt, rt.alloc(), FILE);
+    all_read(&rt, rt.alloc(), &table, Stamps::Server, &SERVER_TIMES);
+    all_read(&rt, rt.alloc(), &table, Stamps::Both, &SERVER_TIMES);
+    drop(table);
 }
 
 // A node that was written at the time 1, with 9 picoseconds more.
 fn pump(rt: &impl Abort, alloc: Global) -> NodeTable {
     let mut table = table(rt, alloc, "ns=1;s=Pump\trw\tPump\tInt32\t5");
-    let mut value = value_alone(Variant::One(Scalar::Int32(6)));
-    value.source_timestamp = Some(DateTime { ticks: 1 });
-    value.source_picoseconds = Some(9);
-    let mut items = Vec::new(alloc);
-    items
-        .push(write(rt, alloc, "ns=1;s=Pump", value))
-        .expect(rt, "memory");
-    writes(rt, alloc, &mut table, items, &[0]);
+    sets(rt, alloc, &mut table, &WRITTEN, &[0]);
     table
+}
+
+// The Int32 6, the source time 1 and its picoseconds.
+const WRITTEN: [Value; 1] = [(
+    "ns=1;s=Pump",
+    &[
+        0x15, 0x06, 0x06, 0x00, 0x00, 0x00, 0x01, 0x00, 0x00, 0x00, 0x00, 0x00, 0x00, 0x00, 0x09,
+        0x00,
+    ],
+)];
+
+// The level of access to that node.
+const LEVEL: [Row; 1] = [("ns=1;s=Pump", 17, &[0x01, 0x03, 0x03])];
+
+#[test]
+fn no_other_attribute_than_the_value_has_a_source_time(rt: HostRuntime) {
+    let table = pump(&rt, rt.alloc());
+    all_read(&rt, rt.alloc(), &table, Stamps::Source, &LEVEL);
+    all_read(&rt, rt.alloc(), &table, Stamps::Neither, &LEVEL);
+    drop(table);
 }
 
 // The value of that node with the times that are asked for.
@@ -101,10 +99,10 @@ const TIMES: [(Stamps, &[u8]); 4] = [
 
 #[test]
 fn a_value_has_the_times_that_are_asked_for(rt: HostRuntime) {
-    let alloc = rt.alloc();
-    let table = pump(&rt, alloc);
-    let item = item(&rt, alloc, "ns=1;s=Pump", 13);
-    for (stamps, octets) in TIMES {
-        reads(&rt, alloc, &table, &item, stamps, octets);
+    let table = pump(&rt, rt.alloc());
+    for row in &TIMES {
+        let item = item(&rt, rt.alloc(), "ns=1;s=Pump", 13);
+        reads(&rt, rt.alloc(), &table, item, row.0, row.1);
     }
+    drop(table);
 }
