@@ -10,7 +10,7 @@ use std::alloc::Global;
 use std::process::Abort;
 use ua_services::{
     ActivateSessionRequest, CreateSessionRequest, GetEndpointsRequest, ReadRequest, ReadValueId,
-    Request, WriteRequest, WriteValue,
+    Request, RequestKind, WriteRequest, WriteValue,
 };
 
 // Every field filled, and every array of two.
@@ -134,31 +134,11 @@ const WRITE: &[&str] = &[
     "3F 06 08 00 00 00 00 00 01 40 03 77 66 55 44 33 22 11 09 00 04 77 66 55 44 33 22 11 0A 00", // value, status, source time, server time
 ];
 
-// The request of these lines; it has the filled header, and is written as it was read.
-fn filled(rt: &impl Abort, alloc: Global, lines: &[&str]) -> Request {
-    let body = octets(rt, alloc, lines);
-    let written = request_octets(rt, alloc, request_of(rt, alloc, &body));
-    assert_octets(rt, alloc, &written, lines);
-    let request = request_of(rt, alloc, &body);
-    assert!(rt; is_filled_request_header(request.header()));
-    request
-}
-
 // Whether every field is that of the lines.
 fn is_get_endpoints(request: &GetEndpointsRequest) -> bool {
     is_text(&request.endpoint_url, "url")
         && are_texts(&request.locale_ids, "en", "de")
         && are_texts(&request.profile_uris, "one", "two")
-}
-
-#[test]
-fn every_field_of_get_endpoints_is_read(rt: HostRuntime) {
-    let request = filled(&rt, rt.alloc(), GET_ENDPOINTS);
-    let Request::GetEndpoints(message) = &request else {
-        panic!(rt; "another request");
-    };
-    assert!(rt; is_get_endpoints(message));
-    drop(request);
 }
 
 // Whether every field is that of the lines.
@@ -176,16 +156,6 @@ fn is_create_session(request: &CreateSessionRequest) -> bool {
         && request.max_response_message_size == 0xC5
 }
 
-#[test]
-fn every_field_of_create_session_is_read(rt: HostRuntime) {
-    let request = filled(&rt, rt.alloc(), CREATE_SESSION);
-    let Request::CreateSession(message) = &request else {
-        panic!(rt; "another request");
-    };
-    assert!(rt; is_create_session(message));
-    drop(request);
-}
-
 // Whether every field is that of the lines.
 fn is_activate_session(request: &ActivateSessionRequest) -> bool {
     is_signature(&request.client_signature, "alpha", 0x0A)
@@ -193,26 +163,6 @@ fn is_activate_session(request: &ActivateSessionRequest) -> bool {
         && are_texts(&request.locale_ids, "en", "de")
         && is_object(&request.user_identity_token, 3, 9, &[0x0C])
         && is_signature(&request.user_token_signature, "beta", 0x0B)
-}
-
-#[test]
-fn every_field_of_activate_session_is_read(rt: HostRuntime) {
-    let request = filled(&rt, rt.alloc(), ACTIVATE_SESSION);
-    let Request::ActivateSession(message) = &request else {
-        panic!(rt; "another request");
-    };
-    assert!(rt; is_activate_session(message));
-    drop(request);
-}
-
-#[test]
-fn every_field_of_close_session_is_read(rt: HostRuntime) {
-    let request = filled(&rt, rt.alloc(), CLOSE_SESSION);
-    let Request::CloseSession(message) = &request else {
-        panic!(rt; "another request");
-    };
-    assert!(rt; message.delete_subscriptions);
-    drop(request);
 }
 
 // Whether it is the first item of the lines.
@@ -243,16 +193,6 @@ fn is_read(request: &ReadRequest) -> bool {
         }
 }
 
-#[test]
-fn every_field_of_read_is_read(rt: HostRuntime) {
-    let request = filled(&rt, rt.alloc(), READ);
-    let Request::Read(message) = &request else {
-        panic!(rt; "another request");
-    };
-    assert!(rt; is_read(message));
-    drop(request);
-}
-
 // Whether it is the first item of the lines.
 fn is_first_write(item: &WriteValue) -> bool {
     is_named(&item.node_id, 1, "a")
@@ -277,12 +217,38 @@ fn is_write(request: &WriteRequest) -> bool {
     }
 }
 
+// Whether every field is that of the lines of its kind.
+fn is_filled(request: &Request) -> bool {
+    match request {
+        Request::GetEndpoints(message) => is_get_endpoints(message),
+        Request::CreateSession(message) => is_create_session(message),
+        Request::ActivateSession(message) => is_activate_session(message),
+        Request::CloseSession(message) => message.delete_subscriptions,
+        Request::Read(message) => is_read(message),
+        Request::Write(message) => is_write(message),
+    }
+}
+
+// That the lines are a request of this kind with every field filled.
+fn assert_filled(rt: &impl Abort, alloc: Global, kind: RequestKind, lines: &[&str]) {
+    let request = request_of(rt, alloc, &octets(rt, alloc, lines));
+    assert!(rt; request.kind() == kind);
+    assert!(rt; is_filled_request_header(request.header()));
+    assert!(rt; is_filled(&request));
+    let written = request_octets(rt, alloc, request);
+    assert_octets(rt, alloc, &written, lines);
+}
+
 #[test]
-fn every_field_of_write_is_read(rt: HostRuntime) {
-    let request = filled(&rt, rt.alloc(), WRITE);
-    let Request::Write(message) = &request else {
-        panic!(rt; "another request");
-    };
-    assert!(rt; is_write(message));
-    drop(request);
+fn every_field_of_each_request_is_read(rt: HostRuntime) {
+    for (kind, lines) in [
+        (RequestKind::GetEndpoints, GET_ENDPOINTS),
+        (RequestKind::CreateSession, CREATE_SESSION),
+        (RequestKind::ActivateSession, ACTIVATE_SESSION),
+        (RequestKind::CloseSession, CLOSE_SESSION),
+        (RequestKind::Read, READ),
+        (RequestKind::Write, WRITE),
+    ] {
+        assert_filled(&rt, rt.alloc(), kind, lines);
+    }
 }

@@ -9,7 +9,9 @@ use crate::parts::{
 use std::alloc::Global;
 use std::process::Abort;
 use ua_builtin::StatusCode;
-use ua_services::{CreateSessionResponse, EndpointDescription, ReadResponse, Response, UaArray};
+use ua_services::{
+    CreateSessionResponse, EndpointDescription, ReadResponse, Response, ResponseKind, UaArray,
+};
 use ua_variant::DiagnosticInfo;
 
 // Every field filled, and every array of two.
@@ -215,16 +217,6 @@ const SERVICE_FAULT: &[&str] = &[
     "01 00 2D 01 02 01 00 00 00 EF", // additional header
 ];
 
-// The response of these lines; it has the filled header, and is written as it was read.
-fn filled(rt: &impl Abort, alloc: Global, lines: &[&str]) -> Response {
-    let body = octets(rt, alloc, lines);
-    let written = response_octets(rt, alloc, response_of(rt, alloc, &body));
-    assert_octets(rt, alloc, &written, lines);
-    let response = response_of(rt, alloc, &body);
-    assert!(rt; is_filled_response_header(response.header()));
-    response
-}
-
 // Whether the diagnostics are the two of the filled messages.
 fn are_filled_diagnostics(values: &UaArray<DiagnosticInfo>) -> bool {
     match values.as_items() {
@@ -251,16 +243,6 @@ fn are_filled_endpoints(values: &UaArray<EndpointDescription>) -> bool {
     }
 }
 
-#[test]
-fn every_field_of_get_endpoints_is_read(rt: HostRuntime) {
-    let response = filled(&rt, rt.alloc(), GET_ENDPOINTS);
-    let Response::GetEndpoints(message) = &response else {
-        panic!(rt; "another response");
-    };
-    assert!(rt; are_filled_endpoints(&message.endpoints));
-    drop(response);
-}
-
 // Whether every field is that of the lines.
 fn is_create_session(response: &CreateSessionResponse) -> bool {
     is_named(&response.session_id, 1, "session")
@@ -274,28 +256,6 @@ fn is_create_session(response: &CreateSessionResponse) -> bool {
         && response.max_request_message_size == 0xC6
 }
 
-#[test]
-fn every_field_of_create_session_is_read(rt: HostRuntime) {
-    let response = filled(&rt, rt.alloc(), CREATE_SESSION);
-    let Response::CreateSession(message) = &response else {
-        panic!(rt; "another response");
-    };
-    assert!(rt; is_create_session(message));
-    drop(response);
-}
-
-#[test]
-fn every_field_of_activate_session_is_read(rt: HostRuntime) {
-    let response = filled(&rt, rt.alloc(), ACTIVATE_SESSION);
-    let Response::ActivateSession(message) = &response else {
-        panic!(rt; "another response");
-    };
-    assert!(rt; is_octets(&message.server_nonce, &[0x0A]));
-    assert!(rt; are_filled_codes(&message.results));
-    assert!(rt; are_filled_diagnostics(&message.diagnostic_infos));
-    drop(response);
-}
-
 // Whether every field is that of the lines.
 fn is_read(response: &ReadResponse) -> bool {
     let are_values = match response.results.as_items() {
@@ -305,33 +265,45 @@ fn is_read(response: &ReadResponse) -> bool {
     are_values && are_filled_diagnostics(&response.diagnostic_infos)
 }
 
-#[test]
-fn every_field_of_read_is_read(rt: HostRuntime) {
-    let response = filled(&rt, rt.alloc(), READ);
-    let Response::Read(message) = &response else {
-        panic!(rt; "another response");
-    };
-    assert!(rt; is_read(message));
-    drop(response);
+// Whether every field is that of the lines of its kind; some are a header alone.
+fn is_filled(response: &Response) -> bool {
+    match response {
+        Response::GetEndpoints(message) => are_filled_endpoints(&message.endpoints),
+        Response::CreateSession(message) => is_create_session(message),
+        Response::ActivateSession(message) => {
+            is_octets(&message.server_nonce, &[0x0A])
+                && are_filled_codes(&message.results)
+                && are_filled_diagnostics(&message.diagnostic_infos)
+        }
+        Response::Read(message) => is_read(message),
+        Response::Write(message) => {
+            are_filled_codes(&message.results) && are_filled_diagnostics(&message.diagnostic_infos)
+        }
+        Response::CloseSession(_) | Response::ServiceFault(_) => true,
+    }
+}
+
+// That the lines are a response of this kind with every field filled.
+fn assert_filled(rt: &impl Abort, alloc: Global, kind: ResponseKind, lines: &[&str]) {
+    let response = response_of(rt, alloc, &octets(rt, alloc, lines));
+    assert!(rt; response.kind() == kind);
+    assert!(rt; is_filled_response_header(response.header()));
+    assert!(rt; is_filled(&response));
+    let written = response_octets(rt, alloc, response);
+    assert_octets(rt, alloc, &written, lines);
 }
 
 #[test]
-fn every_field_of_write_is_read(rt: HostRuntime) {
-    let response = filled(&rt, rt.alloc(), WRITE);
-    let Response::Write(message) = &response else {
-        panic!(rt; "another response");
-    };
-    assert!(rt; are_filled_codes(&message.results));
-    assert!(rt; are_filled_diagnostics(&message.diagnostic_infos));
-    drop(response);
-}
-
-#[test]
-fn responses_of_a_header_alone_are_read(rt: HostRuntime) {
-    let close = filled(&rt, rt.alloc(), CLOSE_SESSION);
-    let fault = filled(&rt, rt.alloc(), SERVICE_FAULT);
-    assert!(rt; matches!(&close, Response::CloseSession(_)));
-    assert!(rt; matches!(&fault, Response::ServiceFault(_)));
-    drop(close);
-    drop(fault);
+fn every_field_of_each_response_is_read(rt: HostRuntime) {
+    for (kind, lines) in [
+        (ResponseKind::GetEndpoints, GET_ENDPOINTS),
+        (ResponseKind::CreateSession, CREATE_SESSION),
+        (ResponseKind::ActivateSession, ACTIVATE_SESSION),
+        (ResponseKind::CloseSession, CLOSE_SESSION),
+        (ResponseKind::Read, READ),
+        (ResponseKind::Write, WRITE),
+        (ResponseKind::ServiceFault, SERVICE_FAULT),
+    ] {
+        assert_filled(&rt, rt.alloc(), kind, lines);
+    }
 }

@@ -119,17 +119,24 @@ fn fault() -> Response {
     Response::ServiceFault(ServiceFault::new(EPOCH, 1, StatusCode::GOOD))
 }
 
+// Whether a response answers a request of this kind.
+fn is_answer(response: Response, kind: RequestKind) -> bool {
+    let answers = response.answers(kind);
+    drop(response);
+    answers
+}
+
 #[test]
 fn a_request_is_answered_by_its_own_kind_or_a_fault(rt: HostRuntime) {
     let request = close_session();
-    let response = closed();
-    let fault = fault();
-    assert!(rt; request.kind() == RequestKind::CloseSession);
-    assert!(rt; response.kind() == ResponseKind::CloseSession);
-    assert!(rt; response.answers(RequestKind::CloseSession));
-    assert!(rt; fault.answers(RequestKind::CloseSession));
-    assert!(rt; !response.answers(RequestKind::Read));
+    let kind = request.kind();
     drop(request);
+    let response = closed();
+    let response_kind = response.kind();
     drop(response);
-    drop(fault);
+    assert!(rt; kind == RequestKind::CloseSession);
+    assert!(rt; response_kind == ResponseKind::CloseSession);
+    assert!(rt; is_answer(closed(), RequestKind::CloseSession));
+    assert!(rt; is_answer(fault(), RequestKind::CloseSession));
+    assert!(rt; !is_answer(closed(), RequestKind::Read));
 }

@@ -2,7 +2,7 @@
 
 use crate::bodies::{open_answer_of, request_octets, request_of, response_octets, response_of};
 use crate::octets::octets;
-use crate::parts::{EPOCH, pump, six, token};
+use crate::parts::{EPOCH, pump, token, untimed};
 use std::alloc::Global;
 use std::process::Abort;
 use ua_builtin::{Octets, Wire, WriteFault};
@@ -10,7 +10,7 @@ use ua_services::{
     OpenAnswer, Request, RequestFault, RequestHeader, ResponseFault, WriteRequest, WriteValue,
     read_open_response, read_request, read_response, write_request,
 };
-use ua_variant::{DataValue, HeldVariant, Variant};
+use ua_variant::{DataValue, Variant};
 
 // A Write of one item, up to its value.
 const WRITE: &[&str] = &[
@@ -127,9 +127,7 @@ fn deep_value(rt: &impl Abort, alloc: Global, levels: u32) -> DataValue {
     let mut octets = Vec::new(alloc);
     add_variant(rt, &mut octets, levels);
     let value = Variant::read(alloc, &mut Octets::new(&octets), 100).expect(rt, "a value");
-    let mut data = six();
-    data.value = Some(HeldVariant::new(value));
-    data
+    untimed(value)
 }
 
 // A Write of it to the pump.

@@ -1,27 +1,27 @@
 //! Octets as the tests write them out.
 
-use std::alloc::{AllocError, Global};
+use std::alloc::Global;
 use std::process::Abort;
 
-// The characters of a text but its spaces.
-fn without_spaces(alloc: Global, text: &str) -> Result<Vec<u8>, AllocError> {
-    text.as_bytes()
-        .iter()
-        .copied()
-        .filter(|octet| *octet != b' ')
-        .collect(alloc)
+// Adds an octet for each word of two hexadecimal digits.
+fn add_words(rt: &impl Abort, out: &mut Vec<u8>, words: &str) {
+    for word in words.split(' ') {
+        if !word.is_empty() {
+            assert!(rt; word.len() == 2);
+            let octet = u8::from_str_radix(word, 16).expect(rt, "digits");
+            out.push(octet).expect(rt, "memory");
+        }
+    }
 }
 
 // Adds the octets of a line.
-fn add_line(rt: &impl Abort, alloc: Global, out: &mut Vec<u8>, line: &str) {
+fn add_line(rt: &impl Abort, out: &mut Vec<u8>, line: &str) {
     let mut quoted = false;
     for part in line.split('\'') {
         if quoted {
             out.extend_from_slice(part.as_bytes()).expect(rt, "memory");
         } else {
-            let digits = without_spaces(alloc, part).expect(rt, "memory");
-            let octets = hex::decode(alloc, digits.as_slice()).expect(rt, "digits");
-            out.extend_from_slice(&octets).expect(rt, "memory");
+            add_words(rt, out, part);
         }
         quoted = !quoted;
     }
@@ -32,7 +32,7 @@ fn add_line(rt: &impl Abort, alloc: Global, out: &mut Vec<u8>, line: &str) {
 pub fn octets(rt: &impl Abort, alloc: Global, lines: &[&str]) -> Vec<u8> {
     let mut out = Vec::new(alloc);
     for line in lines {
-        add_line(rt, alloc, &mut out, line);
+        add_line(rt, &mut out, line);
     }
     out
 }

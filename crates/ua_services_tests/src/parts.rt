@@ -3,7 +3,8 @@
 use std::alloc::Global;
 use std::process::Abort;
 use ua_builtin::{
-    DateTime, ExtensionBody, ExtensionObject, Identifier, LocalizedText, NodeId, UaBytes, UaString,
+    DateTime, ExtensionBody, ExtensionObject, Identifier, LocalizedText, NodeId, StatusCode,
+    UaBytes, UaString,
 };
 use ua_services::{
     ApplicationDescription, EndpointDescription, RequestHeader, ResponseHeader, SignatureData,
@@ -18,6 +19,13 @@ pub const EPOCH: DateTime = DateTime {
 
 /// The moments of filled messages, from this one on.
 pub const LATER: i64 = 0x1122334455667700;
+
+// The status of the values in filled messages, and both their moments.
+const VALUE_STATUS: StatusCode = StatusCode { code: 0x4001_0000 };
+
+const SOURCE_TIME: DateTime = DateTime { ticks: LATER + 3 };
+
+const SERVER_TIME: DateTime = DateTime { ticks: LATER + 4 };
 
 /// The address of the program's endpoint.
 pub const URL: &str = "opc.tcp://localhost:4840";
@@ -113,16 +121,21 @@ pub fn endpoint(rt: &impl Abort, alloc: Global) -> EndpointDescription {
     }
 }
 
-/// The Int32 6, at no time.
-pub fn six() -> DataValue {
+/// A value, at no time.
+pub fn untimed(value: Variant) -> DataValue {
     DataValue {
-        value: Some(HeldVariant::new(Variant::One(Scalar::Int32(6)))),
+        value: Some(HeldVariant::new(value)),
         status: None,
         source_timestamp: None,
         source_picoseconds: None,
         server_timestamp: None,
         server_picoseconds: None,
     }
+}
+
+/// The Int32 6, at no time.
+pub fn six() -> DataValue {
+    untimed(Variant::One(Scalar::Int32(6)))
 }
 
 /// Whether a String is this text.
@@ -255,15 +268,9 @@ pub fn is_filled_value(value: &DataValue, number: i32, picoseconds: u16) -> bool
         Some(held) => matches!(held.get(), Variant::One(Scalar::Int32(n)) if *n == number),
         None => false,
     };
-    held && value
-        .status
-        .is_some_and(|status| status.code == 0x4001_0000)
-        && value
-            .source_timestamp
-            .is_some_and(|time| time.ticks == LATER + 3)
+    held && value.status == Some(VALUE_STATUS)
+        && value.source_timestamp == Some(SOURCE_TIME)
         && value.source_picoseconds == Some(picoseconds)
-        && value
-            .server_timestamp
-            .is_some_and(|time| time.ticks == LATER + 4)
+        && value.server_timestamp == Some(SERVER_TIME)
         && value.server_picoseconds.is_some()
 }
