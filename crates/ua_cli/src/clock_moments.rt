@@ -1,6 +1,6 @@
 //! Moments of the system's clock.
 
-ghost use Rattle.std.specs.Prelude.{◌≡◌, ◌+◌, ◌/◌, pos, IfSome};
+ghost use Rattle.std.specs.Prelude.{◌≡◌, ◌+◌, ◌/◌, ◌≤◌, ◌^◌, pos, None, IfSome};
 ghost use Rattle.std.specs.Duration.{as_nanos};
 ghost use Rattle.ua_cli.specs.Moment.{IsFrom1970, ticks_of_1970};
 
@@ -39,7 +39,8 @@ impl<'a, C: Clock> Moments for ClockMoments<'a, C> {
 
 /// The moment so long after 1970-01-01, in ticks of 100 ns, if it is one of a DateTime.
 fn moment_at(since: Duration) -> Option<i64>
-    ensures { IfSome result (λ moment. moment ≡ pos (ticks_of_1970 + as_nanos since / 100)) }
+    ensures some { IfSome result (λ moment. moment ≡ pos (ticks_of_1970 + as_nanos since / 100)) }
+    ensures none { result ≡ None → 2 ^ 63 ≤ ticks_of_1970 + as_nanos since / 100 }
 {
     let ticks = since.as_nanos() / NANOSECONDS_OF_A_TICK;
     i64::try_from(ticks + TICKS_OF_1970 as u128).ok()
