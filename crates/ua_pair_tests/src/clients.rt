@@ -1,12 +1,11 @@
 //! What a server writes to clients of other limits, of other messages, and of renewed tokens.
 
-use crate::fixture::{served, services};
-use crate::lines::joined;
-use crate::streams::{CLIENT_STREAM, RENEWED_END, RENEWING_END, SERVER_STREAM};
+use crate::fixture::{joined, served, services};
 use std::alloc::Global;
 use std::process::Abort;
 use ua_channel::MemoryLine;
 use ua_server::End;
+use ua_streams::{CLIENT_STREAM, RENEWED_END, RENEWING_END, SERVER_STREAM};
 
 // That a client who sends these octets is answered by those.
 fn says(rt: &impl Abort, alloc: Global, client: Vec<u8>, server: &[u8], end: End) {

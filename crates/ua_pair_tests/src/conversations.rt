@@ -1,8 +1,10 @@
 //! Conversations whose frames are all taken.
 
-use crate::lines::{Conversation, assert_conversation, assert_lines, joined};
-use crate::streams::{CLIENT_END, CLIENT_FRONT, CLIENT_STREAM, SERVER_LINES, SERVER_STREAM};
+use crate::fixture::joined;
+use crate::lines::{Conversation, assert_conversation, assert_lines};
+use crate::streams::{CLIENT_END, CLIENT_FRONT, SERVER_LINES};
 use ua_pair::Side;
+use ua_streams::{CLIENT_STREAM, SERVER_STREAM};
 
 #[test]
 fn prints_both_sides_of_a_conversation(rt: HostRuntime) {

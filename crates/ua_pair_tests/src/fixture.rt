@@ -1,4 +1,4 @@
-//! The server of the conversation.
+//! The server of the conversation, and octets in parts.
 
 use std::alloc::Global;
 use std::process::Abort;
@@ -45,4 +45,9 @@ pub fn served(
     ticks.push(MOMENT.ticks).expect(rt, "memory");
     let mut moments = ListMoments::new(ticks);
     serve(alloc, line, services, limits, 1, &mut moments)
+}
+
+/// These octets, one behind the other.
+pub fn joined(rt: &impl Abort, alloc: Global, parts: &[&[u8]]) -> Vec<u8> {
+    parts.concat(alloc).expect(rt, "memory")
 }

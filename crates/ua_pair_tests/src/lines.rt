@@ -7,15 +7,6 @@ use ua_pair::{Side, dissect};
 /// Frames of one side, each with the lines that are printed of it.
 pub type Conversation = &'static [(&'static [u8], &'static str)];
 
-/// Parts of octets, joined.
-pub fn joined(rt: &impl Abort, alloc: Global, parts: &[&[u8]]) -> Vec<u8> {
-    let mut octets = Vec::new(alloc);
-    for part in parts {
-        octets.extend_from_slice(part).expect(rt, "memory");
-    }
-    octets
-}
-
 /// That octets have these lines, behind a text that stands there.
 pub fn assert_lines(rt: &impl Abort, alloc: Global, side: Side, octets: &[u8], lines: &[&str]) {
     let mut wanted = String::from_str(alloc, "above\n").expect(rt, "memory");

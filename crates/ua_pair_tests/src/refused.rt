@@ -1,6 +1,7 @@
 //! Frames that are refused.
 
-use crate::lines::{Conversation, assert_conversation, assert_lines, joined};
+use crate::fixture::joined;
+use crate::lines::{Conversation, assert_conversation, assert_lines};
 use std::alloc::Global;
 use std::process::Abort;
 use ua_pair::{Side, dissect};

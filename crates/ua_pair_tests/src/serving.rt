@@ -1,13 +1,12 @@
 //! What a server writes to the client of the conversation, whatever the line gives and takes at once.
 
-use crate::fixture::{MOMENT, served, services};
-use crate::lines::joined;
-use crate::streams::{CLIENT_STREAM, SERVER_STREAM};
+use crate::fixture::{MOMENT, joined, served, services};
 use std::alloc::Global;
 use std::process::Abort;
 use ua_builtin::Octets;
 use ua_channel::MemoryLine;
 use ua_server::{End, ServeFault, Services};
+use ua_streams::{CLIENT_STREAM, SERVER_STREAM};
 
 /// How many octets of the client come; how many a read gives and a write takes at most; which read
 /// and which write fails.

@@ -1,12 +1,11 @@
 //! What comes of the client's octets where they end at any place, and where one of them is another one.
 
-use crate::fixture::{served, services};
-use crate::lines::joined;
-use crate::streams::{CLIENT_STREAM, SERVER_STREAM};
+use crate::fixture::{joined, served, services};
 use std::alloc::Global;
 use std::process::Abort;
 use ua_channel::MemoryLine;
 use ua_server::{End, ServeFault};
+use ua_streams::{CLIENT_STREAM, SERVER_STREAM};
 
 /// Where the client's frames begin, and how much the server has said before each.
 const FRAMES: [(usize, usize); 8] = [
