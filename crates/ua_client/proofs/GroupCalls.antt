@@ -1,6 +1,6 @@
 -- What becomes of groups of calls.
-use Rattle.std.specs.Prelude.{◌≡◌, ℕ, ◌+◌, ◌<◌, Bool, true, false, cond, is_none, OnOk, OnErr, List, [], ◌∷◌, ◌++◌, length, Option, Some, None, Result, Ok, Err}
-use Rattle.std.proofs.Common.{refl, sym, ◌∙◌, ap, subst, append-nil, arith, suc, add-zero}
+use Rattle.std.specs.Prelude.{◌≡◌, ℕ, ◌+◌, ◌≤◌, ◌<◌, Bool, true, false, cond, is_none, OnOk, OnErr, List, [], ◌∷◌, ◌++◌, length, Option, Some, None, Result, Ok, Err}
+use Rattle.std.proofs.Common.{refl, sym, ◌∙◌, ap, subst, inl, inr, append-nil, arith, suc, add-zero}
 use Rattle.std.proofs.lemmas.List.{length-append}
 use Rattle.std.specs.List.{list_any}
 use Rattle.ua_builtin.specs.Reasons.{or_else}
@@ -17,9 +17,10 @@ use Rattle.ua_channel.specs.declared.client.fault.AskFault.{AskFault}
 use Rattle.ua_channel.specs.declared.client.fault.AskFault.TheVariants as ask_fault
 use Rattle.ua_channel.specs.declared.client.phase.Phase.{Phase}
 use Rattle.ua_client.specs.Site.{Site, At, id_at, lane_behind}
-use Rattle.ua_client.specs.Calls.{asked_at, sent_at, AreUntold, Collects, CollectsAt, BreaksAt, CallsGroup, somes, none_for}
+use Rattle.ua_client.specs.Calls.{asked_at, sent_at, refusal_at, AreUntold, Collects, CollectsAt, BreaksAt, CallsGroup, IsSentAt, somes, none_for}
 use Rattle.ua_client.specs.Carried.{Carries, WritesFront}
 use Rattle.ua_client.specs.Hearing.{channel_of, untaken_of, Moves, StopsAt, is_line_fault, failures_behind}
+use Rattle.ua_client.specs.Renewing.{IsSettled}
 use Rattle.ua_client.specs.Told.{told_of}
 use Rattle.ua_client.specs.Sent.{calls_octets, numbers_behind, bodies_of, of_ask, refusal_by, request_refusal, group_refusal, AnswersBy, AsksFrom}
 use Rattle.ua_client.specs.declared.connection.Connection.{Connection}
@@ -27,7 +28,10 @@ use Rattle.ua_client.specs.declared.fault.ClientFault.{ClientFault}
 use Rattle.ua_client.specs.declared.fault.ClientFault.TheVariants as fault
 use Rattle.ua_client.specs.declared.reply.Reply.{Reply}
 use Rattle.ua_client.proofs.Carrying.{carried-nothing, carried-then, carried-as, sends-front}
+use Rattle.ua_client.proofs.Hearings.{moves-from, moves-writing}
 use Rattle.ua_client.proofs.Incoming.{all-answered, all-there, collects-none}
+use Rattle.ua_client.proofs.Judging.{group-judged, is_reason, refused-for}
+use Rattle.ua_client.proofs.Settled.{NonePending}
 
 -- ---- refusals to ask
 
@@ -113,34 +117,35 @@ ToldBehind = (x : ClientChannel) (asks : List Placed) (octets : List ℕ) (told 
 
 -- nothing moved
 abbrev pub moves-nothing : (x y : Connection) (t : Option Traffic) → untaken_of y ≡ untaken_of x → Moves x y [] t t
-moves-nothing x y t same = record { got = []; taken = []; parts = append-nil (untaken_of x) ∙ sym same; carried = carried-nothing t }
+moves-nothing x y t same = moves-writing x y [] t t same (carried-nothing t)
 
 -- before anything is asked
-pub group-refused : {A : Type 0} (requests : List Request) (x : Connection) (t : Option Traffic) (reads : ℕ) (f : ClientFault) (replies : List Reply)
+pub group-refused : {A : Type 0} → NonePending → (requests : List Request) → length requests ≤ 64 → (x : Connection) (t : Option Traffic) (reads : ℕ) (f : ClientFault) (replies : List Reply)
     → AnswersBy {A = Unit {0}} (group_refusal (phase_of (channel_of x)) 0 requests) (Err f) → CallsGroup {A = A} requests x x t t reads reads (Err f) replies replies
-group-refused {A} requests x t reads f replies h = record {
+group-refused {A} law requests few x t reads f replies h = record {
   sent = [];
   moves = moves-nothing x x t refl;
   same = record { limits = refl; url = refl };
-  answers = λ s at. breaks f h s at;
+  answers = λ s at settled. breaks f h s at (group-judged law (channel_of x) requests few s at settled);
   stops = stops f h;
 }
   where
-    breaks : (y : ClientFault) → AnswersBy {A = Unit {0}} (group_refusal (phase_of (channel_of x)) 0 requests) (Err y) → (s : Site) → At (channel_of x) s → BreaksAt requests s x [] [] y
-    breaks fault.TooLarge e s at = (refl, refl, at, e)
-    breaks fault.NotWritable e s at = (refl, refl, at, e)
-    breaks fault.Exhausted e s at = (refl, refl, at, e)
-    breaks fault.Closed e s at = (refl, refl, at, e)
-    breaks fault.OutOfMemory e s at = record { more = sent_at s requests; parts = refl }
-    breaks fault.Read e s at = let no : is_asking_fault fault.Read ≡ true = by-group (phase_of (channel_of x)) 0 requests fault.Read e in absurd cc
-    breaks fault.Write e s at = let no : is_asking_fault fault.Write ≡ true = by-group (phase_of (channel_of x)) 0 requests fault.Write e in absurd cc
-    breaks fault.Ended e s at = let no : is_asking_fault fault.Ended ≡ true = by-group (phase_of (channel_of x)) 0 requests fault.Ended e in absurd cc
-    breaks (fault.Peer code) e s at = let no : is_asking_fault (fault.Peer code) ≡ true = by-group (phase_of (channel_of x)) 0 requests (fault.Peer code) e in absurd cc
-    breaks (fault.Refused code) e s at = let no : is_asking_fault (fault.Refused code) ≡ true = by-group (phase_of (channel_of x)) 0 requests (fault.Refused code) e in absurd cc
-    breaks fault.UnknownResponse e s at = let no : is_asking_fault fault.UnknownResponse ≡ true = by-group (phase_of (channel_of x)) 0 requests fault.UnknownResponse e in absurd cc
-    breaks (fault.Service code) e s at = let no : is_asking_fault (fault.Service code) ≡ true = by-group (phase_of (channel_of x)) 0 requests (fault.Service code) e in absurd cc
-    breaks fault.TooLong e s at = let no : is_asking_fault fault.TooLong ≡ true = by-group (phase_of (channel_of x)) 0 requests fault.TooLong e in absurd cc
-    breaks fault.TooManyTokens e s at = let no : is_asking_fault fault.TooManyTokens ≡ true = by-group (phase_of (channel_of x)) 0 requests fault.TooManyTokens e in absurd cc
+    breaks : (y : ClientFault) → AnswersBy {A = Unit {0}} (group_refusal (phase_of (channel_of x)) 0 requests) (Err y) → (s : Site) → At (channel_of x) s
+        → group_refusal (phase_of (channel_of x)) 0 requests ≡ refusal_at s requests → BreaksAt requests s x [] [] y
+    breaks fault.TooLarge e s at there = (refl, refl, at, sym there ∙ e)
+    breaks fault.NotWritable e s at there = (refl, refl, at, sym there ∙ e)
+    breaks fault.Exhausted e s at there = (refl, refl, at, sym there ∙ e)
+    breaks fault.Closed e s at there = let no : is_reason fault.Closed ≡ true = refused-for s requests fault.Closed (sym there ∙ e) in absurd cc
+    breaks fault.OutOfMemory e s at there = inl (refl, refl)
+    breaks fault.Read e s at there = let no : is_asking_fault fault.Read ≡ true = by-group (phase_of (channel_of x)) 0 requests fault.Read e in absurd cc
+    breaks fault.Write e s at there = let no : is_asking_fault fault.Write ≡ true = by-group (phase_of (channel_of x)) 0 requests fault.Write e in absurd cc
+    breaks fault.Ended e s at there = let no : is_asking_fault fault.Ended ≡ true = by-group (phase_of (channel_of x)) 0 requests fault.Ended e in absurd cc
+    breaks (fault.Peer code) e s at there = let no : is_asking_fault (fault.Peer code) ≡ true = by-group (phase_of (channel_of x)) 0 requests (fault.Peer code) e in absurd cc
+    breaks (fault.Refused code) e s at there = let no : is_asking_fault (fault.Refused code) ≡ true = by-group (phase_of (channel_of x)) 0 requests (fault.Refused code) e in absurd cc
+    breaks fault.UnknownResponse e s at there = let no : is_asking_fault fault.UnknownResponse ≡ true = by-group (phase_of (channel_of x)) 0 requests fault.UnknownResponse e in absurd cc
+    breaks (fault.Service code) e s at there = let no : is_asking_fault (fault.Service code) ≡ true = by-group (phase_of (channel_of x)) 0 requests (fault.Service code) e in absurd cc
+    breaks fault.TooLong e s at there = let no : is_asking_fault fault.TooLong ≡ true = by-group (phase_of (channel_of x)) 0 requests fault.TooLong e in absurd cc
+    breaks fault.TooManyTokens e s at there = let no : is_asking_fault fault.TooManyTokens ≡ true = by-group (phase_of (channel_of x)) 0 requests fault.TooManyTokens e in absurd cc
 
     stops : (y : ClientFault) → AnswersBy {A = Unit {0}} (group_refusal (phase_of (channel_of x)) 0 requests) (Err y) → StopsAt {A = A} reads reads [] x t (Err y)
     stops fault.TooLarge e = tt
@@ -182,14 +187,19 @@ group-unasked {A} requests old new t reads replies f piece same e = subst (λ (x
   sent = [];
   moves = moves-nothing old new t piece;
   same = same;
-  answers = λ s at. record { more = sent_at s requests; parts = refl };
+  answers = λ s at settled. inl (refl, refl);
   stops = tt;
 })
+
+-- nothing was against a group that a channel would ask
+pub none-refused : NonePending → (requests : List Request) → length requests ≤ 64 → (x : ClientChannel) → group_refusal (phase_of x) 0 requests ≡ None → (s : Site) → At x s → IsSettled s → refusal_at s requests ≡ None
+none-refused law requests few x none s at settled = sym (group-judged law x requests few s at settled) ∙ none
 
 -- these requests were asked: the channel then, the request id of the first, and what is to be sent
 pub record IsAsked (requests : List Request) (old mid : Connection) (first : ℕ) (out : List ℕ) : Type 0 where
   pub bodies : List (List ℕ)
   pub bodies_are : bodies ≡ bodies_of requests
+  pub judged : (s : Site) → At (channel_of old) s → IsSettled s → refusal_at s requests ≡ None
   pub piece : untaken_of mid ≡ untaken_of old
   pub same : SameClient (channel_of old) (channel_of mid)
   pub some : 0 < length requests
@@ -236,20 +246,16 @@ module _ (requests : List Request) (old mid : Connection) (first : ℕ) (out : L
       let front = sends-front out before after h in
       record {
         sent = front.0;
-        moves = record { got = []; taken = []; parts = append-nil (untaken_of old) ∙ sym q.piece; carried = front.2 };
+        moves = moves-writing old mid front.0 before after q.piece front.2;
         same = q.same;
-        answers = λ s at. (record { more = front.1.more; parts = sym (sent-asked s at) ∙ front.1.parts }, refl);
+        answers = λ s at settled. (q.judged s at settled, record { more = front.1.more; parts = sym (sent-asked s at) ∙ front.1.parts }, refl);
         stops = tt;
       }
 
   module _ (law : ToldBehind) (new : Connection) (before written after : Option Traffic) (reads left : ℕ) (w : WhereTold (Carries [] out) before written) where
     abbrev written-moves : Moves mid new [] written after → Moves old new out before after
-    written-moves m = record {
-      got = m.got;
-      taken = m.taken;
-      parts = ap (λ (u : List ℕ). u ++ m.got) (sym q.piece) ∙ m.parts;
-      carried = carried-as m.got (out ++ []) m.got out before after refl (append-nil out) (carried-then [] out m.got [] before written after w m.carried);
-    }
+    written-moves m =
+        moves-from old mid new out [] before written after after q.piece m (carried-as m.got (out ++ []) m.got out before after refl (append-nil out) (carried-then [] out m.got [] before written after w m.carried))
 
     same-then : SameClient (channel_of mid) (channel_of new) → SameClient (channel_of old) (channel_of new)
     same-then k = record { limits = q.same.limits ∙ k.limits; url = q.same.url ∙ k.url }
@@ -268,25 +274,25 @@ module _ (requests : List Request) (old mid : Connection) (first : ℕ) (out : L
         sent = out;
         moves = written-moves c.moves;
         same = same-then c.keeps.same;
-        answers = λ s at. breaks f s at (collected (Err f) c s at);
+        answers = λ s at settled. breaks f s (q.judged s at settled, sent-asked s at) (collected (Err f) c s at);
         stops = stops f c.stops;
       }
         where
-          breaks : (y : ClientFault) (s : Site) (at : At (channel_of old) s) → CollectsAt view requests (id_at s) new after (Err y) (asked_at s requests) (s.octets ++ c.moves.taken) s.told → BreaksAt requests s new out c.moves.taken y
-          breaks (fault.Peer code) s at h = (sent-asked s at, h)
-          breaks (fault.Refused code) s at h = (sent-asked s at, h)
-          breaks fault.Ended s at h = (sent-asked s at, h)
-          breaks fault.Read s at h = (sent-asked s at, h)
-          breaks fault.TooLong s at h = (sent-asked s at, h)
-          breaks fault.UnknownResponse s at h = (sent-asked s at, h)
-          breaks fault.OutOfMemory s at h = record { more = []; parts = sym (sent-asked s at) ∙ sym (append-nil out) }
-          breaks fault.Write s at h = absurd h
-          breaks fault.TooLarge s at h = absurd h
-          breaks fault.NotWritable s at h = absurd h
-          breaks fault.Exhausted s at h = absurd h
-          breaks fault.Closed s at h = absurd h
-          breaks fault.TooManyTokens s at h = absurd h
-          breaks (fault.Service code) s at h = absurd h
+          breaks : (y : ClientFault) (s : Site) → IsSentAt requests s out → CollectsAt view requests (id_at s) new after (Err y) (asked_at s requests) (s.octets ++ c.moves.taken) s.told → BreaksAt requests s new out c.moves.taken y
+          breaks (fault.Peer code) s sent h = (sent, h)
+          breaks (fault.Refused code) s sent h = (sent, h)
+          breaks fault.Ended s sent h = (sent, h)
+          breaks fault.Read s sent h = (sent, h)
+          breaks fault.TooLong s sent h = (sent, h)
+          breaks fault.UnknownResponse s sent h = (sent, h)
+          breaks fault.OutOfMemory s sent h = inr (sent, h)
+          breaks fault.Write s sent h = absurd h
+          breaks fault.TooLarge s sent h = absurd h
+          breaks fault.NotWritable s sent h = absurd h
+          breaks fault.Exhausted s sent h = absurd h
+          breaks fault.Closed s sent h = absurd h
+          breaks fault.TooManyTokens s sent h = absurd h
+          breaks (fault.Service code) s sent h = absurd h
 
           stops : (y : ClientFault) → StopsAt {A = B} reads left c.moves.got new after (Err y) → StopsAt {A = A} reads left c.moves.got new after (Err y)
           stops (fault.Peer code) h = h
@@ -311,7 +317,7 @@ module _ (requests : List Request) (old mid : Connection) (first : ℕ) (out : L
         sent = out;
         moves = written-moves c.moves;
         same = same-then c.keeps.same;
-        answers = λ s at. record { more = []; parts = sym (sent-asked s at) ∙ sym (append-nil out) };
+        answers = λ s at settled. let h = collected (Ok found) c s at in inr ((q.judged s at settled, sent-asked s at), (h.0.0, inr h.0.1));
         stops = tt;
       }
 
@@ -322,20 +328,22 @@ module _ (requests : List Request) (old mid : Connection) (first : ℕ) (out : L
         sent = out;
         moves = written-moves c.moves;
         same = same-then c.keeps.same;
-        answers = λ s at.
+        answers = λ s at settled.
             let h = collected (Ok found) c s at in (
               sent-asked s at,
               (
-                record { asks = asked_at s requests; octets = s.octets ++ c.moves.taken; before = received h.1.frames; told = s.told ++ h.0; number = next_of (channel_of new) },
+                record { asks = asked_at s requests; octets = s.octets ++ c.moves.taken; before = received h.0.1.frames; told = s.told ++ h.0.0; number = next_of (channel_of new) },
                 somes (view found),
-                record { goes = h.1; before_is = refl; number_is = refl },
+                record { goes = h.0.1; before_is = refl; number_is = refl },
                 record {
+                  judged = q.judged s at settled;
                   asks = refl;
                   octets = refl;
-                  heard = h.0;
+                  whole = h.1;
+                  heard = h.0.0;
                   told = refl;
                   number = c.keeps.next ∙ next-asked s at;
-                  replies_are = all-answered requests (id_at s) (s.told ++ h.0) (view found) h.2.0 h.2.1;
+                  replies_are = all-answered requests (id_at s) (s.told ++ h.0.0) (view found) h.0.2.0 h.0.2.1;
                 },
                 kept,
               ),

@@ -10,12 +10,14 @@ use Rattle.ua_client.specs.Site.{Site, At}
 use Rattle.ua_client.specs.Calls.{CallsGroup, Rounds, all_of, AreGroups, AnsweredAll, CallsAll}
 use Rattle.ua_client.specs.Calls.Rounds.{NoRound, OneRound}
 use Rattle.ua_client.specs.Hearing.{channel_of, most_reads, Moves, StopsAt}
+use Rattle.ua_client.specs.Renewing.{IsSettled}
 use Rattle.ua_client.specs.declared.connection.Connection.{Connection}
 use Rattle.ua_client.specs.declared.fault.ClientFault.{ClientFault}
 use Rattle.ua_client.specs.declared.fault.ClientFault.TheVariants as fault
 use Rattle.ua_client.specs.declared.reply.Reply.{Reply}
 use Rattle.ua_client.proofs.Hearings.{moves-behind}
 use Rattle.ua_client.proofs.GroupCalls.{moves-nothing}
+use Rattle.ua_client.proofs.Settled.{answered-settled}
 
 -- ---- lists of groups
 
@@ -56,7 +58,7 @@ pub record Called (requests : List Request) (old now : Connection) (before at : 
   pub sent : List ℕ
   pub moves : Moves old now sent before at
   pub same : SameClient (channel_of old) (channel_of now)
-  pub answers : (s : Site) → At (channel_of old) s → AnsweredAll requests s (channel_of now) sent moves.taken replies
+  pub answers : (s : Site) → At (channel_of old) s → IsSettled s → AnsweredAll requests s (channel_of now) sent moves.taken replies
   pub spent : most_reads ≤ left + length moves.got
 
 pub called-nothing : (x : Connection) (t : Option Traffic) → Called [] x x t t most_reads []
@@ -64,7 +66,7 @@ called-nothing x t = record {
   sent = [];
   moves = moves-nothing x x t refl;
   same = record { limits = refl; url = refl };
-  answers = λ s at. record { groups = []; parts = refl; sized = tt; behind = s; at = at; rounds = NoRound };
+  answers = λ s at settled. record { groups = []; parts = refl; sized = tt; behind = s; at = at; settled = settled; rounds = NoRound };
   spent = omega arith;
 }
 
@@ -81,18 +83,19 @@ module _ (requests group : List Request) (old now new : Connection) (before at t
     sent = c.sent ++ g.sent;
     moves = moves-behind old now new c.sent g.sent before at then c.moves g.moves;
     same = same-then g.same;
-    answers = λ s h.
-        let a = c.answers s h in
-        let b = g.answers a.behind a.at in
+    answers = λ s h settled.
+        let a = c.answers s h settled in
+        let b = g.answers a.behind a.at a.settled in
         record {
           groups = a.groups ++ group ∷ [];
           parts = ap (λ (ms : List Request). ms ++ group) a.parts ∙ sym (concat-push a.groups group);
           sized = groups-push a.groups group a.sized some few;
           behind = b.1.0;
           at = b.1.2;
+          settled = answered-settled group a.behind b.1.0 g.moves.taken b.1.1 a.settled b.1.3;
           rounds = subst (λ (rs : List Reply). Rounds s (a.groups ++ group ∷ []) b.1.0 (c.sent ++ g.sent) (c.moves.taken ++ g.moves.taken) rs) (sym b.1.4)
               (subst (λ (o : List ℕ). Rounds s (a.groups ++ group ∷ []) b.1.0 (c.sent ++ o) (c.moves.taken ++ g.moves.taken) (replies ++ b.1.1)) (sym b.0)
-              (OneRound group a.rounds b.1.3));
+              (OneRound group (channel_of new) a.rounds b.1.2 b.1.3));
         };
     spent = spent-then g.moves.got g.stops;
   }
@@ -103,8 +106,8 @@ module _ (requests group : List Request) (old now new : Connection) (before at t
     sent = c.sent ++ g.sent;
     moves = moves-behind old now new c.sent g.sent before at then c.moves g.moves;
     same = same-then g.same;
-    answers = λ s h.
-        let a = c.answers s h in
+    answers = λ s h settled.
+        let a = c.answers s h settled in
         record {
           groups = a.groups;
           group = group;
@@ -112,6 +115,7 @@ module _ (requests group : List Request) (old now new : Connection) (before at t
           parts = parts ∙ ap (λ (ms : List Request). ms ++ (group ++ behind)) a.parts;
           sized = groups-push a.groups group a.sized some few;
           behind = a.behind;
+          settled = a.settled;
           sent_before = c.sent;
           sent_then = g.sent;
           sent_parts = refl;
@@ -120,7 +124,7 @@ module _ (requests group : List Request) (old now new : Connection) (before at t
           taken_parts = refl;
           replies = replies;
           rounds = a.rounds;
-          breaks = g.answers a.behind a.at;
+          breaks = g.answers a.behind a.at a.settled;
         };
     stops = stops f g.stops;
   }
@@ -147,7 +151,7 @@ calls-all view requests done old now before at left found c e = record {
   sent = c.sent;
   moves = c.moves;
   same = c.same;
-  answers = λ s h. subst (λ (ms : List Request). AnsweredAll ms s (channel_of now) c.sent c.moves.taken (view found)) e (c.answers s h);
+  answers = λ s h settled. subst (λ (ms : List Request). AnsweredAll ms s (channel_of now) c.sent c.moves.taken (view found)) e (c.answers s h settled);
   stops = omega arith;
 }
 

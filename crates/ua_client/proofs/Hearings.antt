@@ -1,22 +1,27 @@
 -- What is heard, one read and one call of the channel behind another.
-use Rattle.std.specs.Prelude.{◌≡◌, ℕ, ◌+◌, ◌-◌, ◌*◌, ◌≤◌, ◌<◌, Bool, true, false, List, [], ◌∷◌, ◌++◌, length, take, drop, Option, Some, None, Result, Ok, Err}
-use Rattle.std.proofs.Common.{refl, sym, ◌∙◌, ap, subst, append_assoc, append-nil, arith}
+use Rattle.std.specs.Prelude.{◌≡◌, ◌⊎◌, ℕ, ◌+◌, ◌-◌, ◌*◌, ◌≤◌, ◌<◌, Bool, true, false, List, [], ◌∷◌, ◌++◌, length, take, drop, Option, Some, None, Result, Ok, Err}
+use Rattle.std.proofs.Common.{refl, sym, ◌∙◌, ap, subst, inl, inr, append_assoc, append-nil, arith}
 use Rattle.std.proofs.lemmas.List.{length-append, length-drop, take-append-drop}
 use Rattle.std.specs.List.{concat}
+use Rattle.ua_octets.specs.Format.{Extends}
 use Rattle.ua_builtin.specs.declared.date_time.DateTime.{DateTime}
 use Rattle.ua_builtin.specs.declared.status_code.StatusCode.{StatusCode}
+use Rattle.ua_frame.specs.Run.{Run, Going, events}
+use Rattle.ua_frame.specs.declared.limits.Limits.{Limits}
 use Rattle.ua_channel.specs.Asks.{Placed}
-use Rattle.ua_channel.specs.Client.{Goes, GoesTelling, Ended, limits_of, url_of, next_of}
+use Rattle.ua_channel.specs.Client.{Goes, GoesTelling, Ended, IsDone, SameClient, limits_of, url_of, next_of}
 use Rattle.ua_channel.specs.ClientAnswers.{ClientAnswers, Progress}
+use Rattle.ua_channel.specs.ClientTable.{client_rules}
 use Rattle.ua_channel.specs.ClientTold.{Told}
 use Rattle.ua_channel.specs.ClientTold.Told.{Agreed, Opened, Answered, GaveUp, Renewed}
-use Rattle.ua_channel.specs.Line.{Traffic}
+use Rattle.ua_channel.specs.Line.{Traffic, WhereTold}
 use Rattle.ua_channel.specs.declared.client.channel.ClientChannel.{ClientChannel}
 use Rattle.ua_channel.specs.declared.client.event.ClientEvent.{ClientEvent}
 use Rattle.ua_channel.specs.declared.client.event.ClientEvent.TheVariants as event
 use Rattle.ua_channel.specs.declared.client.fault.ClientTakeFault.{ClientTakeFault}
 use Rattle.ua_channel.specs.declared.client.fault.ClientTakeFault.TheVariants as take_fault
-use Rattle.ua_client.specs.Hearing.{channel_of, untaken_of, failure_of, effort, Keeps, TellsEvent, Moves, Listens, ListensAt, is_channel_fault, of_take_fault, failures_behind, Fills, FillsAt, Hears, HearsAt, is_hearing_fault, StopsAt}
+use Rattle.ua_client.specs.Carried.{Carries}
+use Rattle.ua_client.specs.Hearing.{channel_of, untaken_of, most_octets, failure_of, effort, Keeps, TellsEvent, Moves, Starved, Listens, ListensAt, is_channel_fault, of_take_fault, failures_behind, Fills, FillsAt, Hears, HearsAt, is_hearing_fault, StopsAt}
 use Rattle.ua_client.specs.declared.connection.Connection.{Connection}
 use Rattle.ua_client.specs.declared.fault.ClientFault.{ClientFault}
 use Rattle.ua_client.specs.declared.fault.ClientFault.TheVariants as fault
@@ -90,10 +95,21 @@ listens-failed old new moment n code peer keeps rest h = record {
   answers = λ asks octets told g. failed-at moment code peer (channel_of new) asks (octets ++ take n (untaken_of old)) told (h asks octets told g);
 }
 
-fault-at : (f : ClientTakeFault) (old new : Connection) (moment : DateTime) (asks : List Placed) (octets : List ℕ) (told : List Told)
+-- memory was refused where a channel went on
+starves : (x y : ClientChannel) (asks : List Placed) (octets : List ℕ) (told : List Told) → SameClient x y → Goes x asks octets told → IsDone y → Starved y asks (octets ++ []) told
+starves x y asks octets told same g done = record {
+  done = done;
+  frames = g.frames;
+  rest = g.rest;
+  run = subst (λ (o : List ℕ). Run (client_rules (limits_of y) asks) o g.frames g.rest Going) (sym (append-nil octets))
+      (subst (λ (l : Limits). Run (client_rules l asks) octets g.frames g.rest Going) same.limits g.stands.run);
+  told_is = subst (λ (l : Limits). events (client_rules l asks) g.frames ≡ told) same.limits g.told_is;
+}
+
+fault-at : (f : ClientTakeFault) (old new : Connection) (moment : DateTime) (asks : List Placed) (octets : List ℕ) (told : List Told) → Keeps old new → Goes (channel_of old) asks octets told
     → ClientAnswers moment (untaken_of old) (Err f) (channel_of new) asks octets told → ListensAt moment (Err (of_take_fault f)) (channel_of new) asks (octets ++ []) told
-fault-at take_fault.Closed old new moment asks octets told h = h
-fault-at take_fault.OutOfMemory old new moment asks octets told h = h
+fault-at take_fault.Closed old new moment asks octets told keeps g h = h
+fault-at take_fault.OutOfMemory old new moment asks octets told keeps g h = starves (channel_of old) (channel_of new) asks octets told keeps.same g h
 
 of-channel : (f : ClientTakeFault) → is_channel_fault (of_take_fault f) ≡ true
 of-channel take_fault.Closed = refl
@@ -106,7 +122,79 @@ listens-fault old new moment f keeps same h = record {
   keeps = keeps;
   left = tt;
   faults = of-channel f;
-  answers = λ asks octets told g. fault-at f old new moment asks octets told (h asks octets told g);
+  answers = λ asks octets told g. fault-at f old new moment asks octets told keeps g (h asks octets told g);
+}
+
+-- ---- one move behind another
+
+pub parts-behind : (u got taken v more part w : List ℕ) → u ++ got ≡ taken ++ v → v ++ more ≡ part ++ w → u ++ (got ++ more) ≡ (taken ++ part) ++ w
+parts-behind u got taken v more part w h k =
+    sym (append_assoc u got more)
+    ∙ (ap (λ (t : List ℕ). t ++ more) h
+    ∙ (append_assoc taken v more
+    ∙ (ap (λ (t : List ℕ). taken ++ t) k
+    ∙ sym (append_assoc taken part w))))
+
+pub first-behind : (u got taken v more part : List ℕ) → u ++ got ≡ taken ++ v → (got ≡ []) ⊎ Extends u taken → (more ≡ []) ⊎ Extends v part → (got ++ more ≡ []) ⊎ Extends u (taken ++ part)
+first-behind u got taken v more part h (inr e) k = inr (record { more = e.more ++ part; parts = ap (λ (t : List ℕ). t ++ part) e.parts ∙ append_assoc u e.more part })
+first-behind u got taken v more part h (inl e) (inl f) = inl (ap (λ (t : List ℕ). t ++ more) e ∙ f)
+first-behind u got taken v more part h (inl e) (inr f) = inr (record {
+  more = f.more;
+  parts = ap (λ (t : List ℕ). taken ++ t) f.parts
+      ∙ (sym (append_assoc taken v f.more)
+      ∙ (ap (λ (t : List ℕ). t ++ f.more) (sym h)
+      ∙ ap (λ (t : List ℕ). t ++ f.more) (ap (λ (g : List ℕ). u ++ g) e ∙ append-nil u)));
+})
+
+abbrev pub moves-behind : (a b c : Connection) (sent out : List ℕ) (before at then : Option Traffic) → Moves a b sent before at → Moves b c out at then → Moves a c (sent ++ out) before then
+moves-behind a b c sent out before at then m n = record {
+  got = m.got ++ n.got;
+  taken = m.taken ++ n.taken;
+  parts = parts-behind (untaken_of a) m.got m.taken (untaken_of b) n.got n.taken (untaken_of c) m.parts n.parts;
+  first = first-behind (untaken_of a) m.got m.taken (untaken_of b) n.got n.taken m.parts m.first n.first;
+  few = λ h. n.few (m.few h);
+  carried = carried-then m.got sent n.got out before at then m.carried n.carried;
+}
+
+-- nothing was read and taken
+abbrev pub moves-writing : (x y : Connection) (sent : List ℕ) (a b : Option Traffic) → untaken_of y ≡ untaken_of x → WhereTold (Carries [] sent) a b → Moves x y sent a b
+moves-writing x y sent a b same carried = record {
+  got = [];
+  taken = [];
+  parts = append-nil (untaken_of x) ∙ sym same;
+  first = inl refl;
+  few = λ h. subst (λ (o : List ℕ). length o ≤ most_octets) (sym same) h;
+  carried = carried;
+}
+
+-- the same octets were untaken before, and more was written
+abbrev pub moves-from : (x mid new : Connection) (sent out : List ℕ) (a b c d : Option Traffic) → untaken_of mid ≡ untaken_of x → (m : Moves mid new out b c) → WhereTold (Carries m.got sent) a d → Moves x new sent a d
+moves-from x mid new sent out a b c d same m carried = record {
+  got = m.got;
+  taken = m.taken;
+  parts = ap (λ (o : List ℕ). o ++ m.got) (sym same) ∙ m.parts;
+  first = subst (λ (o : List ℕ). (m.got ≡ []) ⊎ Extends o m.taken) same m.first;
+  few = λ h. m.few (subst (λ (o : List ℕ). length o ≤ most_octets) (sym same) h);
+  carried = carried;
+}
+
+-- where all was taken, what is taken of a read is the first
+first-read : (u got part : List ℕ) → (got ≡ []) ⊎ (u ≡ []) → (got ≡ []) ⊎ Extends u part
+first-read u got part (inl e) = inl e
+first-read u got part (inr e) = inr (record { more = part; parts = ap (λ (o : List ℕ). o ++ part) (sym e) })
+
+fewer-left : (part rest all : List ℕ) → all ≡ part ++ rest → length all ≤ most_octets → length rest ≤ most_octets
+fewer-left part rest all e few = let l = ap length e ∙ length-append part rest in omega (arith, l, few)
+
+-- a read, and what the channel took of it
+abbrev moves-reading : {A : Type 0} (now mid new : Connection) (at then : Option Traffic) (left less : ℕ) (result : Result A ClientFault) (part : List ℕ) → Fills now mid at then left less result → untaken_of mid ≡ part ++ untaken_of new → Moves now new [] at then
+moves-reading now mid new at then left less result part f l = record {
+  got = f.got;
+  taken = part;
+  parts = sym f.untaken ∙ l;
+  first = first-read (untaken_of now) f.got part f.next;
+  few = λ h. fewer-left part (untaken_of new) (untaken_of mid) l (f.few h);
+  carried = f.carried;
 }
 
 -- ---- up to an event
@@ -131,21 +219,12 @@ pub record Quiet (old now : Connection) (before at : Option Traffic) (reads left
 
 pub quiet-nothing : (x : Connection) (t : Option Traffic) (reads : ℕ) → Quiet x x t t reads reads
 quiet-nothing x t reads = record {
-  moves = record { got = []; taken = []; parts = append-nil (untaken_of x); carried = carried-nothing t };
+  moves = moves-writing x x [] t t refl (carried-nothing t);
   keeps = keeps-all x;
   goes = λ asks octets told g. subst (λ (o : List ℕ). Goes (channel_of x) asks o told) (sym (append-nil octets)) g;
   no_more = omega arith;
   spent = omega arith;
 }
-
--- what was taken, and then taken more
-pub parts-then : (u got taken v more w part x : List ℕ) → u ++ got ≡ taken ++ v → w ≡ v ++ more → w ≡ part ++ x → u ++ (got ++ more) ≡ (taken ++ part) ++ x
-parts-then u got taken v more w part x h f l =
-    sym (append_assoc u got more)
-    ∙ (ap (λ (t : List ℕ). t ++ more) h
-    ∙ (append_assoc taken v more
-    ∙ (ap (λ (t : List ℕ). taken ++ t) (sym f ∙ l)
-    ∙ sym (append_assoc taken part x))))
 
 pub less-effort : (left reads more : ℕ) (v w : List ℕ) → 4097 * left + length w ≤ 4097 * reads + length v → 0 < length w → more ≡ 0 → 4097 * left + more < 4097 * reads + length v
 less-effort left reads more v w h some none = omega (arith, h, some, none)
@@ -153,12 +232,7 @@ less-effort left reads more v w h some none = omega (arith, h, some, none)
 module _ (old now mid : Connection) (before at then : Option Traffic) (reads left less : ℕ) (q : Quiet old now before at reads left) where
   -- a read, and what the channel took of it
   abbrev moves-then : {A : Type 0} (result : Result A ClientFault) (new : Connection) (part : List ℕ) → Fills now mid at then left less result → untaken_of mid ≡ part ++ untaken_of new → Moves old new [] before then
-  moves-then result new part f l = record {
-    got = q.moves.got ++ f.got;
-    taken = q.moves.taken ++ part;
-    parts = parts-then (untaken_of old) q.moves.got q.moves.taken (untaken_of now) f.got (untaken_of mid) part (untaken_of new) q.moves.parts f.untaken l;
-    carried = carried-then q.moves.got [] f.got [] before at then q.moves.carried f.carried;
-  }
+  moves-then result new part f l = moves-behind old now new [] [] before at then q.moves (moves-reading now mid new at then left less result part f l)
 
   goes-then : {A : Type 0} (result : Result A ClientFault) → Fills now mid at then left less result → (asks : List Placed) (octets : List ℕ) (told : List Told) → Goes (channel_of old) asks octets told → Goes (channel_of mid) asks (octets ++ q.moves.taken) told
   goes-then result f asks octets told g = subst (λ (c : ClientChannel). Goes c asks (octets ++ q.moves.taken) told) (sym f.channel) (q.goes asks octets told g)
@@ -323,23 +397,7 @@ module _ (old now mid : Connection) (before at then : Option Traffic) (reads lef
     stops = read-stops x f.got f.found;
   }
 
--- ---- one move behind another
-
-pub parts-behind : (u got taken v more part w : List ℕ) → u ++ got ≡ taken ++ v → v ++ more ≡ part ++ w → u ++ (got ++ more) ≡ (taken ++ part) ++ w
-parts-behind u got taken v more part w h k =
-    sym (append_assoc u got more)
-    ∙ (ap (λ (t : List ℕ). t ++ more) h
-    ∙ (append_assoc taken v more
-    ∙ (ap (λ (t : List ℕ). taken ++ t) k
-    ∙ sym (append_assoc taken part w))))
-
-abbrev pub moves-behind : (a b c : Connection) (sent out : List ℕ) (before at then : Option Traffic) → Moves a b sent before at → Moves b c out at then → Moves a c (sent ++ out) before then
-moves-behind a b c sent out before at then m n = record {
-  got = m.got ++ n.got;
-  taken = m.taken ++ n.taken;
-  parts = parts-behind (untaken_of a) m.got m.taken (untaken_of b) n.got n.taken (untaken_of c) m.parts n.parts;
-  carried = carried-then m.got sent n.got out before at then m.carried n.carried;
-}
+-- ---- laws
 
 -- behind a frame that tells something a channel goes on
 abbrev pub GoesOnBehind : Type 0

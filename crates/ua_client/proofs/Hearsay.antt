@@ -67,7 +67,7 @@ abbrev pub PairsNoOther : Type 0
 PairsNoOther = (limits : Limits) (asks : List Placed) (frames : List Frame) (id : ℕ) → AllAfter (Fits (client_rules limits asks)) frames →
     is_in id (calls (asked_in asks)) ≡ false → delivered_under id (received frames).messages ≡ []
 
-told-under : TellsDelivered → (id : ℕ) (limits : Limits) (asks : List Placed) (frames : List Frame) → told_of id (events (client_rules limits asks) frames) ≡ map told_item (delivered_under id (received frames).messages)
+pub told-under : TellsDelivered → (id : ℕ) (limits : Limits) (asks : List Placed) (frames : List Frame) → told_of id (events (client_rules limits asks) frames) ≡ map told_item (delivered_under id (received frames).messages)
 told-under tells id limits asks frames =
     sym (of-calls id (events (client_rules limits asks) frames))
     ∙ (ap (told_of id) (tells limits asks frames) ∙ of-items id (delivered (received frames).messages))

@@ -1,9 +1,10 @@
 -- How the replies of a group of calls come in.
-use Rattle.std.specs.Prelude.{◌≡◌, ℕ, ◌+◌, ◌≤◌, ◌<◌, true, false, cond, is_none, List, [], ◌∷◌, ◌++◌, length, take, Option, Some, None, Ok, Err}
+use Rattle.std.specs.Prelude.{◌≡◌, ◌⊎◌, ℕ, ◌+◌, ◌≤◌, ◌<◌, true, false, cond, is_none, List, [], ◌∷◌, ◌++◌, length, take, Option, Some, None, Ok, Err}
 use Rattle.std.proofs.Common.{refl, sym, ◌∙◌, ap, subst, inl, inr, append_assoc, append-nil, arith, zero, suc}
 use Rattle.std.proofs.lemmas.List.{length-append}
 use Rattle.std.specs.List.{list_any}
 use Rattle.ua_builtin.specs.declared.date_time.DateTime.{DateTime}
+use Rattle.ua_frame.specs.Frames.{frames_octets}
 use Rattle.ua_channel.specs.Asks.{Placed}
 use Rattle.ua_channel.specs.Client.{Goes, GoesTelling}
 use Rattle.ua_channel.specs.ClientTold.{Told}
@@ -11,8 +12,8 @@ use Rattle.ua_channel.specs.Line.{Traffic, one_more}
 use Rattle.ua_channel.specs.declared.client.channel.ClientChannel.{ClientChannel}
 use Rattle.ua_channel.specs.declared.client.event.ClientEvent.{ClientEvent}
 use Rattle.ua_services.specs.declared.request.Request.{Request}
-use Rattle.ua_client.specs.Calls.{AreUntold, Collects, CollectsAt, GoesOn, none_for, somes}
-use Rattle.ua_client.specs.Hearing.{channel_of, untaken_of, Keeps, Moves, Says, Hears, HearsAt, StopsAt, is_line_fault}
+use Rattle.ua_client.specs.Calls.{AreFrames, AreUntold, Collects, CollectsAt, GoesOn, none_for, somes}
+use Rattle.ua_client.specs.Hearing.{channel_of, Keeps, Moves, Says, Hears, HearsAt, StopsAt, is_line_fault}
 use Rattle.ua_client.specs.Replies.{AreReplies, AreSlots, IsUnanswered, IsMisanswered, FillsSlots, is_reading_fault}
 use Rattle.ua_client.specs.Told.{IsFirstOf}
 use Rattle.ua_client.specs.declared.connection.Connection.{Connection}
@@ -20,7 +21,7 @@ use Rattle.ua_client.specs.declared.fault.ClientFault.{ClientFault}
 use Rattle.ua_client.specs.declared.fault.ClientFault.TheVariants as fault
 use Rattle.ua_client.specs.declared.reply.Reply.{Reply}
 use Rattle.ua_client.proofs.Carrying.{carried-nothing}
-use Rattle.ua_client.proofs.Hearings.{keeps-all, keeps-then, moves-behind, GoesOnBehind}
+use Rattle.ua_client.proofs.Hearings.{keeps-all, keeps-then, moves-behind, moves-writing, GoesOnBehind}
 
 -- ---- slots
 
@@ -87,6 +88,8 @@ pub record Waiting (requests : List Request) (first : ℕ) (old now : Connection
   pub keeps : Keeps old now
   pub goes : (asks : List Placed) (octets : List ℕ) (told : List Told) → Goes (channel_of old) asks octets told → AreUntold requests first told
       → GoesOn (channel_of now) asks (octets ++ moves.taken) told (λ all. AreSlots requests first all slots)
+  -- once something was told, nothing stands behind its frame
+  pub whole : (asks : List Placed) (octets : List ℕ) (told : List Told) → Goes (channel_of old) asks octets told → AreUntold requests first told → (slots ≡ none_for requests) ⊎ AreFrames (octets ++ moves.taken)
   pub spent : reads ≤ left + length moves.got
   pub count : length slots ≡ length requests
 
@@ -96,16 +99,29 @@ length-none (r ∷ rs) = ap suc (length-none rs)
 
 pub waits-first : (requests : List Request) (first : ℕ) (x : Connection) (t : Option Traffic) (reads : ℕ) (slots : List (Option Reply)) → slots ≡ none_for requests → Waiting requests first x x t t reads reads slots
 waits-first requests first x t reads slots e = record {
-  moves = record { got = []; taken = []; parts = append-nil (untaken_of x); carried = carried-nothing t };
+  moves = moves-writing x x [] t t refl (carried-nothing t);
   keeps = keeps-all x;
   goes = λ asks octets told g none. (
     [],
     subst (λ (o : List ℕ). Goes (channel_of x) asks o (told ++ [])) (sym (append-nil octets)) (subst (λ (h : List Told). Goes (channel_of x) asks octets h) (sym (append-nil told)) g),
     subst (λ (h : List Told). AreSlots requests first h slots) (sym (append-nil told)) (subst (λ (ss : List (Option Reply)). AreSlots requests first told ss) (sym e) (untold-slots requests first told none)),
   );
+  whole = λ asks octets told g none. inl e;
   spent = omega arith;
   count = ap length e ∙ length-none requests;
 }
+
+told-whole : (x : ClientChannel) (asks : List Placed) (octets : List ℕ) (told : List Told) (t : Told) → GoesTelling x asks octets told t → AreFrames octets
+told-whole x asks octets told t g = (g.frames ++ g.frame ∷ [], g.stands.run.whole ∙ append-nil (frames_octets (g.frames ++ g.frame ∷ [])))
+
+none-missing : (requests : List Request) → 0 < length requests → list_any is_none (none_for requests) ≡ false → ⊥
+none-missing [] some e = absurd (omega (arith, some))
+none-missing (r ∷ rs) some e = absurd cc
+
+-- where no reply is missing, something was told
+all-whole : (requests : List Request) (slots : List (Option Reply)) (octets : List ℕ) → 0 < length requests → list_any is_none slots ≡ false → (slots ≡ none_for requests) ⊎ AreFrames octets → AreFrames octets
+all-whole requests slots octets some none (inl e) = absurd (none-missing requests some (subst (λ (ss : List (Option Reply)). list_any is_none ss ≡ false) e none))
+all-whole requests slots octets some none (inr k) = k
 
 abbrev pub ToldOnce : Type 0
 ToldOnce = (x : ClientChannel) (asks : List Placed) (octets : List ℕ) (told : List Told) (t : Told) → GoesTelling x asks octets told t → IsFirstOf told t
@@ -134,6 +150,12 @@ module _ (requests : List Request) (first : ℕ) (old now new : Connection) (bef
           subst P (append_assoc told heard (t ∷ [])) is,
         )
 
+    behind-whole : (asks : List Placed) (octets : List ℕ) (told : List Told) → Goes (channel_of old) asks octets told → AreUntold requests first told → AreFrames (octets ++ (w.moves.taken ++ h.moves.taken))
+    behind-whole asks octets told g none =
+        let on = w.goes asks octets told g none in
+        let says = h.answers asks (octets ++ w.moves.taken) (told ++ on.0) on.1 in
+        subst AreFrames (append_assoc octets w.moves.taken h.moves.taken) (told-whole (channel_of new) asks ((octets ++ w.moves.taken) ++ h.moves.taken) (told ++ on.0) says.0 says.2)
+
     pub waits-more : (next : List (Option Reply)) → length next ≡ length slots
         → ((m : DateTime) (all : List Told) (t : Told) → Says m e t → IsFirstOf all t → AreSlots requests first all slots → AreSlots requests first (all ++ t ∷ []) next)
         → Waiting requests first old new before then reads less next
@@ -141,6 +163,7 @@ module _ (requests : List Request) (first : ℕ) (old now new : Connection) (bef
       moves = moves-behind old now new [] [] before at then w.moves h.moves;
       keeps = keeps-then old now new w.keeps h.keeps;
       goes = λ asks octets told g none. behind (λ all. AreSlots requests first all next) asks octets told g none (filled moment);
+      whole = λ asks octets told g none. inr (behind-whole asks octets told g none);
       spent = spent-more h.moves.got h.stops;
       count = same ∙ w.count;
     }
@@ -150,7 +173,9 @@ module _ (requests : List Request) (first : ℕ) (old now new : Connection) (bef
         → (asks : List Placed) (octets : List ℕ) (told : List Told) → Goes (channel_of old) asks octets told → AreUntold requests first told
         → CollectsAt view requests first new then (Err x) asks (octets ++ (w.moves.taken ++ h.moves.taken)) told
     misread-by view fault.UnknownResponse next filled asks octets told g none = behind (IsMisanswered requests first) asks octets told g none (filled moment)
-    misread-by view fault.OutOfMemory next filled asks octets told g none = tt
+    misread-by view fault.OutOfMemory next filled asks octets told g none =
+        let on = behind (λ all. Unit {0}) asks octets told g none (λ all t says first s. tt) in
+        (on.0, inr on.1)
     misread-by view fault.Read next filled asks octets told g none = absurd (behind (λ all. ⊥) asks octets told g none (filled moment)).2
     misread-by view fault.Write next filled asks octets told g none = absurd (behind (λ all. ⊥) asks octets told g none (filled moment)).2
     misread-by view fault.Ended next filled asks octets told g none = absurd (behind (λ all. ⊥) asks octets told g none (filled moment)).2
@@ -177,12 +202,12 @@ module _ (requests : List Request) (first : ℕ) (old now new : Connection) (bef
       some = unanswered requests first (told ++ on.0) slots on.2 missing
 
       by : (y : ClientFault) → HearsAt moment (Err y) (channel_of new) asks (octets ++ (w.moves.taken ++ h.moves.taken)) (told ++ on.0) → CollectsAt view requests first new then (Err y) asks (octets ++ (w.moves.taken ++ h.moves.taken)) told
-      by (fault.Peer code) k = (on.0, k)
-      by (fault.Refused code) k = (on.0, k)
+      by (fault.Peer code) k = (on.0, k, some)
+      by (fault.Refused code) k = (on.0, k, some)
       by fault.Ended k = (on.0, k, some)
       by fault.Read k = (on.0, k, some)
       by fault.TooLong k = (on.0, k, some)
-      by fault.OutOfMemory k = tt
+      by fault.OutOfMemory k = (on.0, inl k)
       by fault.UnknownResponse k = absurd k
       by fault.Write k = absurd k
       by (fault.Service code) k = absurd k
@@ -243,21 +268,26 @@ module _ (requests : List Request) (first : ℕ) (old now new : Connection) (bef
       reading-stops B fault.Closed got f = tt
       reading-stops B fault.TooManyTokens got f = tt
 
-  pub collects-all : {A : Type 0} (view : A → List (Option Reply)) (found : A) → slots ≡ view found → list_any is_none slots ≡ false → Collects view requests first old now before at reads left (Ok found)
-  collects-all view found e none = record {
+  pub collects-all : {A : Type 0} (view : A → List (Option Reply)) (found : A) → slots ≡ view found → list_any is_none slots ≡ false → 0 < length requests → Collects view requests first old now before at reads left (Ok found)
+  collects-all view found e none some = record {
     moves = w.moves;
     keeps = w.keeps;
     answers = λ asks octets told g n.
-        let on = w.goes asks octets told g n in
-        (on.0, on.1, (subst (λ (ss : List (Option Reply)). AreSlots requests first (told ++ on.0) ss) e on.2, subst (λ (ss : List (Option Reply)). list_any is_none ss ≡ false) e none));
+        let on = w.goes asks octets told g n in (
+          (on.0, on.1, (subst (λ (ss : List (Option Reply)). AreSlots requests first (told ++ on.0) ss) e on.2, subst (λ (ss : List (Option Reply)). list_any is_none ss ≡ false) e none)),
+          all-whole requests slots (octets ++ w.moves.taken) some none (w.whole asks octets told g n),
+        );
     stops = w.spent;
   }
 
 -- no memory to wait for any reply
 pub collects-none : {A : Type 0} (view : A → List (Option Reply)) (requests : List Request) (first : ℕ) (x : Connection) (t : Option Traffic) (reads : ℕ) → Collects view requests first x x t t reads reads (Err fault.OutOfMemory)
 collects-none view requests first x t reads = record {
-  moves = record { got = []; taken = []; parts = append-nil (untaken_of x); carried = carried-nothing t };
+  moves = moves-writing x x [] t t refl (carried-nothing t);
   keeps = keeps-all x;
-  answers = λ asks octets told g n. tt;
+  answers = λ asks octets told g n. (
+    [],
+    inr (subst (λ (o : List ℕ). Goes (channel_of x) asks o (told ++ [])) (sym (append-nil octets)) (subst (λ (h : List Told). Goes (channel_of x) asks octets h) (sym (append-nil told)) g)),
+  );
   stops = tt;
 }

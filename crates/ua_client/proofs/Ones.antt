@@ -34,9 +34,9 @@ calls-one view requests request old new before after found reply e k c = record 
   sent = c.sent;
   moves = c.moves;
   same = c.same;
-  answers = λ s at.
+  answers = λ s at settled.
       subst (λ (rs : List Reply). AnsweredAll (request ∷ []) s (channel_of new) c.sent c.moves.taken rs) k
-      (subst (λ (ms : List Request). AnsweredAll ms s (channel_of new) c.sent c.moves.taken (view found)) e (c.answers s at));
+      (subst (λ (ms : List Request). AnsweredAll ms s (channel_of new) c.sent c.moves.taken (view found)) e (c.answers s at settled));
   stops = c.stops;
 }
 
@@ -47,7 +47,7 @@ breaks-one {A} {B} view other requests request old new before after f e c = reco
   sent = c.sent;
   moves = c.moves;
   same = c.same;
-  answers = λ s at. subst (λ (ms : List Request). BrokenAll ms s new c.sent c.moves.taken f) e (c.answers s at);
+  answers = λ s at settled. subst (λ (ms : List Request). BrokenAll ms s new c.sent c.moves.taken f) e (c.answers s at settled);
   stops = stops-as A B most_reads most_reads c.moves.got new after f c.stops;
 }
 

@@ -5,21 +5,24 @@ use Rattle.std.proofs.lemmas.List.{length-append}
 use Rattle.std.specs.List.{list_any}
 use Rattle.ua_builtin.specs.declared.date_time.DateTime.{DateTime}
 use Rattle.ua_frame.specs.After.{each_after}
+use Rattle.ua_frame.specs.declared.ack.Ack.{Ack}
 use Rattle.ua_channel.specs.Asks.{Placed}
-use Rattle.ua_channel.specs.Client.{Goes, GoesTelling, Stands, limits_of, url_of}
-use Rattle.ua_channel.specs.ClientTold.{Told}
+use Rattle.ua_channel.specs.Client.{Goes, GoesTelling, Ended, Stands, limits_of, url_of}
+use Rattle.ua_channel.specs.ClientTold.{Told, Why, ours, peers}
+use Rattle.ua_channel.specs.ClientTold.Told.{Agreed, Opened, Answered, GaveUp, Renewed}
 use Rattle.ua_channel.specs.Line.{Traffic, WhereTold}
 use Rattle.ua_channel.specs.declared.client.channel.ClientChannel.{ClientChannel}
 use Rattle.ua_channel.specs.declared.client.event.ClientEvent.{ClientEvent}
 use Rattle.ua_channel.specs.declared.client.event.ClientEvent.TheVariants as event
 use Rattle.ua_client.specs.Carried.{Carries, WritesFront}
-use Rattle.ua_client.specs.Hearing.{channel_of, untaken_of, Keeps, Moves, Says, Hears, HearsAt, StopsAt, most_reads}
-use Rattle.ua_client.specs.Opening.{is_agreed, is_opened, GoesWithout, GoesUntil, WaitsAt, Waits, any_done, hello_octets, open_octets, BreaksOpening, Opens}
+use Rattle.ua_client.specs.Hearing.{channel_of, BreaksOff, Keeps, Moves, Says, Starved, Hears, HearsAt, StopsAt, most_reads}
+use Rattle.ua_client.specs.Opening.{is_agreed, is_opened, EndsWithout, GoesWithout, GoesUntil, StarvesWithout, WaitsAt, Waits, any_done, hello_octets, open_octets, BreaksOpening, IsOpened, Opens}
 use Rattle.ua_client.specs.declared.connection.Connection.{Connection}
 use Rattle.ua_client.specs.declared.fault.ClientFault.{ClientFault}
 use Rattle.ua_client.specs.declared.fault.ClientFault.TheVariants as fault
 use Rattle.ua_client.proofs.Carrying.{carried-nothing, carried-then, carried-as, sends-front}
-use Rattle.ua_client.proofs.Hearings.{keeps-all, keeps-then, moves-behind, GoesOnBehind}
+use Rattle.ua_client.proofs.Greetings.{IsGreeting, greeting}
+use Rattle.ua_client.proofs.Hearings.{keeps-all, keeps-then, moves-behind, moves-from, moves-writing, GoesOnBehind}
 
 -- ---- events
 
@@ -90,24 +93,13 @@ any-push : (wanted : Told → Bool) (told : List Told) (t : Told) → list_any w
 any-push wanted [] t h k = ap (λ (b : Bool). b || false) k
 any-push wanted (u ∷ told) t h k = any-either (wanted u) (list_any wanted told) (list_any wanted (told ++ t ∷ [])) h (λ e. any-push wanted told t e k)
 
-or-true : (p q : Bool) → q ≡ true → (p || q) ≡ true
-or-true true q e = refl
-or-true false q e = e
-
 or-more : (b rest more : Bool) → (b || rest) ≡ true → (rest ≡ true → more ≡ true) → (b || more) ≡ true
 or-more true rest more h k = refl
 or-more false rest more h k = k h
 
-any-right : (wanted : Told → Bool) (us vs : List Told) → list_any wanted vs ≡ true → list_any wanted (us ++ vs) ≡ true
-any-right wanted [] vs i = i
-any-right wanted (y ∷ us) vs i = or-true (wanted y) (list_any wanted (us ++ vs)) (any-right wanted us vs i)
-
 pub any-left : (wanted : Told → Bool) (us vs : List Told) → list_any wanted us ≡ true → list_any wanted (us ++ vs) ≡ true
 any-left wanted [] vs i = absurd cc
 any-left wanted (y ∷ us) vs i = or-more (wanted y) (list_any wanted us) (list_any wanted (us ++ vs)) i (λ e. any-left wanted us vs e)
-
-pub any-last : (wanted : Told → Bool) (told : List Told) (t : Told) → wanted t ≡ true → list_any wanted (told ++ t ∷ []) ≡ true
-any-last wanted told t k = any-right wanted told (t ∷ []) (ap (λ (v : Bool). v || false) k)
 
 -- ---- waiting
 
@@ -120,7 +112,7 @@ pub record Lacks (wanted : Told → Bool) (old now : Connection) (before at : Op
 
 pub lacks-first : (wanted : Told → Bool) (x : Connection) (t : Option Traffic) (reads : ℕ) → Lacks wanted x x t t reads reads
 lacks-first wanted x t reads = record {
-  moves = record { got = []; taken = []; parts = append-nil (untaken_of x); carried = carried-nothing t };
+  moves = moves-writing x x [] t t refl (carried-nothing t);
   keeps = keeps-all x;
   goes = λ asks octets told g. record {
     heard = [];
@@ -191,7 +183,7 @@ module _ (test : ClientEvent → Bool) (wanted : Told → Bool) (tests : Tests t
       by fault.Ended asks octets told heard none k = record { heard = heard; none = none; goes = k }
       by fault.Read asks octets told heard none k = record { heard = heard; none = none; goes = k }
       by fault.TooLong asks octets told heard none k = record { heard = heard; none = none; goes = k }
-      by fault.OutOfMemory asks octets told heard none k = tt
+      by fault.OutOfMemory asks octets told heard none k = record { heard = heard; none = none; starved = k }
       by fault.UnknownResponse asks octets told heard none k = absurd k
       by fault.Write asks octets told heard none k = absurd k
       by (fault.Service code) asks octets told heard none k = absurd k
@@ -217,10 +209,99 @@ module _ (test : ClientEvent → Bool) (wanted : Told → Bool) (tests : Tests t
       stops fault.Closed got k = tt
       stops fault.OutOfMemory got k = tt
 
--- where what is waited for was told, a channel goes on
-pub until-goes : GoesOnBehind → (wanted : Told → Bool) (x : ClientChannel) (asks : List Placed) (octets : List ℕ) (told : List Told) (u : GoesUntil wanted x asks octets told) → Goes x asks octets (told ++ (u.heard ++ u.last ∷ []))
-until-goes goes_on wanted x asks octets told u =
-    subst (λ (all : List Told). Goes x asks octets all) (append_assoc told u.heard (u.last ∷ [])) (goes_on x asks octets (told ++ u.heard) u.last u.tells)
+-- ---- what is told first
+
+shape-of : (x : ClientChannel) (asks : List Placed) (octets : List ℕ) (told : List Told) → Goes x asks octets told → IsGreeting told
+shape-of x asks octets told g = subst IsGreeting g.told_is (greeting (limits_of x) asks g.frames g.stands.run.good)
+
+shape-ended : (x : ClientChannel) (asks : List Placed) (octets : List ℕ) (told : List Told) (why : Why) → Ended x asks octets told why → IsGreeting told
+shape-ended x asks octets told why g = subst IsGreeting g.told_is (greeting (limits_of x) asks g.frames g.run.good)
+
+shape-starved : (x : ClientChannel) (asks : List Placed) (octets : List ℕ) (told : List Told) → Starved x asks octets told → IsGreeting told
+shape-starved x asks octets told g = subst IsGreeting g.told_is (greeting (limits_of x) asks g.frames g.run.good)
+
+none-agreed : (heard : List Told) → list_any is_agreed heard ≡ false → IsGreeting heard → heard ≡ []
+none-agreed [] none h = refl
+none-agreed (t ∷ ts) none h = let e = sym (ap (λ (b : Bool). b || list_any is_agreed ts) h.0) ∙ none in absurd cc
+
+none-behind : (heard : List Told) (last : Told) → list_any is_agreed heard ≡ false → IsGreeting (heard ++ last ∷ []) → heard ≡ []
+none-behind [] last none h = refl
+none-behind (t ∷ ts) last none h = let e = sym (ap (λ (b : Bool). b || list_any is_agreed ts) h.0) ∙ none in absurd cc
+
+none-opened : (ack : Ack) (heard : List Told) → list_any is_opened heard ≡ false → IsGreeting (Agreed ack ∷ heard) → heard ≡ []
+none-opened ack [] none h = refl
+none-opened ack (t ∷ ts) none h = let e = sym (ap (λ (b : Bool). b || list_any is_opened ts) h.1) ∙ none in absurd cc
+
+the-ack : (t : Told) → is_agreed t ≡ true → (ack : Ack) × (t ≡ Agreed ack)
+the-ack (Agreed ack) h = (ack, refl)
+the-ack (Opened channel token) h = absurd cc
+the-ack (Answered id octets) h = absurd cc
+the-ack (GaveUp id code) h = absurd cc
+the-ack (Renewed token) h = absurd cc
+
+-- an ACK is the first that is told
+agreed-alone : GoesOnBehind → (x : ClientChannel) (octets : List ℕ) → GoesUntil is_agreed x [] octets [] → (ack : Ack) × GoesTelling x [] octets [] (Agreed ack)
+agreed-alone goes_on x octets u =
+    let a = the-ack u.last u.is_wanted in
+    let first : u.heard ≡ [] = none-behind u.heard u.last u.none (shape-of x [] octets (u.heard ++ u.last ∷ []) (goes_on x [] octets u.heard u.last u.tells)) in
+    (a.0, subst (λ (t : Told). GoesTelling x [] octets [] t) a.1 (subst (λ (heard : List Told). GoesTelling x [] octets heard u.last) first u.tells))
+
+-- that the channel is open is the next
+none-between : (ack : Ack) (heard : List Told) (last : Told) → list_any is_opened heard ≡ false → IsGreeting (Agreed ack ∷ (heard ++ last ∷ [])) → heard ≡ []
+none-between ack [] last none h = refl
+none-between ack (t ∷ ts) last none h = let e = sym (ap (λ (b : Bool). b || list_any is_opened ts) h.1) ∙ none in absurd cc
+
+the-opening : (t : Told) → is_opened t ≡ true → (channel : ℕ) × (token : ℕ) × (t ≡ Opened channel token)
+the-opening (Agreed ack) h = absurd cc
+the-opening (Opened channel token) h = (channel, token, refl)
+the-opening (Answered id octets) h = absurd cc
+the-opening (GaveUp id code) h = absurd cc
+the-opening (Renewed token) h = absurd cc
+
+opened-next : GoesOnBehind → (x : ClientChannel) (octets : List ℕ) (ack : Ack) → GoesUntil is_opened x [] octets (Agreed ack ∷ []) → IsOpened x octets
+opened-next goes_on x octets ack u =
+    let found = the-opening u.last u.is_wanted in
+    let next : u.heard ≡ [] =
+    none-between ack u.heard u.last u.none (shape-of x [] octets (Agreed ack ∷ (u.heard ++ u.last ∷ [])) (goes_on x [] octets (Agreed ack ∷ u.heard) u.last u.tells)) in
+    record {
+      ack = ack;
+      channel = found.0;
+      token = found.1;
+      tells = subst (λ (t : Told). GoesTelling x [] octets (Agreed ack ∷ []) t) found.2 (subst (λ (heard : List Told). GoesTelling x [] octets (Agreed ack ∷ heard) u.last) next u.tells);
+    }
+
+-- what is waited for is what would be told next, so where it was not told nothing was
+told-none : {A : Type 0} (wanted : Told → Bool) (P : A → Type 0) (told : List Told) → ((heard : List Told) → list_any wanted heard ≡ false → IsGreeting (told ++ heard) → heard ≡ [])
+    → (x : ClientChannel) (asks : List Placed) (octets : List ℕ) (f : ClientFault) → WaitsAt wanted P (Err f) x asks octets told → BreaksOff f x asks octets told
+told-none wanted P told next x asks octets f h = by f h
+  where
+    no-more : (heard : List Told) → list_any wanted heard ≡ false → IsGreeting (told ++ heard) → told ++ heard ≡ told
+    no-more heard none shape = ap (λ (ts : List Told). told ++ ts) (next heard none shape) ∙ append-nil told
+
+    goes : GoesWithout wanted x asks octets told → Goes x asks octets told
+    goes k = subst (λ (all : List Told). Goes x asks octets all) (no-more k.heard k.none (shape-of x asks octets (told ++ k.heard) k.goes)) k.goes
+
+    ends : (why : Why) → EndsWithout wanted x asks octets told why → Ended x asks octets told why
+    ends why k = subst (λ (all : List Told). Ended x asks octets all why) (no-more k.heard k.none (shape-ended x asks octets (told ++ k.heard) why k.ended)) k.ended
+
+    starves : StarvesWithout wanted x asks octets told → Starved x asks octets told
+    starves k = subst (λ (all : List Told). Starved x asks octets all) (no-more k.heard k.none (shape-starved x asks octets (told ++ k.heard) k.starved)) k.starved
+
+    by : (y : ClientFault) → WaitsAt wanted P (Err y) x asks octets told → BreaksOff y x asks octets told
+    by fault.Read k = goes k
+    by fault.Ended k = goes k
+    by fault.TooLong k = goes k
+    by (fault.Peer code) k = ends (peers code.code) k
+    by (fault.Refused code) k = ends (ours code.code) k
+    by fault.OutOfMemory k = starves k
+    by fault.Write k = absurd k
+    by fault.UnknownResponse k = absurd k
+    by (fault.Service code) k = absurd k
+    by fault.TooLarge k = absurd k
+    by fault.NotWritable k = absurd k
+    by fault.Exhausted k = absurd k
+    by fault.TooManyTokens k = absurd k
+    by fault.Closed k = absurd k
 
 -- ---- the opening
 
@@ -228,9 +309,9 @@ until-goes goes_on wanted x asks octets told u =
 pub opens-nothing : {A : Type 0} (moment : DateTime) (x : Connection) (t : Option Traffic) → Opens {A = A} moment x x t t (Err fault.OutOfMemory)
 opens-nothing moment x t = record {
   sent = [];
-  moves = record { got = []; taken = []; parts = append-nil (untaken_of x); carried = carried-nothing t };
+  moves = moves-writing x x [] t t refl (carried-nothing t);
   keeps = keeps-all x;
-  answers = λ g. record { more = hello_octets (limits_of (channel_of x)) (url_of (channel_of x)) ++ open_octets moment; parts = refl };
+  answers = λ g. inl (refl, refl);
   stops = tt;
 }
 
@@ -241,22 +322,15 @@ opens-unwritten moment x hello before after is h =
     let front = sends-front hello before after h in
     record {
       sent = front.0;
-      moves = record { got = []; taken = []; parts = append-nil (untaken_of x); carried = front.2 };
+      moves = moves-writing x x front.0 before after refl front.2;
       keeps = keeps-all x;
-      answers = λ g. record {
-        more = front.1.more ++ open_octets moment;
-        parts = ap (λ (o : List ℕ). o ++ open_octets moment) (sym is ∙ front.1.parts) ∙ append_assoc front.0 front.1.more (open_octets moment);
-      };
+      answers = λ g. inl (record { more = front.1.more; parts = sym is ∙ front.1.parts }, refl);
       stops = tt;
     }
 
 abbrev pub sent-first : (x mid : Connection) (hello : List ℕ) (a b c : Option Traffic) → WhereTold (Carries [] hello) a b → Moves x mid [] b c → Moves x mid hello a c
-sent-first x mid hello a b c w m = record {
-  got = m.got;
-  taken = m.taken;
-  parts = m.parts;
-  carried = carried-as m.got (hello ++ []) m.got hello a c refl (append-nil hello) (carried-then [] hello m.got [] a b c w m.carried);
-}
+sent-first x mid hello a b c w m =
+    moves-from x x mid hello [] a b c c refl m (carried-as m.got (hello ++ []) m.got hello a c refl (append-nil hello) (carried-then [] hello m.got [] a b c w m.carried))
 
 module _ (moment : DateTime) (x mid : Connection) (hello : List ℕ) (a b c : Option Traffic) (left : ℕ) (is : hello ≡ hello_octets (limits_of (channel_of x)) (url_of (channel_of x))) (w : WhereTold (Carries [] hello) a b) where
   -- no ACK came
@@ -270,12 +344,12 @@ module _ (moment : DateTime) (x mid : Connection) (hello : List ℕ) (a b c : Op
   }
     where
       by : (y : ClientFault) → WaitsAt is_agreed P (Err y) (channel_of mid) [] h.moves.taken [] → BreaksOpening (hello_octets (limits_of (channel_of x)) (url_of (channel_of x))) (open_octets moment) (channel_of mid) hello h.moves.taken y
-      by fault.Read k = inl (is, k)
-      by fault.Ended k = inl (is, k)
-      by fault.TooLong k = inl (is, k)
-      by (fault.Peer code) k = inl (is, k)
-      by (fault.Refused code) k = inl (is, k)
-      by fault.OutOfMemory k = record { more = open_octets moment; parts = ap (λ (o : List ℕ). o ++ open_octets moment) (sym is) }
+      by fault.Read k = inl (is, told-none is_agreed P [] none-agreed (channel_of mid) [] h.moves.taken fault.Read k)
+      by fault.Ended k = inl (is, told-none is_agreed P [] none-agreed (channel_of mid) [] h.moves.taken fault.Ended k)
+      by fault.TooLong k = inl (is, told-none is_agreed P [] none-agreed (channel_of mid) [] h.moves.taken fault.TooLong k)
+      by (fault.Peer code) k = inl (is, told-none is_agreed P [] none-agreed (channel_of mid) [] h.moves.taken (fault.Peer code) k)
+      by (fault.Refused code) k = inl (is, told-none is_agreed P [] none-agreed (channel_of mid) [] h.moves.taken (fault.Refused code) k)
+      by fault.OutOfMemory k = inr (inl (is, told-none is_agreed P [] none-agreed (channel_of mid) [] h.moves.taken fault.OutOfMemory k))
       by fault.Write k = absurd k
       by fault.UnknownResponse k = absurd k
       by (fault.Service code) k = absurd k
@@ -302,11 +376,13 @@ module _ (moment : DateTime) (x mid : Connection) (hello : List ℕ) (a b c : Op
       stops fault.OutOfMemory k = tt
 
   module _ {B : Type 0} (P : B → Type 0) (found : B) (h : Waits is_agreed P x mid b c most_reads left (Ok found)) (opening : List ℕ) (open_is : P found → opening ≡ open_octets moment) where
-    -- what an ACK told
-    agreed-told : GoesOnBehind → Goes (channel_of x) [] [] [] → (told : List Told) × (list_any is_agreed told ≡ true) × Goes (channel_of mid) [] h.moves.taken told
-    agreed-told goes_on g =
-        let u = (h.answers [] [] [] g).0 in
-        (u.heard ++ u.last ∷ [], any-last is_agreed u.heard u.last u.is_wanted, until-goes goes_on is_agreed (channel_of mid) [] h.moves.taken [] u)
+    -- the ACK
+    agreed-first : GoesOnBehind → Goes (channel_of x) [] [] [] → (ack : Ack) × GoesTelling (channel_of mid) [] h.moves.taken [] (Agreed ack)
+    agreed-first goes_on g = agreed-alone goes_on (channel_of mid) h.moves.taken (h.answers [] [] [] g).0
+
+    -- what it told
+    agreed-told : GoesOnBehind → Goes (channel_of x) [] [] [] → (ack : Ack) × Goes (channel_of mid) [] h.moves.taken (Agreed ack ∷ [])
+    agreed-told goes_on g = let a = agreed-first goes_on g in (a.0, goes_on (channel_of mid) [] h.moves.taken [] (Agreed a.0) a.1)
 
     opening-is : Goes (channel_of x) [] [] [] → opening ≡ open_octets moment
     opening-is g = open_is (h.answers [] [] [] g).1
@@ -315,19 +391,23 @@ module _ (moment : DateTime) (x mid : Connection) (hello : List ℕ) (a b c : Op
     both-sent g = ap (λ (o : List ℕ). o ++ opening) is ∙ ap (λ (o : List ℕ). hello_octets (limits_of (channel_of x)) (url_of (channel_of x)) ++ o) (opening-is g)
 
     -- the OPN was not written whole
-    pub opens-unasked : {A : Type 0} (d : Option Traffic) → WhereTold (WritesFront opening) c d → Opens {A = A} moment x mid a d (Err fault.Write)
-    opens-unasked d k =
+    pub opens-unasked : {A : Type 0} → GoesOnBehind → (d : Option Traffic) → WhereTold (WritesFront opening) c d → Opens {A = A} moment x mid a d (Err fault.Write)
+    opens-unasked goes_on d k =
         let front = sends-front opening c d k in
         let m : Moves x mid (hello ++ front.0) a d = moves-behind x mid mid hello front.0 a c d (sent-first x mid hello a b c w h.moves)
-        (record { got = []; taken = []; parts = append-nil (untaken_of mid); carried = front.2 }) in
+        (moves-writing mid mid front.0 c d refl front.2) in
         record {
           sent = hello ++ front.0;
           moves = m;
           keeps = h.keeps;
-          answers = λ g. record {
-            more = front.1.more;
-            parts = sym (both-sent g) ∙ (ap (λ (o : List ℕ). hello ++ o) front.1.parts ∙ sym (append_assoc hello front.0 front.1.more));
-          };
+          answers = λ g.
+              let t = agreed-first goes_on g in
+              inr (
+                front.0,
+                ap (λ (o : List ℕ). o ++ front.0) is,
+                record { more = front.1.more; parts = sym (opening-is g) ∙ front.1.parts },
+                (t.0, subst (λ (o : List ℕ). GoesTelling (channel_of mid) [] o [] (Agreed t.0)) (sym (append-nil h.moves.taken)) t.1),
+              );
           stops = tt;
         }
 
@@ -346,16 +426,7 @@ module _ (moment : DateTime) (x mid : Connection) (hello : List ℕ) (a b c : Op
         keeps = keeps-then x mid new h.keeps k.keeps;
         answers = λ g.
             let t = agreed-told goes_on g in
-            let u = (k.answers [] h.moves.taken t.0 t.2).0 in (
-              both-sent g,
-              record {
-                told = t.0 ++ u.heard;
-                last = u.last;
-                tells = u.tells;
-                agreed = any-left is_agreed t.0 u.heard t.1;
-                opened = u.is_wanted;
-              },
-            );
+            (both-sent g, opened-next goes_on (channel_of new) (h.moves.taken ++ k.moves.taken) t.0 (k.answers [] h.moves.taken (Agreed t.0 ∷ []) t.1).0);
         stops = omega arith;
       }
 
@@ -365,26 +436,26 @@ module _ (moment : DateTime) (x mid : Connection) (hello : List ℕ) (a b c : Op
         sent = hello ++ opening;
         moves = both-moves k.moves;
         keeps = keeps-then x mid new h.keeps k.keeps;
-        answers = λ g. let t = agreed-told goes_on g in by f g t.0 t.1 (k.answers [] h.moves.taken t.0 t.2);
+        answers = λ g. let t = agreed-told goes_on g in by f g t.0 (k.answers [] h.moves.taken (Agreed t.0 ∷ []) t.1);
         stops = stops f k.stops;
       }
         where
-          by : (y : ClientFault) → Goes (channel_of x) [] [] [] → (told : List Told) → list_any is_agreed told ≡ true → WaitsAt is_opened any_done (Err y) (channel_of new) [] (h.moves.taken ++ k.moves.taken) told
+          by : (y : ClientFault) → Goes (channel_of x) [] [] [] → (ack : Ack) → WaitsAt is_opened any_done (Err y) (channel_of new) [] (h.moves.taken ++ k.moves.taken) (Agreed ack ∷ [])
               → BreaksOpening (hello_octets (limits_of (channel_of x)) (url_of (channel_of x))) (open_octets moment) (channel_of new) (hello ++ opening) (h.moves.taken ++ k.moves.taken) y
-          by fault.Read g told agreed i = inr (both-sent g, (told, agreed, i))
-          by fault.Ended g told agreed i = inr (both-sent g, (told, agreed, i))
-          by fault.TooLong g told agreed i = inr (both-sent g, (told, agreed, i))
-          by (fault.Peer code) g told agreed i = inr (both-sent g, (told, agreed, i))
-          by (fault.Refused code) g told agreed i = inr (both-sent g, (told, agreed, i))
-          by fault.OutOfMemory g told agreed i = record { more = []; parts = sym (both-sent g) ∙ sym (append-nil (hello ++ opening)) }
-          by fault.Write g told agreed i = absurd i
-          by fault.UnknownResponse g told agreed i = absurd i
-          by (fault.Service code) g told agreed i = absurd i
-          by fault.TooLarge g told agreed i = absurd i
-          by fault.NotWritable g told agreed i = absurd i
-          by fault.Exhausted g told agreed i = absurd i
-          by fault.TooManyTokens g told agreed i = absurd i
-          by fault.Closed g told agreed i = absurd i
+          by fault.Read g ack i = inr (both-sent g, (ack, told-none is_opened any_done (Agreed ack ∷ []) (none-opened ack) (channel_of new) [] (h.moves.taken ++ k.moves.taken) fault.Read i))
+          by fault.Ended g ack i = inr (both-sent g, (ack, told-none is_opened any_done (Agreed ack ∷ []) (none-opened ack) (channel_of new) [] (h.moves.taken ++ k.moves.taken) fault.Ended i))
+          by fault.TooLong g ack i = inr (both-sent g, (ack, told-none is_opened any_done (Agreed ack ∷ []) (none-opened ack) (channel_of new) [] (h.moves.taken ++ k.moves.taken) fault.TooLong i))
+          by (fault.Peer code) g ack i = inr (both-sent g, (ack, told-none is_opened any_done (Agreed ack ∷ []) (none-opened ack) (channel_of new) [] (h.moves.taken ++ k.moves.taken) (fault.Peer code) i))
+          by (fault.Refused code) g ack i = inr (both-sent g, (ack, told-none is_opened any_done (Agreed ack ∷ []) (none-opened ack) (channel_of new) [] (h.moves.taken ++ k.moves.taken) (fault.Refused code) i))
+          by fault.OutOfMemory g ack i = inr (inr (both-sent g, (ack, told-none is_opened any_done (Agreed ack ∷ []) (none-opened ack) (channel_of new) [] (h.moves.taken ++ k.moves.taken) fault.OutOfMemory i)))
+          by fault.Write g ack i = absurd i
+          by fault.UnknownResponse g ack i = absurd i
+          by (fault.Service code) g ack i = absurd i
+          by fault.TooLarge g ack i = absurd i
+          by fault.NotWritable g ack i = absurd i
+          by fault.Exhausted g ack i = absurd i
+          by fault.TooManyTokens g ack i = absurd i
+          by fault.Closed g ack i = absurd i
 
           stops : (y : ClientFault) → StopsAt {A = Unit {0}} left less k.moves.got new e (Err y) → StopsAt {A = Unit {0}} most_reads most_reads (h.moves.got ++ k.moves.got) new e (Err y)
           stops fault.TooLong i = (i.0, let l = length-append h.moves.got k.moves.got in let s = h.stops in let few = i.1 in omega (arith, l, s, few))

@@ -171,7 +171,7 @@ opening-none (r ∷ rs) qs e = absurd cc
 
 -- ---- by the reasons
 
-none-holds : {A : Type 0} (rs : List (A × Bool)) → first_reason rs ≡ None → AllByRecursion (λ (r : A × Bool). r.1 ≡ false) rs
+pub none-holds : {A : Type 0} (rs : List (A × Bool)) → first_reason rs ≡ None → AllByRecursion (λ (r : A × Bool). r.1 ≡ false) rs
 none-holds [] e = tt
 none-holds ((a, true) ∷ rs) e = absurd cc
 none-holds ((a, false) ∷ rs) e = (refl, none-holds rs e)

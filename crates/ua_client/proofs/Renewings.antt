@@ -1,8 +1,7 @@
 -- How the token of a channel is renewed.
 use Rattle.std.specs.Prelude.{◌≡◌, ◌⊎◌, ℕ, ◌+◌, ◌≤◌, nat_le, Bool, true, false, is_some, List, [], ◌∷◌, ◌++◌, length, Option, Some, None, Result, Ok, Err, IfErr}
-use Rattle.std.proofs.Common.{refl, sym, ◌∙◌, ap, subst, inl, inr, append_assoc, append-nil, arith}
+use Rattle.std.proofs.Common.{refl, sym, ◌∙◌, ap, subst, inl, inr, append_assoc, arith}
 use Rattle.std.proofs.lemmas.List.{length-append}
-use Rattle.std.specs.List.{list_any}
 use Rattle.ua_builtin.specs.Reasons.{first_reason}
 use Rattle.ua_builtin.specs.declared.date_time.DateTime.{DateTime}
 use Rattle.ua_frame.specs.Frames.{frame_octets}
@@ -10,7 +9,7 @@ use Rattle.ua_frame.specs.declared.frame.Frame.{Frame}
 use Rattle.ua_frame.specs.declared.limits.Limits.{Limits}
 use Rattle.ua_chunk.specs.Sequence.{next_number}
 use Rattle.ua_chunk.specs.declared.lane.Lane.{Lane}
-use Rattle.ua_channel.specs.Asks.{Asking, Placed, asked_in, next_id, pending_renewals, renewals}
+use Rattle.ua_channel.specs.Asks.{Asking, Placed, asked_in, calls, next_id, pending_renewals, renewals}
 use Rattle.ua_channel.specs.Asks.Asking.{Renewal}
 use Rattle.ua_channel.specs.Client.{Goes, GoesTelling, InPhase, IsNotOpen, IsRenewal, SameClient, SendsRenewal, Stands, limits_of, next_of, phase_of, renew_refusal, renewal_refused}
 use Rattle.ua_channel.specs.ClientAsks.{IsFor, most_tokens, no_id}
@@ -29,7 +28,6 @@ use Rattle.ua_channel.specs.declared.client.phase.Phase.{Phase}
 use Rattle.ua_channel.specs.declared.client.phase.Phase.TheVariants as phase
 use Rattle.ua_channel.proofs.Askings.{asked_in-push, renewals-push}
 use Rattle.ua_channel.proofs.ClientReadings.{stands_once}
-use Rattle.ua_channel.proofs.Opened.{client_open}
 use Rattle.ua_client.specs.Carried.{Carries, WritesFront}
 use Rattle.ua_client.specs.Hearing.{channel_of, is_hearing_fault, untaken_of, most_reads, Keeps, Moves, StopsAt}
 use Rattle.ua_client.specs.Opening.{is_opened, any_done, GoesUntil, IsOpened, WaitsAt, Waits}
@@ -39,10 +37,11 @@ use Rattle.ua_client.specs.declared.connection.Connection.{Connection}
 use Rattle.ua_client.specs.declared.fault.ClientFault.{ClientFault}
 use Rattle.ua_client.specs.declared.fault.ClientFault.TheVariants as fault
 use Rattle.ua_client.proofs.Carrying.{carried-nothing, sends-front}
-use Rattle.ua_client.proofs.Hearings.{GoesOnBehind}
+use Rattle.ua_client.proofs.Hearings.{moves-from, moves-writing, GoesOnBehind}
 use Rattle.ua_client.proofs.Lanes.{lane-talks}
-use Rattle.ua_client.proofs.Openings.{Tests, any-last, any-left, sent-first}
-use Rattle.ua_client.proofs.Renewals.{newest-renewed, tokens-answer, tokens-told, tokens-append, told-opened}
+use Rattle.ua_client.proofs.Openings.{Tests, any-left, sent-first}
+use Rattle.ua_client.proofs.Renewals.{newest-renewed, tokens-answer, tokens-told, tokens-append}
+use Rattle.ua_client.proofs.Settled.{AreTold, is-open, told-longer, told-renewed}
 
 -- ---- events
 
@@ -110,22 +109,17 @@ no-length [] h = refl
 no-length (id ∷ ids) h = absurd (omega (arith, h))
 
 module _ (x : ClientChannel) (s : Site) (at : At x s) (settled : IsSettled s) where
-  none-pending : pending_renewals (opened_ids (received at.goes.frames).openings) (asked_in s.asks) ≡ []
-  none-pending =
+  renewals-answered : pending_renewals (opened_ids (received at.goes.frames).openings) (asked_in s.asks) ≡ []
+  renewals-answered =
       let few = tokens-answer (limits_of x) s.asks at.goes.frames at.goes.stands.run.good in
       let all : length (renewals (asked_in s.asks)) ≤ tokens-told s.told = settled.renewed in
       let told = ap tokens-told at.goes.told_is in
       no-length (pending_renewals (opened_ids (received at.goes.frames).openings) (asked_in s.asks)) (omega (arith, few, all, told))
 
-  is-open : IsNotOpen (phase_of x) → ⊥
-  is-open n =
-      told-opened (limits_of x) s.asks at.goes.frames (ap (list_any is_opened) at.goes.told_is ∙ settled.opened)
-      ((client_open x s.asks s.octets at.goes.frames at.goes.rest at.goes.stands).0 n)
-
   -- why the channel refuses, by where the client stands
   pub channel-refuses : renewal_refused x ≡ asked-reasons (nat_le most_tokens (length (held_tokens s.before))) (nat_le no_id (id_at s))
   channel-refuses =
-      judging-in (limits_of x) (phase_of x) (received at.goes.frames) (asked_in s.asks) at.goes.stands.phase_is is-open none-pending
+      judging-in (limits_of x) (phase_of x) (received at.goes.frames) (asked_in s.asks) at.goes.stands.phase_is (is-open x s at settled) renewals-answered
       ∙ ap (λ (b : Received). asked-reasons (nat_le most_tokens (length (held_tokens b))) (nat_le no_id (id_at s))) at.before_is
 
 newest-in : (limits : Limits) (p : Phase) (before : Received) (asked : List Asking) → InPhase limits p before asked → (IsNotOpen p → ⊥) → (k : ℕ) × (latest (held_tokens before) ≡ Some k)
@@ -172,7 +166,7 @@ module _ (A : Type 0) (s : Site) (moment : DateTime) (new : ClientChannel) where
   refuses-by false false f (inl e) = absurd cc
   refuses-by true used f (inr e) = absurd cc
   refuses-by false true f (inr e) = absurd cc
-  refuses-by false false f (inr e) = subst (λ (g : AskFault). Refuses None g) (sym e.0) (refl, inl refl)
+  refuses-by false false f (inr e) = subst (λ (g : AskFault). Refuses None g) (sym e.0) (refl, inl (refl, refl))
 
   refuses-at : (x : ClientChannel) → At x s → IsSettled s → (f : AskFault) → IsFor (renewal_refused x) f → Refuses (renewal_refusal s) f
   refuses-at x at settled f h =
@@ -193,7 +187,7 @@ refusal-stops A ask_fault.OutOfMemory x t = tt
 pub renews-refused : {A : Type 0} (moment : DateTime) (x y : Connection) (t : Option Traffic) (f : AskFault) → y ≡ x → IsFor (renewal_refused (channel_of x)) f → Renews {A = A} moment x y t t (Err (of_renew_fault f))
 renews-refused {A} moment x y t f same h = record {
   sent = [];
-  moves = record { got = []; taken = []; parts = append-nil (untaken_of x) ∙ ap untaken_of (sym same); carried = carried-nothing t };
+  moves = moves-writing x y [] t t (ap untaken_of same) (carried-nothing t);
   same = record { limits = ap (λ (z : Connection). limits_of (channel_of z)) (sym same); url = ap (λ (z : Connection). (channel_of z).address.url) (sym same) };
   judged = λ s at settled. (refuses-at A s moment (channel_of y) (channel_of x) at settled f h).0;
   answers = λ s at settled. (refuses-at A s moment (channel_of y) (channel_of x) at settled f h).1;
@@ -262,21 +256,22 @@ settled-more s heard token before octets number h =
     let told = tokens-append s.told (heard ++ Renewed token ∷ []) in
     let more = tokens-append heard (Renewed token ∷ []) in
     let few : length (renewals (asked_in s.asks)) ≤ tokens-told s.told = h.renewed in
-    record { opened = any-left is_opened s.told (heard ++ Renewed token ∷ []) h.opened; renewed = omega (arith, asked, told, more, few) }
+    record {
+      opened = any-left is_opened s.told (heard ++ Renewed token ∷ []) h.opened;
+      answered = told-renewed (s.told ++ (heard ++ Renewed token ∷ [])) s.asks (length s.octets) (id_at s) (told-longer s.told (heard ++ Renewed token ∷ []) (calls (asked_in s.asks)) h.answered);
+      renewed = omega (arith, asked, told, more, few);
+    }
 
 -- ---- what comes of it
 
 module _ (moment : DateTime) (x mid new : Connection) (id : ℕ) (out : List ℕ) (asked : Asks moment (channel_of x) (channel_of mid) id out) (untaken : untaken_of mid ≡ untaken_of x) (a b c : Option Traffic) where
-  abbrev moves-from : (sent : List ℕ) → Moves mid new sent a c → Moves x new sent a c
-  moves-from sent m = record { got = m.got; taken = m.taken; parts = ap (λ (o : List ℕ). o ++ m.got) (sym untaken) ∙ m.parts; carried = m.carried }
-
   -- the OPN was not written whole
   pub renews-unwritten : {A : Type 0} → new ≡ mid → WhereTold (WritesFront out) a c → Renews {A = A} moment x new a c (Err fault.Write)
   renews-unwritten same h =
       let front = sends-front out a c h in
       record {
         sent = front.0;
-        moves = record { got = []; taken = []; parts = append-nil (untaken_of x) ∙ (sym untaken ∙ ap untaken_of (sym same)); carried = front.2 };
+        moves = moves-writing x new front.0 a c (ap untaken_of same ∙ untaken) front.2;
         same = subst (λ (z : Connection). SameClient (channel_of x) (channel_of z)) (sym same) asked.same;
         judged = λ s at settled. sym (none-refused moment (channel_of x) (channel_of mid) id out asked s at settled);
         answers = λ s at settled. (record { more = front.1.more; parts = sym (out-is moment (channel_of x) (channel_of mid) id out asked s at) ∙ front.1.parts }, refl);
@@ -284,6 +279,9 @@ module _ (moment : DateTime) (x mid new : Connection) (id : ℕ) (out : List ℕ
       }
 
   module _ (goes_on : GoesOnBehind) (left : ℕ) (w : WhereTold (Carries [] out) a b) where
+    abbrev sent-from : Moves mid new [] b c → Moves x new out a c
+    sent-from m = let n : Moves mid new out a c = sent-first mid new out a b c w m in moves-from x mid new out out a a c c untaken n n.carried
+
     same-behind : Keeps mid new → SameClient (channel_of x) (channel_of new)
     same-behind k = record { limits = asked.same.limits ∙ k.same.limits; url = asked.same.url ∙ k.same.url }
 
@@ -317,7 +315,7 @@ module _ (moment : DateTime) (x mid new : Connection) (id : ℕ) (out : List ℕ
     pub renews-last : (r : Result (Unit {0}) ClientFault) → Waits is_renewed any_done mid new b c most_reads left r → Renews moment x new a c r
     renews-last (Ok done) h = record {
       sent = out;
-      moves = moves-from out (sent-first mid new out a b c w h.moves);
+      moves = sent-from h.moves;
       same = same-behind h.keeps;
       judged = λ s at settled. sym (none-refused moment (channel_of x) (channel_of mid) id out asked s at settled);
       answers = λ s at settled. (
@@ -328,7 +326,7 @@ module _ (moment : DateTime) (x mid new : Connection) (id : ℕ) (out : List ℕ
     }
     renews-last (Err f) h = record {
       sent = out;
-      moves = moves-from out (sent-first mid new out a b c w h.moves);
+      moves = sent-from h.moves;
       same = same-behind h.keeps;
       judged = λ s at settled.
           unrefused f s h.moves.taken (h.answers (asks_renewed s) s.octets s.told (goes-asked moment (channel_of x) (channel_of mid) id out asked s at))
@@ -362,7 +360,7 @@ module _ (moment : DateTime) (x mid new : Connection) (id : ℕ) (out : List ℕ
         by fault.TooLong s taken e k = (e, k)
         by (fault.Peer code) s taken e k = (e, k)
         by (fault.Refused code) s taken e k = (e, k)
-        by fault.OutOfMemory s taken e k = inr e
+        by fault.OutOfMemory s taken e k = inr (e, k)
         by fault.Write s taken e k = absurd k
         by fault.UnknownResponse s taken e k = absurd k
         by (fault.Service code) s taken e k = absurd k
@@ -412,19 +410,16 @@ none-asked : length (renewals (asked_in [])) ≡ 0
 unfolding renewals asked_in
 none-asked = refl
 
+none-called : (told : List Told) → AreTold told (calls (asked_in []))
+unfolding calls asked_in
+none-called told = tt
+
 pub opened-settled : GoesOnBehind → (x : ClientChannel) (octets : List ℕ) → IsOpened x octets → (s : Site) × (s.octets ≡ octets) × (s.asks ≡ []) × At x s × IsSettled s
 opened-settled goes_on x octets h =
-    let goes = goes_on x [] octets h.told h.last h.tells in (
-      record { asks = []; octets = octets; before = received goes.frames; told = h.told ++ h.last ∷ []; number = next_of x },
+    let goes = goes_on x [] octets (Agreed h.ack ∷ []) (Opened h.channel h.token) h.tells in (
+      record { asks = []; octets = octets; before = received goes.frames; told = Agreed h.ack ∷ Opened h.channel h.token ∷ []; number = next_of x },
       refl,
       refl,
       record { goes = goes; before_is = refl; number_is = refl },
-      record { opened = any-last is_opened h.told h.last h.opened; renewed = let none = none-asked in omega (arith, none) },
+      record { opened = refl; answered = none-called (Agreed h.ack ∷ Opened h.channel h.token ∷ []); renewed = let none = none-asked in omega (arith, none) },
     )
-
-pub later-settled : (s t : Site) (more : List Told) → IsSettled s → renewals (asked_in t.asks) ≡ renewals (asked_in s.asks) → t.told ≡ s.told ++ more → IsSettled t
-later-settled s t more h asked told =
-    let asks = ap length asked in
-    let all : tokens-told t.told ≡ tokens-told s.told + tokens-told more = ap tokens-told told ∙ tokens-append s.told more in
-    let few : length (renewals (asked_in s.asks)) ≤ tokens-told s.told = h.renewed in
-    record { opened = ap (list_any is_opened) told ∙ any-left is_opened s.told more h.opened; renewed = omega (arith, few, asks, all) }

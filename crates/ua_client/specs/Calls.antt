@@ -1,18 +1,22 @@
 -- What a client's calls come to: groups of at most 64, each judged whole, written and then answered.
-use Rattle.std.specs.Prelude.{◌≡◌, ◌+◌, ◌<◌, ◌≤◌, ◌++◌, ℕ, List, [], ◌∷◌, map, length, is_none, false, Option, Some, None, Result, Ok, Err}
+use Rattle.std.specs.Prelude.{◌≡◌, ◌⊎◌, ◌+◌, ◌<◌, ◌≤◌, ◌++◌, ℕ, List, [], ◌∷◌, map, length, is_none, false, Option, Some, None, Result, Ok, Err}
 use Rattle.std.specs.List.{AllByRecursion, list_any}
 use Rattle.ua_octets.specs.Format.{Extends}
+use Rattle.ua_builtin.specs.Reasons.{first_reason}
+use Rattle.ua_frame.specs.Frames.{frames_octets}
+use Rattle.ua_frame.specs.declared.frame.Frame.{Frame}
 use Rattle.ua_channel.specs.Asks.{Placed}
-use Rattle.ua_channel.specs.Client.{Goes, Ended, SameClient, phase_of}
-use Rattle.ua_channel.specs.ClientTold.{Told, ours, peers}
+use Rattle.ua_channel.specs.Client.{Goes, Ended, SameClient}
+use Rattle.ua_channel.specs.ClientTold.{Told, Why, ours, peers}
 use Rattle.ua_channel.specs.Line.{Traffic}
 use Rattle.ua_channel.specs.declared.client.channel.ClientChannel.{ClientChannel}
 use Rattle.ua_services.specs.declared.request.Request.{Request}
-use Rattle.ua_client.specs.Hearing.{channel_of, most_reads, Keeps, Moves, StopsAt}
+use Rattle.ua_client.specs.Hearing.{channel_of, most_reads, Keeps, Moves, Starved, StopsAt}
+use Rattle.ua_client.specs.Renewing.{IsSettled}
 use Rattle.ua_client.specs.Site.{Site, At, id_at, lane_behind}
 use Rattle.ua_client.specs.Told.{told_of}
 use Rattle.ua_client.specs.Replies.{AreReplies, AreSlots, IsMisanswered, IsUnanswered}
-use Rattle.ua_client.specs.Sent.{calls_octets, numbers_behind, calls_at, bodies_of, group_refusal}
+use Rattle.ua_client.specs.Sent.{calls_octets, numbers_behind, calls_at, bodies_of, group_reasons}
 use Rattle.ua_client.specs.declared.connection.Connection.{Connection}
 use Rattle.ua_client.specs.declared.fault.ClientFault.{ClientFault}
 use Rattle.ua_client.specs.declared.fault.ClientFault.TheVariants as fault
@@ -28,22 +32,42 @@ asked_at s requests = s.asks ++ calls_at (length s.octets) (id_at s) (bodies_of 
 abbrev pub sent_at : Site → List Request → List ℕ
 sent_at s requests = calls_octets (lane_behind s.before) s.number (id_at s) (bodies_of requests)
 
+-- why a group of requests is not asked there, if it is not: the first reason against the first of them that has one
+abbrev pub refusal_at : Site → List Request → Option ClientFault
+refusal_at s requests = first_reason (group_reasons s.before.ack (id_at s) requests)
+
+-- a group of requests was asked there, as nothing was against it, and its chunks were sent
+abbrev pub IsSentAt : List Request → Site → List ℕ → Type 0
+IsSentAt requests s sent = (refusal_at s requests ≡ None) × (sent ≡ sent_at s requests)
+
 -- ---- waiting for replies
 
 -- behind these octets a client that asked so goes on, and more was told
 abbrev pub GoesOn : ClientChannel → List Placed → List ℕ → List Told → (List Told → Type 0) → Type 0
 GoesOn x asks octets told P = (heard : List Told) × Goes x asks octets (told ++ heard) × P (told ++ heard)
 
+-- behind these octets the connection of a client that asked so ended, for this reason, and more was told before
+abbrev pub EndsOn : ClientChannel → List Placed → List ℕ → List Told → Why → (List Told → Type 0) → Type 0
+EndsOn x asks octets told why P = (heard : List Told) × Ended x asks octets (told ++ heard) why × P (told ++ heard)
+
+-- memory was refused behind these octets, whose frames told this: to the channel, or to what it told
+abbrev pub LacksMemory : ClientChannel → List Placed → List ℕ → List Told → Type 0
+LacksMemory x asks octets told = Starved x asks octets told ⊎ Goes x asks octets told
+
+-- octets are whole frames, behind which nothing stands
+abbrev pub AreFrames : List ℕ → Type 0
+AreFrames octets = (frames : List Frame) × (octets ≡ frames_octets frames)
+
 -- what became of the replies to calls of these requests, whose request ids are counted from the first
 abbrev pub CollectsAt : {A : Type 0} → (A → List (Option Reply)) → List Request → ℕ → Connection → Option Traffic → Result A ClientFault → List Placed → List ℕ → List Told → Type 0
-CollectsAt view requests first new after (Ok found) asks octets told = GoesOn (channel_of new) asks octets told (λ all. AreSlots requests first all (view found) × (list_any is_none (view found) ≡ false))
-CollectsAt view requests first new after (Err (fault.Peer code)) asks octets told = (heard : List Told) × Ended (channel_of new) asks octets (told ++ heard) (peers code.code)
-CollectsAt view requests first new after (Err (fault.Refused code)) asks octets told = (heard : List Told) × Ended (channel_of new) asks octets (told ++ heard) (ours code.code)
+CollectsAt view requests first new after (Ok found) asks octets told = GoesOn (channel_of new) asks octets told (λ all. AreSlots requests first all (view found) × (list_any is_none (view found) ≡ false)) × AreFrames octets
+CollectsAt view requests first new after (Err (fault.Peer code)) asks octets told = EndsOn (channel_of new) asks octets told (peers code.code) (IsUnanswered requests first)
+CollectsAt view requests first new after (Err (fault.Refused code)) asks octets told = EndsOn (channel_of new) asks octets told (ours code.code) (IsUnanswered requests first)
 CollectsAt view requests first new after (Err fault.Ended) asks octets told = GoesOn (channel_of new) asks octets told (IsUnanswered requests first)
 CollectsAt view requests first new after (Err fault.Read) asks octets told = GoesOn (channel_of new) asks octets told (IsUnanswered requests first)
 CollectsAt view requests first new after (Err fault.TooLong) asks octets told = GoesOn (channel_of new) asks octets told (IsUnanswered requests first)
 CollectsAt view requests first new after (Err fault.UnknownResponse) asks octets told = GoesOn (channel_of new) asks octets told (IsMisanswered requests first)
-CollectsAt view requests first new after (Err fault.OutOfMemory) asks octets told = Unit {0}
+CollectsAt view requests first new after (Err fault.OutOfMemory) asks octets told = (heard : List Told) × LacksMemory (channel_of new) asks octets (told ++ heard)
 CollectsAt view requests first new after (Err other) asks octets told = ⊥
 
 -- the replies that there are, in order
@@ -71,29 +95,34 @@ pub record Collects {A : Type 0} (view : A → List (Option Reply)) (requests : 
 
 -- ---- a group of calls
 
--- a group of calls is answered: behind these octets a client that stood here stands there, and these are the replies
+-- a group of calls is answered, against which there was nothing: behind these octets a client that stood here stands there, and these are
+-- the replies
 pub record Answered (requests : List Request) (s t : Site) (taken : List ℕ) (replies : List Reply) : Type 0 where
+  pub judged : refusal_at s requests ≡ None
   pub asks : t.asks ≡ asked_at s requests
   pub octets : t.octets ≡ s.octets ++ taken
+  -- nothing was taken behind the frame of the last reply
+  pub whole : AreFrames t.octets
   pub heard : List Told
   pub told : t.told ≡ s.told ++ heard
   pub number : t.number ≡ numbers_behind (lane_behind s.before) s.number (bodies_of requests)
   pub replies_are : AreReplies requests (id_at s) t.told replies
 
--- a group of calls that was asked here is not answered
+-- a group of calls is not asked here, or is not answered
 abbrev pub BreaksAt : List Request → Site → Connection → List ℕ → List ℕ → ClientFault → Type 0
-BreaksAt requests s new sent taken (fault.Peer code) = (sent ≡ sent_at s requests) × ((heard : List Told) × Ended (channel_of new) (asked_at s requests) (s.octets ++ taken) (s.told ++ heard) (peers code.code))
-BreaksAt requests s new sent taken (fault.Refused code) = (sent ≡ sent_at s requests) × ((heard : List Told) × Ended (channel_of new) (asked_at s requests) (s.octets ++ taken) (s.told ++ heard) (ours code.code))
-BreaksAt requests s new sent taken fault.Ended = (sent ≡ sent_at s requests) × GoesOn (channel_of new) (asked_at s requests) (s.octets ++ taken) s.told (IsUnanswered requests (id_at s))
-BreaksAt requests s new sent taken fault.Read = (sent ≡ sent_at s requests) × GoesOn (channel_of new) (asked_at s requests) (s.octets ++ taken) s.told (IsUnanswered requests (id_at s))
-BreaksAt requests s new sent taken fault.TooLong = (sent ≡ sent_at s requests) × GoesOn (channel_of new) (asked_at s requests) (s.octets ++ taken) s.told (IsUnanswered requests (id_at s))
-BreaksAt requests s new sent taken fault.UnknownResponse = (sent ≡ sent_at s requests) × GoesOn (channel_of new) (asked_at s requests) (s.octets ++ taken) s.told (IsMisanswered requests (id_at s))
-BreaksAt requests s new sent taken fault.Write = Extends sent (sent_at s requests) × (taken ≡ [])
-BreaksAt requests s new sent taken fault.OutOfMemory = Extends sent (sent_at s requests)
-BreaksAt requests s new sent taken fault.TooLarge = (sent ≡ []) × (taken ≡ []) × At (channel_of new) s × (group_refusal (phase_of (channel_of new)) 0 requests ≡ Some fault.TooLarge)
-BreaksAt requests s new sent taken fault.NotWritable = (sent ≡ []) × (taken ≡ []) × At (channel_of new) s × (group_refusal (phase_of (channel_of new)) 0 requests ≡ Some fault.NotWritable)
-BreaksAt requests s new sent taken fault.Exhausted = (sent ≡ []) × (taken ≡ []) × At (channel_of new) s × (group_refusal (phase_of (channel_of new)) 0 requests ≡ Some fault.Exhausted)
-BreaksAt requests s new sent taken fault.Closed = (sent ≡ []) × (taken ≡ []) × At (channel_of new) s × (group_refusal (phase_of (channel_of new)) 0 requests ≡ Some fault.Closed)
+BreaksAt requests s new sent taken (fault.Peer code) = IsSentAt requests s sent × EndsOn (channel_of new) (asked_at s requests) (s.octets ++ taken) s.told (peers code.code) (IsUnanswered requests (id_at s))
+BreaksAt requests s new sent taken (fault.Refused code) = IsSentAt requests s sent × EndsOn (channel_of new) (asked_at s requests) (s.octets ++ taken) s.told (ours code.code) (IsUnanswered requests (id_at s))
+BreaksAt requests s new sent taken fault.Ended = IsSentAt requests s sent × GoesOn (channel_of new) (asked_at s requests) (s.octets ++ taken) s.told (IsUnanswered requests (id_at s))
+BreaksAt requests s new sent taken fault.Read = IsSentAt requests s sent × GoesOn (channel_of new) (asked_at s requests) (s.octets ++ taken) s.told (IsUnanswered requests (id_at s))
+BreaksAt requests s new sent taken fault.TooLong = IsSentAt requests s sent × GoesOn (channel_of new) (asked_at s requests) (s.octets ++ taken) s.told (IsUnanswered requests (id_at s))
+BreaksAt requests s new sent taken fault.UnknownResponse = IsSentAt requests s sent × GoesOn (channel_of new) (asked_at s requests) (s.octets ++ taken) s.told (IsMisanswered requests (id_at s))
+BreaksAt requests s new sent taken fault.Write = (refusal_at s requests ≡ None) × Extends sent (sent_at s requests) × (taken ≡ [])
+BreaksAt requests s new sent taken fault.OutOfMemory =
+    ((sent ≡ []) × (taken ≡ []))
+    ⊎ (IsSentAt requests s sent × ((heard : List Told) × LacksMemory (channel_of new) (asked_at s requests) (s.octets ++ taken) (s.told ++ heard)))
+BreaksAt requests s new sent taken fault.TooLarge = (sent ≡ []) × (taken ≡ []) × At (channel_of new) s × (refusal_at s requests ≡ Some fault.TooLarge)
+BreaksAt requests s new sent taken fault.NotWritable = (sent ≡ []) × (taken ≡ []) × At (channel_of new) s × (refusal_at s requests ≡ Some fault.NotWritable)
+BreaksAt requests s new sent taken fault.Exhausted = (sent ≡ []) × (taken ≡ []) × At (channel_of new) s × (refusal_at s requests ≡ Some fault.Exhausted)
 BreaksAt requests s new sent taken other = ⊥
 
 -- what becomes of a group of calls that is asked here, with the replies that were there before and those that are there then
@@ -107,16 +136,17 @@ pub record CallsGroup {A : Type 0} (requests : List Request) (old new : Connecti
   pub sent : List ℕ
   pub moves : Moves old new sent before after
   pub same : SameClient (channel_of old) (channel_of new)
-  pub answers : (s : Site) → At (channel_of old) s → GroupAt requests s new sent moves.taken result had have
+  pub answers : (s : Site) → At (channel_of old) s → IsSettled s → GroupAt requests s new sent moves.taken result had have
   pub stops : StopsAt reads left moves.got new after result
 
 -- ---- groups of calls, one behind another
 
--- groups of calls are answered, each asked where those before it left the client: what was sent and taken, and the replies
+-- groups of calls are answered, each asked where those before it left the client, so that a channel stands behind each: what was sent and
+-- taken, and the replies
 pub data Rounds (s : Site) : List (List Request) → Site → List ℕ → List ℕ → List Reply → Type 0 where
   NoRound : Rounds s [] s [] [] []
-  OneRound : {groups : List (List Request)} {m t : Site} {sent taken part : List ℕ} {replies added : List Reply} (group : List Request)
-      → Rounds s groups m sent taken replies → Answered group m t part added → Rounds s (groups ++ group ∷ []) t (sent ++ sent_at m group) (taken ++ part) (replies ++ added)
+  OneRound : {groups : List (List Request)} {m t : Site} {sent taken part : List ℕ} {replies added : List Reply} (group : List Request) (x : ClientChannel)
+      → Rounds s groups m sent taken replies → At x t → Answered group m t part added → Rounds s (groups ++ group ∷ []) t (sent ++ sent_at m group) (taken ++ part) (replies ++ added)
 
 -- ---- all calls
 
@@ -136,6 +166,8 @@ pub record AnsweredAll (requests : List Request) (s : Site) (x : ClientChannel) 
   pub sized : AreGroups groups
   pub behind : Site
   pub at : At x behind
+  -- it may be called again
+  pub settled : IsSettled behind
   pub rounds : Rounds s groups behind sent taken replies
 
 -- behind groups that are answered, the next one is not
@@ -146,6 +178,7 @@ pub record BrokenAll (requests : List Request) (s : Site) (new : Connection) (se
   pub parts : requests ≡ all_of groups ++ (group ++ others)
   pub sized : AreGroups (groups ++ group ∷ [])
   pub behind : Site
+  pub settled : IsSettled behind
   pub sent_before : List ℕ
   pub sent_then : List ℕ
   pub sent_parts : sent ≡ sent_before ++ sent_then
@@ -156,7 +189,7 @@ pub record BrokenAll (requests : List Request) (s : Site) (new : Connection) (se
   pub rounds : Rounds s groups behind sent_before taken_before replies
   pub breaks : BreaksAt group behind new sent_then taken_then f
 
--- what becomes of requests that are called here
+-- what becomes of requests that are called where a client may be
 abbrev pub AllAt : {A : Type 0} → (A → List Reply) → List Request → Site → Connection → List ℕ → List ℕ → Result A ClientFault → Type 0
 AllAt view requests s new sent taken (Ok found) = AnsweredAll requests s (channel_of new) sent taken (view found)
 AllAt view requests s new sent taken (Err f) = BrokenAll requests s new sent taken f
@@ -166,5 +199,5 @@ pub record CallsAll {A : Type 0} (view : A → List Reply) (requests : List Requ
   pub sent : List ℕ
   pub moves : Moves old new sent before after
   pub same : SameClient (channel_of old) (channel_of new)
-  pub answers : (s : Site) → At (channel_of old) s → AllAt view requests s new sent moves.taken result
+  pub answers : (s : Site) → At (channel_of old) s → IsSettled s → AllAt view requests s new sent moves.taken result
   pub stops : StopsAt most_reads most_reads moves.got new after result

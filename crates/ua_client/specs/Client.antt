@@ -36,8 +36,9 @@ IsDone x = x.is_done ≡ true
 abbrev pub IsReady : Client → Type 0
 IsReady x = x.is_done ≡ false
 
--- a client is done after this fault: after all but those of a group of calls that was not asked
+-- a client is done after this fault: after all but those of calls that were not asked, and that of a service that failed
 abbrev pub ends : ClientFault → Bool
+ends (fault.Service code) = false
 ends fault.TooLarge = false
 ends fault.NotWritable = false
 ends fault.Exhausted = false

@@ -1,10 +1,11 @@
 -- What a client hears: what it reads from its line, what of that its channel takes, and what that tells.
-use Rattle.std.specs.Prelude.{◌≡◌, ◌+◌, ◌*◌, ◌<◌, ◌≤◌, ◌++◌, ℕ, Bool, true, false, cond, List, [], length, Option, Some, None, Result, Ok, Err, IfOk, IfErr}
+use Rattle.std.specs.Prelude.{◌≡◌, ◌⊎◌, ◌+◌, ◌*◌, ◌<◌, ◌≤◌, ◌++◌, ℕ, Bool, true, false, cond, List, [], length, Option, Some, None, Result, Ok, Err, IfOk, IfErr}
 use Rattle.std.specs.List.{concat}
+use Rattle.ua_octets.specs.Format.{Extends}
 use Rattle.ua_builtin.specs.declared.date_time.DateTime.{DateTime}
 use Rattle.ua_builtin.specs.declared.status_code.StatusCode.{StatusCode}
 use Rattle.ua_channel.specs.Asks.{Placed}
-use Rattle.ua_channel.specs.Client.{Goes, GoesTelling, Ended, IsDone, SameClient, next_of}
+use Rattle.ua_channel.specs.Client.{Goes, GoesTelling, Ended, IsDone, SameClient, next_of, rules_of}
 use Rattle.ua_channel.specs.ClientSends.{first_open}
 use Rattle.ua_channel.specs.ClientTold.{Told, ours, peers}
 use Rattle.ua_channel.specs.ClientTold.Told.{Agreed, Opened, Answered, GaveUp, Renewed}
@@ -15,7 +16,9 @@ use Rattle.ua_channel.specs.declared.client.event.ClientEvent.TheVariants as eve
 use Rattle.ua_channel.specs.declared.client.fault.ClientTakeFault.{ClientTakeFault}
 use Rattle.ua_channel.specs.declared.client.fault.ClientTakeFault.TheVariants as take_fault
 use Rattle.ua_frame.specs.declared.ack.Ack.{Ack}
+use Rattle.ua_frame.specs.declared.frame.Frame.{Frame}
 use Rattle.ua_frame.specs.Frames.{frame_octets}
+use Rattle.ua_frame.specs.Run.{Run, Going, events}
 use Rattle.ua_client.specs.Carried.{Carries, IsAtEnd}
 use Rattle.ua_client.specs.declared.connection.Connection.{Connection}
 use Rattle.ua_client.specs.declared.fault.ClientFault.{ClientFault}
@@ -60,11 +63,22 @@ of_take_fault take_fault.OutOfMemory = fault.OutOfMemory
 
 -- ---- octets
 
--- between two moments these octets were taken, of those that were untaken and those that were read
+-- the most octets of a piece
+abbrev pub most_octets : ℕ
+most_octets = 4096
+
+-- no more are untaken than a piece has
+abbrev pub IsWithinPiece : Connection → Type 0
+IsWithinPiece x = length (untaken_of x) ≤ most_octets
+
+-- between two moments these octets were taken, of those that were untaken and those that were read; what was untaken was taken before
+-- anything was read
 pub record Moves (old new : Connection) (sent : List ℕ) (before after : Option Traffic) : Type 0 where
   pub got : List ℕ
   pub taken : List ℕ
   pub parts : untaken_of old ++ got ≡ taken ++ untaken_of new
+  pub first : (got ≡ []) ⊎ Extends (untaken_of old) taken
+  pub few : IsWithinPiece old → IsWithinPiece new
   pub carried : WhereTold (Carries got sent) before after
 
 -- ---- what is told
@@ -83,6 +97,27 @@ Says moment (event.Renewed token) t = t ≡ Renewed token
 abbrev pub TellsEvent : DateTime → ClientEvent → ClientChannel → List Placed → List ℕ → List Told → Type 0
 TellsEvent moment e new asks octets told = (t : Told) × Says moment e t × GoesTelling new asks octets told t
 
+-- ---- where nothing more is told
+
+-- memory was refused behind these asks and octets, of which no frame is wrong and whose frames told this; the channel is done
+pub record Starved (x : ClientChannel) (asks : List Placed) (octets : List ℕ) (told : List Told) : Type 0 where
+  pub done : IsDone x
+  pub frames : List Frame
+  pub rest : List ℕ
+  pub run : Run (rules_of x asks) octets frames rest Going
+  pub told_is : events (rules_of x asks) frames ≡ told
+
+-- how a channel stands behind these asks and octets, whose frames told this, where hearing broke off: the connection ended at what is
+-- wrong behind them, or memory was refused, or the channel goes on
+abbrev pub BreaksOff : ClientFault → ClientChannel → List Placed → List ℕ → List Told → Type 0
+BreaksOff (fault.Peer code) x asks octets told = Ended x asks octets told (peers code.code)
+BreaksOff (fault.Refused code) x asks octets told = Ended x asks octets told (ours code.code)
+BreaksOff fault.OutOfMemory x asks octets told = Starved x asks octets told
+BreaksOff fault.Ended x asks octets told = Goes x asks octets told
+BreaksOff fault.Read x asks octets told = Goes x asks octets told
+BreaksOff fault.TooLong x asks octets told = Goes x asks octets told
+BreaksOff other x asks octets told = ⊥
+
 -- ---- one call of the channel
 
 -- what is answered where nothing, or an event, was told at the end of these octets
@@ -91,7 +126,7 @@ ListensAt moment (Ok None) new asks octets told = Goes new asks octets told
 ListensAt moment (Ok (Some e)) new asks octets told = TellsEvent moment e new asks octets told
 ListensAt moment (Err (fault.Peer code)) new asks octets told = Ended new asks octets told (peers code.code)
 ListensAt moment (Err (fault.Refused code)) new asks octets told = Ended new asks octets told (ours code.code)
-ListensAt moment (Err fault.OutOfMemory) new asks octets told = IsDone new
+ListensAt moment (Err fault.OutOfMemory) new asks octets told = Starved new asks octets told
 ListensAt moment (Err other) new asks octets told = ⊥
 
 -- the faults of a call of the channel
@@ -142,6 +177,8 @@ pub record Fills {A : Type 0} (old new : Connection) (before after : Option Traf
   pub got : List ℕ
   pub untaken : untaken_of new ≡ untaken_of old ++ got
   pub channel : channel_of new ≡ channel_of old
+  pub next : (got ≡ []) ⊎ (untaken_of old ≡ [])
+  pub few : IsWithinPiece old → IsWithinPiece new
   pub carried : WhereTold (Carries got []) before after
   pub no_more : effort left new ≤ effort reads old
   pub found : FillsAt reads left got new after result
@@ -151,13 +188,7 @@ pub record Fills {A : Type 0} (old new : Connection) (before after : Option Traf
 -- what is answered where an event was told at the end of these octets, or a fault came behind them
 abbrev pub HearsAt : DateTime → Result ClientEvent ClientFault → ClientChannel → List Placed → List ℕ → List Told → Type 0
 HearsAt moment (Ok e) new asks octets told = TellsEvent moment e new asks octets told
-HearsAt moment (Err (fault.Peer code)) new asks octets told = Ended new asks octets told (peers code.code)
-HearsAt moment (Err (fault.Refused code)) new asks octets told = Ended new asks octets told (ours code.code)
-HearsAt moment (Err fault.OutOfMemory) new asks octets told = IsDone new
-HearsAt moment (Err fault.Ended) new asks octets told = Goes new asks octets told
-HearsAt moment (Err fault.Read) new asks octets told = Goes new asks octets told
-HearsAt moment (Err fault.TooLong) new asks octets told = Goes new asks octets told
-HearsAt moment (Err other) new asks octets told = ⊥
+HearsAt moment (Err f) new asks octets told = BreaksOff f new asks octets told
 
 -- the faults of hearing: those of the channel, and those of a read
 abbrev pub is_hearing_fault : ClientFault → Bool

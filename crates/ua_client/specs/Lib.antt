@@ -1,5 +1,5 @@
 -- The definitions, in the order in which they are best read: what goes over the line, what is told of a call, what is heard, where a
--- client stands, and what its calls come to.
+-- client stands, what its calls come to, and how it begins a session.
 pub mod Carried
 pub mod Told
 pub mod Hearing
@@ -10,3 +10,4 @@ pub mod Renewing
 pub mod Sent
 pub mod Replies
 pub mod Calls
+pub mod Session

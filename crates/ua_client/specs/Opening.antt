@@ -1,10 +1,11 @@
 -- How a client opens its connection: it sends the HEL, behind the ACK the OPN, and waits until the channel is open
 -- (OPC 10000-6, 6.7 and 7.1).
-use Rattle.std.specs.Prelude.{◌≡◌, ◌⊎◌, ◌++◌, ℕ, Bool, true, false, List, [], Option, Result, Ok, Err, IfErr}
+use Rattle.std.specs.Prelude.{◌≡◌, ◌⊎◌, ◌++◌, ℕ, Bool, true, false, List, [], ◌∷◌, Option, Result, Ok, Err, IfErr}
 use Rattle.std.specs.List.{list_any}
 use Rattle.ua_octets.specs.Format.{Extends}
 use Rattle.ua_builtin.specs.declared.date_time.DateTime.{DateTime}
 use Rattle.ua_frame.specs.Frames.{frame_octets}
+use Rattle.ua_frame.specs.declared.ack.Ack.{Ack}
 use Rattle.ua_frame.specs.declared.limits.Limits.{Limits}
 use Rattle.ua_channel.specs.Asks.{Placed}
 use Rattle.ua_channel.specs.Client.{Goes, GoesTelling, Ended, limits_of, url_of}
@@ -13,7 +14,7 @@ use Rattle.ua_channel.specs.ClientTold.{Told, Why, ours, peers}
 use Rattle.ua_channel.specs.ClientTold.Told.{Agreed, Opened, Answered, GaveUp, Renewed}
 use Rattle.ua_channel.specs.Line.{Traffic}
 use Rattle.ua_channel.specs.declared.client.channel.ClientChannel.{ClientChannel}
-use Rattle.ua_client.specs.Hearing.{channel_of, is_hearing_fault, most_reads, Keeps, Moves, StopsAt}
+use Rattle.ua_client.specs.Hearing.{channel_of, is_hearing_fault, most_reads, BreaksOff, Keeps, Moves, Starved, StopsAt}
 use Rattle.ua_client.specs.declared.connection.Connection.{Connection}
 use Rattle.ua_client.specs.declared.fault.ClientFault.{ClientFault}
 use Rattle.ua_client.specs.declared.fault.ClientFault.TheVariants as fault
@@ -56,6 +57,12 @@ pub record EndsWithout (wanted : Told → Bool) (x : ClientChannel) (asks : List
   pub none : list_any wanted heard ≡ false
   pub ended : Ended x asks octets (told ++ heard) why
 
+-- more was told, and nothing of it is what is waited for, when memory was refused
+pub record StarvesWithout (wanted : Told → Bool) (x : ClientChannel) (asks : List Placed) (octets : List ℕ) (told : List Told) : Type 0 where
+  pub heard : List Told
+  pub none : list_any wanted heard ≡ false
+  pub starved : Starved x asks octets (told ++ heard)
+
 -- what is answered where something is waited for
 abbrev pub WaitsAt : {A : Type 0} → (Told → Bool) → (A → Type 0) → Result A ClientFault → ClientChannel → List Placed → List ℕ → List Told → Type 0
 WaitsAt wanted P (Ok found) new asks octets told = GoesUntil wanted new asks octets told × P found
@@ -64,7 +71,7 @@ WaitsAt wanted P (Err (fault.Refused code)) new asks octets told = EndsWithout w
 WaitsAt wanted P (Err fault.Ended) new asks octets told = GoesWithout wanted new asks octets told
 WaitsAt wanted P (Err fault.Read) new asks octets told = GoesWithout wanted new asks octets told
 WaitsAt wanted P (Err fault.TooLong) new asks octets told = GoesWithout wanted new asks octets told
-WaitsAt wanted P (Err fault.OutOfMemory) new asks octets told = Unit {0}
+WaitsAt wanted P (Err fault.OutOfMemory) new asks octets told = StarvesWithout wanted new asks octets told
 WaitsAt wanted P (Err other) new asks octets told = ⊥
 
 -- the octets up to what is waited for, or up to a fault
@@ -89,24 +96,32 @@ hello_octets limits url = frame_octets (hello_frame (hello_to limits url))
 abbrev pub open_octets : DateTime → List ℕ
 open_octets moment = frame_octets (first_open moment)
 
--- the channel of this connection is open: behind an ACK, the last of the frames told so, and nothing stands behind it
+-- the channel of this connection is open: an ACK was told, and nothing more until the last of the frames told so; nothing stands behind it
 pub record IsOpened (x : ClientChannel) (octets : List ℕ) : Type 0 where
-  pub told : List Told
-  pub last : Told
-  pub tells : GoesTelling x [] octets told last
-  pub agreed : list_any is_agreed told ≡ true
-  pub opened : is_opened last ≡ true
+  pub ack : Ack
+  pub channel : ℕ
+  pub token : ℕ
+  pub tells : GoesTelling x [] octets (Agreed ack ∷ []) (Opened channel token)
 
--- the connection was not opened: no ACK came behind the HEL; or one came, the OPN was sent, and nothing opened the channel behind it
+-- the wait broke off: the HEL was sent and nothing was told; or the OPN was sent too, and nothing but the ACK was told, so that nothing
+-- that was told opened the channel
 abbrev pub BreaksWaiting : List ℕ → List ℕ → ClientChannel → List ℕ → List ℕ → ClientFault → Type 0
 BreaksWaiting hello opening new sent taken f =
-    ((sent ≡ hello) × WaitsAt is_agreed any_done (Err f) new [] taken [])
-    ⊎ ((sent ≡ hello ++ opening) × ((told : List Told) × (list_any is_agreed told ≡ true) × WaitsAt is_opened any_done (Err f) new [] taken told))
+    ((sent ≡ hello) × BreaksOff f new [] taken [])
+    ⊎ ((sent ≡ hello ++ opening) × ((ack : Ack) × BreaksOff f new [] taken (Agreed ack ∷ [])))
 
--- the same by the fault: where the line failed to write, or memory was refused, a beginning of the HEL and the OPN was sent
+-- a write failed: a beginning of the HEL was sent, and nothing was taken; or the HEL and a beginning of the OPN, behind the ACK, which is
+-- all that was taken
+abbrev pub BreaksSending : List ℕ → List ℕ → ClientChannel → List ℕ → List ℕ → Type 0
+BreaksSending hello opening new sent taken =
+    (Extends sent hello × (taken ≡ []))
+    ⊎ ((part : List ℕ) × (sent ≡ hello ++ part) × Extends part opening × ((ack : Ack) × GoesTelling new [] taken [] (Agreed ack)))
+
+-- a connection was not opened: the line failed to write; or memory was refused for the HEL, when nothing was sent and taken; or the wait
+-- broke off
 abbrev pub BreaksOpening : List ℕ → List ℕ → ClientChannel → List ℕ → List ℕ → ClientFault → Type 0
-BreaksOpening hello opening new sent taken fault.Write = Extends sent (hello ++ opening)
-BreaksOpening hello opening new sent taken fault.OutOfMemory = Extends sent (hello ++ opening)
+BreaksOpening hello opening new sent taken fault.Write = BreaksSending hello opening new sent taken
+BreaksOpening hello opening new sent taken fault.OutOfMemory = ((sent ≡ []) × (taken ≡ [])) ⊎ BreaksWaiting hello opening new sent taken fault.OutOfMemory
 BreaksOpening hello opening new sent taken fault.Read = BreaksWaiting hello opening new sent taken fault.Read
 BreaksOpening hello opening new sent taken fault.Ended = BreaksWaiting hello opening new sent taken fault.Ended
 BreaksOpening hello opening new sent taken fault.TooLong = BreaksWaiting hello opening new sent taken fault.TooLong

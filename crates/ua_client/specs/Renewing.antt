@@ -1,14 +1,14 @@
 -- How a client renews the token of its channel: it sends an OPN, and waits until a further token came (OPC 10000-4, 5.6.2; OPC 10000-6,
 -- 6.7.2).
-use Rattle.std.specs.Prelude.{◌≡◌, ◌⊎◌, ◌≤◌, ◌++◌, nat_le, ℕ, Bool, true, false, List, [], ◌∷◌, length, Option, Some, None, Result, Ok, Err}
-use Rattle.std.specs.List.{filter, list_any}
+use Rattle.std.specs.Prelude.{◌≡◌, ◌⊎◌, ◌<◌, ◌≤◌, ◌++◌, nat_le, ℕ, Bool, true, false, List, [], ◌∷◌, length, Option, Some, None, Result, Ok, Err}
+use Rattle.std.specs.List.{AllByRecursion, filter, list_any}
 use Rattle.ua_octets.specs.Format.{Extends}
 use Rattle.ua_builtin.specs.Reasons.{first_reason}
 use Rattle.ua_builtin.specs.declared.date_time.DateTime.{DateTime}
 use Rattle.ua_frame.specs.Frames.{frame_octets}
 use Rattle.ua_chunk.specs.Sequence.{next_number}
 use Rattle.ua_chunk.specs.declared.lane.Lane.{Lane}
-use Rattle.ua_channel.specs.Asks.{Placed, asked_in, renewals}
+use Rattle.ua_channel.specs.Asks.{Placed, asked_in, calls, renewals}
 use Rattle.ua_channel.specs.Asks.Asking.{Renewal}
 use Rattle.ua_channel.specs.Client.{GoesTelling, SameClient}
 use Rattle.ua_channel.specs.ClientAsks.{most_tokens, no_id}
@@ -24,6 +24,7 @@ use Rattle.ua_channel.specs.declared.client.fault.AskFault.TheVariants as ask_fa
 use Rattle.ua_client.specs.Hearing.{channel_of, most_reads, Moves, StopsAt}
 use Rattle.ua_client.specs.Opening.{is_opened, any_done, WaitsAt}
 use Rattle.ua_client.specs.Site.{Site, At, id_at, lane_behind}
+use Rattle.ua_client.specs.Told.{told_of}
 use Rattle.ua_client.specs.declared.connection.Connection.{Connection}
 use Rattle.ua_client.specs.declared.fault.ClientFault.{ClientFault}
 use Rattle.ua_client.specs.declared.fault.ClientFault.TheVariants as fault
@@ -38,10 +39,11 @@ is_renewed (Answered id octets) = false
 is_renewed (GaveUp id code) = false
 is_renewed (Renewed token) = true
 
--- a client may be called there: its channel is open, and each renewal that it asked is answered, as no fewer further tokens came than it
--- asked for
+-- a client may be called there: its channel is open, and all that it asked is answered: something was told of each call, and no fewer
+-- further tokens came than it asked for
 pub record IsSettled (s : Site) : Type 0 where
   pub opened : list_any is_opened s.told ≡ true
+  pub answered : AllByRecursion (λ (id : ℕ). 0 < length (told_of id s.told)) (calls (asked_in s.asks))
   pub renewed : length (renewals (asked_in s.asks)) ≤ length (filter is_renewed s.told)
 
 -- ---- why it is not asked
@@ -116,7 +118,7 @@ BreaksRenewing s moment new sent taken f = (sent ≡ renewal_at s moment) × Wai
 abbrev pub RenewsAt : {A : Type 0} → Site → DateTime → ClientChannel → List ℕ → List ℕ → Result A ClientFault → Type 0
 RenewsAt s moment new sent taken (Ok done) = (sent ≡ renewal_at s moment) × ((t : Site) × IsRenewed new s t taken)
 RenewsAt s moment new sent taken (Err fault.Write) = Extends sent (renewal_at s moment) × (taken ≡ [])
-RenewsAt s moment new sent taken (Err fault.OutOfMemory) = (sent ≡ []) ⊎ (sent ≡ renewal_at s moment)
+RenewsAt s moment new sent taken (Err fault.OutOfMemory) = ((sent ≡ []) × (taken ≡ [])) ⊎ BreaksRenewing s moment new sent taken fault.OutOfMemory
 RenewsAt s moment new sent taken (Err fault.TooManyTokens) = (sent ≡ []) × (taken ≡ [])
 RenewsAt s moment new sent taken (Err fault.Exhausted) = (sent ≡ []) × (taken ≡ [])
 RenewsAt s moment new sent taken (Err fault.Read) = BreaksRenewing s moment new sent taken fault.Read

@@ -1,5 +1,5 @@
 -- What a client sends: the chunks of its calls, and which of them it does not ask.
-use Rattle.std.specs.Prelude.{◌≡◌, ◌<◌, ◌+◌, ◌++◌, ℕ, Bool, true, false, List, [], ◌∷◌, map, length, Option, Some, None, Result, Ok, Err}
+use Rattle.std.specs.Prelude.{◌≡◌, ◌<◌, ◌+◌, ◌++◌, nat_le, not, ℕ, Bool, true, false, List, [], ◌∷◌, map, length, Option, Some, None, Result, Ok, Err}
 use Rattle.ua_builtin.specs.Reasons.{or_else}
 use Rattle.ua_chunk.specs.Cutting.{chunks_of, chunks_octets, number_after, pieces}
 use Rattle.ua_chunk.specs.declared.lane.Lane.{Lane}
@@ -8,8 +8,11 @@ use Rattle.ua_services.specs.declared.request.Request.{Request}
 use Rattle.ua_channel.specs.Asks.{Placed, asked_in, next_id}
 use Rattle.ua_channel.specs.Asks.Asking.{Call}
 use Rattle.ua_channel.specs.Client.{Stands, next_of, ask_refusal}
+use Rattle.ua_channel.specs.ClientAsks.{is_too_large, no_id}
+use Rattle.ua_channel.specs.ClientTable.{of_ack}
 use Rattle.ua_channel.specs.Received.{received}
 use Rattle.ua_channel.specs.declared.client.channel.ClientChannel.{ClientChannel}
+use Rattle.ua_frame.specs.declared.ack.Ack.{Ack}
 use Rattle.ua_frame.specs.declared.frame.Frame.{Frame}
 use Rattle.ua_channel.specs.declared.client.fault.AskFault.{AskFault}
 use Rattle.ua_channel.specs.declared.client.fault.AskFault.TheVariants as ask_fault
@@ -50,6 +53,22 @@ abbrev pub bodies_of : List Request → List (List ℕ)
 bodies_of requests = map request.canonical requests
 
 -- ---- what is not asked
+
+-- why a request is not asked under this request id of a server that sent this ACK, in the order in which it is judged: it cannot be
+-- encoded; all request ids were used; or the server takes no message of so many octets or chunks (OPC 10000-6, 7.1.2.4)
+abbrev pub request_reasons : Option Ack → ℕ → Request → List (ClientFault × Bool)
+request_reasons ack id m =
+    (fault.NotWritable, not (request.encodable m))
+    ∷ (fault.Exhausted, nat_le no_id id)
+    ∷ (fault.TooLarge, of_ack (λ (a : Ack). is_too_large a (request.canonical m)) ack)
+    ∷ []
+
+-- why requests are not asked under request ids from this one on: the reasons against the first of them, then those against the next
+abbrev pub group_reasons : Option Ack → ℕ → List Request → List (ClientFault × Bool)
+group_reasons ack id [] = []
+group_reasons ack id (m ∷ ms) = request_reasons ack id m ++ group_reasons ack (id + 1) ms
+
+-- ---- what a channel does not ask
 
 -- a refusal to ask as a fault of the client; a client whose channel is open and whose calls are all answered meets no other
 abbrev pub of_ask : Option AskFault → Option ClientFault

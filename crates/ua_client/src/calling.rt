@@ -8,7 +8,7 @@ use crate::collecting::{append_replies, empty_slots};
 use crate::connection::Connection;
 use crate::fault::ClientFault;
 use crate::group::{ask_group, judge_group};
-use crate::laws::calls_are_told_behind;
+use crate::laws::{calls_are_told_behind, clients_are_settled};
 use crate::reply::Reply;
 use crate::sending::write_whole;
 use std::alloc::Global;
@@ -35,7 +35,7 @@ fn group_end(start: usize, count: usize) -> usize
 impl Connection {
     /// Judges a group of calls whole, asks it by one write where the line takes it so, waits for its
     /// replies and adds them.
-    fn call_group<L: Line>(
+    pub fn call_group<L: Line>(
         &mut self,
         alloc: Global,
         line: &mut L,
@@ -44,12 +44,14 @@ impl Connection {
         moment: DateTime,
         replies: &mut Vec<Reply>,
     ) -> Result<(), ClientFault>
-        requires { 0 < length requests.now }
+        requires some { 0 < length requests.now }
+        requires few { length requests.now ≤ 64 }
         ensures calls { CallsGroup requests.now self.old self.new (L.traffic line.old) (L.traffic line.new) reads.old reads.new result replies.old.items replies.new.items }
         ensures count { OnOk result (length replies.new.items ≡ length replies.old.items + length requests.now) }
         ensures failed { L.failures line.new ≡ failures_behind (L.failures line.old) result }
     {
         calls_are_told_behind();
+        clients_are_settled();
         let bodies = judge_group(alloc, &self.channel, requests)?;
         let asked = ask_group(alloc, &mut self.channel, &bodies)?;
         let (first, octets) = asked;

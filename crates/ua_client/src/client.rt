@@ -6,14 +6,15 @@ ghost use Rattle.ua_client.specs.Calls.{CallsAll};
 ghost use Rattle.ua_client.specs.Client.{OpensNothing, OpensClient, IsDone, IsReady, IsLeft, Closes, client_channel, connection_of};
 ghost use Rattle.ua_client.specs.Hearing.{failures_behind};
 ghost use Rattle.ua_client.specs.Renewing.{Renews, IsRefusal};
+ghost use Rattle.ua_client.specs.Session.{BeginsSession};
 ghost use Rattle.ua_client.specs.declared.fault.ClientFault.TheVariants.{Closed};
 
 use crate::connection::Connection;
 use crate::fault::ClientFault;
-use crate::reply::Reply;
+use crate::reply::{Reply, only_reply};
 use std::alloc::Global;
 use std::slice;
-use ua_builtin::{DateTime, UaString};
+use ua_builtin::{DateTime, NodeId, UaString};
 use ua_channel::Line;
 use ua_frame::Limits;
 use ua_services::Request;
@@ -52,6 +53,37 @@ impl Client {
                 is_done: false,
             }),
             Err(fault) => Err(fault),
+        }
+    }
+
+    /// Begins a session of the client `urn:ua:client` at the server, and answers its AuthenticationToken,
+    /// which the requests of the session carry in their headers: asks CreateSession and, behind a good
+    /// response, ActivateSession by the policy `anonymous`, each as [`Client::call`] asks it, with the
+    /// request id as RequestHandle (OPC 10000-4, 5.7.2 and 5.7.3).
+    ///
+    /// It answers `Service` with the code of a ServiceFault, of an answer that the server gave up, or of a
+    /// bad ServiceResult. After `Service`, `TooLarge`, `NotWritable` and `Exhausted` the client may be
+    /// called again: what was asked was answered. A session that was created by then stays at the server.
+    /// After any other fault it is done.
+    pub fn begin_session<L: Line>(
+        &mut self,
+        line: &mut L,
+        moment: DateTime,
+    ) -> Result<NodeId, ClientFault>
+        ensures begins { IsReady self.old → BeginsSession moment (connection_of self.old) (connection_of self.new) (L.traffic line.old) (L.traffic line.new) result }
+        ensures left { IsReady self.old → IsLeft result self.new }
+        ensures closed { IsDone self.old → (result ≡ Err Closed) × (self.new ≡ self.old) × (line.new ≡ line.old) }
+        ensures failed { L.failures line.new ≡ failures_behind (L.failures line.old) result }
+    {
+        if self.is_done {
+            return Err(ClientFault::Closed);
+        }
+        match self.connection.begin_session(self.alloc, line, moment) {
+            Ok(token) => Ok(token),
+            Err(fault) => {
+                self.is_done = fault.ends();
+                Err(fault)
+            }
         }
     }
 
@@ -141,12 +173,4 @@ impl Client {
         self.is_done = true;
         self.connection.close(line, moment)
     }
-}
-
-/// The reply of a group of one.
-fn only_reply(mut replies: Vec<Reply>) -> Reply
-    requires { length replies.items ≡ 1 }
-    ensures { replies.items ≡ result ∷ [] }
-{
-    replies.remove(0)
 }

@@ -1,6 +1,6 @@
 //! Waiting for the replies of a group of calls.
 
-ghost use Rattle.std.specs.Prelude.{◌≡◌, ◌++◌, ◌∷◌, [], length, is_none, false, None, Err, IfOk, IfErr, OnOk, OnErr};
+ghost use Rattle.std.specs.Prelude.{◌≡◌, ◌<◌, ◌++◌, ◌∷◌, [], length, is_none, false, None, Err, IfOk, IfErr, OnOk, OnErr};
 ghost use Rattle.std.specs.List.{list_any};
 ghost use Rattle.ua_client.specs.Calls.{Collects, somes, none_for};
 ghost use Rattle.ua_client.specs.Hearing.{failures_behind};
@@ -109,7 +109,8 @@ impl Connection {
         moment: DateTime,
         slots: &mut Vec<Option<Reply>>,
     ) -> Result<(), ClientFault>
-        requires { slots.old.items ≡ none_for requests.now }
+        requires some { 0 < length requests.now }
+        requires none { slots.old.items ≡ none_for requests.now }
         ensures collects { Collects (λ done. slots.new.items) requests.now first self.old self.new (L.traffic line.old) (L.traffic line.new) reads.old reads.new result }
         ensures count { length slots.new.items ≡ length requests.now }
         ensures whole { OnOk result (list_any is_none slots.new.items ≡ false) }

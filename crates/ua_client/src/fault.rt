@@ -4,8 +4,8 @@ use std::alloc::AllocError;
 use thiserror::Error;
 use ua_builtin::StatusCode;
 
-/// Why a call of a client did not do what it is for. After all of these but `TooLarge`, `NotWritable`,
-/// `Exhausted` and `TooManyTokens` the client is done, and answers `Closed`.
+/// Why a call of a client did not do what it is for. After all of these but `Service`, `TooLarge`,
+/// `NotWritable`, `Exhausted` and `TooManyTokens` the client is done, and answers `Closed`.
 #[derive(Clone, Copy, PartialEq, Eq, Debug, Error)]
 pub enum ClientFault {
     /// A read of the line failed.
@@ -26,7 +26,8 @@ pub enum ClientFault {
     /// A reply is no response, or neither of its request's own kind nor a ServiceFault.
     #[error("the response is unknown")]
     UnknownResponse,
-    /// The server refused to begin a session, and why.
+    /// The server did not begin a session, and why: the code of a ServiceFault, of an answer that it
+    /// gave up, or of a bad ServiceResult.
     #[error("the service failed")]
     Service(StatusCode),
     /// The server does not take a request of so many octets or chunks.
@@ -56,13 +57,15 @@ impl ClientFault {
     ghost use Rattle.std.specs.Prelude.{◌≡◌};
     ghost use Rattle.ua_client.specs.Client.{ends};
 
-    /// Whether a client is done after this: after all but what is judged before anything is asked.
+    /// Whether a client is done after this: after all but what is judged before anything is asked, and
+    /// a service that failed.
     pub(crate) fn ends(self) -> bool
         ensures { result ≡ ends self }
     {
         !matches!(
             self,
-            ClientFault::TooLarge
+            ClientFault::Service(_)
+                | ClientFault::TooLarge
                 | ClientFault::NotWritable
                 | ClientFault::Exhausted
                 | ClientFault::TooManyTokens

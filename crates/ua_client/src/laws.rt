@@ -2,15 +2,19 @@
 //!
 //! Each function does nothing; its contract is the law.
 
-ghost use Rattle.std.specs.Prelude.{◌≡◌, ◌+◌, ◌++◌, ℕ, List, []};
-ghost use Rattle.ua_channel.specs.Asks.{Placed, asked_in, next_id, renewals};
+ghost use Rattle.std.specs.Prelude.{◌≡◌, ◌+◌, ◌++◌, ℕ, List, [], Some};
+ghost use Rattle.ua_chunk.specs.declared.lane.Lane.{Lane};
+ghost use Rattle.ua_services.specs.declared.request.Request.{Request};
+ghost use Rattle.ua_channel.specs.Asks.{Placed, asked_in, next_id, pending_calls};
 ghost use Rattle.ua_channel.specs.Client.{Goes, GoesTelling};
 ghost use Rattle.ua_channel.specs.ClientTold.{Told};
 ghost use Rattle.ua_channel.specs.declared.client.channel.ClientChannel.{ClientChannel};
+ghost use Rattle.ua_client.specs.Calls.{Answered};
 ghost use Rattle.ua_client.specs.Opening.{IsOpened};
 ghost use Rattle.ua_client.specs.Renewing.{IsSettled};
-ghost use Rattle.ua_client.specs.Site.{Site, At};
+ghost use Rattle.ua_client.specs.Site.{Site, At, lane_behind};
 ghost use Rattle.ua_client.specs.Told.{told_of, IsFirstOf};
+ghost use Rattle.ua_client.specs.declared.reply.Reply.{Reply};
 
 use ua_channel::client_laws::{client_goes_on, client_pairs, client_tells_delivered};
 
@@ -31,11 +35,16 @@ pub fn calls_are_told_behind()
     client_tells_delivered();
 }
 
-/// Behind its opening a client has asked nothing and may be called; and it stays so with more told,
-/// where no renewal more was asked.
+/// Behind its opening a client has asked nothing and may be called; and so it may behind calls that are
+/// answered, and with more told where nothing more was asked. Where a client may be called none of its
+/// calls is pending, and there is a lane for the next ones.
 pub fn clients_are_settled()
     ensures opened { (x : ClientChannel) (octets : List ℕ) → IsOpened x octets → (s : Site) × (s.octets ≡ octets) × (s.asks ≡ []) × At x s × IsSettled s }
-    ensures later { (s t : Site) (more : List Told) → IsSettled s → renewals (asked_in t.asks) ≡ renewals (asked_in s.asks) → t.told ≡ s.told ++ more → IsSettled t }
+    ensures answered { (requests : List Request) (s t : Site) (taken : List ℕ) (replies : List Reply) → IsSettled s → Answered requests s t taken replies → IsSettled t }
+    ensures later { (s t : Site) (more : List Told) → IsSettled s → t.asks ≡ s.asks → t.told ≡ s.told ++ more → IsSettled t }
+    ensures none_pending { (x : ClientChannel) (s : Site) → At x s → IsSettled s → pending_calls s.before.messages (asked_in s.asks) ≡ [] }
+    ensures lane { (x : ClientChannel) (s : Site) → At x s → IsSettled s → (lane : Lane) × (lane_behind s.before ≡ Some lane) }
 {
     client_goes_on();
+    client_tells_delivered();
 }

@@ -1,11 +1,12 @@
 //! A client of OPC UA Binary over a line, under the security policy None (OPC 10000-4, 5.5 and 5.6;
 //! OPC 10000-6, 6.7 and 7.1).
 //!
-//! Its contracts are those of [`Client::open`], [`Client::call_all`], [`Client::renew`] and
-//! [`Client::close`]: what they write, and from which octets they answer.
+//! Its contracts are those of [`Client::open`], [`Client::begin_session`], [`Client::call_all`],
+//! [`Client::renew`] and [`Client::close`]: what they write, and from which octets they answer.
 //!
 //! ```
 //! let mut client = Client::open(alloc, &mut line, limits, url, moment)?;
+//! let token = client.begin_session(&mut line, moment)?; // for the requests' headers
 //! let reply = client.call(&mut line, &request, moment)?;
 //! let replies = client.call_all(&mut line, &requests, moment)?;
 //! client.close(&mut line, moment)?;
@@ -24,6 +25,7 @@ mod piece;
 mod renewing;
 mod reply;
 mod sending;
+mod session;
 
 pub use client::Client;
 pub use fault::ClientFault;

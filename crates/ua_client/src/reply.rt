@@ -148,3 +148,11 @@ pub fn place_reply(
         Err(fault) => Err(fault),
     }
 }
+
+/// The reply of a group of one.
+pub fn only_reply(mut replies: Vec<Reply>) -> Reply
+    requires { length replies.items ≡ 1 }
+    ensures { replies.items ≡ result ∷ [] }
+{
+    replies.remove(0)
+}

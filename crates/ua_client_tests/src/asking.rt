@@ -14,8 +14,8 @@ use ua_requests::{
 use ua_services::{Request, response_body};
 use ua_variant::{Scalar, Variant};
 
-// The token of the session, ns=2;i=1.
-fn token() -> NodeId {
+/// The token of the session, ns=2;i=1.
+pub fn token() -> NodeId {
     NodeId::new(2, Identifier::Numeric(1))
 }
 

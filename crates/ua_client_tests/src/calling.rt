@@ -1,6 +1,8 @@
 //! Calls of a session.
 
-use crate::asking::{activate, answers, answers_a_group, close, create, read, refuses, write};
+use crate::asking::{
+    activate, answers, answers_a_group, close, create, read, refuses, token, write,
+};
 use crate::frames::{ACK, HEL, OPN};
 use crate::lines::{AT_ONCE, Course, MOMENT, joined, line, opened};
 use crate::sessions::{
@@ -12,7 +14,7 @@ use std::process::Abort;
 use ua_channel::MemoryLine;
 use ua_client::{Client, ClientFault};
 
-// That CreateSession and ActivateSession are answered.
+// That CreateSession and ActivateSession, called as other requests are, are answered.
 fn begins(rt: &impl Abort, alloc: Global, client: &mut Client, line: &mut MemoryLine) {
     answers(rt, alloc, client, line, create(rt, alloc), CREATED);
     answers(rt, alloc, client, line, activate(rt, alloc), ACTIVATED);
@@ -25,6 +27,12 @@ fn goes_on(rt: &impl Abort, alloc: Global, client: &mut Client, line: &mut Memor
     answers(rt, alloc, client, line, close(), CLOSED);
 }
 
+// That a session begins.
+fn begins_session(rt: &impl Abort, client: &mut Client, line: &mut MemoryLine) {
+    let found = client.begin_session(line, MOMENT).expect(rt, "a session");
+    assert_eq!(rt; found, token());
+}
+
 // The session over a line of this course, to which the server's 783 octets come, and what is written:
 // the client's 757.
 fn calls(rt: &impl Abort, alloc: Global, course: Course<'_>) {
@@ -35,7 +43,7 @@ fn calls(rt: &impl Abort, alloc: Global, course: Course<'_>) {
     );
     let mut line = line(rt, alloc, coming, course);
     let mut client = opened(rt, alloc, &mut line);
-    begins(rt, alloc, &mut client, &mut line);
+    begins_session(rt, &mut client, &mut line);
     goes_on(rt, alloc, &mut client, &mut line);
     assert_eq!(rt; client.close(&mut line, MOMENT), Ok(()));
     let written = joined(
@@ -101,60 +109,6 @@ fn tells_a_response_of_another_kind(rt: HostRuntime) {
         &mut line,
         &[HEL, OPN, CREATE, ACTIVATE, WRITE],
     );
-}
-
-// Each read gives a frame; the fourth is that of the answer to ActivateSession.
-#[test]
-fn says_that_a_read_fails(rt: HostRuntime) {
-    let alloc = rt.alloc();
-    let coming = joined(&rt, alloc, &[ACK, OPENED, CREATED, ACTIVATED]);
-    let course = (
-        &[28usize, 135, 358, 64, 64, 82, 52][..],
-        &[][..],
-        Some(4),
-        None,
-    );
-    let mut line = line(&rt, alloc, coming, course);
-    let mut client = opened(&rt, alloc, &mut line);
-    answers(
-        &rt,
-        alloc,
-        &mut client,
-        &mut line,
-        create(&rt, alloc),
-        CREATED,
-    );
-    refuses(
-        &rt,
-        &mut client,
-        &mut line,
-        activate(&rt, alloc),
-        ClientFault::Read,
-    );
-    is_done(
-        &rt,
-        alloc,
-        &mut client,
-        &mut line,
-        &[HEL, OPN, CREATE, ACTIVATE],
-    );
-}
-
-// The third write is that of CreateSession.
-#[test]
-fn says_that_a_write_fails(rt: HostRuntime) {
-    let alloc = rt.alloc();
-    let coming = joined(&rt, alloc, &[ACK, OPENED, CREATED]);
-    let mut line = line(&rt, alloc, coming, (&[], &[], None, Some(3)));
-    let mut client = opened(&rt, alloc, &mut line);
-    refuses(
-        &rt,
-        &mut client,
-        &mut line,
-        create(&rt, alloc),
-        ClientFault::Write,
-    );
-    is_done(&rt, alloc, &mut client, &mut line, &[HEL, OPN]);
 }
 
 #[test]

@@ -7,6 +7,8 @@
 #[cfg(test)]
 mod asking;
 #[cfg(test)]
+mod beginning;
+#[cfg(test)]
 mod calling;
 #[cfg(test)]
 mod frames;

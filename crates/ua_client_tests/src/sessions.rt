@@ -52,3 +52,34 @@ pub const CLOSED: &[u8] =
 /// The CLO, numbered 7, with the request id 7.
 pub const CLO: &[u8] =
     b"CLOF9\0\0\0\x01\0\0\0\x01\0\0\0\x07\0\0\0\x07\0\0\0\x01\0\xC4\x01\0\0\0\x80\x3E\xD5\xDE\xB1\x9D\x01\0\0\0\0\0\0\0\0\xFF\xFF\xFF\xFF\0\0\0\0\0\0\0";
+
+/// A ServiceFault in place of the session: BadTooManySessions.
+pub const NOT_CREATED: &[u8] =
+    b"MSGF\x34\0\0\0\x01\0\0\0\x01\0\0\0\x02\0\0\0\x02\0\0\0\x01\0\x8D\x01\0\x80\x3E\xD5\xDE\xB1\x9D\x01\x02\0\0\0\0\0\x56\x80\0\xFF\xFF\xFF\xFF\0\0\0";
+
+/// The server gives up its answer to the CreateSession: BadResponseTooLarge.
+pub const ABORTED: &[u8] =
+    b"MSGA\x20\0\0\0\x01\0\0\0\x01\0\0\0\x02\0\0\0\x02\0\0\0\0\0\xB9\x80\xFF\xFF\xFF\xFF";
+
+/// A CloseSession response under the number and the request id of the CreateSession.
+pub const CLOSED_TO_THE_CREATION: &[u8] =
+    b"MSGF\x34\0\0\0\x01\0\0\0\x01\0\0\0\x02\0\0\0\x02\0\0\0\x01\0\xDC\x01\0\x80\x3E\xD5\xDE\xB1\x9D\x01\x02\0\0\0\0\0\0\0\0\xFF\xFF\xFF\xFF\0\0\0";
+
+/// A session whose token is ns=2;s= and 52 letters, with nulls else.
+pub const CREATED_LONG: &[u8] =
+    b"MSGF\x95\0\0\0\x01\0\0\0\x01\0\0\0\x02\0\0\0\x02\0\0\0\x01\0\xD0\x01\0\x80\x3E\xD5\xDE\xB1\x9D\x01\x02\0\0\0\0\0\0\0\0\xFF\xFF\xFF\xFF\0\0\0\0\0\x03\x02\0\x34\0\0\0tokentokentokentokentokentokentokentokentokentokento\0\0\0\0\0\0\0\0\xFF\xFF\xFF\xFF\xFF\xFF\xFF\xFF\xFF\xFF\xFF\xFF\xFF\xFF\xFF\xFF\xFF\xFF\xFF\xFF\xFF\xFF\xFF\xFF\0\0\0\0";
+
+/// A ServiceFault to the ActivateSession: BadIdentityTokenRejected.
+pub const NOT_ACTIVATED: &[u8] =
+    b"MSGF\x34\0\0\0\x01\0\0\0\x01\0\0\0\x03\0\0\0\x03\0\0\0\x01\0\x8D\x01\0\x80\x3E\xD5\xDE\xB1\x9D\x01\x03\0\0\0\0\0\x21\x80\0\xFF\xFF\xFF\xFF\0\0\0";
+
+/// The ACK of a server that takes requests of at most 135 octets.
+pub const ACK_OF_135: &[u8] = b"ACKF\x1C\0\0\0\0\0\0\0\xFF\xFF\0\0\xFF\xFF\0\0\x87\0\0\0\0\x01\0\0";
+
+/// The CLO, numbered 3, with the request id 3.
+pub const CLO_3: &[u8] =
+    b"CLOF9\0\0\0\x01\0\0\0\x01\0\0\0\x03\0\0\0\x03\0\0\0\x01\0\xC4\x01\0\0\0\x80\x3E\xD5\xDE\xB1\x9D\x01\0\0\0\0\0\0\0\0\xFF\xFF\xFF\xFF\0\0\0\0\0\0\0";
+
+/// The CLO, numbered 4, with the request id 4.
+pub const CLO_4: &[u8] =
+    b"CLOF9\0\0\0\x01\0\0\0\x01\0\0\0\x04\0\0\0\x04\0\0\0\x01\0\xC4\x01\0\0\0\x80\x3E\xD5\xDE\xB1\x9D\x01\0\0\0\0\0\0\0\0\xFF\xFF\xFF\xFF\0\0\0\0\0\0\0";

@@ -5,13 +5,13 @@ use Rattle.ua_channel.specs.Client.{phase_of}
 use Rattle.ua_channel.specs.Line.{WhereTold}
 use Rattle.ua_client.specs.Carried.{Carries, WritesFront}
 use Rattle.ua_client.specs.declared.connection.Connection.{Connection}
-use Rattle.ua_client.proofs.GroupCalls.{IsAsked, group-refused, refused-failures, group-unasked, memory-failures, group-unwritten, group-unslotted, group-broken, group-kept, kept-count, kept-failures}
+use Rattle.ua_client.proofs.GroupCalls.{IsAsked, group-refused, none-refused, refused-failures, group-unasked, memory-failures, group-unwritten, group-unslotted, group-broken, group-kept, kept-count, kept-failures}
 use Rattle.ua_client.proofs.connection.Connection.call_group.Goals as goal
 
 pub returns-in_err-bodies-clause-calls : goal.returns-in_err-bodies-clause-calls
 returns-in_err-bodies-clause-calls g c =
     let p = err_from_is_err_and c.from_residual.result c.from_residual.ensures.1 in
-    rw (p.1, p.2) (group-refused c.args.requests.now c.args.self.now (g.L.Line.traffic c.args.line.now) c.args.reads.now c.in_err-bodies.field-0.0 c.args.replies.now.items c.in_err-bodies.ensures.judged)
+    rw (p.1, p.2) (group-refused c.clients_are_settled.ensures.none_pending c.args.requests.now c.requires.few c.args.self.now (g.L.Line.traffic c.args.line.now) c.args.reads.now c.in_err-bodies.field-0.0 c.args.replies.now.items c.in_err-bodies.ensures.judged)
 
 pub returns-in_err-bodies-clause-failed : goal.returns-in_err-bodies-clause-failed
 returns-in_err-bodies-clause-failed g c =
@@ -35,9 +35,10 @@ returns-in_default-clause-calls g c =
     let asked : IsAsked c.args.requests.now c.args.self.now mid c.in_ok-asked.asked.0 c.in_ok-asked.asked.1.items = record {
       bodies = c.deref.result.now;
       bodies_are = c.deref.ensures.value ∙ c.in_ok-bodies.ensures.bodies;
+      judged = none-refused c.clients_are_settled.ensures.none_pending c.args.requests.now c.requires.few c.args.self.now.channel c.in_ok-bodies.ensures.judged;
       piece = refl;
       same = c.in_ok-asked.ensures.same;
-      some = c.requires;
+      some = c.requires.some;
       asks = c.in_ok-asked.ensures.asks;
     } in
     group-unwritten c.args.requests.now c.args.self.now mid c.in_ok-asked.asked.0 c.in_ok-asked.asked.1.items asked (g.L.Line.traffic c.args.line.now) (g.L.Line.traffic c.write_whole.new.line) c.args.reads.now c.args.replies.now.items
@@ -50,9 +51,10 @@ returns-in_err-slots-clause-calls g c =
     let asked : IsAsked c.args.requests.now c.args.self.now mid c.in_ok-asked.asked.0 c.in_ok-asked.asked.1.items = record {
       bodies = c.deref.result.now;
       bodies_are = c.deref.ensures.value ∙ c.in_ok-bodies.ensures.bodies;
+      judged = none-refused c.clients_are_settled.ensures.none_pending c.args.requests.now c.requires.few c.args.self.now.channel c.in_ok-bodies.ensures.judged;
       piece = refl;
       same = c.in_ok-asked.ensures.same;
-      some = c.requires;
+      some = c.requires.some;
       asks = c.in_ok-asked.ensures.asks;
     } in
     rw (p.1, p.2) (group-unslotted c.args.requests.now c.args.self.now mid c.in_ok-asked.asked.0 c.in_ok-asked.asked.1.items asked c.calls_are_told_behind.ensures (g.L.Line.traffic c.args.line.now) (g.L.Line.traffic c.write_whole.new.line) c.args.reads.now
@@ -70,9 +72,10 @@ returns-clause-calls g c =
     let asked : IsAsked c.args.requests.now c.args.self.now mid c.in_ok-asked.asked.0 c.in_ok-asked.asked.1.items = record {
       bodies = c.deref.result.now;
       bodies_are = c.deref.ensures.value ∙ c.in_ok-bodies.ensures.bodies;
+      judged = none-refused c.clients_are_settled.ensures.none_pending c.args.requests.now c.requires.few c.args.self.now.channel c.in_ok-bodies.ensures.judged;
       piece = refl;
       same = c.in_ok-asked.ensures.same;
-      some = c.requires;
+      some = c.requires.some;
       asks = c.in_ok-asked.ensures.asks;
     } in
     group-broken c.args.requests.now c.args.self.now mid c.in_ok-asked.asked.0 c.in_ok-asked.asked.1.items asked c.calls_are_told_behind.ensures c.collect.new.self (g.L.Line.traffic c.args.line.now) (g.L.Line.traffic c.write_whole.new.line) (g.L.Line.traffic c.collect.new.line) c.args.reads.now c.collect.new.reads
@@ -85,9 +88,10 @@ returns-in-Ok-collect-clause-calls g c =
     let asked : IsAsked c.args.requests.now c.args.self.now mid c.in_ok-asked.asked.0 c.in_ok-asked.asked.1.items = record {
       bodies = c.deref.result.now;
       bodies_are = c.deref.ensures.value ∙ c.in_ok-bodies.ensures.bodies;
+      judged = none-refused c.clients_are_settled.ensures.none_pending c.args.requests.now c.requires.few c.args.self.now.channel c.in_ok-bodies.ensures.judged;
       piece = refl;
       same = c.in_ok-asked.ensures.same;
-      some = c.requires;
+      some = c.requires.some;
       asks = c.in_ok-asked.ensures.asks;
     } in
     group-kept c.args.requests.now c.args.self.now mid c.in_ok-asked.asked.0 c.in_ok-asked.asked.1.items asked c.calls_are_told_behind.ensures c.collect.new.self (g.L.Line.traffic c.args.line.now) (g.L.Line.traffic c.write_whole.new.line) (g.L.Line.traffic c.collect.new.line) c.args.reads.now c.collect.new.reads

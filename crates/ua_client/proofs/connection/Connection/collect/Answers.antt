@@ -10,7 +10,7 @@ use Rattle.ua_client.proofs.connection.Connection.collect.Goals as goal
 
 pub loop-alloc-init : goal.loop-alloc-init
 loop-alloc-init g c = record {
-  waits = waits-first c.args.requests.now c.args.first c.args.self.now (g.L.Line.traffic c.args.line.now) c.args.reads.now c.args.slots.now.items c.requires;
+  waits = waits-first c.args.requests.now c.args.first c.args.self.now (g.L.Line.traffic c.args.line.now) c.args.reads.now c.args.slots.now.items c.requires.none;
   same = refl;
 }
 
@@ -51,4 +51,4 @@ loop-alloc-smaller g c = c.in_ok-event.ensures.hears.less
 pub returns-clause-collects : goal.returns-clause-collects
 returns-clause-collects g c =
     collects-all c.args.requests.now c.args.first c.args.self.now c.loop-alloc.self c.loop-alloc.self (g.L.Line.traffic c.args.line.now) (g.L.Line.traffic c.loop-alloc.line) (g.L.Line.traffic c.loop-alloc.line)
-    c.args.reads.now c.loop-alloc.reads c.loop-alloc.reads c.loop-alloc.slots.items c.args.moment c.loop-alloc.invariant.waits (λ done. c.loop-alloc.slots.items) tt refl (subst (λ (ss : List (Option Reply)). list_any is_none ss ≡ false) c.deref.ensures.value (sym c.is_waiting.ensures ∙ c.loop-alloc-test.false))
+    c.args.reads.now c.loop-alloc.reads c.loop-alloc.reads c.loop-alloc.slots.items c.args.moment c.loop-alloc.invariant.waits (λ done. c.loop-alloc.slots.items) tt refl (subst (λ (ss : List (Option Reply)). list_any is_none ss ≡ false) c.deref.ensures.value (sym c.is_waiting.ensures ∙ c.loop-alloc-test.false)) c.requires.some

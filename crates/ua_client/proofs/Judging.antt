@@ -1,0 +1,107 @@
+-- Why a group of calls is not asked, by where the client stands.
+use Rattle.std.specs.Prelude.{◌≡◌, ℕ, ◌+◌, ◌≤◌, ◌<◌, nat_le, Bool, true, false, not, List, [], ◌∷◌, length, Option, Some}
+use Rattle.std.proofs.Common.{refl, sym, ◌∙◌, ap, subst, arith, add-zero}
+use Rattle.std.specs.List.{AllByRecursion}
+use Rattle.std.proofs.lemmas.Bool.{lt-leb}
+use Rattle.ua_builtin.proofs.FirstReasons.{first_reason-append}
+use Rattle.ua_builtin.specs.Reasons.{first_reason, or_else}
+use Rattle.ua_frame.specs.declared.ack.Ack.{Ack}
+use Rattle.ua_frame.specs.declared.limits.Limits.{Limits}
+use Rattle.ua_services.specs.Request.{request}
+use Rattle.ua_services.specs.declared.request.Request.{Request}
+use Rattle.ua_channel.specs.Asks.{Asking, asked_in, next_id, pending_calls}
+use Rattle.ua_channel.specs.Client.{InPhase, IsNotOpen, limits_of, phase_of}
+use Rattle.ua_channel.specs.ClientAsks.{is_too_large, most_pending, no_id}
+use Rattle.ua_channel.specs.ClientTable.{of_ack}
+use Rattle.ua_channel.specs.Received.{Received}
+use Rattle.ua_channel.specs.declared.client.channel.ClientChannel.{ClientChannel}
+use Rattle.ua_channel.specs.declared.client.fault.AskFault.TheVariants as ask_fault
+use Rattle.ua_channel.specs.declared.client.phase.Phase.{Phase}
+use Rattle.ua_channel.specs.declared.client.phase.Phase.TheVariants as phase
+use Rattle.ua_channel.specs.declared.client.talking.Talking.{Talking}
+use Rattle.ua_client.specs.Calls.{refusal_at}
+use Rattle.ua_client.specs.Renewing.{IsSettled}
+use Rattle.ua_client.specs.Sent.{of_ask, refusal_by, request_refusal, group_refusal, request_reasons, group_reasons}
+use Rattle.ua_client.specs.Site.{Site, At, id_at}
+use Rattle.ua_client.specs.declared.fault.ClientFault.{ClientFault}
+use Rattle.ua_client.specs.declared.fault.ClientFault.TheVariants as fault
+use Rattle.ua_client.proofs.Settled.{NonePending, is-open, phase-there}
+
+-- ---- one request
+
+-- the reasons of a channel, as a client names them
+abbrev by-channel : Bool → Bool → Bool → Option ClientFault
+by-channel full used large = of_ask (first_reason ((ask_fault.TooManyPending, full) ∷ (ask_fault.Exhausted, used) ∷ (ask_fault.RequestTooLarge, large) ∷ []))
+
+-- and those by where a client stands
+abbrev by-site : Bool → Bool → Bool → Option ClientFault
+by-site writable used large = first_reason ((fault.NotWritable, not writable) ∷ (fault.Exhausted, used) ∷ (fault.TooLarge, large) ∷ [])
+
+same-reason : (used large : Bool) → by-channel false used large ≡ by-site true used large
+same-reason true large = refl
+same-reason false true = refl
+same-reason false false = refl
+
+request-judged : (t : Talking) (more : ℕ) (writable : Bool) (body : List ℕ) → nat_le most_pending (length t.pending.items + more) ≡ false
+    → refusal_by writable (phase.Open t) more body ≡ by-site writable (nat_le no_id (t.next + more)) (is_too_large t.agreed.ack body)
+request-judged t more false body few = refl
+request-judged t more true body few =
+    ap (λ (full : Bool). by-channel full (nat_le no_id (t.next + more)) (is_too_large t.agreed.ack body)) few
+    ∙ same-reason (nat_le no_id (t.next + more)) (is_too_large t.agreed.ack body)
+
+-- ---- a group
+
+judged-in : (limits : Limits) (p : Phase) (before : Received) (asked : List Asking) → InPhase limits p before asked → (IsNotOpen p → ⊥) → pending_calls before.messages asked ≡ [] → (requests : List Request) (more : ℕ)
+    → more + length requests ≤ 64 → group_refusal p more requests ≡ first_reason (group_reasons before.ack (next_id asked + more) requests)
+judged-in limits phase.Waiting before asked h some none requests more few = absurd (some tt)
+judged-in limits (phase.Agreed a) before asked h some none requests more few = absurd (some tt)
+judged-in limits phase.Done before asked h some none requests more few = absurd (some tt)
+judged-in limits (phase.Open t) before asked h some none requests more few = by requests more few
+  where
+    room : (n : ℕ) → n < 64 → nat_le most_pending (length t.pending.items + n) ≡ false
+    room n few =
+        let empty : length t.pending.items ≡ 0 = ap length (h.pending_are ∙ none) in
+        lt-leb most_pending (length t.pending.items + n) (omega (arith, empty, few))
+
+    one : (m : Request) (n : ℕ) → n < 64 → request_refusal (phase.Open t) n m ≡ first_reason (request_reasons before.ack (next_id asked + n) m)
+    one m n few =
+        request-judged t n (request.encodable m) (request.canonical m) (room n few)
+        ∙ (ap (λ (id : ℕ). by-site (request.encodable m) (nat_le no_id (id + n)) (is_too_large t.agreed.ack (request.canonical m))) h.next_is
+        ∙ ap (λ (a : Option Ack). by-site (request.encodable m) (nat_le no_id (next_id asked + n)) (of_ack (λ (k : Ack). is_too_large k (request.canonical m)) a)) (sym h.ack_is))
+
+    on : (a b : ℕ) → a + (b + 1) ≡ (a + b) + 1
+    on a b = omega arith
+
+    by : (ms : List Request) (n : ℕ) → n + length ms ≤ 64 → group_refusal (phase.Open t) n ms ≡ first_reason (group_reasons before.ack (next_id asked + n) ms)
+    by [] n few = refl
+    by (m ∷ ms) n few =
+        ap (λ (o : Option ClientFault). or_else o (group_refusal (phase.Open t) (n + 1) ms)) (one m n (omega (arith, few)))
+        ∙ (ap (λ (o : Option ClientFault). or_else (first_reason (request_reasons before.ack (next_id asked + n) m)) o)
+        (by ms (n + 1) (omega (arith, few)) ∙ ap (λ (id : ℕ). first_reason (group_reasons before.ack id ms)) (on (next_id asked) n))
+        ∙ sym (first_reason-append (request_reasons before.ack (next_id asked + n) m) (group_reasons before.ack ((next_id asked + n) + 1) ms)))
+
+-- a channel refuses a group just for the first reason that holds where the client stands
+pub group-judged : NonePending → (x : ClientChannel) (requests : List Request) → length requests ≤ 64 → (s : Site) → At x s → IsSettled s → group_refusal (phase_of x) 0 requests ≡ refusal_at s requests
+group-judged law x requests few s at settled =
+    judged-in (limits_of x) (phase_of x) s.before (asked_in s.asks) (phase-there x s at settled) (is-open x s at settled) (law x s at settled) requests 0 (omega (arith, few))
+    ∙ ap (λ (id : ℕ). first_reason (group_reasons s.before.ack id requests)) (add-zero (id_at s))
+
+-- ---- which reasons there are
+
+abbrev pub is_reason : ClientFault → Bool
+is_reason fault.NotWritable = true
+is_reason fault.Exhausted = true
+is_reason fault.TooLarge = true
+is_reason other = false
+
+among : (test : ClientFault → Bool) (rs : List (ClientFault × Bool)) (x : ClientFault) → AllByRecursion (λ (r : ClientFault × Bool). test r.0 ≡ true) rs → first_reason rs ≡ Some x → test x ≡ true
+among test [] x h e = absurd cc
+among test ((f, true) ∷ rs) x h e = let same : f ≡ x = cc in subst (λ (y : ClientFault). test y ≡ true) same h.0
+among test ((f, false) ∷ rs) x h e = among test rs x h.1 e
+
+are-reasons : (ack : Option Ack) (id : ℕ) (requests : List Request) → AllByRecursion (λ (r : ClientFault × Bool). is_reason r.0 ≡ true) (group_reasons ack id requests)
+are-reasons ack id [] = tt
+are-reasons ack id (m ∷ ms) = (refl, (refl, (refl, are-reasons ack (id + 1) ms)))
+
+pub refused-for : (s : Site) (requests : List Request) (x : ClientFault) → refusal_at s requests ≡ Some x → is_reason x ≡ true
+refused-for s requests x e = among is_reason (group_reasons s.before.ack (id_at s) requests) x (are-reasons s.before.ack (id_at s) requests) e

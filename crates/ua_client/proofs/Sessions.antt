@@ -1,0 +1,307 @@
+-- How a session begins: one service, and another behind it.
+use Rattle.std.specs.Prelude.{◌≡◌, ℕ, ◌+◌, ◌≤◌, List, [], ◌∷◌, ◌++◌, length, Option, None, Result, Ok, Err, IfOk, IfErr}
+use Rattle.std.proofs.Common.{refl, sym, ◌∙◌, ap, subst, arith, inl, inr}
+use Rattle.std.proofs.lemmas.List.{length-append}
+use Rattle.ua_builtin.specs.declared.date_time.DateTime.{DateTime}
+use Rattle.ua_builtin.specs.declared.node_id.NodeId.{NodeId}
+use Rattle.ua_services.specs.Response.{Answers, kind_of}
+use Rattle.ua_services.specs.declared.request.Request.{Request}
+use Rattle.ua_services.specs.declared.request.RequestKind.TheVariants as request_kind
+use Rattle.ua_services.specs.declared.response.Response.{Response}
+use Rattle.ua_services.specs.declared.response.Response.TheVariants as response
+use Rattle.ua_channel.specs.Client.{SameClient, url_of}
+use Rattle.ua_channel.specs.Line.{Traffic}
+use Rattle.ua_client.specs.Calls.{Answered, BreaksAt, CallsGroup, GroupAt}
+use Rattle.ua_client.specs.Hearing.{channel_of, most_reads, StopsAt}
+use Rattle.ua_client.specs.Session.{ActivatesBehind, BeginsSession, CallsOneAt, Does, IsFailure, IsReplied, LacksToken, Replies, ServesAt, activating_at, brings_any, brings_token, creating_at, is_reply, reply_failure, token_in}
+use Rattle.ua_client.specs.Renewing.{IsSettled}
+use Rattle.ua_client.specs.Site.{Site, At}
+use Rattle.ua_client.specs.declared.connection.Connection.{Connection}
+use Rattle.ua_client.specs.declared.fault.ClientFault.{ClientFault}
+use Rattle.ua_client.specs.declared.fault.ClientFault.TheVariants as fault
+use Rattle.ua_client.specs.declared.reply.Reply.{Reply}
+use Rattle.ua_client.specs.declared.reply.Reply.TheVariants.{Response as Responds, Aborted}
+use Rattle.ua_client.proofs.GroupCalls.{moves-nothing}
+use Rattle.ua_client.proofs.Hearings.{moves-behind}
+use Rattle.ua_client.proofs.Settled.{answered-settled}
+
+-- ---- reads, one call behind another
+
+-- a fault behind a call that spent so many reads
+stops-then : (A B : Type 0) (reads left less more : ℕ) (got further : List ℕ) (new : Connection) (after : Option Traffic) (f : ClientFault) → reads ≤ left + length got
+    → StopsAt {A = A} left less further new after (Err f) → StopsAt {A = B} reads more (got ++ further) new after (Err f)
+stops-then A B reads left less more got further new after fault.TooLong spent h = (h.0, let l = length-append got further in let few = h.1 in omega (arith, l, spent, few))
+stops-then A B reads left less more got further new after fault.Ended spent h = h
+stops-then A B reads left less more got further new after fault.Read spent h = h
+stops-then A B reads left less more got further new after fault.Write spent h = tt
+stops-then A B reads left less more got further new after (fault.Peer code) spent h = tt
+stops-then A B reads left less more got further new after (fault.Refused code) spent h = tt
+stops-then A B reads left less more got further new after fault.UnknownResponse spent h = tt
+stops-then A B reads left less more got further new after (fault.Service code) spent h = tt
+stops-then A B reads left less more got further new after fault.TooLarge spent h = tt
+stops-then A B reads left less more got further new after fault.NotWritable spent h = tt
+stops-then A B reads left less more got further new after fault.Exhausted spent h = tt
+stops-then A B reads left less more got further new after fault.Closed spent h = tt
+stops-then A B reads left less more got further new after fault.TooManyTokens spent h = tt
+stops-then A B reads left less more got further new after fault.OutOfMemory spent h = tt
+
+stops-as : (A B : Type 0) (reads left more : ℕ) (got : List ℕ) (new : Connection) (after : Option Traffic) (f : ClientFault)
+    → StopsAt {A = A} reads left got new after (Err f) → StopsAt {A = B} reads more got new after (Err f)
+stops-as A B reads left more got new after f h = stops-then A B reads reads left more [] got new after f (omega arith) h
+
+-- ---- one request
+
+pub one-replied : (request : Request) (requests : List Request) (old new : Connection) (before after : Option Traffic) (reads left : ℕ) (had have : List Reply) (reply : Reply)
+    → requests ≡ request ∷ [] → had ≡ [] → have ≡ reply ∷ [] → CallsGroup {A = Unit {0}} requests old new before after reads left (Ok tt) had have
+    → Does {A = Reply} (λ s sent taken. CallsOneAt request s new sent taken (Ok reply)) old new before after reads left (Ok reply)
+one-replied request requests old new before after reads left had have reply e none one g = record {
+  sent = g.sent;
+  moves = g.moves;
+  same = g.same;
+  answers = λ s at settled. replied s settled (subst (λ (ms : List Request). GroupAt {A = Unit {0}} ms s new g.sent g.moves.taken (Ok tt) had have) e (g.answers s at settled));
+  stops = g.stops;
+}
+  where
+    replied : (s : Site) → IsSettled s → GroupAt {A = Unit {0}} (request ∷ []) s new g.sent g.moves.taken (Ok tt) had have → Replies request s (channel_of new) g.sent g.moves.taken (is_reply reply)
+    replied s settled a =
+        let alone : a.1.1 ≡ reply ∷ [] = sym (sym one ∙ (a.1.4 ∙ ap (λ (rs : List Reply). rs ++ a.1.1) none)) in
+        record {
+          behind = a.1.0;
+          at = a.1.2;
+          settled = answered-settled (request ∷ []) s a.1.0 g.moves.taken a.1.1 settled a.1.3;
+          reply = reply;
+          replied = record { sent_is = a.0; answered = subst (λ (rs : List Reply). Answered (request ∷ []) s a.1.0 g.moves.taken rs) alone a.1.3 };
+          says = refl;
+        }
+
+pub one-broken : (request : Request) (requests : List Request) (old new : Connection) (before after : Option Traffic) (reads left : ℕ) (had have : List Reply) (f : ClientFault)
+    → requests ≡ request ∷ [] → CallsGroup {A = Unit {0}} requests old new before after reads left (Err f) had have
+    → Does {A = Reply} (λ s sent taken. CallsOneAt request s new sent taken (Err f)) old new before after reads left (Err f)
+one-broken request requests old new before after reads left had have f e g = record {
+  sent = g.sent;
+  moves = g.moves;
+  same = g.same;
+  answers = λ s at settled. subst (λ (ms : List Request). BreaksAt ms s new g.sent g.moves.taken f) e (g.answers s at settled);
+  stops = stops-as (Unit {0}) Reply reads left left g.moves.got new after f g.stops;
+}
+
+-- ---- a service
+
+-- a fault of the call
+broken : {A : Type 0} (request : Request) (brings : A → Reply → Type 0) (s : Site) (new : Connection) (sent taken : List ℕ) (f : ClientFault)
+    → BreaksAt (request ∷ []) s new sent taken f → ServesAt {A = A} request brings s new sent taken (Err f)
+broken request brings s new sent taken fault.Read h = h
+broken request brings s new sent taken fault.Write h = h
+broken request brings s new sent taken fault.Ended h = h
+broken request brings s new sent taken (fault.Peer code) h = h
+broken request brings s new sent taken (fault.Refused code) h = h
+broken request brings s new sent taken fault.UnknownResponse h = h
+broken request brings s new sent taken (fault.Service code) h = absurd h
+broken request brings s new sent taken fault.TooLarge h = h
+broken request brings s new sent taken fault.NotWritable h = h
+broken request brings s new sent taken fault.Exhausted h = h
+broken request brings s new sent taken fault.Closed h = h
+broken request brings s new sent taken fault.OutOfMemory h = h
+broken request brings s new sent taken fault.TooLong h = h
+broken request brings s new sent taken fault.TooManyTokens h = h
+
+-- a fault is the same whatever a reply would have brought
+faulted : {A B : Type 0} (request : Request) (brings : A → Reply → Type 0) (other : B → Reply → Type 0) (s : Site) (new : Connection) (sent taken : List ℕ) (f : ClientFault)
+    → ServesAt {A = A} request brings s new sent taken (Err f) → ServesAt {A = B} request other s new sent taken (Err f)
+faulted request brings other s new sent taken fault.Read h = h
+faulted request brings other s new sent taken fault.Write h = h
+faulted request brings other s new sent taken fault.Ended h = h
+faulted request brings other s new sent taken (fault.Peer code) h = h
+faulted request brings other s new sent taken (fault.Refused code) h = h
+faulted request brings other s new sent taken fault.UnknownResponse h = h
+faulted request brings other s new sent taken (fault.Service code) h = h
+faulted request brings other s new sent taken fault.TooLarge h = h
+faulted request brings other s new sent taken fault.NotWritable h = h
+faulted request brings other s new sent taken fault.Exhausted h = h
+faulted request brings other s new sent taken fault.Closed h = h
+faulted request brings other s new sent taken fault.OutOfMemory h = h
+faulted request brings other s new sent taken fault.TooLong h = h
+faulted request brings other s new sent taken fault.TooManyTokens h = h
+
+module _ (request : Request) (old new : Connection) (before after : Option Traffic) (reads left : ℕ) where
+  pub serves-broken : (f : ClientFault) → Does {A = Reply} (λ s sent taken. CallsOneAt request s new sent taken (Err f)) old new before after reads left (Err f)
+      → Does {A = Reply} (λ s sent taken. ServesAt request is_reply s new sent taken (Err f)) old new before after reads left (Err f)
+  serves-broken f d = record {
+    sent = d.sent;
+    moves = d.moves;
+    same = d.same;
+    answers = λ s at settled. broken request is_reply s new d.sent d.moves.taken f (d.answers s at settled);
+    stops = d.stops;
+  }
+
+  -- the reply is judged
+  pub serves-judged : (reply : Reply) (result : Result Reply ClientFault) → Does {A = Reply} (λ s sent taken. CallsOneAt request s new sent taken (Ok reply)) old new before after reads left (Ok reply)
+      → IfOk result (λ r. (r ≡ reply) × (reply_failure reply ≡ None)) → IfErr result (λ f. IsFailure reply f)
+      → Does {A = Reply} (λ s sent taken. ServesAt request is_reply s new sent taken result) old new before after reads left result
+  serves-judged reply (Ok r) d good bad = record {
+    sent = d.sent;
+    moves = d.moves;
+    same = d.same;
+    answers = λ s at settled.
+        let a = d.answers s at settled in
+        record { behind = a.behind; at = a.at; settled = a.settled; reply = a.reply; replied = a.replied; says = (sym (ap reply_failure a.says) ∙ good.1, good.0 ∙ a.says) };
+    stops = d.stops;
+  }
+  serves-judged reply (Err f) d good bad =
+      subst (λ (x : ClientFault). Does {A = Reply} (λ s sent taken. ServesAt request is_reply s new sent taken (Err x)) old new before after reads left (Err x)) (sym bad.1) (record {
+        sent = d.sent;
+        moves = d.moves;
+        same = d.same;
+        answers = λ s at settled.
+            let a = d.answers s at settled in
+            record { behind = a.behind; at = a.at; settled = a.settled; reply = a.reply; replied = a.replied; says = sym (ap reply_failure a.says) ∙ bad.2 };
+        stops = tt;
+      })
+
+  -- a request that is made where the client stands
+  module _ (made : Site → Request) (is : (s : Site) → At (channel_of old) s → request ≡ made s) where
+    -- the fault of its service
+    pub made-broken : {A : Type 0} (brings : A → Reply → Type 0) (f : ClientFault)
+        → Does {A = Reply} (λ s sent taken. ServesAt request is_reply s new sent taken (Err f)) old new before after reads left (Err f)
+        → Does {A = A} (λ s sent taken. ServesAt (made s) brings s new sent taken (Err f)) old new before after reads left (Err f)
+    made-broken {A} brings f d = record {
+      sent = d.sent;
+      moves = d.moves;
+      same = d.same;
+      answers = λ s at settled.
+          subst (λ (r : Request). ServesAt {A = A} r brings s new d.sent d.moves.taken (Err f)) (is s at) (faulted request is_reply brings s new d.sent d.moves.taken f (d.answers s at settled));
+      stops = stops-as Reply A reads left left d.moves.got new after f d.stops;
+    }
+
+    -- the reply by which its service did not fail, and what that brings
+    pub made-served : {A : Type 0} (brings : A → Reply → Type 0) (reply : Reply) (found : A) → brings found reply
+        → Does {A = Reply} (λ s sent taken. ServesAt request is_reply s new sent taken (Ok reply)) old new before after reads left (Ok reply)
+        → Does {A = A} (λ s sent taken. ServesAt (made s) brings s new sent taken (Ok found)) old new before after reads left (Ok found)
+    made-served {A} brings reply found b d = record {
+      sent = d.sent;
+      moves = d.moves;
+      same = d.same;
+      answers = λ s at settled.
+          let a = d.answers s at settled in
+          subst (λ (r : Request). Replies r s (channel_of new) d.sent d.moves.taken (λ x. (reply_failure x ≡ None) × brings found x)) (is s at)
+          (record { behind = a.behind; at = a.at; settled = a.settled; reply = a.reply; replied = a.replied; says = (a.says.0, subst (λ (x : Reply). brings found x) a.says.1 b) });
+      stops = d.stops;
+    }
+
+-- no memory to ask
+pub made-unasked : {A : Type 0} (made : Site → Request) (brings : A → Reply → Type 0) (x : Connection) (t : Option Traffic) (reads : ℕ)
+    → Does {A = A} (λ s sent taken. ServesAt (made s) brings s x sent taken (Err fault.OutOfMemory)) x x t t reads reads (Err fault.OutOfMemory)
+made-unasked made brings x t reads = record {
+  sent = [];
+  moves = moves-nothing x x t refl;
+  same = record { limits = refl; url = refl };
+  answers = λ s at settled. inl (refl, refl);
+  stops = tt;
+}
+
+-- ---- CreateSession
+
+-- a response to CreateSession by which it did not fail brings a token
+has-token : (m : Response) → Answers (kind_of m) request_kind.CreateSession → reply_failure (Responds m) ≡ None → token_in (Responds m) ≡ None → ⊥
+has-token (response.CreateSession m) a good none = absurd cc
+has-token (response.ServiceFault m) a good none = absurd cc
+has-token (response.GetEndpoints m) (inl e) good none = absurd cc
+has-token (response.GetEndpoints m) (inr e) good none = absurd cc
+has-token (response.ActivateSession m) (inl e) good none = absurd cc
+has-token (response.ActivateSession m) (inr e) good none = absurd cc
+has-token (response.CloseSession m) (inl e) good none = absurd cc
+has-token (response.CloseSession m) (inr e) good none = absurd cc
+has-token (response.Read m) (inl e) good none = absurd cc
+has-token (response.Read m) (inr e) good none = absurd cc
+has-token (response.Write m) (inl e) good none = absurd cc
+has-token (response.Write m) (inr e) good none = absurd cc
+
+brings-some : (url : Option (List ℕ)) (moment : DateTime) (s t : Site) (sent taken : List ℕ) (reply : Reply) → IsReplied (creating_at url moment s) s t sent taken reply
+    → reply_failure reply ≡ None → token_in reply ≡ None → ⊥
+brings-some url moment s t sent taken (Aborted code) h good none = absurd cc
+brings-some url moment s t sent taken (Responds m) h good none = has-token m h.answered.replies_are.0.2.2.1 good none
+
+module _ (url : Option (List ℕ)) (moment : DateTime) (request : Request) (old new : Connection) (before after : Option Traffic) (reads left : ℕ)
+    (is : (s : Site) → At (channel_of old) s → request ≡ creating_at url moment s) (reply : Reply)
+    (d : Does {A = Reply} (λ s sent taken. ServesAt request is_reply s new sent taken (Ok reply)) old new before after reads left (Ok reply)) where
+  -- what becomes of it by the reply
+  pub created : (result : Result NodeId ClientFault) → IfOk result (λ token. brings_token token reply) → IfErr result (λ f. LacksToken reply f)
+      → Does {A = NodeId} (λ s sent taken. ServesAt (creating_at url moment s) brings_token s new sent taken result) old new before after reads left result
+  created (Ok token) found lacks = made-served request old new before after reads left (creating_at url moment) is brings_token reply token found d
+  created (Err f) found (e, none) =
+      subst (λ (x : ClientFault). Does {A = NodeId} (λ s sent taken. ServesAt (creating_at url moment s) brings_token s new sent taken (Err x)) old new before after reads left (Err x)) (sym e) (record {
+        sent = d.sent;
+        moves = d.moves;
+        same = d.same;
+        answers = λ s at settled.
+            let a = d.answers s at settled in
+            absurd (brings-some url moment s a.behind d.sent d.moves.taken a.reply
+            (subst (λ (r : Request). IsReplied r s a.behind d.sent d.moves.taken a.reply) (is s at) a.replied) a.says.0 (sym (ap token_in a.says.1) ∙ none));
+        stops = tt;
+      })
+
+-- ---- both services
+
+-- CreateSession failed
+pub begins-first : (moment : DateTime) (old new : Connection) (before after : Option Traffic) (left : ℕ) (f : ClientFault)
+    → Does {A = NodeId} (λ s sent taken. ServesAt (creating_at (url_of (channel_of old)) moment s) brings_token s new sent taken (Err f)) old new before after most_reads left (Err f)
+    → BeginsSession moment old new before after (Err f)
+begins-first moment old new before after left f d = record {
+  sent = d.sent;
+  moves = d.moves;
+  same = d.same;
+  answers = λ s at settled. inl (d.answers s at settled);
+  stops = stops-as NodeId NodeId most_reads left most_reads d.moves.got new after f d.stops;
+}
+
+module _ (moment : DateTime) (old mid new : Connection) (before between after : Option Traffic) (left less : ℕ) (token : NodeId)
+    (d : Does {A = NodeId} (λ s sent taken. ServesAt (creating_at (url_of (channel_of old)) moment s) brings_token s mid sent taken (Ok token)) old mid before between most_reads left (Ok token)) where
+  -- what becomes of ActivateSession
+  second : (result : Result (Unit {0}) ClientFault) (P : NodeId → Type 0) → P token
+      → (e : Does {A = Unit {0}} (λ s sent taken. ServesAt (activating_at token moment s) brings_any s new sent taken result) mid new between after left less result)
+      → (s : Site) → At (channel_of old) s → IsSettled s → ActivatesBehind (url_of (channel_of old)) moment s new (d.sent ++ e.sent) (d.moves.taken ++ e.moves.taken) P result
+  second result P p e s at settled =
+      let a = d.answers s at settled in
+      record {
+        token = token;
+        between = a.behind;
+        channel = channel_of mid;
+        at = a.at;
+        settled = a.settled;
+        reply = a.reply;
+        sent_before = d.sent;
+        sent_then = e.sent;
+        sent_parts = refl;
+        taken_before = d.moves.taken;
+        taken_then = e.moves.taken;
+        taken_parts = refl;
+        created = a.replied;
+        good = a.says.0;
+        brought = a.says.1;
+        further = (p, e.answers a.behind a.at a.settled);
+      }
+
+  same-then : SameClient (channel_of mid) (channel_of new) → SameClient (channel_of old) (channel_of new)
+  same-then k = record { limits = d.same.limits ∙ k.limits; url = d.same.url ∙ k.url }
+
+  -- both are done
+  pub begins-both : Does {A = Unit {0}} (λ s sent taken. ServesAt (activating_at token moment s) brings_any s new sent taken (Ok tt)) mid new between after left less (Ok tt)
+      → BeginsSession moment old new before after (Ok token)
+  begins-both e = record {
+    sent = d.sent ++ e.sent;
+    moves = moves-behind old mid new d.sent e.sent before between after d.moves e.moves;
+    same = same-then e.same;
+    answers = λ s at settled. second (Ok tt) (λ given. given ≡ token) refl e s at settled;
+    stops = omega arith;
+  }
+
+  -- ActivateSession failed
+  pub begins-second : (f : ClientFault) → Does {A = Unit {0}} (λ s sent taken. ServesAt (activating_at token moment s) brings_any s new sent taken (Err f)) mid new between after left less (Err f)
+      → BeginsSession moment old new before after (Err f)
+  begins-second f e = record {
+    sent = d.sent ++ e.sent;
+    moves = moves-behind old mid new d.sent e.sent before between after d.moves e.moves;
+    same = same-then e.same;
+    answers = λ s at settled. inr (second (Err f) (λ given. Unit {0}) tt e s at settled);
+    stops = stops-then (Unit {0}) NodeId most_reads left less most_reads d.moves.got e.moves.got new after f d.stops e.stops;
+  }

@@ -1,0 +1,155 @@
+-- How a client begins a session: it asks CreateSession, and behind a good response ActivateSession (OPC 10000-4, 5.7.2 and 5.7.3).
+use Rattle.std.specs.Prelude.{◌≡◌, ◌⊎◌, ◌++◌, ◌||◌, cond, ℕ, Bool, true, false, List, [], ◌∷◌, Option, Some, None, Result, Ok, Err}
+use Rattle.ua_builtin.specs.Status.{is_bad}
+use Rattle.ua_builtin.specs.declared.date_time.DateTime.{DateTime}
+use Rattle.ua_builtin.specs.declared.node_id.NodeId.{NodeId}
+use Rattle.ua_builtin.specs.declared.status_code.StatusCode.{StatusCode}
+use Rattle.ua_services.specs.Response.{header_of, kind_of}
+use Rattle.ua_services.specs.declared.request.Request.{Request}
+use Rattle.ua_services.specs.declared.response.Response.{Response}
+use Rattle.ua_services.specs.declared.response.Response.TheVariants.{CreateSession}
+use Rattle.ua_services.specs.declared.response.ResponseKind.{ResponseKind}
+use Rattle.ua_services.specs.declared.response.ResponseKind.TheVariants as response_kind
+use Rattle.ua_requests.specs.Requests.{create_session, activate_session}
+use Rattle.ua_channel.specs.Client.{SameClient, url_of}
+use Rattle.ua_channel.specs.Line.{Traffic}
+use Rattle.ua_channel.specs.declared.client.channel.ClientChannel.{ClientChannel}
+use Rattle.ua_client.specs.Calls.{Answered, BreaksAt, sent_at}
+use Rattle.ua_client.specs.Hearing.{channel_of, most_reads, Moves, StopsAt}
+use Rattle.ua_client.specs.Renewing.{IsSettled}
+use Rattle.ua_client.specs.Site.{Site, At, id_at}
+use Rattle.ua_client.specs.declared.connection.Connection.{Connection}
+use Rattle.ua_client.specs.declared.fault.ClientFault.{ClientFault}
+use Rattle.ua_client.specs.declared.fault.ClientFault.TheVariants as fault
+use Rattle.ua_client.specs.declared.reply.Reply.{Reply}
+use Rattle.ua_client.specs.declared.reply.Reply.TheVariants.{Response as Responds, Aborted}
+
+-- ---- what is asked
+
+-- CreateSession, asked there at this moment of the server of this URL: its RequestHandle is its request id
+abbrev pub creating_at : Option (List ℕ) → DateTime → Site → Request
+creating_at url moment s = create_session url moment (id_at s)
+
+-- ActivateSession, asked there at this moment under the token of the session: its RequestHandle is its request id
+abbrev pub activating_at : NodeId → DateTime → Site → Request
+activating_at token moment s = activate_session token moment (id_at s)
+
+-- ---- what a reply says
+
+-- a ServiceFault
+abbrev pub is_fault : ResponseKind → Bool
+is_fault response_kind.ServiceFault = true
+is_fault other = false
+
+-- by a response the service failed: it is a ServiceFault, whatever its code, or its ServiceResult is bad (OPC 10000-4, 5.3 and 7.34)
+abbrev pub is_failure : Response → Bool
+is_failure m = is_fault (kind_of m) || is_bad (header_of m).service_result
+
+-- the code by which it failed, if it did
+abbrev pub response_failure : Response → Option StatusCode
+response_failure m = cond (is_failure m) (Some (header_of m).service_result) None
+
+-- the code by which a service failed, if it did: that of the response, or why the server gave its answer up
+abbrev pub reply_failure : Reply → Option StatusCode
+reply_failure (Responds m) = response_failure m
+reply_failure (Aborted code) = Some code
+
+-- the AuthenticationToken in a reply, if it is a response to CreateSession
+abbrev pub token_in : Reply → Option NodeId
+token_in (Responds (CreateSession m)) = Some m.authentication_token
+token_in other = None
+
+-- the reply itself
+abbrev pub is_reply : Reply → Reply → Type 0
+is_reply found reply = found ≡ reply
+
+-- it brings this token
+abbrev pub brings_token : NodeId → Reply → Type 0
+brings_token token reply = token_in reply ≡ Some token
+
+-- whatever it brings
+abbrev pub brings_any : Unit {0} → Reply → Type 0
+brings_any done reply = Unit {0}
+
+-- a fault is that by which the service failed
+abbrev pub IsFailure : Reply → ClientFault → Type 0
+IsFailure reply f = (code : StatusCode) × (f ≡ fault.Service code) × (reply_failure reply ≡ Some code)
+
+-- a fault is that of a reply that brings no token
+abbrev pub LacksToken : Reply → ClientFault → Type 0
+LacksToken reply f = (f ≡ fault.UnknownResponse) × (token_in reply ≡ None)
+
+-- ---- a service
+
+-- a request that was called there by itself is answered: what was sent and taken, where the client then stands, and the reply
+pub record IsReplied (request : Request) (s t : Site) (sent taken : List ℕ) (reply : Reply) : Type 0 where
+  pub sent_is : sent ≡ sent_at s (request ∷ [])
+  pub answered : Answered (request ∷ []) s t taken (reply ∷ [])
+
+-- the same, where the channel stands behind it and may be called again, and the reply is such a one
+pub record Replies (request : Request) (s : Site) (x : ClientChannel) (sent taken : List ℕ) (P : Reply → Type 0) : Type 0 where
+  pub behind : Site
+  pub at : At x behind
+  pub settled : IsSettled behind
+  pub reply : Reply
+  pub replied : IsReplied request s behind sent taken reply
+  pub says : P reply
+
+-- what becomes of a request that is called there by itself: the reply, or a fault of the call
+abbrev pub CallsOneAt : Request → Site → Connection → List ℕ → List ℕ → Result Reply ClientFault → Type 0
+CallsOneAt request s new sent taken (Ok found) = Replies request s (channel_of new) sent taken (is_reply found)
+CallsOneAt request s new sent taken (Err f) = BreaksAt (request ∷ []) s new sent taken f
+
+-- what becomes of a service whose request is called there by itself: a reply by which it did not fail, and what that brings; the code
+-- of one by which it failed; or a fault of the call
+abbrev pub ServesAt : {A : Type 0} → Request → (A → Reply → Type 0) → Site → Connection → List ℕ → List ℕ → Result A ClientFault → Type 0
+ServesAt request brings s new sent taken (Ok found) = Replies request s (channel_of new) sent taken (λ reply. (reply_failure reply ≡ None) × brings found reply)
+ServesAt request brings s new sent taken (Err (fault.Service code)) = Replies request s (channel_of new) sent taken (λ reply. reply_failure reply ≡ Some code)
+ServesAt request brings s new sent taken (Err f) = BreaksAt (request ∷ []) s new sent taken f
+
+-- ---- both services
+
+-- CreateSession, asked there, brought a token; of what was sent and taken behind that, where the client then stood, this holds
+pub record BehindCreating (url : Option (List ℕ)) (moment : DateTime) (s : Site) (sent taken : List ℕ) (P : NodeId → Site → List ℕ → List ℕ → Type 0) : Type 0 where
+  pub token : NodeId
+  pub between : Site
+  pub channel : ClientChannel
+  pub at : At channel between
+  pub settled : IsSettled between
+  pub reply : Reply
+  pub sent_before : List ℕ
+  pub sent_then : List ℕ
+  pub sent_parts : sent ≡ sent_before ++ sent_then
+  pub taken_before : List ℕ
+  pub taken_then : List ℕ
+  pub taken_parts : taken ≡ taken_before ++ taken_then
+  pub created : IsReplied (creating_at url moment s) s between sent_before taken_before reply
+  pub good : reply_failure reply ≡ None
+  pub brought : brings_token token reply
+  pub further : P token between sent_then taken_then
+
+-- what becomes of ActivateSession behind CreateSession, asked there
+abbrev pub ActivatesBehind : Option (List ℕ) → DateTime → Site → Connection → List ℕ → List ℕ → (NodeId → Type 0) → Result (Unit {0}) ClientFault → Type 0
+ActivatesBehind url moment s new sent taken P result =
+    BehindCreating url moment s sent taken (λ token t sent_then taken_then. P token × ServesAt (activating_at token moment t) brings_any t new sent_then taken_then result)
+
+-- what becomes of a session that is begun there: both services are done, and the first brought this token; or one of them was not, by
+-- this fault, and it was the first, or the second behind the first
+abbrev pub BeginsAt : Option (List ℕ) → DateTime → Site → Connection → List ℕ → List ℕ → Result NodeId ClientFault → Type 0
+BeginsAt url moment s new sent taken (Ok token) = ActivatesBehind url moment s new sent taken (λ given. given ≡ token) (Ok tt)
+BeginsAt url moment s new sent taken (Err f) =
+    ServesAt (creating_at url moment s) brings_token s new sent taken (Err f) ⊎ ActivatesBehind url moment s new sent taken (λ given. Unit {0}) (Err f)
+
+-- what was done over a line, by what that is to come to where the client stands and may be called, with so many reads left before and
+-- after
+pub record Does {A : Type 0} (P : Site → List ℕ → List ℕ → Type 0) (old new : Connection) (before after : Option Traffic) (reads left : ℕ) (result : Result A ClientFault) : Type 0 where
+  pub sent : List ℕ
+  pub moves : Moves old new sent before after
+  pub same : SameClient (channel_of old) (channel_of new)
+  pub answers : (s : Site) → At (channel_of old) s → IsSettled s → P s sent moves.taken
+  pub stops : StopsAt reads left moves.got new after result
+
+-- a session is begun at this moment over a line
+abbrev pub BeginsSession : DateTime → Connection → Connection → Option Traffic → Option Traffic → Result NodeId ClientFault → Type 0
+BeginsSession moment old new before after result =
+    Does (λ s sent taken. BeginsAt (url_of (channel_of old)) moment s new sent taken result) old new before after most_reads most_reads result

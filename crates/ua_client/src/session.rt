@@ -1,0 +1,191 @@
+//! The beginning of a session over a line.
+
+ghost use Rattle.std.specs.Prelude.{◌≡◌, None, IfOk, IfErr};
+ghost use Rattle.ua_channel.specs.Client.{url_of};
+ghost use Rattle.ua_client.specs.Hearing.{channel_of, failures_behind};
+ghost use Rattle.ua_client.specs.Session.{BeginsSession, CallsOneAt, Does, IsFailure, LacksToken, ServesAt, activating_at, brings_any, brings_token, creating_at, is_reply, reply_failure, response_failure};
+ghost use Rattle.ua_client.specs.Site.{Site, At};
+
+use crate::connection::Connection;
+use crate::fault::ClientFault;
+use crate::reply::{Reply, only_reply};
+use std::alloc::{AllocError, Global};
+use std::slice;
+use ua_builtin::{DateTime, NodeId, StatusCode};
+use ua_channel::Line;
+use ua_requests::{activate_session_request, create_session_request};
+use ua_services::{Request, Response, ResponseKind};
+
+/// Why the service that a response answers failed, if it did.
+fn failure_of(response: &Response) -> Option<StatusCode>
+    ensures { result ≡ response_failure response.now }
+{
+    let code = response.header().service_result;
+    if matches!(response.kind(), ResponseKind::ServiceFault) || code.is_bad() {
+        return Some(code);
+    }
+    None
+}
+
+/// A reply, unless the service failed.
+fn judge_reply(reply: Reply) -> Result<Reply, ClientFault>
+    ensures good { IfOk result (λ r. (r ≡ reply) × (reply_failure reply ≡ None)) }
+    ensures bad { IfErr result (λ fault. IsFailure reply fault) }
+{
+    let failure = match &reply {
+        Reply::Response(response) => failure_of(response),
+        Reply::Aborted(code) => Some(*code),
+    };
+    match failure {
+        Some(code) => {
+            drop(reply);
+            Err(ClientFault::Service(code))
+        }
+        None => Ok(reply),
+    }
+}
+
+/// The token in a reply to CreateSession.
+fn token_of(reply: Reply) -> Result<NodeId, ClientFault>
+    ensures token { IfOk result (λ token. brings_token token reply) }
+    ensures fault { IfErr result (λ fault. LacksToken reply fault) }
+{
+    match reply {
+        Reply::Response(Response::CreateSession(message)) => Ok(message.authentication_token),
+        other => {
+            drop(other);
+            Err(ClientFault::UnknownResponse)
+        }
+    }
+}
+
+impl Connection {
+    /// The reply to a request that is called by itself.
+    fn call_one<L: Line>(
+        &mut self,
+        alloc: Global,
+        line: &mut L,
+        reads: &mut u64,
+        request: &Request,
+        moment: DateTime,
+    ) -> Result<Reply, ClientFault>
+        ensures calls { Does (λ s sent taken. CallsOneAt request.now s self.new sent taken result) self.old self.new (L.traffic line.old) (L.traffic line.new) reads.old reads.new result }
+        ensures failed { L.failures line.new ≡ failures_behind (L.failures line.old) result }
+    {
+        let mut replies = Vec::new(alloc);
+        let group = slice::from_ref(request);
+        match self.call_group(alloc, line, reads, group, moment, &mut replies) {
+            Ok(()) => Ok(only_reply(replies)),
+            Err(fault) => {
+                drop(replies);
+                Err(fault)
+            }
+        }
+    }
+
+    /// The reply to a request that is called by itself, unless the service failed.
+    fn serve<L: Line>(
+        &mut self,
+        alloc: Global,
+        line: &mut L,
+        reads: &mut u64,
+        request: Request,
+        moment: DateTime,
+    ) -> Result<Reply, ClientFault>
+        ensures serves { Does (λ s sent taken. ServesAt request is_reply s self.new sent taken result) self.old self.new (L.traffic line.old) (L.traffic line.new) reads.old reads.new result }
+        ensures failed { L.failures line.new ≡ failures_behind (L.failures line.old) result }
+    {
+        let replied = self.call_one(alloc, line, reads, &request, moment);
+        drop(request);
+        match replied {
+            Ok(reply) => judge_reply(reply),
+            Err(fault) => Err(fault),
+        }
+    }
+
+    /// The CreateSession that would be asked next.
+    fn creating(&self, alloc: Global, moment: DateTime) -> Result<Request, AllocError>
+        ensures { (s : Site) → At (channel_of self.now) s → IfOk result (λ r. r ≡ creating_at (url_of (channel_of self.now)) moment s) }
+    {
+        let url = self.channel.url().try_clone()?;
+        create_session_request(alloc, url, moment, self.channel.next_id())
+    }
+
+    /// The ActivateSession under a token that would be asked next.
+    fn activating(
+        &self,
+        alloc: Global,
+        token: &NodeId,
+        moment: DateTime,
+    ) -> Result<Request, AllocError>
+        ensures { (s : Site) → At (channel_of self.now) s → IfOk result (λ r. r ≡ activating_at token.now moment s) }
+    {
+        let token = token.try_clone()?;
+        activate_session_request(alloc, token, moment, self.channel.next_id())
+    }
+
+    /// Asks CreateSession, and answers the token of the session.
+    fn create_session<L: Line>(
+        &mut self,
+        alloc: Global,
+        line: &mut L,
+        reads: &mut u64,
+        moment: DateTime,
+    ) -> Result<NodeId, ClientFault>
+        ensures creates { Does (λ s sent taken. ServesAt (creating_at (url_of (channel_of self.old)) moment s) brings_token s self.new sent taken result) self.old self.new (L.traffic line.old) (L.traffic line.new) reads.old reads.new result }
+        ensures failed { L.failures line.new ≡ failures_behind (L.failures line.old) result }
+    {
+        let Ok(request) = self.creating(alloc, moment) else {
+            return Err(ClientFault::OutOfMemory);
+        };
+        match self.serve(alloc, line, reads, request, moment) {
+            Ok(reply) => token_of(reply),
+            Err(fault) => Err(fault),
+        }
+    }
+
+    /// Asks ActivateSession under the token of a session.
+    fn activate_session<L: Line>(
+        &mut self,
+        alloc: Global,
+        line: &mut L,
+        reads: &mut u64,
+        token: &NodeId,
+        moment: DateTime,
+    ) -> Result<(), ClientFault>
+        ensures activates { Does (λ s sent taken. ServesAt (activating_at token.now moment s) brings_any s self.new sent taken result) self.old self.new (L.traffic line.old) (L.traffic line.new) reads.old reads.new result }
+        ensures failed { L.failures line.new ≡ failures_behind (L.failures line.old) result }
+    {
+        let Ok(request) = self.activating(alloc, token, moment) else {
+            return Err(ClientFault::OutOfMemory);
+        };
+        match self.serve(alloc, line, reads, request, moment) {
+            Ok(reply) => {
+                drop(reply);
+                Ok(())
+            }
+            Err(fault) => Err(fault),
+        }
+    }
+
+    /// Begins a session: CreateSession, and behind a good response ActivateSession under its token.
+    pub fn begin_session<L: Line>(
+        &mut self,
+        alloc: Global,
+        line: &mut L,
+        moment: DateTime,
+    ) -> Result<NodeId, ClientFault>
+        ensures begins { BeginsSession moment self.old self.new (L.traffic line.old) (L.traffic line.new) result }
+        ensures failed { L.failures line.new ≡ failures_behind (L.failures line.old) result }
+    {
+        let mut reads = u64::MAX;
+        let token = match self.create_session(alloc, line, &mut reads, moment) {
+            Ok(token) => token,
+            Err(fault) => return Err(fault),
+        };
+        match self.activate_session(alloc, line, &mut reads, &token, moment) {
+            Ok(()) => Ok(token),
+            Err(fault) => Err(fault),
+        }
+    }
+}
