@@ -129,11 +129,11 @@ hello_fits h e = subst (λ (g : Hello). IsTrue (hello.encodable g)) (sym e) url_
 
 -- ---- what the server reads
 
-two_frames : (f g : Frame) → frame_octets f ++ frame_octets g ≡ frames_octets (f ∷ (g ∷ []))
+pub two_frames : (f g : Frame) → frame_octets f ++ frame_octets g ≡ frames_octets (f ∷ (g ∷ []))
 unfolding frames_octets
 two_frames f g = ap (λ (o : List ℕ). frame_octets f ++ o) (sym (append-nil (frame_octets g)))
 
-none_asked : (moment : DateTime) → asking_frames moment [] ≡ hello_frame greeting ∷ (first_open moment ∷ [])
+pub none_asked : (moment : DateTime) → asking_frames moment [] ≡ hello_frame greeting ∷ (first_open moment ∷ [])
 unfolding turns_frames each_after
 none_asked moment = refl
 

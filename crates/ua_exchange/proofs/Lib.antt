@@ -9,3 +9,10 @@ mod Pieces
 mod Serving
 mod Hearings
 mod Asked
+mod Replied
+mod Held
+mod Groups
+mod Between
+mod Opening
+mod Grouped
+mod Running

@@ -9,3 +9,4 @@ pub mod Exchanged
 pub mod Groups
 pub mod Reading
 pub mod Standing
+pub mod Between

@@ -1,5 +1,5 @@
 -- What the two ends are: those of the program `ua`.
-use Rattle.std.specs.Prelude.{ℕ, List, Some, codes}
+use Rattle.std.specs.Prelude.{ℕ, ◌+◌, ◌*◌, List, Some, codes}
 use Rattle.ua_frame.specs.Limits.{HasSizes}
 use Rattle.ua_frame.specs.declared.ack.Ack.{Ack}
 use Rattle.ua_frame.specs.declared.hello.Hello.{Hello}
@@ -47,3 +47,7 @@ agreement = record { ack = acknowledged; octets = 1048576; chunks = 256 }
 -- the server's state as the connection begins
 abbrev pub begun_over : Nodes → State
 begun_over nodes = fresh nodes endpoint
+
+-- the most octets that either end holds of what is not whole: of a frame 65535, and of 4 unfinished messages 1048576 each
+abbrev pub most_held : ℕ
+most_held = 65535 + 4 * 1048576

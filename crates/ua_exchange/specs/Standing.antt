@@ -1,5 +1,6 @@
 -- Where the two ends stand on their way.
 use Rattle.std.specs.Prelude.{◌≡◌, ℕ, ◌+◌, ◌<◌, ◌≤◌, length, take, IsTrue, List, [], ◌∷◌, ◌++◌, Option, Some, None, Result, Ok, Err}
+use Rattle.std.specs.List.{concat}
 use Rattle.ua_builtin.specs.DateTime.{date_time}
 use Rattle.ua_builtin.specs.declared.date_time.DateTime.{DateTime}
 use Rattle.ua_frame.specs.Frames.{frame_octets, frames_octets}
@@ -12,6 +13,7 @@ use Rattle.ua_channel.specs.ClientSends.{hello_frame}
 use Rattle.ua_channel.specs.ClientTold.{Told as Heard}
 use Rattle.ua_chunk.specs.Gathered.{after_last}
 use Rattle.ua_services.specs.Request.{request}
+use Rattle.ua_services.specs.Response.{response_read}
 use Rattle.ua_services.specs.declared.request.Request.{Request as Message}
 use Rattle.ua_channel.specs.ServerStands.{limits_of, channel_of, RefusedAt}
 use Rattle.ua_channel.specs.ServerStands.{ClosedAt}
@@ -30,12 +32,15 @@ use Rattle.ua_server.specs.declared.step.End.TheVariants as ending
 use Rattle.ua_exchange.specs.Accepted.{IsAccepted, tokens_held, turn_refusal}
 use Rattle.ua_exchange.specs.Programs.{AreOurs, channel, greeting}
 use Rattle.ua_exchange.specs.Groups.{AreCalls}
-use Rattle.ua_exchange.specs.Reading.{Hearing, said_to}
+use Rattle.ua_exchange.specs.Reading.{Hearing, all_heard, said_to}
 use Rattle.ua_exchange.specs.Turns.{asking_frames, is_call, number_behind, up_octets}
 use Rattle.ua_exchange.specs.declared.client_end.ClientEnd.{ClientEnd}
 use Rattle.ua_exchange.specs.declared.fault.PairFault.{PairFault}
 use Rattle.ua_exchange.specs.declared.fault.PairFault.TheVariants.{Request, NotWritable, OutOfMemory}
 use Rattle.ua_exchange.specs.declared.server_end.ServerEnd.{ServerEnd}
+use Rattle.ua_exchange.specs.Replies.{reply_behind, reply_read}
+use Rattle.ua_exchange.specs.declared.reply.Reply.{Reply}
+use Rattle.ua_exchange.specs.declared.reply.Reply.TheVariants as reply
 use Rattle.ua_exchange.specs.declared.turn.Turn.{Turn}
 use Rattle.ua_exchange.specs.declared.turn.Turn.TheVariants.{Ask, Renew}
 
@@ -186,3 +191,39 @@ HasClosed (Err fault) e moment turns = fault ≡ OutOfMemory
 
 pub record SaysClose (moment : DateTime) (result : Result (Unit {0}) PairFault) (old new : ClientEnd) : Type 0 where
   pub closes : (first : State) (asks : List Placed) (turns : List Turn) → Speaks old first moment asks turns [] → HasClosed result new moment turns
+
+-- ---- replies
+
+-- a client that was told of the turns up to these, of those that it asked, by a front of what the server said of them
+pub record Collects (e : ClientEnd) (first : State) (moment : DateTime) (asks : List Placed) (turns done : List Turn) (down : List ℕ) : Type 0 where
+  pub ours : AreOurs (client_limits e.channel)
+  pub hearing : Hearing (client_limits e.channel) first moment asks turns []
+  pub down_is : down ≡ said_to first moment turns
+  pub hears : Hears e asks (take e.taken down) (all_heard first moment done)
+  pub next_is : next_of e.channel ≡ number_behind turns
+  pub said_is : e.said.items ≡ frames_octets (asking_frames moment turns)
+
+-- an event brings this reply: that of the message that came, or that it was given up with this code
+abbrev pub Brings : Option ClientEvent → Reply → Type 0
+Brings (Some (event.Answered id message)) r = reply_read (response_read (concat message)) ≡ Some r
+Brings (Some (event.Aborted id code)) r = r ≡ reply.Aborted code
+Brings other r = ⊥
+
+-- an event brings this token of a renewal
+abbrev pub BringsToken : Option ClientEvent → ℕ → Type 0
+BringsToken (Some (event.Renewed t)) token = t ≡ token
+BringsToken other token = ⊥
+
+-- a reply, if there is one
+abbrev pub listed : Option Reply → List (Option Reply)
+listed None = []
+listed (Some r) = Some r ∷ []
+
+-- what became of one turn more: its reply is the one that is due
+abbrev pub HasReply : Result (Option Reply) PairFault → ClientEnd → State → DateTime → List Placed → List Turn → List Turn → Turn → List ℕ → Type 0
+HasReply (Ok found) e first moment asks turns done t down = Collects e first moment asks turns (done ++ t ∷ []) down × (listed found ≡ reply_behind first moment done t)
+HasReply (Err fault) e first moment asks turns done t down = fault ≡ OutOfMemory
+
+pub record RepliesTo (moment : DateTime) (t : Turn) (result : Result (Option Reply) PairFault) (old new : ClientEnd) (down : List ℕ) : Type 0 where
+  pub replies : (first : State) (asks : List Placed) (turns done later : List Turn) → turns ≡ done ++ t ∷ later → Collects old first moment asks turns done down
+      → HasReply result new first moment asks turns done t down

@@ -1,19 +1,25 @@
 //! The client's end of an exchange.
 
-ghost use Rattle.std.specs.Prelude.{◌≡◌, ◌<◌, ◌++◌, false, length, IsTrue, IfOk, OnOk, IfErr, IsErrOf};
+ghost use Rattle.std.specs.Prelude.{◌≡◌, ◌<◌, ◌++◌, Some, false, length, IsTrue, IfOk, OnOk, IfErr, IsErrOf};
+ghost use Rattle.std.specs.List.{concat};
+ghost use Rattle.ua_services.specs.Response.{response_read};
+ghost use Rattle.ua_exchange.specs.Replies.{reply_read};
 ghost use Rattle.ua_octets.specs.declared.fault.WriteFault.TheVariants.{NotWritable};
 ghost use Rattle.ua_services.specs.Request.{request};
-ghost use Rattle.ua_exchange.specs.Standing.{AsksCall, AsksNext, Greets, HearsEvent, RenewsNext, SaysClose};
+ghost use Rattle.ua_exchange.specs.Standing.{AsksCall, AsksNext, Brings, BringsToken, Greets, HearsEvent, RenewsNext, RepliesTo, SaysClose};
 ghost use Rattle.ua_exchange.specs.declared.turn.Turn.TheVariants.{Ask};
 ghost use Rattle.ua_exchange.specs.declared.fault.PairFault.TheVariants.{OutOfMemory};
 
 use crate::cuts::Cuts;
 use crate::fault::PairFault;
 use crate::programs::{limits, url};
+use crate::reply::Reply;
+use crate::turn::Turn;
 use std::alloc::{AllocError, Global};
 use ua_builtin::{DateTime, WriteFault};
 use ua_channel::{AskFault, ClientChannel, ClientEvent};
-use ua_services::{Request, write_request};
+use ua_chunk::Message;
+use ua_services::{Request, read_response, write_request};
 
 /// The encoding of a request.
 #[tactic(auto, using(crate::proofs::Asking::request_takes_some))]
@@ -27,6 +33,21 @@ fn encode(alloc: Global, message: &Request) -> Result<Vec<u8>, WriteFault>
     match write_request(message, &mut body) {
         Ok(()) => Ok(body),
         Err(fault) => Err(fault),
+    }
+}
+
+/// The token that an event brings.
+fn token_in(event: Option<ClientEvent>) -> Result<u32, PairFault>
+    ensures brought { IfOk result (λ token. BringsToken event token) }
+    ensures failed { IfErr result (λ fault. fault ≡ OutOfMemory) }
+{
+    match event {
+        Some(ClientEvent::Renewed(token)) => Ok(token),
+        // Never where a renewal waits: `the-event` of proofs/Replied.antt.
+        other => {
+            drop(other);
+            Err(PairFault::OutOfMemory)
+        }
     }
 }
 
@@ -135,6 +156,57 @@ impl ClientEnd {
         match self.channel.close(moment) {
             Ok(octets) => self.say(&octets),
             Err(_) => Err(PairFault::OutOfMemory),
+        }
+    }
+
+    // ---- what becomes of turns
+
+    /// The reply of a message.
+    #[tactic(auto, using(crate::proofs::Replied::read_so))]
+    fn read_reply(&self, message: Message) -> Result<Reply, PairFault>
+        ensures read { IfOk result (λ r. reply_read (response_read (concat message)) ≡ Some r) }
+        ensures failed { IfErr result (λ fault. fault ≡ OutOfMemory) }
+    {
+        match read_response(self.alloc, &mut message.source()) {
+            Ok(response) => Ok(Reply::Response(response)),
+            // A response of the server reads, but for memory.
+            Err(_) => Err(PairFault::OutOfMemory),
+        }
+    }
+
+    /// The reply that an event brings.
+    fn reply_in(&self, event: Option<ClientEvent>) -> Result<Reply, PairFault>
+        ensures brought { IfOk result (λ r. Brings event r) }
+        ensures failed { IfErr result (λ fault. fault ≡ OutOfMemory) }
+    {
+        match event {
+            Some(ClientEvent::Answered(_, message)) => self.read_reply(message),
+            Some(ClientEvent::Aborted(_, code)) => Ok(Reply::Aborted(code)),
+            // Never where a request waits: `the-event` of proofs/Replied.antt.
+            other => {
+                drop(other);
+                Err(PairFault::OutOfMemory)
+            }
+        }
+    }
+
+    /// What became of a turn: the reply to a request, nothing of a renewal.
+    pub fn reply_to(
+        &mut self,
+        turn: &Turn,
+        down: &[u8],
+        cuts: &mut Cuts,
+        moment: DateTime,
+    ) -> Result<Option<Reply>, PairFault>
+        ensures { RepliesTo moment turn.now result self.old self.new down.now }
+    {
+        let event = self.next_event(down, cuts, moment)?;
+        match turn {
+            Turn::Ask(_) => Ok(Some(self.reply_in(event)?)),
+            Turn::Renew => {
+                token_in(event)?;
+                Ok(None)
+            }
         }
     }
 }

@@ -1,20 +1,29 @@
-//! Laws of what two ends say to each other. Each is the contract of a function that does nothing.
+//! Laws of what two ends say to each other, and of what each holds meanwhile. Each is the contract of
+//! a function that does nothing, or only looks.
 
-ghost use Rattle.std.specs.Prelude.{IsTrue, List, [], ◌++◌};
+ghost use Rattle.std.specs.Prelude.{ℕ, ◌≤◌, IsTrue, List, [], ◌++◌};
 ghost use Rattle.ua_builtin.specs.DateTime.{date_time};
 ghost use Rattle.ua_builtin.specs.declared.date_time.DateTime.{DateTime};
 ghost use Rattle.ua_frame.specs.declared.limits.Limits.{Limits};
-ghost use Rattle.ua_channel.specs.ServerReads.{ServerCloses};
+ghost use Rattle.ua_frame.specs.declared.frame.Frame.{Frame};
 ghost use Rattle.ua_frame.specs.After.{AllFrom};
 ghost use Rattle.ua_channel.specs.Asks.{Placed};
+ghost use Rattle.ua_channel.specs.Client.{Stands as ClientStands, bound_behind, held_octets, limits_of as client_limits};
+ghost use Rattle.ua_channel.specs.Received.{received};
+ghost use Rattle.ua_channel.specs.ServerReads.{ServerCloses};
+ghost use Rattle.ua_channel.specs.ServerStands.{Stands as ServerStands, bound_after, held_after, limits_of as server_limits};
+ghost use Rattle.ua_server.specs.Served.{channel_in};
 ghost use Rattle.ua_server.specs.State.{State};
 ghost use Rattle.ua_exchange.specs.Accepted.{AreAccepted, IsAccepted};
 ghost use Rattle.ua_exchange.specs.Groups.{EndsAtRenewal};
 ghost use Rattle.ua_exchange.specs.Reading.{Hearing};
 ghost use Rattle.ua_exchange.specs.Handed.{all_told};
-ghost use Rattle.ua_exchange.specs.Programs.{AreOurs, channel};
+ghost use Rattle.ua_exchange.specs.Programs.{AreOurs, channel, most_held};
 ghost use Rattle.ua_exchange.specs.Turns.{up_octets};
 ghost use Rattle.ua_exchange.specs.declared.turn.Turn.{Turn};
+
+use ua_channel::ClientChannel;
+use ua_server::Server;
 
 /// A server reads what a client says of turns that are accepted: no frame of it is refused, and it is
 /// told of just these turns, in their order.
@@ -30,3 +39,25 @@ pub fn answers_reach_the_client()
     ensures group { (limits : Limits) (first : State) (moment : DateTime) (asks : List Placed) (answered waiting : List Turn) → AreOurs limits → IsTrue (date_time.encodable moment)
         → Hearing limits first moment asks answered waiting → EndsAtRenewal waiting → AllFrom IsAccepted answered waiting → Hearing limits first moment asks (answered ++ waiting) [] }
 {}
+
+/// A server never holds more than was agreed, whatever came and in whatever pieces, so at each front
+/// of what a client says of its turns; with the limits of the program that is at most 4259839 octets.
+/// Once its connection ended it holds nothing, as [`Server::held`] says.
+pub fn server_holds_at_most(server: &Server)
+    ensures agreed { (octets : List ℕ) (frames : List Frame) (rest : List ℕ) → ServerStands (channel_in server.now) octets frames rest
+        → held_after (received frames) rest ≤ bound_after (server_limits (channel_in server.now)) (received frames) }
+    ensures most { (octets : List ℕ) (frames : List Frame) (rest : List ℕ) → AreOurs (server_limits (channel_in server.now)) → ServerStands (channel_in server.now) octets frames rest
+        → bound_after (server_limits (channel_in server.now)) (received frames) ≤ most_held }
+{
+    let _held = server.held();
+}
+
+/// The same of a client, at each front of what a server says to it, and whatever else came.
+pub fn client_holds_at_most(client: &ClientChannel)
+    ensures agreed { (asks : List Placed) (octets : List ℕ) (frames : List Frame) (rest : List ℕ) → ClientStands client.now asks octets frames rest
+        → held_octets frames rest ≤ bound_behind (client_limits client.now) (received frames).ack }
+    ensures most { (asks : List Placed) (octets : List ℕ) (frames : List Frame) (rest : List ℕ) → AreOurs (client_limits client.now) → ClientStands client.now asks octets frames rest
+        → bound_behind (client_limits client.now) (received frames).ack ≤ most_held }
+{
+    let _held = client.held();
+}

@@ -1,20 +1,25 @@
 //! Both ends of a connection over memory: what a client of the program `ua` asks, and what comes of
 //! it.
 //!
-//! Its contract is that of the `laws`: what a client says of turns that are accepted is read by a
-//! server, which is told of just these turns, in their order; and what the server says of them is read
-//! by the client, each reply under its own request id.
+//! Its contract is that of `exchange`: what went over the line each way, the reply to each request and
+//! the end, or the first turn that is not accepted. And that of the `laws`: what a client says of turns
+//! that are accepted is read by a server, which is told of just these turns, in their order; and what
+//! the server says of them is read by the client, each reply under its own request id.
 #![tactic(auto)]
 
 mod client_end;
 mod cuts;
+mod ends;
 mod fault;
 pub mod laws;
 mod programs;
 mod reply;
 mod server_end;
+mod transcript;
 mod turn;
 
+pub use ends::exchange;
 pub use fault::PairFault;
 pub use reply::Reply;
+pub use transcript::Transcript;
 pub use turn::Turn;

@@ -1,11 +1,12 @@
 //! What the two ends are: those of the program `ua`.
 
 ghost use Rattle.std.specs.Prelude.{◌≡◌, Some, IfOk};
-ghost use Rattle.ua_exchange.specs.Programs.{AreOurs, url as server_url};
+ghost use Rattle.ua_exchange.specs.Programs.{AreOurs, url as server_url, endpoint as server_endpoint};
 
 use std::alloc::{AllocError, Global};
 use ua_builtin::UaString;
 use ua_frame::Limits;
+use ua_server::Endpoint;
 
 /// The most octets of a frame, each way.
 const FRAME_SIZE: u32 = 65535;
@@ -31,4 +32,16 @@ pub fn url(alloc: Global) -> Result<UaString, AllocError>
     ensures { IfOk result (λ u. u ≡ Some server_url) }
 {
     UaString::from_str(alloc, URL)
+}
+
+/// What the server says of itself.
+pub fn endpoint(alloc: Global) -> Result<Endpoint, AllocError>
+    ensures { IfOk result (λ e. e ≡ server_endpoint) }
+{
+    Ok(Endpoint {
+        url: url(alloc)?,
+        application_uri: UaString::from_str(alloc, "urn:ua:server")?,
+        name: UaString::from_str(alloc, "ua")?,
+        message_limit: MESSAGE_SIZE,
+    })
 }
