@@ -1,0 +1,11 @@
+-- The definitions, in the order in which they are best read: how faults are told, what words name, the steps of a conversation, what is
+-- made of replies, the conversations, and what of them a text shows.
+pub mod Told
+pub mod FaultText
+pub mod Words
+pub mod Steps
+pub mod Replies
+pub mod Endpoints
+pub mod Question
+pub mod Session
+pub mod Printed

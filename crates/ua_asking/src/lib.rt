@@ -1,0 +1,26 @@
+//! What the commands `ua endpoints`, `ua read` and `ua write` ask a server over a line, and the lines
+//! that they add of the answers.
+//!
+//! Its contracts are those of [`endpoints_over`] and [`ask_over`]: what a client does at each step, which
+//! lines are added of the replies, and which fault is told.
+//!
+//! ```
+//! let question = Question::parse_read(alloc, &["ns=1;s=Pump"])?;
+//! ask_over(alloc, &mut line, limits, 4840, &question, &mut moments, &mut out)?;
+//! // `ns=1;s=Pump 00000000 Int32 6` is added to `out`
+//! ```
+#![tactic(auto)]
+
+mod answer;
+mod endpoints;
+mod fault;
+mod fault_name;
+mod question;
+mod session;
+mod step;
+mod words;
+
+pub use endpoints::endpoints_over;
+pub use fault::{AskFault, WordFault};
+pub use question::Question;
+pub use session::ask_over;

@@ -1,0 +1,92 @@
+//! The steps of a conversation with a server.
+
+ghost use Rattle.std.specs.Prelude.{◌≡◌, IfOk};
+ghost use Rattle.ua_client.specs.Client.{IsReady};
+ghost use Rattle.ua_asking.specs.Steps.{Begins, Calls, ClosesClient, OpensPort, first_of, told};
+
+use crate::fault::AskFault;
+use std::alloc::Global;
+use ua_builtin::{DateTime, NodeId};
+use ua_channel::{Line, Moments};
+use ua_client::{Client, ClientFault, Reply};
+use ua_frame::Limits;
+use ua_requests::local_url;
+use ua_services::Request;
+
+/// The next moment.
+pub fn next_moment<M: Moments>(moments: &mut M) -> DateTime
+    ensures { M.gives moments.old result.ticks moments.new }
+{
+    DateTime {
+        ticks: moments.next(),
+    }
+}
+
+/// What a client answers, its fault as it is told.
+fn told<A: Drop>(answer: Result<A, ClientFault>) -> Result<A, AskFault>
+    ensures { result ≡ told answer }
+{
+    match answer {
+        Ok(found) => Ok(found),
+        Err(fault) => Err(AskFault::from(fault)),
+    }
+}
+
+/// The first of two faults, if there is one.
+pub fn first_of(first: Result<(), AskFault>, second: Result<(), AskFault>) -> Result<(), AskFault>
+    ensures { result ≡ first_of first second }
+{
+    match first {
+        Ok(()) => second,
+        Err(fault) => Err(fault),
+    }
+}
+
+/// Opens a client to the server on a port of this machine.
+pub fn open<L: Line>(
+    alloc: Global,
+    line: &mut L,
+    limits: Limits,
+    port: u16,
+    moment: DateTime,
+) -> Result<Client, AskFault>
+    ensures opens { OpensPort limits port moment (L.traffic line.old) (L.traffic line.new) result }
+    ensures ready { IfOk result (λ client. IsReady client) }
+{
+    let Ok(url) = local_url(alloc, port) else {
+        return Err(AskFault::NoMemory);
+    };
+    told(Client::open(alloc, line, limits, url, moment))
+}
+
+/// Begins a session.
+pub fn begin<L: Line>(
+    line: &mut L,
+    client: &mut Client,
+    moment: DateTime,
+) -> Result<NodeId, AskFault>
+    ensures { Begins moment client.old client.new (L.traffic line.old) (L.traffic line.new) result }
+{
+    told(client.begin_session(line, moment))
+}
+
+/// Calls a request.
+pub fn call<L: Line>(
+    line: &mut L,
+    client: &mut Client,
+    request: Request,
+    moment: DateTime,
+) -> Result<Reply, AskFault>
+    ensures { Calls request client.old client.new (L.traffic line.old) (L.traffic line.new) result }
+{
+    let answer = client.call(line, &request, moment);
+    drop(request);
+    told(answer)
+}
+
+/// Closes a client, where it did not fail before.
+pub fn close<L: Line>(line: &mut L, mut client: Client, moment: DateTime) -> Result<(), AskFault>
+    ensures { ClosesClient moment client (L.traffic line.old) (L.traffic line.new) result }
+{
+    told(client.close(line, moment))
+}
