@@ -1,26 +1,29 @@
 //! The command line.
 
+use crate::commands;
 use crate::number::parse_number;
-use clap::{Arg, ArgAction, ArgMatches, Command, Error};
+use clap::{ArgMatches, Error};
 use std::alloc::{AllocError, Global};
 use std::convert::AsStr;
 use ua_pair::Side;
 
 /// What the words ask for.
-#[derive(Clone, Copy, Debug, PartialEq, Eq)]
-pub enum Request<'a> {
+#[derive(Drop)]
+pub enum Task<'a> {
     /// Print the frames and messages of a file.
     Dissect(Dissect<'a>),
     /// Serve connections, one after the other.
     Serve(Serve<'a>),
-    /// A number among the words is none from 1 to 65535.
-    NoNumber,
-    /// The words name no command.
-    Nothing,
+    /// Print the endpoints of the server on a port of this machine.
+    Endpoints(u16),
+    /// Read the values of nodes.
+    Read(ReadNodes<'a>),
+    /// Write the value of a node.
+    Write(WriteNode<'a>),
 }
 
 /// The words of `ua dissect`.
-#[derive(Clone, Copy, Debug, PartialEq, Eq)]
+#[derive(Clone, Copy)]
 pub struct Dissect<'a> {
     pub file: &'a str,
     /// Whether the file holds hexadecimal digits.
@@ -30,7 +33,7 @@ pub struct Dissect<'a> {
 }
 
 /// The words of `ua serve`.
-#[derive(Clone, Copy, Debug, PartialEq, Eq)]
+#[derive(Clone, Copy)]
 pub struct Serve<'a> {
     /// The node file.
     pub nodes: &'a str,
@@ -40,53 +43,26 @@ pub struct Serve<'a> {
     pub connections: u16,
 }
 
-fn dissect_command<'a>(alloc: Global) -> Result<Command<'a>, AllocError> {
-    let file = Arg::new(alloc, "FILE")
-        .required(true)
-        .action(ArgAction::Set)
-        .help("the file of octets");
-    let hex = Arg::new(alloc, "hex")
-        .long("hex")
-        .action(ArgAction::SetTrue)
-        .help("the file holds hexadecimal digits; white space is dropped");
-    let server = Arg::new(alloc, "server")
-        .long("server")
-        .action(ArgAction::SetTrue)
-        .help("the octets are those that a server sent");
-    Command::new(alloc, "dissect")
-        .about("prints the frames and messages of a file of octets")
-        .arg(file)?
-        .arg(hex)?
-        .arg(server)
+/// The words of `ua read`.
+#[derive(Drop)]
+pub struct ReadNodes<'a> {
+    /// A port of this machine.
+    pub port: u16,
+    /// The texts of NodeIds.
+    pub nodes: Vec<&'a str>,
 }
 
-fn serve_command<'a>(alloc: Global) -> Result<Command<'a>, AllocError> {
-    let nodes = Arg::new(alloc, "NODES")
-        .required(true)
-        .action(ArgAction::Set)
-        .help("the node file");
-    let port = Arg::new(alloc, "PORT")
-        .required(true)
-        .action(ArgAction::Set)
-        .help("a port of this machine, from 1 to 65535");
-    let connections = Arg::new(alloc, "connections")
-        .long("connections")
-        .action(ArgAction::Set)
-        .default_value("1")
-        .help("how many connections are served, from 1 to 65535");
-    Command::new(alloc, "serve")
-        .about("serves connections on a port, one after the other")
-        .arg(nodes)?
-        .arg(port)?
-        .arg(connections)
-}
-
-fn command<'a>(alloc: Global) -> Result<Command<'a>, AllocError> {
-    Command::new(alloc, "ua")
-        .about("OPC UA Binary over UA TCP")
-        .subcommand_required(true)
-        .subcommand(dissect_command(alloc)?)?
-        .subcommand(serve_command(alloc)?)
+/// The words of `ua write`.
+#[derive(Clone, Copy)]
+pub struct WriteNode<'a> {
+    /// A port of this machine.
+    pub port: u16,
+    /// The text of a NodeId.
+    pub node: &'a str,
+    /// The name of a type.
+    pub kind: &'a str,
+    /// The text of a value of that type.
+    pub value: &'a str,
 }
 
 fn side_of(matches: &ArgMatches<'_>) -> Side {
@@ -97,46 +73,61 @@ fn side_of(matches: &ArgMatches<'_>) -> Side {
     }
 }
 
-fn dissect_of<'a>(matches: &ArgMatches<'a>) -> Request<'a> {
-    match matches.get_str("FILE") {
-        Some(file) => Request::Dissect(Dissect {
-            file,
-            hex: matches.get_flag("hex"),
-            side: side_of(matches),
-        }),
-        None => Request::Nothing,
-    }
-}
-
 /// The number from 1 to 65535 that a word is.
 fn number_of(matches: &ArgMatches<'_>, name: &str) -> Option<u16> {
     parse_number(matches.get_str(name)?)
 }
 
-fn serve_of<'a>(matches: &ArgMatches<'a>) -> Request<'a> {
-    let Some(nodes) = matches.get_str("NODES") else {
-        return Request::Nothing;
-    };
-    let numbers = (
-        number_of(matches, "PORT"),
-        number_of(matches, "connections"),
-    );
-    let (Some(port), Some(connections)) = numbers else {
-        return Request::NoNumber;
-    };
-    Request::Serve(Serve {
-        nodes,
-        port,
-        connections,
-    })
+fn dissect_of<'a>(matches: &ArgMatches<'a>) -> Option<Task<'a>> {
+    Some(Task::Dissect(Dissect {
+        file: matches.get_str("FILE")?,
+        hex: matches.get_flag("hex"),
+        side: side_of(matches),
+    }))
 }
 
-/// What the words ask for, of which the first is the program's name.
-pub(crate) fn parse<'a, S: AsStr>(alloc: Global, words: &'a [S]) -> Result<Request<'a>, Error> {
-    let matches = command(alloc)?.try_get_matches_from(words)?;
-    match matches.subcommand() {
-        Some(("dissect", found)) => Ok(dissect_of(found)),
-        Some(("serve", found)) => Ok(serve_of(found)),
-        _ => Ok(Request::Nothing),
-    }
+fn serve_of<'a>(matches: &ArgMatches<'a>) -> Option<Task<'a>> {
+    Some(Task::Serve(Serve {
+        nodes: matches.get_str("NODES")?,
+        port: number_of(matches, "PORT")?,
+        connections: number_of(matches, "connections")?,
+    }))
+}
+
+fn read_of<'a>(alloc: Global, matches: &ArgMatches<'a>) -> Result<Option<Task<'a>>, AllocError> {
+    let Some(port) = number_of(matches, "PORT") else {
+        return Ok(None);
+    };
+    let nodes = matches.get_strs("NODE").unwrap_or(&[]).to_vec(alloc)?;
+    Ok(Some(Task::Read(ReadNodes { port, nodes })))
+}
+
+fn write_of<'a>(matches: &ArgMatches<'a>) -> Option<Task<'a>> {
+    Some(Task::Write(WriteNode {
+        port: number_of(matches, "PORT")?,
+        node: matches.get_str("NODE")?,
+        kind: matches.get_str("TYPE")?,
+        value: matches.get_str("VALUE")?,
+    }))
+}
+
+fn endpoints_of<'a>(matches: &ArgMatches<'a>) -> Option<Task<'a>> {
+    Some(Task::Endpoints(number_of(matches, "PORT")?))
+}
+
+/// What the words ask for, of which the first is the program's name; nothing where a number among
+/// them is none from 1 to 65535.
+pub(crate) fn parse<'a, S: AsStr>(
+    alloc: Global,
+    words: &'a [S],
+) -> Result<Option<Task<'a>>, Error> {
+    let matches = commands::program(alloc)?.try_get_matches_from(words)?;
+    Ok(match matches.subcommand() {
+        Some(("dissect", found)) => dissect_of(found),
+        Some(("serve", found)) => serve_of(found),
+        Some(("endpoints", found)) => endpoints_of(found),
+        Some(("read", found)) => read_of(alloc, found)?,
+        Some(("write", found)) => write_of(found),
+        _ => None,
+    })
 }

@@ -2,6 +2,7 @@
 
 use std::alloc::AllocError;
 use thiserror::Error;
+use ua_asking::{AskFault, WordFault};
 use ua_nodes::LineReason;
 
 /// Why a command stopped; its text stands behind `ua: ` on standard error.
@@ -17,6 +18,15 @@ pub enum Fault<'a> {
     /// A port cannot be listened on, or gives no connection.
     #[error("cannot listen")]
     CannotListen,
+    /// A port takes no connection.
+    #[error("cannot connect")]
+    CannotConnect,
+    /// Words ask for nothing, and why.
+    #[error("{0}")]
+    Words(WordFault),
+    /// A server gave no answers, and why.
+    #[error("{0}")]
+    Asking(AskFault),
     #[error("no memory")]
     NoMemory,
 }

@@ -3,9 +3,17 @@
 #![tactic(auto)]
 
 mod arguments;
+mod ask;
+#[cfg(test)]
+mod ask_tests;
+#[cfg(test)]
+mod client_tests;
 mod clock_moments;
+mod commands;
 mod dissect;
 mod fault;
+#[cfg(test)]
+mod fixture;
 mod input;
 #[cfg(test)]
 mod lines_tests;

@@ -1,6 +1,6 @@
 //! What is printed as a command goes on.
 
-ghost use Rattle.std.specs.Prelude.{◌≡◌, IfErr, OnOk};
+ghost use Rattle.std.specs.Prelude.{◌≡◌, [], IfErr, OnOk};
 ghost use Rattle.std.specs.Io.KnownBytes.{Appends};
 ghost use Rattle.ua_cli.specs.declared.output.Stop.TheVariants.{Output};
 
@@ -8,6 +8,7 @@ use crate::fault::Fault;
 use std::alloc::AllocError;
 use std::io;
 use std::io::Write;
+use ua_asking::{AskFault, WordFault};
 
 /// Why a command stops.
 #[derive(Clone, Copy, PartialEq, Eq, Debug)]
@@ -41,6 +42,30 @@ impl From<AllocError> for Stop<'_> {
     }
 }
 
+impl From<WordFault> for Stop<'_> {
+    ghost use Rattle.std.specs.Prelude.{◌≡◌};
+    ghost use Rattle.ua_cli.specs.declared.fault.Fault.TheVariants.{Words};
+    ghost use Rattle.ua_cli.specs.declared.output.Stop.TheVariants as stop;
+
+    ghost from_gives = { λ fault stopped. stopped ≡ stop.Fault (Words fault) };
+
+    fn from(fault: WordFault) -> Self {
+        Stop::Fault(Fault::Words(fault))
+    }
+}
+
+impl From<AskFault> for Stop<'_> {
+    ghost use Rattle.std.specs.Prelude.{◌≡◌};
+    ghost use Rattle.ua_cli.specs.declared.fault.Fault.TheVariants.{Asking};
+    ghost use Rattle.ua_cli.specs.declared.output.Stop.TheVariants as stop;
+
+    ghost from_gives = { λ fault stopped. stopped ≡ stop.Fault (Asking fault) };
+
+    fn from(fault: AskFault) -> Self {
+        Stop::Fault(Fault::Asking(fault))
+    }
+}
+
 /// Prints a text, whole.
 pub fn say<'a, O: Write>(out: &mut O, text: &str) -> Result<(), Stop<'a>>
     ensures said { OnOk result (Appends (O.contents out.old) (O.contents out.new) text.now) }
@@ -50,6 +75,18 @@ pub fn say<'a, O: Write>(out: &mut O, text: &str) -> Result<(), Stop<'a>>
         Ok(()) => Ok(()),
         Err(_) => Err(Stop::Output),
     }
+}
+
+/// Prints lines, and leaves the writer alone where there are none.
+pub fn say_lines<'a, O: Write>(out: &mut O, lines: &str) -> Result<(), Stop<'a>>
+    ensures said { OnOk result (Appends (O.contents out.old) (O.contents out.new) lines.now) }
+    ensures none { lines.now ≡ [] → out.new ≡ out.old }
+    ensures failed { IfErr result (λ stop. stop ≡ Output) }
+{
+    if lines.is_empty() {
+        return Ok(());
+    }
+    say(out, lines)
 }
 
 /// Writes a text and flushes it.

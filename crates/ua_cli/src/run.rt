@@ -4,10 +4,11 @@ ghost use Rattle.std.specs.Prelude.{◌≡◌, ◌≤◌, ◌≢◌, ◌⊎◌, 
 ghost use Rattle.std.specs.Io.KnownBytes.{Appends};
 ghost use Rattle.std.specs.IoError.{error_kind};
 ghost use Rattle.std.specs.declared.io.ErrorKind.TheVariants.{OutOfMemory};
-ghost use Rattle.ua_cli.specs.Printed.{HasBegunServing, HasDissected, HasPrinted};
+ghost use Rattle.ua_cli.specs.Printed.{HasBegun, HasDissected, HasPrinted};
 ghost use Rattle.ua_cli.specs.declared.output.Stop.TheVariants.{Output};
 
-use crate::arguments::{self, Dissect, Request};
+use crate::arguments::{self, Dissect, Task};
+use crate::ask::{endpoints, read, write};
 use crate::dissect::dissect_content;
 use crate::fault::Fault;
 use crate::input::read_file;
@@ -34,22 +35,35 @@ pub fn run<S: AsStr, R: Files + Net + Clock + AllocGlobal, O: Write, E: Write>(
     ensures done { result ≡ 0 → HasPrinted (O.contents out.old) (O.contents out.new) }
     ensures silent { result ≡ 0 → err.new ≡ err.old }
     ensures refused { result ≡ 2 → out.new ≡ out.old }
-    ensures streams { (out.new ≡ out.old) ⊎ (err.new ≡ err.old) ⊎ HasBegunServing (O.contents out.old) (O.contents out.new) }
+    ensures streams { (out.new ≡ out.old) ⊎ (err.new ≡ err.old) ⊎ HasBegun (O.contents out.old) (O.contents out.new) }
 {
-    let asked = match arguments::parse(rt.alloc(), words) {
-        Ok(asked) => asked,
+    let task = match arguments::parse(rt.alloc(), words) {
+        Ok(Some(task)) => task,
+        Ok(None) => return print(err, "ua: a number is not from 1 to 65535\n", 2),
         Err(error) => return refuse(rt.alloc(), &error, err),
     };
-    let done = match asked {
-        Request::Dissect(asked) => dissect(rt, &asked, out),
-        Request::Serve(asked) => serve_connections(rt, &asked, out),
-        Request::NoNumber => return print(err, "ua: a number is not from 1 to 65535\n", 2),
-        Request::Nothing => return print(err, "ua: a command is missing\n", 2),
-    };
-    match done {
+    match perform(rt, task, out) {
         Ok(()) => 0,
         Err(Stop::Fault(fault)) => tell(rt.alloc(), &fault, err),
         Err(Stop::Output) => 1,
+    }
+}
+
+/// Does what the words ask for.
+fn perform<'a, R: Files + Net + Clock + AllocGlobal, O: Write>(
+    rt: &R,
+    task: Task<'a>,
+    out: &mut O,
+) -> Result<(), Stop<'a>>
+    ensures done { OnOk result (HasPrinted (O.contents out.old) (O.contents out.new)) }
+    ensures stopped { IfErr result (λ stop. (stop ≡ Output) ⊎ (out.new ≡ out.old) ⊎ HasBegun (O.contents out.old) (O.contents out.new)) }
+{
+    match task {
+        Task::Dissect(asked) => dissect(rt, &asked, out),
+        Task::Serve(asked) => serve_connections(rt, &asked, out),
+        Task::Endpoints(port) => endpoints(rt, port, out),
+        Task::Read(asked) => read(rt, &asked, out),
+        Task::Write(asked) => write(rt, &asked, out),
     }
 }
 

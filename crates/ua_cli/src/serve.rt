@@ -31,7 +31,7 @@ use ua_texts::push_code;
 const MESSAGE_LIMIT: u32 = 1_048_576;
 
 /// What the program allows.
-fn limits() -> Limits
+pub fn limits() -> Limits
     ensures { AreOwn result }
 {
     match Limits::new(65535, 65535, MESSAGE_LIMIT, 256) {

@@ -247,9 +247,43 @@ fn takes_no_port_that_is_taken(rt: HostRuntime) -> Result<(), Fail> {
     expect_run(&rt, &words, "", "ua: cannot listen\n", 1)
 }
 
+/// A port on which nobody listens.
+fn free_port<R: Net + AllocGlobal>(rt: &R) -> Result<String, Fail> {
+    let listener = TcpListener::bind(rt, "127.0.0.1:0")?;
+    Ok(listener.local_addr()?.port().to_string(rt.alloc())?)
+}
+
+#[test]
+fn asks_nobody(rt: HostRuntime) -> Result<(), Fail> {
+    let port = free_port(&rt)?;
+    let port = port.as_str();
+    let rows: [(&[&str], &str); 7] = [
+        (&["ua", "endpoints", port], "ua: cannot connect\n"),
+        (&["ua", "read", port, "ns=1;s=Pump"], "ua: cannot connect\n"),
+        (
+            &["ua", "write", port, "i=1", "Int32", "--", "-6"],
+            "ua: cannot connect\n",
+        ),
+        (
+            &["ua", "read", port, "ns=1;s=Pump", "Pump"],
+            "ua: bad node\n",
+        ),
+        (&["ua", "write", port, "Pump", "Int", "6"], "ua: bad node\n"),
+        (&["ua", "write", port, "i=1", "Int", "6"], "ua: bad value\n"),
+        (
+            &["ua", "write", port, "i=1", "Byte", "256"],
+            "ua: bad value\n",
+        ),
+    ];
+    for (words, fault) in rows {
+        expect_run(&rt, words, "", fault, 1)?;
+    }
+    Ok(())
+}
+
 #[test]
 fn refuses_words_that_do_not_parse(rt: HostRuntime) -> Result<(), Fail> {
-    let rows: [&[&str]; 12] = [
+    let rows: [&[&str]; 18] = [
         &[],
         &["ua"],
         &["ua", "dissect"],
@@ -262,6 +296,12 @@ fn refuses_words_that_do_not_parse(rt: HostRuntime) -> Result<(), Fail> {
         &["ua", "serve", "nodes.txt", "+5"],
         &["ua", "serve", "nodes.txt", "5", "--connections", "0"],
         &["ua", "serve", "nodes.txt", "5", "--connections", "x"],
+        &["ua", "endpoints"],
+        &["ua", "endpoints", "65536"],
+        &["ua", "read", "5"],
+        &["ua", "read", "+5", "i=1"],
+        &["ua", "write", "5", "i=1", "Int32"],
+        &["ua", "write", "5", "i=1", "Int32", "-6"],
     ];
     for words in rows {
         let mut out = Vec::new(rt.alloc());
