@@ -17,17 +17,18 @@ use Rattle.ua_channel.specs.Stops.{StopsAt}
 use Rattle.ua_channel.specs.declared.server.ServerChannel.{ServerChannel}
 use Rattle.ua_server.specs.Said.{Course, say, left, said, used_in, is_answered}
 use Rattle.ua_server.specs.Served.{channel_in}
-use Rattle.ua_server.specs.Serving.{moment_of, Answer, Refusal, BrokenOff}
+use Rattle.ua_server.specs.Serving.{moment_of, Answer, Refusal, FailsBy}
 use Rattle.ua_server.specs.ServingParts.{AdvancesTo, Ends, Keeps, Owes, Pending, is_there, noted}
 use Rattle.ua_server.specs.State.{State}
 use Rattle.ua_server.specs.Stepping.{AdvanceBy, Stands, StepAnswers, StepBy, Stops, Tells, given_up, spent}
+use Rattle.ua_server.specs.declared.serve_fault.ServeFault.TheVariants as serve_fault
 use Rattle.ua_server.specs.declared.server.Server.{Server}
 use Rattle.ua_server.specs.declared.serving.Serving.{Serving}
 use Rattle.ua_server.specs.declared.step.End.{End as Ending}
 use Rattle.ua_server.specs.declared.step.End.TheVariants as ending
 use Rattle.ua_server.specs.declared.step.StepFault.{StepFault}
 use Rattle.ua_server.specs.declared.step.StepFault.TheVariants as step_fault
-use Rattle.ua_server.proofs.Pendings.{pending-on, pending-broken, answered-as}
+use Rattle.ua_server.proofs.Pendings.{pending-on, pending-unwritten, answered-as}
 use Rattle.ua_server.proofs.SaidInParts.{used_in-append, left-append, said-more}
 use Rattle.ua_server.proofs.Steps.{left-quiet, said-silent, used-quiet, course, left-agreement, left-course, agreed-quiet, left-one, said-one}
 
@@ -288,12 +289,13 @@ module _ (x : Serving) (server : Server) (m : DateTime) (piece read written : Li
   advanced-saying (Some end) n out t = absurd cc
 
   -- memory was refused
-  broken-on : now1 ≡ now0 → BrokenOff l c first (read ++ piece) written (map moment_of (given ++ ts)) now1
+  broken-on : now1 ≡ now0 → FailsBy serve_fault.OutOfMemory l c first (read ++ piece) written (map moment_of (given ++ ts)) now1
   broken-on e =
-      pending-broken l c first (read ++ piece) [] written o.used (m ∷ []) (map moment_of (given ++ ts)) now1 moments-are one-kept
-      (subst (λ (z : State). Pending l c first (read ++ piece) [] written o.used z) (sym e) (pending-on l c first read piece [] written o.used now0 o.pending))
+      let broken = pending-unwritten l c first (read ++ piece) [] written o.used (m ∷ []) (map moment_of (given ++ ts)) now1 moments-are one-kept
+      (subst (λ (z : State). Pending l c first (read ++ piece) [] written o.used z) (sym e) (pending-on l c first read piece [] written o.used now0 o.pending)) in
+      (broken.0, inr broken.1)
 
-  pub advanced-broken : (f : StepFault) → StepAnswers l c m piece (Err f) ch read o.told first o.used now0 now1 → BrokenOff l c first (read ++ piece) written (map moment_of (given ++ ts)) now1
+  pub advanced-broken : (f : StepFault) → StepAnswers l c m piece (Err f) ch read o.told first o.used now0 now1 → FailsBy serve_fault.OutOfMemory l c first (read ++ piece) written (map moment_of (given ++ ts)) now1
   advanced-broken step_fault.Closed s = absurd s
   advanced-broken step_fault.OutOfMemory (done, inl e) = broken-on e
   advanced-broken step_fault.OutOfMemory (done, inr by) =
@@ -301,18 +303,21 @@ module _ (x : Serving) (server : Server) (m : DateTime) (piece read written : Li
       let before = o.told ++ given_up w.quiet in
       let t = Asked w.id w.token by.message in
       let behind : left c first before o.used ≡ course now0 (next_of (channel_in x.server)) [] (agreed_by o.told) = left-quiet c first o.told w.quiet o.used ∙ left-course (channel_in x.server) read o.told first o.used now0 o.stands in
-      subst (λ (ms : List DateTime). BrokenOff l c first (read ++ piece) written ms now1) (sym moments-are) (record {
-        front = read ++ take w.n piece;
-        behind = drop w.n piece;
-        front_is = sym (append_assoc read (take w.n piece) (drop w.n piece) ∙ ap (λ (p : List ℕ). read ++ p) (take-append-drop w.n piece));
-        before = before;
-        word = Answer t;
-        ends = record { frames = w.frames; frame = w.frame; run = w.run; told_is = w.told_is; tells = w.tells; answered = refl };
-        state_is = ap (λ (d : Course). d.state) (left-one c first before t o.used (m ∷ []) (course now0 (next_of (channel_in x.server)) [] (agreed_by o.told)) behind (room w.quiet)) ∙ sym by.now_is;
-        asked = asked-used before w.id w.token by.message o.used m (used-here w.quiet);
-        part = [];
-        written_is = said-before w.quiet (m ∷ []);
-        unwritten = (say c (course now0 (next_of (channel_in x.server)) (m ∷ []) (agreed_by o.told)) t).0;
-        said_is = said-one c first before t o.used (m ∷ []) (course now0 (next_of (channel_in x.server)) [] (agreed_by o.told)) behind (room w.quiet)
-            ∙ ap (λ (s : List ℕ). s ++ (say c (course now0 (next_of (channel_in x.server)) (m ∷ []) (agreed_by o.told)) t).0) (said-silent c first o.told w.quiet o.used ∙ all-said);
-      })
+      subst (λ (ms : List DateTime). FailsBy serve_fault.OutOfMemory l c first (read ++ piece) written ms now1) (sym moments-are) (
+        record {
+          front = read ++ take w.n piece;
+          behind = drop w.n piece;
+          front_is = sym (append_assoc read (take w.n piece) (drop w.n piece) ∙ ap (λ (p : List ℕ). read ++ p) (take-append-drop w.n piece));
+          before = before;
+          word = Answer t;
+          ends = record { frames = w.frames; frame = w.frame; run = w.run; told_is = w.told_is; tells = w.tells; answered = refl };
+          state_is = ap (λ (d : Course). d.state) (left-one c first before t o.used (m ∷ []) (course now0 (next_of (channel_in x.server)) [] (agreed_by o.told)) behind (room w.quiet)) ∙ sym by.now_is;
+          asked = asked-used before w.id w.token by.message o.used m (used-here w.quiet);
+          part = [];
+          written_is = said-before w.quiet (m ∷ []);
+          unwritten = (say c (course now0 (next_of (channel_in x.server)) (m ∷ []) (agreed_by o.told)) t).0;
+          said_is = said-one c first before t o.used (m ∷ []) (course now0 (next_of (channel_in x.server)) [] (agreed_by o.told)) behind (room w.quiet)
+              ∙ ap (λ (s : List ℕ). s ++ (say c (course now0 (next_of (channel_in x.server)) (m ∷ []) (agreed_by o.told)) t).0) (said-silent c first o.told w.quiet o.used ∙ all-said);
+        },
+        inl refl,
+      )

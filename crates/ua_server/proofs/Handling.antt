@@ -1,6 +1,6 @@
 -- What becomes of pieces, one turn after the other, and of a line, one read after the other.
 use Rattle.std.specs.Prelude.{◌≡◌, ℕ, ◌+◌, ◌-◌, ◌≤◌, ◌<◌, ℤ, List, [], ◌∷◌, ◌++◌, map, take, drop, length, Option, None, Some, Result, Ok, Err}
-use Rattle.std.proofs.Common.{refl, sym, ◌∙◌, ap, subst, append_assoc, append-nil, length-append, take-append-drop, arith}
+use Rattle.std.proofs.Common.{refl, sym, ◌∙◌, ap, subst, inr, append_assoc, append-nil, length-append, take-append-drop, arith}
 use Rattle.std.proofs.Math.Seq.{take-length}
 use Rattle.std.proofs.lemmas.List.{length-take-le}
 use Rattle.ua_builtin.specs.declared.date_time.DateTime.{DateTime}
@@ -27,8 +27,8 @@ use Rattle.ua_server.specs.declared.step.End.{End as Ending}
 use Rattle.ua_server.specs.declared.step.End.TheVariants as ending
 use Rattle.ua_server.proofs.Exchanges.{told-then, told-nothing, gives-then, exchanged-then}
 use Rattle.ua_server.proofs.Passing.{rest_of, rest-is, rest-length, joined, fewer}
-use Rattle.ua_server.proofs.Pendings.{pending-broken, answered-as}
-use Rattle.ua_server.proofs.Turning.{fails-on, listed-one}
+use Rattle.ua_server.proofs.Pendings.{pending-unwritten, answered-as}
+use Rattle.ua_server.proofs.Turning.{listed-one}
 
 -- the same at other lists
 moved-to : (P : List ℕ → List ℕ → List ℤ → Type 0) (r r' w w' : List ℕ) (t t' : List ℤ) → r ≡ r' → w ≡ w' → t ≡ t' → P r w t → P r' w' t'
@@ -217,7 +217,9 @@ module _ (limits : Limits) (channel : ℕ) (first : State) where
     pub serves-nothing : (la : Option Traffic) (x : Serving) (now : State) → Keeps x limits channel first [] [] [] now → WhereTold (Serves limits channel gives first m0 (Err fault.OutOfMemory) now m0) la la
     serves-nothing la x now k =
         served m0 [] la la (Err fault.OutOfMemory) now (λ w ts. Keeps x limits channel first [] w ts now) (record { written = []; ticks = []; moved = told-nothing la; given = refl; holds = k })
-        (λ b w ts is h. pending-broken limits channel first [] [] w h.used (listed x.moment) (map moment_of ts) now h.moments_are (listed-one limits channel first x.moment) h.pending)
+        (λ b w ts is h.
+        let broken = pending-unwritten limits channel first [] [] w h.used (listed x.moment) (map moment_of ts) now h.moments_are (listed-one limits channel first x.moment) h.pending in
+        (broken.0, inr broken.1))
 
     -- a read is handed out
     read-on : (la lb lc : Option Traffic) (reads : ℕ) (m : M) (x : Serving) (now : State) (n : ℕ) (buffer : List ℕ) (s : Served la reads m lb x now) → WhereTold (Moves (take n buffer) []) lb lc

@@ -5,6 +5,7 @@ mod Statuses
 mod Replies
 mod Steps
 mod Passing
+mod Bounds
 mod Events
 mod Exchanges
 mod Pendings

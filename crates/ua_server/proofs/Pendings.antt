@@ -62,24 +62,27 @@ module _ (limits : Limits) (channel : ℕ) (first : State) where
   enough : (told : List Told) (n : ℕ) → n ≡ used_in told → used_in told ≤ n
   enough told n e = omega (arith, e)
 
-  -- the connection breaks off there
-  pub pending-broken : (read out written : List ℕ) (used kept moments : List DateTime) (now : State) → moments ≡ used ++ kept → length kept ≤ 1 → Pending limits channel first read out written used now
-      → BrokenOff limits channel first read written moments now
-  pending-broken read out written used kept moments now is one p =
-      subst (λ (ms : List DateTime). BrokenOff limits channel first read written ms now) (sym is) (record {
-        front = p.front;
-        behind = p.behind;
-        front_is = p.front_is;
-        before = p.before;
-        word = p.word;
-        ends = p.ends;
-        state_is = ap (λ (c : Course). c.state) (left-more channel first (p.before ++ told_at p.word) used kept (enough (p.before ++ told_at p.word) (length used) p.all_used)) ∙ p.state_is;
-        asked = all-used (p.before ++ told_at p.word) used kept p.all_used one;
-        part = p.part;
-        written_is = p.written_is ∙ ap (λ (o : List ℕ). o ++ p.part) (sym (said-more channel first p.before Going used kept (used-before p.before (told_at p.word) (length used) p.all_used)));
-        unwritten = out;
-        said_is = said-more channel first (p.before ++ told_at p.word) (end_at p.word) used kept (enough (p.before ++ told_at p.word) (length used) p.all_used) ∙ p.said_is;
-      })
+  -- the connection breaks off there, and this is unwritten
+  pub pending-unwritten : (read out written : List ℕ) (used kept moments : List DateTime) (now : State) → moments ≡ used ++ kept → length kept ≤ 1 → Pending limits channel first read out written used now
+      → (broken : BrokenOff limits channel first read written moments now) × (broken.unwritten ≡ out)
+  pending-unwritten read out written used kept moments now is one p =
+      subst (λ (ms : List DateTime). (broken : BrokenOff limits channel first read written ms now) × (broken.unwritten ≡ out)) (sym is) (
+        record {
+          front = p.front;
+          behind = p.behind;
+          front_is = p.front_is;
+          before = p.before;
+          word = p.word;
+          ends = p.ends;
+          state_is = ap (λ (c : Course). c.state) (left-more channel first (p.before ++ told_at p.word) used kept (enough (p.before ++ told_at p.word) (length used) p.all_used)) ∙ p.state_is;
+          asked = all-used (p.before ++ told_at p.word) used kept p.all_used one;
+          part = p.part;
+          written_is = p.written_is ∙ ap (λ (o : List ℕ). o ++ p.part) (sym (said-more channel first p.before Going used kept (used-before p.before (told_at p.word) (length used) p.all_used)));
+          unwritten = out;
+          said_is = said-more channel first (p.before ++ told_at p.word) (end_at p.word) used kept (enough (p.before ++ told_at p.word) (length used) p.all_used) ∙ p.said_is;
+        },
+        refl,
+      )
 
   -- what was read is answered and written
   pub answered-as : (read written : List ℕ) (frames : List Frame) (rest : List ℕ) (end : End ℕ) (told : List Told) (used kept moments : List DateTime) (now : State) → moments ≡ used ++ kept → length kept ≤ 1

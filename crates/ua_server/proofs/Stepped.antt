@@ -7,10 +7,11 @@ use Rattle.ua_channel.specs.Received.{listed}
 use Rattle.ua_channel.specs.ServerStands.{limits_of, channel_of}
 use Rattle.ua_channel.specs.ServerTold.{Told}
 use Rattle.ua_server.specs.Served.{channel_in}
-use Rattle.ua_server.specs.Serving.{moment_of, BrokenOff}
+use Rattle.ua_server.specs.Serving.{moment_of, FailsBy}
 use Rattle.ua_server.specs.ServingParts.{AdvancesTo, Asked, Keeps, Steps, noted}
 use Rattle.ua_server.specs.State.{State}
 use Rattle.ua_server.specs.Stepping.{AdvanceBy, Advances, Stands}
+use Rattle.ua_server.specs.declared.serve_fault.ServeFault.TheVariants as serve_fault
 use Rattle.ua_server.specs.declared.server.Server.{Server}
 use Rattle.ua_server.specs.declared.serving.Serving.{Serving}
 use Rattle.ua_server.specs.declared.step.Step.{Step}
@@ -88,6 +89,6 @@ module _ {M : Type 0} (gives : M → ℤ → M → Type 0) (m0 m1 : M) (limits :
   steps-broken f y is = record {
     ticks = a.ticks;
     given = a.given;
-    holds = there (λ v n. BrokenOff v n first (read ++ piece) written (map moment_of (given ++ a.ticks)) now1)
+    holds = there (λ v n. FailsBy serve_fault.OutOfMemory v n first (read ++ piece) written (map moment_of (given ++ a.ticks)) now1)
         (advanced-broken x server mom piece read written given a.ticks first now0 now1 lim-here chan-here a.holds own f (advanced-at (Err f) is));
   }

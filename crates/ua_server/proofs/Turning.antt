@@ -1,7 +1,7 @@
 -- What a turn makes of a connection that is served: a step, and its answer written.
-use Rattle.std.specs.Prelude.{◌≡◌, ℕ, ◌+◌, ◌≤◌, ℤ, List, [], ◌++◌, map, min, take, drop, length, Option, None, Some, Ok, Err}
-use Rattle.std.proofs.Common.{refl, sym, ◌∙◌, ap, subst, append_assoc, append-nil, length-append, take-append-drop, arith}
-use Rattle.std.proofs.lemmas.List.{length-take-le}
+use Rattle.std.specs.Prelude.{◌≡◌, ◌⊎◌, ℕ, ◌+◌, ◌<◌, ◌≤◌, ℤ, List, [], ◌++◌, map, min, take, drop, length, Option, None, Some, Ok, Err}
+use Rattle.std.proofs.Common.{refl, sym, ◌∙◌, ap, subst, inl, inr, append_assoc, append-nil, length-append, take-append-drop, arith}
+use Rattle.std.proofs.lemmas.List.{length-drop, length-take-le}
 use Rattle.ua_builtin.specs.declared.date_time.DateTime.{DateTime}
 use Rattle.ua_frame.specs.declared.limits.Limits.{Limits}
 use Rattle.ua_channel.specs.Line.{Traffic, WhereTold}
@@ -16,7 +16,7 @@ use Rattle.ua_server.specs.declared.step.End.{End as Ending}
 use Rattle.ua_server.specs.declared.step.Step.{Step}
 use Rattle.ua_server.specs.declared.step.StepFault.{StepFault}
 use Rattle.ua_server.proofs.Exchanges.{told-nothing}
-use Rattle.ua_server.proofs.Pendings.{pending-written, pending-broken}
+use Rattle.ua_server.proofs.Pendings.{pending-written, pending-unwritten}
 
 -- ---- counting what is written
 
@@ -55,41 +55,58 @@ module _ (limits : Limits) (channel : ℕ) (first : State) where
   turned None x read out written ticks now o = owes-written x read out written ticks now o
   turned (Some end) x read out written ticks now e = e.ends
 
+  some-left : (k : ℕ) (out unwritten : List ℕ) → unwritten ≡ drop k out → k < length out → 0 < length unwritten
+  some-left k out unwritten is h = let l = ap length is ∙ length-drop k out in omega (arith, l, h)
+
+  not-more : (k n : ℕ) → k < n → k ≤ n
+  not-more k n h = omega (arith, h)
+
   -- the first of it is written
-  unwritten : (end : Option Ending) (x : Serving) (read out written : List ℕ) (ticks : List ℤ) (now : State) (k : ℕ) → k ≤ length out → AdvancesTo end x limits channel first read out written ticks now
+  unwritten : (end : Option Ending) (x : Serving) (read out written : List ℕ) (ticks : List ℤ) (now : State) (k : ℕ) → k < length out → AdvancesTo end x limits channel first read out written ticks now
       → FailsBy (fault.Write (counted x.written k)) limits channel first read (written ++ take k out) (map moment_of ticks) now
-  unwritten None x read out written ticks now k h o = (
-    pending-broken limits channel first read (drop k out) (written ++ take k out) o.used (listed x.moment) (map moment_of ticks) now o.moments_are (listed-one x.moment)
-        (pending-written limits channel first read out written o.used now (take k out) (drop k out) (sym (take-append-drop k out)) o.pending),
-    count-some x.written k written out o.count_is h,
-  )
-  unwritten (Some end) x read out written ticks now k h e = (
-    pending-broken limits channel first read (drop k out) (written ++ take k out) e.used e.kept (map moment_of ticks) now e.moments_are e.one
-        (pending-written limits channel first read out written e.used now (take k out) (drop k out) (sym (take-append-drop k out)) e.pending),
-    count-some x.written k written out e.count_is h,
-  )
+  unwritten None x read out written ticks now k h o =
+      let broken = pending-unwritten limits channel first read (drop k out) (written ++ take k out) o.used (listed x.moment) (map moment_of ticks) now o.moments_are (listed-one x.moment)
+      (pending-written limits channel first read out written o.used now (take k out) (drop k out) (sym (take-append-drop k out)) o.pending) in
+      (broken.0, some-left k out broken.0.unwritten broken.1 h, count-some x.written k written out o.count_is (not-more k (length out) h))
+  unwritten (Some end) x read out written ticks now k h e =
+      let broken = pending-unwritten limits channel first read (drop k out) (written ++ take k out) e.used e.kept (map moment_of ticks) now e.moments_are e.one
+      (pending-written limits channel first read out written e.used now (take k out) (drop k out) (sym (take-append-drop k out)) e.pending) in
+      (broken.0, some-left k out broken.0.unwritten broken.1 h, count-some x.written k written out e.count_is (not-more k (length out) h))
 
   -- more octets are read
-  pub broken-on : (read more written : List ℕ) (moments : List DateTime) (now : State) → BrokenOff limits channel first read written moments now → BrokenOff limits channel first (read ++ more) written moments now
-  broken-on read more written moments now b = record {
-    front = b.front;
-    behind = b.behind ++ more;
-    front_is = ap (λ (x : List ℕ). x ++ more) b.front_is ∙ append_assoc b.front b.behind more;
-    before = b.before;
-    word = b.word;
-    ends = b.ends;
-    state_is = b.state_is;
-    asked = b.asked;
-    part = b.part;
-    written_is = b.written_is;
-    unwritten = b.unwritten;
-    said_is = b.said_is;
-  }
+  broken-more : (read more written : List ℕ) (moments : List DateTime) (now : State) (b : BrokenOff limits channel first read written moments now)
+      → (broken : BrokenOff limits channel first (read ++ more) written moments now) × (broken.part ≡ b.part) × (broken.unwritten ≡ b.unwritten)
+  broken-more read more written moments now b = (
+    record {
+      front = b.front;
+      behind = b.behind ++ more;
+      front_is = ap (λ (x : List ℕ). x ++ more) b.front_is ∙ append_assoc b.front b.behind more;
+      before = b.before;
+      word = b.word;
+      ends = b.ends;
+      state_is = b.state_is;
+      asked = b.asked;
+      part = b.part;
+      written_is = b.written_is;
+      unwritten = b.unwritten;
+      said_is = b.said_is;
+    },
+    refl,
+    refl,
+  )
+
+  still-whole : (part part' left left' : List ℕ) → part' ≡ part → left' ≡ left → (part ≡ []) ⊎ (left ≡ []) → (part' ≡ []) ⊎ (left' ≡ [])
+  still-whole part part' left left' p l (inl none) = inl (p ∙ none)
+  still-whole part part' left left' p l (inr none) = inr (l ∙ none)
 
   pub fails-on : (f : ServeFault) (read more written : List ℕ) (moments : List DateTime) (now : State) → FailsBy f limits channel first read written moments now → FailsBy f limits channel first (read ++ more) written moments now
   fails-on fault.Read read more written moments now b = b
-  fails-on (fault.Write n) read more written moments now b = (broken-on read more written moments now b.0, b.1)
-  fails-on fault.OutOfMemory read more written moments now b = broken-on read more written moments now b
+  fails-on (fault.Write n) read more written moments now b =
+      let broken = broken-more read more written moments now b.0 in
+      (broken.0, subst (λ (u : List ℕ). 0 < length u) (sym broken.2) b.1, b.2)
+  fails-on fault.OutOfMemory read more written moments now b =
+      let broken = broken-more read more written moments now b.0 in
+      (broken.0, still-whole b.0.part broken.0.part b.0.unwritten broken.0.unwritten broken.1 broken.2 b.1)
   fails-on fault.TooLong read more written moments now b = b
 
   front-back : (read piece : List ℕ) (n : ℕ) → (read ++ take n piece) ++ drop n piece ≡ read ++ piece
@@ -128,5 +145,5 @@ module _ (limits : Limits) (channel : ℕ) (first : State) where
       ticks = a.ticks;
       moved = told-nothing la;
       given = a.given;
-      holds = subst (λ (w : List ℕ). BrokenOff limits channel first (read ++ piece) w (map moment_of (given ++ a.ticks)) now) (sym (append-nil written)) a.holds;
+      holds = subst (λ (w : List ℕ). FailsBy fault.OutOfMemory limits channel first (read ++ piece) w (map moment_of (given ++ a.ticks)) now) (sym (append-nil written)) a.holds;
     }

@@ -1,5 +1,5 @@
 -- What serving a line comes to.
-use Rattle.std.specs.Prelude.{◌≡◌, ℕ, ◌+◌, ◌≤◌, ℤ, IsTrue, List, [], ◌∷◌, ◌++◌, map, min, length, Result, Ok, Err}
+use Rattle.std.specs.Prelude.{◌≡◌, ◌⊎◌, ℕ, ◌+◌, ◌<◌, ◌≤◌, ℤ, IsTrue, List, [], ◌∷◌, ◌++◌, map, min, length, Result, Ok, Err}
 use Rattle.ua_builtin.specs.declared.date_time.DateTime.{DateTime}
 use Rattle.ua_chunk.specs.Open.{open_ids}
 use Rattle.ua_frame.specs.Run.{End, Going, Stopped, Over, Run, events}
@@ -127,11 +127,12 @@ EndsBy (ending.Refused code) limits channel first read written moments now = Ans
 EndsBy ending.NoClose limits channel first read written moments now = ⊥
 EndsBy ending.Cut limits channel first read written moments now = ⊥
 
--- how an answer failed; a failed write says how many octets were written in all, up to the greatest number
+-- how an answer failed; a failed write says how many octets were written in all, up to the greatest number, and leaves some octets of the last word
+-- unwritten; where memory is refused the last word is written whole or not at all
 abbrev pub FailsBy : ServeFault → Limits → ℕ → State → List ℕ → List ℕ → List DateTime → State → Type 0
 FailsBy fault.Read limits channel first read written moments now = ⊥
-FailsBy (fault.Write n) limits channel first read written moments now = BrokenOff limits channel first read written moments now × (n ≡ min (length written) greatest)
-FailsBy fault.OutOfMemory limits channel first read written moments now = BrokenOff limits channel first read written moments now
+FailsBy (fault.Write n) limits channel first read written moments now = (broken : BrokenOff limits channel first read written moments now) × (0 < length broken.unwritten) × (n ≡ min (length written) greatest)
+FailsBy fault.OutOfMemory limits channel first read written moments now = (broken : BrokenOff limits channel first read written moments now) × ((broken.part ≡ []) ⊎ (broken.unwritten ≡ []))
 FailsBy fault.TooLong limits channel first read written moments now = ⊥
 
 -- what serving comes to, where these octets were read and written at these moments, and these are to come

@@ -13,7 +13,7 @@ use Rattle.ua_channel.specs.ServerStands.{limits_of, channel_of}
 use Rattle.ua_channel.specs.ServerTold.{Told}
 use Rattle.ua_server.specs.Said.{left, said, used_in}
 use Rattle.ua_server.specs.Served.{channel_in}
-use Rattle.ua_server.specs.Serving.{moment_of, LastWord, told_at, end_at, EndsAt, IsClean, BrokenOff, EndsBy, FailsBy, ServesBy, Moves, greatest}
+use Rattle.ua_server.specs.Serving.{moment_of, LastWord, told_at, end_at, EndsAt, IsClean, EndsBy, FailsBy, ServesBy, Moves, greatest}
 use Rattle.ua_server.specs.State.{State}
 use Rattle.ua_server.specs.Stepping.{Stands}
 use Rattle.ua_server.specs.declared.serve_fault.ServeFault.{ServeFault}
@@ -33,12 +33,18 @@ Finishes ending.Cut frames rest = IsClean frames rest → ⊥
 Finishes ending.Closed frames rest = ⊥
 Finishes (ending.Refused code) frames rest = ⊥
 
+-- ---- what is read
+
+-- the most octets that are read at once
+abbrev pub most_at_once : ℕ
+most_at_once = 4096
+
 -- ---- what is written
 
--- a write stopped within the octets
+-- a write stopped before the last of the octets
 abbrev pub StopsWithin : List ℕ → Result (Unit {0}) ℕ → Type 0
 StopsWithin octets (Ok u) = Unit {0}
-StopsWithin octets (Err n) = n ≤ length octets
+StopsWithin octets (Err n) = n < length octets
 
 -- the octets were written, all or the first of them
 abbrev pub Wrote : List ℕ → Result (Unit {0}) ℕ → Traffic → Traffic → Type 0
@@ -54,10 +60,10 @@ write_failures (Err n) before = one_more before
 abbrev pub counted : ℕ → ℕ → ℕ
 counted n more = min (n + more) greatest
 
--- octets were written, all or the first of them, and counted
+-- octets were written and counted, all of them, or not the last
 abbrev pub Says : List ℕ → Result (Unit {0}) ServeFault → Serving → Serving → Option Traffic → Option Traffic → Type 0
 Says octets (Ok u) old new before after = (new ≡ record old { written = counted old.written (length octets) }) × WhereTold (Moves [] octets) before after
-Says octets (Err f) old new before after = (n : ℕ) × (f ≡ fault.Write (counted old.written n)) × (n ≤ length octets) × WhereTold (Moves [] (take n octets)) before after
+Says octets (Err f) old new before after = (n : ℕ) × (f ≡ fault.Write (counted old.written n)) × (n < length octets) × WhereTold (Moves [] (take n octets)) before after
 
 -- an answer was made: the first one is the ACK, and those behind it use the moment that is kept
 abbrev pub noted : Serving → Serving
@@ -120,7 +126,7 @@ AdvancesTo (Some end) x limits channel first read out written ticks now = Ends x
 -- a step, whose answer is not written yet
 abbrev pub Steps : Result Step StepFault → Serving → Limits → ℕ → State → List ℕ → List ℕ → List ℕ → List ℤ → State → Type 0
 Steps (Ok step) x limits channel first piece read written ticks now = AdvancesTo step.end x limits channel first (read ++ take step.taken piece) step.out.items written ticks now
-Steps (Err f) x limits channel first piece read written ticks now = BrokenOff limits channel first (read ++ piece) written (map moment_of ticks) now
+Steps (Err f) x limits channel first piece read written ticks now = FailsBy fault.OutOfMemory limits channel first (read ++ piece) written (map moment_of ticks) now
 
 -- the same by how the connection ended, once the answer is written
 abbrev pub TurnsTo : Option Ending → Serving → Limits → ℕ → State → List ℕ → List ℕ → List ℤ → State → Type 0

@@ -1,12 +1,12 @@
 //! A server on one connection.
 
-ghost use Rattle.std.specs.Prelude.{◌≡◌, ◌⊎◌, false, ◌++◌, ◌∷◌, [], ℕ, List, length, Ok, Err, None, IfOk, OnErr};
+ghost use Rattle.std.specs.Prelude.{◌≡◌, ◌⊎◌, false, ◌++◌, ◌∷◌, [], ℕ, List, length, Ok, Err, None, IfOk, OnErr, IsErrOf};
 ghost use Rattle.std.specs.List.{concat};
 ghost use Rattle.ua_builtin.specs.declared.date_time.DateTime.{DateTime};
 ghost use Rattle.ua_services.specs.Response.{response};
 ghost use Rattle.ua_channel.specs.ServerAnswers.{Progress};
 ghost use Rattle.ua_channel.specs.ServerPlaces.{agreed_by};
-ghost use Rattle.ua_channel.specs.ServerStands.{limits_of, channel_of, next_of, IsDone, Goes, GoesTelling};
+ghost use Rattle.ua_channel.specs.ServerStands.{limits_of, channel_of, next_of, bound_of, IsDone, Goes, GoesTelling};
 ghost use Rattle.ua_channel.specs.ServerTold.{Told, Asked};
 ghost use Rattle.ua_channel.specs.declared.server.ServerChannel.{ServerChannel};
 ghost use Rattle.ua_channel.specs.declared.server_fault.ChannelFault.TheVariants as channel_fault;
@@ -45,6 +45,8 @@ fn next_answered(
     ensures progress { Progress piece.now result.0 result.1 }
     ensures some { is_given_up result.1 ≡ false }
     ensures closed { IsDone channel.old → (result.1 ≡ Err channel_fault.Closed) × (channel.new ≡ channel.old) }
+    ensures starved { (octets : List ℕ) (told : List Told) → Goes channel.old octets told
+        → IsErrOf result.1 channel_fault.OutOfMemory → bound_of channel.new ≡ bound_of channel.old }
     ensures limits { limits_of channel.new ≡ limits_of channel.old }
     ensures channel { channel_of channel.new ≡ channel_of channel.old }
 {
@@ -81,6 +83,7 @@ fn reply_to(
     ensures failed { (octets : List ℕ) (before : List Told) (token : ℕ) → GoesTelling channel.old octets before (Asked id token (concat message))
         → OnErr result ((result ≡ Err step_fault.OutOfMemory) × IsDone channel.new) }
     ensures broken { OnErr result ((services.new ≡ services.old) ⊎ (services.new ≡ (answered services.old moment (concat message)).0)) }
+    ensures bound { bound_of channel.new ≡ bound_of channel.old }
     ensures limits { limits_of channel.new ≡ limits_of channel.old }
     ensures channel { channel_of channel.new ≡ channel_of channel.old }
 {
@@ -134,7 +137,7 @@ pub struct Server {
 }
 
 impl Server {
-    ghost use Rattle.std.specs.Prelude.{◌≡◌, ◌≤◌, ◌↔◌, [], ℕ, List, length, false, Ok, Err, IfOk, IsTrue};
+    ghost use Rattle.std.specs.Prelude.{◌≡◌, ◌≤◌, ◌↔◌, [], ℕ, List, length, false, Ok, Err, IfOk, IsErrOf, IsTrue};
     ghost use Rattle.ua_builtin.specs.declared.date_time.DateTime.{DateTime};
     ghost use Rattle.ua_channel.specs.Received.{received};
     ghost use Rattle.ua_channel.specs.ServerStands.{limits_of, channel_of, bound_of, IsDone, bound_after, held_after, Stands as Holds};
@@ -194,6 +197,9 @@ impl Server {
         ensures answers { (octets : List ℕ) (told : List Told) (first : State) (moments : List DateTime) → Stands (channel_in self.old) octets told first moments services.old
             → StepAnswers (limits_of (channel_in self.old)) (channel_of (channel_in self.old)) moment piece.now result (channel_in self.new) octets told first moments services.old services.new }
         ensures progress { IfOk result (λ step. Takes piece.now step) }
+        // After want of memory, the bound is what it was before the call.
+        ensures starved { (octets : List ℕ) (told : List Told) (first : State) (moments : List DateTime) → Stands (channel_in self.old) octets told first moments services.old
+            → IsErrOf result step_fault.OutOfMemory → bound_of (channel_in self.new) ≡ bound_of (channel_in self.old) }
         ensures closed { IsDone (channel_in self.old) → (result ≡ Err step_fault.Closed) × (self.new ≡ self.old) × (services.new ≡ services.old) }
         ensures limits { limits_of (channel_in self.new) ≡ limits_of (channel_in self.old) }
         ensures channel { channel_of (channel_in self.new) ≡ channel_of (channel_in self.old) }
@@ -222,6 +228,8 @@ impl Server {
         ensures answers { (octets : List ℕ) (told : List Told) (first : State) (moments : List DateTime) → Stands (channel_in self.old) octets told first moments services.old
             → Advances (limits_of (channel_in self.old)) (channel_of (channel_in self.old)) moment piece.now result (channel_in self.new) octets told first moments services.old services.new }
         ensures progress { IfOk result (λ found. Takes piece.now found.0) }
+        ensures starved { (octets : List ℕ) (told : List Told) (first : State) (moments : List DateTime) → Stands (channel_in self.old) octets told first moments services.old
+            → IsErrOf result step_fault.OutOfMemory → bound_of (channel_in self.new) ≡ bound_of (channel_in self.old) }
         ensures closed { IsDone (channel_in self.old) → (result ≡ Err step_fault.Closed) × (self.new ≡ self.old) × (services.new ≡ services.old) }
         ensures limits { limits_of (channel_in self.new) ≡ limits_of (channel_in self.old) }
         ensures channel { channel_of (channel_in self.new) ≡ channel_of (channel_in self.old) }
@@ -249,6 +257,9 @@ impl Server {
             → AnsweredBehind old moment piece taken (Ok event) (channel_in self.old) octets told first moments services.old
             → Advances (limits_of old) (channel_of old) moment piece result (channel_in self.new) octets told first moments services.old services.new }
         ensures taken { IfOk result (λ found. found.0.taken ≡ taken) }
+        ensures starved { (old : ServerChannel) (piece octets : List ℕ) (told : List Told) (first : State) (moments : List DateTime)
+            → AnsweredBehind old moment piece taken (Ok event) (channel_in self.old) octets told first moments services.old
+            → IsErrOf result step_fault.OutOfMemory → bound_of (channel_in self.new) ≡ bound_of old }
         ensures limits { limits_of (channel_in self.new) ≡ limits_of (channel_in self.old) }
         ensures channel { channel_of (channel_in self.new) ≡ channel_of (channel_in self.old) }
     {

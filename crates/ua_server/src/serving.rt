@@ -3,7 +3,7 @@
 ghost use Rattle.std.specs.Prelude.{◌≡◌, ◌<◌, ℕ, List, [], IfOk, length};
 ghost use Rattle.ua_channel.specs.Line.{WhereTold};
 ghost use Rattle.ua_server.specs.Serving.{Serves, LineFailed};
-ghost use Rattle.ua_server.specs.ServingParts.{StopsWithin, Wrote, write_failures};
+ghost use Rattle.ua_server.specs.ServingParts.{StopsWithin, Wrote, most_at_once, write_failures};
 ghost use Rattle.ua_server.specs.State.{begun};
 
 use crate::serve_fault::ServeFault;
@@ -45,7 +45,7 @@ pub fn serve<L: Line, M: Moments>(
 
 /// Room for the octets that are read at once.
 fn piece(alloc: Global) -> Result<Vec<u8>, AllocError>
-    ensures { IfOk result (λ buffer. 0 < length buffer.items) }
+    ensures { IfOk result (λ buffer. length buffer.items ≡ most_at_once) }
 {
     let mut buffer = Vec::new(alloc);
     buffer.resize(PIECE, 0)?;

@@ -1,5 +1,6 @@
-use Rattle.std.proofs.Common.{rules, ◌≡◌, true}
+use Rattle.std.proofs.Common.{rules, ◌≡◌, ◌∙◌, true}
 use Rattle.ua_server.specs.Stepping.{is_given_up}
+use Rattle.ua_server.proofs.Bounds.{passed-bound}
 use Rattle.ua_server.proofs.Passing.{first-passed, next-passed, at-first, at-last, all-passed, progress-on, all-progress}
 use Rattle.ua_server.proofs.server.next_answered.Goals as goal
 
@@ -29,3 +30,7 @@ returns-then-not-is_given_up-2-clause-progress c =
 
 pub returns-clause-progress : goal.returns-clause-progress
 returns-clause-progress c = all-progress c.args.channel.now c.loop-taken.channel c.args.piece.now c.loop-taken.taken c.loop-taken.invariant
+
+pub returns-then-not-is_given_up-2-clause-starved : goal.returns-then-not-is_given_up-2-clause-starved
+returns-then-not-is_given_up-2-clause-starved c = λ octets told g fails.
+    c.advance-n-in-loop-taken.ensures.starved fails ∙ passed-bound c.args.channel.now c.loop-taken.channel c.args.piece.now c.loop-taken.taken octets told c.loop-taken.invariant g

@@ -1,11 +1,13 @@
-use Rattle.std.proofs.Common.{[], ℕ, ◌<◌, List, length, refl, sym, subst}
+use Rattle.std.proofs.Common.{arith, [], ℕ, ◌<◌, List, length, refl, sym, subst}
 use Rattle.ua_server.specs.ServingParts.{Keeps}
 use Rattle.ua_server.specs.State.{State, begun}
 use Rattle.ua_server.proofs.Handling.{serves-nothing}
 use Rattle.ua_server.proofs.serving.serve.Goals as goal
 
 pub run-requires : goal.run-requires
-run-requires g c = subst (λ (l : List ℕ). 0 < length l) (sym c.deref_mut.ensures.value) c.in-Ok.ensures
+run-requires g c =
+    let room = c.in-Ok.ensures in
+    subst (λ (l : List ℕ). 0 < length l) (sym c.deref_mut.ensures.value) (omega (arith, room))
 
 pub returns-in-Ok-clause-serves : goal.returns-in-Ok-clause-serves
 returns-in-Ok-clause-serves g c =

@@ -1,10 +1,11 @@
-use Rattle.std.proofs.Common.{◌≡◌, ◌++◌, ℕ, List, None, Some, Ok, refl, take}
+use Rattle.std.proofs.Common.{◌≡◌, ◌++◌, ◌∙◌, ℕ, List, None, Some, Ok, refl, take}
 use Rattle.ua_channel.specs.declared.server_event.ServerEvent.TheVariants as event
 use Rattle.ua_channel.specs.ServerStands.{limits_of, channel_of}
 use Rattle.ua_server.specs.Served.{channel_in}
 use Rattle.ua_server.specs.Stepping.{given_up}
 use Rattle.ua_server.specs.declared.step.End.TheVariants as ending
 use Rattle.ua_server.specs.declared.step.Step.{Step}
+use Rattle.ua_server.proofs.Bounds.{asked-bound}
 use Rattle.ua_server.proofs.Events.{at-event, silently, saying, breaks-by, on-quiet, on-send, on-reply, on-break, on-close}
 use Rattle.ua_server.proofs.server.Server.answer.Goals as goal
 
@@ -35,6 +36,12 @@ returns-in-Err-clause-answers c = λ old piece octets told first moments b.
     let failed = c.in-Err.ensures.failed (octets ++ take c.args.taken piece) (told ++ given_up there.quiet) there.answers.1.0.token there.answers.1.0.goes in
     breaks-by (limits_of old) (channel_of old) c.args.moment piece c.in-Err.fault c.reply_to.new.channel octets told first moments c.args.services.now c.reply_to.new.services failed.0
     (on-break old (channel_in c.args.self.now) c.args.moment piece c.args.taken octets told first moments c.args.services.now c.reply_to.new.channel c.in-Asked.id c.in-Asked.message c.reply_to.new.services there failed.1 c.in-Err.ensures.broken)
+
+pub returns-in-Err-clause-starved : goal.returns-in-Err-clause-starved
+returns-in-Err-clause-starved c = λ old piece octets told first moments b fails.
+    c.reply_to.ensures.bound
+    ∙ asked-bound old (channel_in c.args.self.now) c.args.moment piece c.args.taken octets told first moments c.args.services.now c.in-Asked.id c.in-Asked.message
+    (at-event old (channel_in c.args.self.now) c.args.moment piece c.args.taken octets told first moments c.args.services.now c.args.event (event.Asked c.in-Asked.id c.in-Asked.message) c.in-Asked.is b)
 
 pub returns-in-Closed-clause-answers : goal.returns-in-Closed-clause-answers
 returns-in-Closed-clause-answers c = λ old piece octets told first moments b.
