@@ -1,0 +1,4 @@
+mod Turns
+mod Told
+mod Opening
+mod Stopped
