@@ -68,15 +68,20 @@ pub record Written (octets : List ℕ) (at : ℕ) (before after : Option Traffic
 pub written-nothing : (octets : List ℕ) (t : Option Traffic) → Written octets 0 t t
 written-nothing octets t = record { within = omega arith; carried = carried-nothing t }
 
+all-rest : (octets : List ℕ) (at : ℕ) → take (length octets - at) (drop at octets) ≡ drop at octets
+all-rest octets at = ap (λ (k : ℕ). take k (drop at octets)) (sym (length-drop at octets)) ∙ take-length (drop at octets)
+
+pub length-rest : (octets : List ℕ) (at : ℕ) → length (take (length octets - at) (drop at octets)) ≡ length octets - at
+length-rest octets at = ap length (all-rest octets at) ∙ length-drop at octets
+
 pub written-more : (octets : List ℕ) (at n : ℕ) (a b c : Option Traffic) → Written octets at a b → at < length octets
     → n ≤ length (take (length octets - at) (drop at octets)) → WhereTold (Takes (Ok n) (take (length octets - at) (drop at octets))) b c → Written octets (at + n) a c
 written-more octets at n a b c w more few h =
-    let rest : take (length octets - at) (drop at octets) ≡ drop at octets = ap (λ (k : ℕ). take k (drop at octets)) (sym (length-drop at octets)) ∙ take-length (drop at octets) in
-    let len : length (take (length octets - at) (drop at octets)) ≡ length octets - at = ap length rest ∙ length-drop at octets in
+    let len = length-rest octets at in
     record {
       within = omega (arith, few, len, more);
       carried = carried-as [] (take at octets ++ take n (take (length octets - at) (drop at octets))) [] (take (at + n) octets) a c refl
-          (ap (λ (t : List ℕ). take at octets ++ take n t) rest ∙ sym (take-add at n octets))
+          (ap (λ (t : List ℕ). take at octets ++ take n t) (all-rest octets at) ∙ sym (take-add at n octets))
           (carried-then [] (take at octets) [] (take n (take (length octets - at) (drop at octets))) a b c w.carried (wrote (take (length octets - at) (drop at octets)) n b c h));
     }
 
@@ -85,13 +90,41 @@ written-all octets at a b w all =
     let whole : at ≡ length octets = omega (arith, w.within, all) in
     carried-as [] (take at octets) [] octets a b refl (ap (λ (k : ℕ). take k octets) whole ∙ take-length octets) w.carried
 
+front-of : (sent octets : List ℕ) (a b : Option Traffic) → Extends sent octets → WhereTold (Carries [] sent) a b → WhereTold (WritesFront octets) a b
+front-of sent octets (Some a) (Some b) front h = record { sent = sent; front = front; carried = h }
+front-of sent octets (Some a) None front h = h
+front-of sent octets None b front h = h
+
 pub written-front : (octets : List ℕ) (at : ℕ) (a b : Option Traffic) → WhereTold (Carries [] (take at octets)) a b → WhereTold (WritesFront octets) a b
-written-front octets at (Some a) (Some b) h = record { sent = take at octets; front = record { more = drop at octets; parts = sym (take-append-drop at octets) }; carried = h }
-written-front octets at (Some a) None h = h
-written-front octets at None b h = h
+written-front octets at a b h = front-of (take at octets) octets a b (record { more = drop at octets; parts = sym (take-append-drop at octets) }) h
 
 -- a beginning of these octets was written
 pub sends-front : (octets : List ℕ) (a b : Option Traffic) → WhereTold (WritesFront octets) a b → (sent : List ℕ) × Extends sent octets × WhereTold (Carries [] sent) a b
 sends-front octets (Some a) (Some b) h = (h.sent, h.front, h.carried)
 sends-front octets (Some a) None h = absurd h
 sends-front octets None b h = ([], record { more = octets; parts = refl }, h)
+
+-- ---- a whole write, part by part
+
+-- the part from one place up to another is written too
+pub part-written : (octets : List ℕ) (at end : ℕ) (a b c : Option Traffic) → Written octets at a b → at ≤ end → end ≤ length octets → WhereTold (Carries [] (take (end - at) (drop at octets))) b c → Written octets end a c
+part-written octets at end a b c w on fits h =
+    let whole : at + (end - at) ≡ end = omega (arith, on) in
+    record {
+      within = fits;
+      carried = carried-as [] (take at octets ++ take (end - at) (drop at octets)) [] (take end octets) a c refl
+          (sym (take-add at (end - at) octets) ∙ ap (λ (n : ℕ). take n octets) whole)
+          (carried-then [] (take at octets) [] (take (end - at) (drop at octets)) a b c w.carried h);
+    }
+
+-- a beginning of that part is written too
+pub part-front : (octets : List ℕ) (at count : ℕ) (a b c : Option Traffic) → Written octets at a b → WhereTold (WritesFront (take count (drop at octets))) b c → WhereTold (WritesFront octets) a c
+part-front octets at count a b c w h =
+    let front = sends-front (take count (drop at octets)) b c h in
+    front-of (take at octets ++ front.0) octets a c (record { more = front.1.more ++ drop count (drop at octets); parts = parts front.0 front.1 }) (carried-then [] (take at octets) [] front.0 a b c w.carried front.2)
+  where
+    parts : (sent : List ℕ) (e : Extends sent (take count (drop at octets))) → octets ≡ (take at octets ++ sent) ++ (e.more ++ drop count (drop at octets))
+    parts sent e =
+        sym (take-append-drop at octets)
+        ∙ (ap (λ (t : List ℕ). take at octets ++ t) (sym (take-append-drop count (drop at octets)) ∙ (ap (λ (t : List ℕ). t ++ drop count (drop at octets)) e.parts ∙ append_assoc sent e.more (drop count (drop at octets))))
+        ∙ sym (append_assoc (take at octets) sent (e.more ++ drop count (drop at octets))))

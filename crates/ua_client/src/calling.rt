@@ -10,7 +10,7 @@ use crate::fault::ClientFault;
 use crate::group::{ask_group, judge_group};
 use crate::laws::{calls_are_told_behind, clients_are_settled};
 use crate::reply::Reply;
-use crate::sending::write_whole;
+use crate::sending::write_frames;
 use std::alloc::Global;
 use ua_builtin::DateTime;
 use ua_channel::Line;
@@ -33,8 +33,7 @@ fn group_end(start: usize, count: usize) -> usize
 }
 
 impl Connection {
-    /// Judges a group of calls whole, asks it by one write where the line takes it so, waits for its
-    /// replies and adds them.
+    /// Judges a group of calls whole, writes its frames, waits for its replies and adds them.
     pub fn call_group<L: Line>(
         &mut self,
         alloc: Global,
@@ -55,7 +54,7 @@ impl Connection {
         let bodies = judge_group(alloc, &self.channel, requests)?;
         let asked = ask_group(alloc, &mut self.channel, &bodies)?;
         let (first, octets) = asked;
-        let Ok(()) = write_whole(line, &octets) else {
+        let Ok(()) = write_frames(line, &octets) else {
             return Err(ClientFault::Write);
         };
         let mut slots = empty_slots(alloc, requests)?;

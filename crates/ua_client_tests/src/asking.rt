@@ -31,6 +31,16 @@ pub fn create(rt: &impl Abort, alloc: Global) -> Request {
     create_session_request(alloc, url, MOMENT, 2).expect(rt, "memory")
 }
 
+/// A CreateSession to a URL of 8192 letters.
+pub fn create_long(rt: &impl Abort, alloc: Global) -> Request {
+    let mut url = String::new(alloc);
+    for _ in 0..8192 {
+        url.push('x').expect(rt, "memory");
+    }
+    let url = UaString::new(Some(url));
+    create_session_request(alloc, url, MOMENT, 2).expect(rt, "memory")
+}
+
 /// An ActivateSession.
 pub fn activate(rt: &impl Abort, alloc: Global) -> Request {
     activate_session_request(alloc, token(), MOMENT, 3).expect(rt, "memory")

@@ -1,9 +1,9 @@
 //! Calls of a session.
 
 use crate::asking::{
-    activate, answers, answers_a_group, close, create, read, refuses, token, write,
+    activate, answers, answers_a_group, close, create, create_long, read, refuses, token, write,
 };
-use crate::frames::{ACK, HEL, OPN};
+use crate::frames::{ACK, ACK_OF_8192, HEL, OPN};
 use crate::lines::{AT_ONCE, Course, MOMENT, joined, line, opened};
 use crate::sessions::{
     ACTIVATE, ACTIVATED, CLO, CLOSE, CLOSED, CREATE, CREATED, OPENED, READ, SIX, SIX_TO_THE_WRITE,
@@ -13,6 +13,7 @@ use std::alloc::Global;
 use std::process::Abort;
 use ua_channel::MemoryLine;
 use ua_client::{Client, ClientFault};
+use ua_services::Request;
 
 // That CreateSession and ActivateSession, called as other requests are, are answered.
 fn begins(rt: &impl Abort, alloc: Global, client: &mut Client, line: &mut MemoryLine) {
@@ -124,4 +125,49 @@ fn asks_nothing_for_no_requests(rt: HostRuntime) {
     drop(replies);
     let written = joined(&rt, alloc, &[HEL, OPN]);
     assert_eq!(&rt; line.written(), written.as_slice());
+}
+
+// The line behind a call of these requests to a server with this ACK, whose fourth write fails: the third
+// is the first behind those of the HEL and the OPN.
+fn behind_three_writes(
+    rt: &impl Abort,
+    alloc: Global,
+    ack: &[u8],
+    requests: Vec<Request>,
+) -> MemoryLine {
+    let coming = joined(rt, alloc, &[ack, OPENED]);
+    let mut line = line(rt, alloc, coming, (&[], &[], None, Some(4)));
+    let mut client = opened(rt, alloc, &mut line);
+    let found = client.call_all(&mut line, &requests, MOMENT);
+    drop(requests);
+    match found {
+        Ok(replies) => {
+            drop(replies);
+            assert!(rt; false);
+        }
+        Err(fault) => assert_eq!(rt; fault, ClientFault::Write),
+    }
+    line
+}
+
+#[test]
+fn writes_each_request_of_a_group_by_itself(rt: HostRuntime) {
+    let alloc = rt.alloc();
+    let mut group = Vec::new(alloc);
+    group.push(create(&rt, alloc)).expect(&rt, "memory");
+    group.push(activate(&rt, alloc)).expect(&rt, "memory");
+    let line = behind_three_writes(&rt, alloc, ACK, group);
+    let written = joined(&rt, alloc, &[HEL, OPN, CREATE]);
+    assert_eq!(&rt; line.written(), written.as_slice());
+}
+
+// The HEL has 56 octets, the OPN 132, and a chunk that is not the last as many as the server receives.
+#[test]
+fn writes_each_chunk_of_a_request_by_itself(rt: HostRuntime) {
+    let alloc = rt.alloc();
+    let mut group = Vec::new(alloc);
+    group.push(create_long(&rt, alloc)).expect(&rt, "memory");
+    let line = behind_three_writes(&rt, alloc, ACK_OF_8192, group);
+    assert_eq!(&rt; line.written().len(), 56 + 132 + 8192);
+    assert_eq!(&rt; line.written().get(188..196), Some(&b"MSGC\0\x20\0\0"[..]));
 }

@@ -7,6 +7,9 @@ pub const HEL: &[u8] =
 /// The ACK.
 pub const ACK: &[u8] = b"ACKF\x1C\0\0\0\0\0\0\0\xFF\xFF\0\0\xFF\xFF\0\0\0\0\x10\0\0\x01\0\0";
 
+/// The ACK of a server that receives frames of at most 8192 octets.
+pub const ACK_OF_8192: &[u8] = b"ACKF\x1C\0\0\0\0\0\0\0\0\x20\0\0\xFF\xFF\0\0\0\0\x10\0\0\x01\0\0";
+
 /// The OPN that issues a token, numbered 1, under the request id 1.
 pub const OPN: &[u8] =
     b"OPNF\x84\0\0\0\0\0\0\0/\0\0\0http://opcfoundation.org/UA/SecurityPolicy#None\xFF\xFF\xFF\xFF\xFF\xFF\xFF\xFF\x01\0\0\0\x01\0\0\0\x01\0\xBE\x01\0\0\0\x80\x3E\xD5\xDE\xB1\x9D\x01\0\0\0\0\0\0\0\0\xFF\xFF\xFF\xFF\0\0\0\0\0\0\0\0\0\0\0\0\0\0\0\x01\0\0\0\xFF\xFF\xFF\xFF\x80\xEE6\0";

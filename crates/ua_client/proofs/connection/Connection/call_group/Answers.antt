@@ -41,8 +41,8 @@ returns-in_default-clause-calls g c =
       some = c.requires.some;
       asks = c.in_ok-asked.ensures.asks;
     } in
-    group-unwritten c.args.requests.now c.args.self.now mid c.in_ok-asked.asked.0 c.in_ok-asked.asked.1.items asked (g.L.Line.traffic c.args.line.now) (g.L.Line.traffic c.write_whole.new.line) c.args.reads.now c.args.replies.now.items
-    (subst (λ (o : List ℕ). WhereTold (WritesFront o) (g.L.Line.traffic c.args.line.now) (g.L.Line.traffic c.write_whole.new.line)) c.deref-2.ensures.value c.in_default.ensures.written)
+    group-unwritten c.args.requests.now c.args.self.now mid c.in_ok-asked.asked.0 c.in_ok-asked.asked.1.items asked (g.L.Line.traffic c.args.line.now) (g.L.Line.traffic c.write_frames.new.line) c.args.reads.now c.args.replies.now.items
+    (subst (λ (o : List ℕ). WhereTold (WritesFront o) (g.L.Line.traffic c.args.line.now) (g.L.Line.traffic c.write_frames.new.line)) c.deref-2.ensures.value c.in_default.ensures.written)
 
 pub returns-in_err-slots-clause-calls : goal.returns-in_err-slots-clause-calls
 returns-in_err-slots-clause-calls g c =
@@ -57,8 +57,8 @@ returns-in_err-slots-clause-calls g c =
       some = c.requires.some;
       asks = c.in_ok-asked.ensures.asks;
     } in
-    rw (p.1, p.2) (group-unslotted c.args.requests.now c.args.self.now mid c.in_ok-asked.asked.0 c.in_ok-asked.asked.1.items asked c.calls_are_told_behind.ensures (g.L.Line.traffic c.args.line.now) (g.L.Line.traffic c.write_whole.new.line) c.args.reads.now
-    (subst (λ (o : List ℕ). WhereTold (Carries [] o) (g.L.Line.traffic c.args.line.now) (g.L.Line.traffic c.write_whole.new.line)) c.deref-2.ensures.value c.in-Ok.ensures.written)
+    rw (p.1, p.2) (group-unslotted c.args.requests.now c.args.self.now mid c.in_ok-asked.asked.0 c.in_ok-asked.asked.1.items asked c.calls_are_told_behind.ensures (g.L.Line.traffic c.args.line.now) (g.L.Line.traffic c.write_frames.new.line) c.args.reads.now
+    (subst (λ (o : List ℕ). WhereTold (Carries [] o) (g.L.Line.traffic c.args.line.now) (g.L.Line.traffic c.write_frames.new.line)) c.deref-2.ensures.value c.in-Ok.ensures.written)
     c.in_err-slots.field-0.0 c.args.replies.now.items c.in_err-slots.ensures.err)
 
 pub returns-in_err-slots-clause-failed : goal.returns-in_err-slots-clause-failed
@@ -78,8 +78,8 @@ returns-clause-calls g c =
       some = c.requires.some;
       asks = c.in_ok-asked.ensures.asks;
     } in
-    group-broken c.args.requests.now c.args.self.now mid c.in_ok-asked.asked.0 c.in_ok-asked.asked.1.items asked c.calls_are_told_behind.ensures c.collect.new.self (g.L.Line.traffic c.args.line.now) (g.L.Line.traffic c.write_whole.new.line) (g.L.Line.traffic c.collect.new.line) c.args.reads.now c.collect.new.reads
-    (subst (λ (o : List ℕ). WhereTold (Carries [] o) (g.L.Line.traffic c.args.line.now) (g.L.Line.traffic c.write_whole.new.line)) c.deref-2.ensures.value c.in-Ok.ensures.written)
+    group-broken c.args.requests.now c.args.self.now mid c.in_ok-asked.asked.0 c.in_ok-asked.asked.1.items asked c.calls_are_told_behind.ensures c.collect.new.self (g.L.Line.traffic c.args.line.now) (g.L.Line.traffic c.write_frames.new.line) (g.L.Line.traffic c.collect.new.line) c.args.reads.now c.collect.new.reads
+    (subst (λ (o : List ℕ). WhereTold (Carries [] o) (g.L.Line.traffic c.args.line.now) (g.L.Line.traffic c.write_frames.new.line)) c.deref-2.ensures.value c.in-Ok.ensures.written)
     (λ done. c.collect.new.slots.items) c.in-Err.fault c.args.replies.now.items c.in-Err.ensures.collects
 
 pub returns-in-Ok-collect-clause-calls : goal.returns-in-Ok-collect-clause-calls
@@ -94,8 +94,8 @@ returns-in-Ok-collect-clause-calls g c =
       some = c.requires.some;
       asks = c.in_ok-asked.ensures.asks;
     } in
-    group-kept c.args.requests.now c.args.self.now mid c.in_ok-asked.asked.0 c.in_ok-asked.asked.1.items asked c.calls_are_told_behind.ensures c.collect.new.self (g.L.Line.traffic c.args.line.now) (g.L.Line.traffic c.write_whole.new.line) (g.L.Line.traffic c.collect.new.line) c.args.reads.now c.collect.new.reads
-    (subst (λ (o : List ℕ). WhereTold (Carries [] o) (g.L.Line.traffic c.args.line.now) (g.L.Line.traffic c.write_whole.new.line)) c.deref-2.ensures.value c.in-Ok.ensures.written)
+    group-kept c.args.requests.now c.args.self.now mid c.in_ok-asked.asked.0 c.in_ok-asked.asked.1.items asked c.calls_are_told_behind.ensures c.collect.new.self (g.L.Line.traffic c.args.line.now) (g.L.Line.traffic c.write_frames.new.line) (g.L.Line.traffic c.collect.new.line) c.args.reads.now c.collect.new.reads
+    (subst (λ (o : List ℕ). WhereTold (Carries [] o) (g.L.Line.traffic c.args.line.now) (g.L.Line.traffic c.write_frames.new.line)) c.deref-2.ensures.value c.in-Ok.ensures.written)
     (λ done. c.collect.new.slots.items) c.append_replies.result tt c.args.replies.now.items c.append_replies.new.replies.items c.in-Ok-collect.ensures.collects c.append_replies.ensures.ok c.append_replies.ensures.err
 
 pub returns-in-Ok-collect-clause-count : goal.returns-in-Ok-collect-clause-count
