@@ -1,5 +1,6 @@
 -- Groups of calls, one behind another.
 use Rattle.std.specs.Prelude.{◌≡◌, ℕ, ◌+◌, ◌-◌, ◌≤◌, ◌<◌, List, [], ◌∷◌, ◌++◌, length, take, drop, Option, Ok, Err}
+use Rattle.std.specs.List.{AllByRecursion}
 use Rattle.std.proofs.Common.{refl, sym, ◌∙◌, ap, subst, append_assoc, append-nil, arith, zero, suc}
 use Rattle.std.proofs.Math.Seq.{take-add}
 use Rattle.std.proofs.lemmas.List.{length-append, length-drop, take-append-drop}
@@ -25,9 +26,17 @@ concat-push : (groups : List (List Request)) (group : List Request) → all_of (
 concat-push [] group = append-nil group
 concat-push (g ∷ groups) group = ap (λ (ms : List Request). g ++ ms) (concat-push groups group) ∙ sym (append_assoc g (all_of groups) group)
 
-groups-push : (groups : List (List Request)) (group : List Request) → AreGroups groups → 0 < length group → length group ≤ 64 → AreGroups (groups ++ group ∷ [])
-groups-push [] group h some few = ((some, few), tt)
-groups-push (g ∷ groups) group h some few = (h.0, groups-push groups group h.1 some few)
+-- each group has just 64 calls
+abbrev pub AreFull : List (List Request) → Type 0
+AreFull groups = AllByRecursion (λ (g : List Request). length g ≡ 64) groups
+
+full-push : (groups : List (List Request)) (group : List Request) → AreFull groups → length group ≡ 64 → AreFull (groups ++ group ∷ [])
+full-push [] group h full = (full, tt)
+full-push (g ∷ groups) group h full = (h.0, full-push groups group h.1 full)
+
+groups-push : (groups : List (List Request)) (group : List Request) → AreFull groups → 0 < length group → length group ≤ 64 → AreGroups (groups ++ group ∷ [])
+groups-push [] group h some few = (some, few, (λ more. absurd (omega (arith, more))), tt)
+groups-push (g ∷ groups) group h some few = let full = h.0 in (omega (arith, full), omega (arith, full), (λ more. full), groups-push groups group h.1 some few)
 
 -- the requests from one place up to another
 abbrev pub between : List Request → ℕ → ℕ → List Request
@@ -53,67 +62,72 @@ length-between requests start end h k = taken (drop start requests) (end - start
 
 -- ---- one group more
 
--- these requests are answered
-pub record Called (requests : List Request) (old now : Connection) (before at : Option Traffic) (left : ℕ) (replies : List Reply) : Type 0 where
+-- these requests are answered, in groups that are full where there are more
+pub record Called (requests : List Request) (more : Type 0) (old now : Connection) (before at : Option Traffic) (left : ℕ) (replies : List Reply) : Type 0 where
   pub sent : List ℕ
   pub moves : Moves old now sent before at
   pub same : SameClient (channel_of old) (channel_of now)
-  pub answers : (s : Site) → At (channel_of old) s → IsSettled s → AnsweredAll requests s (channel_of now) sent moves.taken replies
+  pub answers : (s : Site) → At (channel_of old) s → IsSettled s → (a : AnsweredAll requests s (channel_of now) sent moves.taken replies) × (more → AreFull a.groups)
   pub spent : most_reads ≤ left + length moves.got
 
-pub called-nothing : (x : Connection) (t : Option Traffic) → Called [] x x t t most_reads []
-called-nothing x t = record {
+pub called-nothing : (more : Type 0) (x : Connection) (t : Option Traffic) → Called [] more x x t t most_reads []
+called-nothing more x t = record {
   sent = [];
   moves = moves-nothing x x t refl;
   same = record { limits = refl; url = refl };
-  answers = λ s at settled. record { groups = []; parts = refl; sized = tt; behind = s; at = at; settled = settled; rounds = NoRound };
+  answers = λ s at settled. (record { groups = []; parts = refl; sized = tt; behind = s; at = at; settled = settled; rounds = NoRound }, λ goes. tt);
   spent = omega arith;
 }
 
 module _ (requests group : List Request) (old now new : Connection) (before at then : Option Traffic) (left less : ℕ) (replies next : List Reply)
-    (some : 0 < length group) (few : length group ≤ 64) (c : Called requests old now before at left replies) where
+    (some : 0 < length group) (few : length group ≤ 64) (more : Type 0) (goes : more) (c : Called requests more old now before at left replies) where
   same-then : SameClient (channel_of now) (channel_of new) → SameClient (channel_of old) (channel_of new)
   same-then k = record { limits = c.same.limits ∙ k.limits; url = c.same.url ∙ k.url }
 
   spent-then : (got : List ℕ) → left ≤ less + length got → most_reads ≤ less + length (c.moves.got ++ got)
   spent-then got h = let l = length-append c.moves.got got in let s = c.spent in omega (arith, l, s, h)
 
-  pub called-more : {A : Type 0} (done : A) → CallsGroup {A = A} group now new at then left less (Ok done) replies next → Called (requests ++ group) old new before then less next
-  called-more done g = record {
+  pub called-more : {A : Type 0} (done : A) (later : Type 0) → (later → length group ≡ 64) → CallsGroup {A = A} group now new at then left less (Ok done) replies next → Called (requests ++ group) later old new before then less next
+  called-more done later full g = record {
     sent = c.sent ++ g.sent;
     moves = moves-behind old now new c.sent g.sent before at then c.moves g.moves;
     same = same-then g.same;
     answers = λ s h settled.
-        let a = c.answers s h settled in
-        let b = g.answers a.behind a.at a.settled in
-        record {
-          groups = a.groups ++ group ∷ [];
-          parts = ap (λ (ms : List Request). ms ++ group) a.parts ∙ sym (concat-push a.groups group);
-          sized = groups-push a.groups group a.sized some few;
-          behind = b.1.0;
-          at = b.1.2;
-          settled = answered-settled group a.behind b.1.0 g.moves.taken b.1.1 a.settled b.1.3;
-          rounds = subst (λ (rs : List Reply). Rounds s (a.groups ++ group ∷ []) b.1.0 (c.sent ++ g.sent) (c.moves.taken ++ g.moves.taken) rs) (sym b.1.4)
-              (subst (λ (o : List ℕ). Rounds s (a.groups ++ group ∷ []) b.1.0 (c.sent ++ o) (c.moves.taken ++ g.moves.taken) (replies ++ b.1.1)) (sym b.0)
-              (OneRound group (channel_of new) a.rounds b.1.2 b.1.3));
-        };
+        let known = c.answers s h settled in
+        let a = known.0 in
+        let b = g.answers a.behind a.at a.settled in (
+          record {
+            groups = a.groups ++ group ∷ [];
+            parts = ap (λ (ms : List Request). ms ++ group) a.parts ∙ sym (concat-push a.groups group);
+            sized = groups-push a.groups group (known.1 goes) some few;
+            behind = b.1.0;
+            at = b.1.2;
+            settled = answered-settled group a.behind b.1.0 g.moves.taken b.1.1 a.settled b.1.3;
+            rounds = subst (λ (rs : List Reply). Rounds s (a.groups ++ group ∷ []) b.1.0 (c.sent ++ g.sent) (c.moves.taken ++ g.moves.taken) rs) (sym b.1.4)
+                (subst (λ (o : List ℕ). Rounds s (a.groups ++ group ∷ []) b.1.0 (c.sent ++ o) (c.moves.taken ++ g.moves.taken) (replies ++ b.1.1)) (sym b.0)
+                (OneRound group (channel_of new) a.rounds b.1.2 b.1.3));
+          },
+          λ l. full-push a.groups group (known.1 goes) (full l),
+        );
     spent = spent-then g.moves.got g.stops;
   }
 
-  pub calls-broken : {A B : Type 0} (view : B → List Reply) (all behind : List Request) (f : ClientFault) → all ≡ requests ++ (group ++ behind) → CallsGroup {A = A} group now new at then left less (Err f) replies next
+  pub calls-broken : {A B : Type 0} (view : B → List Reply) (all behind : List Request) (f : ClientFault) → all ≡ requests ++ (group ++ behind) → (0 < length behind → length group ≡ 64) → CallsGroup {A = A} group now new at then left less (Err f) replies next
       → CallsAll view all old new before then (Err f)
-  calls-broken {A} {B} view all behind f parts g = record {
+  calls-broken {A} {B} view all behind f parts full g = record {
     sent = c.sent ++ g.sent;
     moves = moves-behind old now new c.sent g.sent before at then c.moves g.moves;
     same = same-then g.same;
     answers = λ s h settled.
-        let a = c.answers s h settled in
+        let known = c.answers s h settled in
+        let a = known.0 in
         record {
           groups = a.groups;
           group = group;
           others = behind;
           parts = parts ∙ ap (λ (ms : List Request). ms ++ (group ++ behind)) a.parts;
-          sized = groups-push a.groups group a.sized some few;
+          sized = groups-push a.groups group (known.1 goes) some few;
+          full = full;
           behind = a.behind;
           settled = a.settled;
           sent_before = c.sent;
@@ -145,13 +159,13 @@ module _ (requests group : List Request) (old now new : Connection) (before at t
       stops fault.TooManyTokens h = tt
       stops (fault.Service code) h = tt
 
-pub calls-all : {A : Type 0} (view : A → List Reply) (requests done : List Request) (old now : Connection) (before at : Option Traffic) (left : ℕ) (found : A)
-    → Called done old now before at left (view found) → done ≡ requests → CallsAll view requests old now before at (Ok found)
-calls-all view requests done old now before at left found c e = record {
+pub calls-all : {A : Type 0} (view : A → List Reply) (requests done : List Request) (more : Type 0) (old now : Connection) (before at : Option Traffic) (left : ℕ) (found : A)
+    → Called done more old now before at left (view found) → done ≡ requests → CallsAll view requests old now before at (Ok found)
+calls-all view requests done more old now before at left found c e = record {
   sent = c.sent;
   moves = c.moves;
   same = c.same;
-  answers = λ s h settled. subst (λ (ms : List Request). AnsweredAll ms s (channel_of now) c.sent c.moves.taken (view found)) e (c.answers s h settled);
+  answers = λ s h settled. subst (λ (ms : List Request). AnsweredAll ms s (channel_of now) c.sent c.moves.taken (view found)) e (c.answers s h settled).0;
   stops = omega arith;
 }
 
@@ -163,9 +177,9 @@ all-taken (r ∷ rs) (suc n) few = ap (λ (ms : List Request). r ∷ ms) (all-ta
 
 -- ---- places
 
-pub called-to : (requests : List Request) (start end : ℕ) (old now : Connection) (before at : Option Traffic) (left : ℕ) (replies : List Reply) → start ≤ end
-    → Called (take start requests ++ between requests start end) old now before at left replies → Called (take end requests) old now before at left replies
-called-to requests start end old now before at left replies h c = subst (λ (ms : List Request). Called ms old now before at left replies) (up-to requests start end h) c
+pub called-to : (requests : List Request) (start end : ℕ) (more : Type 0) (old now : Connection) (before at : Option Traffic) (left : ℕ) (replies : List Reply) → start ≤ end
+    → Called (take start requests ++ between requests start end) more old now before at left replies → Called (take end requests) more old now before at left replies
+called-to requests start end more old now before at left replies h c = subst (λ (ms : List Request). Called ms more old now before at left replies) (up-to requests start end h) c
 
 pub split-at : (requests : List Request) (start end : ℕ) → start ≤ end → requests ≡ take start requests ++ (between requests start end ++ drop end requests)
 split-at requests start end h =
@@ -177,3 +191,9 @@ group-some requests start end h k = let l = length-between requests start end (o
 
 pub group-few : (requests : List Request) (start end : ℕ) → start ≤ end → end ≤ length requests → end ≤ start + 64 → length (between requests start end) ≤ 64
 group-few requests start end h k most = let l = length-between requests start end h k in omega (arith, l, most)
+
+pub group-full : (requests : List Request) (start end : ℕ) → start ≤ end → end ≤ length requests → (end < length requests → end ≡ start + 64) → end < length requests → length (between requests start end) ≡ 64
+group-full requests start end h k full more = let l = length-between requests start end h k in let e = full more in omega (arith, l, e)
+
+pub more-behind : (requests : List Request) (end : ℕ) → 0 < length (drop end requests) → end < length requests
+more-behind requests end more = let l = length-drop end requests in omega (arith, l, more)

@@ -1,6 +1,6 @@
--- What a client's calls come to: groups of at most 64, each judged whole, written and then answered.
+-- What a client's calls come to: groups of 64, the last of which may have fewer, each judged whole, written and then answered.
 use Rattle.std.specs.Prelude.{◌≡◌, ◌⊎◌, ◌+◌, ◌<◌, ◌≤◌, ◌++◌, ℕ, List, [], ◌∷◌, map, length, is_none, false, Option, Some, None, Result, Ok, Err}
-use Rattle.std.specs.List.{AllByRecursion, list_any}
+use Rattle.std.specs.List.{list_any}
 use Rattle.ua_octets.specs.Format.{Extends}
 use Rattle.ua_builtin.specs.Reasons.{first_reason}
 use Rattle.ua_frame.specs.Frames.{frames_octets}
@@ -155,9 +155,10 @@ abbrev pub all_of : List (List Request) → List Request
 all_of [] = []
 all_of (group ∷ groups) = group ++ all_of groups
 
--- each group has a call, and at most 64
+-- each group has a call and at most 64, and each but the last just 64
 abbrev pub AreGroups : List (List Request) → Type 0
-AreGroups groups = AllByRecursion (λ (g : List Request). (0 < length g) × (length g ≤ 64)) groups
+AreGroups [] = Unit {0}
+AreGroups (group ∷ groups) = (0 < length group) × (length group ≤ 64) × (0 < length groups → length group ≡ 64) × AreGroups groups
 
 -- requests are answered in groups
 pub record AnsweredAll (requests : List Request) (s : Site) (x : ClientChannel) (sent taken : List ℕ) (replies : List Reply) : Type 0 where
@@ -177,6 +178,8 @@ pub record BrokenAll (requests : List Request) (s : Site) (new : Connection) (se
   pub others : List Request
   pub parts : requests ≡ all_of groups ++ (group ++ others)
   pub sized : AreGroups (groups ++ group ∷ [])
+  -- where more requests stand behind it, it has just 64
+  pub full : 0 < length others → length group ≡ 64
   pub behind : Site
   pub settled : IsSettled behind
   pub sent_before : List ℕ

@@ -24,6 +24,7 @@ fn group_end(start: usize, count: usize) -> usize
     requires { start < count }
     ensures some { start < result }
     ensures few { result ≤ start + 64 }
+    ensures full { result < count → result ≡ start + 64 }
     ensures within { result ≤ count }
 {
     if count - start <= MOST_CALLS {
@@ -67,7 +68,7 @@ impl Connection {
         }
     }
 
-    /// Calls in groups of at most 64, each written and then answered.
+    /// Calls in groups of 64, the last of which may have fewer, each written and then answered.
     pub fn call_groups<L: Line>(
         &mut self,
         alloc: Global,

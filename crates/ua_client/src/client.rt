@@ -105,10 +105,10 @@ impl Client {
         }
     }
 
-    /// The replies to requests, in their order. The requests are asked in groups of at most 64: each is
-    /// judged whole, written and then answered. After `TooLarge`, `NotWritable` and `Exhausted` the client
-    /// is as behind the groups before, and nothing of the group was written; after any other fault it is
-    /// done.
+    /// The replies to requests, in their order. The requests are asked in groups of 64, the last of which
+    /// may have fewer: each is judged whole, written and then answered. After `TooLarge`, `NotWritable`
+    /// and `Exhausted` the client is as behind the groups before, and nothing of the group was written;
+    /// after any other fault it is done.
     pub fn call_all<L: Line>(
         &mut self,
         line: &mut L,
