@@ -201,7 +201,8 @@ is_hearing_fault fault.Ended = true
 is_hearing_fault fault.TooLong = true
 is_hearing_fault other = false
 
--- at the end of the input all is taken, and a line that tells its octets has none to come; too many reads are as many as octets came
+-- where something is answered, no more reads were made than octets came; where reading stopped all is taken: at too many reads at least
+-- as many octets came as there were reads to make, and at the end of the input a line that tells its octets has none to come
 abbrev pub StopsAt : {A : Type 0} → ℕ → ℕ → List ℕ → Connection → Option Traffic → Result A ClientFault → Type 0
 StopsAt reads left got new after (Ok found) = reads ≤ left + length got
 StopsAt reads left got new after (Err fault.TooLong) = (untaken_of new ≡ []) × (reads ≤ length got)

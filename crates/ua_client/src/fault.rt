@@ -45,7 +45,8 @@ pub enum ClientFault {
     /// Memory was refused.
     #[error("out of memory")]
     OutOfMemory,
-    /// The line handed out as many octets as a call may make reads, 18446744073709551615.
+    /// As many reads were made as a call may make, 18446744073709551615; the line handed out at least as
+    /// many octets.
     #[error("too many reads")]
     TooLong,
     /// 16 tokens are held, from the last one that the server used to the newest.
