@@ -40,13 +40,10 @@ use Rattle.ua_exchange.specs.declared.turn.Turn.{Turn}
 use Rattle.ua_exchange.proofs.Asked.{restand}
 use Rattle.ua_exchange.proofs.Asking.{asking, octets-push, told-push}
 use Rattle.ua_exchange.proofs.Hearing.{hearing-all}
+use Rattle.ua_exchange.proofs.Lists.{from-place}
 use Rattle.ua_exchange.proofs.Saying.{spent-push}
 
 -- ---- turns behind others
-
-from-place : {A : Type 0} (P : List A → A → Type 0) (start xs ys : List A) → AllFrom P start (xs ++ ys) → AllFrom P (start ++ xs) ys
-from-place {A = A} P start [] ys h = subst (λ (t : List A). AllFrom P t ys) (sym (append-nil start)) h
-from-place {A = A} P start (x ∷ xs) ys h = subst (λ (t : List A). AllFrom P t ys) (append_assoc start (x ∷ []) xs) (from-place P (start ++ x ∷ []) xs ys h.1)
 
 -- those that wait are accepted behind those that are answered
 pub accepted-behind : (answered waiting : List Turn) → AreAccepted (answered ++ waiting) → AllFrom IsAccepted answered waiting

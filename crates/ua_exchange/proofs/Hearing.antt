@@ -38,7 +38,7 @@ use Rattle.ua_server.specs.State.{State}
 use Rattle.ua_exchange.specs.Accepted.{IsAccepted}
 use Rattle.ua_exchange.specs.Programs.{AreOurs, acknowledged, channel, url}
 use Rattle.ua_exchange.specs.Groups.{EndsAtRenewal, upto, calls_from, renewals_from}
-use Rattle.ua_exchange.specs.Reading.{Hearing, all_heard, heard_behind, said_to, turns_heard}
+use Rattle.ua_exchange.specs.Reading.{Hearing, all_heard, asked_behind, heard_behind, said_to, turns_heard}
 use Rattle.ua_exchange.specs.Replies.{lane_back, response_behind}
 use Rattle.ua_exchange.specs.Turns.{id_behind, is_call, token_behind}
 use Rattle.ua_exchange.specs.declared.turn.Turn.{Turn}
@@ -137,6 +137,16 @@ module _ (limits : Limits) (ours : AreOurs limits) (first : State) (moment : Dat
           ∙ (ap (λ (k : ℕ). renewals_from (id_behind answered) waiting ++ k ∷ []) next_is_id ∙ sym (renewals-push (id_behind answered) waiting));
       next_is = h.next_is;
     }
+
+    -- a turn is asked
+    id_here : next_id (asked_in asks) ≡ id_behind (answered ++ waiting)
+    id_here = omega (arith, h.asked_is, length-append answered waiting)
+
+    pub hearing-asked : (t : Turn) → Hearing limits first moment (asks ++ asked_behind first moment answered waiting t ∷ []) answered (waiting ++ t ∷ [])
+    hearing-asked (Ask m) =
+        subst (λ (id : ℕ). Hearing limits first moment (asks ++ (length (said_to first moment answered), Call id) ∷ []) answered (waiting ++ Ask m ∷ [])) id_here (hearing-call m)
+    hearing-asked Renew =
+        subst (λ (id : ℕ). Hearing limits first moment (asks ++ (length (said_to first moment answered), Renewal id) ∷ []) answered (waiting ++ Renew ∷ [])) id_here hearing-renewal
 
   -- where replies go
   module _ (asks : List Placed) (answered waiting : List Turn) (h : Hearing limits first moment asks answered waiting) (few : id_behind answered < no_id) where

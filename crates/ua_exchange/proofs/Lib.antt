@@ -5,6 +5,7 @@ mod Waiting
 mod Asking
 mod Saying
 mod Hearing
+mod Heard
 mod Pieces
 mod Serving
 mod Hearings

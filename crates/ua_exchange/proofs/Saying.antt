@@ -4,7 +4,7 @@ use Rattle.std.proofs.lemmas.List.{length-replicate, replicate-append-replicate}
 use Rattle.ua_builtin.specs.declared.date_time.DateTime.{DateTime}
 use Rattle.ua_frame.specs.Frames.{frame_octets}
 use Rattle.ua_frame.specs.Messages.{ack_frame}
-use Rattle.ua_frame.specs.Run.{Going}
+use Rattle.ua_frame.specs.Run.{Going, Over}
 use Rattle.ua_frame.specs.After.{each_after, each_from}
 use Rattle.ua_chunk.specs.Sequence.{next_number}
 use Rattle.ua_channel.specs.ClientSends.{token_lifetime}
@@ -21,6 +21,7 @@ use Rattle.ua_server.specs.Answer.{answer}
 use Rattle.ua_server.specs.Reply.{answered, answered_by}
 use Rattle.ua_server.specs.Said.{Course, with_more, said, said_of, left, left_by, used_in, reply_with}
 use Rattle.ua_server.specs.State.{State}
+use Rattle.ua_exchange.specs.Exchanged.{all_said}
 use Rattle.ua_exchange.specs.Handed.{all_told, asking_told, moments_of, spent, told_behind, turns_told}
 use Rattle.ua_server.proofs.SaidInParts.{used_in-append, left-append, said-append, left-more, said-more}
 use Rattle.ua_exchange.specs.Programs.{acknowledged, agreement, channel}
@@ -147,3 +148,12 @@ used-turns turns =
 -- the moments of all answers
 pub spent-all : (moment : DateTime) (turns : List Turn) → spent (all_told turns) moment ≡ moments_of moment turns
 spent-all moment turns = ap (λ (n : ℕ). replicate n moment) (used-turns turns)
+
+spent-closed : (moment : DateTime) (turns : List Turn) → spent (all_told turns) moment ≡ spent (asking_told turns) moment
+spent-closed moment turns = ap (λ (n : ℕ). replicate n moment) (omega (arith, used_in-append (asking_told turns) (Closed ∷ [])))
+
+-- the CLO adds nothing to what is said
+pub said-closed : (first : State) (moment : DateTime) (turns : List Turn) → all_said first moment turns ≡ said_to first moment turns
+said-closed first moment turns =
+    ap (said channel first (all_told turns) Over) (sym (spent-all moment turns) ∙ spent-closed moment turns)
+    ∙ (said-append channel first (asking_told turns) (Closed ∷ []) Over (spent (asking_told turns) moment) ∙ append-nil (said_to first moment turns))

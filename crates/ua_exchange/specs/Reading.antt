@@ -1,15 +1,18 @@
 -- What each end reads of what the other says of turns.
-use Rattle.std.specs.Prelude.{◌≡◌, ℕ, suc, ◌+◌, ◌≤◌, length, List, [], ◌∷◌, Some}
+use Rattle.std.specs.Prelude.{◌≡◌, ℕ, suc, ◌+◌, ◌≤◌, length, List, [], ◌∷◌, ◌++◌, Some}
 use Rattle.ua_builtin.specs.declared.date_time.DateTime.{DateTime}
 use Rattle.ua_frame.specs.After.{each_after}
 use Rattle.ua_frame.specs.Frames.{frames_octets}
-use Rattle.ua_frame.specs.Run.{Going}
+use Rattle.ua_frame.specs.Run.{Going, Run, events}
+use Rattle.ua_frame.specs.declared.frame.Frame.{Frame}
 use Rattle.ua_frame.specs.declared.limits.Limits.{Limits}
 use Rattle.ua_chunk.specs.Cutting.{cut_refusal}
 use Rattle.ua_chunk.specs.Gathered.{after_last}
-use Rattle.ua_channel.specs.Asks.{Placed, asked_in}
+use Rattle.ua_channel.specs.Asks.{Asking, Placed, asked_in}
+use Rattle.ua_channel.specs.Asks.Asking.{Call, Renewal}
 use Rattle.ua_channel.specs.ClientAsks.{no_id}
 use Rattle.ua_channel.specs.ClientReads.{AtClient, ClientReads, told_reply}
+use Rattle.ua_channel.specs.ClientTable.{client_rules}
 use Rattle.ua_channel.specs.ClientTold.{Told as Heard, Told as heard}
 use Rattle.ua_channel.specs.ServerReads.{AtServer, ServerReads}
 use Rattle.ua_services.specs.Response.{response}
@@ -65,6 +68,15 @@ turns_heard first moment turns = each_after (heard_behind first moment) turns
 abbrev pub all_heard : State → DateTime → List Turn → List Heard
 all_heard first moment turns = heard.Agreed acknowledged ∷ (heard.Opened channel 1 ∷ turns_heard first moment turns)
 
+-- what a client asks in a turn, under this request id
+abbrev pub asking_under : ℕ → Turn → Asking
+asking_under id (Ask m) = Call id
+asking_under id Renew = Renewal id
+
+-- the same of the turn behind those that wait, with its place: where the answers end to those that are answered
+abbrev pub asked_behind : State → DateTime → List Turn → List Turn → Turn → Placed
+asked_behind first moment answered waiting t = (length (said_to first moment answered), asking_under (id_behind (answered ++ waiting)) t)
+
 -- a client with these limits reads what the server says of the turns that are answered, where it asked these, and the others wait
 pub record Hearing (limits : Limits) (first : State) (moment : DateTime) (asks : List Placed) (answered waiting : List Turn) : Type 0 where
   pub at : AtClient
@@ -81,3 +93,30 @@ pub record Hearing (limits : Limits) (first : State) (moment : DateTime) (asks :
   pub pending_are : at.pending ≡ calls_from (id_behind answered) waiting
   pub renewals_are : at.renewals ≡ renewals_from (id_behind answered) waiting
   pub next_is : NumberIs first moment answered at.next
+
+-- ---- all that a client reads, group by group
+
+-- the turns of groups, one group behind the other
+abbrev pub in_order : List (List Turn) → List Turn
+in_order [] = []
+in_order (group ∷ groups) = group ++ in_order groups
+
+-- what a client asks in these turns, behind those that are answered and those that wait
+abbrev pub asks_behind : State → DateTime → List Turn → List Turn → List Turn → List Placed
+asks_behind first moment answered waiting [] = []
+asks_behind first moment answered waiting (t ∷ ts) = asked_behind first moment answered waiting t ∷ asks_behind first moment answered (waiting ++ t ∷ []) ts
+
+-- what it asks in these groups, behind turns that are answered: each group where the answers to the turns before it end
+abbrev pub asks_from : State → DateTime → List Turn → List (List Turn) → List Placed
+asks_from first moment answered [] = []
+asks_from first moment answered (group ∷ groups) = asks_behind first moment answered [] group ++ asks_from first moment (answered ++ group) groups
+
+-- all that it asks
+abbrev pub asks_of : State → DateTime → List (List Turn) → List Placed
+asks_of first moment groups = asks_from first moment [] groups
+
+-- octets are whole frames; a client with these limits, that asked so, refuses none of them, and they tell it just this, in this order
+pub record TellsClient (limits : Limits) (asks : List Placed) (octets : List ℕ) (told : List Heard) : Type 0 where
+  pub frames : List Frame
+  pub run : Run (client_rules limits asks) octets frames [] Going
+  pub told_is : events (client_rules limits asks) frames ≡ told

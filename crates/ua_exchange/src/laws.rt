@@ -1,12 +1,12 @@
 //! Laws of what two ends say to each other, and of what each holds meanwhile. Each is the contract of
 //! a function that does nothing, or only looks.
 
-ghost use Rattle.std.specs.Prelude.{ℕ, ◌≤◌, IsTrue, List, [], ◌++◌};
+ghost use Rattle.std.specs.Prelude.{ℕ, ◌≤◌, IsTrue, List};
+ghost use Rattle.std.specs.List.{AllByRecursion};
 ghost use Rattle.ua_builtin.specs.DateTime.{date_time};
 ghost use Rattle.ua_builtin.specs.declared.date_time.DateTime.{DateTime};
 ghost use Rattle.ua_frame.specs.declared.limits.Limits.{Limits};
 ghost use Rattle.ua_frame.specs.declared.frame.Frame.{Frame};
-ghost use Rattle.ua_frame.specs.After.{AllFrom};
 ghost use Rattle.ua_channel.specs.Asks.{Placed};
 ghost use Rattle.ua_channel.specs.Client.{Stands as ClientStands, bound_behind, held_octets, limits_of as client_limits};
 ghost use Rattle.ua_channel.specs.Received.{received};
@@ -14,9 +14,10 @@ ghost use Rattle.ua_channel.specs.ServerReads.{ServerCloses};
 ghost use Rattle.ua_channel.specs.ServerStands.{Stands as ServerStands, bound_after, held_after, limits_of as server_limits};
 ghost use Rattle.ua_server.specs.Served.{channel_in};
 ghost use Rattle.ua_server.specs.State.{State};
-ghost use Rattle.ua_exchange.specs.Accepted.{AreAccepted, IsAccepted};
+ghost use Rattle.ua_exchange.specs.Accepted.{AreAccepted};
+ghost use Rattle.ua_exchange.specs.Exchanged.{all_said};
 ghost use Rattle.ua_exchange.specs.Groups.{EndsAtRenewal};
-ghost use Rattle.ua_exchange.specs.Reading.{Hearing};
+ghost use Rattle.ua_exchange.specs.Reading.{TellsClient, all_heard, asks_of, in_order};
 ghost use Rattle.ua_exchange.specs.Handed.{all_told};
 ghost use Rattle.ua_exchange.specs.Programs.{AreOurs, channel, most_held};
 ghost use Rattle.ua_exchange.specs.Turns.{up_octets};
@@ -32,12 +33,14 @@ pub fn turns_reach_the_server()
         → ServerCloses limits channel (up_octets moment turns) (all_told turns) }
 {}
 
-/// A client reads what a server says of a group of turns that are accepted: each reply in its order,
-/// and last the token that a renewal brings.
+/// A client that asks turns which are accepted, in any groups of which a renewal is the last turn, each
+/// group where the answers to the turns before it end, reads what a server says of them: no frame of it
+/// is refused, and it is told the reply to each request under its own request id, or that it was given
+/// up, and the token that each renewal brings, in their order.
 pub fn answers_reach_the_client()
-    ensures first { (limits : Limits) (first : State) (moment : DateTime) → AreOurs limits → IsTrue (date_time.encodable moment) → Hearing limits first moment [] [] [] }
-    ensures group { (limits : Limits) (first : State) (moment : DateTime) (asks : List Placed) (answered waiting : List Turn) → AreOurs limits → IsTrue (date_time.encodable moment)
-        → Hearing limits first moment asks answered waiting → EndsAtRenewal waiting → AllFrom IsAccepted answered waiting → Hearing limits first moment asks (answered ++ waiting) [] }
+    ensures { (limits : Limits) (first : State) (moment : DateTime) (groups : List (List Turn)) → AreOurs limits → IsTrue (date_time.encodable moment)
+        → AllByRecursion EndsAtRenewal groups → AreAccepted (in_order groups)
+        → TellsClient limits (asks_of first moment groups) (all_said first moment (in_order groups)) (all_heard first moment (in_order groups)) }
 {}
 
 /// A server never holds more than was agreed, whatever came and in whatever pieces, so at each front
