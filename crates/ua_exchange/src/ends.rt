@@ -302,7 +302,8 @@ impl<'u, 'd> Ends<'u, 'd> {
 /// of 1048576 octets and 256 chunks. Each takes what the other wrote in pieces of these lengths, in
 /// turn and again from the first; 0 counts as 1, and with none the octets are not cut. The client
 /// writes a group of at most 64 requests, and a renewal that follows them, and then takes the replies.
-/// The moment is that of each answer, in units of 100 nanoseconds since 1601-01-01 00:00 UTC.
+/// The moment is that of each answer, of each OPN and of the CLO, in units of 100 nanoseconds since
+/// 1601-01-01 00:00 UTC.
 pub fn exchange(
     alloc: Global,
     table: NodeTable,

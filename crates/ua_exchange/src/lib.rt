@@ -3,8 +3,9 @@
 //!
 //! Its contract is that of `exchange`: what went over the line each way, the reply to each request and
 //! the end, or the first turn that is not accepted. And that of the `laws`: what a client says of turns
-//! that are accepted is read by a server, which is told of just these turns, in their order; and what
-//! the server says of them is read by the client, each reply under its own request id.
+//! that are accepted is read by a server, which is told of just these turns, in their order; what the
+//! server says of them is read by the client, each reply under its own request id; and neither end ever
+//! holds more than was agreed.
 #![tactic(auto)]
 
 mod client_end;
