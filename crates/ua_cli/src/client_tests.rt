@@ -5,7 +5,7 @@ use crate::serve::limits;
 use crate::tcp_line::TcpLine;
 use std::alloc::Global;
 use std::io::{Read, Write};
-use std::net::{Net, TcpListener, TcpStream};
+use std::net::{Net, OpenListener, TcpListener, TcpStream};
 use std::process::Abort;
 use std::slice;
 use std::test::Fail;

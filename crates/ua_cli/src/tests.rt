@@ -2,7 +2,7 @@
 
 use crate::run::{refuse_words, run};
 use std::io::Write;
-use std::net::{Net, TcpListener};
+use std::net::{Net, OpenListener, TcpListener};
 use std::process::Abort;
 use std::rt::Files;
 use std::test::Fail;
