@@ -2,8 +2,11 @@ use Rattle.std.proofs.Common.{Err, Ok, Option, Some, arith, inr, refl, string_by
 use Rattle.std.proofs.lemmas.Result.{err_from_is_err_and}
 use Rattle.ua_exchange.specs.declared.reply.Reply.{Reply}
 use Rattle.ua_looping.specs.Printed.{AddsTold, reply_told}
-use Rattle.ua_looping.proofs.Told.{asks, behind-all, behind-fault, behind-step}
+use Rattle.ua_looping.proofs.Told.{asks, behind-all, behind-fault, behind-none, behind-step}
 use Rattle.ua_looping.proofs.printed.push_answers.Goals as goal
+
+pub loop-line-init : goal.loop-line-init
+loop-line-init c = (omega arith, behind-none c.args.lines.now c.args.replies.now (string_bytes c.args.out.now))
 
 pub returns-in_err-response_at : goal.returns-in_err-response_at
 returns-in_err-response_at c =
