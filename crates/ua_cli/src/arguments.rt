@@ -20,6 +20,8 @@ pub enum Task<'a> {
     Read(ReadNodes<'a>),
     /// Write the value of a node.
     Write(WriteNode<'a>),
+    /// Run a script over nodes, both ends within this process.
+    Loop(Loop<'a>),
 }
 
 /// The words of `ua dissect`.
@@ -63,6 +65,19 @@ pub struct WriteNode<'a> {
     pub kind: &'a str,
     /// The text of a value of that type.
     pub value: &'a str,
+}
+
+/// The words of `ua loop`.
+#[derive(Clone, Copy)]
+pub struct Loop<'a> {
+    /// The node file.
+    pub nodes: &'a str,
+    /// The script.
+    pub script: &'a str,
+    /// How many octets each end takes at once.
+    pub cut: u16,
+    /// Whether the octets go over a connection, too.
+    pub tcp: bool,
 }
 
 fn side_of(matches: &ArgMatches<'_>) -> Side {
@@ -115,6 +130,15 @@ fn endpoints_of<'a>(matches: &ArgMatches<'a>) -> Option<Task<'a>> {
     Some(Task::Endpoints(number_of(matches, "PORT")?))
 }
 
+fn loop_of<'a>(matches: &ArgMatches<'a>) -> Option<Task<'a>> {
+    Some(Task::Loop(Loop {
+        nodes: matches.get_str("NODES")?,
+        script: matches.get_str("SCRIPT")?,
+        cut: number_of(matches, "cut")?,
+        tcp: matches.get_flag("tcp"),
+    }))
+}
+
 /// What the words ask for, of which the first is the program's name; nothing where a number among
 /// them is none from 1 to 65535.
 pub(crate) fn parse<'a, S: AsStr>(
@@ -128,6 +152,7 @@ pub(crate) fn parse<'a, S: AsStr>(
         Some(("endpoints", found)) => endpoints_of(found),
         Some(("read", found)) => read_of(alloc, found)?,
         Some(("write", found)) => write_of(found),
+        Some(("loop", found)) => loop_of(found),
         _ => None,
     })
 }

@@ -82,6 +82,18 @@ fn write<'a>(alloc: Global) -> Result<Command<'a>, AllocError> {
         .arg(needed(alloc, "VALUE", value))
 }
 
+fn run_script<'a>(alloc: Global) -> Result<Command<'a>, AllocError> {
+    let script = "the script: lines that read, write and renew";
+    let cut = "how many octets each end takes at once, from 1 to 65535";
+    let tcp = "the same octets go over a connection within this process, too";
+    Command::new(alloc, "loop")
+        .about("runs a script over nodes, with both ends within this process")
+        .arg(node_file(alloc))?
+        .arg(needed(alloc, "SCRIPT", script))?
+        .arg(number(alloc, "cut", "65535", cut))?
+        .arg(flag(alloc, "tcp", tcp))
+}
+
 /// The program's command line.
 pub fn program<'a>(alloc: Global) -> Result<Command<'a>, AllocError> {
     Command::new(alloc, "ua")
@@ -91,5 +103,6 @@ pub fn program<'a>(alloc: Global) -> Result<Command<'a>, AllocError> {
         .subcommand(serve(alloc)?)?
         .subcommand(endpoints(alloc)?)?
         .subcommand(read(alloc)?)?
-        .subcommand(write(alloc)?)
+        .subcommand(write(alloc)?)?
+        .subcommand(run_script(alloc)?)
 }

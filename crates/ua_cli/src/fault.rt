@@ -3,6 +3,7 @@
 use std::alloc::AllocError;
 use thiserror::Error;
 use ua_asking::{AskFault, WordFault};
+use ua_looping::LoopFault;
 use ua_nodes::LineReason;
 
 /// Why a command stopped; its text stands behind `ua: ` on standard error.
@@ -27,6 +28,9 @@ pub enum Fault<'a> {
     /// A server gave no answers, and why.
     #[error("{0}")]
     Asking(AskFault),
+    /// A script is not run, or not printed to its end, and why.
+    #[error("{0}")]
+    Looping(LoopFault),
     #[error("no memory")]
     NoMemory,
 }

@@ -1,7 +1,12 @@
-//! Octets in parts, and moments.
+//! Runs of the program, octets in parts, and moments.
 
+use crate::run::run;
 use std::alloc::Global;
+use std::net::Net;
 use std::process::Abort;
+use std::rt::Files;
+use std::test::Fail;
+use std::time::Clock;
 use ua_builtin::DateTime;
 use ua_channel::ListMoments;
 
@@ -36,4 +41,21 @@ pub fn front_with(
         .extend_from_slice(&joined(rt, alloc, behind))
         .expect(rt, "memory");
     octets
+}
+
+/// Runs `ua` on words, and compares what it writes and its status.
+pub fn expect_run<R: Files + Net + Clock + AllocGlobal + Abort>(
+    rt: &R,
+    words: &[&str],
+    want_out: &str,
+    want_err: &str,
+    status: u8,
+) -> Result<(), Fail> {
+    let mut out = Vec::new(rt.alloc());
+    let mut err = Vec::new(rt.alloc());
+    let got = run(rt, words, &mut out, &mut err);
+    assert_eq!(rt; out.as_slice(), want_out.as_bytes());
+    assert_eq!(rt; err.as_slice(), want_err.as_bytes());
+    assert_eq!(rt; got, status);
+    Ok(())
 }

@@ -17,6 +17,10 @@ mod fixture;
 mod input;
 #[cfg(test)]
 mod lines_tests;
+mod loop_line;
+#[cfg(test)]
+mod loop_tests;
+mod looping;
 mod number;
 mod output;
 mod run;

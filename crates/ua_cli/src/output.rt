@@ -9,6 +9,7 @@ use std::alloc::AllocError;
 use std::io;
 use std::io::Write;
 use ua_asking::{AskFault, WordFault};
+use ua_looping::LoopFault;
 
 /// Why a command stops.
 #[derive(Clone, Copy, PartialEq, Eq, Debug)]
@@ -63,6 +64,18 @@ impl From<AskFault> for Stop<'_> {
 
     fn from(fault: AskFault) -> Self {
         Stop::Fault(Fault::Asking(fault))
+    }
+}
+
+impl From<LoopFault> for Stop<'_> {
+    ghost use Rattle.std.specs.Prelude.{◌≡◌};
+    ghost use Rattle.ua_cli.specs.declared.fault.Fault.TheVariants.{Looping};
+    ghost use Rattle.ua_cli.specs.declared.output.Stop.TheVariants as stop;
+
+    ghost from_gives = { λ fault stopped. stopped ≡ stop.Fault (Looping fault) };
+
+    fn from(fault: LoopFault) -> Self {
+        Stop::Fault(Fault::Looping(fault))
     }
 }
 

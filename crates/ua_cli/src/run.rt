@@ -12,6 +12,7 @@ use crate::ask::{endpoints, read, write};
 use crate::dissect::dissect_content;
 use crate::fault::Fault;
 use crate::input::read_file;
+use crate::looping::run_files;
 use crate::output::{Stop, say, write_text};
 use crate::serve::serve_connections;
 use clap::error::ErrorKind;
@@ -64,6 +65,7 @@ fn perform<'a, R: Files + Net + Clock + AllocGlobal, O: Write>(
         Task::Endpoints(port) => endpoints(rt, port, out),
         Task::Read(asked) => read(rt, &asked, out),
         Task::Write(asked) => write(rt, &asked, out),
+        Task::Loop(asked) => run_files(rt, &asked, out),
     }
 }
 

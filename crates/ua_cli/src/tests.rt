@@ -1,5 +1,6 @@
 //! What `ua` prints, and its statuses: no clause speaks of them.
 
+use crate::fixture::expect_run;
 use crate::run::{refuse_words, run};
 use std::io::Write;
 use std::net::{Net, OpenListener, TcpListener};
@@ -68,23 +69,6 @@ impl Write for Unflushed {
     fn flush(&mut self) -> io::Result<()> {
         Err(io::Error::from(io::ErrorKind::Other))
     }
-}
-
-/// Runs `ua` on words, and compares what it writes and its status.
-fn expect_run<R: Files + Net + Clock + AllocGlobal + Abort>(
-    rt: &R,
-    words: &[&str],
-    want_out: &str,
-    want_err: &str,
-    status: u8,
-) -> Result<(), Fail> {
-    let mut out = Vec::new(rt.alloc());
-    let mut err = Vec::new(rt.alloc());
-    let got = run(rt, words, &mut out, &mut err);
-    assert_eq!(rt; out.as_slice(), want_out.as_bytes());
-    assert_eq!(rt; err.as_slice(), want_err.as_bytes());
-    assert_eq!(rt; got, status);
-    Ok(())
 }
 
 /// Puts octets into a file, and runs `ua dissect` on it.
@@ -283,7 +267,7 @@ fn asks_nobody(rt: HostRuntime) -> Result<(), Fail> {
 
 #[test]
 fn refuses_words_that_do_not_parse(rt: HostRuntime) -> Result<(), Fail> {
-    let rows: [&[&str]; 18] = [
+    let rows: [&[&str]; 22] = [
         &[],
         &["ua"],
         &["ua", "dissect"],
@@ -302,6 +286,10 @@ fn refuses_words_that_do_not_parse(rt: HostRuntime) -> Result<(), Fail> {
         &["ua", "read", "+5", "i=1"],
         &["ua", "write", "5", "i=1", "Int32"],
         &["ua", "write", "5", "i=1", "Int32", "-6"],
+        &["ua", "loop", "nodes.txt"],
+        &["ua", "loop", "nodes.txt", "script.txt", "--cut", "0"],
+        &["ua", "loop", "nodes.txt", "script.txt", "--cut", "65536"],
+        &["ua", "loop", "nodes.txt", "script.txt", "--tcp", "x"],
     ];
     for words in rows {
         let mut out = Vec::new(rt.alloc());

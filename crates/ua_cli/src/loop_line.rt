@@ -1,0 +1,103 @@
+//! A line whose octets go over a connection within this process.
+
+ghost use Rattle.std.specs.Prelude.{◌≡◌, ℕ, None};
+ghost use Rattle.ua_channel.specs.Line.{one_more};
+ghost use Rattle.ua_channel.specs.declared.line.LineFault.TheVariants.{Failed};
+
+use std::io;
+use std::io::{Read, Write};
+use ua_channel::{Line, LineFault};
+
+/// The most octets of a write.
+const MOST_OCTETS: usize = 4096;
+
+/// A server's line over both ends of one connection. What it reads are the octets of a client, which
+/// are written at the near end and come out at the far one; what it writes goes the other way, and
+/// has to be what the client awaits. At most 4096 octets are written at once, and all of them are read
+/// at the other end before the next ones are written. It does not tell its octets, as no line over a
+/// connection does.
+#[derive(Drop)]
+pub struct LoopLine<'a, S> {
+    /// The client's end.
+    near: S,
+    /// The server's end.
+    far: S,
+    /// What the client is still to write.
+    up: &'a [u8],
+    /// What the client still awaits.
+    down: &'a [u8],
+    /// How many calls failed so far, from the greatest number on again from 0.
+    failures: u64,
+}
+
+impl<'a, S> LoopLine<'a, S> {
+    /// A line over both ends of a connection, for a client that writes and awaits these octets.
+    pub fn new(near: S, far: S, up: &'a [u8], down: &'a [u8]) -> LoopLine<'a, S>
+        ensures { result.failures ≡ 0 }
+    {
+        LoopLine {
+            near,
+            far,
+            up,
+            down,
+            failures: 0,
+        }
+    }
+
+    /// Whether all has gone over the connection.
+    pub fn is_carried(&self) -> bool {
+        self.up.is_empty() && self.down.is_empty()
+    }
+
+    /// Counts a call that failed.
+    fn fail(&mut self) -> LineFault
+        ensures fault { result ≡ Failed }
+        ensures counted { self.new.failures ≡ one_more self.old.failures }
+    {
+        self.failures = self.failures.checked_add(1).unwrap_or(0);
+        LineFault::Failed
+    }
+}
+
+/// Writes octets at one end of a connection, and reads as many at the other.
+fn carry<S: Read + Write>(
+    from: &mut S,
+    to: &mut S,
+    octets: &[u8],
+    came: &mut [u8],
+) -> io::Result<()> {
+    from.write_all(octets)?;
+    from.flush()?;
+    to.read_exact(came)
+}
+
+impl<S: Read + Write> Line for LoopLine<'_, S> {
+    ghost traffic = { λ l. None };
+
+    ghost failures = { λ l. l.failures };
+
+    fn read(&mut self, buffer: &mut [u8]) -> Result<usize, LineFault> {
+        let n = self.up.len().min(buffer.len()).min(MOST_OCTETS);
+        let (piece, rest) = self.up.split_at(n);
+        match carry(&mut self.near, &mut self.far, piece, &mut buffer[..n]) {
+            Ok(()) => {
+                self.up = rest;
+                Ok(n)
+            }
+            Err(_) => Err(self.fail()),
+        }
+    }
+
+    fn write(&mut self, octets: &[u8]) -> Result<usize, LineFault> {
+        let n = octets.len().min(MOST_OCTETS);
+        let mut room = [0; MOST_OCTETS];
+        let came = &mut room[..n];
+        match carry(&mut self.far, &mut self.near, &octets[..n], came) {
+            Ok(()) if self.down.starts_with(came) => {
+                self.down = &self.down[n..];
+                Ok(n)
+            }
+            _ => Err(self.fail()),
+        }
+    }
+}
