@@ -9,7 +9,7 @@ use crate::clock_moments::ClockMoments;
 use crate::fault::Fault;
 use crate::output::{Stop, say_lines};
 use crate::serve::limits;
-use crate::tcp_line::TcpLine;
+use crate::tcp_line::{TcpLine, without_delay};
 use std::alloc::Global;
 use std::io::Write;
 use std::net::{Ipv4Addr, Net, TcpStream};
@@ -19,7 +19,7 @@ use ua_asking::{Question, ask_over, endpoints_over};
 /// A line to the server on a port of this machine.
 fn connect<'a, R: Net>(rt: &R, port: u16) -> Result<TcpLine<R::Stream>, Fault<'a>> {
     match TcpStream::connect(rt, (Ipv4Addr::LOCALHOST, port)) {
-        Ok(stream) => Ok(TcpLine::new(stream)),
+        Ok(stream) => Ok(TcpLine::new(without_delay(stream))),
         Err(_) => Err(Fault::CannotConnect),
     }
 }

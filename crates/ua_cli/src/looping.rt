@@ -10,6 +10,7 @@ use crate::input::{parse_nodes, read_text};
 use crate::loop_line::LoopLine;
 use crate::output::{Stop, say_lines};
 use crate::serve::{limits, services};
+use crate::tcp_line::without_delay;
 use std::alloc::{AllocError, Global};
 use std::io::Write;
 use std::net::{Ipv4Addr, Net, OpenListener, TcpListener, TcpStream};
@@ -61,7 +62,7 @@ fn connection<'a, R: Net>(rt: &R) -> Result<(R::Stream, R::Stream), Fault<'a>> {
         return Err(Fault::CannotConnect);
     };
     match listener.accept() {
-        Ok((far, _)) => Ok((near, far)),
+        Ok((far, _)) => Ok((without_delay(near), without_delay(far))),
         Err(_) => Err(Fault::CannotListen),
     }
 }

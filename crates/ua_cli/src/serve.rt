@@ -14,7 +14,7 @@ use crate::clock_moments::ClockMoments;
 use crate::fault::Fault;
 use crate::input::{parse_nodes, read_text};
 use crate::output::{Stop, say};
-use crate::tcp_line::TcpLine;
+use crate::tcp_line::{TcpLine, without_delay};
 use std::alloc::{AllocError, Global};
 use std::io::Write;
 use std::net::{Ipv4Addr, Net, OpenListener, TcpListener};
@@ -113,7 +113,7 @@ fn serve_next<'a, R: Net + Clock + AllocGlobal, O: Write>(
     let Ok((stream, _)) = listener.accept() else {
         return Err(Stop::Fault(Fault::CannotListen));
     };
-    let mut line = TcpLine::new(stream);
+    let mut line = TcpLine::new(without_delay(stream));
     let mut moments = ClockMoments::new(rt);
     let text = serve_line(
         rt.alloc(),

@@ -5,6 +5,7 @@ ghost use Rattle.ua_channel.specs.Line.{one_more};
 ghost use Rattle.ua_channel.specs.declared.line.LineFault.TheVariants.{Failed};
 
 use std::io::{Read, Write};
+use std::net::OpenStream;
 use ua_channel::{Line, LineFault};
 
 /// A line over a connection. It does not tell its octets: what a peer sends and gets is not known
@@ -35,6 +36,14 @@ impl<S> TcpLine<S> {
         self.failures = self.failures.checked_add(1).unwrap_or(0);
         LineFault::Failed
     }
+}
+
+/// The connection, set to send what is written at once (TCP_NODELAY): a frame that is not the first one
+/// would else wait until the peer has said that it got those before. Where that cannot be set, frames
+/// go out later.
+pub fn without_delay<S: OpenStream>(stream: S) -> S {
+    let _ = stream.set_nodelay(true);
+    stream
 }
 
 impl<S: Read + Write> Line for TcpLine<S> {
