@@ -192,11 +192,16 @@ fn asks_at_most_sixty_four_calls_at_once(rt: HostRuntime) {
     assert!(rt; matches!(channel.ask(b"ab"), Ok((66, _))));
 }
 
-// The answer to a renewal under this request id and number, which issues this token.
-fn renewed(rt: &impl Abort, alloc: Global, request: u32, token: u32) -> Vec<u8> {
+// The answer to an OPN under this number and request id, which brings this channel and token.
+fn brings(rt: &impl Abort, alloc: Global, numbers: (u32, u32), ids: (u32, u32)) -> Vec<u8> {
     let mut out = Vec::new(alloc);
     out.extend_from_slice(RENEWED).expect(rt, "memory");
-    for (place, number) in [(71usize, request), (75, request), (115, token)] {
+    for (place, number) in [
+        (71usize, numbers.0),
+        (75, numbers.1),
+        (111, ids.0),
+        (115, ids.1),
+    ] {
         let octets = number.to_le_bytes();
         let field = out
             .as_mut_slice()
@@ -215,11 +220,118 @@ fn holds_at_most_sixteen_tokens(rt: HostRuntime) {
         let (id, out) = channel.renew(MOMENT).expect(&rt, "an OPN");
         drop(out);
         assert_eq!(rt; id, token);
-        let octets = renewed(&rt, rt.alloc(), id, token);
+        let octets = brings(&rt, rt.alloc(), (id, id), (7, token));
         let (_, event) = channel
             .take(octets.as_slice(), MOMENT)
             .expect(&rt, "an event");
         assert!(rt; matches!(&event, ClientEvent::Renewed(it) if *it == token));
     }
     assert!(rt; matches!(channel.renew(MOMENT), Err(AskFault::TooManyTokens)));
+    // The refusal changed nothing.
+    let (id, out) = channel.ask(b"ab").expect(&rt, "a call");
+    assert_eq!(rt; id, 17);
+    assert_eq!(rt;
+        out.as_slice(),
+        b"MSGF\x1A\0\0\0\x07\0\0\0\x10\0\0\0\x11\0\0\0\x11\0\0\0ab".as_slice()
+    );
+    // The server uses token 2: token 1 is held no more, and a further one may be asked for.
+    let reply = b"MSGF\x1A\0\0\0\x07\0\0\0\x02\0\0\0\x11\0\0\0\x11\0\0\0cd";
+    let (_, event) = channel.take(reply, MOMENT).expect(&rt, "an event");
+    assert!(rt; matches!(&event, ClientEvent::Answered(17, message) if has_octets(message, b"cd")));
+    assert!(rt; matches!(channel.renew(MOMENT), Ok((18, _))));
+    let old = b"MSGF\x1A\0\0\0\x07\0\0\0\x01\0\0\0\x12\0\0\0\x11\0\0\0cd";
+    assert!(rt; fails(&mut channel, old, 0x8087_0000, false));
+}
+
+/// The CLO of channel 7 under token 2, numbered 4, with the request id 4.
+const CLO_RENEWED: &[u8] =
+    b"CLOF9\0\0\0\x07\0\0\0\x02\0\0\0\x04\0\0\0\x04\0\0\0\x01\0\xC4\x01\0\0\0\x80\x3E\xD5\xDE\xB1\x9D\x01\0\0\0\0\0\0\0\0\xFF\xFF\xFF\xFF\0\0\0\0\0\0\0";
+
+/// Number and request id, channel and token of what is no answer to the renewal numbered 2, and the
+/// code: another channel, a token that is held, a number that does not follow, another request id,
+/// and all of these.
+const NO_ANSWERS: [((u32, u32), (u32, u32), u32); 5] = [
+    ((2, 2), (8, 2), 0x807F_0000),
+    ((2, 2), (7, 1), 0x8087_0000),
+    ((3, 2), (7, 2), 0x8088_0000),
+    ((2, 3), (7, 2), 0x8009_0000),
+    ((3, 3), (8, 1), 0x807F_0000),
+];
+
+#[test]
+fn refuses_what_is_no_answer_to_its_renewal(rt: HostRuntime) {
+    for (numbers, ids, code) in NO_ANSWERS {
+        let mut channel = opened(&rt, rt.alloc());
+        assert!(rt; matches!(channel.renew(MOMENT), Ok((2, _))));
+        let octets = brings(&rt, rt.alloc(), numbers, ids);
+        assert!(rt; fails(&mut channel, octets.as_slice(), code, false));
+    }
+}
+
+// Nobody asked for it.
+#[test]
+fn refuses_a_token_that_was_not_asked_for(rt: HostRuntime) {
+    assert!(rt; fails(&mut opened(&rt, rt.alloc()), RENEWED, 0x8009_0000, false));
+}
+
+#[test]
+fn takes_any_token_that_is_not_held(rt: HostRuntime) {
+    for token in [0u32, 9, 4_294_967_295] {
+        let mut channel = opened(&rt, rt.alloc());
+        assert!(rt; matches!(channel.renew(MOMENT), Ok((2, _))));
+        let octets = brings(&rt, rt.alloc(), (2, 2), (7, token));
+        let (_, event) = channel
+            .take(octets.as_slice(), MOMENT)
+            .expect(&rt, "an event");
+        assert!(rt; matches!(&event, ClientEvent::Renewed(it) if *it == token));
+        let (_, out) = channel.ask(b"ab").expect(&rt, "a call");
+        let field = token.to_le_bytes();
+        assert_eq!(rt; out.as_slice().get(12..16), Some(field.as_slice()));
+    }
+}
+
+// Until the answer comes a call goes out under token 1.
+#[test]
+fn calls_and_the_close_go_on_behind_a_renewal(rt: HostRuntime) {
+    let mut channel = opened(&rt, rt.alloc());
+    assert!(rt; matches!(channel.renew(MOMENT), Ok((2, _))));
+    let (id, out) = channel.ask(b"ab").expect(&rt, "a call");
+    assert_eq!(rt; id, 3);
+    assert_eq!(rt;
+        out.as_slice(),
+        b"MSGF\x1A\0\0\0\x07\0\0\0\x01\0\0\0\x03\0\0\0\x03\0\0\0ab".as_slice()
+    );
+    let (_, event) = channel.take(RENEWED, MOMENT).expect(&rt, "an event");
+    assert!(rt; matches!(&event, ClientEvent::Renewed(2)));
+    let close = channel.close(MOMENT).expect(&rt, "a CLO");
+    assert_eq!(rt; close.as_slice(), CLO_RENEWED);
+}
+
+#[test]
+fn renews_nothing_that_is_not_open(rt: HostRuntime) {
+    let mut channel = client(&rt, rt.alloc());
+    assert!(rt; matches!(channel.renew(MOMENT), Err(AskFault::NotOpen)));
+    assert!(rt; channel.take(ACK, MOMENT).is_ok());
+    assert!(rt; matches!(channel.renew(MOMENT), Err(AskFault::NotOpen)));
+    let mut failed = opened(&rt, rt.alloc());
+    assert!(rt; fails(&mut failed, ERR, 0x8081_0000, true));
+    assert!(rt; matches!(failed.renew(MOMENT), Err(AskFault::NotOpen)));
+    let mut closed = opened(&rt, rt.alloc());
+    assert!(rt; closed.close(MOMENT).is_ok());
+    assert!(rt; matches!(closed.renew(MOMENT), Err(AskFault::NotOpen)));
+}
+
+#[test]
+fn a_renewal_is_none_of_sixty_four_calls(rt: HostRuntime) {
+    let mut channel = opened(&rt, rt.alloc());
+    assert!(rt; matches!(channel.renew(MOMENT), Ok((2, _))));
+    for wanted in 3..67u32 {
+        assert!(rt; matches!(channel.ask(b"ab"), Ok((id, _)) if id == wanted));
+    }
+    assert!(rt; matches!(channel.ask(b"ab"), Err(AskFault::TooManyPending)));
+    let mut channel = opened(&rt, rt.alloc());
+    for wanted in 2..66u32 {
+        assert!(rt; matches!(channel.ask(b"ab"), Ok((id, _)) if id == wanted));
+    }
+    assert!(rt; matches!(channel.renew(MOMENT), Ok((66, _))));
 }

@@ -112,7 +112,7 @@ const REFUSED_FIRST: [(&[u8], &[u8; 16]); 6] = [
 ];
 
 /// What an open channel 7 refuses behind its opening, and the code.
-const REFUSED: [(&[u8], u32); 10] = [
+const REFUSED: [(&[u8], u32); 13] = [
     // on channel 8
     (
         b"MSGF\x19\0\0\0\x08\0\0\0\x01\0\0\0\x02\0\0\0\x02\0\0\0\xAA",
@@ -146,6 +146,17 @@ const REFUSED: [(&[u8], u32); 10] = [
     ),
     (SECOND_ISSUE, 0x8053_0000),
     (OTHER_RENEWAL, 0x807F_0000),
+    // a renewal whose number does not follow
+    (RENEWAL, 0x8088_0000),
+    // a close on channel 8, and one under token 2
+    (
+        b"CLOF\x18\0\0\0\x08\0\0\0\x01\0\0\0\x02\0\0\0\x02\0\0\0",
+        0x807F_0000,
+    ),
+    (
+        b"CLOF\x18\0\0\0\x07\0\0\0\x02\0\0\0\x02\0\0\0\x02\0\0\0",
+        0x8087_0000,
+    ),
 ];
 
 /// Messages of which the chunks come interleaved, an abort, and a close, behind the opening.
@@ -253,6 +264,106 @@ const OLD_REPLY: &[u8] = b"MSGF\x19\0\0\0\x07\0\0\0\x01\0\0\0\x03\0\0\0\x03\0\0\
 /// The abort in place of a reply that the client does not take: Bad_ResponseTooLarge.
 const TOO_LARGE: &[u8] =
     b"MSGA \0\0\0\x07\0\0\0\x01\0\0\0\x02\0\0\0\x02\0\0\0\0\0\xB9\x80\xFF\xFF\xFF\xFF";
+
+/// A tick later.
+const LATER: DateTime = DateTime {
+    ticks: 116_444_736_000_000_001,
+};
+
+/// A renewal numbered 2 with the RequestHandle 9 that asks for no lifetime.
+const HANDLED_RENEWAL: &[u8] =
+    b"OPNF\x84\0\0\0\x07\0\0\0/\0\0\0http://opcfoundation.org/UA/SecurityPolicy#None\xFF\xFF\xFF\xFF\xFF\xFF\xFF\xFF\x02\0\0\0\x02\0\0\0\x01\0\xBE\x01\0\0\0\x80\x3E\xD5\xDE\xB1\x9D\x01\x09\0\0\0\0\0\0\0\xFF\xFF\xFF\xFF\0\0\0\0\0\0\0\0\0\0\0\x01\0\0\0\x01\0\0\0\xFF\xFF\xFF\xFF\0\0\0\0";
+
+/// Its answer a tick later: token 2, lifetime 3600000.
+const HANDLED: &[u8] =
+    b"OPNF\x87\0\0\0\x07\0\0\0/\0\0\0http://opcfoundation.org/UA/SecurityPolicy#None\xFF\xFF\xFF\xFF\xFF\xFF\xFF\xFF\x02\0\0\0\x02\0\0\0\x01\0\xC1\x01\x01\x80\x3E\xD5\xDE\xB1\x9D\x01\x09\0\0\0\0\0\0\0\0\xFF\xFF\xFF\xFF\0\0\0\0\0\0\0\x07\0\0\0\x02\0\0\0\x01\x80\x3E\xD5\xDE\xB1\x9D\x01\x80\xEE6\0\xFF\xFF\xFF\xFF";
+
+/// The answer to a second renewal, numbered 3: token 3.
+const TWICE_RENEWED: &[u8] =
+    b"OPNF\x87\0\0\0\x07\0\0\0/\0\0\0http://opcfoundation.org/UA/SecurityPolicy#None\xFF\xFF\xFF\xFF\xFF\xFF\xFF\xFF\x03\0\0\0\x03\0\0\0\x01\0\xC1\x01\0\x80\x3E\xD5\xDE\xB1\x9D\x01\0\0\0\0\0\0\0\0\0\xFF\xFF\xFF\xFF\0\0\0\0\0\0\0\x07\0\0\0\x03\0\0\0\0\x80\x3E\xD5\xDE\xB1\x9D\x01\x80\xEE6\0\xFF\xFF\xFF\xFF";
+
+/// What uses a token behind a renewal: a C, an A, a MSG before a CLO, a CLO under either token; and
+/// three tokens, of which the second is passed over.
+const USES: [&[Row<'static>]; 6] = [
+    &[
+        (FIRST_RENEWAL, Answer::Sends(FIRST_RENEWED)),
+        (
+            b"MSGC\x19\0\0\0\x07\0\0\0\x02\0\0\0\x03\0\0\0\x03\0\0\0\xAA",
+            Answer::Waits,
+        ),
+        (
+            b"MSGF\x19\0\0\0\x07\0\0\0\x01\0\0\0\x04\0\0\0\x03\0\0\0\xBB",
+            Answer::Refuses(0x8087_0000),
+        ),
+    ],
+    &[
+        (FIRST_RENEWAL, Answer::Sends(FIRST_RENEWED)),
+        (
+            b"MSGA \0\0\0\x07\0\0\0\x02\0\0\0\x03\0\0\0\x03\0\0\0\0\0\xB9\x80\xFF\xFF\xFF\xFF",
+            Answer::Aborts(3),
+        ),
+        (
+            b"MSGF\x19\0\0\0\x07\0\0\0\x01\0\0\0\x04\0\0\0\x04\0\0\0\xBB",
+            Answer::Refuses(0x8087_0000),
+        ),
+    ],
+    &[
+        (FIRST_RENEWAL, Answer::Sends(FIRST_RENEWED)),
+        (
+            b"MSGF\x19\0\0\0\x07\0\0\0\x02\0\0\0\x03\0\0\0\x03\0\0\0\xAA",
+            Answer::Asks(3, b"\xAA"),
+        ),
+        (
+            b"CLOF\x18\0\0\0\x07\0\0\0\x01\0\0\0\x04\0\0\0\x04\0\0\0",
+            Answer::Refuses(0x8087_0000),
+        ),
+    ],
+    &[
+        (FIRST_RENEWAL, Answer::Sends(FIRST_RENEWED)),
+        (
+            b"CLOF\x18\0\0\0\x07\0\0\0\x02\0\0\0\x03\0\0\0\x03\0\0\0",
+            Answer::Closes,
+        ),
+    ],
+    &[
+        (FIRST_RENEWAL, Answer::Sends(FIRST_RENEWED)),
+        (
+            b"CLOF\x18\0\0\0\x07\0\0\0\x01\0\0\0\x03\0\0\0\x03\0\0\0",
+            Answer::Closes,
+        ),
+    ],
+    &[
+        (FIRST_RENEWAL, Answer::Sends(FIRST_RENEWED)),
+        (RENEWAL, Answer::Sends(TWICE_RENEWED)),
+        (
+            b"MSGF\x19\0\0\0\x07\0\0\0\x01\0\0\0\x04\0\0\0\x04\0\0\0\xAA",
+            Answer::Asks(4, b"\xAA"),
+        ),
+        (
+            b"MSGF\x19\0\0\0\x07\0\0\0\x03\0\0\0\x05\0\0\0\x05\0\0\0\xBB",
+            Answer::Asks(5, b"\xBB"),
+        ),
+        (
+            b"MSGF\x19\0\0\0\x07\0\0\0\x02\0\0\0\x06\0\0\0\x06\0\0\0\xCC",
+            Answer::Refuses(0x8087_0000),
+        ),
+    ],
+];
+
+/// A place of the OPN, another octet there, and the code that refuses it in place of the first OPN.
+const OTHER_OPENINGS: [(usize, u8, u32); 6] = [
+    // a policy of more octets than there are
+    (15, 0x7F, 0x8007_0000),
+    // another policy
+    (16, b'x', 0x8055_0000),
+    // the body of another message: i=452
+    (81, 0xC4, 0x8007_0000),
+    // Renew
+    (116, 1, 0x8053_0000),
+    // Sign, and SignAndEncrypt
+    (120, 2, 0x8054_0000),
+    (120, 3, 0x8054_0000),
+];
 
 // A server's channel of the id 7, with these limits of messages.
 fn server(rt: &impl Abort, alloc: Global, octets: u32) -> ServerChannel {
@@ -413,6 +524,14 @@ fn refuses_the_largest_size_at_the_eighth_octet(rt: HostRuntime) {
 }
 
 #[test]
+fn refuses_a_size_below_the_least_at_the_eighth_octet(rt: HostRuntime) {
+    let mut channel = opened(&rt, rt.alloc(), 1_048_576);
+    let octets = b"MSGF\x17\0\0\0\x07\0\0\0\x01\0\0\0\x02\0\0\0\x02\0\0";
+    refuses_a_header(&rt, &mut channel, octets, 0x8007_0000);
+    has_ended(&rt, &mut channel);
+}
+
+#[test]
 fn talks_until_the_close(rt: HostRuntime) {
     let mut channel = opened(&rt, rt.alloc(), 1_048_576);
     takes_all(&rt, rt.alloc(), &mut channel, &TALK);
@@ -423,6 +542,40 @@ fn talks_until_the_close(rt: HostRuntime) {
 fn takes_the_old_token_until_the_new_one_is_used(rt: HostRuntime) {
     let mut channel = opened(&rt, rt.alloc(), 1_048_576);
     takes_all(&rt, rt.alloc(), &mut channel, &OLD_TOKEN);
+}
+
+#[test]
+fn a_chunk_of_any_flag_and_a_close_use_a_token(rt: HostRuntime) {
+    for rows in USES {
+        let mut channel = opened(&rt, rt.alloc(), 1_048_576);
+        takes_all(&rt, rt.alloc(), &mut channel, rows);
+        has_ended(&rt, &mut channel);
+    }
+}
+
+#[test]
+fn answers_a_renewal_as_it_answers_the_first_opening(rt: HostRuntime) {
+    let mut channel = opened(&rt, rt.alloc(), 1_048_576);
+    match channel.take(HANDLED_RENEWAL, LATER) {
+        Ok((n, event)) => {
+            assert_eq!(rt; n, 132);
+            is_answer(&rt, rt.alloc(), event, Answer::Sends(HANDLED));
+        }
+        Err(_) => panic!(rt; "a fault"),
+    }
+}
+
+#[test]
+fn refuses_other_openings(rt: HostRuntime) {
+    for (place, octet, code) in OTHER_OPENINGS {
+        let mut octets = OPN.to_vec(rt.alloc()).expect(&rt, "memory");
+        *octets.get_mut(place).expect(&rt, "a place") = octet;
+        let mut channel = server(&rt, rt.alloc(), 1_048_576);
+        takes(&rt, rt.alloc(), &mut channel, (HEL, Answer::Sends(ACK)));
+        let row = (octets.as_slice(), Answer::Refuses(code));
+        takes(&rt, rt.alloc(), &mut channel, row);
+        has_ended(&rt, &mut channel);
+    }
 }
 
 #[test]
@@ -522,6 +675,23 @@ fn holds_up_to_its_bound(rt: HostRuntime) {
     let front = octets.as_slice().get(..65534).expect(&rt, "a front");
     takes(&rt, rt.alloc(), &mut channel, (front, Answer::Waits));
     assert_eq!(rt; channel.held(), 4_259_838);
+}
+
+// Four messages go on; a fifth of one chunk is taken, and one that goes on is not.
+#[test]
+fn takes_no_fifth_message_that_goes_on(rt: HostRuntime) {
+    let mut channel = opened(&rt, rt.alloc(), 1_048_576);
+    let mut sequence = 2;
+    for id in 2..6u32 {
+        sequence = goes_on(&rt, rt.alloc(), &mut channel, (sequence, id), &[1]);
+    }
+    let octets = chunk(&rt, rt.alloc(), b'F', (sequence, 6), 1);
+    let row = (octets.as_slice(), Answer::Asks(6, &[0]));
+    takes(&rt, rt.alloc(), &mut channel, row);
+    let octets = chunk(&rt, rt.alloc(), b'C', (sequence.saturating_add(1), 6), 1);
+    let row = (octets.as_slice(), Answer::Refuses(0x8081_0000));
+    takes(&rt, rt.alloc(), &mut channel, row);
+    has_ended(&rt, &mut channel);
 }
 
 // A message of chunks of 3, 0 and 2 octets: its parts are the first and the last.

@@ -3,6 +3,7 @@
 use crate::fixture::{joined, served, services};
 use std::alloc::Global;
 use std::process::Abort;
+use ua_builtin::StatusCode;
 use ua_channel::MemoryLine;
 use ua_server::End;
 use ua_streams::{CLIENT_STREAM, RENEWED_END, RENEWING_END, SERVER_STREAM};
@@ -159,4 +160,18 @@ fn answers_a_thousand_items_in_two_chunks(rt: HostRuntime) {
         .expect(&rt, "memory");
     server.extend_from_slice(TOO_MANY).expect(&rt, "memory");
     says(&rt, alloc, client, &server, End::NoClose);
+}
+
+/// The header of a frame that is too large, and the ERR frame: BadTcpMessageTooLarge.
+const LARGEST: &[&[u8]] = &[b"MSGF\xFF\xFF\xFF\x7F"];
+
+const REFUSAL: &[&[u8]] = &[b"ERRF\x10\0\0\0\0\0\x80\x80\xFF\xFF\xFF\xFF"];
+
+#[test]
+fn says_why_it_refuses_a_frame(rt: HostRuntime) {
+    let alloc = rt.alloc();
+    let client = within(&rt, alloc, &[], CLIENT_STREAM, (0, 188), LARGEST);
+    let server = within(&rt, alloc, &[], SERVER_STREAM, (0, 163), REFUSAL);
+    let code = StatusCode { code: 0x8080_0000 };
+    says(&rt, alloc, client, &server, End::Refused(code));
 }

@@ -2,9 +2,9 @@
 
 use crate::fixture::joined;
 use crate::lines::{Conversation, assert_conversation, assert_lines};
-use crate::streams::{CLIENT_END, CLIENT_FRONT, SERVER_LINES};
+use crate::streams::{CLIENT_END, CLIENT_FRONT, RENEWED_LINES, RENEWING_LINES, SERVER_LINES};
 use ua_pair::Side;
-use ua_streams::{CLIENT_STREAM, SERVER_STREAM};
+use ua_streams::{CLIENT_STREAM, RENEWED_END, RENEWING_END, SERVER_STREAM};
 
 #[test]
 fn prints_both_sides_of_a_conversation(rt: HostRuntime) {
@@ -20,6 +20,40 @@ fn prints_both_sides_of_a_conversation(rt: HostRuntime) {
         &[CLIENT_FRONT, CLIENT_END],
     );
     assert_lines(&rt, alloc, Side::Server, &server, &[SERVER_LINES]);
+}
+
+#[test]
+fn prints_both_sides_of_a_renewal(rt: HostRuntime) {
+    let alloc = rt.alloc();
+    let mut client = joined(&rt, alloc, CLIENT_STREAM);
+    client.truncate(540);
+    let end = joined(&rt, alloc, RENEWING_END);
+    client.extend_from_slice(&end).expect(&rt, "memory");
+    let mut server = joined(&rt, alloc, SERVER_STREAM);
+    server.truncate(649);
+    let end = joined(&rt, alloc, RENEWED_END);
+    server.extend_from_slice(&end).expect(&rt, "memory");
+    assert_eq!(rt; [client.len(), server.len()], [889, 918]);
+    assert_lines(&rt, alloc, Side::Client, &client, &[RENEWING_LINES]);
+    assert_lines(&rt, alloc, Side::Server, &server, &[RENEWED_LINES]);
+}
+
+// A GetEndpoints, and its answer: one endpoint.
+const ENDPOINTS_ASKED: Conversation = &[(
+    b"MSGF\x5D\0\0\0\x01\0\0\0\x01\0\0\0\x02\0\0\0\x02\0\0\0\x01\0\xAC\x01\0\0\0\x80\x3E\xD5\xDE\xB1\x9D\x01\x02\0\0\0\0\0\0\0\xFF\xFF\xFF\xFF\0\0\0\0\0\0\0\x18\0\0\0opc.tcp://localhost:4840\xFF\xFF\xFF\xFF\xFF\xFF\xFF\xFF",
+    "0 MSG F 93 channel 1 token 1 sequence 2 request 2\nmessage 2 octets 69 GetEndpointsRequest\n",
+)];
+
+const ENDPOINTS_GIVEN: Conversation = &[(
+    b"MSGF\x3E\x01\0\0\x01\0\0\0\x01\0\0\0\x02\0\0\0\x02\0\0\0\x01\0\xAF\x01\0\x80\x3E\xD5\xDE\xB1\x9D\x01\x02\0\0\0\0\0\0\0\0\xFF\xFF\xFF\xFF\0\0\0\x01\0\0\0\x18\0\0\0opc.tcp://localhost:4840\x0D\0\0\0urn:ua:server\xFF\xFF\xFF\xFF\x02\x02\0\0\0ua\0\0\0\0\xFF\xFF\xFF\xFF\xFF\xFF\xFF\xFF\x01\0\0\0\x18\0\0\0opc.tcp://localhost:4840\xFF\xFF\xFF\xFF\x01\0\0\0\x2F\0\0\0http://opcfoundation.org/UA/SecurityPolicy#None\x01\0\0\0\x09\0\0\0anonymous\0\0\0\0\xFF\xFF\xFF\xFF\xFF\xFF\xFF\xFF\xFF\xFF\xFF\xFF\x41\0\0\0http://opcfoundation.org/UA-Profile/Transport/uatcp-uasc-uabinary\0",
+    "0 MSG F 318 channel 1 token 1 sequence 2 request 2\nmessage 2 octets 294 GetEndpointsResponse\n",
+)];
+
+#[test]
+fn names_a_question_for_endpoints(rt: HostRuntime) {
+    let alloc = rt.alloc();
+    assert_conversation(&rt, alloc, Side::Client, ENDPOINTS_ASKED, "end 93\n");
+    assert_conversation(&rt, alloc, Side::Server, ENDPOINTS_GIVEN, "end 318\n");
 }
 
 #[test]

@@ -5,6 +5,8 @@
 #![tactic(auto)]
 
 #[cfg(test)]
+mod bounds;
+#[cfg(test)]
 mod clients;
 #[cfg(test)]
 mod conversations;
@@ -12,6 +14,8 @@ mod conversations;
 mod fixture;
 #[cfg(test)]
 mod lines;
+#[cfg(test)]
+mod moments;
 #[cfg(test)]
 mod refused;
 #[cfg(test)]

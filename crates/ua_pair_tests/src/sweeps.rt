@@ -81,6 +81,7 @@ fn changed(rt: &impl Abort, alloc: Global, client: &[u8], place: usize, octet: u
 fn survives(rt: &impl Abort, alloc: Global, octets: &[u8], server: &[u8], place: usize) {
     let (end, line) = comes_to(rt, alloc, octets, 4096);
     let (end_by_ones, line_by_ones) = comes_to(rt, alloc, octets, 1);
+    assert!(rt; end.is_ok(), "at {place}");
     assert_eq!(rt; (place, end), (place, end_by_ones));
     assert_eq!(rt; line.written(), line_by_ones.written());
     let (said, _) = said_before(place);
