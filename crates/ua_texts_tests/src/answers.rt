@@ -71,3 +71,16 @@ fn prints_an_endpoint(rt: HostRuntime) {
     push_endpoint_line(&mut out, &endpoint).expect(&rt, "memory");
     assert_eq!(rt; out.as_str(), "u 1 p\\\\\n");
 }
+
+// An EndpointDescription of mode 3 with nulls else.
+const NULL_ENDPOINT: &[u8] =
+    b"\xFF\xFF\xFF\xFF\xFF\xFF\xFF\xFF\xFF\xFF\xFF\xFF\0\0\0\0\0\xFF\xFF\xFF\xFF\xFF\xFF\xFF\xFF\xFF\xFF\xFF\xFF\xFF\xFF\xFF\xFF\x03\0\0\0\xFF\xFF\xFF\xFF\xFF\xFF\xFF\xFF\xFF\xFF\xFF\xFF\0";
+
+#[test]
+fn prints_an_endpoint_of_another_mode(rt: HostRuntime) {
+    let alloc = rt.alloc();
+    let endpoint = value_of::<EndpointDescription>(&rt, alloc, NULL_ENDPOINT);
+    let mut out = String::new(alloc);
+    push_endpoint_line(&mut out, &endpoint).expect(&rt, "memory");
+    assert_eq!(rt; out.as_str(), "null 3 null\n");
+}

@@ -181,3 +181,32 @@ fn prints_no_endpoints_where_none_are_listed(rt: HostRuntime) {
     }
     has_endpoints(&rt, alloc, FAULT, "", NOT_ACTIVATED);
 }
+
+// The same header with the ServiceResult BadNothingToDo.
+const BAD_HEADER: &[u8] =
+    b"\0\x80\x3E\xD5\xDE\xB1\x9D\x01\x04\0\0\0\0\0\x0F\x80\0\xFF\xFF\xFF\xFF\0\0\0";
+
+#[test]
+fn prints_the_answers_in_a_response_with_a_bad_result(rt: HostRuntime) {
+    let alloc = rt.alloc();
+    let body = joined(&rt, alloc, &[b"\x01\0\x7A\x02", BAD_HEADER, VALUES, NONE]);
+    is_read(&rt, alloc, &body, VALUE_LINES, Ok(()));
+    let results: &[u8] = b"\x02\0\0\0\0\0\0\0\0\0\x34\x80";
+    let body = joined(&rt, alloc, &[b"\x01\0\xA4\x02", BAD_HEADER, results, NONE]);
+    let lines = "ns=1;s=Pump 00000000\ni=9999 80340000\n";
+    is_written(&rt, alloc, &body, lines, Ok(()));
+}
+
+#[test]
+fn prints_a_line_of_each_endpoint(rt: HostRuntime) {
+    let alloc = rt.alloc();
+    let one = joined(&rt, alloc, ENDPOINT.get(1..).expect(&rt, "fields"));
+    let body = joined(
+        &rt,
+        alloc,
+        &[b"\x01\0\xAF\x01", HEADER, b"\x02\0\0\0", &one, &one],
+    );
+    let lines =
+        "opc.tcp://localhost:4840 1 http://opcfoundation.org/UA/SecurityPolicy#None\nopc.tcp://localhost:4840 1 http://opcfoundation.org/UA/SecurityPolicy#None\n";
+    has_endpoints(&rt, alloc, &body, lines, Ok(()));
+}

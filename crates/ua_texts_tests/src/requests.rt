@@ -168,3 +168,15 @@ fn closes_a_session(rt: HostRuntime) {
     ];
     is_body(&rt, alloc, request, 36, &parts);
 }
+
+#[test]
+fn names_the_port_of_a_server(rt: HostRuntime) {
+    for (port, wanted) in [
+        (1, "opc.tcp://localhost:1"),
+        (4840, "opc.tcp://localhost:4840"),
+        (65535, "opc.tcp://localhost:65535"),
+    ] {
+        let url = local_url(rt.alloc(), port).expect(&rt, "memory");
+        assert_eq!(rt; url.as_str(), Some(wanted));
+    }
+}

@@ -32,7 +32,8 @@ fn reads_back(rt: &impl Abort, alloc: Global, octets: &[u8], text: &str) {
 #[test]
 fn small_values_print_and_read_back(rt: HostRuntime) {
     let alloc = rt.alloc();
-    let rows: [(&[u8], &str); 13] = [
+    let rows: [(&[u8], &str); 14] = [
+        (b"\x13\0\0\xB9\x80", "StatusCode 0x80b90000"),
         (b"\x01\x01", "Boolean true"),
         (b"\x01\0", "Boolean false"),
         (b"\x02\x80", "SByte -128"),
@@ -139,7 +140,13 @@ fn values_without_a_text_form_print_as_their_octets(rt: HostRuntime) {
 #[test]
 fn other_values_print(rt: HostRuntime) {
     let alloc = rt.alloc();
-    let rows: [(&[u8], &str); 15] = [
+    let rows: [(&[u8], &str); 18] = [
+        (b"\x0C\x04\0\0\0\0\x1F\x20\x7E", "String \\x00\\x1f ~"),
+        (b"\x11\x01\0\x48\0", "NodeId 0x0048"),
+        (
+            b"\x15\x03\xFF\xFF\xFF\xFF\x01\0\0\0a",
+            "LocalizedText 0x020100000061",
+        ),
         (b"\0", "Null"),
         (b"\x0C\xFF\xFF\xFF\xFF", "String null"),
         (b"\x0F\xFF\xFF\xFF\xFF", "ByteString null"),
@@ -161,5 +168,47 @@ fn other_values_print(rt: HostRuntime) {
     ];
     for (octets, text) in rows {
         prints(&rt, alloc, octets, text);
+    }
+}
+
+#[test]
+fn arrays_of_numbers_print_and_read_back(rt: HostRuntime) {
+    let alloc = rt.alloc();
+    let rows: [(&[u8], &str); 11] = [
+        (b"\x82\x02\0\0\0\x80\x7F", "SByte[] -128,127"),
+        (b"\x83\x02\0\0\0\0\xFF", "Byte[] 0,255"),
+        (b"\x84\x02\0\0\0\xFE\xFF\xFF\x7F", "Int16[] -2,32767"),
+        (b"\x85\x02\0\0\0\x02\x01\xFF\xFF", "UInt16[] 258,65535"),
+        (
+            b"\x87\x02\0\0\0\x01\0\0\0\xFF\xFF\xFF\xFF",
+            "UInt32[] 1,4294967295",
+        ),
+        (
+            b"\x88\x02\0\0\0\xFF\xFF\xFF\xFF\xFF\xFF\xFF\xFF\x02\0\0\0\0\0\0\0",
+            "Int64[] -1,2",
+        ),
+        (
+            b"\x89\x02\0\0\0\xFF\xFF\xFF\xFF\xFF\xFF\xFF\xFF\0\0\0\0\0\0\0\0",
+            "UInt64[] 18446744073709551615,0",
+        ),
+        (
+            b"\x8A\x02\0\0\0\0\0\xD0\xC0\x01\0\x80\x7F",
+            "Float[] 0xc0d00000,0x7f800001",
+        ),
+        (
+            b"\x8B\x02\0\0\0\0\0\0\0\0\x4C\xFD\x40\x0A\0\0\0\0\0\0\0",
+            "Double[] 0x40fd4c0000000000,0x000000000000000a",
+        ),
+        (
+            b"\x8D\x02\0\0\0\xFF\xFF\xFF\xFF\xFF\xFF\xFF\xFF\0\x80\x3E\xD5\xDE\xB1\x9D\x01",
+            "DateTime[] -1,116444736000000000",
+        ),
+        (
+            b"\x8E\x01\0\0\0\x91\x2B\x96\x72\x75\xFA\xE6\x4A\x8D\x28\xB4\x04\xDC\x7D\xAF\x63",
+            "Guid[] 72962b91-fa75-4ae6-8d28-b404dc7daf63",
+        ),
+    ];
+    for (octets, text) in rows {
+        reads_back(&rt, alloc, octets, text);
     }
 }
