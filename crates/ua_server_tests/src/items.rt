@@ -6,6 +6,7 @@ use crate::fixture::{
 };
 use std::alloc::Global;
 use std::process::Abort;
+use ua_server::Services;
 
 const NONE: &str = "00 00 00 00";
 
@@ -136,4 +137,128 @@ fn a_thousand_items_are_answered_and_one_more_is_refused(rt: HostRuntime) {
         &many(&rt, alloc, 1001, "E9 03 00 00"),
     );
     assert_eq!(&rt; more, octets(&rt, alloc, &fault("00 00 10 80")));
+}
+
+// Services in which the first session is activated.
+fn activated(rt: &impl Abort, alloc: Global) -> Services {
+    let mut services = services(rt, alloc);
+    let made = session("01 01 01 00", "01 02 01 00");
+    turn(rt, alloc, &mut services, CREATE, &made);
+    turn(rt, alloc, &mut services, ACTIVATE, ACTIVATED);
+    services
+}
+
+// A Write of so many times the Int32 6.
+fn many_writes(rt: &impl Abort, alloc: Global, count: usize, header: &str) -> Vec<u8> {
+    let mut out = octets(rt, alloc, &write(TOKEN, header));
+    let item = octets(
+        rt,
+        alloc,
+        &["03 01 00 04 00 00 00 'Pump' 0D 00 00 00 FF FF FF FF 01 06 06 00 00 00"],
+    );
+    for _ in 0..count {
+        out.extend_from_slice(&item).expect(rt, "memory");
+    }
+    out
+}
+
+// The response to 1000 of them: 32 octets, 1000 times Good, no diagnostics.
+fn thousand_good(rt: &impl Abort, alloc: Global) -> Vec<u8> {
+    let mut out = octets(rt, alloc, &["01 00 A4 02", GOOD, "E8 03 00 00"]);
+    out.resize(4032, 0).expect(rt, "memory");
+    out.extend_from_slice(&[0xFF; 4]).expect(rt, "memory");
+    out
+}
+
+#[test]
+fn a_thousand_items_are_written_and_one_more_is_refused(rt: HostRuntime) {
+    let alloc = rt.alloc();
+    let mut services = activated(&rt, alloc);
+    let more = many_writes(&rt, alloc, 1001, "E9 03 00 00");
+    let more = answer(&rt, alloc, &mut services, &more);
+    assert_eq!(&rt; more, octets(&rt, alloc, &fault("00 00 10 80")));
+    turn(
+        &rt,
+        alloc,
+        &mut services,
+        &read(TOKEN, NOW, BOTH, PUMP),
+        &["01 00 7A 02", GOOD, FIVE, "FF FF FF FF"],
+    );
+    let thousand = many_writes(&rt, alloc, 1000, "E8 03 00 00");
+    let thousand = answer(&rt, alloc, &mut services, &thousand);
+    assert_eq!(&rt; thousand, thousand_good(&rt, alloc));
+}
+
+// Times, and the one result: the Int32 6 that was written, with these times.
+const TIMES: [(&str, &str); 4] = [
+    ("00 00 00 00", "05 06 06 00 00 00 00 80 3E D5 DE B1 9D 01"),
+    ("01 00 00 00", "09 06 06 00 00 00 00 80 3E D5 DE B1 9D 01"),
+    (
+        "02 00 00 00",
+        "0D 06 06 00 00 00 00 80 3E D5 DE B1 9D 01 00 80 3E D5 DE B1 9D 01",
+    ),
+    ("03 00 00 00", "01 06 06 00 00 00"),
+];
+
+#[test]
+fn times_are_asked_for_by_number(rt: HostRuntime) {
+    let alloc = rt.alloc();
+    let mut services = activated(&rt, alloc);
+    turn(
+        &rt,
+        alloc,
+        &mut services,
+        &read(TOKEN, BELOW_ZERO, "04 00 00 00", PUMP),
+        &fault("00 00 2B 80"),
+    );
+    let one = many_writes(&rt, alloc, 1, "01 00 00 00");
+    drop(answer(&rt, alloc, &mut services, &one));
+    for (times, result) in TIMES {
+        turn(
+            &rt,
+            alloc,
+            &mut services,
+            &read(TOKEN, NOW, times, PUMP),
+            &["01 00 7A 02", GOOD, "01 00 00 00", result, "FF FF FF FF"],
+        );
+    }
+}
+
+// i=9999; attribute 5; the range 0 of a scalar; another encoding; the encoding of values.
+const FIVE_READS: &str =
+    "05 00 00 00 01 00 0F 27 0D 00 00 00 FF FF FF FF 00 00 FF FF FF FF 03 01 00 04 00 00 00 'Pump' 05 00 00 00 FF FF FF FF 00 00 FF FF FF FF 03 01 00 04 00 00 00 'Pump' 0D 00 00 00 01 00 00 00 '0' 00 00 FF FF FF FF 03 01 00 04 00 00 00 'Pump' 0D 00 00 00 FF FF FF FF 00 00 0B 00 00 00 'Default XML' 03 01 00 04 00 00 00 'Pump' 0D 00 00 00 FF FF FF FF 00 00 0E 00 00 00 'Default Binary'";
+
+// i=9999; attribute 5; attribute 3; the range 0; no value; a String; an array.
+const SEVEN_WRITES: &str =
+    "07 00 00 00 01 00 0F 27 0D 00 00 00 FF FF FF FF 01 06 06 00 00 00 03 01 00 04 00 00 00 'Pump' 05 00 00 00 FF FF FF FF 01 06 06 00 00 00 03 01 00 04 00 00 00 'Pump' 03 00 00 00 FF FF FF FF 01 06 06 00 00 00 03 01 00 04 00 00 00 'Pump' 0D 00 00 00 01 00 00 00 '0' 01 06 06 00 00 00 03 01 00 04 00 00 00 'Pump' 0D 00 00 00 FF FF FF FF 00 03 01 00 04 00 00 00 'Pump' 0D 00 00 00 FF FF FF FF 01 0C 01 00 00 00 'a' 03 01 00 04 00 00 00 'Pump' 0D 00 00 00 FF FF FF FF 01 86 01 00 00 00 06 00 00 00";
+
+#[test]
+fn each_item_has_its_own_answer(rt: HostRuntime) {
+    let alloc = rt.alloc();
+    let mut services = activated(&rt, alloc);
+    turn(
+        &rt,
+        alloc,
+        &mut services,
+        &write(TOKEN, SEVEN_WRITES),
+        &[
+            "01 00 A4 02",
+            GOOD,
+            "07 00 00 00 00 00 34 80 00 00 35 80 00 00 3B 80 00 00 73 80 00 00 73 80 00 00 74 80 00 00 74 80",
+            "FF FF FF FF",
+        ],
+    );
+    turn(
+        &rt,
+        alloc,
+        &mut services,
+        &read(TOKEN, NOW, BOTH, FIVE_READS),
+        &[
+            "01 00 7A 02",
+            GOOD,
+            "05 00 00 00 02 00 00 34 80 02 00 00 35 80 02 00 00 36 80 02 00 00 38 80",
+            "09 06 05 00 00 00 00 80 3E D5 DE B1 9D 01",
+            "FF FF FF FF",
+        ],
+    );
 }

@@ -83,6 +83,23 @@ fn a_session_is_made_and_activated_and_closed(rt: HostRuntime) {
         &activate(TOKEN, "01 00 41 01 01 05 00 00 00 FF FF FF FF 00"),
         &fault("00 00 21 80"),
     );
+    // no body, and an XmlElement
+    for identity in ["01 00 41 01 00", "01 00 41 01 02 04 00 00 00 FF FF FF FF"] {
+        turn(
+            &rt,
+            alloc,
+            &mut services,
+            &activate(TOKEN, identity),
+            &fault("00 00 21 80"),
+        );
+    }
+    turn(
+        &rt,
+        alloc,
+        &mut services,
+        &write(OTHER, SIX_SEVEN),
+        &fault("00 00 25 80"),
+    );
     turn(&rt, alloc, &mut services, ACTIVATE, ACTIVATED);
     turn(
         &rt,
