@@ -64,3 +64,35 @@ fn asks_no_request_that_has_no_encoding(rt: HostRuntime) {
     let found = sizes(run(&rt, alloc, &turns, &[]));
     assert_eq!(rt; found, Err(PairFault::NotWritable(1)));
 }
+
+// Behind 15 renewals that no call has used, so many requests and one renewal more. It stands in the
+// group of up to 64 requests in front of it, so their replies come too late; with 65 requests those
+// to the first 64 have come. 56 + 132 + 16 * 132 + 65 * 69 + 57; 163 + 16 * 135 + 65 * 318.
+#[test]
+fn a_renewal_is_the_last_of_the_group_in_front_of_it(rt: HostRuntime) {
+    let alloc = rt.alloc();
+    let rows = [
+        (1, Err(PairFault::Request(16, AskFault::TooManyTokens))),
+        (64, Err(PairFault::Request(79, AskFault::TooManyTokens))),
+        (65, Ok((6842, 22993, 65, End::Closed))),
+    ];
+    for (count, wanted) in rows {
+        let mut turns = renewals(&rt, alloc, 15);
+        for _ in 0..count {
+            turns.push(get_endpoints()).expect(&rt, "memory");
+        }
+        turns.push(Turn::Renew).expect(&rt, "memory");
+        let found = sizes(run(&rt, alloc, &turns, &[]));
+        assert_eq!(rt; found, wanted);
+    }
+}
+
+#[test]
+fn counts_renewals_among_the_turns(rt: HostRuntime) {
+    let alloc = rt.alloc();
+    let mut turns = renewals(&rt, alloc, 2);
+    let turn = write(&rt, alloc, Scalar::Reserved(26, UaBytes::new(None)));
+    turns.push(turn).expect(&rt, "memory");
+    let found = sizes(run(&rt, alloc, &turns, &[]));
+    assert_eq!(rt; found, Err(PairFault::NotWritable(2)));
+}
