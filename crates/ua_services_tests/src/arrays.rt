@@ -43,6 +43,18 @@ fn a_count_past_the_octets_is_no_array(rt: HostRuntime) {
     assert!(rt; is_no_array(&rt, alloc, "00"));
 }
 
+// A count of 2147483647 with nothing behind it, and one of 5 in front of four octets.
+const OVERLONG: [&[u8]; 2] = [&[0xFF, 0xFF, 0xFF, 0x7F], &[0x05, 0, 0, 0, 0, 0, 0, 0]];
+
+// Passes with each allocation refused in turn: `rt try --test --fail-alloc 1..`.
+#[test]
+fn a_count_past_the_octets_is_no_array_without_memory(rt: HostRuntime) {
+    for body in OVERLONG {
+        let read = read_codes(rt.alloc(), body);
+        assert!(rt; matches!(read, Err(ReadFault::NoValue)));
+    }
+}
+
 #[test]
 fn an_array_hands_its_values_back(rt: HostRuntime) {
     let two = octets(&rt, rt.alloc(), &["01 02"]);
