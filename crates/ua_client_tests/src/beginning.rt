@@ -4,8 +4,8 @@ use crate::asking::token;
 use crate::frames::{ACK, HEL, OPN};
 use crate::lines::{AT_ONCE, Course, MOMENT, joined, line, opened};
 use crate::sessions::{
-    ABORTED, ACK_OF_135, ACTIVATE, ACTIVATED, CLO_3, CLO_4, CLOSED_TO_THE_CREATION, CREATE,
-    CREATED, CREATED_LONG, NOT_ACTIVATED, NOT_CREATED, OPENED,
+    ABORTED, ACK_OF_135, ACTIVATE, ACTIVATED, CLO_3, CLO_4, CLOSED, CLOSED_TO_THE_CREATION, CREATE,
+    CREATED, CREATED_LONG, NOT_ACTIVATED, NOT_CREATED, OPENED, SIX, WRITTEN,
 };
 use std::alloc::Global;
 use std::process::Abort;
@@ -153,6 +153,7 @@ fn fails(
     assert_eq!(rt; fault_of(found), Some(wanted));
     let found = client.begin_session(&mut line, MOMENT);
     assert_eq!(rt; fault_of(found), Some(ClientFault::Closed));
+    assert_eq!(rt; client.renew(&mut line, MOMENT), Err(ClientFault::Closed));
     assert_eq!(rt; client.close(&mut line, MOMENT), Err(ClientFault::Closed));
     let octets = joined(rt, alloc, written);
     assert_eq!(rt; line.written(), octets.as_slice());
@@ -180,7 +181,7 @@ fn says_where_the_line_fails(rt: HostRuntime) {
         &rt,
         alloc,
         (reads, &[], Some(4), None),
-        &[ACK, OPENED, CREATED, ACTIVATED],
+        &[ACK, OPENED, CREATED, ACTIVATED, WRITTEN, SIX, CLOSED],
         ClientFault::Read,
         &[HEL, OPN, CREATE, ACTIVATE],
     );
@@ -188,7 +189,7 @@ fn says_where_the_line_fails(rt: HostRuntime) {
         &rt,
         alloc,
         (&[], &[], None, Some(3)),
-        &[ACK, OPENED, CREATED, ACTIVATED],
+        &[ACK, OPENED, CREATED, ACTIVATED, WRITTEN, SIX, CLOSED],
         ClientFault::Write,
         &[HEL, OPN],
     );
