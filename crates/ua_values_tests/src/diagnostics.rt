@@ -46,7 +46,7 @@ fn reads_a_hundred_levels(rt: HostRuntime) {
     assert!(rt; is_refused::<DiagnosticInfo>(alloc, &deeper));
 }
 
-// Passes with every allocation failing: `rt try --test --fail-alloc 1`.
+// Passes with each allocation refused in turn: `rt try --test --fail-alloc 1..`.
 #[test]
 fn refuses_what_encodes_none_without_memory(rt: HostRuntime) {
     let refused: [&[u8]; 5] = [

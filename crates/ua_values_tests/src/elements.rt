@@ -58,7 +58,7 @@ fn reads_arrays_of_the_shortest_encodings(rt: HostRuntime) {
     }
 }
 
-// Passes with every allocation failing: `rt try --test --fail-alloc 1`.
+// Passes with each allocation refused in turn: `rt try --test --fail-alloc 1..`.
 #[test]
 fn refuses_arrays_that_are_an_octet_short_without_memory(rt: HostRuntime) {
     for (kind, least) in SHORTEST {

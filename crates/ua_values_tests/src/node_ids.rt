@@ -82,3 +82,11 @@ fn refuses_texts_that_are_not_utf8(rt: HostRuntime) {
     assert!(rt; is_refused::<NodeId>(alloc, &[0x03, 0, 0, 1, 0, 0, 0, 0xFF]));
     assert!(rt; is_refused::<ExpandedNodeId>(alloc, &[0x80, 0x48, 1, 0, 0, 0, 0xFF]));
 }
+
+// Passes with each allocation refused in turn: `rt try --test --fail-alloc 1..`.
+#[test]
+fn refuses_counts_past_the_octets_without_memory(rt: HostRuntime) {
+    let alloc = rt.alloc();
+    assert!(rt; is_refused::<NodeId>(alloc, &[0x03, 0x00, 0x00, 0xFF, 0xFF, 0xFF, 0x7F]));
+    assert!(rt; is_refused::<NodeId>(alloc, &[0x05, 0x00, 0x00, 0xFF, 0xFF, 0xFF, 0x7F]));
+}

@@ -141,7 +141,7 @@ const OVERLONG: [&[u8]; 10] = [
     &[0x1A, 0xFF, 0xFF, 0xFF, 0x7F],
 ];
 
-// Passes with every allocation failing: `rt try --test --fail-alloc 1`.
+// Passes with each allocation refused in turn: `rt try --test --fail-alloc 1..`.
 #[test]
 fn refuses_counts_past_the_octets_without_memory(rt: HostRuntime) {
     for octets in OVERLONG {
