@@ -2,4 +2,5 @@ pub mod Digits
 pub mod Moment
 pub mod Refused
 pub mod Served
+pub mod Looped
 pub mod Printed

@@ -4,8 +4,8 @@ use Rattle.std.specs.Io.KnownBytes.{Appends}
 use Rattle.ua_pair.specs.declared.side.Side.{Side}
 use Rattle.ua_pair.specs.Dissected.{AreLines}
 use Rattle.ua_asking.specs.Printed.{AreAnswerLines}
-use Rattle.ua_looping.specs.Printed.{AreLoopLines}
 use Rattle.ua_cli.specs.Digits.{HoldsOctets}
+use Rattle.ua_cli.specs.Looped.{HasLoopedSome}
 use Rattle.ua_cli.specs.Served.{HasServed}
 
 -- the text is the lines of the octets of this side that a file with this content holds, with `--hex` or without
@@ -42,13 +42,9 @@ pub record HasBegunServing (old new : Option (List ℕ)) : Type 0 where
   pub connections : ℕ
   pub lines : HasServed port connections old new
 
--- such a writer then holds behind them what is printed of a script
-abbrev pub HasLooped : Option (List ℕ) → Option (List ℕ) → Type 0
-HasLooped old new = HasAdded AreLoopLines old new
-
 -- what a run may add that then meets a fault: the first lines of `ua serve`, lines of answers, or those of a script
 abbrev pub HasBegun : Option (List ℕ) → Option (List ℕ) → Type 0
-HasBegun old new = HasBegunServing old new ⊎ HasAnswered old new ⊎ HasLooped old new
+HasBegun old new = HasBegunServing old new ⊎ HasAnswered old new ⊎ HasLoopedSome old new
 
 -- what a run adds that does what its words ask for
 abbrev pub HasPrinted : Option (List ℕ) → Option (List ℕ) → Type 0

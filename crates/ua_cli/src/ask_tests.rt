@@ -1,11 +1,14 @@
 //! What `ua endpoints`, `ua read` and `ua write` ask, and what they print of the answers.
 
+use crate::fault::Fault;
 use crate::fixture::{front_with, moments};
 use crate::serve::limits;
 use std::alloc::Global;
 use std::process::Abort;
 use ua_asking::{AskFault, Question, ask_over, endpoints_over};
+use ua_builtin::StatusCode;
 use ua_channel::MemoryLine;
+use ua_client::ClientFault;
 use ua_streams::{CLIENT_STREAM, SERVER_STREAM};
 
 /// A Write of the Int32 6 to ns=1;s=Pump, the first that is asked in a session.
@@ -87,11 +90,26 @@ fn told(rt: &impl Abort, alloc: Global, end: Result<(), AskFault>) -> String {
     }
 }
 
+/// A ServiceFault to the GetEndpoints: BadNotSupported.
+const NOT_LISTED: &[u8] =
+    b"MSGF\x34\0\0\0\x01\0\0\0\x01\0\0\0\x02\0\0\0\x02\0\0\0\x01\0\x8D\x01\0\x80\x3E\xD5\xDE\xB1\x9D\x01\x02\0\0\0\0\0\x3D\x80\0\xFF\xFF\xFF\xFF\0\0\0";
+
+/// The server gives up its answer to the first call.
+const GIVEN_UP: &[u8] =
+    b"MSGA\x20\0\0\0\x01\0\0\0\x01\0\0\0\x02\0\0\0\x02\0\0\0\0\0\xB9\x80\xFF\xFF\xFF\xFF";
+
+/// A CloseSession response to the first call.
+const CLOSED_FIRST: &[u8] =
+    b"MSGF\x34\0\0\0\x01\0\0\0\x01\0\0\0\x02\0\0\0\x02\0\0\0\x01\0\xDC\x01\0\x80\x3E\xD5\xDE\xB1\x9D\x01\x02\0\0\0\0\0\0\0\0\xFF\xFF\xFF\xFF\0\0\0";
+
 #[test]
 fn prints_endpoints_and_closes_the_channel(rt: HostRuntime) {
     let alloc = rt.alloc();
-    let rows: [(&[u8], &str, &str, &[u8]); 2] = [
+    let rows: [(&[u8], &str, &str, &[u8]); 5] = [
         (ENDPOINTS, ENDPOINT_LINE, "", CLO_BEHIND_ENDPOINTS),
+        (NOT_LISTED, "", "service 803D0000", CLO_BEHIND_ENDPOINTS),
+        (GIVEN_UP, "", "service 80B90000", CLO_BEHIND_ENDPOINTS),
+        (CLOSED_FIRST, "", "connection UnknownResponse", b""),
         (REFUSED, "", "connection Peer 80810000", b""),
     ];
     for (answer, printed, fault, behind) in rows {
@@ -137,12 +155,34 @@ fn expect_course(rt: &impl Abort, alloc: Global, question: &Question, course: Co
     assert_eq!(rt; line.written(), up.as_slice());
 }
 
+/// An answer to a Read of no item.
+const NO_VALUES: &[u8] =
+    b"MSGF\x3C\0\0\0\x01\0\0\0\x01\0\0\0\x04\0\0\0\x04\0\0\0\x01\0\x7A\x02\0\x80\x3E\xD5\xDE\xB1\x9D\x01\x04\0\0\0\0\0\0\0\0\xFF\xFF\xFF\xFF\0\0\0\0\0\0\0\xFF\xFF\xFF\xFF";
+
 #[test]
 fn reads_in_a_session(rt: HostRuntime) {
     let alloc = rt.alloc();
     let question = Question::parse_read(alloc, &["ns=1;s=Pump"]).expect(&rt, "a question");
-    let rows: [Course; 2] = [
+    let rows: [Course; 5] = [
         (&[SIX, CLOSED], SIX_LINE, "", &[READ, CLOSE, CLO]),
+        (
+            &[FAILED, CLOSED],
+            "",
+            "service 803D0000",
+            &[READ, CLOSE, CLO],
+        ),
+        (
+            &[ABORTED, CLOSED],
+            "",
+            "service 80B90000",
+            &[READ, CLOSE, CLO],
+        ),
+        (
+            &[NO_VALUES, CLOSED],
+            "",
+            "connection UnknownResponse",
+            &[READ, CLOSE, CLO],
+        ),
         (&[WRITTEN], "", "connection UnknownResponse", &[READ]),
     ];
     for course in rows {
@@ -180,4 +220,31 @@ fn writes_in_a_session_and_tells_what_failed(rt: HostRuntime) {
         expect_course(&rt, alloc, &question, course);
     }
     drop(question);
+}
+
+#[test]
+fn faults_of_a_client_have_names(rt: HostRuntime) {
+    let alloc = rt.alloc();
+    let code = StatusCode { code: 0x80BE_00EF };
+    let rows: [(ClientFault, &str); 14] = [
+        (ClientFault::Read, "connection Read"),
+        (ClientFault::Write, "connection Write"),
+        (ClientFault::Ended, "connection Ended"),
+        (ClientFault::Peer(code), "connection Peer 80BE00EF"),
+        (ClientFault::Refused(code), "connection Refused 80BE00EF"),
+        (ClientFault::UnknownResponse, "connection UnknownResponse"),
+        (ClientFault::Service(code), "service 80BE00EF"),
+        (ClientFault::TooLarge, "connection TooLarge"),
+        (ClientFault::NotWritable, "connection NotWritable"),
+        (ClientFault::Exhausted, "connection Exhausted"),
+        (ClientFault::Closed, "connection Closed"),
+        (ClientFault::OutOfMemory, "no memory"),
+        (ClientFault::TooLong, "connection TooLong"),
+        (ClientFault::TooManyTokens, "connection TooManyTokens"),
+    ];
+    for (client, text) in rows {
+        let fault = Fault::Asking(AskFault::from(client));
+        let found = format!(in alloc; "{fault}").expect(&rt, "memory");
+        assert_eq!(rt; found.as_str(), text);
+    }
 }

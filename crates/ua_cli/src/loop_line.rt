@@ -1,8 +1,12 @@
 //! A line whose octets go over a connection within this process.
 
-ghost use Rattle.std.specs.Prelude.{◌≡◌, ℕ, None};
-ghost use Rattle.ua_channel.specs.Line.{one_more};
+ghost use Rattle.std.specs.Prelude.{◌≡◌, ◌≤◌, ◌<◌, ℕ, [], drop, length, take, true, IfOk, OnOk, None};
+ghost use Rattle.std.specs.Io.KnownBytes.{Appends, Consumes};
+ghost use Rattle.ua_channel.specs.Line.{failures_after, one_more};
 ghost use Rattle.ua_channel.specs.declared.line.LineFault.TheVariants.{Failed};
+
+#[cfg(test)]
+mod tests;
 
 use std::io;
 use std::io::{Read, Write};
@@ -45,7 +49,10 @@ impl<'a, S> LoopLine<'a, S> {
     }
 
     /// Whether all has gone over the connection.
-    pub fn is_carried(&self) -> bool {
+    pub fn is_carried(&self) -> bool
+        ensures up { result ≡ true → self.now.up.now ≡ [] }
+        ensures down { result ≡ true → self.now.down.now ≡ [] }
+    {
         self.up.is_empty() && self.down.is_empty()
     }
 
@@ -65,18 +72,25 @@ fn carry<S: Read + Write>(
     to: &mut S,
     octets: &[u8],
     came: &mut [u8],
-) -> io::Result<()> {
+) -> io::Result<()>
+    ensures written { OnOk result (Appends (S.contents from.old) (S.contents from.new) octets.now) }
+    ensures came { OnOk result (Consumes (S.remaining to.old) (S.remaining to.new) came.new) }
+{
     from.write_all(octets)?;
     from.flush()?;
     to.read_exact(came)
 }
 
-impl<S: Read + Write> Line for LoopLine<'_, S> {
-    ghost traffic = { λ l. None };
-
-    ghost failures = { λ l. l.failures };
-
-    fn read(&mut self, buffer: &mut [u8]) -> Result<usize, LineFault> {
+impl<S: Read + Write> LoopLine<'_, S> {
+    /// Writes the next octets of the client at its end, and hands out what came of them at the
+    /// server's.
+    fn carry_up(&mut self, buffer: &mut [u8]) -> Result<usize, LineFault>
+        ensures within { IfOk result (λ n. n ≤ length buffer.new) }
+        ensures failed { self.new.failures ≡ failures_after self.old.failures result }
+        ensures written { IfOk result (λ n. Appends (S.contents self.old.near) (S.contents self.new.near) (take n self.old.up.now)) }
+        ensures came { IfOk result (λ n. Consumes (S.remaining self.old.far) (S.remaining self.new.far) (take n buffer.new)) }
+        ensures left { IfOk result (λ n. self.new.up.now ≡ drop n self.old.up.now) }
+    {
         let n = self.up.len().min(buffer.len()).min(MOST_OCTETS);
         let (piece, rest) = self.up.split_at(n);
         match carry(&mut self.near, &mut self.far, piece, &mut buffer[..n]) {
@@ -88,7 +102,16 @@ impl<S: Read + Write> Line for LoopLine<'_, S> {
         }
     }
 
-    fn write(&mut self, octets: &[u8]) -> Result<usize, LineFault> {
+    /// Writes the first of these octets at the server's end, and expects what came of them at the
+    /// client's to be what it awaits.
+    fn carry_down(&mut self, octets: &[u8]) -> Result<usize, LineFault>
+        ensures within { IfOk result (λ n. n ≤ length octets.now) }
+        ensures some { 0 < length octets.now → IfOk result (λ n. 0 < n) }
+        ensures failed { self.new.failures ≡ failures_after self.old.failures result }
+        ensures written { IfOk result (λ n. Appends (S.contents self.old.far) (S.contents self.new.far) (take n octets.now)) }
+        ensures came { IfOk result (λ n. Consumes (S.remaining self.old.near) (S.remaining self.new.near) (take n self.old.down.now)) }
+        ensures left { IfOk result (λ n. self.new.down.now ≡ drop n self.old.down.now) }
+    {
         let n = octets.len().min(MOST_OCTETS);
         let mut room = [0; MOST_OCTETS];
         let came = &mut room[..n];
@@ -99,5 +122,19 @@ impl<S: Read + Write> Line for LoopLine<'_, S> {
             }
             _ => Err(self.fail()),
         }
+    }
+}
+
+impl<S: Read + Write> Line for LoopLine<'_, S> {
+    ghost traffic = { λ l. None };
+
+    ghost failures = { λ l. l.failures };
+
+    fn read(&mut self, buffer: &mut [u8]) -> Result<usize, LineFault> {
+        self.carry_up(buffer)
+    }
+
+    fn write(&mut self, octets: &[u8]) -> Result<usize, LineFault> {
+        self.carry_down(octets)
     }
 }

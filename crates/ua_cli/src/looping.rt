@@ -1,8 +1,10 @@
 //! `ua loop`: a script that is run over nodes, both ends within this process.
 
-ghost use Rattle.std.specs.Prelude.{◌≡◌, ◌⊎◌, OnOk, IfErr};
-ghost use Rattle.ua_cli.specs.Printed.{HasLooped};
+ghost use Rattle.std.specs.Prelude.{◌≡◌, ◌⊎◌, true, false, None, Ok, IfOk, OnOk, IfErr};
+ghost use Rattle.ua_cli.specs.Looped.{HasLooped, HasLoopedUntil, RefusesScript, RunsScript};
 ghost use Rattle.ua_cli.specs.declared.output.Stop.TheVariants.{Output};
+ghost use Rattle.ua_nodes.specs.Sound.{IsSound};
+ghost use Rattle.ua_server.specs.declared.step.End.TheVariants.{Closed};
 
 use crate::arguments::Loop;
 use crate::fault::Fault;
@@ -12,13 +14,14 @@ use crate::output::{Stop, say_lines};
 use crate::serve::{limits, services};
 use crate::tcp_line::without_delay;
 use std::alloc::{AllocError, Global};
-use std::io::Write;
+use std::io::{Read, Write};
 use std::net::{Ipv4Addr, Net, OpenListener, TcpListener, TcpStream};
 use std::rt::Files;
 use ua_asking::AskFault;
 use ua_channel::ListMoments;
 use ua_client::ClientFault;
-use ua_looping::{Looped, parse_lines, run_lines};
+use ua_looping::{LoopFault, Looped, parse_lines, run_lines};
+use ua_nodes::NodeTable;
 use ua_server::{End, ServeFault, serve};
 
 /// The port in the server's address.
@@ -38,7 +41,11 @@ fn moments(alloc: Global) -> Result<ListMoments, AllocError> {
 }
 
 /// What is told of a server over a connection within this process.
-fn outcome<'a>(ended: Result<End, ServeFault>, is_carried: bool) -> Result<(), Fault<'a>> {
+fn outcome<'a>(ended: Result<End, ServeFault>, is_carried: bool) -> Result<(), Fault<'a>>
+    ensures closed { OnOk result (ended ≡ Ok Closed) }
+    ensures carried { OnOk result (is_carried ≡ true) }
+    ensures failed { ended ≡ Ok Closed → IfErr result (λ fault. is_carried ≡ false) }
+{
     let fault = match ended {
         Ok(End::Closed) if is_carried => return Ok(()),
         Ok(_) => ClientFault::Ended,
@@ -67,26 +74,44 @@ fn connection<'a, R: Net>(rt: &R) -> Result<(R::Stream, R::Stream), Fault<'a>> {
     }
 }
 
-/// Sends the octets of a script over one connection within this process: those of its client to a
-/// server over the nodes of this text, and what that server answers back.
+/// Sends the octets of a script over the connection of a line: those of its client to a server over
+/// the nodes of this text, and what that server answers back.
+pub fn carry_over<'a, S: Read + Write>(
+    alloc: Global,
+    nodes: &str,
+    line: &mut LoopLine<'_, S>,
+) -> Result<(), Fault<'a>> {
+    let mut services = services(alloc, nodes, PORT)?;
+    let mut moments = moments(alloc)?;
+    let ended = serve(alloc, line, &mut services, limits(), CHANNEL, &mut moments);
+    outcome(ended, line.is_carried())
+}
+
+/// Sends the octets of a script over one connection within this process.
 fn carry_over_tcp<'a, R: Net + AllocGlobal>(
     rt: &R,
     nodes: &str,
     looped: &Looped,
 ) -> Result<(), Fault<'a>> {
-    let mut services = services(rt.alloc(), nodes, PORT)?;
-    let mut moments = moments(rt.alloc())?;
     let (near, far) = connection(rt)?;
     let mut line = LoopLine::new(near, far, &looped.up, &looped.down);
-    let ended = serve(
-        rt.alloc(),
-        &mut line,
-        &mut services,
-        limits(),
-        CHANNEL,
-        &mut moments,
-    );
-    outcome(ended, line.is_carried())
+    carry_over(rt.alloc(), nodes, &mut line)
+}
+
+/// Runs the script of a text over nodes, each end taking what the other wrote in pieces of so many
+/// octets.
+pub fn run_script(
+    alloc: Global,
+    nodes: NodeTable,
+    script: &str,
+    cut: u16,
+) -> Result<Looped, LoopFault>
+    requires sound { IsSound nodes }
+    ensures ran { IfOk result (λ looped. RunsScript nodes script.now looped) }
+    ensures refused { IfErr result (λ fault. RefusesScript script.now fault) }
+{
+    let lines = parse_lines(alloc, script)?;
+    run_lines(alloc, nodes, &lines, cut)
 }
 
 /// Runs the script of a file over the nodes of another, and prints the answers to its lines and how
@@ -96,14 +121,13 @@ pub fn run_files<'a, R: Files + Net + AllocGlobal, O: Write>(
     asked: &Loop<'a>,
     out: &mut O,
 ) -> Result<(), Stop<'a>>
-    ensures looped { OnOk result (HasLooped (O.contents out.old) (O.contents out.new)) }
-    ensures stopped { IfErr result (λ stop. (stop ≡ Output) ⊎ (out.new ≡ out.old) ⊎ HasLooped (O.contents out.old) (O.contents out.new)) }
+    ensures looped { OnOk result (HasLooped None (O.contents out.old) (O.contents out.new)) }
+    ensures stopped { IfErr result (λ stop. (stop ≡ Output) ⊎ (out.new ≡ out.old) ⊎ HasLoopedUntil stop (O.contents out.old) (O.contents out.new)) }
 {
     let text = read_text(rt, asked.nodes)?;
     let nodes = parse_nodes(rt.alloc(), &text)?;
     let script = read_text(rt, asked.script)?;
-    let lines = parse_lines(rt.alloc(), &script)?;
-    let looped = run_lines(rt.alloc(), nodes, &lines, asked.cut)?;
+    let looped = run_script(rt.alloc(), nodes, &script, asked.cut)?;
     if asked.tcp {
         carry_over_tcp(rt, &text, &looped)?;
     }

@@ -22,6 +22,8 @@ mod loop_line;
 mod loop_tests;
 mod looping;
 mod number;
+#[cfg(test)]
+mod offline_tests;
 mod output;
 mod run;
 mod serve;

@@ -9,6 +9,9 @@ ghost use Rattle.ua_cli.specs.Refused.{RefusesNodes};
 ghost use Rattle.ua_cli.specs.Served.{AddsOutcome, AreOwn, BeginsWith, HasServed, HasServedSome, ServesOne, TellsOf, endpoint_on, listening_line};
 ghost use Rattle.ua_cli.specs.declared.output.Stop.TheVariants.{Output};
 
+#[cfg(test)]
+mod tests;
+
 use crate::arguments::Serve;
 use crate::clock_moments::ClockMoments;
 use crate::fault::Fault;

@@ -1,5 +1,6 @@
 //! What `ua` prints, and its statuses: no clause speaks of them.
 
+use crate::arguments::{Task, parse};
 use crate::fixture::expect_run;
 use crate::run::{refuse_words, run};
 use std::io::Write;
@@ -210,6 +211,10 @@ fn serves_no_nodes_that_a_file_does_not_write(rt: HostRuntime) -> Result<(), Fai
     let rows = [
         ("# pumps\r\n\r\ni=1\tr\tOne\tByte", "ua: line 3: Fields\n"),
         ("i=1\tr\tOne\tByte\t256\n", "ua: line 1: Value\n"),
+        ("Pump\tx\t\tInt\t5\n", "ua: line 1: Node\n"),
+        ("i=1\tx\t\tInt\t5\n", "ua: line 1: Access\n"),
+        ("i=1\tr\t\tInt\t5\n", "ua: line 1: Name\n"),
+        ("i=1\tr\tOne\tInt\t5\n", "ua: line 1: Kind\n"),
         (
             "i=1\tr\tOne\tByte\t1\nns=0;i=1\tr\tOne\tByte\t1\n",
             "ua: line 2: Duplicate\n",
@@ -267,7 +272,7 @@ fn asks_nobody(rt: HostRuntime) -> Result<(), Fail> {
 
 #[test]
 fn refuses_words_that_do_not_parse(rt: HostRuntime) -> Result<(), Fail> {
-    let rows: [&[&str]; 22] = [
+    let rows: [&[&str]; 33] = [
         &[],
         &["ua"],
         &["ua", "dissect"],
@@ -290,6 +295,17 @@ fn refuses_words_that_do_not_parse(rt: HostRuntime) -> Result<(), Fail> {
         &["ua", "loop", "nodes.txt", "script.txt", "--cut", "0"],
         &["ua", "loop", "nodes.txt", "script.txt", "--cut", "65536"],
         &["ua", "loop", "nodes.txt", "script.txt", "--tcp", "x"],
+        &["ua", "serve", "nodes.txt", "x"],
+        &["ua", "serve", "nodes.txt", "5", "--connections", "65536"],
+        &["ua", "serve", "no such file", "0"],
+        &["ua", "endpoints", "0"],
+        &["ua", "read", "0", "Pump"],
+        &["ua", "read", "65536", "Pump"],
+        &["ua", "write", "0", "Pump", "Int", "6"],
+        &["ua", "write", "65536", "i=1", "Int32", "6"],
+        &["ua", "loop", "no nodes", "no script", "--cut", "x"],
+        &["ua", "loop", "no nodes", "no script", "--cut", "+5"],
+        &["ua", "loop", "no nodes", "no script", "--cut", "0x7"],
     ];
     for words in rows {
         let mut out = Vec::new(rt.alloc());
@@ -344,5 +360,84 @@ fn fails_where_a_writer_fails(rt: HostRuntime) -> Result<(), Fail> {
     let words = ["ua", "dissect", "no such file"];
     assert_eq!(rt; run(&rt, words.as_slice(), &mut out, &mut Broken), 1);
     assert!(rt; out.is_empty());
+    Ok(())
+}
+
+// Each of them meets its fault behind the words.
+#[test]
+fn takes_numbers_from_1_to_65535(rt: HostRuntime) -> Result<(), Fail> {
+    let no_node = "ua: bad node\n";
+    let no_file = "ua: cannot read no such file\n";
+    let rows: [(&[&str], &str); 9] = [
+        (&["ua", "read", "1", "Pump"], no_node),
+        (&["ua", "read", "65535", "Pump"], no_node),
+        (&["ua", "read", "007", "Pump"], no_node),
+        (&["ua", "write", "65535", "Pump", "Int32", "6"], no_node),
+        (&["ua", "serve", "no such file", "1"], no_file),
+        (
+            &["ua", "serve", "no such file", "65535", "--connections", "1"],
+            no_file,
+        ),
+        (
+            &["ua", "serve", "no such file", "5", "--connections", "65535"],
+            no_file,
+        ),
+        (&["ua", "loop", "no such file", "x", "--cut", "1"], no_file),
+        (
+            &["ua", "loop", "no such file", "x", "--cut", "65535"],
+            no_file,
+        ),
+    ];
+    for (words, fault) in rows {
+        expect_run(&rt, words, "", fault, 1)?;
+    }
+    Ok(())
+}
+
+#[test]
+fn numbers_that_are_not_given_are_1_and_65535(rt: HostRuntime) {
+    let words = ["ua", "serve", "nodes.txt", "007"];
+    let Ok(Some(Task::Serve(asked))) = parse(rt.alloc(), &words) else {
+        panic!(rt; "a server");
+    };
+    assert_eq!(rt; (asked.port, asked.connections), (7, 1));
+    let words = ["ua", "loop", "nodes.txt", "script.txt"];
+    let Ok(Some(Task::Loop(asked))) = parse(rt.alloc(), &words) else {
+        panic!(rt; "a script");
+    };
+    assert_eq!(rt; (asked.cut, asked.tcp), (65535, false));
+}
+
+#[test]
+fn judges_the_nodes_before_it_listens(rt: HostRuntime) -> Result<(), Fail> {
+    let listener = TcpListener::bind(&rt, "127.0.0.1:0")?;
+    let port = listener.local_addr()?.port().to_string(rt.alloc())?;
+    fs::write(&rt, "nodes.txt", "i=1\tr\tOne\tByte\t256\n")?;
+    let words = ["ua", "serve", "nodes.txt", port.as_str()];
+    expect_run(&rt, &words, "", "ua: line 1: Value\n", 1)?;
+    let words = ["ua", "serve", "no such file", port.as_str()];
+    expect_run(&rt, &words, "", "ua: cannot read no such file\n", 1)
+}
+
+// What the script prints has 77 octets. The server ends before it takes a connection.
+#[test]
+fn fails_where_a_writer_fails_behind_a_script_or_a_port(rt: HostRuntime) -> Result<(), Fail> {
+    fs::write(&rt, "nodes.txt", "ns=1;s=Pump\trw\tPump\tInt32\t5\n")?;
+    fs::write(
+        &rt,
+        "script.txt",
+        "write\tns=1;s=Pump\tInt32\t6\nread\tns=1;s=Pump\n",
+    )?;
+    let words = ["ua", "loop", "nodes.txt", "script.txt"];
+    let mut err = Vec::new(rt.alloc());
+    assert_eq!(rt; run(&rt, &words, &mut Broken, &mut err), 1);
+    assert_eq!(rt; run(&rt, &words, &mut Unflushed, &mut err), 1);
+    assert_eq!(rt; run(&rt, &words, &mut Short { room: 76 }, &mut err), 1);
+    assert_eq!(rt; run(&rt, &words, &mut Short { room: 77 }, &mut err), 0);
+    let port = free_port(&rt)?;
+    let words = ["ua", "serve", "nodes.txt", port.as_str()];
+    assert_eq!(rt; run(&rt, &words, &mut Broken, &mut err), 1);
+    assert_eq!(rt; run(&rt, &words, &mut Unflushed, &mut err), 1);
+    assert!(rt; err.is_empty());
     Ok(())
 }
