@@ -1,6 +1,6 @@
 -- The loop that reads so many values, against the list of them all.
 use Rattle.std.specs.Prelude.{◌≡◌, ℕ, suc, ◌+◌, ◌-◌, ◌<◌, ◌≤◌, List, [], ◌∷◌, ◌++◌, length, Option, Some, None, Err, cond, Bool}
-use Rattle.std.proofs.Common.{refl, sym, ◌∙◌, ap, arith, append_assoc, length-append}
+use Rattle.std.proofs.Common.{refl, sym, ◌∙◌, ap, subst, arith, append_assoc, length-append}
 use Rattle.std.proofs.lemmas.List.{append-nil}
 use Rattle.ua_octets.specs.declared.fault.ReadFault.{ReadFault}
 use Rattle.ua_octets.specs.declared.fault.ReadFault.TheVariants.{NoValue, OutOfMemory}
@@ -10,6 +10,7 @@ use Rattle.ua_builtin.specs.Exact.{◌>>=◌, image_read}
 use Rattle.ua_builtin.specs.Number.{number_at}
 use Rattle.ua_builtin.specs.Format.{Format, IsLawful, TakesSome, Within, Gives, GivesBy}
 use Rattle.ua_structures.specs.Array.{EachEncoded, items_at, array, behind_count}
+use Rattle.ua_octets.proofs.Readers.{some_is}
 use Rattle.ua_structures.proofs.ArrayRead.{exact_items}
 
 -- what was read stands in front of what is still to be read
@@ -56,6 +57,34 @@ pub fault_ends : {X A : Type 0} (view : X → List A) (r : List ℕ → Option (
     → with_front xs (items_at r (count - counter) old) ≡ items_at r count first → GivesBy view (items_at r count) first new (Err e)
 fault_ends view r NoValue xs count counter first old new lt h all = fails r xs count counter old (items_at r count first) lt h all
 fault_ends view r OutOfMemory xs count counter first old new lt h all = tt
+
+-- ---- each value read to the end of those before it
+
+abbrev placed : {A : Type 0} → List A → A × List ℕ → Option (List A × List ℕ)
+placed xs x = Some (xs ++ x.0 ∷ [], x.1)
+
+goes_on_from : {A : Type 0} (r : List ℕ → Option (A × List ℕ)) (xs ys : List A) (count counter : ℕ) (old new : List ℕ) (all : Option (List A × List ℕ)) (found : Option (A × List ℕ)) → counter < count → r old ≡ found → (found >>= placed xs) ≡ Some (ys, new)
+    → with_front xs (items_at r (count - counter) old) ≡ all → with_front ys (items_at r (count - (counter + 1)) new) ≡ all
+goes_on_from {A = A} r xs ys count counter old new all None lt is e h = absurd cc
+goes_on_from {A = A} r xs ys count counter old new all (Some x) lt is e h =
+    let both = some_is (xs ++ x.0 ∷ [], x.1) (ys, new) e in
+    let same : xs ++ x.0 ∷ [] ≡ ys = ap (λ p. p.0) both in
+    let rest : x.1 ≡ new = ap (λ p. p.1) both in
+    subst (λ (l : List A). with_front l (items_at r (count - (counter + 1)) new) ≡ all) same
+    (subst (λ (o : List ℕ). with_front (xs ++ x.0 ∷ []) (items_at r (count - (counter + 1)) o) ≡ all) rest
+    (goes_on r xs count counter old x.0 x.1 all lt is h))
+
+pub goes_on_behind : {A : Type 0} (r : List ℕ → Option (A × List ℕ)) (xs ys : List A) (count counter : ℕ) (old new : List ℕ) (all : Option (List A × List ℕ)) → counter < count → image_read (λ x. xs ++ x ∷ []) r old ≡ Some (ys, new)
+    → with_front xs (items_at r (count - counter) old) ≡ all → with_front ys (items_at r (count - (counter + 1)) new) ≡ all
+goes_on_behind r xs ys count counter old new all lt e h = goes_on_from r xs ys count counter old new all (r old) lt refl e h
+
+none_behind : {A : Type 0} (xs : List A) (found : Option (A × List ℕ)) → (found >>= placed xs) ≡ None → found ≡ None
+none_behind xs None e = refl
+none_behind xs (Some x) e = absurd cc
+
+pub fault_behind : {A : Type 0} (r : List ℕ → Option (A × List ℕ)) (xs ys : List A) (e : ReadFault) (old new : List ℕ) → GivesBy {X = Unit {0}} (λ _. ys) (image_read (λ x. xs ++ x ∷ []) r) old new (Err e) → Gives r old new (Err e)
+fault_behind r xs ys NoValue old new h = none_behind xs (r old) h
+fault_behind r xs ys OutOfMemory old new h = tt
 
 -- ---- a count above the octets behind it
 

@@ -12,6 +12,7 @@ ghost use Rattle.ua_structures.specs.Plain.{value_of_node, value_for_node, read_
 
 use crate::append::{append_three, append_two};
 use crate::array::UaArray;
+use crate::data_values::read_data_values;
 use crate::header::{RequestHeader, ResponseHeader};
 use std::alloc::{AllocError, Global};
 use ua_builtin::{
@@ -239,7 +240,9 @@ impl Wire for ReadResponse {
         src: &mut S,
         depth: u32,
     ) -> Result<ReadResponse, ReadFault> {
-        let (response_header, (results, diagnostic_infos)) = Wire::read_value(alloc, src, depth)?;
+        let response_header = Wire::read_value(alloc, src, depth)?;
+        let results = read_data_values(alloc, src, depth)?;
+        let diagnostic_infos = Wire::read_value(alloc, src, depth)?;
         Ok(ReadResponse {
             response_header,
             results,

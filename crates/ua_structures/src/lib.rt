@@ -19,6 +19,7 @@
 mod append;
 mod array;
 mod attribute;
+mod data_values;
 mod discovery;
 mod header;
 mod secure_channel;

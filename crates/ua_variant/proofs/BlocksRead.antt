@@ -1,12 +1,10 @@
 -- Arrays of a type whose values all take the same octets, read a block at a time.
-use Rattle.std.proofs.Common.{◌≡◌, ℕ, zero, suc, ◌+◌, ◌-◌, ◌*◌, ◌/◌, ◌<◌, ◌≤◌, Bool, true, false, cond, eqb, List, [], ◌∷◌, ◌++◌, length, take, map, Option, Some, None, refl, sym, subst, ap, ◌∙◌, append-nil, append_assoc, arith, length-append}
+use Rattle.std.proofs.Common.{◌≡◌, ℕ, zero, suc, ◌+◌, ◌-◌, ◌*◌, ◌/◌, ◌<◌, ◌≤◌, true, false, cond, eqb, List, [], ◌∷◌, ◌++◌, length, take, map, Option, Some, None, refl, sym, subst, ap, ◌∙◌, append-nil, arith, length-append}
 use Rattle.std.proofs.lemmas.Grind.{common_steps}
 use Rattle.std.proofs.lemmas.List.{map-append}
 use Rattle.std.proofs.Math.Seq.{take-append_seam}
-use Rattle.std.specs.Int.{Width, w8, w16, w32, w64}
 use Rattle.ua_octets.specs.Exact.{Exact, ◌>>=◌, image_read}
 use Rattle.ua_octets.specs.Number.{IsNumber}
-use Rattle.ua_octets.specs.Signed.{signed, octets_of}
 use Rattle.ua_octets.specs.Boolean.{boolean as boolean_format}
 use Rattle.ua_octets.specs.FloatBits.{float_bits}
 use Rattle.ua_octets.specs.DoubleBits.{double_bits}

@@ -15,4 +15,5 @@ mod Loops
 mod BlocksRead
 mod Valued
 mod Written
+mod OntoRead
 mod PackedRows

@@ -17,3 +17,4 @@ pub mod Trees
 pub mod Codes
 pub mod Sizes
 pub mod Reading
+pub mod Onto

@@ -1,6 +1,6 @@
 -- The fields of a DataValue as its reader holds them.
 use Rattle.ua_variant.specs.Data.{DataFields}
-use Rattle.ua_variant.specs.declared.read.Fields.{Fields}
+use Rattle.ua_variant.specs.declared.fields.Fields.{Fields}
 
 -- the data that these fields stand for
 abbrev pub fields_of : Fields → DataFields

@@ -1,21 +1,20 @@
 //! Reads Variants and DataValues.
 
-ghost use Rattle.std.specs.Prelude.{◌≡◌, ◌<◌, ◌≤◌, IsErrOf};
+ghost use Rattle.std.specs.Prelude.{◌≡◌, ◌<◌, ◌≤◌, ◌%◌, true, IsErrOf};
 ghost use Rattle.ua_builtin.specs.Exact.{image_read};
 ghost use Rattle.ua_builtin.specs.Counted.{first_negative};
 ghost use Rattle.ua_builtin.specs.Format.{most_levels, Gives, GivesBy, StaysBehind};
 ghost use Rattle.ua_octets.specs.declared.fault.ReadFault.TheVariants.{NoValue};
 ghost use Rattle.ua_parts.specs.Parts.{optional_read};
 ghost use Rattle.ua_variant.specs.Data.{leaf};
-ghost use Rattle.ua_variant.specs.Fields.{data_fields};
 ghost use Rattle.ua_variant.specs.Formats.{IsOverlongArray, IsOverlongRow};
 ghost use Rattle.ua_variant.specs.Leaf.{leaf_at};
 ghost use Rattle.ua_variant.specs.Encodable.{is_read_kind as read_kind};
 ghost use Rattle.ua_variant.specs.Decoding.{variant_at, variant_step, variant_after, data_value_at, data_value_step, scalars_at, scalar_at, array_at, elements_at, row_at};
-ghost use Rattle.ua_variant.specs.View.{row, variant_of, scalar_of, data_value_of, value_within};
-ghost use Rattle.ua_variant.specs.Reading.{fields_of};
+ghost use Rattle.ua_variant.specs.View.{row, variant_of, scalar_of, data_value_of};
 
 use crate::blocks::{is_packed, read_packed};
+use crate::fields::read_data_fields;
 use crate::leaf::{read_as, read_boxed_as};
 use crate::least::least_octets;
 use crate::masks;
@@ -28,7 +27,6 @@ use ua_builtin::{
     QualifiedName, ReadFault, Source, StatusCode, UaBytes, UaString, Wire, XmlElement,
 };
 use ua_octets::FIRST_NEGATIVE;
-use ua_parts::field::read_field;
 use ua_parts::{BoxedDiagnostic, read_diagnostic, read_dims, read_no_dims};
 
 /// For so many elements room is made at once; a longer array grows by what was read, so that
@@ -132,7 +130,7 @@ fn is_read_kind(kind: u8) -> bool
 /// Reads a Variant, with so many levels left within.
 #[cycle(variants)]
 #[inline(always)]
-#[tactic(auto, unfolding(crate::specs::Decoding::variant_step, crate::specs::Decoding::variant_after))]
+#[tactic(auto, unfolding(crate::specs::Decoding::variant_step))]
 fn read_variant_level<S: Source>(
     alloc: Global,
     src: &mut S,
@@ -144,6 +142,24 @@ fn read_variant_level<S: Source>(
     ensures long { IsOverlongArray (S.octets src.old) → IsErrOf result NoValue }
 {
     let tag = u8::read_value(alloc, src, 0)?;
+    read_tagged(alloc, src, depth, tag)
+}
+
+/// Reads a Variant behind its first octet, with so many levels left within.
+#[cycle(variants)]
+#[inline(always)]
+#[tactic(auto, unfolding(crate::specs::Decoding::variant_after))]
+pub fn read_tagged<S: Source>(
+    alloc: Global,
+    src: &mut S,
+    depth: u32,
+    tag: u8,
+) -> Result<Variant, ReadFault>
+    requires levels { depth ≤ most_levels }
+    ensures exact { GivesBy variant_of (variant_after (scalars_at depth) tag) (S.octets src.old) (S.octets src.new) result }
+    ensures behind { StaysBehind (S.octets src.old) (S.octets src.new) }
+    ensures long { 0x80 ≤ tag → read_kind (tag % 0x40) ≡ true → IsOverlongRow (tag % 0x40) (S.octets src.old) → IsErrOf result NoValue }
+{
     if tag == 0 {
         return Ok(Variant::Null);
     }
@@ -341,56 +357,8 @@ fn read_data_value_level<S: Source>(
 /// Lets a value go whose DataValue is none.
 #[cold]
 #[inline(never)]
-fn give_up(value: Option<HeldVariant>) {
+pub fn give_up(value: Option<HeldVariant>) {
     drop(value);
-}
-
-/// The fields of a DataValue but its value.
-#[derive(Clone, Copy)]
-struct Fields {
-    status: Option<StatusCode>,
-    source_timestamp: Option<DateTime>,
-    source_picoseconds: Option<u16>,
-    server_timestamp: Option<DateTime>,
-    server_picoseconds: Option<u16>,
-}
-
-impl Fields {
-    /// The DataValue of these fields.
-    #[inline]
-    fn behind(self, value: Option<HeldVariant>) -> DataValue
-        ensures { data_value_of result ≡ value_within value (fields_of self) }
-    {
-        DataValue {
-            value,
-            status: self.status,
-            source_timestamp: self.source_timestamp,
-            source_picoseconds: self.source_picoseconds,
-            server_timestamp: self.server_timestamp,
-            server_picoseconds: self.server_picoseconds,
-        }
-    }
-}
-
-/// Reads the fields of a DataValue that the mask announces, behind its value.
-#[inline(always)]
-#[tactic(auto, unfolding(crate::specs::Fields::data_fields))]
-fn read_data_fields<S: Source>(alloc: Global, src: &mut S, mask: u8) -> Result<Fields, ReadFault>
-    ensures exact { GivesBy fields_of (data_fields mask).decode (S.octets src.old) (S.octets src.new) result }
-    ensures behind { StaysBehind (S.octets src.old) (S.octets src.new) }
-{
-    let status = read_field(alloc, src, 0, mask & masks::STATUS != 0)?;
-    let source_timestamp = read_field(alloc, src, 0, mask & masks::SOURCE_TIMESTAMP != 0)?;
-    let source_picoseconds = read_field(alloc, src, 0, mask & masks::SOURCE_PICOSECONDS != 0)?;
-    let server_timestamp = read_field(alloc, src, 0, mask & masks::SERVER_TIMESTAMP != 0)?;
-    let server_picoseconds = read_field(alloc, src, 0, mask & masks::SERVER_PICOSECONDS != 0)?;
-    Ok(Fields {
-        status,
-        source_timestamp,
-        source_picoseconds,
-        server_timestamp,
-        server_picoseconds,
-    })
 }
 
 /// Reads a Variant within a DataValue, where it is announced.

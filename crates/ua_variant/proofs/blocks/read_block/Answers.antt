@@ -1,10 +1,7 @@
 use Rattle.std.proofs.Common.{◌≡◌, ◌<◌, ◌∙◌, length, map, subst, arith}
 use Rattle.ua_octets.proofs.Behind.{stays_behind}
-use Rattle.ua_octets.specs.Format.{GivesBy}
-use Rattle.ua_variant.specs.Blocks.{row_behind}
 use Rattle.ua_variant.specs.Data.{leaf}
-use Rattle.ua_variant.specs.View.{row}
-use Rattle.ua_variant.proofs.BlocksRead.{leaves_at, block_read, block_short}
+use Rattle.ua_variant.proofs.BlocksRead.{block_read, block_short}
 use Rattle.ua_variant.proofs.blocks.read_block.Goals as goal
 
 pub returns-then-not-take_into-clause-exact : goal.returns-then-not-take_into-clause-exact

@@ -1,4 +1,4 @@
-use Rattle.std.proofs.Common.{◌≡◌, ◌-◌, ◌≤◌, ◌<◌, ◌/◌, length, map}
+use Rattle.std.proofs.Common.{◌≡◌, ◌-◌, ◌≤◌, length, map}
 use Rattle.ua_octets.specs.Format.{StaysBehind}
 use Rattle.ua_variant.specs.Blocks.{row_behind}
 use Rattle.ua_variant.specs.Data.{leaf}

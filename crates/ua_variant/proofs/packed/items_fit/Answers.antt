@@ -1,4 +1,4 @@
-use Rattle.std.proofs.Common.{sym, ap, ◌∙◌, eqb, arith}
+use Rattle.std.proofs.Common.{sym, ◌∙◌, arith}
 use Rattle.ua_variant.proofs.Fits.{same_kind}
 use Rattle.ua_variant.proofs.PackedRows.{leaves_fit_after, leaves_fit_fails, other_leaf, unfit_leaf}
 use Rattle.ua_variant.proofs.packed.items_fit.Goals as goal

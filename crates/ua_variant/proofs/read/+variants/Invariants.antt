@@ -6,10 +6,13 @@ use Rattle.ua_variant.specs.Blocks.{with_front}
 use Rattle.ua_variant.proofs.read.+variants.Given as goal
 
 abbrev pub decreases-read_variant : goal.decreases-read_variant
-decreases-read_variant g l = 8 * l.depth + 0
+decreases-read_variant g l = 8 * l.depth + 1
 
 abbrev pub decreases-read_variant_level : goal.decreases-read_variant_level
-decreases-read_variant_level g l = 8 * l.depth + 7
+decreases-read_variant_level g l = 8 * l.depth + 8
+
+abbrev pub decreases-read_tagged : goal.decreases-read_tagged
+decreases-read_tagged g l = 8 * l.depth + 7
 
 abbrev pub decreases-read_array : goal.decreases-read_array
 decreases-read_array g l = 8 * l.depth + 6
