@@ -19,7 +19,7 @@ use Rattle.ua_octets.specs.Format.{GivesBy}
 use Rattle.ua_octets.specs.declared.fault.ReadFault.{ReadFault}
 use Rattle.ua_octets.specs.declared.fault.ReadFault.TheVariants.{NoValue, OutOfMemory}
 use Rattle.std.specs.Prelude.{Result, Ok, Err}
-use Rattle.ua_variant.specs.Blocks.{before, with_front, row_behind, GoesOn}
+use Rattle.ua_variant.specs.Blocks.{before, with_front, row_behind, leaf_row_at, GoesOn}
 use Rattle.ua_variant.specs.Data.{LeafData, boolean, sbyte, byte, int16, uint16, int32, uint32, int64, uint64, float, double, string, date_time, guid, byte_string, xml_element, node_id, expanded_node_id, status_code, qualified_name, localized_text, extension_object, reserved, ScalarData, leaf, data_value, variant, diagnostic, ScalarsData, no_scalars, scalar}
 use Rattle.ua_variant.specs.Decoding.{row_at, scalar_at, scalars_at, data_value_at, variant_at}
 use Rattle.ua_parts.specs.Diagnostic.{diagnostic_at}
@@ -28,7 +28,9 @@ use Rattle.ua_variant.specs.Encoding.{EncodesScalar, EncodesRow}
 use Rattle.ua_variant.specs.Leaf.{EncodesLeaf, holds_values, is_reserved, leaf_at, leaf_kind}
 use Rattle.ua_variant.specs.Least.{least_octets}
 use Rattle.ua_variant.specs.Packed.{is_packed_kind}
-use Rattle.ua_variant.specs.View.{row, row_list}
+use Rattle.ua_variant.specs.View.{row, row_list, scalar_of}
+use Rattle.ua_variant.specs.declared.values.Scalar.{Scalar}
+use Rattle.std.proofs.Common.{Vec, Global}
 use Rattle.ua_variant.proofs.ArraysRead.{RowOf, exact_row}
 use Rattle.ua_variant.proofs.Loops.{row_step, row_ends, row_stops}
 use Rattle.ua_variant.proofs.ScalarsRead.{ShallowS}
@@ -268,3 +270,27 @@ leaf_ends p a rest old whole none so_far = sym so_far ∙ row_ends p a rest old 
 -- so many of a width lie within a block
 pub block_within : (w n : ℕ) → 0 < w → n ≤ 512 / w → n * w ≤ 512
 block_within w n h l = Prim.grind (arith, common_steps)
+
+-- ---- rows of scalars that are not packed
+
+-- no scalar where one is owed
+pub records_stop : (k : ℕ) (ss : List Scalar) (count counter : ℕ) (start old new : List ℕ) (e : ReadFault) → counter < count → GivesBy scalar_of (leaves_at k) old new (Err e)
+    → with_front (map scalar_of ss) (row_at (count - counter) (leaves_at k) old) ≡ row_at count (leaves_at k) start → GivesBy (λ (v : Vec Scalar Global). row (map scalar_of v.items)) (leaf_row_at count k) start new (Err e)
+unfolding leaf_row_at
+records_stop k ss count counter start old new NoValue lt none so_far = sym so_far ∙ row_stops (leaves_at k) (map scalar_of ss) (count - counter) (count - (counter + 1)) old (omega arith) none
+records_stop k ss count counter start old new OutOfMemory lt none so_far = tt
+
+-- at any level, such scalars are read alike
+record_apart : (k : ℕ) → k ≤ 22 → holds_values k ≡ false
+record_apart k h = Prim.grind (arith, common_steps)
+
+record_at : (n k : ℕ) (octets : List ℕ) → k ≤ 22 → scalars_at n k octets ≡ leaves_at k octets
+unfolding scalar_at
+record_at n k octets h =
+    ap (λ b. cond b (cond (eqb k 23) (data_value_at n octets >>= λ x. Some (data_value x.0, x.1)) (
+    cond (eqb k 24) (variant_at n octets >>= λ x. Some (variant x.0, x.1)) (
+    diagnostic_at n octets >>= λ x. Some (diagnostic x.0, x.1)))) (leaves_at k octets)) (record_apart k h)
+
+pub row_records : (n k m : ℕ) (octets : List ℕ) → k ≤ 22 → row_at m (scalars_at n k) octets ≡ leaf_row_at m k octets
+unfolding leaf_row_at
+row_records n k m octets h = row_same (scalars_at n k) (leaves_at k) (λ o. record_at n k o h) m octets

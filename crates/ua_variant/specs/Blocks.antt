@@ -2,10 +2,11 @@
 use Rattle.std.specs.Prelude.{◌≡◌, ℕ, List, [], ◌∷◌, Option, Some, None, Result, Ok, Err}
 use Rattle.ua_octets.specs.declared.fault.ReadFault.{ReadFault}
 use Rattle.ua_octets.specs.declared.fault.ReadFault.TheVariants.{NoValue, OutOfMemory}
-use Rattle.ua_builtin.specs.Exact.{◌>>=◌}
+use Rattle.ua_builtin.specs.Exact.{◌>>=◌, image_read}
 use Rattle.ua_parts.specs.Parts.{Reader}
-use Rattle.ua_variant.specs.Data.{ScalarData, ScalarsData, scalar}
+use Rattle.ua_variant.specs.Data.{ScalarData, leaf, ScalarsData, scalar}
 use Rattle.ua_variant.specs.Decoding.{row_at}
+use Rattle.ua_variant.specs.Leaf.{leaf_at}
 
 -- these before the rest of a row
 abbrev pub before : List ScalarData → ScalarsData → ScalarsData
@@ -19,6 +20,10 @@ with_front ss r = r >>= λ x. Some (before ss x.0, x.1)
 -- n more values, behind these
 abbrev pub row_behind : List ScalarData → ℕ → Reader ScalarData → Reader ScalarsData
 row_behind ss n p octets = with_front ss (row_at n p octets)
+
+-- n values of the type id k that hold no further value
+unfoldable pub leaf_row_at : ℕ → ℕ → Reader ScalarsData
+leaf_row_at n k octets = row_at n (image_read leaf (leaf_at k)) octets
 
 -- where a step was made, what is left to read gives the whole; where it met no value, the whole is none
 abbrev pub GoesOn : {X A : Type 0} → Option A → Option A → Result X ReadFault → Type 0

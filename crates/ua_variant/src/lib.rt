@@ -34,6 +34,7 @@ mod measure;
 mod onto;
 mod packed;
 mod read;
+mod records;
 mod values;
 mod wire;
 mod write;

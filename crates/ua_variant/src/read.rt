@@ -18,6 +18,7 @@ use crate::fields::read_data_fields;
 use crate::leaf::{read_as, read_boxed_as};
 use crate::least::least_octets;
 use crate::masks;
+use crate::records::{MOST_RESERVED, read_records};
 use crate::values::{
     BoxedDataValue, BoxedVariant, DataValue, HeldVariant, Scalar, Scalars, Variant,
 };
@@ -28,10 +29,6 @@ use ua_builtin::{
 };
 use ua_octets::FIRST_NEGATIVE;
 use ua_parts::{BoxedDiagnostic, read_diagnostic, read_dims, read_no_dims};
-
-/// For so many elements room is made at once; a longer array grows by what was read, so that
-/// nested arrays with false counts ask for no more than their octets can hold.
-const MOST_RESERVED: usize = 64;
 
 /// Reads a scalar that holds no further value.
 #[inline(always)]
@@ -247,6 +244,9 @@ fn read_row<S: Source>(
 {
     if is_packed(kind) {
         return Ok(Scalars::packed(read_packed(alloc, src, kind, count)?));
+    }
+    if 12 <= kind && kind <= 22 {
+        return Ok(Scalars::new(read_records(alloc, src, kind, count)?));
     }
     let mut items = Vec::with_capacity(alloc, (count as usize).min(MOST_RESERVED))?;
     for _ in 0..count {
