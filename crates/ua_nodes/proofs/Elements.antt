@@ -52,6 +52,9 @@ fault_of f g part whole OutOfMemory h d = tt
 pub map_push : {X A : Type 0} (f : X → A) (old new : List X) (x : X) → new ≡ old ++ x ∷ [] → map f new ≡ map f old ++ f x ∷ []
 map_push f old new x e = ap (map f) e ∙ map-append f old (x ∷ [])
 
+pub leaves_push : {X : Type 0} (f : X → LeafData) (old new : List X) (x : X) → new ≡ old ++ x ∷ [] → map leaf (map f new) ≡ map leaf (map f old) ++ leaf (f x) ∷ []
+leaves_push f old new x e = map_push leaf (map f old) (map f new) (f x) (map_push f old new x e)
+
 -- a text that isn't empty has the pieces round its commas
 pub elements_are : (text : List ℕ) → 0 < length text → elements text ≡ pieces 44 text
 elements_are [] h = absurd (omega (arith, h))

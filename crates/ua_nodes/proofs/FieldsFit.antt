@@ -1,9 +1,7 @@
 -- The fields of a DataValue but its value, which of them can be written.
-use Rattle.std.proofs.Common.{◌≡◌, ℕ, Bool, true, ◌&&◌, nat_lt, Option, Some, None}
+use Rattle.std.proofs.Common.{◌≡◌, Bool, true, ◌&&◌, nat_lt, Option, Some, None}
 use Rattle.ua_builtin.specs.DateTime.{date_time}
 use Rattle.ua_builtin.specs.Status.{status_code}
-use Rattle.ua_builtin.specs.declared.date_time.DateTime.{DateTime}
-use Rattle.ua_builtin.specs.declared.status_code.StatusCode.{StatusCode}
 use Rattle.ua_variant.specs.Data.{DataFields}
 use Rattle.ua_variant.specs.Encodable.{data_fields_encodable}
 use Rattle.ua_octets.proofs.Readers.{both_true}

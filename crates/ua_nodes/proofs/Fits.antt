@@ -1,31 +1,25 @@
 -- What texts denote can be written.
-use Rattle.std.proofs.Common.{◌≡◌, ℕ, zero, suc, ◌+◌, ◌-◌, ◌*◌, ◌/◌, ◌^◌, ◌<◌, ◌≤◌, Bool, true, false, ◌&&◌, cond, nat_eq, nat_lt, List, [], ◌∷◌, ◌++◌, length, take, drop, replicate, ◌==◌, if◌then◌else◌, Option, Some, None, Result, Ok, Err, ℤ, pos, negsuc, neg_ℤ, refl, sym, ◌∙◌, ap, arith, length-append}
-use Rattle.std.specs.Int.{w8, w16, w32, w64, Width, cast_unsigned}
+use Rattle.std.proofs.Common.{◌≡◌, ℕ, zero, suc, ◌+◌, ◌-◌, ◌*◌, ◌^◌, ◌<◌, ◌≤◌, Bool, true, false, ◌&&◌, cond, nat_lt, List, [], ◌∷◌, ◌++◌, length, drop, replicate, ◌==◌, if◌then◌else◌, Option, Some, None, Ok, Err, ℤ, pos, negsuc, refl, sym, ◌∙◌, ap, arith, length-append}
+use Rattle.std.specs.Int.{Width}
 use Rattle.std.specs.List.{list_all}
 use Rattle.std.specs.Option.{option_map}
 use Rattle.std.specs.Result.{result_ok}
 use Rattle.std.specs.Str.{IsUtf8, is_utf8}
 use Rattle.std.specs.Str.Parse.{digits_value, starts_with_minus}
-use Rattle.std.proofs.lemmas.Bool.{eq-eqb, lt-ltb, ltb-true}
+use Rattle.std.proofs.lemmas.Bool.{lt-ltb, ltb-true}
 use Rattle.std.proofs.lemmas.Str.{is_utf8-from_IsUtf8}
 use Rattle.base64.specs.Engines.{standard}
 use Rattle.base64.specs.GeneralPurpose.{decode_of, encode_of}
-use Rattle.base64.specs.Decode.{groups_bytes, group_bytes, groups_before_last, suffix_bytes, scan_bytes, scan_last, decode_outcome, decoded_bytes}
+use Rattle.base64.specs.Decode.{groups_bytes, group_bytes, groups_before_last, suffix_bytes, scan_bytes, scan_last, decode_outcome}
 use Rattle.base64.specs.declared.decode.DecodeError.{DecodeError}
 use Rattle.base64.specs.Rfc4648.{encode_symbols, encode_group, padding_len}
 use Rattle.std.proofs.lemmas.List.{length-take}
 use Rattle.uuid.specs.Text.{parsed, parsed_hyphenated, parsed_simple, parsed_braced, parsed_urn, digits_of, has_hyphens, is_hex_digit, byte_of_digits, by_index}
 use Rattle.uuid.proofs.TextLemmas.{by_index_length}
-use Rattle.ua_builtin.specs.Join.{number}
 use Rattle.ua_builtin.specs.Signed.{signed, in_range, octets_of}
 use Rattle.ua_builtin.specs.Counted.{text, counted}
-use Rattle.ua_builtin.specs.Guid.{guid}
-use Rattle.ua_builtin.specs.NodeId.{node_id}
-use Rattle.ua_builtin.specs.NodeText.{NamesNode}
-use Rattle.ua_builtin.specs.declared.guid.Guid.{Guid}
-use Rattle.ua_builtin.specs.declared.node_id.NodeId.{NodeId}
 use Rattle.ua_octets.proofs.Readers.{both_true}
-use Rattle.ua_nodes.specs.ValueText.{is_numeral, number_below, unsigned_denoted, signed_denoted, pattern_denoted, negative}
+use Rattle.ua_nodes.specs.ValueText.{is_numeral, number_below, signed_denoted, negative}
 use mir.Val.{bits, hbits}
 
 pub both_are : (a b : Bool) → a ≡ true → b ≡ true → a && b ≡ true

@@ -1,12 +1,12 @@
 -- What a file writes is sound.
-use Rattle.std.proofs.Common.{◌≡◌, ℕ, suc, ◌+◌, ◌<◌, ◌≤◌, Bool, true, false, ◌&&◌, cond, leb, nat_lt, List, [], ◌∷◌, length, map, filter, Option, Some, None, refl, sym, ◌∙◌, ap, subst, arith, lit<}
+use Rattle.std.proofs.Common.{◌≡◌, ℕ, suc, ◌+◌, ◌≤◌, Bool, true, false, ◌&&◌, cond, nat_lt, List, [], ◌∷◌, length, map, filter, Option, Some, None, refl, sym, ◌∙◌, ap, arith, lit<}
 use Rattle.std.specs.List.{AllByRecursion, AllZip}
 use Rattle.std.specs.Str.{IsUtf8}
 use Rattle.std.specs.Str.Lines.{strip_carriage_return}
 use Rattle.std.proofs.lemmas.Bool.{le-leb, ltb-true}
 use Rattle.ua_builtin.specs.Counted.{text as text_format}
 use Rattle.ua_builtin.specs.declared.node_id.NodeId.{NodeId}
-use Rattle.ua_variant.specs.Encodable.{variant_fits, data_fields_encodable, data_value_encodable}
+use Rattle.ua_variant.specs.Encodable.{data_fields_encodable, data_value_encodable}
 use Rattle.ua_variant.specs.Measure.{variant_depth}
 use Rattle.ua_nodes.specs.declared.node.Variable.{Variable}
 use Rattle.ua_nodes.specs.NodeFile.{FileLine, lines_of, numbered, is_read, node_lines, fields, field, is_short, name_denoted, WritesNode, WriteNodes}

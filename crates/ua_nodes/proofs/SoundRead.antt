@@ -1,6 +1,6 @@
 -- What a Read of a sound table answers can be written.
-use Rattle.std.proofs.Common.{◌≡◌, ℕ, suc, ◌+◌, ◌<◌, ◌≤◌, max, Bool, true, false, not, ◌&&◌, ◌||◌, cond, if◌then◌else◌, leb, nat_eq, nat_lt, List, [], ◌∷◌, ◌++◌, length, Option, Some, None, ℤ, pos, refl, sym, ◌∙◌, ap, subst, arith, lit<}
-use Rattle.std.proofs.lemmas.Bool.{eq-eqb, eqb-true, lt-ltb, ltb-true, le-leb, leb-true}
+use Rattle.std.proofs.Common.{◌≡◌, ℕ, suc, ◌+◌, ◌<◌, ◌≤◌, Bool, true, false, not, ◌&&◌, cond, if◌then◌else◌, leb, nat_eq, nat_lt, List, [], ◌∷◌, Option, Some, None, pos, refl, sym, ◌∙◌, ap, subst, arith, lit<}
+use Rattle.std.proofs.lemmas.Bool.{eqb-true, lt-ltb, ltb-true, le-leb, leb-true}
 use Rattle.ua_builtin.specs.Counted.{text}
 use Rattle.ua_builtin.specs.DateTime.{date_time}
 use Rattle.ua_builtin.specs.LocalizedText.{localized_text as localized_text_format}
@@ -13,10 +13,10 @@ use Rattle.ua_builtin.specs.declared.node_id.Identifier.{Identifier}
 use Rattle.ua_builtin.specs.declared.node_id.Identifier.TheVariants.{Numeric, Text, Guid as Global, Opaque}
 use Rattle.ua_builtin.specs.declared.status_code.StatusCode.{StatusCode}
 use Rattle.ua_structures.specs.declared.attribute.ReadValueId.{ReadValueId}
-use Rattle.ua_variant.specs.Data.{LeafData, boolean, sbyte, byte, int16, uint16, int32, uint32, int64, uint64, float, double, string, date_time as date_time_leaf, guid, byte_string, xml_element, node_id, expanded_node_id, status_code, qualified_name, localized_text, extension_object, reserved, ScalarData, leaf, data_value, variant, diagnostic, ScalarsData, no_scalars, scalar, VariantData, null, one, absent, many, DataFields}
-use Rattle.ua_variant.specs.Encodable.{kind_of, is_kind, dims_encodable, is_variant, row_length, scalar_fits, scalars_fit, variant_fits, data_fields_encodable, data_value_encodable}
+use Rattle.ua_variant.specs.Data.{LeafData, boolean, sbyte, byte, int16, uint16, int32, uint32, int64, uint64, float, double, string, date_time as date_time_leaf, guid, byte_string, xml_element, node_id, expanded_node_id, status_code, qualified_name, localized_text, extension_object, reserved, ScalarData, leaf, data_value, variant, diagnostic, ScalarsData, no_scalars, scalar, VariantData, null, one, absent, many}
+use Rattle.ua_variant.specs.Encodable.{kind_of, is_kind, dims_encodable, row_length, scalar_fits, scalars_fit, variant_fits, data_fields_encodable, data_value_encodable}
 use Rattle.ua_variant.specs.Leaf.{leaf_kind, leaf_encodable}
-use Rattle.ua_variant.specs.Measure.{scalar_depth, scalars_depth, variant_depth}
+use Rattle.ua_variant.specs.Measure.{scalars_depth, variant_depth}
 use Rattle.ua_variant.specs.View.{row, row_list}
 use Rattle.ua_nodes.specs.declared.node.Variable.{Variable}
 use Rattle.ua_nodes.specs.declared.range.IndexRange.{IndexRange}
@@ -24,7 +24,7 @@ use Rattle.ua_nodes.specs.declared.stamps.Stamps.{Stamps}
 use Rattle.ua_nodes.specs.Attribute.{level, access_level, single, type_node, attribute_value}
 use Rattle.ua_nodes.specs.Range.{asked_range, is_within, ranged_from, ranged, part_of}
 use Rattle.ua_nodes.specs.Read.{read_reasons, gives_source, gives_server, refused, where_so, stamps_of, value_read, read_by, read_answer}
-use Rattle.ua_nodes.specs.Sound.{held, held_fields, IsSoundNode, IsSound}
+use Rattle.ua_nodes.specs.Sound.{held_fields, IsSoundNode, IsSound}
 use Rattle.ua_builtin.specs.Reasons.{first_reason}
 use Rattle.ua_nodes.specs.Status.{bad_node_id_unknown, bad_attribute_id_invalid, bad_index_range_invalid, bad_index_range_no_data, bad_data_encoding_invalid, bad_not_readable}
 use Rattle.ua_nodes.specs.Table.{Nodes, node_at, same_id}

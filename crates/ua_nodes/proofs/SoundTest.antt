@@ -1,5 +1,5 @@
 -- The test of a sound node.
-use Rattle.std.proofs.Common.{◌≡◌, ℕ, ◌+◌, ◌<◌, ◌≤◌, Bool, true, false, ◌&&◌, leb, nat_lt, Option, None, Some, IsTrue, refl, arith}
+use Rattle.std.proofs.Common.{◌≡◌, ℕ, ◌+◌, Bool, true, ◌&&◌, leb, nat_lt, Option, None, Some, IsTrue, refl, arith}
 use Rattle.std.specs.Prelude.{◌↔◌}
 use Rattle.std.proofs.lemmas.Bool.{le-leb, leb-true, lt-ltb, ltb-true}
 use Rattle.ua_builtin.specs.Counted.{text}
@@ -10,10 +10,10 @@ use Rattle.ua_builtin.specs.NodeId.{node_id}
 use Rattle.ua_builtin.specs.Status.{status_code}
 use Rattle.ua_builtin.specs.declared.node_id.NodeId.{NodeId}
 use Rattle.ua_parts.specs.Parts.{optional_fits}
-use Rattle.ua_variant.specs.Encodable.{variant_fits, variant_encodable, data_fields_encodable, data_value_encodable}
+use Rattle.ua_variant.specs.Encodable.{variant_fits, variant_encodable, data_fields_encodable}
 use Rattle.ua_variant.specs.Measure.{variant_depth}
 use Rattle.ua_octets.proofs.Readers.{both_true}
-use Rattle.ua_nodes.specs.Sound.{held, held_fields, IsSoundNode, is_sound_node}
+use Rattle.ua_nodes.specs.Sound.{held_fields, IsSoundNode, is_sound_node}
 use Rattle.ua_nodes.specs.Write.{is_of_type}
 use Rattle.ua_nodes.specs.declared.node.Variable.{Variable}
 use Rattle.ua_nodes.proofs.FieldsFit.{field_fits, parts_of, fields_from}

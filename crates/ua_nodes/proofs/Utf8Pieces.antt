@@ -1,6 +1,6 @@
 -- The pieces of a UTF-8 text round an ASCII octet are UTF-8.
-use Rattle.std.proofs.Common.{◌≡◌, ℕ, zero, suc, ◌+◌, ◌-◌, ◌<◌, ◌==◌, Bool, true, false, cond, if◌then◌else◌, nat_eq, List, [], ◌∷◌, ◌++◌, length, get_or, take, drop, map, slice_index, slice_index_or, refl, sym, ◌∙◌, ap, subst, arith, lit<, append_assoc, length-append}
-use Rattle.std.specs.List.{slice_split, onto_first, AllByRecursion}
+use Rattle.std.proofs.Common.{◌≡◌, ℕ, zero, suc, ◌+◌, ◌-◌, ◌<◌, ◌==◌, Bool, true, false, if◌then◌else◌, nat_eq, List, [], ◌∷◌, ◌++◌, length, get_or, take, drop, slice_index, slice_index_or, refl, sym, ◌∙◌, ap, subst, arith, lit<, append_assoc, length-append}
+use Rattle.std.specs.List.{onto_first, AllByRecursion}
 use Rattle.std.specs.Str.{IsUtf8, IsAscii}
 use Rattle.std.specs.Str.Lines.{strip_carriage_return}
 use Rattle.std.proofs.lemmas.Bool.{eqb-true}

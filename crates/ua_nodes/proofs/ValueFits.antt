@@ -1,10 +1,10 @@
 -- A value that a text denotes is of its type and can be written.
-use Rattle.std.proofs.Common.{◌≡◌, ℕ, suc, ◌+◌, ◌^◌, ◌<◌, ◌≤◌, Bool, true, false, not, ◌&&◌, ◌||◌, cond, leb, nat_eq, nat_lt, max, List, [], ◌∷◌, ◌++◌, length, drop, take, codes, Option, Some, None, ℤ, refl, sym, ◌∙◌, ap, subst, arith, lit≤, lit<}
+use Rattle.std.proofs.Common.{◌≡◌, ℕ, suc, ◌+◌, ◌^◌, ◌≤◌, Bool, true, false, ◌&&◌, ◌||◌, cond, leb, nat_eq, nat_lt, List, [], ◌∷◌, length, drop, take, codes, Option, Some, None, ℤ, refl, sym, ◌∙◌, ap, subst, arith, lit≤, lit<}
 use Rattle.std.specs.Int.{w8, w16, w32, w64}
 use Rattle.std.specs.List.{AllByRecursion, onto_first}
 use Rattle.std.specs.Option.{option_map}
 use Rattle.std.specs.Str.{IsUtf8, bytes_eq}
-use Rattle.std.proofs.lemmas.Bool.{eq-eqb, eqb-true, lt-ltb, ltb-true, le-leb}
+use Rattle.std.proofs.lemmas.Bool.{eq-eqb, eqb-true, ltb-true, le-leb}
 use Rattle.std.proofs.lemmas.List.Splits.{slice_split-cons_yes, slice_split-cons_no}
 use Rattle.ua_builtin.specs.Exact.{◌>>=◌}
 use Rattle.ua_builtin.specs.Boolean.{boolean as boolean_format}
@@ -12,7 +12,6 @@ use Rattle.ua_builtin.specs.FloatBits.{float_bits}
 use Rattle.ua_builtin.specs.DoubleBits.{double_bits}
 use Rattle.ua_builtin.specs.DateTime.{date_time as date_time_format}
 use Rattle.ua_builtin.specs.Status.{status_code as status_code_format}
-use Rattle.ua_builtin.specs.Guid.{guid as guid_format}
 use Rattle.ua_variant.specs.Data.{LeafData, boolean, sbyte, byte, int16, uint16, int32, uint32, int64, uint64, float, double, string, date_time, guid, byte_string, status_code, ScalarData, leaf, VariantData, one, many}
 use Rattle.ua_variant.specs.Leaf.{leaf_kind, leaf_encodable}
 use Rattle.ua_variant.specs.Encodable.{is_kind, row_length, scalars_fit, variant_fits}
@@ -22,7 +21,7 @@ use Rattle.ua_nodes.specs.Write.{is_of_type}
 use Rattle.ua_nodes.specs.ValueText.{number_below, unsigned_denoted, signed_denoted, pattern_denoted, boolean_denoted, octets_denoted, guid_denoted, leaf_denoted, elements, leaves_denoted, has_text_form, most_octets, scalar_denoted, array_denoted, value_denoted}
 use Rattle.uuid.specs.Text.{parsed}
 use Rattle.ua_octets.proofs.Readers.{both_true}
-use Rattle.ua_nodes.proofs.Fits.{both_are, below, signed_fits, signed_range, text_fits, counted_fits, decoded_length, parsed_length, mapped_some, where_some}
+use Rattle.ua_nodes.proofs.Fits.{both_are, below, signed_fits, signed_range, text_fits, counted_fits, decoded_length, parsed_length, mapped_some}
 use Rattle.ua_nodes.proofs.IdFits.{guid_fits}
 use Rattle.ua_nodes.proofs.Pieces.{pieces}
 use Rattle.ua_nodes.proofs.Utf8Pieces.{pieces_utf8}

@@ -22,6 +22,7 @@ mod read;
 mod sound;
 mod stamps;
 mod table;
+mod textual;
 mod type_name;
 mod value;
 mod write;

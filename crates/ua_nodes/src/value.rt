@@ -1,21 +1,19 @@
 //! Values in texts.
 
-ghost use Rattle.std.specs.Prelude.{◌≡◌, ◌≤◌, ◌<◌, ◌^◌, IfOk, IfSome, IsErrOf, IsTrue, Some, None, map};
-ghost use Rattle.ua_nodes.specs.ValueText.{pattern_denoted, boolean_denoted, octets_denoted, guid_denoted, leaf_denoted, leaves_denoted, elements, scalar_denoted, array_denoted, has_text_form, value_denoted, Denotes};
+ghost use Rattle.std.specs.Prelude.{◌≡◌, IfOk, IsErrOf, Some, None, map};
+ghost use Rattle.ua_nodes.specs.ValueText.{octets_denoted, leaf_denoted, leaves_denoted, elements, scalar_denoted, array_denoted, has_text_form, value_denoted, Denotes};
 ghost use Rattle.ua_nodes.specs.declared.fault.ValueFault.TheVariants.{NotValue};
 ghost use Rattle.ua_variant.specs.Data.{leaf};
 ghost use Rattle.ua_variant.specs.View.{scalar_of, variant_of};
 ghost use Rattle.std.specs.Option.{option_map};
 
 use crate::fault::ValueFault;
-use crate::number::WholeNumber;
+use crate::textual::Textual;
 use base64::DecodeAllocError;
 use base64::engine::general_purpose::STANDARD;
 use std::alloc::Global;
-use std::str::FromStr;
 use ua_builtin::{DateTime, DoubleBits, FloatBits, Guid, StatusCode, UaBytes, UaString};
-use ua_variant::{Dimensions, Pack, Scalar, Scalars, Variant};
-use uuid::Uuid;
+use ua_variant::{Dimensions, Scalar, Scalars, Variant};
 
 /// The longest text of a field, in octets.
 pub const MOST_OCTETS: usize = 1_073_741_824;
@@ -58,12 +56,58 @@ fn parse_one(alloc: Global, kind: u8, text: &str) -> Result<Variant, ValueFault>
 fn parse_array(alloc: Global, kind: u8, text: &str) -> Result<Variant, ValueFault>
     ensures { Denotes variant_of (array_denoted kind text.now) result }
 {
-    let items = parse_elements(alloc, kind, text)?;
+    let items = parse_row(alloc, kind, text)?;
     Ok(Variant::Many {
         kind,
-        items: Some(Scalars::new(items)),
+        items: Some(items),
         dims: Dimensions::none(alloc),
     })
+}
+
+/// The elements of an array, in a vector of their type where such arrays are packed.
+fn parse_row(alloc: Global, kind: u8, text: &str) -> Result<Scalars, ValueFault>
+    ensures { Denotes (λ s. s) (leaves_denoted kind (elements text.now)) result }
+{
+    match kind {
+        1 => packed_row::<bool>(alloc, text),
+        2 => packed_row::<i8>(alloc, text),
+        3 => packed_row::<u8>(alloc, text),
+        4 => packed_row::<i16>(alloc, text),
+        5 => packed_row::<u16>(alloc, text),
+        6 => packed_row::<i32>(alloc, text),
+        7 => packed_row::<u32>(alloc, text),
+        8 => packed_row::<i64>(alloc, text),
+        9 => packed_row::<u64>(alloc, text),
+        10 => packed_row::<FloatBits>(alloc, text),
+        11 => packed_row::<DoubleBits>(alloc, text),
+        13 => packed_row::<DateTime>(alloc, text),
+        14 => packed_row::<Guid>(alloc, text),
+        19 => packed_row::<StatusCode>(alloc, text),
+        _ => Ok(Scalars::new(parse_elements(alloc, kind, text)?)),
+    }
+}
+
+/// The elements of an array of a type, in a vector of it.
+fn packed_row<T: Textual>(alloc: Global, text: &str) -> Result<Scalars, ValueFault>
+    ensures { Denotes (λ s. s) (leaves_denoted T.kind (elements text.now)) result }
+{
+    Ok(Scalars::from_items(parse_items::<T>(alloc, text)?))
+}
+
+fn parse_items<T: Textual>(alloc: Global, text: &str) -> Result<Vec<T>, ValueFault>
+    ensures { Denotes (λ v. map leaf (map T.as_leaf v.items)) (leaves_denoted T.kind (elements text.now)) result }
+{
+    let mut items = Vec::new(alloc);
+    if text.is_empty() {
+        return Ok(items);
+    }
+    let mut rest = text;
+    'elements: while let Some((element, more)) = rest.split_once(',') {
+        items.push(T::parse(element)?)?;
+        rest = more;
+    }
+    items.push(T::parse(rest)?)?;
+    Ok(items)
 }
 
 fn parse_elements(alloc: Global, kind: u8, text: &str) -> Result<Vec<Scalar>, ValueFault>
@@ -86,83 +130,31 @@ fn parse_scalar(alloc: Global, kind: u8, text: &str) -> Result<Scalar, ValueFaul
     ensures { Denotes scalar_of (option_map leaf (leaf_denoted kind text.now)) result }
 {
     match kind {
-        1 => Ok(Scalar::Boolean(boolean(text)?)),
-        2 => whole::<i8>(text),
-        3 => whole::<u8>(text),
-        4 => whole::<i16>(text),
-        5 => whole::<u16>(text),
-        6 => whole::<i32>(text),
-        7 => whole::<u32>(text),
-        8 => whole::<i64>(text),
-        9 => whole::<u64>(text),
-        10 => Ok(Scalar::Float(FloatBits {
-            bits: pattern(text, 8).ok_or(ValueFault::NotValue)? as u32,
-        })),
-        11 => Ok(Scalar::Double(DoubleBits {
-            bits: pattern(text, 16).ok_or(ValueFault::NotValue)?,
-        })),
+        1 => one::<bool>(text),
+        2 => one::<i8>(text),
+        3 => one::<u8>(text),
+        4 => one::<i16>(text),
+        5 => one::<u16>(text),
+        6 => one::<i32>(text),
+        7 => one::<u32>(text),
+        8 => one::<i64>(text),
+        9 => one::<u64>(text),
+        10 => one::<FloatBits>(text),
+        11 => one::<DoubleBits>(text),
         12 => Ok(Scalar::String(UaString::from_str(alloc, text)?)),
-        13 => Ok(Scalar::DateTime(DateTime {
-            ticks: number(text)?,
-        })),
-        14 => Ok(Scalar::Guid(Guid {
-            uuid: guid(text).ok_or(ValueFault::NotValue)?,
-        })),
+        13 => one::<DateTime>(text),
+        14 => one::<Guid>(text),
         15 => Ok(Scalar::ByteString(UaBytes::new(Some(octets(alloc, text)?)))),
-        19 => Ok(Scalar::StatusCode(StatusCode {
-            code: pattern(text, 8).ok_or(ValueFault::NotValue)? as u32,
-        })),
+        19 => one::<StatusCode>(text),
         _ => Err(ValueFault::NotValue),
     }
 }
 
-/// The whole number that a text denotes, as a scalar of its type.
-fn whole<T: WholeNumber + Pack>(text: &str) -> Result<Scalar, ValueFault>
-where
-    T::Err: Drop,
-    ensures { Denotes scalar_of (option_map leaf (option_map T.as_leaf (T.denoted text.now))) result }
+/// The value of a type that a text denotes, as a scalar.
+fn one<T: Textual>(text: &str) -> Result<Scalar, ValueFault>
+    ensures { Denotes scalar_of (option_map leaf (leaf_denoted T.kind text.now)) result }
 {
-    Ok(number::<T>(text)?.into_scalar())
-}
-
-fn boolean(text: &str) -> Result<bool, ValueFault>
-    ensures { Denotes (λ b. b) (boolean_denoted text.now) result }
-{
-    bool::from_str(text).ok().ok_or(ValueFault::NotValue)
-}
-
-fn number<T: WholeNumber>(text: &str) -> Result<T, ValueFault>
-where
-    T::Err: Drop,
-    ensures { Denotes (λ n. n) (T.denoted text.now) result }
-{
-    T::from_text(text).ok_or(ValueFault::NotValue)
-}
-
-/// The pattern of bits that `0x` and so many hexadecimal digits denote.
-fn pattern(text: &str, digits: usize) -> Option<u64>
-    requires { digits ≤ 16 }
-    ensures value { result ≡ pattern_denoted digits text.now }
-    ensures small { IfSome result (λ n. n < 16 ^ digits) }
-{
-    let hex = text.strip_prefix("0x")?;
-    if hex.len() != digits {
-        return None;
-    }
-    if hex.starts_with('+') {
-        return None;
-    }
-    u64::from_str_radix(hex, 16).ok()
-}
-
-#[tactic(auto, unfolding(crate::specs::ValueText::guid_denoted))]
-fn guid(text: &str) -> Option<Uuid>
-    ensures { result ≡ guid_denoted text.now }
-{
-    if text.len() != 36 {
-        return None;
-    }
-    Uuid::parse_str(text).ok()
+    Ok(T::parse(text)?.into_scalar())
 }
 
 /// The octets that a text denotes in base64.

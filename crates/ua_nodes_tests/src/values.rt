@@ -4,6 +4,7 @@ use crate::fixture::{encoding, holds};
 use std::alloc::Global;
 use std::process::Abort;
 use ua_nodes::{ValueFault, parse_value};
+use ua_variant::Variant;
 
 // A type id, a text, and the encoding of the value that it denotes.
 type Row = (u8, &'static str, &'static [u8]);
@@ -218,4 +219,24 @@ fn an_array_of_a_bad_element_is_no_value(rt: HostRuntime) {
     for row in &BAD {
         is_no_value(&rt, rt.alloc(), row.0, true, row.1);
     }
+}
+
+// That the elements are held in a vector of numbers, and are these.
+fn are_numbers(rt: &impl Abort, value: &Variant, numbers: &[i32]) {
+    let Variant::Many {
+        items: Some(items),
+        ..
+    } = value
+    else {
+        panic!(rt; "no array")
+    };
+    let found = items.as_items::<i32>().expect(rt, "a vector of numbers");
+    assert!(rt; found == numbers);
+}
+
+#[test]
+fn an_array_of_numbers_is_held_in_a_vector_of_them(rt: HostRuntime) {
+    let value = parse_value(rt.alloc(), 6, true, "10,-20,30").expect(&rt, "a value");
+    are_numbers(&rt, &value, &[10, -20, 30]);
+    drop(value);
 }

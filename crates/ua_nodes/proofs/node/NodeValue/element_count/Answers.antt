@@ -1,4 +1,4 @@
-use Rattle.std.proofs.Common.{◌≡◌, length, sym, ap, ◌∙◌}
+use Rattle.std.proofs.Common.{length, sym, ap, ◌∙◌}
 use Rattle.ua_variant.specs.View.{variant_of}
 use Rattle.ua_nodes.specs.Range.{elements_of}
 use Rattle.ua_nodes.proofs.Ranges.{elements_many}

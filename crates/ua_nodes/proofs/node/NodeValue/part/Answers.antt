@@ -1,4 +1,4 @@
-use Rattle.std.proofs.Common.{◌≡◌, sym, ap, ◌∙◌}
+use Rattle.std.proofs.Common.{sym, ap, ◌∙◌}
 use Rattle.ua_variant.specs.Data.{many}
 use Rattle.ua_variant.specs.View.{row, variant_of}
 use Rattle.ua_nodes.specs.Range.{part_of}

@@ -1,4 +1,4 @@
-use Rattle.std.proofs.Common.{◌≡◌, Option, sym, ap, ◌∙◌, nat_eq}
+use Rattle.std.proofs.Common.{Option, sym, ap, ◌∙◌, nat_eq}
 use Rattle.ua_builtin.specs.declared.status_code.StatusCode.{StatusCode}
 use Rattle.ua_variant.specs.Data.{VariantData, valued}
 use Rattle.ua_nodes.specs.Range.{asked_range}

@@ -2,7 +2,7 @@ use Rattle.std.proofs.Common.{◌≡◌, ◌↔◌, ℕ, List, Option, Some, Non
 use Rattle.std.specs.Result.{IsOk, result_ok}
 use Rattle.uuid.specs.Text.{parsed}
 use Rattle.ua_nodes.specs.ValueText.{guid_denoted}
-use Rattle.ua_nodes.proofs.value.guid.Goals as goal
+use Rattle.ua_nodes.proofs.textual.guid.Goals as goal
 
 ok_is : {E : Type 0} (p : Option (List ℕ)) (r : Result (List ℕ) E) → (IsOk r ↔ ((u : List ℕ) × (p ≡ Some u))) → IfOk r (λ u. Some u ≡ p) → result_ok r ≡ p
 ok_is p (Ok u) h e = e

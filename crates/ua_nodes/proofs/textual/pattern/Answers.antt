@@ -1,6 +1,6 @@
 use Rattle.std.proofs.Common.{◌≡◌, ◌≢◌, ◌++◌, ◌∷◌, List, ℕ, slice_index, codes, sym, ◌∙◌, ap, lit<, eq-eqb, true≢false}
 use Rattle.ua_nodes.proofs.Parsed.{pattern_parsed, pattern_small}
-use Rattle.ua_nodes.proofs.value.pattern.Goals as goal
+use Rattle.ua_nodes.proofs.textual.pattern.Goals as goal
 
 parts_of : (c : goal.After-ok) → c.args.text.now ≡ codes "0x" ++ c.in_ok-hex.hex.now
 parts_of c = let h = c.in_ok-hex.ensures.cases in h.1.1 ∙ ap (λ (t : List ℕ). 48 ∷ 120 ∷ t) (sym h.2)
