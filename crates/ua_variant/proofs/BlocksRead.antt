@@ -113,6 +113,12 @@ row_same p q e (suc n) octets =
 pub row_packed : (n k m : ℕ) (octets : List ℕ) → is_packed_kind k ≡ true → row_at m (scalars_at n k) octets ≡ row_at m (leaves_at k) octets
 row_packed n k m octets h = row_same (scalars_at n k) (leaves_at k) (λ o. packed_at n k o h) m octets
 
+pub packed_ends : (n k m : ℕ) (octets : List ℕ) → is_packed_kind k ≡ true → row_at m (leaves_at k) octets ≡ None → row_at m (scalars_at n k) octets ≡ None
+packed_ends n k m octets h none = row_packed n k m octets h ∙ none
+
+pub packed_is : (n k m : ℕ) (octets new : List ℕ) {ss ts : List ScalarData} → is_packed_kind k ≡ true → row_at m (leaves_at k) octets ≡ Some (row ss, new) → ts ≡ ss → row_at m (scalars_at n k) octets ≡ Some (row ts, new)
+packed_is n k m octets new h e is = row_packed n k m octets h ∙ e ∙ ap (λ (l : List ScalarData). Some (row l, new)) (sym is)
+
 exact_leaves : (k : ℕ) → is_packed_kind k ≡ true → Exact (ShallowS 0 k) (leaves_at k)
 exact_leaves k h = record {
   sound = λ octets v rest e. (exact_scalars 0 k).sound octets v rest (packed_at 0 k octets h ∙ e);
@@ -294,3 +300,9 @@ record_at n k octets h =
 pub row_records : (n k m : ℕ) (octets : List ℕ) → k ≤ 22 → row_at m (scalars_at n k) octets ≡ leaf_row_at m k octets
 unfolding leaf_row_at
 row_records n k m octets h = row_same (scalars_at n k) (leaves_at k) (λ o. record_at n k o h) m octets
+
+pub records_end : (n k m : ℕ) (octets : List ℕ) → k ≤ 22 → leaf_row_at m k octets ≡ None → row_at m (scalars_at n k) octets ≡ None
+records_end n k m octets h none = row_records n k m octets h ∙ none
+
+pub records_are : (n k m : ℕ) (octets new : List ℕ) {ss ts : List ScalarData} → k ≤ 22 → leaf_row_at m k octets ≡ Some (row ss, new) → ts ≡ ss → row_at m (scalars_at n k) octets ≡ Some (row ts, new)
+records_are n k m octets new h e is = row_records n k m octets h ∙ e ∙ ap (λ (l : List ScalarData). Some (row l, new)) (sym is)

@@ -1,6 +1,8 @@
 -- Rows whose elements are held in a vector of their own type.
 use Rattle.std.proofs.Common.{◌≡◌, ◌≢◌, ℕ, ◌+◌, ◌<◌, Bool, true, false, ◌&&◌, eqb, List, [], ◌∷◌, ◌++◌, length, get_or, take, drop, map, refl, sym, ap, ◌∙◌, append_assoc, arith}
 use Rattle.std.proofs.lemmas.List.{take_more, take-map, drop-map}
+use Rattle.std.specs.Prelude.{Result, Ok, Err, OnErr}
+use Rattle.ua_builtin.specs.Format.{Extends}
 use Rattle.std.proofs.lemmas.List.Recursion.{and_push, and_fails_at, and_at}
 use Rattle.ua_variant.specs.Canonical.{row_canonical}
 use Rattle.ua_variant.specs.Data.{LeafData, ScalarData, leaf}
@@ -75,3 +77,9 @@ leaves_after {X} f old xs i x h is =
     append_assoc old (row_canonical (row (map leaf (map f (take i xs))))) (leaf_canonical (f x))
     ∙ ap (λ r. old ++ r) (ap (λ y. row_canonical (row (map leaf (map f (take i xs)))) ++ leaf_canonical (f y)) is
     ∙ sym (ap (λ (ys : List X). row_canonical (row (map leaf (map f ys)))) (take_more xs i x h) ∙ ap (λ ys. row_canonical (row ys)) (leaves_push f (take i xs) (get_or xs i x)) ∙ row_push (map leaf (map f (take i xs))) (leaf (f (get_or xs i x)))))
+
+-- ---- what was added before a fault
+
+pub extends_behind : {T E : Type 0} (old mid new more : List ℕ) (answer : Result T E) → mid ≡ old ++ more → Extends mid new → OnErr answer (Extends old new)
+extends_behind old mid new more (Ok x) e h = tt
+extends_behind old mid new more (Err x) e h = record { more = more ++ h.more; parts = h.parts ∙ ap (λ t. t ++ h.more) e ∙ append_assoc old more h.more }

@@ -9,6 +9,7 @@ ghost use Rattle.ua_variant.specs.Packed.{packed_kind, packed_leaves};
 ghost use Rattle.ua_variant.specs.View.{row, scalar_of};
 
 use crate::leaf::HeldLeaf;
+use crate::least::least_octets;
 use crate::values::Scalar;
 use std::alloc::{AllocError, Global};
 use ua_builtin::{DateTime, DoubleBits, FloatBits, Guid, StatusCode};
@@ -36,11 +37,13 @@ pub enum Packed {
 pub trait Pack: HeldLeaf + Copy {
     /// An array of these elements.
     fn pack(items: Vec<Self>) -> Packed
-        ensures { packed_leaves result ≡ map Self.as_leaf items.items };
+        ensures leaves { packed_leaves result ≡ map Self.as_leaf items.items }
+        ensures kind { packed_kind result ≡ Self.kind };
 
     /// The elements, or `None` where they are of another type.
     fn items(packed: &Packed) -> Option<&[Self]>
         ensures found { IfSome result (λ items. map Self.as_leaf items.now ≡ packed_leaves packed.now) }
+        ensures kind { IfSome result (λ items. packed_kind packed.now ≡ Self.kind) }
         ensures none { IsNone result → packed_kind packed.now ≢ Self.kind };
 }
 
@@ -92,6 +95,7 @@ impl Packed {
     /// The elements, or `None` where they are of another type.
     pub fn as_items<T: Pack>(&self) -> Option<&[T]>
         ensures found { IfSome result (λ items. map T.as_leaf items.now ≡ packed_leaves self.now) }
+        ensures kind { IfSome result (λ items. packed_kind self.now ≡ T.kind) }
         ensures none { IsNone result → packed_kind self.now ≢ T.kind }
     {
         T::items(self)
@@ -245,6 +249,7 @@ fn append_items<T: Pack>(items: &[T], kind: u8, out: &mut Vec<u8>) -> Result<(),
     ensures err { OnErr result (Extends out.old.items out.new.items) }
 {
     T::is_leaf();
+    out.reserve(items.len().saturating_mul(least_octets(kind)))?;
     for item in items {
         item.append(out)?;
     }
@@ -256,7 +261,8 @@ impl Pack for bool {
 
     #[inline]
     fn pack(items: Vec<bool>) -> Packed
-        ensures { packed_leaves result ≡ map boolean items.items }
+        ensures leaves { packed_leaves result ≡ map boolean items.items }
+        ensures kind { packed_kind result ≡ 1 }
     {
         Packed::Booleans(items)
     }
@@ -275,7 +281,8 @@ impl Pack for i8 {
 
     #[inline]
     fn pack(items: Vec<i8>) -> Packed
-        ensures { packed_leaves result ≡ map sbyte items.items }
+        ensures leaves { packed_leaves result ≡ map sbyte items.items }
+        ensures kind { packed_kind result ≡ 2 }
     {
         Packed::SBytes(items)
     }
@@ -294,7 +301,8 @@ impl Pack for u8 {
 
     #[inline]
     fn pack(items: Vec<u8>) -> Packed
-        ensures { packed_leaves result ≡ map byte items.items }
+        ensures leaves { packed_leaves result ≡ map byte items.items }
+        ensures kind { packed_kind result ≡ 3 }
     {
         Packed::Bytes(items)
     }
@@ -313,7 +321,8 @@ impl Pack for i16 {
 
     #[inline]
     fn pack(items: Vec<i16>) -> Packed
-        ensures { packed_leaves result ≡ map int16 items.items }
+        ensures leaves { packed_leaves result ≡ map int16 items.items }
+        ensures kind { packed_kind result ≡ 4 }
     {
         Packed::Int16s(items)
     }
@@ -332,7 +341,8 @@ impl Pack for u16 {
 
     #[inline]
     fn pack(items: Vec<u16>) -> Packed
-        ensures { packed_leaves result ≡ map uint16 items.items }
+        ensures leaves { packed_leaves result ≡ map uint16 items.items }
+        ensures kind { packed_kind result ≡ 5 }
     {
         Packed::UInt16s(items)
     }
@@ -351,7 +361,8 @@ impl Pack for i32 {
 
     #[inline]
     fn pack(items: Vec<i32>) -> Packed
-        ensures { packed_leaves result ≡ map int32 items.items }
+        ensures leaves { packed_leaves result ≡ map int32 items.items }
+        ensures kind { packed_kind result ≡ 6 }
     {
         Packed::Int32s(items)
     }
@@ -370,7 +381,8 @@ impl Pack for u32 {
 
     #[inline]
     fn pack(items: Vec<u32>) -> Packed
-        ensures { packed_leaves result ≡ map uint32 items.items }
+        ensures leaves { packed_leaves result ≡ map uint32 items.items }
+        ensures kind { packed_kind result ≡ 7 }
     {
         Packed::UInt32s(items)
     }
@@ -389,7 +401,8 @@ impl Pack for i64 {
 
     #[inline]
     fn pack(items: Vec<i64>) -> Packed
-        ensures { packed_leaves result ≡ map int64 items.items }
+        ensures leaves { packed_leaves result ≡ map int64 items.items }
+        ensures kind { packed_kind result ≡ 8 }
     {
         Packed::Int64s(items)
     }
@@ -408,7 +421,8 @@ impl Pack for u64 {
 
     #[inline]
     fn pack(items: Vec<u64>) -> Packed
-        ensures { packed_leaves result ≡ map uint64 items.items }
+        ensures leaves { packed_leaves result ≡ map uint64 items.items }
+        ensures kind { packed_kind result ≡ 9 }
     {
         Packed::UInt64s(items)
     }
@@ -427,7 +441,8 @@ impl Pack for FloatBits {
 
     #[inline]
     fn pack(items: Vec<FloatBits>) -> Packed
-        ensures { packed_leaves result ≡ map float items.items }
+        ensures leaves { packed_leaves result ≡ map float items.items }
+        ensures kind { packed_kind result ≡ 10 }
     {
         Packed::Floats(items)
     }
@@ -446,7 +461,8 @@ impl Pack for DoubleBits {
 
     #[inline]
     fn pack(items: Vec<DoubleBits>) -> Packed
-        ensures { packed_leaves result ≡ map double items.items }
+        ensures leaves { packed_leaves result ≡ map double items.items }
+        ensures kind { packed_kind result ≡ 11 }
     {
         Packed::Doubles(items)
     }
@@ -465,7 +481,8 @@ impl Pack for DateTime {
 
     #[inline]
     fn pack(items: Vec<DateTime>) -> Packed
-        ensures { packed_leaves result ≡ map date_time items.items }
+        ensures leaves { packed_leaves result ≡ map date_time items.items }
+        ensures kind { packed_kind result ≡ 13 }
     {
         Packed::DateTimes(items)
     }
@@ -484,7 +501,8 @@ impl Pack for Guid {
 
     #[inline]
     fn pack(items: Vec<Guid>) -> Packed
-        ensures { packed_leaves result ≡ map guid items.items }
+        ensures leaves { packed_leaves result ≡ map guid items.items }
+        ensures kind { packed_kind result ≡ 14 }
     {
         Packed::Guids(items)
     }
@@ -503,7 +521,8 @@ impl Pack for StatusCode {
 
     #[inline]
     fn pack(items: Vec<StatusCode>) -> Packed
-        ensures { packed_leaves result ≡ map status_code items.items }
+        ensures leaves { packed_leaves result ≡ map status_code items.items }
+        ensures kind { packed_kind result ≡ 19 }
     {
         Packed::StatusCodes(items)
     }

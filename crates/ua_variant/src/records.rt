@@ -1,4 +1,4 @@
-//! Reads arrays of types that are held as scalars, one loop for each type.
+//! Reads arrays of texts, octets, ids and objects as scalars, one loop for each type.
 
 ghost use Rattle.std.specs.Prelude.{◌≡◌, ◌≤◌, map};
 ghost use Rattle.ua_builtin.specs.Format.{GivesBy, StaysBehind};
@@ -14,7 +14,8 @@ use ua_builtin::{
 };
 
 /// For so many elements room is made at once; a longer array grows by what was read, so that
-/// nested arrays with false counts ask for no more than their octets can hold.
+/// nested arrays with false counts ask for room of so many elements a level, and for no more than a
+/// multiple of the octets that were read.
 pub const MOST_RESERVED: usize = 64;
 
 /// Reads so many scalars of a type id from String's to ExtensionObject's.

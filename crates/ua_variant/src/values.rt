@@ -208,7 +208,7 @@ impl Model for Scalars {
 
 impl BoxedVariant {
     /// This value, on the heap.
-    #[inline]
+    #[inline(always)]
     pub fn new(alloc: Global, value: Variant) -> Result<BoxedVariant, AllocError>
         ensures { IfOk result (λ b. b ≡ variant_of value) }
     {

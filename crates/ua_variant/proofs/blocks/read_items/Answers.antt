@@ -28,4 +28,4 @@ returns-clause-exact g c =
     let p = leaves_at g.T.Leaf.kind in
     let a = map leaf (map g.T.Leaf.as_leaf c.loop-done.items.items) in
     let rest : c.args.count - c.loop-done.done ≡ 0 = omega arith in
-    rw (c.requires.own, c.pack.ensures) (leaf_ends p a (c.args.count - c.loop-done.done) (g.S.Source.octets c.loop-done.src) (row_at c.args.count p (g.S.Source.octets c.args.src.now)) rest c.loop-done.invariant.so_far)
+    rw (c.requires.own, c.pack.ensures.leaves) (leaf_ends p a (c.args.count - c.loop-done.done) (g.S.Source.octets c.loop-done.src) (row_at c.args.count p (g.S.Source.octets c.args.src.now)) rest c.loop-done.invariant.so_far)

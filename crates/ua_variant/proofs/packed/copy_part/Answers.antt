@@ -4,5 +4,5 @@ use Rattle.ua_variant.proofs.packed.copy_part.Goals as goal
 
 pub returns : goal.returns
 returns g c =
-    c.pack.ensures ∙ ap (map g.T.Leaf.as_leaf) c.in_ok-from_slice.ensures.items
+    c.pack.ensures.leaves ∙ ap (map g.T.Leaf.as_leaf) c.in_ok-from_slice.ensures.items
     ∙ part_of g.T.Leaf.as_leaf c.args.from (c.args.to - c.args.from) c.args.items.now (map g.T.Leaf.as_leaf c.args.items.now) refl

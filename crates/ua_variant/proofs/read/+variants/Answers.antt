@@ -1,4 +1,4 @@
-use Rattle.std.proofs.Common.{◌-◌, ◌+◌, List, [], ◌∷◌, ◌++◌, Some, Vec, Global, map, sym, ap, ◌∙◌, arith}
+use Rattle.std.proofs.Common.{◌-◌, List, [], ◌∷◌, ◌++◌, Vec, Global, map, sym, ap, ◌∙◌, arith}
 use Rattle.std.proofs.lemmas.Result.{err_from_is_err_and}
 use Rattle.ua_variant.specs.Data.{ScalarData, leaf}
 use Rattle.ua_variant.specs.Packed.{packed_leaves}
@@ -8,9 +8,9 @@ use Rattle.ua_variant.specs.View.{row, scalar_of, variant_of, data_value_of}
 use Rattle.ua_variant.specs.Decoding.{row_at, variant_at, variant_step, data_value_at, data_value_step, scalars_at}
 use Rattle.ua_variant.proofs.VariantsRead.{variant_none, variant_level, data_value_none, data_value_level}
 use Rattle.ua_parts.proofs.Extents.{gives_same}
-use Rattle.ua_variant.proofs.Loops.{row_so_far, row_stops, row_done, array_short}
+use Rattle.ua_variant.proofs.Loops.{row_so_far, row_done, array_short}
 use Rattle.ua_variant.specs.Blocks.{leaf_row_at}
-use Rattle.ua_variant.proofs.BlocksRead.{leaves_at, row_packed, row_records, fault_ends}
+use Rattle.ua_variant.proofs.BlocksRead.{leaves_at, leaf_stops, packed_ends, packed_is, records_end, records_are, fault_ends}
 use Rattle.ua_variant.proofs.read.+variants.Goals as goal
 
 pub read_variant-returns-then-depth-eq0-clause-exact : goal.read_variant-returns-then-depth-eq0-clause-exact
@@ -33,24 +33,24 @@ read_row-returns-in_err-read_packed-clause-exact g t c =
     let packed = sym c.is_packed.ensures ∙ c.if-is_packed.true in
     let new = g.S.Source.octets c.read_packed.new.src in
     rw (fault.1, fault.2) (fault_ends (λ (p : Packed). row (map leaf (packed_leaves p))) (λ (ss : List ScalarData). row ss) (row_at c.args.count (leaves_at c.args.kind)) (row_at c.args.count (scalars_at c.args.depth c.args.kind)) (g.S.Source.octets c.args.src.now) new (g.S.Source.octets c.args.src.now) new c.in_err-read_packed.field-0.0
-    (λ none. row_packed c.args.depth c.args.kind c.args.count (g.S.Source.octets c.args.src.now) packed ∙ none) c.in_err-read_packed.ensures.exact)
+    (packed_ends c.args.depth c.args.kind c.args.count (g.S.Source.octets c.args.src.now) packed) c.in_err-read_packed.ensures.exact)
 
 pub read_row-returns-then-is_packed-clause-exact : goal.read_row-returns-then-is_packed-clause-exact
 read_row-returns-then-is_packed-clause-exact g t c =
     let new = g.S.Source.octets c.read_packed.new.src in
-    row_packed c.args.depth c.args.kind c.args.count (g.S.Source.octets c.args.src.now) (sym c.is_packed.ensures ∙ c.if-is_packed.true) ∙ c.in_ok-read_packed.ensures.exact ∙ ap (λ (ss : List ScalarData). Some (row ss, new)) (sym c.packed.ensures)
+    packed_is c.args.depth c.args.kind c.args.count (g.S.Source.octets c.args.src.now) new (sym c.is_packed.ensures ∙ c.if-is_packed.true) c.in_ok-read_packed.ensures.exact c.packed.ensures
 
 pub read_row-returns-in_err-read_records-clause-exact : goal.read_row-returns-in_err-read_records-clause-exact
 read_row-returns-in_err-read_records-clause-exact g t c =
     let fault = err_from_is_err_and c.from_residual-in_err-read_records.result c.from_residual-in_err-read_records.ensures.1 in
     let new = g.S.Source.octets c.read_records.new.src in
     rw (fault.1, fault.2) (fault_ends (λ (v : Vec Scalar Global). row (map scalar_of v.items)) (λ (ss : List ScalarData). row ss) (leaf_row_at c.args.count c.args.kind) (row_at c.args.count (scalars_at c.args.depth c.args.kind)) (g.S.Source.octets c.args.src.now) new (g.S.Source.octets c.args.src.now) new c.in_err-read_records.field-0.0
-    (λ none. row_records c.args.depth c.args.kind c.args.count (g.S.Source.octets c.args.src.now) (omega arith) ∙ none) c.in_err-read_records.ensures.exact)
+    (records_end c.args.depth c.args.kind c.args.count (g.S.Source.octets c.args.src.now) (omega arith)) c.in_err-read_records.ensures.exact)
 
 pub read_row-returns-then-kind-le22-clause-exact : goal.read_row-returns-then-kind-le22-clause-exact
 read_row-returns-then-kind-le22-clause-exact g t c =
     let new = g.S.Source.octets c.read_records.new.src in
-    row_records c.args.depth c.args.kind c.args.count (g.S.Source.octets c.args.src.now) (omega arith) ∙ c.in_ok-read_records.ensures.exact ∙ ap (λ (ss : List ScalarData). Some (row ss, new)) (sym c.new.ensures)
+    records_are c.args.depth c.args.kind c.args.count (g.S.Source.octets c.args.src.now) new (omega arith) c.in_ok-read_records.ensures.exact c.new.ensures
 
 pub read_row-returns-in_err-item-clause-exact : goal.read_row-returns-in_err-item-clause-exact
 read_row-returns-in_err-item-clause-exact g t c =
@@ -58,7 +58,7 @@ read_row-returns-in_err-item-clause-exact g t c =
     let p = scalars_at c.args.depth c.args.kind in
     let new = g.S.Source.octets c.read_scalar.new.src in
     rw (fault.1, fault.2) (fault_ends scalar_of (λ (ss : List ScalarData). row ss) p (row_at c.args.count p) (g.S.Source.octets c.loop.src) new (g.S.Source.octets c.args.src.now) new c.in_err-item.field-0.0
-    (λ none. sym c.loop.invariant.so_far ∙ row_stops p (map scalar_of c.loop.items.items) (c.args.count - c.loop.counter) (c.args.count - (c.loop.counter + 1)) (g.S.Source.octets c.loop.src) (omega arith) none) c.in_err-item.ensures.exact)
+    (λ none. leaf_stops p (map scalar_of c.loop.items.items) c.args.count c.loop.counter (g.S.Source.octets c.loop.src) (row_at c.args.count p (g.S.Source.octets c.args.src.now)) (omega arith) none c.loop.invariant.so_far) c.in_err-item.ensures.exact)
 
 pub read_row-loop-preserved : goal.read_row-loop-preserved
 read_row-loop-preserved g t c = record {
