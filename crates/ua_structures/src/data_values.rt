@@ -1,7 +1,9 @@
 //! Arrays of DataValues, each read where it stands.
 
-ghost use Rattle.std.specs.Prelude.{◌≡◌, ◌≤◌};
+ghost use Rattle.std.specs.Prelude.{◌≡◌, ◌≤◌, IsErrOf};
+ghost use Rattle.ua_builtin.specs.Counted.{IsOverlong};
 ghost use Rattle.ua_builtin.specs.Format.{most_levels, Gives, GivesBy, StaysBehind};
+ghost use Rattle.ua_octets.specs.declared.fault.ReadFault.TheVariants.{NoValue};
 ghost use Rattle.ua_structures.specs.Array.{array, items_at};
 ghost use Rattle.ua_variant.specs.Formats.{data_value_format};
 
@@ -10,7 +12,7 @@ use std::alloc::Global;
 use ua_builtin::{FIRST_NEGATIVE, ReadFault, Source, Wire};
 use ua_variant::DataValue;
 
-// Reads that many DataValues. Memory grows by what was read, never by what a count claims.
+/// Reads that many DataValues. Memory grows by what was read, never by what a count claims.
 fn read_each<S: Source>(
     alloc: Global,
     src: &mut S,
@@ -28,8 +30,12 @@ fn read_each<S: Source>(
     Ok(items)
 }
 
-/// Reads an array of DataValues, as [`UaArray`] of them does. Where values are handed over one by
-/// one they are moved at each step, which costs as much as reading them.
+/// Reads the array of DataValues that the source begins with, each of at most `depth` levels, and
+/// takes just its octets, as [`UaArray`] of them does. Where values are handed over one by one they
+/// are moved at each step, which costs as much as reading them.
+///
+/// `NoValue` where the source begins with no such array, also where its count is above the octets
+/// behind it; `OutOfMemory` where memory is refused. After a fault the source is to be given up.
 #[tactic(auto, unfolding(crate::specs::Array::array))]
 pub fn read_data_values<S: Source>(
     alloc: Global,
@@ -38,6 +44,7 @@ pub fn read_data_values<S: Source>(
 ) -> Result<UaArray<DataValue>, ReadFault>
     requires levels { depth ≤ most_levels }
     ensures exact { Gives ((array data_value_format).decode depth) (S.octets src.old) (S.octets src.new) result }
+    ensures long { IsOverlong (S.octets src.old) → IsErrOf result NoValue }
     ensures behind { StaysBehind (S.octets src.old) (S.octets src.new) }
 {
     DataValue::lawful();
