@@ -2,9 +2,8 @@
 
 ghost use Rattle.std.specs.Prelude.{◌≡◌, ◌≤◌, ◌<◌, ◌^◌, IfSome};
 ghost use Rattle.std.specs.Option.{option_map};
-ghost use Rattle.ua_nodes.specs.ValueText.{pattern_denoted, boolean_denoted, guid_denoted, leaf_denoted, Denotes};
+ghost use Rattle.ua_nodes.specs.ValueText.{pattern_denoted, boolean_denoted, guid_denoted, leaf_denoted};
 
-use crate::fault::ValueFault;
 use crate::number::WholeNumber;
 use std::str::FromStr;
 use ua_builtin::{DateTime, DoubleBits, FloatBits, Guid, StatusCode};
@@ -13,126 +12,108 @@ use uuid::Uuid;
 
 /// A type whose arrays are packed, and whose values have a text form.
 pub trait Textual: Pack {
-    /// The value that the text denotes.
-    fn parse(text: &str) -> Result<Self, ValueFault>
-        ensures { Denotes Self.as_leaf (leaf_denoted Self.kind text.now) result };
+    /// The value that the text denotes; `None` where it denotes none.
+    fn parse(text: &str) -> Option<Self>
+        ensures { option_map Self.as_leaf result ≡ leaf_denoted Self.kind text.now };
 }
 
 impl Textual for bool {
-    fn parse(text: &str) -> Result<bool, ValueFault> {
-        Ok(boolean(text)?)
+    fn parse(text: &str) -> Option<bool> {
+        boolean(text)
     }
 }
 
 impl Textual for i8 {
-    fn parse(text: &str) -> Result<i8, ValueFault> {
-        whole(text)
+    fn parse(text: &str) -> Option<i8> {
+        i8::from_text(text)
     }
 }
 
 impl Textual for u8 {
-    fn parse(text: &str) -> Result<u8, ValueFault> {
-        whole(text)
+    fn parse(text: &str) -> Option<u8> {
+        u8::from_text(text)
     }
 }
 
 impl Textual for i16 {
-    fn parse(text: &str) -> Result<i16, ValueFault> {
-        whole(text)
+    fn parse(text: &str) -> Option<i16> {
+        i16::from_text(text)
     }
 }
 
 impl Textual for u16 {
-    fn parse(text: &str) -> Result<u16, ValueFault> {
-        whole(text)
+    fn parse(text: &str) -> Option<u16> {
+        u16::from_text(text)
     }
 }
 
 impl Textual for i32 {
-    fn parse(text: &str) -> Result<i32, ValueFault> {
-        whole(text)
+    fn parse(text: &str) -> Option<i32> {
+        i32::from_text(text)
     }
 }
 
 impl Textual for u32 {
-    fn parse(text: &str) -> Result<u32, ValueFault> {
-        whole(text)
+    fn parse(text: &str) -> Option<u32> {
+        u32::from_text(text)
     }
 }
 
 impl Textual for i64 {
-    fn parse(text: &str) -> Result<i64, ValueFault> {
-        whole(text)
+    fn parse(text: &str) -> Option<i64> {
+        i64::from_text(text)
     }
 }
 
 impl Textual for u64 {
-    fn parse(text: &str) -> Result<u64, ValueFault> {
-        whole(text)
+    fn parse(text: &str) -> Option<u64> {
+        u64::from_text(text)
     }
 }
 
 impl Textual for FloatBits {
-    fn parse(text: &str) -> Result<FloatBits, ValueFault> {
-        Ok(FloatBits {
-            bits: pattern(text, 8).ok_or(ValueFault::NotValue)? as u32,
+    fn parse(text: &str) -> Option<FloatBits> {
+        Some(FloatBits {
+            bits: pattern(text, 8)? as u32,
         })
     }
 }
 
 impl Textual for DoubleBits {
-    fn parse(text: &str) -> Result<DoubleBits, ValueFault> {
-        Ok(DoubleBits {
-            bits: pattern(text, 16).ok_or(ValueFault::NotValue)?,
+    fn parse(text: &str) -> Option<DoubleBits> {
+        Some(DoubleBits {
+            bits: pattern(text, 16)?,
         })
     }
 }
 
 impl Textual for DateTime {
-    fn parse(text: &str) -> Result<DateTime, ValueFault> {
-        Ok(DateTime {
-            ticks: number(text)?,
+    fn parse(text: &str) -> Option<DateTime> {
+        Some(DateTime {
+            ticks: i64::from_text(text)?,
         })
     }
 }
 
 impl Textual for Guid {
-    fn parse(text: &str) -> Result<Guid, ValueFault> {
-        Ok(Guid {
-            uuid: guid(text).ok_or(ValueFault::NotValue)?,
-        })
+    fn parse(text: &str) -> Option<Guid> {
+        Some(Guid { uuid: guid(text)? })
     }
 }
 
 impl Textual for StatusCode {
-    fn parse(text: &str) -> Result<StatusCode, ValueFault> {
-        Ok(StatusCode {
-            code: pattern(text, 8).ok_or(ValueFault::NotValue)? as u32,
+    fn parse(text: &str) -> Option<StatusCode> {
+        Some(StatusCode {
+            code: pattern(text, 8)? as u32,
         })
     }
 }
 
-/// The whole number that a text denotes.
-fn whole<T: WholeNumber + Pack>(text: &str) -> Result<T, ValueFault>
-where
-    T::Err: Drop,
-    ensures { Denotes T.as_leaf (option_map T.as_leaf (T.denoted text.now)) result }
+/// The Boolean that a text denotes: `true` or `false`.
+fn boolean(text: &str) -> Option<bool>
+    ensures { result ≡ boolean_denoted text.now }
 {
-    Ok(number::<T>(text)?)
-}
-
-fn boolean(text: &str) -> Result<bool, ValueFault>
-    ensures { Denotes (λ b. b) (boolean_denoted text.now) result }
-{
-    bool::from_str(text).ok().ok_or(ValueFault::NotValue)
-}
-
-fn number<T: WholeNumber>(text: &str) -> Result<T, ValueFault>
-where
-    T::Err: Drop,
-    ensures { Denotes (λ n. n) (T.denoted text.now) result }
-{
-    T::from_text(text).ok_or(ValueFault::NotValue)
+    bool::from_str(text).ok()
 }
 
 /// The pattern of bits that `0x` and so many hexadecimal digits denote.
@@ -151,6 +132,7 @@ fn pattern(text: &str, digits: usize) -> Option<u64>
     u64::from_str_radix(hex, 16).ok()
 }
 
+/// The Guid that a text with its hyphens denotes.
 #[tactic(auto, unfolding(crate::specs::ValueText::guid_denoted))]
 fn guid(text: &str) -> Option<Uuid>
     ensures { result ≡ guid_denoted text.now }

@@ -22,6 +22,8 @@ pub const MOST_OCTETS: usize = 1_073_741_824;
 /// decimal digits, with `-` in front below zero; `0x` and 8 or 16 hexadecimal digits for Float,
 /// Double and StatusCode; a String as it stands; a Guid with its hyphens; a ByteString in padded
 /// base64. Commas part the elements of an array.
+///
+/// `NotValue` where the text denotes none; `OutOfMemory` where memory is refused.
 #[tactic(auto, unfolding(crate::specs::ValueText::value_denoted))]
 pub fn parse_value(alloc: Global, kind: u8, array: bool, text: &str) -> Result<Variant, ValueFault>
     ensures value { IfOk result (λ v. value_denoted kind array text.now ≡ Some (variant_of v)) }
@@ -47,12 +49,14 @@ fn is_in_text_form(kind: u8) -> bool
     (0 < kind && kind < 16) || kind == 19
 }
 
+/// The one value that a text denotes.
 fn parse_one(alloc: Global, kind: u8, text: &str) -> Result<Variant, ValueFault>
     ensures { Denotes variant_of (scalar_denoted kind text.now) result }
 {
     Ok(Variant::One(parse_scalar(alloc, kind, text)?))
 }
 
+/// The array that a text denotes.
 fn parse_array(alloc: Global, kind: u8, text: &str) -> Result<Variant, ValueFault>
     ensures { Denotes variant_of (array_denoted kind text.now) result }
 {
@@ -94,6 +98,7 @@ fn packed_row<T: Textual>(alloc: Global, text: &str) -> Result<Scalars, ValueFau
     Ok(Scalars::from_items(parse_items::<T>(alloc, text)?))
 }
 
+/// The elements that the texts between commas denote, each of the type.
 fn parse_items<T: Textual>(alloc: Global, text: &str) -> Result<Vec<T>, ValueFault>
     ensures { Denotes (λ v. map leaf (map T.as_leaf v.items)) (leaves_denoted T.kind (elements text.now)) result }
 {
@@ -103,13 +108,14 @@ fn parse_items<T: Textual>(alloc: Global, text: &str) -> Result<Vec<T>, ValueFau
     }
     let mut rest = text;
     'elements: while let Some((element, more)) = rest.split_once(',') {
-        items.push(T::parse(element)?)?;
+        items.push(denoted::<T>(element)?)?;
         rest = more;
     }
-    items.push(T::parse(rest)?)?;
+    items.push(denoted::<T>(rest)?)?;
     Ok(items)
 }
 
+/// The elements that the texts between commas denote, as scalars.
 fn parse_elements(alloc: Global, kind: u8, text: &str) -> Result<Vec<Scalar>, ValueFault>
     ensures { Denotes (λ v. map scalar_of v.items) (leaves_denoted kind (elements text.now)) result }
 {
@@ -126,6 +132,7 @@ fn parse_elements(alloc: Global, kind: u8, text: &str) -> Result<Vec<Scalar>, Va
     Ok(items)
 }
 
+/// The value that a text denotes, as a scalar.
 fn parse_scalar(alloc: Global, kind: u8, text: &str) -> Result<Scalar, ValueFault>
     ensures { Denotes scalar_of (option_map leaf (leaf_denoted kind text.now)) result }
 {
@@ -150,11 +157,18 @@ fn parse_scalar(alloc: Global, kind: u8, text: &str) -> Result<Scalar, ValueFaul
     }
 }
 
+/// The value of a type that a text denotes.
+fn denoted<T: Textual>(text: &str) -> Result<T, ValueFault>
+    ensures { Denotes T.as_leaf (leaf_denoted T.kind text.now) result }
+{
+    T::parse(text).ok_or(ValueFault::NotValue)
+}
+
 /// The value of a type that a text denotes, as a scalar.
 fn one<T: Textual>(text: &str) -> Result<Scalar, ValueFault>
     ensures { Denotes scalar_of (option_map leaf (leaf_denoted T.kind text.now)) result }
 {
-    Ok(T::parse(text)?.into_scalar())
+    Ok(denoted::<T>(text)?.into_scalar())
 }
 
 /// The octets that a text denotes in base64.
