@@ -14,15 +14,14 @@ use Rattle.ua_channel.proofs.ServerReadings.{goes_behind}
 use Rattle.ua_channel.specs.Agreement.{Agreement, agreement_of}
 use Rattle.ua_channel.specs.Received.{latest, received}
 use Rattle.ua_channel.specs.ServerPlaces.{agreements_in, agreed_by}
-use Rattle.ua_channel.specs.ServerStands.{limits_of, channel_of, bound_of, rules_of, bound_behind, bound_after, Goes}
+use Rattle.ua_channel.specs.ServerStands.{limits_of, channel_of, next_of, bound_of, rules_of, bound_behind, bound_after, Goes}
 use Rattle.ua_channel.specs.ServerTold.{Told, Asked}
 use Rattle.ua_channel.specs.declared.server.ServerChannel.{ServerChannel}
 use Rattle.ua_channel.specs.declared.server_event.ServerEvent.{ServerEvent}
 use Rattle.ua_channel.specs.declared.server_event.ServerEvent.TheVariants as event
 use Rattle.ua_channel.specs.declared.server_fault.ChannelFault.{ChannelFault}
 use Rattle.ua_channel.specs.declared.server_fault.ChannelFault.TheVariants as fault
-use Rattle.ua_server.specs.State.{State}
-use Rattle.ua_server.specs.Stepping.{AnsweredBehind, given_up}
+use Rattle.ua_server.specs.Stepping.{AnswersBehind, given_up}
 use Rattle.ua_server.proofs.Passing.{Passed}
 
 -- the same fault of another kind of result
@@ -68,21 +67,21 @@ passed-bound old mid piece taken octets told p g =
     let behind = p.passed octets told g in
     same-bound old mid octets told (given_up behind.0) g p.limits (none-agreed behind.0) (by-told mid (octets ++ take taken piece) (told ++ given_up behind.0) behind.1)
 
-module _ (old mid : ServerChannel) (moment : DateTime) (piece : List ℕ) (n : ℕ) (octets : List ℕ) (told : List Told) (first : State) (ms : List DateTime) (before : State) where
+module _ (old mid : ServerChannel) (moment : DateTime) (piece : List ℕ) (n : ℕ) (octets : List ℕ) (told : List Told) (g : Goes old octets told) (limits : limits_of mid ≡ limits_of old) where
   -- behind a message
-  pub asked-bound : (id : ℕ) (message : List (List ℕ)) → AnsweredBehind old moment piece n (Ok (event.Asked id message)) mid octets told first ms before → bound_of mid ≡ bound_of old
+  pub asked-bound : (id : ℕ) (message : List (List ℕ)) → AnswersBehind (channel_of old) (next_of old) moment piece n (Ok (event.Asked id message)) mid octets told → bound_of mid ≡ bound_of old
   asked-bound id message b =
       let asks = b.answers.1.0 in
       let agreed : agreed_by ((told ++ given_up b.quiet) ++ Asked id asks.token (concat message) ∷ []) ≡ agreed_by told = agreed-still (told ++ given_up b.quiet) (Asked id asks.token (concat message) ∷ []) refl ∙ agreed-still told (given_up b.quiet) (none-agreed b.quiet) in
       by-told mid (octets ++ take n piece) ((told ++ given_up b.quiet) ++ Asked id asks.token (concat message) ∷ []) (goes_behind mid (octets ++ take n piece) (told ++ given_up b.quiet) (Asked id asks.token (concat message)) asks.goes)
       ∙ (ap (bound_at (limits_of mid)) agreed
-      ∙ (ap (λ (l : Limits). bound_at l (agreed_by told)) b.limits ∙ sym (by-told old octets told b.stands.goes)))
+      ∙ (ap (λ (l : Limits). bound_at l (agreed_by told)) limits ∙ sym (by-told old octets told g)))
 
   -- at a fault
   pub fault-bound : (f : ChannelFault) (r : Result ServerEvent ChannelFault) → r ≡ Err f → (IsErrOf r fault.OutOfMemory → bound_of mid ≡ bound_of old)
-      → AnsweredBehind old moment piece n (Err f) mid octets told first ms before → bound_of mid ≡ bound_of old
+      → AnswersBehind (channel_of old) (next_of old) moment piece n (Err f) mid octets told → bound_of mid ≡ bound_of old
   fault-bound (fault.Refused code frame) r is starved b =
       let refused = b.answers.1 in
-      same-bound old mid octets told (given_up b.quiet) b.stands.goes b.limits (none-agreed b.quiet) (by-frames mid refused.frames (told ++ given_up b.quiet) refused.bound_is refused.told_is)
+      same-bound old mid octets told (given_up b.quiet) g limits (none-agreed b.quiet) (by-frames mid refused.frames (told ++ given_up b.quiet) refused.bound_is refused.told_is)
   fault-bound fault.OutOfMemory r is starved b = starved is
   fault-bound fault.Closed r is starved b = absurd b.answers

@@ -7,6 +7,7 @@ mod Steps
 mod Passing
 mod Bounds
 mod Events
+mod Standing
 mod Exchanges
 mod Pendings
 mod Advancing

@@ -114,6 +114,41 @@ StepAnswers limits channel moment piece (Ok step) new octets told first moments 
 StepAnswers limits channel moment piece (Err step_fault.OutOfMemory) new octets told first moments before now = StepBreaks limits channel moment piece new octets told before now
 StepAnswers limits channel moment piece (Err step_fault.Closed) new octets told first moments before now = ⊥
 
+-- ---- where a step leaves a server, whatever the state of its services
+
+-- it goes on: what was taken told that messages were given up, and then at most one thing more, which is answered
+pub record StandsOn (piece : List ℕ) (n : ℕ) (out : List ℕ) (new : ServerChannel) (octets : List ℕ) (told : List Told) : Type 0 where
+  pub quiet : List ℕ
+  pub more : List Told
+  pub stops : Stops new octets piece n out (told ++ given_up quiet) more
+  pub goes : Goes new (octets ++ take n piece) ((told ++ given_up quiet) ++ more)
+
+-- it closed at the last octet of a CLO
+pub record ClosesAt (piece : List ℕ) (n : ℕ) (new : ServerChannel) (octets : List ℕ) (told : List Told) : Type 0 where
+  pub quiet : List ℕ
+  pub some : (0 < n) × (n ≤ length piece)
+  pub closed : ClosedAt new (octets ++ take n piece) ((told ++ given_up quiet) ++ Closed ∷ [])
+
+-- it refused what stands there
+pub record RefusesAt (code : ℕ) (piece : List ℕ) (n : ℕ) (new : ServerChannel) (octets : List ℕ) (told : List Told) : Type 0 where
+  pub quiet : List ℕ
+  pub within : n ≤ length piece
+  pub refused : RefusedAt new (octets ++ take n piece) (told ++ given_up quiet) code
+
+-- by how the connection ended, if it did
+abbrev pub StandsBy : List ℕ → Option Ending → ℕ → List ℕ → ServerChannel → List ℕ → List Told → Type 0
+StandsBy piece None n out new octets told = StandsOn piece n out new octets told
+StandsBy piece (Some ending.Closed) n out new octets told = ClosesAt piece n new octets told
+StandsBy piece (Some (ending.Refused code)) n out new octets told = RefusesAt code.code piece n new octets told
+StandsBy piece (Some ending.NoClose) n out new octets told = ⊥
+StandsBy piece (Some ending.Cut) n out new octets told = ⊥
+
+-- where a step leaves a server that went on after octets which told this
+abbrev pub StepStands : List ℕ → Result Step StepFault → ServerChannel → List ℕ → List Told → Type 0
+StepStands piece (Ok step) new octets told = StandsBy piece step.end step.taken step.out.items new octets told
+StepStands piece (Err step_fault.OutOfMemory) new octets told = IsDone new
+StepStands piece (Err step_fault.Closed) new octets told = ⊥
+
 -- what a step takes is within the piece, and is something, where the connection goes on, unless the piece is empty
 abbrev pub Takes : List ℕ → Step → Type 0
 Takes piece step = (step.taken ≤ length piece) × (step.end ≡ None → 0 < length piece → 0 < step.taken)
@@ -156,6 +191,11 @@ AdvanceBy answered channel moment piece (Some end) n out new octets told first m
 abbrev pub Advances : Limits → ℕ → DateTime → List ℕ → Result (Step × Bool) StepFault → ServerChannel → List ℕ → List Told → State → List DateTime → State → State → Type 0
 Advances limits channel moment piece (Ok found) new octets told first moments before now = AdvanceBy found.1 channel moment piece found.0.end found.0.taken found.0.out.items new octets told first moments before now
 Advances limits channel moment piece (Err f) new octets told first moments before now = StepAnswers limits channel moment piece (Err f) new octets told first moments before now
+
+-- where it leaves a server, with whether something was answered
+abbrev pub AdvanceStands : List ℕ → Result (Step × Bool) StepFault → ServerChannel → List ℕ → List Told → Type 0
+AdvanceStands piece (Ok found) new octets told = StandsBy piece found.0.end found.0.taken found.0.out.items new octets told
+AdvanceStands piece (Err f) new octets told = StepStands piece (Err f) new octets told
 
 -- a reply to what was agreed is these octets, and the number behind them is this
 abbrev pub IsReplyAt : ℕ → ℕ → Option Agreement → List ℕ → ℕ → ℕ → List ℕ → ℕ → Type 0

@@ -12,7 +12,7 @@ ghost use Rattle.ua_channel.specs.declared.server.ServerChannel.{ServerChannel};
 ghost use Rattle.ua_channel.specs.declared.server_fault.ChannelFault.TheVariants as channel_fault;
 ghost use Rattle.ua_server.specs.Reply.{answered};
 ghost use Rattle.ua_server.specs.State.{State};
-ghost use Rattle.ua_server.specs.Stepping.{AnswersBehind, AnsweredBehind, IsReplyAt, StepAnswers, is_given_up};
+ghost use Rattle.ua_server.specs.Stepping.{AnswersBehind, AnsweredBehind, IsReplyAt, StepAnswers, StepStands, is_given_up};
 ghost use Rattle.ua_server.specs.declared.step.StepFault.TheVariants as step_fault;
 
 use crate::services::Services;
@@ -106,6 +106,8 @@ fn refusal(alloc: Global, taken: usize, fault: ChannelFault) -> Result<Step, Ste
     ensures answers { (old mid : ServerChannel) (moment : DateTime) (piece octets : List ℕ) (told : List Told) (first : State) (moments : List DateTime) (before : State)
         → AnsweredBehind old moment piece taken (Err fault) mid octets told first moments before
         → StepAnswers (limits_of old) (channel_of old) moment piece result mid octets told first moments before before }
+    ensures stands { (old mid : ServerChannel) (moment : DateTime) (piece octets : List ℕ) (told : List Told)
+        → AnswersBehind (channel_of old) (next_of old) moment piece taken (Err fault) mid octets told → StepStands piece result mid octets told }
     ensures taken { IfOk result (λ step. (step.taken ≡ taken) × (step.end ≡ None → ⊥)) }
     ensures closed { fault ≡ channel_fault.Closed → result ≡ Err step_fault.Closed }
 {
@@ -140,14 +142,14 @@ impl Server {
     ghost use Rattle.std.specs.Prelude.{◌≡◌, ◌≤◌, ◌↔◌, [], ℕ, List, length, false, Ok, Err, IfOk, IsErrOf, IsTrue};
     ghost use Rattle.ua_builtin.specs.declared.date_time.DateTime.{DateTime};
     ghost use Rattle.ua_channel.specs.Received.{received};
-    ghost use Rattle.ua_channel.specs.ServerStands.{limits_of, channel_of, bound_of, IsDone, bound_after, held_after, Stands as Holds};
+    ghost use Rattle.ua_channel.specs.ServerStands.{limits_of, channel_of, next_of, bound_of, Goes, IsDone, bound_after, held_after, Stands as Holds};
     ghost use Rattle.ua_channel.specs.ServerTold.{Told};
     ghost use Rattle.ua_channel.specs.declared.server.ServerChannel.{ServerChannel};
     ghost use Rattle.ua_frame.specs.declared.frame.Frame.{Frame};
     ghost use Rattle.ua_server.specs.Served.{channel_in};
     ghost use Rattle.ua_server.specs.Serving.{IsClean};
     ghost use Rattle.ua_server.specs.State.{State};
-    ghost use Rattle.ua_server.specs.Stepping.{AnsweredBehind, Advances, Stands, StepAnswers, Takes, is_given_up};
+    ghost use Rattle.ua_server.specs.Stepping.{AnswersBehind, AnsweredBehind, Advances, AdvanceStands, Stands, StepAnswers, StepStands, Takes, is_given_up};
     ghost use Rattle.ua_server.specs.declared.step.StepFault.TheVariants as step_fault;
 
     /// Waits for the HEL of a client, with these limits; the channel will have this id.
@@ -196,9 +198,11 @@ impl Server {
     ) -> Result<Step, StepFault>
         ensures answers { (octets : List ℕ) (told : List Told) (first : State) (moments : List DateTime) → Stands (channel_in self.old) octets told first moments services.old
             → StepAnswers (limits_of (channel_in self.old)) (channel_of (channel_in self.old)) moment piece.now result (channel_in self.new) octets told first moments services.old services.new }
+        // Where it then stands is the same whatever the services are.
+        ensures stands { (octets : List ℕ) (told : List Told) → Goes (channel_in self.old) octets told → StepStands piece.now result (channel_in self.new) octets told }
         ensures progress { IfOk result (λ step. Takes piece.now step) }
         // After want of memory, the bound is what it was before the call.
-        ensures starved { (octets : List ℕ) (told : List Told) (first : State) (moments : List DateTime) → Stands (channel_in self.old) octets told first moments services.old
+        ensures starved { (octets : List ℕ) (told : List Told) → Goes (channel_in self.old) octets told
             → IsErrOf result step_fault.OutOfMemory → bound_of (channel_in self.new) ≡ bound_of (channel_in self.old) }
         ensures closed { IsDone (channel_in self.old) → (result ≡ Err step_fault.Closed) × (self.new ≡ self.old) × (services.new ≡ services.old) }
         ensures limits { limits_of (channel_in self.new) ≡ limits_of (channel_in self.old) }
@@ -227,8 +231,9 @@ impl Server {
     ) -> Result<(Step, bool), StepFault>
         ensures answers { (octets : List ℕ) (told : List Told) (first : State) (moments : List DateTime) → Stands (channel_in self.old) octets told first moments services.old
             → Advances (limits_of (channel_in self.old)) (channel_of (channel_in self.old)) moment piece.now result (channel_in self.new) octets told first moments services.old services.new }
+        ensures stands { (octets : List ℕ) (told : List Told) → Goes (channel_in self.old) octets told → AdvanceStands piece.now result (channel_in self.new) octets told }
         ensures progress { IfOk result (λ found. Takes piece.now found.0) }
-        ensures starved { (octets : List ℕ) (told : List Told) (first : State) (moments : List DateTime) → Stands (channel_in self.old) octets told first moments services.old
+        ensures starved { (octets : List ℕ) (told : List Told) → Goes (channel_in self.old) octets told
             → IsErrOf result step_fault.OutOfMemory → bound_of (channel_in self.new) ≡ bound_of (channel_in self.old) }
         ensures closed { IsDone (channel_in self.old) → (result ≡ Err step_fault.Closed) × (self.new ≡ self.old) × (services.new ≡ services.old) }
         ensures limits { limits_of (channel_in self.new) ≡ limits_of (channel_in self.old) }
@@ -256,9 +261,11 @@ impl Server {
         ensures answers { (old : ServerChannel) (piece octets : List ℕ) (told : List Told) (first : State) (moments : List DateTime)
             → AnsweredBehind old moment piece taken (Ok event) (channel_in self.old) octets told first moments services.old
             → Advances (limits_of old) (channel_of old) moment piece result (channel_in self.new) octets told first moments services.old services.new }
+        ensures stands { (old : ServerChannel) (piece octets : List ℕ) (told : List Told)
+            → AnswersBehind (channel_of old) (next_of old) moment piece taken (Ok event) (channel_in self.old) octets told → AdvanceStands piece result (channel_in self.new) octets told }
         ensures taken { IfOk result (λ found. found.0.taken ≡ taken) }
-        ensures starved { (old : ServerChannel) (piece octets : List ℕ) (told : List Told) (first : State) (moments : List DateTime)
-            → AnsweredBehind old moment piece taken (Ok event) (channel_in self.old) octets told first moments services.old
+        ensures starved { (old : ServerChannel) (piece octets : List ℕ) (told : List Told) → Goes old octets told → limits_of (channel_in self.old) ≡ limits_of old
+            → AnswersBehind (channel_of old) (next_of old) moment piece taken (Ok event) (channel_in self.old) octets told
             → IsErrOf result step_fault.OutOfMemory → bound_of (channel_in self.new) ≡ bound_of old }
         ensures limits { limits_of (channel_in self.new) ≡ limits_of (channel_in self.old) }
         ensures channel { channel_of (channel_in self.new) ≡ channel_of (channel_in self.old) }

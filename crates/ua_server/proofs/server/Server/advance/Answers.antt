@@ -1,7 +1,8 @@
 use Rattle.std.proofs.Common.{◌≡◌, Ok, Err}
-use Rattle.ua_channel.specs.ServerStands.{channel_of}
+use Rattle.ua_channel.specs.ServerStands.{channel_of, next_of}
 use Rattle.ua_server.specs.Served.{channel_in}
 use Rattle.ua_server.proofs.Bounds.{fault-bound}
+use Rattle.ua_server.proofs.Standing.{behind-as}
 use Rattle.ua_server.proofs.Events.{answered-behind, ended-with}
 use Rattle.ua_server.proofs.server.Server.advance.Goals as goal
 
@@ -25,15 +26,33 @@ returns-in-Err-refusal-clause-answers c = λ octets told first moments s.
     c.next_answered-taken.result.1 (Err c.in-Err.fault) c.in-Err.is s c.next_answered-taken.ensures.limits c.next_answered-taken.ensures.channel (c.next_answered-taken.ensures.answers octets told s.goes) in
     c.in-Err-refusal.ensures.answers (channel_in c.args.self.now) c.next_answered-taken.new.channel c.args.moment c.args.piece.now octets told first moments c.args.services.now there
 
+pub returns-in-Ok-clause-stands : goal.returns-in-Ok-clause-stands
+returns-in-Ok-clause-stands c = λ octets told g.
+    c.answer.ensures.stands (channel_in c.args.self.now) c.args.piece.now octets told
+    (behind-as (channel_of (channel_in c.args.self.now)) (next_of (channel_in c.args.self.now)) c.args.moment c.args.piece.now c.next_answered-taken.result.0 c.next_answered-taken.new.channel octets told
+    c.next_answered-taken.result.1 (Ok c.in-Ok.event) c.in-Ok.is (c.next_answered-taken.ensures.answers octets told g))
+
+pub returns-in-Ok-refusal-clause-stands : goal.returns-in-Ok-refusal-clause-stands
+returns-in-Ok-refusal-clause-stands c = λ octets told g.
+    c.in-Ok-refusal.ensures.stands (channel_in c.args.self.now) c.next_answered-taken.new.channel c.args.moment c.args.piece.now octets told
+    (behind-as (channel_of (channel_in c.args.self.now)) (next_of (channel_in c.args.self.now)) c.args.moment c.args.piece.now c.next_answered-taken.result.0 c.next_answered-taken.new.channel octets told
+    c.next_answered-taken.result.1 (Err c.in-Err.fault) c.in-Err.is (c.next_answered-taken.ensures.answers octets told g))
+
+pub returns-in-Err-refusal-clause-stands : goal.returns-in-Err-refusal-clause-stands
+returns-in-Err-refusal-clause-stands c = λ octets told g.
+    c.in-Err-refusal.ensures.stands (channel_in c.args.self.now) c.next_answered-taken.new.channel c.args.moment c.args.piece.now octets told
+    (behind-as (channel_of (channel_in c.args.self.now)) (next_of (channel_in c.args.self.now)) c.args.moment c.args.piece.now c.next_answered-taken.result.0 c.next_answered-taken.new.channel octets told
+    c.next_answered-taken.result.1 (Err c.in-Err.fault) c.in-Err.is (c.next_answered-taken.ensures.answers octets told g))
+
 pub returns-in-Ok-clause-starved : goal.returns-in-Ok-clause-starved
-returns-in-Ok-clause-starved c = λ octets told first moments s fails.
-    c.answer.ensures.starved (channel_in c.args.self.now) c.args.piece.now octets told first moments
-    (answered-behind (channel_in c.args.self.now) c.next_answered-taken.new.channel c.args.moment c.args.piece.now c.next_answered-taken.result.0 octets told first moments c.args.services.now
-    c.next_answered-taken.result.1 (Ok c.in-Ok.event) c.in-Ok.is s c.next_answered-taken.ensures.limits c.next_answered-taken.ensures.channel (c.next_answered-taken.ensures.answers octets told s.goes)) fails
+returns-in-Ok-clause-starved c = λ octets told g fails.
+    c.answer.ensures.starved (channel_in c.args.self.now) c.args.piece.now octets told g c.next_answered-taken.ensures.limits
+    (behind-as (channel_of (channel_in c.args.self.now)) (next_of (channel_in c.args.self.now)) c.args.moment c.args.piece.now c.next_answered-taken.result.0 c.next_answered-taken.new.channel octets told
+    c.next_answered-taken.result.1 (Ok c.in-Ok.event) c.in-Ok.is (c.next_answered-taken.ensures.answers octets told g)) fails
 
 pub returns-in-Err-refusal-clause-starved : goal.returns-in-Err-refusal-clause-starved
-returns-in-Err-refusal-clause-starved c = λ octets told first moments s fails.
-    let there = answered-behind (channel_in c.args.self.now) c.next_answered-taken.new.channel c.args.moment c.args.piece.now c.next_answered-taken.result.0 octets told first moments c.args.services.now
-    c.next_answered-taken.result.1 (Err c.in-Err.fault) c.in-Err.is s c.next_answered-taken.ensures.limits c.next_answered-taken.ensures.channel (c.next_answered-taken.ensures.answers octets told s.goes) in
-    fault-bound (channel_in c.args.self.now) c.next_answered-taken.new.channel c.args.moment c.args.piece.now c.next_answered-taken.result.0 octets told first moments c.args.services.now
-    c.in-Err.fault c.next_answered-taken.result.1 c.in-Err.is (c.next_answered-taken.ensures.starved octets told s.goes) there
+returns-in-Err-refusal-clause-starved c = λ octets told g fails.
+    fault-bound (channel_in c.args.self.now) c.next_answered-taken.new.channel c.args.moment c.args.piece.now c.next_answered-taken.result.0 octets told g c.next_answered-taken.ensures.limits
+    c.in-Err.fault c.next_answered-taken.result.1 c.in-Err.is (c.next_answered-taken.ensures.starved octets told g)
+    (behind-as (channel_of (channel_in c.args.self.now)) (next_of (channel_in c.args.self.now)) c.args.moment c.args.piece.now c.next_answered-taken.result.0 c.next_answered-taken.new.channel octets told
+    c.next_answered-taken.result.1 (Err c.in-Err.fault) c.in-Err.is (c.next_answered-taken.ensures.answers octets told g))

@@ -1,11 +1,12 @@
 use Rattle.std.proofs.Common.{◌≡◌, ◌++◌, ◌∙◌, ℕ, List, None, Some, Ok, refl, take}
 use Rattle.ua_channel.specs.declared.server_event.ServerEvent.TheVariants as event
-use Rattle.ua_channel.specs.ServerStands.{limits_of, channel_of}
+use Rattle.ua_channel.specs.ServerStands.{limits_of, channel_of, next_of}
 use Rattle.ua_server.specs.Served.{channel_in}
 use Rattle.ua_server.specs.Stepping.{given_up}
 use Rattle.ua_server.specs.declared.step.End.TheVariants as ending
 use Rattle.ua_server.specs.declared.step.Step.{Step}
 use Rattle.ua_server.proofs.Bounds.{asked-bound}
+use Rattle.ua_server.proofs.Standing.{event-as, silent-stands, saying-stands, stands-quiet, stands-sent, stands-replied, stands-closed, stands-broken}
 use Rattle.ua_server.proofs.Events.{at-event, silently, saying, breaks-by, on-quiet, on-send, on-reply, on-break, on-close}
 use Rattle.ua_server.proofs.server.Server.answer.Goals as goal
 
@@ -38,10 +39,10 @@ returns-in-Err-clause-answers c = λ old piece octets told first moments b.
     (on-break old (channel_in c.args.self.now) c.args.moment piece c.args.taken octets told first moments c.args.services.now c.reply_to.new.channel c.in-Asked.id c.in-Asked.message c.reply_to.new.services there failed.1 c.in-Err.ensures.broken)
 
 pub returns-in-Err-clause-starved : goal.returns-in-Err-clause-starved
-returns-in-Err-clause-starved c = λ old piece octets told first moments b fails.
+returns-in-Err-clause-starved c = λ old piece octets told g limits b fails.
     c.reply_to.ensures.bound
-    ∙ asked-bound old (channel_in c.args.self.now) c.args.moment piece c.args.taken octets told first moments c.args.services.now c.in-Asked.id c.in-Asked.message
-    (at-event old (channel_in c.args.self.now) c.args.moment piece c.args.taken octets told first moments c.args.services.now c.args.event (event.Asked c.in-Asked.id c.in-Asked.message) c.in-Asked.is b)
+    ∙ asked-bound old (channel_in c.args.self.now) c.args.moment piece c.args.taken octets told g limits c.in-Asked.id c.in-Asked.message
+    (event-as (channel_of old) (next_of old) c.args.moment piece c.args.taken (channel_in c.args.self.now) octets told c.args.event (event.Asked c.in-Asked.id c.in-Asked.message) c.in-Asked.is b)
 
 pub returns-in-Closed-clause-answers : goal.returns-in-Closed-clause-answers
 returns-in-Closed-clause-answers c = λ old piece octets told first moments b.
@@ -51,3 +52,36 @@ returns-in-Closed-clause-answers c = λ old piece octets told first moments b.
           (at-event old (channel_in c.args.self.now) c.args.moment piece c.args.taken octets told first moments c.args.services.now c.args.event event.Closed c.in-Closed.is b) out none,
       refl,
     ))
+
+pub returns-in-NeedMore-clause-stands : goal.returns-in-NeedMore-clause-stands
+returns-in-NeedMore-clause-stands c = λ old piece octets told b.
+    silent-stands (channel_of old) (next_of old) c.args.moment piece c.args.taken (channel_in c.args.self.now) octets told c.silent.result None c.silent.ensures.taken c.silent.ensures.out c.silent.ensures.end
+    (stands-quiet (channel_of old) (next_of old) c.args.moment piece c.args.taken (channel_in c.args.self.now) octets told
+    (event-as (channel_of old) (next_of old) c.args.moment piece c.args.taken (channel_in c.args.self.now) octets told c.args.event event.NeedMore c.in-NeedMore.is b))
+
+pub returns-in-Send-clause-stands : goal.returns-in-Send-clause-stands
+returns-in-Send-clause-stands c = λ old piece octets told b.
+    let said : Step = record { taken = c.args.taken; out = c.in-Send.out; end = None } in
+    saying-stands (channel_of old) (next_of old) c.args.moment piece c.args.taken (channel_in c.args.self.now) octets told c.saying.result said (channel_in c.args.self.now) c.saying.ensures
+    (stands-sent (channel_of old) (next_of old) c.args.moment piece c.args.taken (channel_in c.args.self.now) octets told c.in-Send.out
+    (event-as (channel_of old) (next_of old) c.args.moment piece c.args.taken (channel_in c.args.self.now) octets told c.args.event (event.Send c.in-Send.out) c.in-Send.is b))
+
+pub returns-in-Ok-clause-stands : goal.returns-in-Ok-clause-stands
+returns-in-Ok-clause-stands c = λ old piece octets told b.
+    let said : Step = record { taken = c.args.taken; out = c.in-Ok.out; end = None } in
+    let there = event-as (channel_of old) (next_of old) c.args.moment piece c.args.taken (channel_in c.args.self.now) octets told c.args.event (event.Asked c.in-Asked.id c.in-Asked.message) c.in-Asked.is b in
+    saying-stands (channel_of old) (next_of old) c.args.moment piece c.args.taken (channel_in c.args.self.now) octets told c.saying-in-Ok.result said c.reply_to.new.channel c.saying-in-Ok.ensures
+    (stands-replied (channel_of old) (next_of old) c.args.moment piece c.args.taken (channel_in c.args.self.now) octets told c.in-Asked.id c.in-Asked.message c.reply_to.new.channel c.in-Ok.out.items there
+    (c.in-Ok.ensures.sent (octets ++ take c.args.taken piece) (told ++ given_up there.quiet) there.answers.1.0.token there.answers.1.0.goes).0)
+
+pub returns-in-Err-clause-stands : goal.returns-in-Err-clause-stands
+returns-in-Err-clause-stands c = λ old piece octets told b.
+    let there = event-as (channel_of old) (next_of old) c.args.moment piece c.args.taken (channel_in c.args.self.now) octets told c.args.event (event.Asked c.in-Asked.id c.in-Asked.message) c.in-Asked.is b in
+    let failed = c.in-Err.ensures.failed (octets ++ take c.args.taken piece) (told ++ given_up there.quiet) there.answers.1.0.token there.answers.1.0.goes in
+    stands-broken piece octets told c.reply_to.new.channel c.in-Err.fault failed.0 failed.1
+
+pub returns-in-Closed-clause-stands : goal.returns-in-Closed-clause-stands
+returns-in-Closed-clause-stands c = λ old piece octets told b.
+    silent-stands (channel_of old) (next_of old) c.args.moment piece c.args.taken (channel_in c.args.self.now) octets told c.silent-in-Closed.result (Some ending.Closed) c.silent-in-Closed.ensures.taken c.silent-in-Closed.ensures.out c.silent-in-Closed.ensures.end
+    (stands-closed (channel_of old) (next_of old) c.args.moment piece c.args.taken (channel_in c.args.self.now) octets told
+    (event-as (channel_of old) (next_of old) c.args.moment piece c.args.taken (channel_in c.args.self.now) octets told c.args.event event.Closed c.in-Closed.is b))

@@ -11,5 +11,5 @@ returns-in-Ok-clause-answers c = λ octets told first moments s.
     (c.in-Ok.ensures.answers octets told first moments s)
 
 pub returns-in-Err-clause-starved : goal.returns-in-Err-clause-starved
-returns-in-Err-clause-starved c = λ octets told first moments s fails.
-    c.in-Err.ensures.starved octets told first moments s (same-fault c.in-Err.fault step_fault.OutOfMemory fails)
+returns-in-Err-clause-starved c = λ octets told g fails.
+    c.in-Err.ensures.starved octets told g (same-fault c.in-Err.fault step_fault.OutOfMemory fails)

@@ -1,4 +1,4 @@
-use Rattle.std.proofs.Common.{[], ℕ, List, Err, length, refl, ◌∙◌, ap, subst}
+use Rattle.std.proofs.Common.{◌≡◌, [], ℕ, List, Err, length, refl, subst}
 use Rattle.ua_channel.specs.Line.{WhereTold}
 use Rattle.ua_server.specs.Serving.{Moves}
 use Rattle.ua_server.specs.ServingParts.{Says, counted}
@@ -17,7 +17,7 @@ pub returns-in-Ok-say-clause-turns : goal.returns-in-Ok-say-clause-turns
 returns-in-Ok-say-clause-turns g c = λ limits channel first read written given k.
     let counted_so : List ℕ → Serving = λ o. record c.step.new.self { written = counted c.step.new.self.written (length o) } in
     turn-said limits channel first g.M.Moments.gives c.args.moments.now c.step.new.moments (g.L.Line.traffic c.args.line.now) (g.L.Line.traffic c.say.new.line) c.args.piece.now read written given c.step.new.services c.in-Ok.step c.step.new.self c.say.new.self (c.in-Ok.ensures.steps limits channel first read written given k)
-    (c.in-Ok-say.ensures.says.0 ∙ ap counted_so c.deref.ensures.value)
+    (subst (λ (o : List ℕ). c.say.new.self ≡ counted_so o) c.deref.ensures.value c.in-Ok-say.ensures.says.0)
     (subst (λ (o : List ℕ). WhereTold (Moves [] o) (g.L.Line.traffic c.args.line.now) (g.L.Line.traffic c.say.new.line)) c.deref.ensures.value c.in-Ok-say.ensures.says.1)
 
 pub returns-in-Ok-say-clause-progress : goal.returns-in-Ok-say-clause-progress
