@@ -9,4 +9,6 @@ mod client;
 #[cfg(test)]
 mod line;
 #[cfg(test)]
+mod messages;
+#[cfg(test)]
 mod server;

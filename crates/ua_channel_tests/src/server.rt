@@ -1,11 +1,12 @@
 //! A server's channel: what it answers to octets that are written out, what it replies, and how much
 //! it holds.
 
+use crate::messages::{has_octets, has_parts};
 use std::alloc::Global;
 use std::process::Abort;
-use ua_builtin::{DateTime, Source};
+use std::slice;
+use ua_builtin::DateTime;
 use ua_channel::{ChannelFault, ReplyFault, ServerChannel, ServerEvent};
-use ua_chunk::Message;
 use ua_frame::Limits;
 
 /// 1970-01-01.
@@ -19,9 +20,12 @@ enum Answer<'a> {
     Waits,
     Sends(&'a [u8]),
     Asks(u32, &'a [u8]),
+    /// In two parts of so many octets.
+    AsksInParts(u32, usize, usize),
     Aborts(u32),
     Closes,
     Refuses(u32),
+    IsClosed,
 }
 
 /// The octets of a frame, and the answer to them.
@@ -371,106 +375,123 @@ fn server(rt: &impl Abort, alloc: Global, octets: u32) -> ServerChannel {
     ServerChannel::new(alloc, limits, 7)
 }
 
-// That a message has these octets.
-fn has_octets(rt: &impl Abort, alloc: Global, message: Message, octets: &[u8]) {
-    assert_eq!(rt; message.len(), octets.len());
-    let mut found = vec![in alloc; 0; octets.len()].expect(rt, "memory");
-    assert!(rt; message.source().take_into(found.as_mut_slice()));
-    assert_eq!(rt; found.as_slice(), octets);
-}
-
-// That an event is what is expected.
-fn is_answer(rt: &impl Abort, alloc: Global, event: ServerEvent, expected: Answer<'_>) {
-    match event {
-        ServerEvent::NeedMore => assert!(rt; matches!(expected, Answer::Waits)),
-        ServerEvent::Send(sent) => {
-            let Answer::Sends(octets) = expected else {
-                panic!(rt; "octets to be sent");
-            };
-            assert_eq!(rt; sent.as_slice(), octets);
+// Whether an event is what is expected.
+fn is_answer(event: &ServerEvent, expected: Answer<'_>) -> bool {
+    match (event, expected) {
+        (ServerEvent::NeedMore, Answer::Waits) => true,
+        (ServerEvent::Send(sent), Answer::Sends(octets)) => sent.as_slice() == octets,
+        (ServerEvent::Asked(id, message), Answer::Asks(request, octets)) => {
+            *id == request && has_octets(message, octets)
         }
-        ServerEvent::Asked(id, message) => {
-            let Answer::Asks(request, octets) = expected else {
-                panic!(rt; "a message");
-            };
-            assert_eq!(rt; id, request);
-            has_octets(rt, alloc, message, octets);
+        (ServerEvent::Asked(id, message), Answer::AsksInParts(request, first, last)) => {
+            *id == request && has_parts(message, first, last)
         }
-        ServerEvent::Aborted(id) => {
-            assert!(rt; matches!(expected, Answer::Aborts(request) if request == id));
-        }
-        ServerEvent::Closed => assert!(rt; matches!(expected, Answer::Closes)),
+        (ServerEvent::Aborted(id), Answer::Aborts(request)) => *id == request,
+        (ServerEvent::Closed, Answer::Closes) => true,
+        _ => false,
     }
 }
 
-// Gives a channel octets, all of which it is to take, and compares its answer.
-fn takes(rt: &impl Abort, alloc: Global, channel: &mut ServerChannel, row: Row<'_>) {
+// Gives a channel octets at a moment, all of which it is to take, and compares its answer.
+fn takes_at(rt: &impl Abort, channel: &mut ServerChannel, row: Row<'_>, moment: DateTime) {
     let (octets, expected) = row;
-    match channel.take(octets, MOMENT) {
+    match channel.take(octets, moment) {
         Ok((n, event)) => {
-            assert_eq!(rt; n, octets.len());
-            is_answer(rt, alloc, event, expected);
+            let is_expected = is_answer(&event, expected);
+            drop(event);
+            assert!(rt; is_expected && n == octets.len());
         }
         Err(ChannelFault::Refused { code, .. }) => {
             assert!(rt; matches!(expected, Answer::Refuses(wanted) if wanted == code.code));
         }
-        Err(_) => panic!(rt; "a fault"),
+        Err(ChannelFault::Closed) => assert!(rt; matches!(expected, Answer::IsClosed)),
+        Err(ChannelFault::OutOfMemory) => panic!(rt; "memory"),
     }
+}
+
+// The same at 1970-01-01.
+fn takes(rt: &impl Abort, channel: &mut ServerChannel, row: Row<'_>) {
+    takes_at(rt, channel, row, MOMENT);
 }
 
 // A channel behind its opening.
 fn opened(rt: &impl Abort, alloc: Global, octets: u32) -> ServerChannel {
     let mut channel = server(rt, alloc, octets);
-    takes(rt, alloc, &mut channel, (HEL, Answer::Sends(ACK)));
-    takes(rt, alloc, &mut channel, (OPN, Answer::Sends(OPENED)));
+    takes(rt, &mut channel, (HEL, Answer::Sends(ACK)));
+    takes(rt, &mut channel, (OPN, Answer::Sends(OPENED)));
     channel
 }
 
 // Gives a channel these rows in turn.
-fn takes_all(rt: &impl Abort, alloc: Global, channel: &mut ServerChannel, rows: &[Row<'_>]) {
+fn takes_all(rt: &impl Abort, channel: &mut ServerChannel, rows: &[Row<'_>]) {
     for row in rows {
-        takes(rt, alloc, channel, *row);
+        takes(rt, channel, *row);
+    }
+}
+
+// Whether a reply of a channel has these octets.
+fn is_reply(found: Result<Vec<u8>, ReplyFault>, octets: &[u8]) -> bool {
+    match found {
+        Ok(out) => out.as_slice() == octets,
+        Err(_) => false,
     }
 }
 
 // That a reply of a channel has these octets.
 fn replies(rt: &impl Abort, channel: &mut ServerChannel, id: u32, body: &[u8], octets: &[u8]) {
     assert!(rt; !body.is_empty());
-    let out = channel.reply(id, body).expect(rt, "a reply");
-    assert_eq!(rt; out.as_slice(), octets);
+    assert!(rt; is_reply(channel.reply(id, body), octets));
+}
+
+// That no channel is open for a reply.
+fn replies_nothing(rt: &impl Abort, channel: &mut ServerChannel) {
+    assert!(rt; matches!(channel.reply(2, &[1]), Err(ReplyFault::NotOpen)));
 }
 
 // That a channel has ended.
 fn has_ended(rt: &impl Abort, channel: &mut ServerChannel) {
-    assert!(rt; matches!(channel.take(HEL, MOMENT), Err(ChannelFault::Closed)));
-    assert!(rt; matches!(channel.reply(2, &[1]), Err(ReplyFault::NotOpen)));
-    assert_eq!(rt; (channel.held(), channel.open_count()), (0, 0));
+    takes(rt, channel, (HEL, Answer::IsClosed));
+    replies_nothing(rt, channel);
+    assert!(rt; channel.held() == 0 && channel.open_count() == 0);
+}
+
+// Gives a channel octets one by one, behind each of which it is to wait.
+fn waits_for_each(rt: &impl Abort, channel: &mut ServerChannel, octets: &[u8]) {
+    for octet in octets {
+        takes(rt, channel, (slice::from_ref(octet), Answer::Waits));
+    }
 }
 
 #[test]
 fn answers_a_hel_octet_by_octet(rt: HostRuntime) {
+    assert!(rt; HEL.len() == 56);
     let mut channel = server(&rt, rt.alloc(), 1_048_576);
-    assert_eq!(rt; (HEL.len(), channel.bound()), (56, 8192));
-    let front = HEL.get(..55).expect(&rt, "a front");
+    assert!(rt; channel.bound() == 8192);
+    waits_for_each(&rt, &mut channel, HEL.get(..55).expect(&rt, "a front"));
+    assert!(rt; channel.held() == 55);
     let last = HEL.get(55..).expect(&rt, "an end");
-    for octet in front.chunks(1) {
-        takes(&rt, rt.alloc(), &mut channel, (octet, Answer::Waits));
+    takes(&rt, &mut channel, (last, Answer::Sends(ACK)));
+}
+
+// Where and by what a channel refuses octets: behind how many of them, the code and the ERR frame.
+fn refusal_of(channel: &mut ServerChannel, octets: &[u8]) -> Option<(usize, u32, [u8; 16])> {
+    match channel.advance(octets, MOMENT) {
+        (n, Err(ChannelFault::Refused { code, err_frame })) => Some((n, code.code, err_frame)),
+        _ => None,
     }
-    assert_eq!(rt; channel.held(), 55);
-    takes(&rt, rt.alloc(), &mut channel, (last, Answer::Sends(ACK)));
+}
+
+// That a channel refuses octets by this ERR frame at the last of them.
+fn refuses_by(rt: &impl Abort, channel: &mut ServerChannel, octets: &[u8], frame: &[u8; 16]) {
+    let (n, _, err_frame) = refusal_of(channel, octets).expect(rt, "a refusal");
+    assert!(rt; n == octets.len() && err_frame == *frame);
 }
 
 #[test]
 fn refuses_what_is_no_hel(rt: HostRuntime) {
     for (octets, frame) in REFUSED_FIRST {
         let mut channel = server(&rt, rt.alloc(), 1_048_576);
-        match channel.advance(octets, MOMENT) {
-            (n, Err(ChannelFault::Refused { err_frame, .. })) => {
-                assert_eq!(rt; n, octets.len());
-                assert_eq!(rt; err_frame.as_slice(), frame.as_slice());
-            }
-            _ => panic!(rt; "no refusal"),
-        }
+        refuses_by(&rt, &mut channel, octets, frame);
         has_ended(&rt, &mut channel);
     }
 }
@@ -479,12 +500,7 @@ fn refuses_what_is_no_hel(rt: HostRuntime) {
 fn refuses_behind_the_opening(rt: HostRuntime) {
     for (octets, code) in REFUSED {
         let mut channel = opened(&rt, rt.alloc(), 1_048_576);
-        takes(
-            &rt,
-            rt.alloc(),
-            &mut channel,
-            (octets, Answer::Refuses(code)),
-        );
+        takes(&rt, &mut channel, (octets, Answer::Refuses(code)));
         has_ended(&rt, &mut channel);
     }
 }
@@ -497,19 +513,15 @@ const BEFORE_THE_OPENING: [&[u8]; 2] = [
 
 // That a channel refuses octets with this code at the eighth of them.
 fn refuses_a_header(rt: &impl Abort, channel: &mut ServerChannel, octets: &[u8], wanted: u32) {
-    match channel.advance(octets, MOMENT) {
-        (n, Err(ChannelFault::Refused { code, .. })) => {
-            assert_eq!(rt; (n, code.code), (8, wanted));
-        }
-        _ => panic!(rt; "no refusal"),
-    }
+    let (n, code, _) = refusal_of(channel, octets).expect(rt, "a refusal");
+    assert!(rt; n == 8 && code == wanted);
 }
 
 #[test]
 fn takes_nothing_but_an_opening_behind_a_hel(rt: HostRuntime) {
     for octets in BEFORE_THE_OPENING {
         let mut channel = server(&rt, rt.alloc(), 1_048_576);
-        takes(&rt, rt.alloc(), &mut channel, (HEL, Answer::Sends(ACK)));
+        takes(&rt, &mut channel, (HEL, Answer::Sends(ACK)));
         refuses_a_header(&rt, &mut channel, octets, 0x807E_0000);
         has_ended(&rt, &mut channel);
     }
@@ -534,21 +546,21 @@ fn refuses_a_size_below_the_least_at_the_eighth_octet(rt: HostRuntime) {
 #[test]
 fn talks_until_the_close(rt: HostRuntime) {
     let mut channel = opened(&rt, rt.alloc(), 1_048_576);
-    takes_all(&rt, rt.alloc(), &mut channel, &TALK);
+    takes_all(&rt, &mut channel, &TALK);
     has_ended(&rt, &mut channel);
 }
 
 #[test]
 fn takes_the_old_token_until_the_new_one_is_used(rt: HostRuntime) {
     let mut channel = opened(&rt, rt.alloc(), 1_048_576);
-    takes_all(&rt, rt.alloc(), &mut channel, &OLD_TOKEN);
+    takes_all(&rt, &mut channel, &OLD_TOKEN);
 }
 
 #[test]
 fn a_chunk_of_any_flag_and_a_close_use_a_token(rt: HostRuntime) {
     for rows in USES {
         let mut channel = opened(&rt, rt.alloc(), 1_048_576);
-        takes_all(&rt, rt.alloc(), &mut channel, rows);
+        takes_all(&rt, &mut channel, rows);
         has_ended(&rt, &mut channel);
     }
 }
@@ -556,36 +568,41 @@ fn a_chunk_of_any_flag_and_a_close_use_a_token(rt: HostRuntime) {
 #[test]
 fn answers_a_renewal_as_it_answers_the_first_opening(rt: HostRuntime) {
     let mut channel = opened(&rt, rt.alloc(), 1_048_576);
-    match channel.take(HANDLED_RENEWAL, LATER) {
-        Ok((n, event)) => {
-            assert_eq!(rt; n, 132);
-            is_answer(&rt, rt.alloc(), event, Answer::Sends(HANDLED));
-        }
-        Err(_) => panic!(rt; "a fault"),
-    }
+    assert!(rt; HANDLED_RENEWAL.len() == 132);
+    let row = (HANDLED_RENEWAL, Answer::Sends(HANDLED));
+    takes_at(&rt, &mut channel, row, LATER);
+}
+
+// The OPN with another octet at a place.
+fn opening_with(rt: &impl Abort, alloc: Global, place: usize, octet: u8) -> Vec<u8> {
+    let mut octets = OPN.to_vec(alloc).expect(rt, "memory");
+    *octets.get_mut(place).expect(rt, "a place") = octet;
+    octets
 }
 
 #[test]
 fn refuses_other_openings(rt: HostRuntime) {
     for (place, octet, code) in OTHER_OPENINGS {
-        let mut octets = OPN.to_vec(rt.alloc()).expect(&rt, "memory");
-        *octets.get_mut(place).expect(&rt, "a place") = octet;
+        let octets = opening_with(&rt, rt.alloc(), place, octet);
         let mut channel = server(&rt, rt.alloc(), 1_048_576);
-        takes(&rt, rt.alloc(), &mut channel, (HEL, Answer::Sends(ACK)));
+        takes(&rt, &mut channel, (HEL, Answer::Sends(ACK)));
         let row = (octets.as_slice(), Answer::Refuses(code));
-        takes(&rt, rt.alloc(), &mut channel, row);
+        takes(&rt, &mut channel, row);
         has_ended(&rt, &mut channel);
     }
 }
 
+// That a reply of one octet behind these rows has these octets.
+fn replies_behind(rt: &impl Abort, alloc: Global, rows: &[Row<'_>], id: u32, octets: &[u8]) {
+    let mut channel = opened(rt, alloc, 1_048_576);
+    takes_all(rt, &mut channel, rows);
+    replies(rt, &mut channel, id, &[0xEE], octets);
+}
+
 #[test]
 fn replies_under_the_last_token_used(rt: HostRuntime) {
-    let mut channel = opened(&rt, rt.alloc(), 1_048_576);
-    takes_all(&rt, rt.alloc(), &mut channel, &ACROSS);
-    replies(&rt, &mut channel, 2, &[0xEE], NEW_REPLY);
-    let mut channel = opened(&rt, rt.alloc(), 1_048_576);
-    takes_all(&rt, rt.alloc(), &mut channel, &STILL_OLD);
-    replies(&rt, &mut channel, 3, &[0xEE], OLD_REPLY);
+    replies_behind(&rt, rt.alloc(), &ACROSS, 2, NEW_REPLY);
+    replies_behind(&rt, rt.alloc(), &STILL_OLD, 3, OLD_REPLY);
 }
 
 #[test]
@@ -598,14 +615,9 @@ fn numbers_its_replies(rt: HostRuntime) {
 #[test]
 fn gives_up_what_the_client_does_not_take(rt: HostRuntime) {
     let mut channel = server(&rt, rt.alloc(), 1_048_576);
-    assert!(rt; matches!(channel.reply(2, &[1]), Err(ReplyFault::NotOpen)));
-    takes(
-        &rt,
-        rt.alloc(),
-        &mut channel,
-        (SHORT_HEL, Answer::Sends(ACK)),
-    );
-    takes(&rt, rt.alloc(), &mut channel, (OPN, Answer::Sends(OPENED)));
+    replies_nothing(&rt, &mut channel);
+    takes(&rt, &mut channel, (SHORT_HEL, Answer::Sends(ACK)));
+    takes(&rt, &mut channel, (OPN, Answer::Sends(OPENED)));
     replies(&rt, &mut channel, 2, &[0xEE; 21], TOO_LARGE);
 }
 
@@ -613,14 +625,9 @@ fn gives_up_what_the_client_does_not_take(rt: HostRuntime) {
 fn takes_numbers_that_start_again(rt: HostRuntime) {
     for row in AFTER_LATE {
         let mut channel = server(&rt, rt.alloc(), 1_048_576);
-        takes(&rt, rt.alloc(), &mut channel, (HEL, Answer::Sends(ACK)));
-        takes(
-            &rt,
-            rt.alloc(),
-            &mut channel,
-            (LATE_OPN, Answer::Sends(OPENED)),
-        );
-        takes(&rt, rt.alloc(), &mut channel, row);
+        takes(&rt, &mut channel, (HEL, Answer::Sends(ACK)));
+        takes(&rt, &mut channel, (LATE_OPN, Answer::Sends(OPENED)));
+        takes(&rt, &mut channel, row);
     }
 }
 
@@ -639,6 +646,20 @@ fn chunk(rt: &impl Abort, alloc: Global, flag: u8, numbers: (u32, u32), len: usi
     out
 }
 
+// Gives a channel a chunk of zeros, and compares its answer.
+fn takes_chunk(
+    rt: &impl Abort,
+    alloc: Global,
+    channel: &mut ServerChannel,
+    flag: u8,
+    numbers: (u32, u32),
+    len: usize,
+    expected: Answer<'_>,
+) {
+    let octets = chunk(rt, alloc, flag, numbers, len);
+    takes(rt, channel, (octets.as_slice(), expected));
+}
+
 // Gives a channel C chunks of a request id, numbered from a number, and answers the next one.
 fn goes_on(
     rt: &impl Abort,
@@ -649,8 +670,15 @@ fn goes_on(
 ) -> u32 {
     let (mut sequence, id) = numbers;
     for len in lens {
-        let octets = chunk(rt, alloc, b'C', (sequence, id), *len);
-        takes(rt, alloc, channel, (octets.as_slice(), Answer::Waits));
+        takes_chunk(
+            rt,
+            alloc,
+            channel,
+            b'C',
+            (sequence, id),
+            *len,
+            Answer::Waits,
+        );
         sequence = sequence.saturating_add(1);
     }
     sequence
@@ -662,54 +690,53 @@ const LARGEST: [usize; 17] = [
     65511, 65511, 65511, 400,
 ];
 
+// A channel that holds four messages, of chunks of these sizes, and the next sequence number.
+fn full_of_messages(rt: &impl Abort, alloc: Global, lens: &[usize]) -> (ServerChannel, u32) {
+    let mut channel = opened(rt, alloc, 1_048_576);
+    let mut sequence = 2;
+    for id in 2..6u32 {
+        sequence = goes_on(rt, alloc, &mut channel, (sequence, id), lens);
+    }
+    (channel, sequence)
+}
+
+// Gives a channel 65534 octets of an F chunk of 65535.
+fn waits_for_the_rest(rt: &impl Abort, alloc: Global, channel: &mut ServerChannel, sequence: u32) {
+    let octets = chunk(rt, alloc, b'F', (sequence, 2), 65511);
+    let front = octets.as_slice().get(..65534).expect(rt, "a front");
+    takes(rt, channel, (front, Answer::Waits));
+}
+
 // Four messages of 1048576 octets, and 65534 octets of a frame of 65535.
 #[test]
 fn holds_up_to_its_bound(rt: HostRuntime) {
-    let mut channel = opened(&rt, rt.alloc(), 1_048_576);
-    let mut sequence = 2;
-    for id in 2..6u32 {
-        sequence = goes_on(&rt, rt.alloc(), &mut channel, (sequence, id), &LARGEST);
-    }
-    assert_eq!(rt; (channel.bound(), channel.open_count()), (4_259_839, 4));
-    let octets = chunk(&rt, rt.alloc(), b'F', (sequence, 2), 65511);
-    let front = octets.as_slice().get(..65534).expect(&rt, "a front");
-    takes(&rt, rt.alloc(), &mut channel, (front, Answer::Waits));
-    assert_eq!(rt; channel.held(), 4_259_838);
+    let (mut channel, sequence) = full_of_messages(&rt, rt.alloc(), &LARGEST);
+    assert!(rt; channel.bound() == 4_259_839 && channel.open_count() == 4);
+    waits_for_the_rest(&rt, rt.alloc(), &mut channel, sequence);
+    assert!(rt; channel.held() == 4_259_838);
 }
 
 // Four messages go on; a fifth of one chunk is taken, and one that goes on is not.
 #[test]
 fn takes_no_fifth_message_that_goes_on(rt: HostRuntime) {
-    let mut channel = opened(&rt, rt.alloc(), 1_048_576);
-    let mut sequence = 2;
-    for id in 2..6u32 {
-        sequence = goes_on(&rt, rt.alloc(), &mut channel, (sequence, id), &[1]);
-    }
-    let octets = chunk(&rt, rt.alloc(), b'F', (sequence, 6), 1);
-    let row = (octets.as_slice(), Answer::Asks(6, &[0]));
-    takes(&rt, rt.alloc(), &mut channel, row);
-    let octets = chunk(&rt, rt.alloc(), b'C', (sequence.saturating_add(1), 6), 1);
-    let row = (octets.as_slice(), Answer::Refuses(0x8081_0000));
-    takes(&rt, rt.alloc(), &mut channel, row);
+    let alloc = rt.alloc();
+    let (mut channel, sequence) = full_of_messages(&rt, alloc, &[1]);
+    let asked = Answer::Asks(6, &[0]);
+    takes_chunk(&rt, alloc, &mut channel, b'F', (sequence, 6), 1, asked);
+    let refused = Answer::Refuses(0x8081_0000);
+    let next = (sequence.saturating_add(1), 6);
+    takes_chunk(&rt, alloc, &mut channel, b'C', next, 1, refused);
     has_ended(&rt, &mut channel);
 }
 
 // A message of chunks of 3, 0 and 2 octets: its parts are the first and the last.
 #[test]
 fn hands_a_message_out_in_its_parts(rt: HostRuntime) {
-    let mut channel = opened(&rt, rt.alloc(), 1_048_576);
-    let sequence = goes_on(&rt, rt.alloc(), &mut channel, (2, 2), &[3, 0]);
-    let octets = chunk(&rt, rt.alloc(), b'F', (sequence, 2), 2);
-    let (_, event) = channel
-        .take(octets.as_slice(), MOMENT)
-        .expect(&rt, "an event");
-    let ServerEvent::Asked(2, message) = event else {
-        panic!(rt; "a message");
-    };
-    let [first, last] = message.parts() else {
-        panic!(rt; "two parts");
-    };
-    assert_eq!(rt; (first.len(), last.len()), (3, 2));
+    let alloc = rt.alloc();
+    let mut channel = opened(&rt, alloc, 1_048_576);
+    let sequence = goes_on(&rt, alloc, &mut channel, (2, 2), &[3, 0]);
+    let expected = Answer::AsksInParts(2, 3, 2);
+    takes_chunk(&rt, alloc, &mut channel, b'F', (sequence, 2), 2, expected);
 }
 
 // A channel that holds 256 empty chunks of the request id 2, and the next sequence number.
@@ -726,20 +753,27 @@ fn full_of_empty_chunks(rt: &impl Abort, alloc: Global) -> (ServerChannel, u32) 
 fn counts_empty_chunks(rt: HostRuntime) {
     for flag in [b'C', b'F'] {
         let (mut channel, sequence) = full_of_empty_chunks(&rt, rt.alloc());
-        let octets = chunk(&rt, rt.alloc(), flag, (sequence, 2), 0);
-        let row = (octets.as_slice(), Answer::Refuses(0x80B8_0000));
-        takes(&rt, rt.alloc(), &mut channel, row);
+        let refused = Answer::Refuses(0x80B8_0000);
+        takes_chunk(
+            &rt,
+            rt.alloc(),
+            &mut channel,
+            flag,
+            (sequence, 2),
+            0,
+            refused,
+        );
     }
 }
 
 // The body of the abort is the StatusCode 0 and an empty Reason.
 #[test]
 fn takes_an_abort_behind_the_most_chunks(rt: HostRuntime) {
-    let (mut channel, sequence) = full_of_empty_chunks(&rt, rt.alloc());
-    let octets = chunk(&rt, rt.alloc(), b'A', (sequence, 2), 8);
-    let row = (octets.as_slice(), Answer::Aborts(2));
-    takes(&rt, rt.alloc(), &mut channel, row);
-    assert_eq!(rt; (channel.held(), channel.open_count()), (0, 0));
+    let alloc = rt.alloc();
+    let (mut channel, sequence) = full_of_empty_chunks(&rt, alloc);
+    let aborted = Answer::Aborts(2);
+    takes_chunk(&rt, alloc, &mut channel, b'A', (sequence, 2), 8, aborted);
+    assert!(rt; channel.held() == 0 && channel.open_count() == 0);
 }
 
 /// A message under the greatest request id of a call, and the reply to it.
@@ -752,9 +786,7 @@ const LAST_REPLY: &[u8] = b"MSGF\x19\0\0\0\x07\0\0\0\x01\0\0\0\x02\0\0\0\xFE\xFF
 
 #[test]
 fn takes_the_greatest_request_id_of_a_call(rt: HostRuntime) {
-    let mut channel = opened(&rt, rt.alloc(), 1_048_576);
-    takes(&rt, rt.alloc(), &mut channel, LAST_CALL);
-    replies(&rt, &mut channel, 4_294_967_294, &[0xEE], LAST_REPLY);
+    replies_behind(&rt, rt.alloc(), &[LAST_CALL], 4_294_967_294, LAST_REPLY);
 }
 
 #[test]
@@ -764,15 +796,17 @@ fn takes_messages_of_the_greatest_size(rt: HostRuntime) {
         (1, Answer::Refuses(0x80B8_0000)),
     ] {
         let mut channel = server(&rt, rt.alloc(), 16);
-        takes(
+        takes(&rt, &mut channel, (HEL, Answer::Sends(SHORT_ACK)));
+        takes(&rt, &mut channel, (OPN, Answer::Sends(OPENED)));
+        let sequence = goes_on(&rt, rt.alloc(), &mut channel, (2, 2), &[16]);
+        takes_chunk(
             &rt,
             rt.alloc(),
             &mut channel,
-            (HEL, Answer::Sends(SHORT_ACK)),
+            b'F',
+            (sequence, 2),
+            last,
+            answer,
         );
-        takes(&rt, rt.alloc(), &mut channel, (OPN, Answer::Sends(OPENED)));
-        let sequence = goes_on(&rt, rt.alloc(), &mut channel, (2, 2), &[16]);
-        let octets = chunk(&rt, rt.alloc(), b'F', (sequence, 2), last);
-        takes(&rt, rt.alloc(), &mut channel, (octets.as_slice(), answer));
     }
 }
