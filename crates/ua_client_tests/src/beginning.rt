@@ -1,15 +1,15 @@
 //! The beginning of a session.
 
-use crate::asking::token;
 use crate::frames::{ACK, HEL, OPN};
-use crate::lines::{AT_ONCE, Course, MOMENT, joined, line, opened};
+use crate::lines::{AT_ONCE, Course, joined};
 use crate::sessions::{
     ABORTED, ACK_OF_135, ACTIVATE, ACTIVATED, CLO_3, CLO_4, CLOSED, CLOSED_TO_THE_CREATION, CREATE,
     CREATED, CREATED_LONG, NOT_ACTIVATED, NOT_CREATED, OPENED, SIX, WRITTEN,
 };
+use crate::talking::{Step, talks};
 use std::alloc::Global;
 use std::process::Abort;
-use ua_builtin::{NodeId, StatusCode};
+use ua_builtin::StatusCode;
 use ua_client::ClientFault;
 
 // The frame of a response with this ServiceResult in place of its own.
@@ -23,15 +23,9 @@ fn with_result(rt: &impl Abort, alloc: Global, frame: &[u8], code: u32) -> Vec<u
 // That a client to which these frames come begins the session ns=2;i=1, and writes just the two requests
 // behind its opening.
 fn begins(rt: &impl Abort, alloc: Global, course: Course<'_>, coming: &[&[u8]]) {
-    let mut line = line(rt, alloc, joined(rt, alloc, coming), course);
-    let mut client = opened(rt, alloc, &mut line);
-    let found = client
-        .begin_session(&mut line, MOMENT)
-        .expect(rt, "a session");
-    assert_eq!(rt; found, token());
-    let octets = joined(rt, alloc, &[HEL, OPN, CREATE, ACTIVATE]);
-    assert_eq!(rt; octets.len(), 452);
-    assert_eq!(rt; line.written(), octets.as_slice());
+    let written: [&[u8]; 4] = [HEL, OPN, CREATE, ACTIVATE];
+    assert!(rt; joined(rt, alloc, &written).len() == 452);
+    talks(rt, alloc, course, coming, &[Step::Begin(Ok(()))], &written);
 }
 
 #[test]
@@ -54,17 +48,6 @@ fn takes_an_uncertain_result_for_good(rt: HostRuntime) {
     begins(&rt, alloc, AT_ONCE, &[ACK, OPENED, &created, &activated]);
 }
 
-// Why a session does not begin.
-fn fault_of(found: Result<NodeId, ClientFault>) -> Option<ClientFault> {
-    match found {
-        Ok(token) => {
-            drop(token);
-            None
-        }
-        Err(fault) => Some(fault),
-    }
-}
-
 // That a client to which these frames come does not begin a session, for this reason, still closes, and
 // has then written just these.
 fn goes_on(
@@ -74,13 +57,8 @@ fn goes_on(
     wanted: ClientFault,
     written: &[&[u8]],
 ) {
-    let mut line = line(rt, alloc, joined(rt, alloc, coming), AT_ONCE);
-    let mut client = opened(rt, alloc, &mut line);
-    let found = client.begin_session(&mut line, MOMENT);
-    assert_eq!(rt; fault_of(found), Some(wanted));
-    assert_eq!(rt; client.close(&mut line, MOMENT), Ok(()));
-    let octets = joined(rt, alloc, written);
-    assert_eq!(rt; line.written(), octets.as_slice());
+    let steps = [Step::Begin(Err(wanted)), Step::Close(Ok(()))];
+    talks(rt, alloc, AT_ONCE, coming, &steps, written);
 }
 
 // The reason with this code.
@@ -147,16 +125,13 @@ fn fails(
     wanted: ClientFault,
     written: &[&[u8]],
 ) {
-    let mut line = line(rt, alloc, joined(rt, alloc, coming), course);
-    let mut client = opened(rt, alloc, &mut line);
-    let found = client.begin_session(&mut line, MOMENT);
-    assert_eq!(rt; fault_of(found), Some(wanted));
-    let found = client.begin_session(&mut line, MOMENT);
-    assert_eq!(rt; fault_of(found), Some(ClientFault::Closed));
-    assert_eq!(rt; client.renew(&mut line, MOMENT), Err(ClientFault::Closed));
-    assert_eq!(rt; client.close(&mut line, MOMENT), Err(ClientFault::Closed));
-    let octets = joined(rt, alloc, written);
-    assert_eq!(rt; line.written(), octets.as_slice());
+    let steps = [
+        Step::Begin(Err(wanted)),
+        Step::Begin(Err(ClientFault::Closed)),
+        Step::Renew(Err(ClientFault::Closed)),
+        Step::Close(Err(ClientFault::Closed)),
+    ];
+    talks(rt, alloc, course, coming, &steps, written);
 }
 
 #[test]

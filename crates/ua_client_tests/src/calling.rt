@@ -1,59 +1,35 @@
 //! Calls of a session.
 
-use crate::asking::{
-    activate, answers, answers_a_group, close, create, create_long, read, refuses, token, write,
-};
+use crate::asking::Asked;
 use crate::frames::{ACK, ACK_OF_8192, HEL, OPN};
-use crate::lines::{AT_ONCE, Course, MOMENT, joined, line, opened};
+use crate::lines::{AT_ONCE, Course, joined};
 use crate::sessions::{
-    ACTIVATE, ACTIVATED, CLO, CLOSE, CLOSED, CREATE, CREATED, OPENED, READ, SIX, SIX_TO_THE_WRITE,
-    WRITE, WRITTEN,
+    ACTIVATE, ACTIVATED, CLO, CLOSE, CLOSED, CREATE, CREATED, OPENED, READ, SIX, SIX_FIRST,
+    SIX_TO_THE_WRITE, WRITE, WRITTEN, WRITTEN_SECOND,
 };
+use crate::talking::{Step, behind, talks};
 use std::alloc::Global;
 use std::process::Abort;
-use ua_channel::MemoryLine;
-use ua_client::{Client, ClientFault};
-use ua_services::Request;
+use ua_client::ClientFault;
 
-// That CreateSession and ActivateSession, called as other requests are, are answered.
-fn begins(rt: &impl Abort, alloc: Global, client: &mut Client, line: &mut MemoryLine) {
-    answers(rt, alloc, client, line, create(rt, alloc), CREATED);
-    answers(rt, alloc, client, line, activate(rt, alloc), ACTIVATED);
-}
+/// What comes to a client that begins a session, writes, reads and closes, and what it writes.
+const COMING: [&[u8]; 7] = [ACK, OPENED, CREATED, ACTIVATED, WRITTEN, SIX, CLOSED];
 
-// That a Write, a Read and CloseSession are answered.
-fn goes_on(rt: &impl Abort, alloc: Global, client: &mut Client, line: &mut MemoryLine) {
-    answers(rt, alloc, client, line, write(rt, alloc), WRITTEN);
-    answers_a_group(rt, alloc, client, line, read(rt, alloc), SIX);
-    answers(rt, alloc, client, line, close(), CLOSED);
-}
+const SENT: [&[u8]; 8] = [HEL, OPN, CREATE, ACTIVATE, WRITE, READ, CLOSE, CLO];
 
-// That a session begins.
-fn begins_session(rt: &impl Abort, client: &mut Client, line: &mut MemoryLine) {
-    let found = client.begin_session(line, MOMENT).expect(rt, "a session");
-    assert_eq!(rt; found, token());
-}
+const CALLS: [Step<'static>; 5] = [
+    Step::Begin(Ok(())),
+    Step::Call(Asked::Write, Ok(WRITTEN)),
+    Step::CallAll(&[Asked::Read], Ok(&[SIX])),
+    Step::Call(Asked::Close, Ok(CLOSED)),
+    Step::Close(Ok(())),
+];
 
 // The session over a line of this course, to which the server's 783 octets come, and what is written:
 // the client's 757.
 fn calls(rt: &impl Abort, alloc: Global, course: Course<'_>) {
-    let coming = joined(
-        rt,
-        alloc,
-        &[ACK, OPENED, CREATED, ACTIVATED, WRITTEN, SIX, CLOSED],
-    );
-    let mut line = line(rt, alloc, coming, course);
-    let mut client = opened(rt, alloc, &mut line);
-    begins_session(rt, &mut client, &mut line);
-    goes_on(rt, alloc, &mut client, &mut line);
-    assert_eq!(rt; client.close(&mut line, MOMENT), Ok(()));
-    let written = joined(
-        rt,
-        alloc,
-        &[HEL, OPN, CREATE, ACTIVATE, WRITE, READ, CLOSE, CLO],
-    );
-    assert_eq!(rt; written.len(), 757);
-    assert_eq!(rt; line.written(), written.as_slice());
+    assert!(rt; joined(rt, alloc, &SENT).len() == 757);
+    talks(rt, alloc, course, &COMING, &CALLS, &SENT);
 }
 
 #[test]
@@ -71,103 +47,82 @@ fn calls_by_seven_octets(rt: HostRuntime) {
     calls(&rt, rt.alloc(), (&[7], &[7], None, None));
 }
 
-// That a client is done behind a fault, and has written these frames.
-fn is_done(
-    rt: &impl Abort,
-    alloc: Global,
-    client: &mut Client,
-    line: &mut MemoryLine,
-    written: &[&[u8]],
-) {
-    refuses(rt, client, line, close(), ClientFault::Closed);
-    assert_eq!(rt; client.close(line, MOMENT), Err(ClientFault::Closed));
-    let octets = joined(rt, alloc, written);
-    assert_eq!(rt; line.written(), octets.as_slice());
+// A Write and a Read in one group. The answer to the Read comes first.
+#[test]
+fn hands_each_reply_of_a_group_to_its_request(rt: HostRuntime) {
+    talks(
+        &rt,
+        rt.alloc(),
+        AT_ONCE,
+        &[ACK, OPENED, CREATED, ACTIVATED, SIX_FIRST, WRITTEN_SECOND],
+        &[
+            Step::Begin(Ok(())),
+            Step::CallAll(&[Asked::Write, Asked::Read], Ok(&[WRITTEN, SIX])),
+        ],
+        &[HEL, OPN, CREATE, ACTIVATE, WRITE, READ],
+    );
 }
+
+/// CreateSession and ActivateSession, called as other requests are; a Write to which the answer is none,
+/// behind which the client is done.
+const UNKNOWN: [Step<'static>; 5] = [
+    Step::Call(Asked::Create, Ok(CREATED)),
+    Step::Call(Asked::Activate, Ok(ACTIVATED)),
+    Step::Call(Asked::Write, Err(ClientFault::UnknownResponse)),
+    Step::Call(Asked::Close, Err(ClientFault::Closed)),
+    Step::Close(Err(ClientFault::Closed)),
+];
 
 #[test]
 fn tells_a_response_of_another_kind(rt: HostRuntime) {
-    let alloc = rt.alloc();
-    let coming = joined(
+    talks(
         &rt,
-        alloc,
+        rt.alloc(),
+        AT_ONCE,
         &[ACK, OPENED, CREATED, ACTIVATED, SIX_TO_THE_WRITE],
-    );
-    let mut line = line(&rt, alloc, coming, AT_ONCE);
-    let mut client = opened(&rt, alloc, &mut line);
-    begins(&rt, alloc, &mut client, &mut line);
-    refuses(
-        &rt,
-        &mut client,
-        &mut line,
-        write(&rt, alloc),
-        ClientFault::UnknownResponse,
-    );
-    is_done(
-        &rt,
-        alloc,
-        &mut client,
-        &mut line,
+        &UNKNOWN,
         &[HEL, OPN, CREATE, ACTIVATE, WRITE],
     );
 }
 
 #[test]
 fn asks_nothing_for_no_requests(rt: HostRuntime) {
-    let alloc = rt.alloc();
-    let coming = joined(&rt, alloc, &[ACK, OPENED]);
-    let mut line = line(&rt, alloc, coming, AT_ONCE);
-    let mut client = opened(&rt, alloc, &mut line);
-    let replies = client
-        .call_all(&mut line, &[], MOMENT)
-        .expect(&rt, "replies");
-    assert_eq!(&rt; replies.len(), 0);
-    drop(replies);
-    let written = joined(&rt, alloc, &[HEL, OPN]);
-    assert_eq!(&rt; line.written(), written.as_slice());
+    talks(
+        &rt,
+        rt.alloc(),
+        AT_ONCE,
+        &[ACK, OPENED],
+        &[Step::CallAll(&[], Ok(&[]))],
+        &[HEL, OPN],
+    );
 }
 
-// The line behind a call of these requests to a server with this ACK, whose fourth write fails: the third
-// is the first behind those of the HEL and the OPN.
-fn behind_three_writes(
-    rt: &impl Abort,
-    alloc: Global,
-    ack: &[u8],
-    requests: Vec<Request>,
-) -> MemoryLine {
-    let coming = joined(rt, alloc, &[ack, OPENED]);
-    let mut line = line(rt, alloc, coming, (&[], &[], None, Some(4)));
-    let mut client = opened(rt, alloc, &mut line);
-    let found = client.call_all(&mut line, &requests, MOMENT);
-    drop(requests);
-    match found {
-        Ok(replies) => {
-            drop(replies);
-            assert!(rt; false);
-        }
-        Err(fault) => assert_eq!(rt; fault, ClientFault::Write),
-    }
-    line
-}
+// The fourth write fails: the third is the first behind those of the HEL and the OPN.
+const FOURTH_WRITE: Course<'static> = (&[], &[], None, Some(4));
 
 #[test]
 fn writes_each_request_of_a_group_by_itself(rt: HostRuntime) {
-    let alloc = rt.alloc();
-    let mut group = Vec::new(alloc);
-    group.push(create(&rt, alloc)).expect(&rt, "memory");
-    group.push(activate(&rt, alloc)).expect(&rt, "memory");
-    let line = behind_three_writes(&rt, alloc, ACK, group);
-    let written = joined(&rt, alloc, &[HEL, OPN, CREATE]);
-    assert_eq!(&rt; line.written(), written.as_slice());
+    let group = [Asked::Create, Asked::Activate];
+    talks(
+        &rt,
+        rt.alloc(),
+        FOURTH_WRITE,
+        &[ACK, OPENED],
+        &[Step::CallAll(&group, Err(ClientFault::Write))],
+        &[HEL, OPN, CREATE],
+    );
 }
 
 // The HEL has 56 octets, the OPN 132, and a chunk that is not the last as many as the server receives.
 #[test]
 fn writes_each_chunk_of_a_request_by_itself(rt: HostRuntime) {
-    let alloc = rt.alloc();
-    let mut group = Vec::new(alloc);
-    group.push(create_long(&rt, alloc)).expect(&rt, "memory");
-    let line = behind_three_writes(&rt, alloc, ACK_OF_8192, group);
-    assert_eq!(&rt; line.written().len(), 56 + 132 + 8192);
-    assert_eq!(&rt; line.written().get(188..196), Some(&b"MSGC\0\x20\0\0"[..]));
+    let line = behind(
+        &rt,
+        rt.alloc(),
+        FOURTH_WRITE,
+        &[ACK_OF_8192, OPENED],
+        &[Step::CallAll(&[Asked::CreateLong], Err(ClientFault::Write))],
+    );
+    assert!(&rt; line.written().len() == 56 + 132 + 8192);
+    assert!(&rt; line.written().get(188..196) == Some(&b"MSGC\0\x20\0\0"[..]));
 }

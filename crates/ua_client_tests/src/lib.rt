@@ -18,3 +18,5 @@ mod lines;
 mod renewing;
 #[cfg(test)]
 mod sessions;
+#[cfg(test)]
+mod talking;

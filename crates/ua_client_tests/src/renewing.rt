@@ -3,40 +3,30 @@
 use crate::frames::{
     ACK, CLO, CLO_RENEWED, ERR, HEL, OPENED, OPN, RENEWAL, RENEWED, RENEWED_ELSEWHERE,
 };
-use crate::lines::{AT_ONCE, Course, MOMENT, joined, line, opened};
+use crate::lines::{AT_ONCE, Course, joined, line, opened};
+use crate::talking::{Step, does, talks};
 use std::alloc::Global;
 use std::process::Abort;
 use ua_builtin::StatusCode;
 use ua_client::ClientFault;
 
-// That a client to which these frames come opens, closes, and writes just these.
-fn closes(
-    rt: &impl Abort,
-    alloc: Global,
-    course: Course<'_>,
-    renewals: usize,
-    coming: &[&[u8]],
-    written: &[&[u8]],
-) {
-    let mut line = line(rt, alloc, joined(rt, alloc, coming), course);
-    let mut client = opened(rt, alloc, &mut line);
-    for _ in 0..renewals {
-        assert_eq!(rt; client.renew(&mut line, MOMENT), Ok(()));
-    }
-    assert_eq!(rt; client.close(&mut line, MOMENT), Ok(()));
-    assert_eq!(rt; client.close(&mut line, MOMENT), Err(ClientFault::Closed));
-    let wanted = joined(rt, alloc, written);
-    assert_eq!(rt; line.written(), wanted.as_slice());
-}
+/// A close, alone and behind a renewal. The second one is refused.
+const CLOSES: [Step<'static>; 2] = [Step::Close(Ok(())), Step::Close(Err(ClientFault::Closed))];
+
+const RENEWS_AND_CLOSES: [Step<'static>; 3] = [
+    Step::Renew(Ok(())),
+    Step::Close(Ok(())),
+    Step::Close(Err(ClientFault::Closed)),
+];
 
 #[test]
 fn opens_and_closes(rt: HostRuntime) {
-    closes(
+    talks(
         &rt,
         rt.alloc(),
         AT_ONCE,
-        0,
         &[ACK, OPENED],
+        &CLOSES,
         &[HEL, OPN, CLO],
     );
 }
@@ -48,13 +38,12 @@ fn renews_over_a_line_of_any_pace(rt: HostRuntime) {
         (&[1usize][..], &[1usize][..]),
         (&[100][..], &[7][..]),
     ] {
-        let course = (reads, writes, None, None);
-        closes(
+        talks(
             &rt,
             rt.alloc(),
-            course,
-            1,
+            (reads, writes, None, None),
             &[ACK, OPENED, RENEWED],
+            &RENEWS_AND_CLOSES,
             &[HEL, OPN, RENEWAL, CLO_RENEWED],
         );
     }
@@ -70,13 +59,12 @@ fn fails(
     wanted: ClientFault,
     written: &[&[u8]],
 ) {
-    let mut line = line(rt, alloc, joined(rt, alloc, coming), course);
-    let mut client = opened(rt, alloc, &mut line);
-    assert_eq!(rt; client.renew(&mut line, MOMENT), Err(wanted));
-    assert_eq!(rt; client.renew(&mut line, MOMENT), Err(ClientFault::Closed));
-    assert_eq!(rt; client.close(&mut line, MOMENT), Err(ClientFault::Closed));
-    let octets = joined(rt, alloc, written);
-    assert_eq!(rt; line.written(), octets.as_slice());
+    let steps = [
+        Step::Renew(Err(wanted)),
+        Step::Renew(Err(ClientFault::Closed)),
+        Step::Close(Err(ClientFault::Closed)),
+    ];
+    talks(rt, alloc, course, coming, &steps, written);
 }
 
 #[test]
@@ -144,24 +132,27 @@ fn renewed(rt: &impl Abort, out: &mut Vec<u8>, request: u32, token: u32) {
     }
 }
 
+// What comes to a client that renews its token 15 times.
+fn renewals(rt: &impl Abort, alloc: Global) -> Vec<u8> {
+    let mut octets = joined(rt, alloc, &[ACK, OPENED]);
+    for token in 2..17u32 {
+        renewed(rt, &mut octets, token, token);
+    }
+    octets
+}
+
 // Tokens 1 to 16, of which the server has used none. A client that holds them still closes.
 #[test]
 fn holds_at_most_sixteen_tokens(rt: HostRuntime) {
     let alloc = rt.alloc();
-    let mut octets = joined(&rt, alloc, &[ACK, OPENED]);
-    for token in 2..17u32 {
-        renewed(&rt, &mut octets, token, token);
-    }
-    let mut line = line(&rt, alloc, octets, AT_ONCE);
+    let mut line = line(&rt, alloc, renewals(&rt, alloc), AT_ONCE);
     let mut client = opened(&rt, alloc, &mut line);
     for _ in 0..15 {
-        assert_eq!(rt; client.renew(&mut line, MOMENT), Ok(()));
+        does(&rt, alloc, &mut client, &mut line, Step::Renew(Ok(())));
     }
     let before = line.written().len();
-    assert_eq!(rt;
-        client.renew(&mut line, MOMENT),
-        Err(ClientFault::TooManyTokens)
-    );
-    assert_eq!(rt; line.written().len(), before);
-    assert_eq!(rt; client.close(&mut line, MOMENT), Ok(()));
+    let refused = Step::Renew(Err(ClientFault::TooManyTokens));
+    does(&rt, alloc, &mut client, &mut line, refused);
+    assert!(rt; line.written().len() == before);
+    does(&rt, alloc, &mut client, &mut line, Step::Close(Ok(())));
 }
