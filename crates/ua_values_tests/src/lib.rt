@@ -24,6 +24,8 @@ mod node_texts;
 #[cfg(test)]
 mod numbers;
 #[cfg(test)]
+mod onto;
+#[cfg(test)]
 mod packed;
 #[cfg(test)]
 mod reserved;

@@ -9,8 +9,8 @@ use ua_variant::{BoxedVariant, Dimensions, Scalar, Scalars, Variant};
 // The type id 26, which the standard reserves, and two octets.
 const RESERVED: [u8; 7] = [0x1A, 2, 0, 0, 0, 0xAB, 0xCD];
 
-// Whether a value has the type id 26 and the octets AB CD.
-fn is_reserved(value: &Variant) -> bool {
+/// Whether a value has the type id 26 and the octets AB CD.
+pub fn is_reserved(value: &Variant) -> bool {
     match value {
         Variant::One(Scalar::Reserved(26, octets)) => {
             octets.as_octets() == Some([0xAB, 0xCD].as_slice())

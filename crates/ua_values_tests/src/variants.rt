@@ -44,8 +44,8 @@ fn reads_measures_clones_and_writes(rt: HostRuntime) {
     reads::<Variant>(&rt, alloc, &flagged, (1, 2), &plain);
 }
 
-// The type ids of values that hold no further value, and an encoding of each.
-const LEAVES: [(u8, &[u8]); 22] = [
+/// The type ids of values that hold no further value, and an encoding of each.
+pub const LEAVES: [(u8, &[u8]); 22] = [
     (1, &[1]),
     (2, &[0xFE]),
     (3, &[0xFE]),
