@@ -2,6 +2,7 @@
 
 use crate::run::run;
 use std::alloc::Global;
+use std::io::Write;
 use std::net::Net;
 use std::process::Abort;
 use std::rt::Files;
@@ -43,6 +44,17 @@ pub fn front_with(
     octets
 }
 
+/// The status of `ua` on words, which writes here. Nothing is promised of it: what `run` promises of
+/// each call costs a test that makes several.
+pub fn status_of<R: Files + Net + Clock + AllocGlobal, O: Write, E: Write>(
+    rt: &R,
+    words: &[&str],
+    out: &mut O,
+    err: &mut E,
+) -> u8 {
+    run(rt, words, out, err)
+}
+
 /// Runs `ua` on words, and compares what it writes and its status.
 pub fn expect_run<R: Files + Net + Clock + AllocGlobal + Abort>(
     rt: &R,
@@ -53,7 +65,7 @@ pub fn expect_run<R: Files + Net + Clock + AllocGlobal + Abort>(
 ) -> Result<(), Fail> {
     let mut out = Vec::new(rt.alloc());
     let mut err = Vec::new(rt.alloc());
-    let got = run(rt, words, &mut out, &mut err);
+    let got = status_of(rt, words, &mut out, &mut err);
     assert_eq!(rt; out.as_slice(), want_out.as_bytes());
     assert_eq!(rt; err.as_slice(), want_err.as_bytes());
     assert_eq!(rt; got, status);

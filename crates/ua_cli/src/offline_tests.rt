@@ -1,6 +1,6 @@
 //! `ua loop` where there is no network: only `--tcp` needs one, behind all other faults.
 
-use crate::run::run;
+use crate::fixture::status_of;
 use std::alloc::Allocator;
 use std::fs::{Metadata, OpenOptions};
 use std::net::{Net, SocketAddr};
@@ -115,12 +115,12 @@ type Row = (
 );
 
 fn expect_row<R: Files + Net + Clock + AllocGlobal + Abort>(rt: &R, row: Row) -> Result<(), Fail> {
-    let (listens, script, words, want_out, want_err, status) = row;
+    let (listens, script, words, want_out, want_err, want_status) = row;
     fs::write(rt, "script.txt", script)?;
     let offline = Offline { rt, listens };
     let mut out = Vec::new(rt.alloc());
     let mut err = Vec::new(rt.alloc());
-    assert_eq!(rt; run(&offline, words, &mut out, &mut err), status);
+    assert_eq!(rt; status_of(&offline, words, &mut out, &mut err), want_status);
     assert_eq!(rt; out.as_slice(), want_out.as_bytes());
     assert_eq!(rt; err.as_slice(), want_err.as_bytes());
     Ok(())

@@ -1,8 +1,8 @@
 //! What `ua` prints, and its statuses: no clause speaks of them.
 
 use crate::arguments::{Task, parse};
-use crate::fixture::expect_run;
-use crate::run::{refuse_words, run};
+use crate::fixture::{expect_run, status_of};
+use crate::run::refuse_words;
 use std::io::Write;
 use std::net::{Net, OpenListener, TcpListener};
 use std::process::Abort;
@@ -310,8 +310,7 @@ fn refuses_words_that_do_not_parse(rt: HostRuntime) -> Result<(), Fail> {
     for words in rows {
         let mut out = Vec::new(rt.alloc());
         let mut err = Vec::new(rt.alloc());
-        let status = run(&rt, words, &mut out, &mut err);
-        assert_eq!(rt; status, 2);
+        assert_eq!(rt; status_of(&rt, words, &mut out, &mut err), 2);
         assert!(rt; out.is_empty());
         assert!(rt; !err.is_empty());
     }
@@ -339,26 +338,32 @@ fn fails_where_a_writer_fails(rt: HostRuntime) -> Result<(), Fail> {
     fs::write(&rt, "empty.bin", "")?;
     let words = ["ua", "dissect", "empty.bin"];
     let mut err = Vec::new(rt.alloc());
-    assert_eq!(rt; run(&rt, words.as_slice(), &mut Broken, &mut err), 1);
-    assert_eq!(rt; run(&rt, words.as_slice(), &mut Unflushed, &mut err), 1);
+    assert_eq!(rt; status_of(&rt, words.as_slice(), &mut Broken, &mut err), 1);
+    assert_eq!(rt;
+        status_of(&rt, words.as_slice(), &mut Unflushed, &mut err),
+        1
+    );
     for room in 0..6 {
         assert_eq!(rt;
-            run(&rt, words.as_slice(), &mut Short { room }, &mut err),
+            status_of(&rt, words.as_slice(), &mut Short { room }, &mut err),
             1
         );
     }
     assert_eq!(rt;
-        run(&rt, words.as_slice(), &mut Short { room: 6 }, &mut err),
+        status_of(&rt, words.as_slice(), &mut Short { room: 6 }, &mut err),
         0
     );
     assert!(rt; err.is_empty());
     let mut out = Vec::new(rt.alloc());
     for words in [["ua", "walk"], ["ua", "dissect"]] {
-        assert_eq!(rt; run(&rt, words.as_slice(), &mut out, &mut Broken), 1);
-        assert_eq!(rt; run(&rt, words.as_slice(), &mut out, &mut Unflushed), 1);
+        assert_eq!(rt; status_of(&rt, words.as_slice(), &mut out, &mut Broken), 1);
+        assert_eq!(rt;
+            status_of(&rt, words.as_slice(), &mut out, &mut Unflushed),
+            1
+        );
     }
     let words = ["ua", "dissect", "no such file"];
-    assert_eq!(rt; run(&rt, words.as_slice(), &mut out, &mut Broken), 1);
+    assert_eq!(rt; status_of(&rt, words.as_slice(), &mut out, &mut Broken), 1);
     assert!(rt; out.is_empty());
     Ok(())
 }
@@ -430,14 +435,20 @@ fn fails_where_a_writer_fails_behind_a_script_or_a_port(rt: HostRuntime) -> Resu
     )?;
     let words = ["ua", "loop", "nodes.txt", "script.txt"];
     let mut err = Vec::new(rt.alloc());
-    assert_eq!(rt; run(&rt, &words, &mut Broken, &mut err), 1);
-    assert_eq!(rt; run(&rt, &words, &mut Unflushed, &mut err), 1);
-    assert_eq!(rt; run(&rt, &words, &mut Short { room: 76 }, &mut err), 1);
-    assert_eq!(rt; run(&rt, &words, &mut Short { room: 77 }, &mut err), 0);
+    assert_eq!(rt; status_of(&rt, &words, &mut Broken, &mut err), 1);
+    assert_eq!(rt; status_of(&rt, &words, &mut Unflushed, &mut err), 1);
+    assert_eq!(rt;
+        status_of(&rt, &words, &mut Short { room: 76 }, &mut err),
+        1
+    );
+    assert_eq!(rt;
+        status_of(&rt, &words, &mut Short { room: 77 }, &mut err),
+        0
+    );
     let port = free_port(&rt)?;
     let words = ["ua", "serve", "nodes.txt", port.as_str()];
-    assert_eq!(rt; run(&rt, &words, &mut Broken, &mut err), 1);
-    assert_eq!(rt; run(&rt, &words, &mut Unflushed, &mut err), 1);
+    assert_eq!(rt; status_of(&rt, &words, &mut Broken, &mut err), 1);
+    assert_eq!(rt; status_of(&rt, &words, &mut Unflushed, &mut err), 1);
     assert!(rt; err.is_empty());
     Ok(())
 }

@@ -31,15 +31,15 @@ fn connected<R: Net + AllocGlobal + Abort>(
 
 /// What is printed of four connections. The client's messages name the channel 1.
 const LINES: &str =
-    "listening 4840\nconnection 1 Closed\nconnection 2 NoClose\nconnection 3 Refused 807F0000\nconnection 4 Cut\n";
+    "listening 4840\nconnection 1 Closed\nconnection 2 Cut\nconnection 3 NoClose\nconnection 4 Refused 807F0000\n";
 
 #[test]
 fn serves_connections_one_after_the_other(rt: HostRuntime) -> Result<(), Fail> {
     let listener = TcpListener::bind(&rt, "127.0.0.1:0")?;
     let mut whole = connected(&rt, &listener, 757)?;
+    let _cut = connected(&rt, &listener, 100)?;
     let mut opened = connected(&rt, &listener, 188)?;
     let _foreign = connected(&rt, &listener, 690)?;
-    let _cut = connected(&rt, &listener, 100)?;
     let mut served = services(rt.alloc(), NODES, 4840).expect(&rt, "services");
     let asked = Serve {
         nodes: "nodes.txt",
@@ -54,11 +54,12 @@ fn serves_connections_one_after_the_other(rt: HostRuntime) -> Result<(), Fail> {
     let mut answer = Vec::new(rt.alloc());
     whole.read_to_end(&mut answer)?;
     assert_eq!(rt; answer.len(), 783);
-    // The second channel has the id 2: behind the ACK, in the header of the OPN response.
+    // One that was cut off in its OPN stops nobody: the third is served, and its channel has the id 3,
+    // behind the ACK in the header of the OPN response.
     let mut answer = Vec::new(rt.alloc());
     opened.read_to_end(&mut answer)?;
     assert_eq!(rt; answer.len(), 163);
-    assert_eq!(rt; answer.get(36..40), Some(b"\x02\0\0\0".as_slice()));
+    assert_eq!(rt; answer.get(36..40), Some(b"\x03\0\0\0".as_slice()));
     Ok(())
 }
 
