@@ -60,6 +60,9 @@ pub fn services(rt: &impl Abort, alloc: Global) -> Services {
     )
 }
 
+/// The lines of a request, and those of the response to it.
+pub type Turn<'a> = (&'a [&'a str], &'a [&'a str]);
+
 /// The body of the response to the request with this body.
 pub fn answer(rt: &impl Abort, alloc: Global, services: &mut Services, request: &[u8]) -> Vec<u8> {
     services
@@ -67,24 +70,38 @@ pub fn answer(rt: &impl Abort, alloc: Global, services: &mut Services, request: 
         .expect(rt, "memory")
 }
 
-/// A request, and the response to it.
-pub fn turn(
-    rt: &impl Abort,
-    alloc: Global,
-    services: &mut Services,
-    request: &[&str],
-    response: &[&str],
-) {
-    let said = answer(rt, alloc, services, &octets(rt, alloc, request));
-    let want = octets(rt, alloc, response);
-    assert_eq!(rt; said, want);
+/// Requests one behind the other, and the response to each.
+pub fn course(rt: &impl Abort, alloc: Global, services: &mut Services, turns: &[Turn]) {
+    for (place, (request, response)) in turns.iter().enumerate() {
+        let said = answer(rt, alloc, services, &octets(rt, alloc, request));
+        let want = octets(rt, alloc, response);
+        assert_eq!(rt; said, want, "turn {place}");
+    }
+}
+
+/// Turns with services of their own.
+pub fn runs(rt: &impl Abort, alloc: Global, turns: &[Turn]) {
+    let mut services = services(rt, alloc);
+    course(rt, alloc, &mut services, turns);
+}
+
+/// Services in which the first session is activated.
+pub fn activated(rt: &impl Abort, alloc: Global) -> Services {
+    let mut services = services(rt, alloc);
+    course(
+        rt,
+        alloc,
+        &mut services,
+        &[(CREATE, FIRST), (ACTIVATE, ACTIVATED)],
+    );
+    services
 }
 
 // ---- requests
 
 // Behind the token: moment, RequestHandle 2, no diagnostics, no audit entry, no timeout hint, nothing
 // added.
-const ASKING: &str =
+pub const ASKING: &str =
     "00 80 3E D5 DE B1 9D 01 02 00 00 00 00 00 00 00 FF FF FF FF 00 00 00 00 00 00 00";
 
 pub const CREATE: &[&str] = &[
@@ -108,47 +125,35 @@ pub const ACTIVATE: &[&str] = &[
     "FF FF FF FF FF FF FF FF", // signature
 ];
 
-/// An ActivateSession under this token, by this identity.
-pub fn activate<'a>(token: &'a str, identity: &'a str) -> [&'a str; 7] {
-    [
-        "01 00 D3 01",
-        token,
-        ASKING,
-        "FF FF FF FF FF FF FF FF",
-        "FF FF FF FF FF FF FF FF",
-        identity,
-        "FF FF FF FF FF FF FF FF",
-    ]
-}
+/// An ActivateSession: behind it stand its token, `ASKING`, `NULLS` (signature), `NULLS`
+/// (certificates, locales), its identity and `NULLS` (signature).
+pub const ACTIVATE_SESSION: &str = "01 00 D3 01";
 
-/// A CloseSession under this token.
-pub fn close(token: &str) -> [&str; 4] {
-    ["01 00 D9 01", token, ASKING, "00"]
-}
+/// A CloseSession: behind it stand its token, `ASKING` and `KEEPING`.
+pub const CLOSE: &str = "01 00 D9 01";
 
-/// A Read under this token, of this MaxAge, of these times and items.
-pub fn read<'a>(token: &'a str, age: &'a str, times: &'a str, items: &'a str) -> [&'a str; 6] {
-    ["01 00 77 02", token, ASKING, age, times, items]
-}
+/// Subscriptions are kept.
+pub const KEEPING: &str = "00";
 
-/// A Write under this token, of these items.
-pub fn write<'a>(token: &'a str, items: &'a str) -> [&'a str; 4] {
-    ["01 00 A1 02", token, ASKING, items]
-}
+/// A Read: behind it stand its token, `ASKING`, its MaxAge, times and items.
+pub const READ: &str = "01 00 77 02";
 
-/// A GetEndpoints for these profiles.
-pub fn endpoints(profiles: &str) -> [&str; 5] {
-    [
-        "01 00 AC 01",
-        "00 00",
-        ASKING,
-        "FF FF FF FF FF FF FF FF",
-        profiles,
-    ]
-}
+/// A Write: behind it stand its token, `ASKING` and its items.
+pub const WRITE: &str = "01 00 A1 02";
 
-/// The token of the first session.
+/// A GetEndpoints: behind it stand `NO_TOKEN`, `ASKING`, `NULLS` and its profiles.
+pub const GET_ENDPOINTS: &str = "01 00 AC 01";
+
+/// No token.
+pub const NO_TOKEN: &str = "00 00";
+
+/// Two nulls.
+pub const NULLS: &str = "FF FF FF FF FF FF FF FF";
+
+/// The token of the first session, and that of the second.
 pub const TOKEN: &str = "01 02 01 00";
+
+pub const OTHER: &str = "01 02 02 00";
 
 /// Any age, both times.
 pub const NOW: &str = "00 00 00 00 00 00 00 00";
@@ -164,33 +169,41 @@ pub const PUMP: &str =
 /// Moment, RequestHandle 2, Good, and nulls.
 pub const GOOD: &str = "00 80 3E D5 DE B1 9D 01 02 00 00 00 00 00 00 00 00 FF FF FF FF 00 00 00";
 
-/// A ServiceFault of this code.
-pub fn fault(code: &str) -> [&str; 4] {
-    [
-        "01 00 8D 01 00 80 3E D5 DE B1 9D 01",
-        "02 00 00 00",
-        code,
-        "00 FF FF FF FF 00 00 00",
-    ]
-}
+/// A ServiceFault, at the moment: behind it stand `HANDLE`, its code and `FAULT_END`.
+pub const FAULT: &str = "01 00 8D 01 00 80 3E D5 DE B1 9D 01";
+
+/// RequestHandle 2.
+pub const HANDLE: &str = "02 00 00 00";
+
+/// Behind the code of a fault: nulls.
+pub const FAULT_END: &str = "00 FF FF FF FF 00 00 00";
 
 /// The one endpoint.
 pub const ENDPOINT: &str =
     "01 00 00 00 18 00 00 00 'opc.tcp://localhost:4840' 0D 00 00 00 'urn:ua:server' FF FF FF FF 02 02 00 00 00 'ua' 00 00 00 00 FF FF FF FF FF FF FF FF 01 00 00 00 18 00 00 00 'opc.tcp://localhost:4840' FF FF FF FF 01 00 00 00 2F 00 00 00 'http://opcfoundation.org/UA/SecurityPolicy#None' 01 00 00 00 09 00 00 00 'anonymous' 00 00 00 00 FF FF FF FF FF FF FF FF FF FF FF FF 41 00 00 00 'http://opcfoundation.org/UA-Profile/Transport/uatcp-uasc-uabinary' 00";
 
-/// A session with this id and token.
-pub fn session<'a>(id: &'a str, token: &'a str) -> [&'a str; 8] {
-    [
-        "01 00 D0 01",
-        GOOD,
-        id,
-        token,
-        "00 00 00 00 00 4C FD 40 FF FF FF FF FF FF FF FF",
-        ENDPOINT,
-        "FF FF FF FF FF FF FF FF FF FF FF FF", // certificates, signature
-        "00 00 10 00", // most octets of a request
-    ]
-}
+/// The first session and the second, each with its id and its token.
+pub const FIRST: &[&str] = &[
+    "01 00 D0 01",
+    GOOD,
+    "01 01 01 00",
+    TOKEN,
+    "00 00 00 00 00 4C FD 40 FF FF FF FF FF FF FF FF",
+    ENDPOINT,
+    "FF FF FF FF FF FF FF FF FF FF FF FF", // certificates, signature
+    "00 00 10 00", // most octets of a request
+];
+
+pub const SECOND: &[&str] = &[
+    "01 00 D0 01",
+    GOOD,
+    "01 01 02 00",
+    OTHER,
+    "00 00 00 00 00 4C FD 40 FF FF FF FF FF FF FF FF",
+    ENDPOINT,
+    "FF FF FF FF FF FF FF FF FF FF FF FF", // certificates, signature
+    "00 00 10 00", // most octets of a request
+];
 
 /// A session that is activated, and one that is closed.
 pub const ACTIVATED: &[&str] = &["01 00 D6 01", GOOD, "FF FF FF FF FF FF FF FF FF FF FF FF"];

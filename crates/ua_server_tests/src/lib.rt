@@ -7,6 +7,8 @@
 #[cfg(test)]
 mod answers;
 #[cfg(test)]
+mod chunks;
+#[cfg(test)]
 mod endpoints;
 #[cfg(test)]
 mod fixture;
