@@ -280,29 +280,30 @@ block_within w n h l = Prim.grind (arith, common_steps)
 -- ---- rows of scalars that are not packed
 
 -- no scalar where one is owed
+pub element_stops : {Y : Type 0} (w : Y → ScalarsData) (p : Reader ScalarData) (ss : List Scalar) (count counter : ℕ) (start old new : List ℕ) (e : ReadFault) → counter < count → GivesBy scalar_of p old new (Err e)
+    → with_front (map scalar_of ss) (row_at (count - counter) p old) ≡ row_at count p start → GivesBy w (row_at count p) start new (Err e)
+element_stops w p ss count counter start old new NoValue lt none so_far = sym so_far ∙ row_stops p (map scalar_of ss) (count - counter) (count - (counter + 1)) old (omega arith) none
+element_stops w p ss count counter start old new OutOfMemory lt none so_far = tt
+
 pub records_stop : (k : ℕ) (ss : List Scalar) (count counter : ℕ) (start old new : List ℕ) (e : ReadFault) → counter < count → GivesBy scalar_of (leaves_at k) old new (Err e)
     → with_front (map scalar_of ss) (row_at (count - counter) (leaves_at k) old) ≡ row_at count (leaves_at k) start → GivesBy (λ (v : Vec Scalar Global). row (map scalar_of v.items)) (leaf_row_at count k) start new (Err e)
 unfolding leaf_row_at
-records_stop k ss count counter start old new NoValue lt none so_far = sym so_far ∙ row_stops (leaves_at k) (map scalar_of ss) (count - counter) (count - (counter + 1)) old (omega arith) none
-records_stop k ss count counter start old new OutOfMemory lt none so_far = tt
+records_stop k ss count counter start old new e lt none so_far = element_stops (λ (v : Vec Scalar Global). row (map scalar_of v.items)) (leaves_at k) ss count counter start old new e lt none so_far
 
 -- at any level, such scalars are read alike
-record_apart : (k : ℕ) → k ≤ 22 → holds_values k ≡ false
-record_apart k h = Prim.grind (arith, common_steps)
-
-record_at : (n k : ℕ) (octets : List ℕ) → k ≤ 22 → scalars_at n k octets ≡ leaves_at k octets
+record_at : (n k : ℕ) (octets : List ℕ) → holds_values k ≡ false → scalars_at n k octets ≡ leaves_at k octets
 unfolding scalar_at
 record_at n k octets h =
     ap (λ b. cond b (cond (eqb k 23) (data_value_at n octets >>= λ x. Some (data_value x.0, x.1)) (
     cond (eqb k 24) (variant_at n octets >>= λ x. Some (variant x.0, x.1)) (
-    diagnostic_at n octets >>= λ x. Some (diagnostic x.0, x.1)))) (leaves_at k octets)) (record_apart k h)
+    diagnostic_at n octets >>= λ x. Some (diagnostic x.0, x.1)))) (leaves_at k octets)) h
 
-pub row_records : (n k m : ℕ) (octets : List ℕ) → k ≤ 22 → row_at m (scalars_at n k) octets ≡ leaf_row_at m k octets
+pub row_records : (n k m : ℕ) (octets : List ℕ) → holds_values k ≡ false → row_at m (scalars_at n k) octets ≡ leaf_row_at m k octets
 unfolding leaf_row_at
 row_records n k m octets h = row_same (scalars_at n k) (leaves_at k) (λ o. record_at n k o h) m octets
 
-pub records_end : (n k m : ℕ) (octets : List ℕ) → k ≤ 22 → leaf_row_at m k octets ≡ None → row_at m (scalars_at n k) octets ≡ None
+pub records_end : (n k m : ℕ) (octets : List ℕ) → holds_values k ≡ false → leaf_row_at m k octets ≡ None → row_at m (scalars_at n k) octets ≡ None
 records_end n k m octets h none = row_records n k m octets h ∙ none
 
-pub records_are : (n k m : ℕ) (octets new : List ℕ) {ss ts : List ScalarData} → k ≤ 22 → leaf_row_at m k octets ≡ Some (row ss, new) → ts ≡ ss → row_at m (scalars_at n k) octets ≡ Some (row ts, new)
+pub records_are : (n k m : ℕ) (octets new : List ℕ) {ss ts : List ScalarData} → holds_values k ≡ false → leaf_row_at m k octets ≡ Some (row ss, new) → ts ≡ ss → row_at m (scalars_at n k) octets ≡ Some (row ts, new)
 records_are n k m octets new h e is = row_records n k m octets h ∙ e ∙ ap (λ (l : List ScalarData). Some (row l, new)) (sym is)

@@ -18,7 +18,9 @@ use crate::fields::read_data_fields;
 use crate::leaf::{read_as, read_boxed_as};
 use crate::least::least_octets;
 use crate::masks;
-use crate::records::{MOST_RESERVED, read_records};
+use crate::records::{
+    MOST_RESERVED, read_boxed_diagnostic, read_diagnostic_row, read_records, read_reserved,
+};
 use crate::values::{
     BoxedDataValue, BoxedVariant, DataValue, HeldVariant, Scalar, Scalars, Variant,
 };
@@ -28,7 +30,7 @@ use ua_builtin::{
     QualifiedName, ReadFault, Source, StatusCode, UaBytes, UaString, Wire, XmlElement,
 };
 use ua_octets::FIRST_NEGATIVE;
-use ua_parts::{BoxedDiagnostic, read_diagnostic, read_dims, read_no_dims};
+use ua_parts::{read_dims, read_no_dims};
 
 /// Reads a scalar that holds no further value.
 #[inline(always)]
@@ -87,18 +89,6 @@ fn read_record<S: Source>(alloc: Global, src: &mut S, kind: u8) -> Result<Scalar
         21 => read_boxed_as::<LocalizedText, S>(alloc, src),
         _ => read_boxed_as::<ExtensionObject, S>(alloc, src),
     }
-}
-
-/// Reads octets under a reserved type id.
-#[tactic(auto, using(crate::proofs::Leaves::reserved_reads))]
-fn read_reserved<S: Source>(alloc: Global, src: &mut S, kind: u8) -> Result<Scalar, ReadFault>
-    requires low { 26 ≤ kind }
-    requires high { kind ≤ 31 }
-    ensures exact { GivesBy scalar_of (image_read leaf (leaf_at kind)) (S.octets src.old) (S.octets src.new) result }
-    ensures behind { StaysBehind (S.octets src.old) (S.octets src.new) }
-{
-    let octets = UaBytes::read_value(alloc, src, 0)?;
-    Ok(Scalar::Reserved(kind, octets))
 }
 
 /// Reads a Variant of at most so many levels.
@@ -185,6 +175,7 @@ fn read_array<S: Source>(
     flagged: bool,
 ) -> Result<Variant, ReadFault>
     requires levels { depth ≤ most_levels }
+    requires read { read_kind kind ≡ true }
     ensures exact { GivesBy variant_of (array_at (scalars_at depth) kind flagged) (S.octets src.old) (S.octets src.new) result }
     ensures behind { StaysBehind (S.octets src.old) (S.octets src.new) }
     ensures long { IsOverlongRow kind (S.octets src.old) → IsErrOf result NoValue }
@@ -216,6 +207,7 @@ fn read_elements<S: Source>(
     count: u32,
 ) -> Result<Variant, ReadFault>
     requires levels { depth ≤ most_levels }
+    requires read { read_kind kind ≡ true }
     requires count { count < first_negative }
     ensures exact { GivesBy variant_of (elements_at (scalars_at depth) kind flagged count) (S.octets src.old) (S.octets src.new) result }
     ensures behind { StaysBehind (S.octets src.old) (S.octets src.new) }
@@ -239,19 +231,58 @@ fn read_row<S: Source>(
     count: u32,
 ) -> Result<Scalars, ReadFault>
     requires levels { depth ≤ most_levels }
+    requires read { read_kind kind ≡ true }
     ensures exact { GivesBy (λ ss. row ss) (row_at count (scalars_at depth kind)) (S.octets src.old) (S.octets src.new) result }
     ensures behind { StaysBehind (S.octets src.old) (S.octets src.new) }
 {
     if is_packed(kind) {
         return Ok(Scalars::packed(read_packed(alloc, src, kind, count)?));
     }
-    if 12 <= kind && kind <= 22 {
-        return Ok(Scalars::new(read_records(alloc, src, kind, count)?));
+    match kind {
+        23 => read_data_value_row(alloc, src, depth, count),
+        24 => read_variant_row(alloc, src, depth, count),
+        25 => read_diagnostic_row(alloc, src, depth, count),
+        _ => Ok(Scalars::new(read_records(alloc, src, kind, count)?)),
     }
+}
+
+/// Reads so many DataValues as scalars, with so many levels left within.
+#[cycle(variants)]
+fn read_data_value_row<S: Source>(
+    alloc: Global,
+    src: &mut S,
+    depth: u32,
+    count: u32,
+) -> Result<Scalars, ReadFault>
+    requires levels { depth ≤ most_levels }
+    ensures exact { GivesBy (λ ss. row ss) (row_at count (scalars_at depth 23)) (S.octets src.old) (S.octets src.new) result }
+    ensures behind { StaysBehind (S.octets src.old) (S.octets src.new) }
+{
     let mut items = Vec::with_capacity(alloc, (count as usize).min(MOST_RESERVED))?;
     for _ in 0..count {
         items.reserve(1)?;
-        let item = read_scalar(alloc, src, depth, kind)?;
+        let item = read_boxed_data_value(alloc, src, depth)?;
+        items.push_reserved(item);
+    }
+    Ok(Scalars::new(items))
+}
+
+/// Reads so many Variants as scalars, with so many levels left within.
+#[cycle(variants)]
+fn read_variant_row<S: Source>(
+    alloc: Global,
+    src: &mut S,
+    depth: u32,
+    count: u32,
+) -> Result<Scalars, ReadFault>
+    requires levels { depth ≤ most_levels }
+    ensures exact { GivesBy (λ ss. row ss) (row_at count (scalars_at depth 24)) (S.octets src.old) (S.octets src.new) result }
+    ensures behind { StaysBehind (S.octets src.old) (S.octets src.new) }
+{
+    let mut items = Vec::with_capacity(alloc, (count as usize).min(MOST_RESERVED))?;
+    for _ in 0..count {
+        items.reserve(1)?;
+        let item = read_boxed_variant(alloc, src, depth)?;
         items.push_reserved(item);
     }
     Ok(Scalars::new(items))
@@ -272,41 +303,45 @@ fn read_scalar<S: Source>(
     ensures behind { StaysBehind (S.octets src.old) (S.octets src.new) }
 {
     match kind {
-        23..=25 => read_nested(alloc, src, depth, kind),
+        23 => read_boxed_data_value(alloc, src, depth),
+        24 => read_boxed_variant(alloc, src, depth),
+        25 => read_boxed_diagnostic(alloc, src, depth),
         _ => read_leaf(alloc, src, kind),
     }
 }
 
-/// Reads a DataValue, a Variant or a DiagnosticInfo, with so many levels left within.
+/// Reads a DataValue as a scalar, with so many levels left within.
 #[cycle(variants)]
 #[inline(never)]
 #[tactic(auto, unfolding(crate::specs::Decoding::scalar_at))]
-fn read_nested<S: Source>(
+fn read_boxed_data_value<S: Source>(
     alloc: Global,
     src: &mut S,
     depth: u32,
-    kind: u8,
 ) -> Result<Scalar, ReadFault>
     requires levels { depth ≤ most_levels }
-    requires low { 23 ≤ kind }
-    requires high { kind ≤ 25 }
-    ensures exact { GivesBy scalar_of (scalars_at depth kind) (S.octets src.old) (S.octets src.new) result }
+    ensures exact { GivesBy scalar_of (scalars_at depth 23) (S.octets src.old) (S.octets src.new) result }
     ensures behind { StaysBehind (S.octets src.old) (S.octets src.new) }
 {
-    match kind {
-        23 => {
-            let value = read_data_value(alloc, src, depth)?;
-            Ok(Scalar::DataValue(BoxedDataValue::new(alloc, value)?))
-        }
-        24 => {
-            let value = read_variant(alloc, src, depth)?;
-            Ok(Scalar::Variant(BoxedVariant::new(alloc, value)?))
-        }
-        _ => {
-            let value = read_diagnostic(alloc, src, depth)?;
-            Ok(Scalar::DiagnosticInfo(BoxedDiagnostic::new(alloc, value)?))
-        }
-    }
+    let value = read_data_value(alloc, src, depth)?;
+    Ok(Scalar::DataValue(BoxedDataValue::new(alloc, value)?))
+}
+
+/// Reads a Variant as a scalar, with so many levels left within.
+#[cycle(variants)]
+#[inline(never)]
+#[tactic(auto, unfolding(crate::specs::Decoding::scalar_at))]
+fn read_boxed_variant<S: Source>(
+    alloc: Global,
+    src: &mut S,
+    depth: u32,
+) -> Result<Scalar, ReadFault>
+    requires levels { depth ≤ most_levels }
+    ensures exact { GivesBy scalar_of (scalars_at depth 24) (S.octets src.old) (S.octets src.new) result }
+    ensures behind { StaysBehind (S.octets src.old) (S.octets src.new) }
+{
+    let value = read_variant(alloc, src, depth)?;
+    Ok(Scalar::Variant(BoxedVariant::new(alloc, value)?))
 }
 
 /// Reads a DataValue of at most so many levels.

@@ -1,24 +1,29 @@
 //! Reads arrays of texts, octets, ids and objects as scalars, one loop for each type.
 
-ghost use Rattle.std.specs.Prelude.{◌≡◌, ◌≤◌, map};
-ghost use Rattle.ua_builtin.specs.Format.{GivesBy, StaysBehind};
+ghost use Rattle.std.specs.Prelude.{◌≡◌, ◌≤◌, map, false};
+ghost use Rattle.ua_builtin.specs.Exact.{image_read};
+ghost use Rattle.ua_builtin.specs.Format.{most_levels, GivesBy, StaysBehind};
 ghost use Rattle.ua_variant.specs.Blocks.{leaf_row_at};
+ghost use Rattle.ua_variant.specs.Data.{leaf};
+ghost use Rattle.ua_variant.specs.Decoding.{row_at, scalar_at, scalars_at};
+ghost use Rattle.ua_variant.specs.Leaf.{holds_values, leaf_at};
 ghost use Rattle.ua_variant.specs.View.{row, scalar_of};
 
 use crate::leaf::{BoxedLeaf, HeldLeaf, read_as, read_boxed_as};
-use crate::values::Scalar;
+use crate::values::{Scalar, Scalars};
 use std::alloc::Global;
 use ua_builtin::{
     DateTime, ExpandedNodeId, ExtensionObject, Guid, LocalizedText, NodeId, QualifiedName,
-    ReadFault, Source, StatusCode, UaBytes, UaString, XmlElement,
+    ReadFault, Source, StatusCode, UaBytes, UaString, Wire, XmlElement,
 };
+use ua_parts::{BoxedDiagnostic, read_diagnostic};
 
 /// For so many elements room is made at once; a longer array grows by what was read, so that
 /// nested arrays with false counts ask for room of so many elements a level, and for no more than a
 /// multiple of the octets that were read.
 pub const MOST_RESERVED: usize = 64;
 
-/// Reads so many scalars of a type id from String's to ExtensionObject's.
+/// Reads so many scalars of a type id from String's to ExtensionObject's, or of a reserved one.
 pub fn read_records<S: Source>(
     alloc: Global,
     src: &mut S,
@@ -26,7 +31,8 @@ pub fn read_records<S: Source>(
     count: u32,
 ) -> Result<Vec<Scalar>, ReadFault>
     requires low { 12 ≤ kind }
-    requires high { kind ≤ 22 }
+    requires high { kind ≤ 31 }
+    requires leaf { holds_values kind ≡ false }
     ensures exact { GivesBy (λ v. row (map scalar_of v.items)) (leaf_row_at count kind) (S.octets src.old) (S.octets src.new) result }
     ensures behind { StaysBehind (S.octets src.old) (S.octets src.new) }
 {
@@ -41,7 +47,8 @@ pub fn read_records<S: Source>(
         19 => read_held_row::<StatusCode, S>(alloc, src, count),
         20 => read_held_row::<QualifiedName, S>(alloc, src, count),
         21 => read_boxed_row::<LocalizedText, S>(alloc, src, count),
-        _ => read_boxed_row::<ExtensionObject, S>(alloc, src, count),
+        22 => read_boxed_row::<ExtensionObject, S>(alloc, src, count),
+        _ => read_reserved_row(alloc, src, kind, count),
     }
 }
 
@@ -79,4 +86,72 @@ fn read_boxed_row<T: BoxedLeaf, S: Source>(
         items.push_reserved(item);
     }
     Ok(items)
+}
+
+/// Reads so many scalars of a reserved type id.
+fn read_reserved_row<S: Source>(
+    alloc: Global,
+    src: &mut S,
+    kind: u8,
+    count: u32,
+) -> Result<Vec<Scalar>, ReadFault>
+    requires low { 26 ≤ kind }
+    requires high { kind ≤ 31 }
+    ensures exact { GivesBy (λ v. row (map scalar_of v.items)) (leaf_row_at count kind) (S.octets src.old) (S.octets src.new) result }
+    ensures behind { StaysBehind (S.octets src.old) (S.octets src.new) }
+{
+    let mut items = Vec::with_capacity(alloc, (count as usize).min(MOST_RESERVED))?;
+    for _ in 0..count {
+        items.reserve(1)?;
+        let item = read_reserved(alloc, src, kind)?;
+        items.push_reserved(item);
+    }
+    Ok(items)
+}
+
+/// Reads octets under a reserved type id.
+#[tactic(auto, using(crate::proofs::Leaves::reserved_reads))]
+pub fn read_reserved<S: Source>(alloc: Global, src: &mut S, kind: u8) -> Result<Scalar, ReadFault>
+    requires low { 26 ≤ kind }
+    requires high { kind ≤ 31 }
+    ensures exact { GivesBy scalar_of (image_read leaf (leaf_at kind)) (S.octets src.old) (S.octets src.new) result }
+    ensures behind { StaysBehind (S.octets src.old) (S.octets src.new) }
+{
+    let octets = UaBytes::read_value(alloc, src, 0)?;
+    Ok(Scalar::Reserved(kind, octets))
+}
+
+/// Reads so many DiagnosticInfos as scalars, with so many levels left within.
+pub fn read_diagnostic_row<S: Source>(
+    alloc: Global,
+    src: &mut S,
+    depth: u32,
+    count: u32,
+) -> Result<Scalars, ReadFault>
+    requires levels { depth ≤ most_levels }
+    ensures exact { GivesBy (λ ss. row ss) (row_at count (scalars_at depth 25)) (S.octets src.old) (S.octets src.new) result }
+    ensures behind { StaysBehind (S.octets src.old) (S.octets src.new) }
+{
+    let mut items = Vec::with_capacity(alloc, (count as usize).min(MOST_RESERVED))?;
+    for _ in 0..count {
+        items.reserve(1)?;
+        let item = read_boxed_diagnostic(alloc, src, depth)?;
+        items.push_reserved(item);
+    }
+    Ok(Scalars::new(items))
+}
+
+/// Reads a DiagnosticInfo as a scalar, with so many levels left within.
+#[tactic(auto, unfolding(crate::specs::Decoding::scalar_at))]
+pub fn read_boxed_diagnostic<S: Source>(
+    alloc: Global,
+    src: &mut S,
+    depth: u32,
+) -> Result<Scalar, ReadFault>
+    requires levels { depth ≤ most_levels }
+    ensures exact { GivesBy scalar_of (scalars_at depth 25) (S.octets src.old) (S.octets src.new) result }
+    ensures behind { StaysBehind (S.octets src.old) (S.octets src.new) }
+{
+    let value = read_diagnostic(alloc, src, depth)?;
+    Ok(Scalar::DiagnosticInfo(BoxedDiagnostic::new(alloc, value)?))
 }

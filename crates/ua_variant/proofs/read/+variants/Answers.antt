@@ -1,4 +1,4 @@
-use Rattle.std.proofs.Common.{◌-◌, List, [], ◌∷◌, ◌++◌, Vec, Global, map, sym, ap, ◌∙◌, arith}
+use Rattle.std.proofs.Common.{◌≡◌, ◌-◌, false, rules, List, [], ◌∷◌, ◌++◌, Vec, Global, map, sym, ap, ◌∙◌, arith}
 use Rattle.std.proofs.lemmas.Result.{err_from_is_err_and}
 use Rattle.ua_variant.specs.Data.{ScalarData, leaf}
 use Rattle.ua_variant.specs.Packed.{packed_leaves}
@@ -10,7 +10,8 @@ use Rattle.ua_variant.proofs.VariantsRead.{variant_none, variant_level, data_val
 use Rattle.ua_parts.proofs.Extents.{gives_same}
 use Rattle.ua_variant.proofs.Loops.{row_so_far, row_done, array_short}
 use Rattle.ua_variant.specs.Blocks.{leaf_row_at}
-use Rattle.ua_variant.proofs.BlocksRead.{leaves_at, leaf_stops, packed_ends, packed_is, records_end, records_are, fault_ends}
+use Rattle.ua_variant.specs.Leaf.{holds_values}
+use Rattle.ua_variant.proofs.BlocksRead.{leaves_at, element_stops, packed_ends, packed_is, records_end, records_are, fault_ends}
 use Rattle.ua_variant.proofs.read.+variants.Goals as goal
 
 pub read_variant-returns-then-depth-eq0-clause-exact : goal.read_variant-returns-then-depth-eq0-clause-exact
@@ -40,35 +41,49 @@ read_row-returns-then-is_packed-clause-exact g t c =
     let new = g.S.Source.octets c.read_packed.new.src in
     packed_is c.args.depth c.args.kind c.args.count (g.S.Source.octets c.args.src.now) new (sym c.is_packed.ensures ∙ c.if-is_packed.true) c.in_ok-read_packed.ensures.exact c.packed.ensures
 
-pub read_row-returns-in_err-read_records-clause-exact : goal.read_row-returns-in_err-read_records-clause-exact
-read_row-returns-in_err-read_records-clause-exact g t c =
-    let fault = err_from_is_err_and c.from_residual-in_err-read_records.result c.from_residual-in_err-read_records.ensures.1 in
+pub read_row-returns-in_err-read_records-in_default-clause-exact : goal.read_row-returns-in_err-read_records-in_default-clause-exact
+read_row-returns-in_err-read_records-in_default-clause-exact g t c =
+    let fault = err_from_is_err_and c.from_residual-in_err-read_records-in_default.result c.from_residual-in_err-read_records-in_default.ensures.1 in
     let new = g.S.Source.octets c.read_records.new.src in
-    rw (fault.1, fault.2) (fault_ends (λ (v : Vec Scalar Global). row (map scalar_of v.items)) (λ (ss : List ScalarData). row ss) (leaf_row_at c.args.count c.args.kind) (row_at c.args.count (scalars_at c.args.depth c.args.kind)) (g.S.Source.octets c.args.src.now) new (g.S.Source.octets c.args.src.now) new c.in_err-read_records.field-0.0
-    (records_end c.args.depth c.args.kind c.args.count (g.S.Source.octets c.args.src.now) (omega arith)) c.in_err-read_records.ensures.exact)
+    let apart : holds_values c.args.kind ≡ false = search rules in
+    rw (fault.1, fault.2) (fault_ends (λ (v : Vec Scalar Global). row (map scalar_of v.items)) (λ (ss : List ScalarData). row ss) (leaf_row_at c.args.count c.args.kind) (row_at c.args.count (scalars_at c.args.depth c.args.kind)) (g.S.Source.octets c.args.src.now) new (g.S.Source.octets c.args.src.now) new c.in_err-read_records-in_default.field-0.0
+    (records_end c.args.depth c.args.kind c.args.count (g.S.Source.octets c.args.src.now) apart) c.in_err-read_records-in_default.ensures.exact)
 
-pub read_row-returns-then-kind-le22-clause-exact : goal.read_row-returns-then-kind-le22-clause-exact
-read_row-returns-then-kind-le22-clause-exact g t c =
+pub read_row-returns-in_ok-read_records-in_default-clause-exact : goal.read_row-returns-in_ok-read_records-in_default-clause-exact
+read_row-returns-in_ok-read_records-in_default-clause-exact g t c =
     let new = g.S.Source.octets c.read_records.new.src in
-    records_are c.args.depth c.args.kind c.args.count (g.S.Source.octets c.args.src.now) new (omega arith) c.in_ok-read_records.ensures.exact c.new.ensures
+    let apart : holds_values c.args.kind ≡ false = search rules in
+    records_are c.args.depth c.args.kind c.args.count (g.S.Source.octets c.args.src.now) new apart c.in_ok-read_records-in_default.ensures.exact c.new.ensures
 
-pub read_row-returns-in_err-item-clause-exact : goal.read_row-returns-in_err-item-clause-exact
-read_row-returns-in_err-item-clause-exact g t c =
+pub read_data_value_row-returns-in_err-item-clause-exact : goal.read_data_value_row-returns-in_err-item-clause-exact
+read_data_value_row-returns-in_err-item-clause-exact g t c =
     let fault = err_from_is_err_and c.from_residual-in_err-item.result c.from_residual-in_err-item.ensures.1 in
-    let p = scalars_at c.args.depth c.args.kind in
-    let new = g.S.Source.octets c.read_scalar.new.src in
-    rw (fault.1, fault.2) (fault_ends scalar_of (λ (ss : List ScalarData). row ss) p (row_at c.args.count p) (g.S.Source.octets c.loop.src) new (g.S.Source.octets c.args.src.now) new c.in_err-item.field-0.0
-    (λ none. leaf_stops p (map scalar_of c.loop.items.items) c.args.count c.loop.counter (g.S.Source.octets c.loop.src) (row_at c.args.count p (g.S.Source.octets c.args.src.now)) (omega arith) none c.loop.invariant.so_far) c.in_err-item.ensures.exact)
+    rw (fault.1, fault.2) (element_stops (λ (ss : List ScalarData). row ss) (scalars_at c.args.depth 23) c.loop.items.items c.args.count c.loop.counter (g.S.Source.octets c.args.src.now) (g.S.Source.octets c.loop.src) (g.S.Source.octets c.read_boxed_data_value.new.src) c.in_err-item.field-0.0 (omega arith) c.in_err-item.ensures.exact c.loop.invariant.so_far)
 
-pub read_row-loop-preserved : goal.read_row-loop-preserved
-read_row-loop-preserved g t c = record {
-  so_far = row_so_far (scalars_at c.args.depth c.args.kind) c.loop.items.items c.in_ok-item.item c.args.count c.loop.counter (g.S.Source.octets c.args.src.now) (g.S.Source.octets c.loop.src) (g.S.Source.octets c.read_scalar.new.src) (omega arith) (c.push_reserved.ensures.items ∙ ap (λ (xs : List Scalar). xs ++ c.in_ok-item.item ∷ []) c.reserve.ensures.items) c.in_ok-item.ensures.exact c.loop.invariant.so_far;
+pub read_data_value_row-loop-preserved : goal.read_data_value_row-loop-preserved
+read_data_value_row-loop-preserved g t c = record {
+  so_far = row_so_far (scalars_at c.args.depth 23) c.loop.items.items c.in_ok-item.item c.args.count c.loop.counter (g.S.Source.octets c.args.src.now) (g.S.Source.octets c.loop.src) (g.S.Source.octets c.read_boxed_data_value.new.src) (omega arith) (c.push_reserved.ensures.items ∙ ap (λ (xs : List Scalar). xs ++ c.in_ok-item.item ∷ []) c.reserve.ensures.items) c.in_ok-item.ensures.exact c.loop.invariant.so_far;
   behind = λ start h. c.in_ok-item.ensures.behind start (c.loop.invariant.behind start h);
 }
 
-pub read_row-returns-clause-exact : goal.read_row-returns-clause-exact
-read_row-returns-clause-exact g t c =
-    row_done (scalars_at c.args.depth c.args.kind) (map scalar_of c.loop.items.items) c.args.count (c.args.count - c.loop.counter) (g.S.Source.octets c.args.src.now) (g.S.Source.octets c.loop.src) c.loop.invariant.so_far (omega arith) c.new-2.ensures
+pub read_data_value_row-returns-clause-exact : goal.read_data_value_row-returns-clause-exact
+read_data_value_row-returns-clause-exact g t c =
+    row_done (scalars_at c.args.depth 23) (map scalar_of c.loop.items.items) c.args.count (c.args.count - c.loop.counter) (g.S.Source.octets c.args.src.now) (g.S.Source.octets c.loop.src) c.loop.invariant.so_far (omega arith) c.new.ensures
+
+pub read_variant_row-returns-in_err-item-clause-exact : goal.read_variant_row-returns-in_err-item-clause-exact
+read_variant_row-returns-in_err-item-clause-exact g t c =
+    let fault = err_from_is_err_and c.from_residual-in_err-item.result c.from_residual-in_err-item.ensures.1 in
+    rw (fault.1, fault.2) (element_stops (λ (ss : List ScalarData). row ss) (scalars_at c.args.depth 24) c.loop.items.items c.args.count c.loop.counter (g.S.Source.octets c.args.src.now) (g.S.Source.octets c.loop.src) (g.S.Source.octets c.read_boxed_variant.new.src) c.in_err-item.field-0.0 (omega arith) c.in_err-item.ensures.exact c.loop.invariant.so_far)
+
+pub read_variant_row-loop-preserved : goal.read_variant_row-loop-preserved
+read_variant_row-loop-preserved g t c = record {
+  so_far = row_so_far (scalars_at c.args.depth 24) c.loop.items.items c.in_ok-item.item c.args.count c.loop.counter (g.S.Source.octets c.args.src.now) (g.S.Source.octets c.loop.src) (g.S.Source.octets c.read_boxed_variant.new.src) (omega arith) (c.push_reserved.ensures.items ∙ ap (λ (xs : List Scalar). xs ++ c.in_ok-item.item ∷ []) c.reserve.ensures.items) c.in_ok-item.ensures.exact c.loop.invariant.so_far;
+  behind = λ start h. c.in_ok-item.ensures.behind start (c.loop.invariant.behind start h);
+}
+
+pub read_variant_row-returns-clause-exact : goal.read_variant_row-returns-clause-exact
+read_variant_row-returns-clause-exact g t c =
+    row_done (scalars_at c.args.depth 24) (map scalar_of c.loop.items.items) c.args.count (c.args.count - c.loop.counter) (g.S.Source.octets c.args.src.now) (g.S.Source.octets c.loop.src) c.loop.invariant.so_far (omega arith) c.new.ensures
 
 pub read_array-returns-then-room-count-clause-exact : goal.read_array-returns-then-room-count-clause-exact
 read_array-returns-then-room-count-clause-exact g t c =

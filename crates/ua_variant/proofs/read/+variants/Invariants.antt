@@ -6,40 +6,55 @@ use Rattle.ua_variant.specs.Blocks.{with_front}
 use Rattle.ua_variant.proofs.read.+variants.Given as goal
 
 abbrev pub decreases-read_variant : goal.decreases-read_variant
-decreases-read_variant g l = 8 * l.depth + 1
+decreases-read_variant g l = 10 * l.depth + 1
 
 abbrev pub decreases-read_variant_level : goal.decreases-read_variant_level
-decreases-read_variant_level g l = 8 * l.depth + 8
+decreases-read_variant_level g l = 10 * l.depth + 10
 
 abbrev pub decreases-read_tagged : goal.decreases-read_tagged
-decreases-read_tagged g l = 8 * l.depth + 7
+decreases-read_tagged g l = 10 * l.depth + 9
 
 abbrev pub decreases-read_array : goal.decreases-read_array
-decreases-read_array g l = 8 * l.depth + 6
+decreases-read_array g l = 10 * l.depth + 8
 
 abbrev pub decreases-read_elements : goal.decreases-read_elements
-decreases-read_elements g l = 8 * l.depth + 5
+decreases-read_elements g l = 10 * l.depth + 7
 
 abbrev pub decreases-read_row : goal.decreases-read_row
-decreases-read_row g l = 8 * l.depth + 4
+decreases-read_row g l = 10 * l.depth + 6
 
 abbrev pub decreases-read_scalar : goal.decreases-read_scalar
-decreases-read_scalar g l = 8 * l.depth + 3
+decreases-read_scalar g l = 10 * l.depth + 5
+
+abbrev pub decreases-read_data_value_row : goal.decreases-read_data_value_row
+decreases-read_data_value_row g l = 10 * l.depth + 4
+
+abbrev pub decreases-read_variant_row : goal.decreases-read_variant_row
+decreases-read_variant_row g l = 10 * l.depth + 4
+
+abbrev pub decreases-read_boxed_data_value : goal.decreases-read_boxed_data_value
+decreases-read_boxed_data_value g l = 10 * l.depth + 3
+
+abbrev pub decreases-read_boxed_variant : goal.decreases-read_boxed_variant
+decreases-read_boxed_variant g l = 10 * l.depth + 3
 
 abbrev pub decreases-read_held : goal.decreases-read_held
-decreases-read_held g l = 8 * l.depth + 2
-
-abbrev pub decreases-read_nested : goal.decreases-read_nested
-decreases-read_nested g l = 8 * l.depth + 2
+decreases-read_held g l = 10 * l.depth + 2
 
 abbrev pub decreases-read_data_value : goal.decreases-read_data_value
-decreases-read_data_value g l = 8 * l.depth + 1
+decreases-read_data_value g l = 10 * l.depth + 2
 
 abbrev pub decreases-read_data_value_level : goal.decreases-read_data_value_level
-decreases-read_data_value_level g l = 8 * l.depth + 7
+decreases-read_data_value_level g l = 10 * l.depth + 9
 
-abbrev pub invariant-read_row-loop : goal.invariant-read_row-loop
-invariant-read_row-loop g l = record {
-  so_far : with_front (map scalar_of l.items.items) (row_at (l.count - l.counter) (scalars_at l.depth l.kind) (g.S.Source.octets l.src)) ≡ row_at l.count (scalars_at l.depth l.kind) (g.S.Source.octets l.fn.src);
+abbrev pub invariant-read_data_value_row-loop : goal.invariant-read_data_value_row-loop
+invariant-read_data_value_row-loop g l = record {
+  so_far : with_front (map scalar_of l.items.items) (row_at (l.count - l.counter) (scalars_at l.depth 23) (g.S.Source.octets l.src)) ≡ row_at l.count (scalars_at l.depth 23) (g.S.Source.octets l.fn.src);
+  behind : StaysBehind (g.S.Source.octets l.fn.src) (g.S.Source.octets l.src);
+}
+
+abbrev pub invariant-read_variant_row-loop : goal.invariant-read_variant_row-loop
+invariant-read_variant_row-loop g l = record {
+  so_far : with_front (map scalar_of l.items.items) (row_at (l.count - l.counter) (scalars_at l.depth 24) (g.S.Source.octets l.src)) ≡ row_at l.count (scalars_at l.depth 24) (g.S.Source.octets l.fn.src);
   behind : StaysBehind (g.S.Source.octets l.fn.src) (g.S.Source.octets l.src);
 }
