@@ -25,7 +25,7 @@ loop-line-preserved c =
     let read : is_read (strip_carriage_return c.in-Some.line.now) ≡ true = search rules in
     let asks = rw c.without_return-line.ensures at c.in-Ok.ensures in (
       (let long = length_push at.yielded c.in-Some.line in let was = at.invariant.0 in omega arith),
-      subst (λ (steps : List ScriptLine). StepsOf c.args.text.now (at.number + 1) steps) (sym c.in_ok-push-in-Ok.ensures.items)
+      subst (λ (steps : List ScriptLine). StepsOf c.args.text.now (at.number + 1) steps) (sym {A = List ScriptLine} c.in_ok-push-in-Ok.ensures.items)
           (turn_step c.args.text.now at.number (length at.yielded) c.in-Some.line.now at.steps.items c.in-Ok.step at.invariant.0 t read at.invariant.1 asks),
     )
 

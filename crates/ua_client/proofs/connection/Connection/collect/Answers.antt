@@ -35,14 +35,15 @@ returns-in_err-place_reply-clause-collects g c =
 pub returns-in_err-place_reply-clause-failed : goal.returns-in_err-place_reply-clause-failed
 returns-in_err-place_reply-clause-failed g c =
     let p = err_from_is_err_and c.from_residual-in_err-place_reply.result c.from_residual-in_err-place_reply.ensures.1 in
-    rw (p.1, p.2) (c.in_ok-event.ensures.failed ∙ (c.loop-alloc.invariant.same ∙ sym (reading-failures c.in_err-place_reply.field-0.0 c.in_err-place_reply.ensures.faults (g.L.Line.failures c.args.line.now))))
+    rw (p.1, p.2) (◌∙◌ {b = g.L.Line.failures c.loop-alloc.line} c.in_ok-event.ensures.failed (◌∙◌ {b = g.L.Line.failures c.args.line.now} c.loop-alloc.invariant.same
+    (sym (reading-failures c.in_err-place_reply.field-0.0 c.in_err-place_reply.ensures.faults (g.L.Line.failures c.args.line.now)))))
 
 pub loop-alloc-preserved : goal.loop-alloc-preserved
 loop-alloc-preserved g c = record {
   waits = waits-more c.args.requests.now c.args.first c.args.self.now c.loop-alloc.self c.hear.new.self (g.L.Line.traffic c.args.line.now) (g.L.Line.traffic c.loop-alloc.line) (g.L.Line.traffic c.hear.new.line)
       c.args.reads.now c.loop-alloc.reads c.hear.new.reads c.loop-alloc.slots.items c.args.moment c.loop-alloc.invariant.waits c.in_ok-event.event c.in_ok-event.ensures.hears c.client_goes_on.ensures c.calls_are_told_once.ensures
       c.place_reply.new.slots.items c.in_ok-place_reply.ensures.count c.in_ok-place_reply.ensures.fills;
-  same = c.in_ok-event.ensures.failed ∙ c.loop-alloc.invariant.same;
+  same = ◌∙◌ {b = g.L.Line.failures c.loop-alloc.line} c.in_ok-event.ensures.failed c.loop-alloc.invariant.same;
 }
 
 pub loop-alloc-smaller : goal.loop-alloc-smaller

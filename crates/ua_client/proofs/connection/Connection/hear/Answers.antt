@@ -23,8 +23,8 @@ returns-in_err-event-clause-hears g c =
 pub returns-in_err-event-clause-failed : goal.returns-in_err-event-clause-failed
 returns-in_err-event-clause-failed g c =
     let p = err_from_is_err_and c.from_residual-in_err-event.result c.from_residual-in_err-event.ensures.1 in
-    rw (p.1, p.2) (c.in_ok-fill.ensures.failed ∙ (c.loop-self.invariant.same
-    ∙ sym (channel-failures ClientEvent c.in_err-event.field-0.0 c.in_err-event.ensures.listens.faults (g.L.Line.failures c.args.line.now))))
+    rw (p.1, p.2) (◌∙◌ {b = g.L.Line.failures c.loop-self.line} c.in_ok-fill.ensures.failed (◌∙◌ {b = g.L.Line.failures c.args.line.now} c.loop-self.invariant.same
+    (sym (channel-failures ClientEvent c.in_err-event.field-0.0 c.in_err-event.ensures.listens.faults (g.L.Line.failures c.args.line.now)))))
 
 pub returns-in-Some-clause-hears : goal.returns-in-Some-clause-hears
 returns-in-Some-clause-hears g c =
@@ -37,7 +37,7 @@ loop-self-preserved g c = record {
   quiet = quiet-then c.args.self.now c.loop-self.self c.fill.new.self (g.L.Line.traffic c.args.line.now) (g.L.Line.traffic c.loop-self.line) (g.L.Line.traffic c.fill.new.line)
       c.args.reads.now c.loop-self.reads c.fill.new.reads c.loop-self.invariant.quiet c.in_ok-fill.field-0 c.in_ok-fill.ensures.fills c.listen.new.self c.args.moment
       (subst (λ (o : Option ClientEvent). Listens c.fill.new.self c.listen.new.self c.args.moment (Ok o)) (none-of c.in_ok-event.field-0 c.in_default.not-Some) c.in_ok-event.ensures.listens);
-  same = c.in_ok-fill.ensures.failed ∙ c.loop-self.invariant.same;
+  same = ◌∙◌ {b = g.L.Line.failures c.loop-self.line} c.in_ok-fill.ensures.failed c.loop-self.invariant.same;
 }
 
 pub loop-self-smaller : goal.loop-self-smaller
