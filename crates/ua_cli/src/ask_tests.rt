@@ -1,14 +1,13 @@
 //! What `ua endpoints`, `ua read` and `ua write` ask, and what they print of the answers.
 
-use crate::fault::Fault;
 use crate::fixture::{front_with, moments};
-use crate::serve::limits;
 use std::alloc::Global;
 use std::process::Abort;
 use ua_asking::{AskFault, Question, ask_over, endpoints_over};
 use ua_builtin::StatusCode;
 use ua_channel::MemoryLine;
 use ua_client::ClientFault;
+use ua_commands::{Fault, limits};
 use ua_streams::{CLIENT_STREAM, SERVER_STREAM};
 
 /// A Write of the Int32 6 to ns=1;s=Pump, the first that is asked in a session.

@@ -1,8 +1,6 @@
 //! A client over a connection in which the server has said all before.
 
 use crate::fixture::{MOMENT, front_with, joined};
-use crate::serve::limits;
-use crate::tcp_line::TcpLine;
 use std::alloc::Global;
 use std::io::{Read, Write};
 use std::net::{Net, OpenListener, TcpListener, TcpStream};
@@ -12,6 +10,7 @@ use std::test::Fail;
 use ua_builtin::Octets;
 use ua_channel::Line;
 use ua_client::Client;
+use ua_commands::{TcpLine, limits};
 use ua_requests::local_url;
 use ua_services::{Request, read_request};
 use ua_streams::{CLIENT_STREAM, RENEWED_END, RENEWING_END, SERVER_STREAM};

@@ -1,6 +1,5 @@
 //! Runs of the program, octets in parts, and moments.
 
-use crate::run::run;
 use std::alloc::Global;
 use std::io::Write;
 use std::net::Net;
@@ -10,6 +9,7 @@ use std::test::Fail;
 use std::time::Clock;
 use ua_builtin::DateTime;
 use ua_channel::ListMoments;
+use ua_commands::run;
 
 /// 1970-01-01, at which all is said.
 pub const MOMENT: DateTime = DateTime {

@@ -2,14 +2,13 @@
 
 ghost use Rattle.std.specs.Prelude.{◌≤◌, IfOk};
 
-use crate::clock_moments::ClockMoments;
-use crate::tcp_line::TcpLine;
 use std::io;
 use std::io::{Read, Write};
 use std::net::{TcpListener, TcpStream};
 use std::test::Fail;
 use std::time::{Clock, Duration};
 use ua_channel::{Line, LineFault, Moments};
+use ua_commands::{ClockMoments, TcpLine};
 
 #[test]
 fn a_line_carries_octets_over_a_connection(rt: HostRuntime) -> Result<(), Fail> {

@@ -1,14 +1,13 @@
 //! What `ua serve` answers and prints, and what it refuses.
 
 use crate::fixture::{joined, moments};
-use crate::serve::{serve_line, services};
-use crate::tcp_line::TcpLine;
 use std::alloc::Global;
 use std::io::{Read, Write};
 use std::net::{TcpListener, TcpStream};
 use std::process::Abort;
 use std::test::Fail;
 use ua_channel::MemoryLine;
+use ua_commands::{TcpLine, serve_line, services};
 use ua_streams::{CLIENT_STREAM, SERVER_STREAM};
 
 const NODES: &str = "ns=1;s=Pump\trw\tPump\tInt32\t5\n";

@@ -1,8 +1,6 @@
 //! What `ua` prints, and its statuses: no clause speaks of them.
 
-use crate::arguments::{Task, parse};
 use crate::fixture::{expect_run, status_of};
-use crate::run::refuse_words;
 use std::io::Write;
 use std::net::{Net, OpenListener, TcpListener};
 use std::process::Abort;
@@ -10,6 +8,7 @@ use std::rt::Files;
 use std::test::Fail;
 use std::time::Clock;
 use std::{fs, io};
+use ua_commands::{Task, parse, refuse_words};
 
 /// The HEL of a client that takes 65535 octets each way, to `opc.tcp://localhost:4840`.
 const HELLO: [u8; 56] = [

@@ -1,6 +1,0 @@
-pub mod Digits
-pub mod Moment
-pub mod Refused
-pub mod Served
-pub mod Looped
-pub mod Printed

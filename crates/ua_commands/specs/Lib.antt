@@ -1,0 +1,7 @@
+pub mod Digits
+pub mod Lines
+pub mod Moment
+pub mod Refused
+pub mod Served
+pub mod Looped
+pub mod Printed

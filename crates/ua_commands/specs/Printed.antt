@@ -1,0 +1,51 @@
+-- What the program prints of a file, and what a run leaves on a stream.
+use Rattle.std.specs.Prelude.{◌⊎◌, ℕ, Bool, List, Option}
+use Rattle.std.specs.Io.KnownBytes.{Appends}
+use Rattle.ua_pair.specs.declared.side.Side.{Side}
+use Rattle.ua_pair.specs.Dissected.{AreLines}
+use Rattle.ua_asking.specs.Printed.{AreAnswerLines}
+use Rattle.ua_commands.specs.Digits.{HoldsOctets}
+use Rattle.ua_commands.specs.Looped.{HasLoopedSome}
+use Rattle.ua_commands.specs.Served.{HasServed}
+
+-- the text is the lines of the octets of this side that a file with this content holds, with `--hex` or without
+pub record AreLinesOf (hex : Bool) (side : Side) (content text : List ℕ) : Type 0 where
+  pub octets : List ℕ
+  pub holds : HoldsOctets hex content octets
+  pub lines : AreLines side octets text
+
+-- the text is the lines of some octets of one side
+pub record AreSomeLines (text : List ℕ) : Type 0 where
+  pub side : Side
+  pub octets : List ℕ
+  pub lines : AreLines side octets text
+
+-- a writer that held the old octets then holds the lines of some octets behind them
+pub record HasDissected (old new : Option (List ℕ)) : Type 0 where
+  pub text : List ℕ
+  pub lines : AreSomeLines text
+  pub added : Appends old new text
+
+-- a writer that held the old octets then holds behind them a text of which this holds
+pub record HasAdded (Is : List ℕ → Type 0) (old new : Option (List ℕ)) : Type 0 where
+  pub text : List ℕ
+  pub is : Is text
+  pub added : Appends old new text
+
+-- such a writer then holds behind them the lines of the answers of a server
+abbrev pub HasAnswered : Option (List ℕ) → Option (List ℕ) → Type 0
+HasAnswered old new = HasAdded AreAnswerLines old new
+
+-- a writer that held the old octets then holds behind them the first lines of `ua serve` on some port
+pub record HasBegunServing (old new : Option (List ℕ)) : Type 0 where
+  pub port : ℕ
+  pub connections : ℕ
+  pub lines : HasServed port connections old new
+
+-- what a run may add that then meets a fault: the first lines of `ua serve`, lines of answers, or those of a script
+abbrev pub HasBegun : Option (List ℕ) → Option (List ℕ) → Type 0
+HasBegun old new = HasBegunServing old new ⊎ HasAnswered old new ⊎ HasLoopedSome old new
+
+-- what a run adds that does what its words ask for
+abbrev pub HasPrinted : Option (List ℕ) → Option (List ℕ) → Type 0
+HasPrinted old new = HasDissected old new ⊎ HasBegun old new

@@ -1,0 +1,103 @@
+//! `ua endpoints`, `ua read` and `ua write`: what the server on a port of this machine is asked.
+
+ghost use Rattle.std.specs.Prelude.{◌≡◌, ◌⊎◌, OnOk, IfErr};
+ghost use Rattle.ua_commands.specs.Printed.{HasAnswered};
+ghost use Rattle.ua_commands.specs.declared.output.Stop.TheVariants.{Output};
+
+use crate::arguments::{ReadNodes, WriteNode};
+use crate::clock_moments::ClockMoments;
+use crate::fault::Fault;
+use crate::output::{Stop, say_lines};
+use crate::serve::limits;
+use crate::tcp_line::{TcpLine, without_delay};
+use std::alloc::Global;
+use std::io::Write;
+use std::net::{Ipv4Addr, Net, TcpStream};
+use std::time::Clock;
+use ua_asking::{Question, ask_over, endpoints_over};
+
+/// A line to the server on a port of this machine.
+fn connect<'a, R: Net>(rt: &R, port: u16) -> Result<TcpLine<R::Stream>, Fault<'a>> {
+    match TcpStream::connect(rt, (Ipv4Addr::LOCALHOST, port)) {
+        Ok(stream) => Ok(TcpLine::new(without_delay(stream))),
+        Err(_) => Err(Fault::CannotConnect),
+    }
+}
+
+/// Prints the endpoints of the server on a port of this machine.
+pub fn endpoints<'a, R: Net + Clock + AllocGlobal, O: Write>(
+    rt: &R,
+    port: u16,
+    out: &mut O,
+) -> Result<(), Stop<'a>>
+    ensures answered { OnOk result (HasAnswered (O.contents out.old) (O.contents out.new)) }
+    ensures stopped { IfErr result (λ stop. (stop ≡ Output) ⊎ (out.new ≡ out.old) ⊎ HasAnswered (O.contents out.old) (O.contents out.new)) }
+{
+    let mut line = connect(rt, port)?;
+    let mut moments = ClockMoments::new(rt);
+    let mut text = String::new(rt.alloc());
+    let asked = endpoints_over(
+        rt.alloc(),
+        &mut line,
+        limits(),
+        port,
+        &mut moments,
+        &mut text,
+    );
+    drop(line);
+    say_lines(out, &text)?;
+    Ok(asked?)
+}
+
+/// Asks the server on a port of this machine a question, and prints the answers.
+fn ask<'a, R: Net + Clock + AllocGlobal, O: Write>(
+    rt: &R,
+    port: u16,
+    question: &Question,
+    out: &mut O,
+) -> Result<(), Stop<'a>>
+    ensures answered { OnOk result (HasAnswered (O.contents out.old) (O.contents out.new)) }
+    ensures stopped { IfErr result (λ stop. (stop ≡ Output) ⊎ (out.new ≡ out.old) ⊎ HasAnswered (O.contents out.old) (O.contents out.new)) }
+{
+    let mut line = connect(rt, port)?;
+    let mut moments = ClockMoments::new(rt);
+    let mut text = String::new(rt.alloc());
+    let asked = ask_over(
+        rt.alloc(),
+        &mut line,
+        limits(),
+        port,
+        question,
+        &mut moments,
+        &mut text,
+    );
+    drop(line);
+    say_lines(out, &text)?;
+    Ok(asked?)
+}
+
+/// Prints the Values of nodes of the server on a port of this machine.
+pub fn read<'a, R: Net + Clock + AllocGlobal, O: Write>(
+    rt: &R,
+    asked: &ReadNodes<'a>,
+    out: &mut O,
+) -> Result<(), Stop<'a>>
+    ensures answered { OnOk result (HasAnswered (O.contents out.old) (O.contents out.new)) }
+    ensures stopped { IfErr result (λ stop. (stop ≡ Output) ⊎ (out.new ≡ out.old) ⊎ HasAnswered (O.contents out.old) (O.contents out.new)) }
+{
+    let question = Question::parse_read(rt.alloc(), &asked.nodes)?;
+    ask(rt, asked.port, &question, out)
+}
+
+/// Sets the Value of a node of the server on a port of this machine, and prints what became of it.
+pub fn write<'a, R: Net + Clock + AllocGlobal, O: Write>(
+    rt: &R,
+    asked: &WriteNode<'a>,
+    out: &mut O,
+) -> Result<(), Stop<'a>>
+    ensures answered { OnOk result (HasAnswered (O.contents out.old) (O.contents out.new)) }
+    ensures stopped { IfErr result (λ stop. (stop ≡ Output) ⊎ (out.new ≡ out.old) ⊎ HasAnswered (O.contents out.old) (O.contents out.new)) }
+{
+    let question = Question::parse_write(rt.alloc(), asked.node, asked.kind, asked.value)?;
+    ask(rt, asked.port, &question, out)
+}

@@ -1,0 +1,35 @@
+//! What the program `ua` does: the words of its commands, files, sockets, the clock, and what is
+//! printed. `ua_cli` hands its words and streams to [`run`].
+//!
+//! ```
+//! let mut out = Vec::new(alloc);
+//! let mut err = Vec::new(alloc);
+//! let status = run(&rt, &["ua", "dissect", "data/hello.bin"], &mut out, &mut err);
+//! // 0, and the lines of the octets of that file in `out`
+//! ```
+#![tactic(auto)]
+
+mod arguments;
+mod ask;
+mod clock_moments;
+mod commands;
+mod dissect;
+mod fault;
+mod input;
+mod loop_line;
+mod looping;
+mod number;
+mod output;
+mod program;
+mod serve;
+mod tcp_line;
+
+pub use arguments::{Dissect, Loop, ReadNodes, Serve, Task, WriteNode, parse};
+pub use clock_moments::ClockMoments;
+pub use fault::Fault;
+pub use loop_line::{LoopLine, MOST_OCTETS};
+pub use looping::carry_over;
+pub use output::Stop;
+pub use program::{refuse_words, run};
+pub use serve::{limits, push_outcome, serve_all, serve_line, services};
+pub use tcp_line::TcpLine;

@@ -1,0 +1,139 @@
+//! `ua loop`: a script that is run over nodes, both ends within this process.
+
+ghost use Rattle.std.specs.Prelude.{◌≡◌, ◌⊎◌, true, false, None, Ok, IfOk, OnOk, IfErr};
+ghost use Rattle.ua_commands.specs.Looped.{HasLooped, HasLoopedUntil, RefusesScript, RunsScript};
+ghost use Rattle.ua_commands.specs.declared.output.Stop.TheVariants.{Output};
+ghost use Rattle.ua_nodes.specs.Sound.{IsSound};
+ghost use Rattle.ua_server.specs.declared.step.End.TheVariants.{Closed};
+
+use crate::arguments::Loop;
+use crate::fault::Fault;
+use crate::input::{parse_nodes, read_text};
+use crate::loop_line::LoopLine;
+use crate::output::{Stop, say_lines};
+use crate::serve::{limits, services};
+use crate::tcp_line::without_delay;
+use std::alloc::{AllocError, Global};
+use std::io::{Read, Write};
+use std::net::{Ipv4Addr, Net, OpenListener, TcpListener, TcpStream};
+use std::rt::Files;
+use ua_asking::AskFault;
+use ua_channel::ListMoments;
+use ua_client::ClientFault;
+use ua_looping::{LoopFault, Looped, parse_lines, run_lines};
+use ua_nodes::NodeTable;
+use ua_server::{End, ServeFault, serve};
+
+/// The port in the server's address.
+const PORT: u16 = 4840;
+
+/// The server's one channel.
+const CHANNEL: u32 = 1;
+
+/// The moment of all that is said: 1970-01-01 00:00 UTC.
+const MOMENT: i64 = 116_444_736_000_000_000;
+
+/// Moments that are all the same one.
+fn moments(alloc: Global) -> Result<ListMoments, AllocError> {
+    let mut ticks = Vec::new(alloc);
+    ticks.push(MOMENT)?;
+    Ok(ListMoments::new(ticks))
+}
+
+/// What is told of a server over a connection within this process.
+fn outcome<'a>(ended: Result<End, ServeFault>, is_carried: bool) -> Result<(), Fault<'a>>
+    ensures closed { OnOk result (ended ≡ Ok Closed) }
+    ensures carried { OnOk result (is_carried ≡ true) }
+    ensures failed { ended ≡ Ok Closed → IfErr result (λ fault. is_carried ≡ false) }
+{
+    let fault = match ended {
+        Ok(End::Closed) if is_carried => return Ok(()),
+        Ok(_) => ClientFault::Ended,
+        Err(ServeFault::Read) => ClientFault::Read,
+        Err(ServeFault::Write(_)) => ClientFault::Write,
+        Err(ServeFault::TooLong) => ClientFault::TooLong,
+        Err(ServeFault::OutOfMemory) => return Err(Fault::NoMemory),
+    };
+    Err(Fault::Asking(AskFault::Connection(fault)))
+}
+
+/// The two ends of one connection within this process.
+fn connection<'a, R: Net>(rt: &R) -> Result<(R::Stream, R::Stream), Fault<'a>> {
+    let Ok(listener) = TcpListener::bind(rt, (Ipv4Addr::LOCALHOST, 0)) else {
+        return Err(Fault::CannotListen);
+    };
+    let Ok(address) = listener.local_addr() else {
+        return Err(Fault::CannotListen);
+    };
+    let Ok(near) = TcpStream::connect(rt, address) else {
+        return Err(Fault::CannotConnect);
+    };
+    match listener.accept() {
+        Ok((far, _)) => Ok((without_delay(near), without_delay(far))),
+        Err(_) => Err(Fault::CannotListen),
+    }
+}
+
+/// Sends the octets of a script over the connection of a line: those of its client to a server over
+/// the nodes of this text, and what that server answers back.
+pub fn carry_over<'a, S: Read + Write>(
+    alloc: Global,
+    nodes: &str,
+    line: &mut LoopLine<'_, S>,
+) -> Result<(), Fault<'a>> {
+    let mut services = services(alloc, nodes, PORT)?;
+    let mut moments = moments(alloc)?;
+    let ended = serve(alloc, line, &mut services, limits(), CHANNEL, &mut moments);
+    outcome(ended, line.is_carried())
+}
+
+/// Sends the octets of a script over one connection within this process.
+fn carry_over_tcp<'a, R: Net + AllocGlobal>(
+    rt: &R,
+    nodes: &str,
+    looped: &Looped,
+) -> Result<(), Fault<'a>> {
+    let (near, far) = connection(rt)?;
+    let mut line = LoopLine::new(near, far, &looped.up, &looped.down);
+    carry_over(rt.alloc(), nodes, &mut line)
+}
+
+/// Runs the script of a text over nodes, each end taking what the other wrote in pieces of so many
+/// octets.
+pub fn run_script(
+    alloc: Global,
+    nodes: NodeTable,
+    script: &str,
+    cut: u16,
+) -> Result<Looped, LoopFault>
+    requires sound { IsSound nodes }
+    ensures ran { IfOk result (λ looped. RunsScript nodes script.now looped) }
+    ensures refused { IfErr result (λ fault. RefusesScript script.now fault) }
+{
+    let lines = parse_lines(alloc, script)?;
+    run_lines(alloc, nodes, &lines, cut)
+}
+
+/// Runs the script of a file over the nodes of another, and prints the answers to its lines and how
+/// many octets went each way. Where a reply is a fault, the answers in front of it are printed.
+pub fn run_files<'a, R: Files + Net + AllocGlobal, O: Write>(
+    rt: &R,
+    asked: &Loop<'a>,
+    out: &mut O,
+) -> Result<(), Stop<'a>>
+    ensures looped { OnOk result (HasLooped None (O.contents out.old) (O.contents out.new)) }
+    ensures stopped { IfErr result (λ stop. (stop ≡ Output) ⊎ (out.new ≡ out.old) ⊎ HasLoopedUntil stop (O.contents out.old) (O.contents out.new)) }
+{
+    let text = read_text(rt, asked.nodes)?;
+    let nodes = parse_nodes(rt.alloc(), &text)?;
+    let script = read_text(rt, asked.script)?;
+    let looped = run_script(rt.alloc(), nodes, &script, asked.cut)?;
+    if asked.tcp {
+        carry_over_tcp(rt, &text, &looped)?;
+    }
+    say_lines(out, &looped.text)?;
+    match looped.fault {
+        None => Ok(()),
+        Some(fault) => Err(Stop::from(fault)),
+    }
+}

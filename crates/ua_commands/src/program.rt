@@ -1,0 +1,130 @@
+//! The program's commands.
+
+ghost use Rattle.std.specs.Prelude.{◌≡◌, ◌≤◌, ◌≢◌, ◌⊎◌, IfErr, OnOk};
+ghost use Rattle.std.specs.Io.KnownBytes.{Appends};
+ghost use Rattle.std.specs.IoError.{error_kind};
+ghost use Rattle.std.specs.declared.io.ErrorKind.TheVariants.{OutOfMemory};
+ghost use Rattle.ua_commands.specs.Printed.{HasBegun, HasDissected, HasPrinted};
+ghost use Rattle.ua_commands.specs.declared.output.Stop.TheVariants.{Output};
+
+use crate::arguments::{self, Dissect, Task};
+use crate::ask::{endpoints, read, write};
+use crate::dissect::dissect_content;
+use crate::fault::Fault;
+use crate::input::read_file;
+use crate::looping::run_files;
+use crate::output::{Stop, say, write_text};
+use crate::serve::serve_connections;
+use clap::error::ErrorKind;
+use std::alloc::Global;
+use std::convert::AsStr;
+use std::io;
+use std::io::Write;
+use std::net::Net;
+use std::rt::Files;
+use std::time::Clock;
+
+/// Runs the program on its words, of which the first is its name. The status is 0 where the
+/// command is done, 1 where it met a fault or a writer failed, 2 where the words don't parse.
+pub fn run<S: AsStr, R: Files + Net + Clock + AllocGlobal, O: Write, E: Write>(
+    rt: &R,
+    words: &[S],
+    out: &mut O,
+    err: &mut E,
+) -> u8
+    ensures status { result ≤ 2 }
+    ensures done { result ≡ 0 → HasPrinted (O.contents out.old) (O.contents out.new) }
+    ensures silent { result ≡ 0 → err.new ≡ err.old }
+    ensures refused { result ≡ 2 → out.new ≡ out.old }
+    ensures streams { (out.new ≡ out.old) ⊎ (err.new ≡ err.old) ⊎ HasBegun (O.contents out.old) (O.contents out.new) }
+{
+    let task = match arguments::parse(rt.alloc(), words) {
+        Ok(Some(task)) => task,
+        Ok(None) => return print(err, "ua: a number is not from 1 to 65535\n", 2),
+        Err(error) => return refuse(rt.alloc(), &error, err),
+    };
+    match perform(rt, task, out) {
+        Ok(()) => 0,
+        Err(Stop::Fault(fault)) => tell(rt.alloc(), &fault, err),
+        Err(Stop::Output) => 1,
+    }
+}
+
+/// Does what the words ask for.
+fn perform<'a, R: Files + Net + Clock + AllocGlobal, O: Write>(
+    rt: &R,
+    task: Task<'a>,
+    out: &mut O,
+) -> Result<(), Stop<'a>>
+    ensures done { OnOk result (HasPrinted (O.contents out.old) (O.contents out.new)) }
+    ensures stopped { IfErr result (λ stop. (stop ≡ Output) ⊎ (out.new ≡ out.old) ⊎ HasBegun (O.contents out.old) (O.contents out.new)) }
+{
+    match task {
+        Task::Dissect(asked) => dissect(rt, &asked, out),
+        Task::Serve(asked) => serve_connections(rt, &asked, out),
+        Task::Endpoints(port) => endpoints(rt, port, out),
+        Task::Read(asked) => read(rt, &asked, out),
+        Task::Write(asked) => write(rt, &asked, out),
+        Task::Loop(asked) => run_files(rt, &asked, out),
+    }
+}
+
+/// Tells why words don't parse. The status is 2, or 1 where memory was refused or `err` fails.
+fn refuse<E: Write>(alloc: Global, error: &clap::Error, err: &mut E) -> u8
+    ensures { (result ≡ 1) ⊎ (result ≡ 2) }
+{
+    if error.kind() == ErrorKind::OutOfMemory {
+        return print(err, "ua: no memory\n", 1);
+    }
+    match format!(in alloc; "{error}") {
+        Ok(text) => print(err, text.as_str(), 2),
+        Err(_) => print(err, "ua: no memory\n", 1),
+    }
+}
+
+/// Tells a fault. The status is 1.
+fn tell<E: Write>(alloc: Global, fault: &Fault<'_>, err: &mut E) -> u8
+    ensures { result ≡ 1 }
+{
+    match format!(in alloc; "ua: {fault}\n") {
+        Ok(text) => print(err, text.as_str(), 1),
+        Err(_) => print(err, "ua: no memory\n", 1),
+    }
+}
+
+/// Prints the frames and messages of a file.
+fn dissect<'a, R: Files + AllocGlobal, O: Write>(
+    rt: &R,
+    asked: &Dissect<'a>,
+    out: &mut O,
+) -> Result<(), Stop<'a>>
+    ensures dissected { OnOk result (HasDissected (O.contents out.old) (O.contents out.new)) }
+    ensures stopped { IfErr result (λ stop. (stop ≡ Output) ⊎ (out.new ≡ out.old)) }
+{
+    let content = read_file(rt, asked.file)?;
+    let text = dissect_content(rt.alloc(), asked, content.as_slice())?;
+    say(out, &text)
+}
+
+/// Tells why the words of the command line could not be gathered. The status is 2 where a word is
+/// not UTF-8, and 1 where memory was refused or `err` fails.
+pub fn refuse_words<E: Write>(error: &io::Error, err: &mut E) -> u8
+    ensures status { (result ≡ 1) ⊎ (result ≡ 2) }
+    ensures memory { error_kind error.now ≡ OutOfMemory → result ≡ 1 }
+{
+    match error.kind() {
+        io::ErrorKind::OutOfMemory => print(err, "ua: no memory\n", 1),
+        _ => print(err, "ua: a word is not UTF-8\n", 2),
+    }
+}
+
+/// Writes a text: the status that follows, or 1 where the writer fails.
+fn print<W: Write>(to: &mut W, text: &str, status: u8) -> u8
+    ensures status { (result ≡ status) ⊎ (result ≡ 1) }
+    ensures printed { result ≢ 1 → Appends (W.contents to.old) (W.contents to.new) text.now }
+{
+    match write_text(to, text) {
+        Ok(()) => status,
+        Err(_) => 1,
+    }
+}

@@ -1,0 +1,182 @@
+//! `ua serve`: serves connections on a port of this machine, one after the other.
+
+ghost use Rattle.std.specs.Prelude.{◌≡◌, ◌⊎◌, IfOk, IfErr, OnOk, string_bytes};
+ghost use Rattle.std.specs.Io.KnownBytes.{Appends};
+ghost use Rattle.ua_channel.specs.Line.{WhereTold};
+ghost use Rattle.ua_server.specs.Serving.{Serves};
+ghost use Rattle.ua_server.specs.State.{begun};
+ghost use Rattle.ua_commands.specs.Refused.{RefusesNodes};
+ghost use Rattle.ua_commands.specs.Served.{AddsOutcome, AreOwn, BeginsWith, HasServed, HasServedSome, ServesOne, TellsOf, endpoint_on, listening_line};
+ghost use Rattle.ua_commands.specs.declared.output.Stop.TheVariants.{Output};
+
+use crate::arguments::Serve;
+use crate::clock_moments::ClockMoments;
+use crate::fault::Fault;
+use crate::input::{parse_nodes, read_text};
+use crate::output::{Stop, say};
+use crate::tcp_line::{TcpLine, without_delay};
+use std::alloc::{AllocError, Global};
+use std::io::Write;
+use std::net::{Ipv4Addr, Net, OpenListener, TcpListener};
+use std::rt::Files;
+use std::time::Clock;
+use ua_builtin::UaString;
+use ua_channel::{Line, Moments};
+use ua_frame::Limits;
+use ua_requests::local_url;
+use ua_server::{End, Endpoint, ServeFault, Services, serve};
+use ua_texts::push_code;
+
+/// The most octets of a message.
+const MESSAGE_LIMIT: u32 = 1_048_576;
+
+/// What the program allows.
+pub fn limits() -> Limits
+    ensures { AreOwn result }
+{
+    match Limits::new(65535, 65535, MESSAGE_LIMIT, 256) {
+        Some(limits) => limits,
+        None => unreachable!(),
+    }
+}
+
+/// What the program says of itself on a port of this machine.
+fn endpoint(alloc: Global, port: u16) -> Result<Endpoint, AllocError>
+    ensures { IfOk result (λ e. e ≡ endpoint_on port) }
+{
+    Ok(Endpoint {
+        url: local_url(alloc, port)?,
+        application_uri: UaString::from_str(alloc, "urn:ua:server")?,
+        name: UaString::from_str(alloc, "ua")?,
+        message_limit: MESSAGE_LIMIT,
+    })
+}
+
+/// The services over the nodes of a file with this text, on a port of this machine.
+pub fn services<'a>(alloc: Global, text: &str, port: u16) -> Result<Services, Fault<'a>>
+    ensures begins { IfOk result (λ services. BeginsWith text.now port services) }
+    ensures faults { IfErr result (λ fault. RefusesNodes text.now fault) }
+{
+    let nodes = parse_nodes(alloc, text)?;
+    let endpoint = endpoint(alloc, port)?;
+    Ok(Services::new(nodes, endpoint))
+}
+
+/// Adds what became of a connection.
+pub fn push_outcome(out: &mut String, outcome: Result<End, ServeFault>) -> Result<(), AllocError>
+    ensures { OnOk result (AddsOutcome outcome (string_bytes out.old) (string_bytes out.new)) }
+{
+    match outcome {
+        Ok(End::Closed) => out.push_str("Closed"),
+        Ok(End::NoClose) => out.push_str("NoClose"),
+        Ok(End::Cut) => out.push_str("Cut"),
+        Ok(End::Refused(status)) => {
+            out.push_str("Refused ")?;
+            push_code(out, status)
+        }
+        Err(ServeFault::Read) => out.push_str("Read"),
+        Err(ServeFault::Write(_)) => out.push_str("Write"),
+        Err(ServeFault::TooLong) => out.push_str("TooLong"),
+        Err(ServeFault::OutOfMemory) => Err(AllocError),
+    }
+}
+
+/// Serves the client at the other end of a line. Gives the line of text that says what became of the
+/// connection.
+pub fn serve_line<L: Line, M: Moments>(
+    alloc: Global,
+    line: &mut L,
+    services: &mut Services,
+    number: u32,
+    moments: &mut M,
+) -> Result<String, AllocError>
+    ensures { IfOk result (λ text. TellsOf number (λ limits outcome. WhereTold (Serves limits number M.gives (begun services.old) moments.old outcome services.new moments.new) (L.traffic line.old) (L.traffic line.new)) (string_bytes text)) }
+{
+    let outcome = serve(alloc, line, services, limits(), number, moments);
+    let mut text = format!(in alloc; "connection {number} ")?;
+    push_outcome(&mut text, outcome)?;
+    text.push_str("\n")?;
+    Ok(text)
+}
+
+/// Waits for the next connection, serves it and says what became of it.
+fn serve_next<'a, R: Net + Clock + AllocGlobal, O: Write>(
+    rt: &R,
+    listener: &R::Listener,
+    services: &mut Services,
+    number: u16,
+    out: &mut O,
+) -> Result<(), Stop<'a>>
+    ensures served { OnOk result (ServesOne number (O.contents out.old) (O.contents out.new)) }
+    ensures stopped { IfErr result (λ stop. (stop ≡ Output) ⊎ (out.new ≡ out.old)) }
+{
+    let Ok((stream, _)) = listener.accept() else {
+        return Err(Stop::Fault(Fault::CannotListen));
+    };
+    let mut line = TcpLine::new(without_delay(stream));
+    let mut moments = ClockMoments::new(rt);
+    let text = serve_line(
+        rt.alloc(),
+        &mut line,
+        services,
+        u32::from(number),
+        &mut moments,
+    )?;
+    drop(line);
+    say(out, &text)
+}
+
+/// The services over the nodes of a file.
+fn load<'a, R: Files + AllocGlobal>(rt: &R, asked: &Serve<'a>) -> Result<Services, Fault<'a>> {
+    let text = read_text(rt, asked.nodes)?;
+    services(rt.alloc(), &text, asked.port)
+}
+
+/// Takes connections on a port of this machine from now on.
+fn listen<'a, R: Net>(rt: &R, port: u16) -> Result<R::Listener, Fault<'a>> {
+    match TcpListener::bind(rt, (Ipv4Addr::LOCALHOST, port)) {
+        Ok(listener) => Ok(listener),
+        Err(_) => Err(Fault::CannotListen),
+    }
+}
+
+/// Says that connections are taken.
+fn say_listening<'a, O: Write>(alloc: Global, port: u16, out: &mut O) -> Result<(), Stop<'a>>
+    ensures said { OnOk result (Appends (O.contents out.old) (O.contents out.new) (listening_line port)) }
+    ensures stopped { IfErr result (λ stop. (stop ≡ Output) ⊎ (out.new ≡ out.old)) }
+{
+    let text = format!(in alloc; "listening {port}\n")?;
+    say(out, &text)
+}
+
+/// Serves so many connections, numbered from 1.
+pub fn serve_all<'a, R: Net + Clock + AllocGlobal, O: Write>(
+    rt: &R,
+    listener: &R::Listener,
+    services: &mut Services,
+    asked: &Serve<'a>,
+    out: &mut O,
+) -> Result<(), Stop<'a>>
+    ensures served { OnOk result (HasServed asked.now.port asked.now.connections (O.contents out.old) (O.contents out.new)) }
+    ensures stopped { IfErr result (λ stop. (stop ≡ Output) ⊎ (out.new ≡ out.old) ⊎ HasServedSome asked.now.port asked.now.connections (O.contents out.old) (O.contents out.new)) }
+{
+    say_listening(rt.alloc(), asked.port, out)?;
+    for number in 0..asked.connections {
+        serve_next(rt, listener, services, number + 1, out)?;
+    }
+    Ok(())
+}
+
+/// Serves connections on a port of this machine, one after the other, and says what became of each.
+pub fn serve_connections<'a, R: Files + Net + Clock + AllocGlobal, O: Write>(
+    rt: &R,
+    asked: &Serve<'a>,
+    out: &mut O,
+) -> Result<(), Stop<'a>>
+    ensures served { OnOk result (HasServed asked.now.port asked.now.connections (O.contents out.old) (O.contents out.new)) }
+    ensures stopped { IfErr result (λ stop. (stop ≡ Output) ⊎ (out.new ≡ out.old) ⊎ HasServedSome asked.now.port asked.now.connections (O.contents out.old) (O.contents out.new)) }
+{
+    let mut services = load(rt, asked)?;
+    let listener = listen(rt, asked.port)?;
+    serve_all(rt, &listener, &mut services, asked, out)
+}
