@@ -1,5 +1,8 @@
 //! The command line.
 
+ghost use Rattle.std.specs.Prelude.{◌≤◌, IfOk, IfSome};
+ghost use Rattle.ua_commands.specs.Words.{CountsFromOne};
+
 use crate::commands;
 use crate::number::parse_number;
 use clap::{ArgMatches, Error};
@@ -90,11 +93,15 @@ fn side_of(matches: &ArgMatches<'_>) -> Side {
 }
 
 /// The number from 1 to 65535 that a word is.
-fn number_of(matches: &ArgMatches<'_>, name: &str) -> Option<u16> {
+fn number_of(matches: &ArgMatches<'_>, name: &str) -> Option<u16>
+    ensures { IfSome result (λ number. 1 ≤ number) }
+{
     parse_number(matches.get_str(name)?)
 }
 
-fn dissect_of<'a>(matches: &ArgMatches<'a>) -> Option<Task<'a>> {
+fn dissect_of<'a>(matches: &ArgMatches<'a>) -> Option<Task<'a>>
+    ensures { IfSome result CountsFromOne }
+{
     Some(Task::Dissect(Dissect {
         file: matches.get_str("FILE")?,
         hex: matches.get_flag("hex"),
@@ -102,7 +109,9 @@ fn dissect_of<'a>(matches: &ArgMatches<'a>) -> Option<Task<'a>> {
     }))
 }
 
-fn serve_of<'a>(matches: &ArgMatches<'a>) -> Option<Task<'a>> {
+fn serve_of<'a>(matches: &ArgMatches<'a>) -> Option<Task<'a>>
+    ensures { IfSome result CountsFromOne }
+{
     Some(Task::Serve(Serve {
         nodes: matches.get_str("NODES")?,
         port: number_of(matches, "PORT")?,
@@ -110,7 +119,9 @@ fn serve_of<'a>(matches: &ArgMatches<'a>) -> Option<Task<'a>> {
     }))
 }
 
-fn read_of<'a>(alloc: Global, matches: &ArgMatches<'a>) -> Result<Option<Task<'a>>, AllocError> {
+fn read_of<'a>(alloc: Global, matches: &ArgMatches<'a>) -> Result<Option<Task<'a>>, AllocError>
+    ensures { IfOk result (λ task. IfSome task CountsFromOne) }
+{
     let Some(port) = number_of(matches, "PORT") else {
         return Ok(None);
     };
@@ -118,7 +129,9 @@ fn read_of<'a>(alloc: Global, matches: &ArgMatches<'a>) -> Result<Option<Task<'a
     Ok(Some(Task::Read(ReadNodes { port, nodes })))
 }
 
-fn write_of<'a>(matches: &ArgMatches<'a>) -> Option<Task<'a>> {
+fn write_of<'a>(matches: &ArgMatches<'a>) -> Option<Task<'a>>
+    ensures { IfSome result CountsFromOne }
+{
     Some(Task::Write(WriteNode {
         port: number_of(matches, "PORT")?,
         node: matches.get_str("NODE")?,
@@ -127,11 +140,15 @@ fn write_of<'a>(matches: &ArgMatches<'a>) -> Option<Task<'a>> {
     }))
 }
 
-fn endpoints_of<'a>(matches: &ArgMatches<'a>) -> Option<Task<'a>> {
+fn endpoints_of<'a>(matches: &ArgMatches<'a>) -> Option<Task<'a>>
+    ensures { IfSome result CountsFromOne }
+{
     Some(Task::Endpoints(number_of(matches, "PORT")?))
 }
 
-fn loop_of<'a>(matches: &ArgMatches<'a>) -> Option<Task<'a>> {
+fn loop_of<'a>(matches: &ArgMatches<'a>) -> Option<Task<'a>>
+    ensures { IfSome result CountsFromOne }
+{
     Some(Task::Loop(Loop {
         nodes: matches.get_str("NODES")?,
         script: matches.get_str("SCRIPT")?,
@@ -142,7 +159,9 @@ fn loop_of<'a>(matches: &ArgMatches<'a>) -> Option<Task<'a>> {
 
 /// What the words ask for, of which the first is the program's name; nothing where a number among
 /// them is none from 1 to 65535.
-pub fn parse<'a, S: AsStr>(alloc: Global, words: &'a [S]) -> Result<Option<Task<'a>>, Error> {
+pub fn parse<'a, S: AsStr>(alloc: Global, words: &'a [S]) -> Result<Option<Task<'a>>, Error>
+    ensures { IfOk result (λ task. IfSome task CountsFromOne) }
+{
     let matches = commands::program(alloc)?.try_get_matches_from(words)?;
     Ok(match matches.subcommand() {
         Some(("dissect", found)) => dissect_of(found),

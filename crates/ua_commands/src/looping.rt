@@ -1,6 +1,6 @@
 //! `ua loop`: a script that is run over nodes, both ends within this process.
 
-ghost use Rattle.std.specs.Prelude.{◌≡◌, ◌⊎◌, true, false, None, Ok, IfOk, OnOk, IfErr};
+ghost use Rattle.std.specs.Prelude.{◌≡◌, ◌⊎◌, [], true, false, None, Ok, IfOk, OnOk, IfErr};
 ghost use Rattle.ua_commands.specs.Looped.{HasLooped, HasLoopedUntil, RefusesScript, RunsScript};
 ghost use Rattle.ua_commands.specs.declared.output.Stop.TheVariants.{Output};
 ghost use Rattle.ua_nodes.specs.Sound.{IsSound};
@@ -80,7 +80,10 @@ pub fn carry_over<'a, S: Read + Write>(
     alloc: Global,
     nodes: &str,
     line: &mut LoopLine<'_, S>,
-) -> Result<(), Fault<'a>> {
+) -> Result<(), Fault<'a>>
+    ensures up { OnOk result (line.new.up.now ≡ []) }
+    ensures down { OnOk result (line.new.down.now ≡ []) }
+{
     let mut services = services(alloc, nodes, PORT)?;
     let mut moments = moments(alloc)?;
     let ended = serve(alloc, line, &mut services, limits(), CHANNEL, &mut moments);
