@@ -1,0 +1,77 @@
+//! The answer to each kind of row.
+
+use crate::fault::Fault;
+use crate::items::{read, values, write};
+use crate::lines::{endpoint, read_line, response_lines, write_line};
+use crate::node_table::{State, insert, load, moment, node, nodes};
+use crate::requests::{ask, url};
+use crate::scripts::script;
+use crate::texts::{print, type_named, value};
+use crate::uses::{bad, frames, in_file, request, through};
+use std::alloc::{AllocError, Global};
+
+/// What is printed of a line: the line with its answer behind it, or alone where it is no question.
+pub fn answered(alloc: Global, state: &mut State, line: &str) -> Result<String, AllocError> {
+    match line.split_once(' ') {
+        Some((kind, words)) if kind != "#" => {
+            told(alloc, line, table_answer(alloc, state, kind, words))
+        }
+        _ => String::from_str(alloc, line),
+    }
+}
+
+fn told(alloc: Global, line: &str, answer: Result<String, Fault>) -> Result<String, AllocError> {
+    match answer {
+        Ok(text) => format!(in alloc; "{line} = {text}"),
+        Err(fault) => {
+            let text = fault.text();
+            format!(in alloc; "{line} = {text}")
+        }
+    }
+}
+
+fn table_answer(
+    alloc: Global,
+    state: &mut State,
+    kind: &str,
+    words: &str,
+) -> Result<String, Fault> {
+    match kind {
+        "moment" => moment(alloc, state, words),
+        "load" => load(alloc, state, words),
+        "insert" => insert(alloc, state, words),
+        "node" => node(alloc, state, words),
+        "nodes" => nodes(alloc, state, words),
+        "read" => read(alloc, state, words),
+        "values" => values(alloc, state, words),
+        "write" => write(alloc, state, words),
+        "ask" => ask(alloc, state.moment, words),
+        _ => text_answer(alloc, kind, words),
+    }
+}
+
+fn text_answer(alloc: Global, kind: &str, words: &str) -> Result<String, Fault> {
+    match kind {
+        "type" => type_named(alloc, words),
+        "value" => value(alloc, words),
+        "print" => print(alloc, words),
+        "read-line" => read_line(alloc, words),
+        "write-line" => write_line(alloc, words),
+        "endpoint" => endpoint(alloc, words),
+        "read-lines" | "write-lines" | "endpoint-lines" => response_lines(alloc, kind, words),
+        _ => use_answer(alloc, kind, words),
+    }
+}
+
+fn use_answer(alloc: Global, kind: &str, words: &str) -> Result<String, Fault> {
+    match kind {
+        "script" => script(alloc, words),
+        "url" => url(alloc, words),
+        "through" => through(alloc, words),
+        "frames" => frames(alloc, words),
+        "in-file" => in_file(alloc, words),
+        "request" => request(alloc, words),
+        "bad" => bad(alloc, words),
+        _ => Err(Fault::NoRow),
+    }
+}

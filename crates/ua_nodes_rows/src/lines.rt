@@ -1,0 +1,103 @@
+//! The lines that the program prints: of answers, endpoints, and whole responses.
+
+use crate::fault::Fault;
+use crate::octets::{octets_of, value_in};
+use crate::shown::{page, quoted};
+use crate::words::{code_of, cut, nodes_of};
+use std::alloc::Global;
+use ua_builtin::{NodeId, Octets, StatusCode};
+use ua_services::{Response, ResponseFault, read_response};
+use ua_structures::EndpointDescription;
+use ua_texts::{
+    AnswerFault, push_endpoint_line, push_endpoints, push_read_answers, push_read_line,
+    push_write_answers, push_write_line,
+};
+use ua_variant::DataValue;
+
+/// The line of the answer to an item of a Read.
+pub fn read_line(alloc: Global, words: &str) -> Result<String, Fault> {
+    let (node, words) = cut(words)?;
+    let node = NodeId::parse_text(alloc, node)?;
+    let answer = value_in::<DataValue>(alloc, words)?;
+    let line = answer_line(alloc, &node, &answer);
+    drop(answer);
+    quoted(alloc, line?.as_str())
+}
+
+fn answer_line(alloc: Global, node: &NodeId, answer: &DataValue) -> Result<String, Fault> {
+    let mut out = page(alloc);
+    push_read_line(alloc, &mut out, node, answer)?;
+    Ok(out)
+}
+
+/// The line of the answer to an item of a Write.
+pub fn write_line(alloc: Global, words: &str) -> Result<String, Fault> {
+    let (node, code) = cut(words)?;
+    let code = code_of(code)?;
+    let node = NodeId::parse_text(alloc, node)?;
+    let mut out = page(alloc);
+    push_write_line(alloc, &mut out, &node, StatusCode { code })?;
+    quoted(alloc, out.as_str())
+}
+
+/// The line of an endpoint.
+pub fn endpoint(alloc: Global, words: &str) -> Result<String, Fault> {
+    let endpoint = value_in::<EndpointDescription>(alloc, words)?;
+    let line = endpoint_line(alloc, &endpoint);
+    drop(endpoint);
+    quoted(alloc, line?.as_str())
+}
+
+fn endpoint_line(alloc: Global, endpoint: &EndpointDescription) -> Result<String, Fault> {
+    let mut out = page(alloc);
+    push_endpoint_line(&mut out, endpoint)?;
+    Ok(out)
+}
+
+/// The response whose body is these octets.
+fn response_in(alloc: Global, words: &str) -> Result<Response, Fault> {
+    let octets = octets_of(alloc, words)?;
+    match read_response(alloc, &mut Octets::new(octets.as_slice())) {
+        Ok(response) => Ok(response),
+        Err(ResponseFault::Unknown | ResponseFault::Unreadable) => Err(Fault::NoValue),
+        Err(ResponseFault::OutOfMemory) => Err(Fault::Memory),
+    }
+}
+
+/// The lines of the answers in a response to a Read or a Write of nodes, or of its endpoints; or why it
+/// has none.
+pub fn response_lines(alloc: Global, kind: &str, words: &str) -> Result<String, Fault> {
+    let (names, octets) = match kind {
+        "endpoint-lines" => ("", words),
+        _ => cut(words)?,
+    };
+    let response = response_in(alloc, octets)?;
+    let lines = lines_in(alloc, kind, names, &response);
+    drop(response);
+    lines
+}
+
+fn lines_in(alloc: Global, kind: &str, names: &str, response: &Response) -> Result<String, Fault> {
+    let nodes = nodes_of(alloc, names)?;
+    let mut out = page(alloc);
+    let printed = match kind {
+        "read-lines" => push_read_answers(alloc, &mut out, nodes.as_slice(), response),
+        "write-lines" => push_write_answers(alloc, &mut out, nodes.as_slice(), response),
+        _ => push_endpoints(&mut out, response),
+    };
+    told(alloc, out.as_str(), printed)
+}
+
+/// What was printed, and why no more was.
+fn told(alloc: Global, out: &str, printed: Result<(), AnswerFault>) -> Result<String, Fault> {
+    let text = quoted(alloc, out)?;
+    match printed {
+        Ok(()) => Ok(text),
+        Err(AnswerFault::Service(status)) => {
+            let code = status.code;
+            Ok(format!(in alloc; "{text} Service {code:08X}")?)
+        }
+        Err(AnswerFault::Unknown) => Ok(format!(in alloc; "{text} Unknown")?),
+        Err(AnswerFault::OutOfMemory) => Err(Fault::Memory),
+    }
+}

@@ -1,0 +1,117 @@
+//! The messages of the secure channel, and the identity of a user.
+
+use crate::fault::Fault;
+use crate::messages::{Message, message_text};
+use crate::octets::octets_of;
+use crate::shown::digits;
+use crate::structure_fields::{Fields, Shown};
+use crate::values::read;
+use std::alloc::Global;
+use ua_builtin::{ExtensionObject, Octets, Wire, WriteFault};
+use ua_services::{
+    AnonymousIdentityToken, CloseRequest, OpenAnswer, OpenRequest, OpenResponse, Response,
+    read_identity, read_open_request, read_open_response, write_close_request, write_identity,
+    write_open_request, write_open_response,
+};
+
+impl Shown for OpenRequest {
+    fn show(&self, fields: &mut Fields) {
+        fields.structure("request_header", &self.request_header);
+        fields.field("client_protocol_version", &self.client_protocol_version);
+        fields.field("request_type", &self.request_type);
+        fields.field("security_mode", &self.security_mode);
+        fields.field("client_nonce", &self.client_nonce);
+        fields.field("requested_lifetime", &self.requested_lifetime);
+    }
+}
+
+impl Message for OpenRequest {
+    fn add_to(&self, out: &mut Vec<u8>) -> Result<(), WriteFault> {
+        write_open_request(self, out)
+    }
+}
+
+impl Shown for OpenResponse {
+    fn show(&self, fields: &mut Fields) {
+        fields.structure("response_header", &self.response_header);
+        fields.field("server_protocol_version", &self.server_protocol_version);
+        fields.field("channel_id", &self.channel_id);
+        fields.field("token_id", &self.token_id);
+        fields.field("created_at", &self.created_at);
+        fields.field("revised_lifetime", &self.revised_lifetime);
+        fields.field("server_nonce", &self.server_nonce);
+    }
+}
+
+impl Message for OpenResponse {
+    fn add_to(&self, out: &mut Vec<u8>) -> Result<(), WriteFault> {
+        write_open_response(self, out)
+    }
+}
+
+impl Shown for CloseRequest {
+    fn show(&self, fields: &mut Fields) {
+        fields.structure("request_header", &self.request_header);
+    }
+}
+
+impl Message for CloseRequest {
+    fn add_to(&self, out: &mut Vec<u8>) -> Result<(), WriteFault> {
+        write_close_request(self, out)
+    }
+}
+
+/// What is printed of an OpenSecureChannel request.
+pub fn open_request(alloc: Global, words: &str) -> Result<String, Fault> {
+    let octets = octets_of(alloc, words)?;
+    let request = read_open_request(alloc, &mut Octets::new(octets.as_slice()))?;
+    message_text(alloc, request, octets.as_slice())
+}
+
+/// What is printed of the answer to an OpenSecureChannel request.
+pub fn open_answer(alloc: Global, words: &str) -> Result<String, Fault> {
+    let octets = octets_of(alloc, words)?;
+    match read_open_response(alloc, &mut Octets::new(octets.as_slice()))? {
+        OpenAnswer::Open(response) => message_text(alloc, response, octets.as_slice()),
+        OpenAnswer::Fault(fault) => {
+            message_text(alloc, Response::ServiceFault(fault), octets.as_slice())
+        }
+    }
+}
+
+/// What is printed of the CloseSecureChannel request behind the four octets of its NodeId.
+pub fn close_request(alloc: Global, words: &str) -> Result<String, Fault> {
+    let octets = octets_of(alloc, words)?;
+    let Some(behind) = octets.get(4..) else {
+        return Err(Fault::NoValue);
+    };
+    let (request, _) = read::<CloseRequest>(alloc, behind)?;
+    message_text(alloc, request, octets.as_slice())
+}
+
+/// What is printed of the identity in an object: its fields, and the object that is written for it.
+pub fn identity(alloc: Global, words: &str) -> Result<String, Fault> {
+    let octets = octets_of(alloc, words)?;
+    let (object, _) = read::<ExtensionObject>(alloc, octets.as_slice())?;
+    let token = read_identity(alloc, &object);
+    drop(object);
+    identity_text(alloc, token?)
+}
+
+fn identity_text(alloc: Global, token: AnonymousIdentityToken) -> Result<String, Fault> {
+    let mut fields = Fields::new(alloc);
+    token.show(&mut fields);
+    let text = fields.into_text()?;
+    let object = write_identity(alloc, &token);
+    drop(token);
+    let written = object_text(alloc, object?)?;
+    Ok(format!(in alloc; "{text} written {written}")?)
+}
+
+fn object_text(alloc: Global, object: ExtensionObject) -> Result<String, Fault> {
+    let mut out = Vec::new(alloc);
+    let answer = object.write(&mut out);
+    drop(object);
+    answer?;
+    digits(alloc, out.as_slice())
+}

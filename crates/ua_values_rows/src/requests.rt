@@ -1,0 +1,161 @@
+//! Requests, field by field.
+
+use crate::fault::Fault;
+use crate::messages::{Message, body_text, message_text};
+use crate::octets::octets_of;
+use crate::structure_fields::{Fields, Shown};
+use std::alloc::Global;
+use ua_builtin::{DateTime, Identifier, NodeId, Octets, UaString, WriteFault};
+use ua_services::{
+    ActivateSessionRequest, CloseSessionRequest, CreateSessionRequest, GetEndpointsRequest,
+    ReadRequest, Request, RequestFault, RequestHeader, RequestKind, WriteRequest, WriteValue,
+    read_request, write_request,
+};
+use ua_variant::{DataValue, HeldVariant, Variant};
+
+impl Shown for GetEndpointsRequest {
+    fn show(&self, fields: &mut Fields) {
+        fields.structure("request_header", &self.request_header);
+        fields.field("endpoint_url", &self.endpoint_url);
+        fields.field("locale_ids", &self.locale_ids);
+        fields.field("profile_uris", &self.profile_uris);
+    }
+}
+
+impl Shown for CreateSessionRequest {
+    fn show(&self, fields: &mut Fields) {
+        fields.structure("request_header", &self.request_header);
+        fields.structure("client_description", &self.client_description);
+        fields.field("server_uri", &self.server_uri);
+        fields.field("endpoint_url", &self.endpoint_url);
+        fields.field("session_name", &self.session_name);
+        fields.field("client_nonce", &self.client_nonce);
+        fields.field("client_certificate", &self.client_certificate);
+        fields.field("requested_session_timeout", &self.requested_session_timeout);
+        fields.field("max_response_message_size", &self.max_response_message_size);
+    }
+}
+
+impl Shown for ActivateSessionRequest {
+    fn show(&self, fields: &mut Fields) {
+        fields.structure("request_header", &self.request_header);
+        fields.structure("client_signature", &self.client_signature);
+        fields.structures(
+            "client_software_certificates",
+            &self.client_software_certificates,
+        );
+        fields.field("locale_ids", &self.locale_ids);
+        fields.field("user_identity_token", &self.user_identity_token);
+        fields.structure("user_token_signature", &self.user_token_signature);
+    }
+}
+
+impl Shown for CloseSessionRequest {
+    fn show(&self, fields: &mut Fields) {
+        fields.structure("request_header", &self.request_header);
+        fields.field("delete_subscriptions", &self.delete_subscriptions);
+    }
+}
+
+impl Shown for ReadRequest {
+    fn show(&self, fields: &mut Fields) {
+        fields.structure("request_header", &self.request_header);
+        fields.field("max_age", &self.max_age);
+        fields.field("timestamps_to_return", &self.timestamps_to_return);
+        fields.structures("nodes_to_read", &self.nodes_to_read);
+    }
+}
+
+impl Shown for WriteRequest {
+    fn show(&self, fields: &mut Fields) {
+        fields.structure("request_header", &self.request_header);
+        fields.structures("nodes_to_write", &self.nodes_to_write);
+    }
+}
+
+impl Shown for Request {
+    fn show(&self, fields: &mut Fields) {
+        fields.word(kind_name(self.kind()));
+        fields.field("handle", &self.header().request_handle);
+        match self {
+            Request::GetEndpoints(message) => message.show(fields),
+            Request::CreateSession(message) => message.show(fields),
+            Request::ActivateSession(message) => message.show(fields),
+            Request::CloseSession(message) => message.show(fields),
+            Request::Read(message) => message.show(fields),
+            Request::Write(message) => message.show(fields),
+        }
+    }
+}
+
+impl Message for Request {
+    fn add_to(&self, out: &mut Vec<u8>) -> Result<(), WriteFault> {
+        write_request(self, out)
+    }
+}
+
+/// The name of a kind of request.
+pub fn kind_name(kind: RequestKind) -> &'static str {
+    match kind {
+        RequestKind::GetEndpoints => "GetEndpoints",
+        RequestKind::CreateSession => "CreateSession",
+        RequestKind::ActivateSession => "ActivateSession",
+        RequestKind::CloseSession => "CloseSession",
+        RequestKind::Read => "Read",
+        RequestKind::Write => "Write",
+    }
+}
+
+/// What is printed of a request: its kind, its handle, its fields, and what is written for it; or
+/// its fault.
+pub fn request(alloc: Global, words: &str) -> Result<String, Fault> {
+    let octets = octets_of(alloc, words)?;
+    match read_request(alloc, &mut Octets::new(octets.as_slice())) {
+        Ok(request) => message_text(alloc, request, octets.as_slice()),
+        Err(fault) => fault_text(alloc, fault),
+    }
+}
+
+/// What is printed of a fault of a request.
+pub fn fault_text(alloc: Global, fault: RequestFault) -> Result<String, Fault> {
+    match fault {
+        RequestFault::Unsupported(handle) => Ok(format!(in alloc; "unsupported {handle}")?),
+        RequestFault::Unreadable(handle) => Ok(format!(in alloc; "unreadable {handle}")?),
+        RequestFault::OutOfMemory => Err(Fault::Memory),
+    }
+}
+
+/// What is printed of a Write that is made of the Variant that octets encode.
+pub fn made_write(alloc: Global, words: &str) -> Result<String, Fault> {
+    let octets = octets_of(alloc, words)?;
+    let (value, _) = crate::values::read::<Variant>(alloc, octets.as_slice())?;
+    let request = write_of(alloc, untimed(value))?;
+    body_text(alloc, request, octets.as_slice())
+}
+
+/// A value without a status and without times.
+fn untimed(value: Variant) -> DataValue {
+    DataValue {
+        value: Some(HeldVariant::new(value)),
+        status: None,
+        source_timestamp: None,
+        source_picoseconds: None,
+        server_timestamp: None,
+        server_picoseconds: None,
+    }
+}
+
+/// A Write to the Value of ns=1;s=Pump, under the token ns=2;i=1, at 1970-01-01, with the handle 9.
+fn write_of(alloc: Global, value: DataValue) -> Result<Request, Fault> {
+    let name = UaString::from_str(alloc, "Pump")?;
+    let item = WriteValue::of_value(NodeId::new(1, Identifier::Text(name)), value);
+    Ok(Request::Write(WriteRequest::of_item(alloc, header(), item)?))
+}
+
+fn header() -> RequestHeader {
+    let token = NodeId::new(2, Identifier::Numeric(1));
+    let epoch = DateTime {
+        ticks: 116_444_736_000_000_000,
+    };
+    RequestHeader::new(token, epoch, 9)
+}
