@@ -1,0 +1,33 @@
+//! Frames that are read.
+
+ghost use Rattle.std.specs.Prelude.{List, ℕ};
+ghost use Rattle.ua_frame.specs.Reader.{StandsAfter, Answers, Takes};
+ghost use Rattle.ua_frame.specs.declared.frame.Frame.{Frame};
+
+use bytes::Bytes;
+use std::alloc::Global;
+use ua_frame::{Frame, FrameFault, FrameReader};
+
+/// Takes octets up to the end of the first whole frame.
+pub fn take_frame(
+    reader: &mut FrameReader,
+    piece: &[u8],
+) -> Result<(usize, Option<Frame>), FrameFault>
+    ensures stands { (octets : List ℕ) (frames : List Frame) → StandsAfter reader.old octets frames
+        → Answers reader.old piece.now result reader.new octets frames }
+{
+    reader.take(piece)
+}
+
+/// Takes octets up to the end of the first whole frame, whose octets they are behind those held.
+pub fn take_octets(
+    reader: &mut FrameReader,
+    alloc: Global,
+    piece: &[u8],
+) -> Result<(usize, Option<Frame>), FrameFault>
+    ensures { Takes reader.old piece.now result reader.new }
+{
+    let _alloc = alloc;
+    let taken = reader.take(piece);
+    taken
+}

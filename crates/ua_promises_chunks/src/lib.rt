@@ -1,0 +1,16 @@
+//! What is promised of the calls of the frame and chunk layers, each in a function that makes the
+//! call alone: its contract follows from that of the call, so a body that this contract refuses
+//! that one refuses too.
+#![tactic(auto)]
+
+mod agreeing;
+mod assembling;
+mod cutting;
+mod framing;
+mod joining;
+
+pub use agreeing::agree_by;
+pub use assembling::{accept_by_reason, accept_next, accept_parts, held_by, step_next};
+pub use cutting::cut_body;
+pub use framing::{take_frame, take_octets};
+pub use joining::source_of;
