@@ -1,0 +1,224 @@
+//! What the rows so far began, and the answer to each row.
+
+use crate::assembling::Joining;
+use crate::dissection::Dissection;
+use crate::given::Given;
+use crate::lines::{Course, tell_moments};
+use crate::requests::turns_of;
+use crate::serving::Serving;
+use crate::taking::take_pieces;
+use crate::told::Told;
+use crate::words::{first_number, front, limits_of, text_of};
+use crate::{bodies, calling, client, ends, frames, parts, server};
+use std::alloc::Global;
+use ua_builtin::Wire;
+use ua_channel::{ClientChannel, ServerChannel};
+use ua_client::Client;
+use ua_exchange::Turn;
+use ua_frame::{Ack, ErrorFrame, FrameReader, Hello};
+use ua_pair::Side;
+
+/// What rows take steps of.
+#[derive(Drop)]
+enum Machine {
+    Nothing,
+    Frames(FrameReader),
+    Assembler(Joining),
+    Server(ServerChannel),
+    Client(ClientChannel),
+    Dissector(Dissection),
+    Caller(Client),
+}
+
+/// What the rows so far began.
+#[derive(Drop)]
+pub struct Rows {
+    given: Given,
+    machine: Machine,
+    course: Course,
+    serving: Serving,
+    turns: Vec<Turn>,
+}
+
+impl Rows {
+    pub fn new(alloc: Global) -> Rows {
+        Rows {
+            given: Given::new(alloc),
+            machine: Machine::Nothing,
+            course: Course::new(alloc),
+            serving: Serving::new(alloc),
+            turns: Vec::new(alloc),
+        }
+    }
+
+    /// Answers a line, unless it is empty or a remark.
+    pub fn answer_line(&mut self, line: &str, told: &mut Told) {
+        if !line.is_empty() && !line.starts_with('#') {
+            let (kind, words) = front(line);
+            self.answer(kind, words, told);
+        }
+    }
+
+    fn answer(&mut self, kind: &str, words: &str, told: &mut Told) {
+        match kind {
+            "let" => self.given.define(words, told),
+            "forget" => self.given.forget(told),
+            "moment" => self.given.set_moment(words, told),
+            "moments" => tell_moments(words, told),
+            "line" => self.course = Course::of(&self.given, words, told),
+            "gets" | "puts" | "written" => self.course.step(&self.given, kind, words, told),
+            "serve" => self.serving.serve(&mut self.course, words, told),
+            "turns" => self.begin_turns(words, told),
+            "exchange" => {
+                let (nodes, turns) = (self.serving.nodes.as_str(), self.turns.as_slice());
+                ends::answer(&self.given, nodes, turns, words, told);
+            }
+            _ => self.answer_alone(kind, words, told),
+        }
+    }
+
+    /// Sets the turns, and tells how many they are.
+    fn begin_turns(&mut self, words: &str, told: &mut Told) {
+        self.turns = turns_of(&self.given, words, told);
+        told.shown(&self.turns.len());
+    }
+
+    /// The answer to a row that stands alone.
+    fn answer_alone(&mut self, kind: &str, words: &str, told: &mut Told) {
+        match kind {
+            "HEL" => bodies::tell_body::<Hello>(&self.given, words, told),
+            "ACK" => bodies::tell_body::<Ack>(&self.given, words, told),
+            "ERR" => bodies::tell_body::<ErrorFrame>(&self.given, words, told),
+            "error" | "chunk" | "opening" | "cut" | "abort" => {
+                bodies::answer(&self.given, kind, words, told);
+            }
+            "parts" => parts::tell_node(&self.given, words, told),
+            "source" => parts::tell_source(&self.given, words, told),
+            _ => self.begin_or_step(kind, words, told),
+        }
+    }
+
+    fn begin_or_step(&mut self, kind: &str, words: &str, told: &mut Told) {
+        match kind {
+            "frames" => self.begin_frames(words, told),
+            "assembler" => self.begin_assembler(words, told),
+            "server" => self.begin_server(words, told),
+            "client" => self.begin_client(words, told),
+            "dissect" => self.begin_dissector(words, told),
+            "open" => self.begin_caller(words, told),
+            "take" | "pieces" => self.take(kind, words, told),
+            "number"
+            | "reply"
+            | "state"
+            | "end"
+            | "ask"
+            | "asks"
+            | "renew"
+            | "judge"
+            | "close"
+            | "begin"
+            | "call"
+            | "call-all"
+            | "last" => self.step(kind, words, told),
+            _ => self.serving.answer(&self.given, kind, words, told),
+        }
+    }
+
+    /// Gives what was begun last octets: all at once, or as many at once as the first word says.
+    fn take(&mut self, kind: &str, words: &str, told: &mut Told) {
+        let (size, rest) = match kind {
+            "pieces" => first_number(words, told),
+            _ => (u32::MAX, words),
+        };
+        let size = size as usize;
+        let octets = self.given.octets(rest, told);
+        match &mut self.machine {
+            Machine::Frames(reader) => {
+                take_pieces(&self.given, reader, size, octets.as_slice(), told)
+            }
+            Machine::Assembler(joining) => {
+                take_pieces(&self.given, joining, size, octets.as_slice(), told)
+            }
+            Machine::Server(channel) => {
+                take_pieces(&self.given, channel, size, octets.as_slice(), told)
+            }
+            Machine::Client(channel) => {
+                take_pieces(&self.given, channel, size, octets.as_slice(), told)
+            }
+            _ => self.step(kind, words, told),
+        }
+    }
+
+    /// The answer of what was begun last to a step.
+    fn step(&mut self, kind: &str, words: &str, told: &mut Told) {
+        match &mut self.machine {
+            Machine::Nothing => told.fail("no row"),
+            Machine::Frames(reader) => frames::step(reader, kind, told),
+            Machine::Assembler(joining) => joining.step(kind, words, told),
+            Machine::Server(channel) => server::step(&self.given, channel, kind, words, told),
+            Machine::Client(channel) => client::step(&self.given, channel, kind, words, told),
+            Machine::Dissector(dissection) => dissection.step(&self.given, kind, words, told),
+            Machine::Caller(client) => {
+                calling::step(&self.given, client, &mut self.course, (kind, words), told)
+            }
+        }
+    }
+
+    // ---- what is begun in place of the one before
+
+    fn begin_frames(&mut self, words: &str, told: &mut Told) {
+        let gate = frames::gate_of(words, told);
+        self.machine = Machine::Frames(FrameReader::new(told.alloc(), gate));
+        self.step("state", "", told);
+    }
+
+    fn begin_assembler(&mut self, words: &str, told: &mut Told) {
+        self.machine = Machine::Assembler(Joining::of(words, told));
+        self.step("state", "", told);
+    }
+
+    fn begin_server(&mut self, words: &str, told: &mut Told) {
+        let (limits, words) = limits_of(words, told);
+        let (id, words) = first_number(words, told);
+        if let Some(limits) = limits {
+            self.machine = Machine::Server(ServerChannel::new(told.alloc(), limits, id));
+            self.take("take", words, told);
+        }
+    }
+
+    /// Begins a client, which sends its HEL, and gives it octets if there are some.
+    fn begin_client(&mut self, words: &str, told: &mut Told) {
+        let (limits, words) = limits_of(words, told);
+        let (url, words) = front(words);
+        let (Some(limits), Some(url)) = (limits, text_of(url, told)) else {
+            return;
+        };
+        if !url.is_encodable() {
+            told.fail("no row");
+            return;
+        }
+        let channel = ClientChannel::new(told.alloc(), limits, url);
+        client::hello(&self.given, &channel, told);
+        self.machine = Machine::Client(channel);
+        if !words.is_empty() {
+            self.take("take", words, told);
+        }
+    }
+
+    fn begin_dissector(&mut self, words: &str, told: &mut Told) {
+        let (side, words) = front(words);
+        let side = match side {
+            "client" => Side::Client,
+            _ => Side::Server,
+        };
+        self.machine = Machine::Dissector(Dissection::new(told.alloc(), side));
+        self.step("take", words, told);
+    }
+
+    fn begin_caller(&mut self, words: &str, told: &mut Told) {
+        self.machine = match calling::open(&self.given, &mut self.course, words, told) {
+            Some(client) => Machine::Caller(client),
+            None => Machine::Nothing,
+        };
+    }
+}

@@ -1,0 +1,102 @@
+//! A server's channel.
+
+use crate::given::{Given, tell_message};
+use crate::taking::{Goes, Takes};
+use crate::told::Told;
+use crate::words::first_number;
+use ua_channel::{ChannelFault, ReplyFault, ServerChannel, ServerEvent};
+
+impl Takes for ServerChannel {
+    fn take_one(&mut self, given: &Given, piece: &[u8], told: &mut Told) -> (usize, Goes) {
+        let (taken, answer) = self.advance(piece, given.moment);
+        match answer {
+            Ok(event) => (taken, tell_event(given, event, told)),
+            Err(ChannelFault::Closed) => {
+                told.event("is closed");
+                (piece.len(), Goes::Out)
+            }
+            Err(fault) => {
+                tell_fault(given, fault, told);
+                (taken, Goes::Out)
+            }
+        }
+    }
+}
+
+fn tell_event(given: &Given, event: ServerEvent, told: &mut Told) -> Goes {
+    match event {
+        ServerEvent::NeedMore => return Goes::On,
+        ServerEvent::Send(octets) => {
+            told.event("sends");
+            given.tell_frames(octets.as_slice(), told);
+        }
+        ServerEvent::Asked(id, message) => {
+            told.event("asks");
+            told.shown(&id);
+            tell_message(given, &message, told);
+        }
+        ServerEvent::Aborted(id) => {
+            told.event("aborts");
+            told.shown(&id);
+        }
+        ServerEvent::Closed => {
+            told.event("closes");
+            return Goes::Out;
+        }
+    }
+    Goes::Telling
+}
+
+fn tell_fault(given: &Given, fault: ChannelFault, told: &mut Told) {
+    match fault {
+        ChannelFault::Refused { code, err_frame } => {
+            told.event("refuses");
+            told.code(code);
+            told.word("sends");
+            given.tell(&err_frame, told);
+        }
+        ChannelFault::Closed => told.event("is closed"),
+        ChannelFault::OutOfMemory => told.end("advance: out of memory"),
+    }
+}
+
+/// The answer of a server's channel to a step.
+pub fn step(given: &Given, channel: &mut ServerChannel, kind: &str, words: &str, told: &mut Told) {
+    match kind {
+        "reply" => reply(given, channel, words, told),
+        "state" => state(channel, told),
+        "end" => {
+            channel.end();
+            state(channel, told);
+        }
+        _ => told.fail("no row"),
+    }
+}
+
+/// The reply of a request id and a body.
+fn reply(given: &Given, channel: &mut ServerChannel, words: &str, told: &mut Told) {
+    let (id, words) = first_number(words, told);
+    let body = given.octets(words, told);
+    if body.is_empty() {
+        told.fail("no row");
+        return;
+    }
+    match channel.reply(id, body.as_slice()) {
+        Ok(octets) => {
+            told.word("sends");
+            given.tell_frames(octets.as_slice(), told);
+        }
+        Err(ReplyFault::NotOpen) => told.word("is not open"),
+        Err(ReplyFault::OutOfMemory) => told.end("reply: out of memory"),
+    }
+}
+
+/// How many octets are held, how many messages are unfinished, and the most octets that may be held.
+fn state(channel: &ServerChannel, told: &mut Told) {
+    told.word("held");
+    told.shown(&channel.held());
+    told.word("open");
+    told.shown(&channel.open_count());
+    told.word("bound");
+    told.shown(&channel.bound());
+}
