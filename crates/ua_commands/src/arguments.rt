@@ -96,65 +96,191 @@ fn side_of(matches: &ArgMatches<'_>) -> Side {
 fn number_of(matches: &ArgMatches<'_>, name: &str) -> Option<u16>
     ensures { IfSome result (λ number. 1 ≤ number) }
 {
-    parse_number(matches.get_str(name)?)
+    match matches.get_str(name) {
+        Some(word) => parse_number(word),
+        None => None,
+    }
 }
 
 fn dissect_of<'a>(matches: &ArgMatches<'a>) -> Option<Task<'a>>
     ensures { IfSome result CountsFromOne }
 {
-    Some(Task::Dissect(Dissect {
-        file: matches.get_str("FILE")?,
-        hex: matches.get_flag("hex"),
-        side: side_of(matches),
-    }))
+    let hex = matches.get_flag("hex");
+    let side = side_of(matches);
+    match matches.get_str("FILE") {
+        Some(file) => Some(Task::Dissect(Dissect { file, hex, side })),
+        None => None,
+    }
 }
 
 fn serve_of<'a>(matches: &ArgMatches<'a>) -> Option<Task<'a>>
     ensures { IfSome result CountsFromOne }
 {
+    let (Some(nodes), Some(port), Some(connections)) = (
+        matches.get_str("NODES"),
+        number_of(matches, "PORT"),
+        number_of(matches, "connections"),
+    ) else {
+        return None;
+    };
     Some(Task::Serve(Serve {
-        nodes: matches.get_str("NODES")?,
-        port: number_of(matches, "PORT")?,
-        connections: number_of(matches, "connections")?,
+        nodes,
+        port,
+        connections,
     }))
 }
 
-fn read_of<'a>(alloc: Global, matches: &ArgMatches<'a>) -> Result<Option<Task<'a>>, AllocError>
-    ensures { IfOk result (λ task. IfSome task CountsFromOne) }
+/// The words of a Write.
+fn written_of<'a>(matches: &ArgMatches<'a>) -> Option<WriteNode<'a>>
+    ensures { IfSome result (λ asked. 1 ≤ asked.port) }
 {
     let Some(port) = number_of(matches, "PORT") else {
-        return Ok(None);
+        return None;
     };
-    let nodes = matches.get_strs("NODE").unwrap_or(&[]).to_vec(alloc)?;
-    Ok(Some(Task::Read(ReadNodes { port, nodes })))
+    let Some(node) = matches.get_str("NODE") else {
+        return None;
+    };
+    let Some(kind) = matches.get_str("TYPE") else {
+        return None;
+    };
+    let Some(value) = matches.get_str("VALUE") else {
+        return None;
+    };
+    Some(WriteNode {
+        port,
+        node,
+        kind,
+        value,
+    })
 }
 
 fn write_of<'a>(matches: &ArgMatches<'a>) -> Option<Task<'a>>
     ensures { IfSome result CountsFromOne }
 {
-    Some(Task::Write(WriteNode {
-        port: number_of(matches, "PORT")?,
-        node: matches.get_str("NODE")?,
-        kind: matches.get_str("TYPE")?,
-        value: matches.get_str("VALUE")?,
-    }))
+    match written_of(matches) {
+        Some(asked) => Some(Task::Write(asked)),
+        None => None,
+    }
 }
 
 fn endpoints_of<'a>(matches: &ArgMatches<'a>) -> Option<Task<'a>>
     ensures { IfSome result CountsFromOne }
 {
-    Some(Task::Endpoints(number_of(matches, "PORT")?))
+    match number_of(matches, "PORT") {
+        Some(port) => Some(Task::Endpoints(port)),
+        None => None,
+    }
+}
+
+/// The words of a script.
+fn looped_of<'a>(matches: &ArgMatches<'a>) -> Option<Loop<'a>>
+    ensures { IfSome result (λ asked. 1 ≤ asked.cut) }
+{
+    let Some(nodes) = matches.get_str("NODES") else {
+        return None;
+    };
+    let Some(script) = matches.get_str("SCRIPT") else {
+        return None;
+    };
+    let Some(cut) = number_of(matches, "cut") else {
+        return None;
+    };
+    let tcp = matches.get_flag("tcp");
+    Some(Loop {
+        nodes,
+        script,
+        cut,
+        tcp,
+    })
 }
 
 fn loop_of<'a>(matches: &ArgMatches<'a>) -> Option<Task<'a>>
     ensures { IfSome result CountsFromOne }
 {
-    Some(Task::Loop(Loop {
-        nodes: matches.get_str("NODES")?,
-        script: matches.get_str("SCRIPT")?,
-        cut: number_of(matches, "cut")?,
-        tcp: matches.get_flag("tcp"),
-    }))
+    match looped_of(matches) {
+        Some(asked) => Some(Task::Loop(asked)),
+        None => None,
+    }
+}
+
+/// The words for nodes.
+fn nodes_of<'a>(alloc: Global, matches: &ArgMatches<'a>) -> Result<Vec<&'a str>, AllocError> {
+    matches.get_strs("NODE").unwrap_or(&[]).to_vec(alloc)
+}
+
+fn read_of<'a>(alloc: Global, matches: &ArgMatches<'a>) -> Result<Option<Task<'a>>, AllocError>
+    ensures { IfOk result (λ task. IfSome task CountsFromOne) }
+{
+    match number_of(matches, "PORT") {
+        Some(port) => match nodes_of(alloc, matches) {
+            Ok(nodes) => Ok(Some(Task::Read(ReadNodes { port, nodes }))),
+            Err(error) => Err(error),
+        },
+        None => Ok(None),
+    }
+}
+
+/// The commands, by their names.
+#[derive(Clone, Copy)]
+enum Name {
+    Dissect,
+    Serve,
+    Endpoints,
+    Read,
+    Write,
+    Loop,
+}
+
+/// The command of this name.
+fn name_of(command: &str) -> Option<Name> {
+    match command {
+        "dissect" => Some(Name::Dissect),
+        "serve" => Some(Name::Serve),
+        "endpoints" => Some(Name::Endpoints),
+        "read" => Some(Name::Read),
+        "write" => Some(Name::Write),
+        "loop" => Some(Name::Loop),
+        _ => None,
+    }
+}
+
+/// What the words of a command ask for.
+fn task_of<'a>(
+    alloc: Global,
+    command: Name,
+    matches: &ArgMatches<'a>,
+) -> Result<Option<Task<'a>>, AllocError>
+    ensures { IfOk result (λ task. IfSome task CountsFromOne) }
+{
+    match command {
+        Name::Dissect => Ok(dissect_of(matches)),
+        Name::Serve => Ok(serve_of(matches)),
+        Name::Endpoints => Ok(endpoints_of(matches)),
+        Name::Read => read_of(alloc, matches),
+        Name::Write => Ok(write_of(matches)),
+        Name::Loop => Ok(loop_of(matches)),
+    }
+}
+
+/// What the command among the words asks for.
+fn subcommand_task<'a>(
+    alloc: Global,
+    matches: &ArgMatches<'a>,
+) -> Result<Option<Task<'a>>, AllocError>
+    ensures { IfOk result (λ task. IfSome task CountsFromOne) }
+{
+    let Some((command, found)) = matches.subcommand() else {
+        return Ok(None);
+    };
+    match name_of(command) {
+        Some(command) => task_of(alloc, command, found),
+        None => Ok(None),
+    }
+}
+
+/// What `clap` finds among the words.
+fn matches_of<'a, S: AsStr>(alloc: Global, words: &'a [S]) -> Result<ArgMatches<'a>, Error> {
+    commands::program(alloc)?.try_get_matches_from(words)
 }
 
 /// What the words ask for, of which the first is the program's name; nothing where a number among
@@ -162,14 +288,8 @@ fn loop_of<'a>(matches: &ArgMatches<'a>) -> Option<Task<'a>>
 pub fn parse<'a, S: AsStr>(alloc: Global, words: &'a [S]) -> Result<Option<Task<'a>>, Error>
     ensures { IfOk result (λ task. IfSome task CountsFromOne) }
 {
-    let matches = commands::program(alloc)?.try_get_matches_from(words)?;
-    Ok(match matches.subcommand() {
-        Some(("dissect", found)) => dissect_of(found),
-        Some(("serve", found)) => serve_of(found),
-        Some(("endpoints", found)) => endpoints_of(found),
-        Some(("read", found)) => read_of(alloc, found)?,
-        Some(("write", found)) => write_of(found),
-        Some(("loop", found)) => loop_of(found),
-        _ => None,
-    })
+    let matches = matches_of(alloc, words)?;
+    let task = subcommand_task(alloc, &matches);
+    drop(matches);
+    Ok(task?)
 }

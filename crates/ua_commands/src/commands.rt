@@ -3,106 +3,272 @@
 use clap::{Arg, ArgAction, Command};
 use std::alloc::{AllocError, Global};
 
-/// A word that a command needs.
-fn needed<'a>(alloc: Global, name: &'a str, help: &'a str) -> Arg<'a> {
-    Arg::new(alloc, name)
-        .required(true)
-        .action(ArgAction::Set)
-        .help(help)
+/// What a word of a command line is.
+#[derive(Clone, Copy)]
+struct Kind {
+    /// Whether the command needs it.
+    is_needed: bool,
+    /// Whether it is named, as `--cut 7`; else it is known by its place.
+    is_named: bool,
+    /// What a use of it does.
+    action: ArgAction,
+    /// The least values that it has.
+    least: usize,
+    /// The most values that it has.
+    most: usize,
+    /// Its value where none is given.
+    defaults: &'static [&'static str],
 }
+
+/// One that the command needs, by its place.
+const NEEDED: Kind = Kind {
+    is_needed: true,
+    is_named: false,
+    action: ArgAction::Set,
+    least: 1,
+    most: 1,
+    defaults: &[],
+};
+
+/// One or more at the last place.
+const SEVERAL: Kind = Kind {
+    is_needed: true,
+    is_named: false,
+    action: ArgAction::Set,
+    least: 1,
+    most: usize::MAX,
+    defaults: &[],
+};
 
 /// A flag, as `--hex`.
-fn flag<'a>(alloc: Global, name: &'a str, help: &'a str) -> Arg<'a> {
-    Arg::new(alloc, name)
-        .long(name)
-        .action(ArgAction::SetTrue)
-        .help(help)
+const FLAG: Kind = Kind {
+    is_needed: false,
+    is_named: true,
+    action: ArgAction::SetTrue,
+    least: 0,
+    most: 0,
+    defaults: &[],
+};
+
+/// How many connections are served: `--connections 2`, and 1 where nothing is said.
+const CONNECTIONS: Kind = Kind {
+    is_needed: false,
+    is_named: true,
+    action: ArgAction::Set,
+    least: 1,
+    most: 1,
+    defaults: &["1"],
+};
+
+/// How many octets an end takes at once: `--cut 7`, and 65535 where nothing is said.
+const CUT: Kind = Kind {
+    is_needed: false,
+    is_named: true,
+    action: ArgAction::Set,
+    least: 1,
+    most: 1,
+    defaults: &["65535"],
+};
+
+/// A word of a command: its name, what it is, and its help.
+#[derive(Clone, Copy)]
+struct Word {
+    name: &'static str,
+    kind: Kind,
+    help: &'static str,
 }
 
-/// A number behind a flag, as `--cut 7`.
-fn number<'a>(alloc: Global, name: &'a str, default: &'a str, help: &'a str) -> Arg<'a> {
-    Arg::new(alloc, name)
-        .long(name)
-        .action(ArgAction::Set)
-        .default_value(default)
-        .help(help)
+/// A command: its name, its help, and its words.
+#[derive(Clone, Copy)]
+struct Words {
+    name: &'static str,
+    help: &'static str,
+    words: &'static [Word],
 }
 
-fn port<'a>(alloc: Global) -> Arg<'a> {
-    needed(alloc, "PORT", "a port of this machine, from 1 to 65535")
+const PORT: Word = Word {
+    name: "PORT",
+    kind: NEEDED,
+    help: "a port of this machine, from 1 to 65535",
+};
+
+const NODE_FILE: Word = Word {
+    name: "NODES",
+    kind: NEEDED,
+    help: "the node file",
+};
+
+const DISSECT: &[Word] = &[
+    Word {
+        name: "FILE",
+        kind: NEEDED,
+        help: "the file of octets",
+    },
+    Word {
+        name: "hex",
+        kind: FLAG,
+        help: "the file holds hexadecimal digits; white space is dropped",
+    },
+    Word {
+        name: "server",
+        kind: FLAG,
+        help: "the octets are those that a server sent",
+    },
+];
+
+const SERVE: &[Word] = &[
+    NODE_FILE,
+    PORT,
+    Word {
+        name: "connections",
+        kind: CONNECTIONS,
+        help: "how many connections are served, from 1 to 65535",
+    },
+];
+
+const READ: &[Word] = &[
+    PORT,
+    Word {
+        name: "NODE",
+        kind: SEVERAL,
+        help: "a NodeId, as ns=1;s=Pump",
+    },
+];
+
+const WRITE: &[Word] = &[
+    PORT,
+    Word {
+        name: "NODE",
+        kind: NEEDED,
+        help: "a NodeId, as ns=1;s=Pump",
+    },
+    Word {
+        name: "TYPE",
+        kind: NEEDED,
+        help: "a type, as Int32 or Int32[]",
+    },
+    Word {
+        name: "VALUE",
+        kind: NEEDED,
+        help: "a value of the type; one that begins with - stands behind the word --",
+    },
+];
+
+const LOOP: &[Word] = &[
+    NODE_FILE,
+    Word {
+        name: "SCRIPT",
+        kind: NEEDED,
+        help: "the script: lines that read, write and renew",
+    },
+    Word {
+        name: "cut",
+        kind: CUT,
+        help: "how many octets each end takes at once, from 1 to 65535",
+    },
+    Word {
+        name: "tcp",
+        kind: FLAG,
+        help: "the same octets go over a connection within this process, too",
+    },
+];
+
+/// The commands, in the order of the help.
+const COMMANDS: &[Words] = &[
+    Words {
+        name: "dissect",
+        help: "prints the frames and messages of a file of octets",
+        words: DISSECT,
+    },
+    Words {
+        name: "serve",
+        help: "serves connections on a port, one after the other",
+        words: SERVE,
+    },
+    Words {
+        name: "endpoints",
+        help: "prints the endpoints of a server",
+        words: &[PORT],
+    },
+    Words {
+        name: "read",
+        help: "reads the values of nodes",
+        words: READ,
+    },
+    Words {
+        name: "write",
+        help: "writes the value of a node",
+        words: WRITE,
+    },
+    Words {
+        name: "loop",
+        help: "runs a script over nodes, with both ends within this process",
+        words: LOOP,
+    },
+];
+
+/// The commands. They are made here, where nothing else is alive.
+fn commands() -> &'static [Words] {
+    COMMANDS
 }
 
-fn node<'a>(alloc: Global) -> Arg<'a> {
-    needed(alloc, "NODE", "a NodeId, as ns=1;s=Pump")
+/// What every word has.
+fn plain<'a>(alloc: Global, word: &Word) -> Arg<'a> {
+    Arg::new(alloc, word.name)
+        .required(word.kind.is_needed)
+        .action(word.kind.action)
+        .help(word.help)
 }
 
-fn node_file<'a>(alloc: Global) -> Arg<'a> {
-    needed(alloc, "NODES", "the node file")
+/// A word as `clap` takes it.
+fn arg<'a>(alloc: Global, word: &Word) -> Arg<'a> {
+    let arg = plain(alloc, word)
+        .num_args(word.kind.least..=word.kind.most)
+        .default_values(word.kind.defaults);
+    if word.kind.is_named {
+        arg.long(word.name)
+    } else {
+        arg
+    }
 }
 
-fn dissect<'a>(alloc: Global) -> Result<Command<'a>, AllocError> {
-    let hex = "the file holds hexadecimal digits; white space is dropped";
-    let server = "the octets are those that a server sent";
-    Command::new(alloc, "dissect")
-        .about("prints the frames and messages of a file of octets")
-        .arg(needed(alloc, "FILE", "the file of octets"))?
-        .arg(flag(alloc, "hex", hex))?
-        .arg(flag(alloc, "server", server))
+/// A command as `clap` takes it.
+fn command<'a>(alloc: Global, words: &Words) -> Result<Command<'a>, AllocError> {
+    let mut command = Command::new(alloc, words.name).about(words.help);
+    for word in words.words {
+        match command.arg(arg(alloc, word)) {
+            Ok(longer) => command = longer,
+            Err(error) => return Err(error),
+        }
+    }
+    Ok(command)
 }
 
-fn serve<'a>(alloc: Global) -> Result<Command<'a>, AllocError> {
-    let connections = "how many connections are served, from 1 to 65535";
-    Command::new(alloc, "serve")
-        .about("serves connections on a port, one after the other")
-        .arg(node_file(alloc))?
-        .arg(port(alloc))?
-        .arg(number(alloc, "connections", "1", connections))
-}
-
-fn endpoints<'a>(alloc: Global) -> Result<Command<'a>, AllocError> {
-    Command::new(alloc, "endpoints")
-        .about("prints the endpoints of a server")
-        .arg(port(alloc))
-}
-
-fn read<'a>(alloc: Global) -> Result<Command<'a>, AllocError> {
-    Command::new(alloc, "read")
-        .about("reads the values of nodes")
-        .arg(port(alloc))?
-        .arg(node(alloc).num_args(1..))
-}
-
-fn write<'a>(alloc: Global) -> Result<Command<'a>, AllocError> {
-    let value = "a value of the type; one that begins with - stands behind the word --";
-    Command::new(alloc, "write")
-        .about("writes the value of a node")
-        .arg(port(alloc))?
-        .arg(node(alloc))?
-        .arg(needed(alloc, "TYPE", "a type, as Int32 or Int32[]"))?
-        .arg(needed(alloc, "VALUE", value))
-}
-
-fn run_script<'a>(alloc: Global) -> Result<Command<'a>, AllocError> {
-    let script = "the script: lines that read, write and renew";
-    let cut = "how many octets each end takes at once, from 1 to 65535";
-    let tcp = "the same octets go over a connection within this process, too";
-    Command::new(alloc, "loop")
-        .about("runs a script over nodes, with both ends within this process")
-        .arg(node_file(alloc))?
-        .arg(needed(alloc, "SCRIPT", script))?
-        .arg(number(alloc, "cut", "65535", cut))?
-        .arg(flag(alloc, "tcp", tcp))
+/// Adds a command to the program.
+fn with_command<'a>(
+    alloc: Global,
+    program: Command<'a>,
+    words: &Words,
+) -> Result<Command<'a>, AllocError> {
+    match command(alloc, words) {
+        Ok(command) => program.subcommand(command),
+        Err(error) => {
+            drop(program);
+            Err(error)
+        }
+    }
 }
 
 /// The program's command line.
 pub fn program<'a>(alloc: Global) -> Result<Command<'a>, AllocError> {
-    Command::new(alloc, "ua")
+    let mut program = Command::new(alloc, "ua")
         .about("OPC UA Binary over UA TCP")
-        .subcommand_required(true)
-        .subcommand(dissect(alloc)?)?
-        .subcommand(serve(alloc)?)?
-        .subcommand(endpoints(alloc)?)?
-        .subcommand(read(alloc)?)?
-        .subcommand(write(alloc)?)?
-        .subcommand(run_script(alloc)?)
+        .subcommand_required(true);
+    for words in commands() {
+        match with_command(alloc, program, words) {
+            Ok(longer) => program = longer,
+            Err(error) => return Err(error),
+        }
+    }
+    Ok(program)
 }
