@@ -1,19 +1,44 @@
 //! A client over a connection in which the server has said all before.
 
-use crate::fixture::{MOMENT, front_with, joined};
 use std::alloc::Global;
 use std::io::{Read, Write};
 use std::net::{Net, OpenListener, TcpListener, TcpStream};
 use std::process::Abort;
 use std::slice;
 use std::test::Fail;
-use ua_builtin::Octets;
+use ua_builtin::{DateTime, Octets};
 use ua_channel::Line;
 use ua_client::Client;
 use ua_commands::{TcpLine, limits};
 use ua_requests::local_url;
 use ua_services::{Request, read_request};
 use ua_streams::{CLIENT_STREAM, RENEWED_END, RENEWING_END, SERVER_STREAM};
+
+/// 1970-01-01, at which all is said.
+const MOMENT: DateTime = DateTime {
+    ticks: 116_444_736_000_000_000,
+};
+
+/// These octets, one behind the other.
+fn joined(rt: &impl Abort, alloc: Global, parts: &[&[u8]]) -> Vec<u8> {
+    parts.concat(alloc).expect(rt, "memory")
+}
+
+/// A front of a stream of so many octets, and frames behind it.
+fn front_with(
+    rt: &impl Abort,
+    alloc: Global,
+    stream: &[&[u8]],
+    len: usize,
+    behind: &[&[u8]],
+) -> Vec<u8> {
+    let mut octets = joined(rt, alloc, stream);
+    octets.truncate(len);
+    octets
+        .extend_from_slice(&joined(rt, alloc, behind))
+        .expect(rt, "memory");
+    octets
+}
 
 /// Where the bodies of a Write, a Read and a CloseSession stand in what a client sends.
 type Places = [(usize, usize); 3];

@@ -1,13 +1,14 @@
 //! What goes over the connection of a line.
 
-use crate::fixture::joined;
 use std::alloc::Global;
 use std::io;
 use std::io::{Read, Write};
+use std::process::Abort;
 use std::test::Fail;
 use ua_channel::Line;
 use ua_commands::{LoopLine, MOST_OCTETS, carry_over};
-use ua_streams::{CLIENT_STREAM, SERVER_STREAM};
+use ua_looping::{Looped, parse_lines, run_lines};
+use ua_nodes::NodeTable;
 
 const NODES: &str = "ns=1;s=Pump\trw\tPump\tInt32\t5\n";
 
@@ -48,15 +49,25 @@ fn memory_line<'a>(alloc: Global, up: &'a [u8], down: &'a [u8]) -> LoopLine<'a, 
     LoopLine::new(near, far, up, down)
 }
 
+/// What goes each way of a script; rows of `ua_program_rows` have its octets.
+fn looped(rt: &impl Abort, alloc: Global) -> Looped {
+    let nodes = NodeTable::load(alloc, NODES).expect(rt, "nodes");
+    let script = "write\tns=1;s=Pump\tInt32\t6\nread\tns=1;s=Pump\n";
+    let lines = parse_lines(alloc, script).expect(rt, "lines");
+    let looped = run_lines(alloc, nodes, &lines, 65535);
+    drop(lines);
+    looped.expect(rt, "a run")
+}
+
 #[test]
 fn all_octets_of_a_script_are_written_at_its_ends(rt: HostRuntime) -> Result<(), Fail> {
-    let up = joined(&rt, rt.alloc(), CLIENT_STREAM);
-    let down = joined(&rt, rt.alloc(), SERVER_STREAM);
-    let mut line = memory_line(rt.alloc(), &up, &down);
+    let looped = looped(&rt, rt.alloc());
+    assert_eq!(rt; (looped.up.len(), looped.down.len()), (757, 783));
+    let mut line = memory_line(rt.alloc(), &looped.up, &looped.down);
     let carried = carry_over(rt.alloc(), NODES, &mut line);
     assert!(rt; carried.is_ok());
-    assert_eq!(rt; line.near.written.as_slice(), up.as_slice());
-    assert_eq!(rt; line.far.written.as_slice(), down.as_slice());
+    assert_eq!(rt; line.near.written.as_slice(), looped.up.as_slice());
+    assert_eq!(rt; line.far.written.as_slice(), looped.down.as_slice());
     Ok(())
 }
 

@@ -3,8 +3,6 @@
 #![tactic(auto)]
 
 #[cfg(test)]
-mod ask_tests;
-#[cfg(test)]
 mod client_tests;
 #[cfg(test)]
 mod fixture;
@@ -13,13 +11,11 @@ mod lines_tests;
 #[cfg(test)]
 mod loop_line_tests;
 #[cfg(test)]
-mod loop_tests;
+mod names_tests;
 #[cfg(test)]
 mod offline_tests;
 #[cfg(test)]
 mod serve_all_tests;
-#[cfg(test)]
-mod serve_tests;
 #[cfg(test)]
 mod tests;
 

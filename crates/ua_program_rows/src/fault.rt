@@ -1,0 +1,42 @@
+//! Why a row has no answer.
+
+use std::alloc::{AllocError, AllocFailed};
+use std::io;
+
+#[derive(Clone, Copy, PartialEq, Eq)]
+pub enum Fault {
+    /// The line is no row.
+    NoRow,
+    /// A file or a connection fails.
+    Failed,
+    Memory,
+}
+
+impl Fault {
+    /// What is printed of it.
+    pub fn text(self) -> &'static str {
+        match self {
+            Fault::NoRow => "no row",
+            Fault::Failed => "a file or a connection fails",
+            Fault::Memory => "out of memory",
+        }
+    }
+}
+
+impl From<AllocError> for Fault {
+    fn from(_: AllocError) -> Fault {
+        Fault::Memory
+    }
+}
+
+impl<T: Drop> From<AllocFailed<T>> for Fault {
+    fn from(_: AllocFailed<T>) -> Fault {
+        Fault::Memory
+    }
+}
+
+impl From<io::Error> for Fault {
+    fn from(_: io::Error) -> Fault {
+        Fault::Failed
+    }
+}
