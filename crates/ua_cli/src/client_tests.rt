@@ -1,5 +1,6 @@
 //! A client over a connection in which the server has said all before.
 
+use crate::conversation::{CLIENT_STREAM, RENEWED_END, RENEWING_END, SERVER_STREAM};
 use std::alloc::Global;
 use std::io::{Read, Write};
 use std::net::{Net, OpenListener, TcpListener, TcpStream};
@@ -12,7 +13,6 @@ use ua_client::Client;
 use ua_commands::{TcpLine, limits};
 use ua_requests::local_url;
 use ua_services::{Request, read_request};
-use ua_streams::{CLIENT_STREAM, RENEWED_END, RENEWING_END, SERVER_STREAM};
 
 /// 1970-01-01, at which all is said.
 const MOMENT: DateTime = DateTime {

@@ -5,6 +5,8 @@
 #[cfg(test)]
 mod client_tests;
 #[cfg(test)]
+mod conversation;
+#[cfg(test)]
 mod fixture;
 #[cfg(test)]
 mod lines_tests;

@@ -1,4 +1,6 @@
-//! A session that writes 6 to a node and reads it, field by field.
+//! What the two sides of a conversation send, field by field: a session that writes 6 to a node and
+//! reads it, and the same with a renewal of the token between the two. Written out by hand from the
+//! tables of OPC 10000-4 and OPC 10000-6, never taken from the program's output.
 
 /// What the client sends: 757 octets.
 pub const CLIENT_STREAM: &[&[u8]] = &[
