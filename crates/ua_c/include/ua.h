@@ -1,0 +1,179 @@
+/* The OPC UA Binary stack for C, C++ and whatever can call C: the static library libua_c.a.
+ *
+ * Each call is proved for every input under the rules below; docs/C.md says what is proved, and
+ * crates/ua_c/specs/ has it as definitions. This file is written by hand; tools/check_c_header
+ * compares its declarations with the exports.
+ *
+ * What C has to keep
+ *
+ * - A handle begins as `struct ua_handle h = {0};`. C never reads or writes what is in it, copies it,
+ *   or moves it to another address while a call runs. The calls below alone change it. `ua_free` ends
+ *   it; it may then be used again, as one that begins.
+ * - A pointer is never null, also where a length is 0. `const uint8_t *p, size_t p_len` are so many
+ *   octets that may be read during the call and that nothing writes meanwhile; a length is at most
+ *   half the address space. `uint8_t *buffer, size_t buffer_len` are so many octets that may be read
+ *   and written. Pointers of one call lead to memory that does not overlap, but where each is `const`.
+ * - A handle is in one call at a time, and stays on the thread that made it.
+ * - `malloc`, `realloc` and `free` are those of one allocator, which aligns a block to each power of
+ *   two up to 16 that divides its size. No call is made from a signal handler, or from the child of a
+ *   `fork` in a process with threads.
+ *
+ * What every call keeps
+ *
+ * - It returns, and reads and writes nothing but what it is given and what its handle owns.
+ * - A status other than UA_OK, UA_ENDED and UA_REFUSED means that nothing was taken. Such a call
+ *   changes nothing but its numbers, unless its comment says more of it; a buffer is written only
+ *   with UA_OK.
+ * - Numbers that a call gives back through pointers are written at every status, as 0 where there is
+ *   nothing to tell.
+ * - A handle that holds nothing, one that holds a machine of the other kind, and one whose connection
+ *   ended are statuses.
+ * - UA_NO_MEMORY: `malloc` or `realloc` gave null. At `ua_server_step` and `ua_client_take` the
+ *   connection then failed, and holds nothing; the server's nodes and session are as they were, or as
+ *   the message that was being answered leaves them. At every other call nothing has changed.
+ */
+#ifndef UA_H
+#define UA_H
+
+#include <stddef.h>
+#include <stdint.h>
+
+#ifdef __cplusplus
+extern "C" {
+#endif
+
+/* Statuses. */
+enum {
+    UA_OK = 0,               /* the call did what it is for */
+    UA_NO_MEMORY = 1,        /* memory was refused */
+    UA_BAD_LIMITS = 2,       /* a size of frames is below 8192, or messages may have no octet or chunk */
+    UA_BAD_NODES = 3,        /* a line of the node file is none */
+    UA_NO_HANDLE = 4,        /* the handle holds nothing */
+    UA_CLOSED = 5,           /* the connection ended or failed before */
+    UA_REFUSED = 6,          /* the connection was refused, and has ended */
+    UA_ENDED = 7,            /* the client closed the connection */
+    UA_FETCH_FIRST = 8,      /* octets wait: fetch them first */
+    UA_BAD_TEXT = 9,         /* a text is not UTF-8, or none of those that the call takes */
+    UA_OTHER_HANDLE = 10,    /* the handle holds a machine of the other kind */
+    UA_NOT_OPEN = 11,        /* the channel of the client is not open, or was closed */
+    UA_TOO_MANY_PENDING = 12, /* 64 calls are unanswered */
+    UA_RENEW_PENDING = 13,   /* a renewal is unanswered */
+    UA_TOO_MANY_TOKENS = 14, /* 16 tokens are held */
+    UA_EXHAUSTED = 15,       /* all request ids were used */
+    UA_TOO_LARGE = 16,       /* the server takes no message of so many octets or chunks */
+    UA_EMPTY = 17            /* the body of a call is empty */
+};
+
+/* Events of ua_client_take. */
+enum {
+    UA_NEED_MORE = 0,        /* more octets are to come */
+    UA_SEND = 1,             /* the octets that wait are to be sent */
+    UA_OPEN = 2,             /* the channel is open: calls may be asked */
+    UA_ANSWERED = 3,         /* the octets that wait are the body of the reply to the call `id` */
+    UA_ABORTED = 4,          /* the server gave up its reply to the call `id`, for `code` */
+    UA_RENEWED = 5,          /* a renewal was answered by the token `id` */
+    UA_FAILED = 6,           /* this end refused what came, for `code` (status UA_REFUSED) */
+    UA_FAILED_BY_PEER = 7    /* the server refused, for `code` (status UA_REFUSED) */
+};
+
+/* A handle of a server or a client. It begins as {0}. */
+struct ua_handle {
+    void *at;
+};
+
+/* What one end of a connection allows: the octets of frames each way (8192 at least), and for
+ * messages the octets and the number of chunks (1 at least). */
+struct ua_limits {
+    uint32_t receive_buffer_size;
+    uint32_t send_buffer_size;
+    uint32_t max_message_size;
+    uint32_t max_chunk_count;
+};
+
+/* Moments are in units of 100 nanoseconds since 1601-01-01 00:00 UTC. */
+
+/* ---- any handle */
+
+/* Lets go of what a handle holds, which then holds nothing. */
+void ua_free(struct ua_handle *handle);
+
+/* How many octets wait to be fetched; 0 where the handle holds nothing. */
+size_t ua_waiting(struct ua_handle *handle);
+
+/* Moves as many of the octets that wait as fit to the front of the buffer, and says how many; the
+ * rest waits. UA_NO_MEMORY: nothing was fetched, and nothing is lost. Also UA_NO_HANDLE. */
+uint32_t ua_fetch(struct ua_handle *handle, uint8_t *buffer, size_t buffer_len, size_t *fetched);
+
+/* How many octets of unfinished frames and messages are held, never more than ua_bound says; 0 where
+ * the handle holds nothing. */
+size_t ua_held(struct ua_handle *handle);
+
+/* The most octets that may be held: 8192 before sizes are agreed to, then those of a frame and of 4
+ * messages of the greatest size. 0 where the handle holds nothing. */
+size_t ua_bound(struct ua_handle *handle);
+
+/* ---- a server */
+
+/* Makes a server over the nodes of a node file (a text, as `ua serve` reads it), found at this URL,
+ * whose channel has this id, and puts it into `out`, in the place of what that held.
+ * UA_BAD_NODES: `line` is the first bad line, counted from 1. UA_BAD_LIMITS. UA_BAD_TEXT: the URL is
+ * no text that can be sent, or the nodes are not UTF-8. After a failure `out` holds what it held. */
+uint32_t ua_server_new(const uint8_t *nodes, size_t nodes_len, const struct ua_limits *limits,
+                       const uint8_t *url, size_t url_len, uint32_t channel,
+                       struct ua_handle *out, size_t *line);
+
+/* One step: takes octets of the client up to the end of the first frame that is answered or that ends
+ * the connection, else the whole piece. `taken` says how many: go on with the rest. What is to be sent
+ * then waits (`waiting` octets): fetch it and send it before the next step. A piece that is not empty
+ * is taken in part at least.
+ * UA_OK: the connection goes on. UA_ENDED: the client closed it, and nothing is to be sent.
+ * UA_REFUSED: what stands behind the octets that were taken is refused for `code`, and the ERR frame
+ * waits. UA_CLOSED: it ended or failed before. UA_FETCH_FIRST: octets wait.
+ * Also UA_NO_MEMORY, UA_NO_HANDLE, UA_OTHER_HANDLE. */
+uint32_t ua_server_step(struct ua_handle *handle, const uint8_t *piece, size_t piece_len,
+                        int64_t moment, size_t *taken, size_t *waiting, uint32_t *code);
+
+/* The next connection: a new channel of this id over the same nodes, as Writes left them, without a
+ * session, also where the one before did not end. What still waited is let go.
+ * UA_OK, UA_NO_HANDLE, UA_OTHER_HANDLE. */
+uint32_t ua_server_next_connection(struct ua_handle *handle, uint32_t channel);
+
+/* ---- a client */
+
+/* Makes a client of these limits for the server of this URL, and puts it into `out`, in the place of
+ * what that held. UA_BAD_LIMITS, UA_BAD_TEXT, UA_NO_MEMORY: `out` holds what it held. */
+uint32_t ua_client_new(const struct ua_limits *limits, const uint8_t *url, size_t url_len,
+                       struct ua_handle *out);
+
+/* The HEL, which waits: send it first.
+ * UA_OK, UA_NO_MEMORY, UA_FETCH_FIRST, UA_NO_HANDLE, UA_OTHER_HANDLE. */
+uint32_t ua_client_hello(struct ua_handle *handle);
+
+/* Takes octets of the server up to the end of the first frame at which there is something to be sent
+ * or to be told, else the whole piece. `taken` says how many, `event` what came of them, `id` and
+ * `code` of what it speaks.
+ * UA_OK. UA_REFUSED: the connection failed for `code`, with the event UA_FAILED or UA_FAILED_BY_PEER.
+ * UA_CLOSED: it failed or was closed before. UA_FETCH_FIRST: octets wait.
+ * Also UA_NO_MEMORY, UA_NO_HANDLE, UA_OTHER_HANDLE. */
+uint32_t ua_client_take(struct ua_handle *handle, const uint8_t *piece, size_t piece_len,
+                        int64_t moment, size_t *taken, uint32_t *event, uint32_t *id,
+                        uint32_t *code);
+
+/* Asks a call with this body, whose chunks wait: send them. `id` is its request id, under which it is
+ * answered. UA_NOT_OPEN, UA_TOO_MANY_PENDING, UA_EXHAUSTED, UA_TOO_LARGE, UA_EMPTY, UA_NO_MEMORY,
+ * UA_FETCH_FIRST, UA_NO_HANDLE, UA_OTHER_HANDLE: nothing was asked. */
+uint32_t ua_client_ask(struct ua_handle *handle, const uint8_t *body, size_t body_len, uint32_t *id);
+
+/* Asks for a further token; the OPN waits: send it. UA_NOT_OPEN, UA_RENEW_PENDING,
+ * UA_TOO_MANY_TOKENS, UA_EXHAUSTED, UA_NO_MEMORY, UA_FETCH_FIRST, UA_NO_HANDLE, UA_OTHER_HANDLE. */
+uint32_t ua_client_renew(struct ua_handle *handle, int64_t moment, uint32_t *id);
+
+/* Closes the channel; the CLO waits: send it. UA_NOT_OPEN, UA_EXHAUSTED, UA_NO_MEMORY,
+ * UA_FETCH_FIRST, UA_NO_HANDLE, UA_OTHER_HANDLE. */
+uint32_t ua_client_close(struct ua_handle *handle, int64_t moment);
+
+#ifdef __cplusplus
+}
+#endif
+
+#endif

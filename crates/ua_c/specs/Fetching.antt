@@ -1,0 +1,46 @@
+-- What any handle answers: how many octets it holds, and those that wait.
+use Rattle.std.specs.Prelude.{◌≡◌, ◌⊎◌, ◌≤◌, ℕ, List, Option, Some, None}
+use Rattle.ua_channel.specs.Asks.{Placed}
+use Rattle.ua_channel.specs.Client.{Stands as ClientStands, IsDone as ClientIsDone, bound_of as client_bound_of, bound_behind, held_octets, limits_of as client_limits_of}
+use Rattle.ua_channel.specs.Received.{received}
+use Rattle.ua_channel.specs.ServerStands.{Stands, IsDone, bound_of, bound_after, held_after, limits_of}
+use Rattle.ua_frame.specs.declared.frame.Frame.{Frame}
+use Rattle.ua_server.specs.Served.{channel_in}
+use Rattle.ua_c.specs.Status.{ok, no_memory, no_handle}
+use Rattle.ua_c.specs.Waiting.{Moves}
+use Rattle.ua_c.specs.declared.holding.Holding.{Holding}
+use Rattle.ua_c.specs.declared.holding.Machine.{Machine}
+use Rattle.ua_c.specs.declared.holding.Machine.TheVariants as machine
+
+-- what `Server::held` and `ClientChannel::held` say of this count
+abbrev pub Holds : Machine → ℕ → Type 0
+Holds (machine.Server station) count =
+    ((octets : List ℕ) (frames : List Frame) (rest : List ℕ) → Stands (channel_in station.server) octets frames rest → count ≡ held_after (received frames) rest)
+    × ((octets : List ℕ) (frames : List Frame) (rest : List ℕ) → Stands (channel_in station.server) octets frames rest → count ≤ bound_after (limits_of (channel_in station.server)) (received frames))
+    × (IsDone (channel_in station.server) → count ≡ 0)
+Holds (machine.Client client) count =
+    ((asks : List Placed) (octets : List ℕ) (frames : List Frame) (rest : List ℕ) → ClientStands client asks octets frames rest → count ≡ held_octets frames rest)
+    × ((asks : List Placed) (octets : List ℕ) (frames : List Frame) (rest : List ℕ) → ClientStands client asks octets frames rest → count ≤ client_bound_of client)
+    × (ClientIsDone client → count ≡ 0)
+
+-- what `Server::bound` and `ClientChannel::bound` say of this count
+abbrev pub Bounds : Machine → ℕ → Type 0
+Bounds (machine.Server station) count =
+    ((octets : List ℕ) (frames : List Frame) (rest : List ℕ) → Stands (channel_in station.server) octets frames rest → count ≡ bound_after (limits_of (channel_in station.server)) (received frames))
+    × (count ≡ bound_of (channel_in station.server))
+Bounds (machine.Client client) count =
+    ((asks : List Placed) (octets : List ℕ) (frames : List Frame) (rest : List ℕ) → ClientStands client asks octets frames rest → count ≡ bound_behind (client_limits_of client) (received frames).ack)
+    × (count ≡ client_bound_of client)
+
+-- a count of what is held, which is 0 where nothing is
+abbrev pub Counts : (Holding → Type 0) → ℕ → Option Holding → Type 0
+Counts P count None = count ≡ 0
+Counts P count (Some holding) = P holding
+
+-- octets that wait are moved into a buffer, and the machine is as it was; or memory was refused, and nothing changed
+abbrev pub FetchesHandle : Option Holding → Option Holding → List ℕ → List ℕ → ℕ → ℕ → Type 0
+FetchesHandle None new before after count status = (status ≡ no_handle) × (count ≡ 0) × (after ≡ before) × (new ≡ None)
+FetchesHandle (Some old) None before after count status = ⊥
+FetchesHandle (Some old) (Some new) before after count status = (new.machine ≡ old.machine)
+    × (((status ≡ ok) × Moves old.waiting new.waiting before after count)
+    ⊎ ((status ≡ no_memory) × (count ≡ 0) × (after ≡ before) × (new.waiting ≡ old.waiting)))

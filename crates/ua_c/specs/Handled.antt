@@ -1,0 +1,30 @@
+-- What calls do with a handle, whatever it holds.
+use Rattle.std.specs.Prelude.{◌≡◌, ◌<◌, ℕ, [], length, Option, Some, None}
+use Rattle.ua_channel.specs.declared.client.channel.ClientChannel.{ClientChannel}
+use Rattle.ua_c.specs.Status.{fetch_first, no_handle, other_handle}
+use Rattle.ua_c.specs.declared.holding.Holding.{Holding}
+use Rattle.ua_c.specs.declared.holding.Machine.{Machine}
+use Rattle.ua_c.specs.declared.holding.Machine.TheVariants as machine
+use Rattle.ua_c.specs.declared.station.Station.{Station}
+
+-- ---- in each of these `says` is that a call says this status, and nothing else
+
+-- a handle that holds nothing is left so; of one that holds something it is `P` what it held and what it holds
+abbrev pub OfHandle : Option Holding → Option Holding → (ℕ → Type 0) → (Holding → Holding → Type 0) → Type 0
+OfHandle None new says P = says no_handle × (new ≡ None)
+OfHandle (Some old) None says P = ⊥
+OfHandle (Some old) (Some new) says P = P old new
+
+-- nothing changes where a client is held, in the place of a server
+abbrev pub OfServer : Machine → Holding → Holding → (ℕ → Type 0) → (Station → Type 0) → Type 0
+OfServer (machine.Server station) old new says P = P station
+OfServer (machine.Client client) old new says P = says other_handle × (new ≡ old)
+
+-- nothing changes where a server is held, in the place of a client
+abbrev pub OfClient : Machine → Holding → Holding → (ℕ → Type 0) → (ClientChannel → Type 0) → Type 0
+OfClient (machine.Server station) old new says P = says other_handle × (new ≡ old)
+OfClient (machine.Client client) old new says P = P client
+
+-- nothing changes where octets wait, and `P` where none do
+abbrev pub WhereNone : Holding → Holding → (ℕ → Type 0) → Type 0 → Type 0
+WhereNone old new says P = (0 < length old.waiting → says fetch_first × (new ≡ old)) × (old.waiting ≡ [] → P)

@@ -1,0 +1,9 @@
+pub mod Asking
+pub mod Fetching
+pub mod Handled
+pub mod Held
+pub mod Limits
+pub mod Making
+pub mod Serving
+pub mod Status
+pub mod Waiting

@@ -1,0 +1,18 @@
+-- The limits that C hands over.
+use Rattle.std.specs.Prelude.{Option, Some, None}
+use Rattle.ua_frame.specs.Limits.{AreAllowed, HasSizes}
+use Rattle.ua_frame.specs.declared.limits.Limits.{Limits}
+use Rattle.ua_c.specs.declared.limits.UaLimits.{UaLimits}
+
+-- each number is at least the least one
+abbrev pub AreEnough : UaLimits → Type 0
+AreEnough c = AreAllowed c.receive_buffer_size c.send_buffer_size c.max_message_size c.max_chunk_count
+
+-- these limits are those numbers
+abbrev pub AreThese : UaLimits → Limits → Type 0
+AreThese c limits = HasSizes limits c.receive_buffer_size c.send_buffer_size c.max_message_size c.max_chunk_count
+
+-- the limits of these numbers, where they are enough, and none where they are not
+abbrev pub Allowed : UaLimits → Option Limits → Type 0
+Allowed c (Some limits) = AreEnough c × AreThese c limits
+Allowed c None = ¬ (AreEnough c)

@@ -1,0 +1,98 @@
+-- What a server does for C: each clause of the calls of `ua_server`, over what a handle holds.
+use Rattle.std.specs.Prelude.{◌≡◌, ◌≤◌, ◌<◌, ℕ, List, [], ◌∷◌, length, Option, Some, None, Result, Ok, Err, IfOk, IsErrOf}
+use Rattle.ua_builtin.specs.declared.date_time.DateTime.{DateTime}
+use Rattle.ua_channel.specs.ServerStands.{limits_of, channel_of, bound_of, IsDone, Goes, Stands as Holds}
+use Rattle.ua_channel.specs.ServerTold.{Told}
+use Rattle.ua_frame.specs.declared.limits.Limits.{Limits}
+use Rattle.ua_server.specs.Served.{channel_in}
+use Rattle.ua_server.specs.State.{State, begun}
+use Rattle.ua_server.specs.Stepping.{Stands, StepAnswers, StepStands, Takes}
+use Rattle.ua_server.specs.declared.server.Server.{Server}
+use Rattle.ua_server.specs.declared.step.End.{End}
+use Rattle.ua_server.specs.declared.step.End.TheVariants as ending
+use Rattle.ua_server.specs.declared.step.Step.{Step}
+use Rattle.ua_server.specs.declared.step.StepFault.{StepFault}
+use Rattle.ua_server.specs.declared.step.StepFault.TheVariants as step_fault
+use Rattle.ua_c.specs.Handled.{OfServer, WhereNone}
+use Rattle.ua_c.specs.Status.{ok, no_memory, closed, refused, ended}
+use Rattle.ua_c.specs.declared.holding.Holding.{Holding}
+use Rattle.ua_c.specs.declared.holding.Machine.TheVariants as machine
+use Rattle.ua_c.specs.declared.report.Report.{Report}
+use Rattle.ua_c.specs.declared.station.Station.{Station}
+
+-- ---- a server
+
+-- what `Server::new` says of the server that it makes
+pub record IsFresh (limits : Limits) (channel : ℕ) (server : Server) : Type 0 where
+  pub stands : (first : State) → Stands (channel_in server) [] [] first [] first
+  pub holds : Holds (channel_in server) [] [] []
+  pub limits_is : limits_of (channel_in server) ≡ limits
+  pub channel_is : channel_of (channel_in server) ≡ channel
+
+-- what `Server::step` says of what it answers to a piece at a moment, and of the server and the services that it leaves
+pub record StepsAs (server : Server) (services : State) (piece : List ℕ) (moment : DateTime) (answer : Result Step StepFault) (new : Server) (left : State) : Type 0 where
+  pub answers : (octets : List ℕ) (told : List Told) (first : State) (moments : List DateTime) → Stands (channel_in server) octets told first moments services
+      → StepAnswers (limits_of (channel_in server)) (channel_of (channel_in server)) moment piece answer (channel_in new) octets told first moments services left
+  pub stands : (octets : List ℕ) (told : List Told) → Goes (channel_in server) octets told → StepStands piece answer (channel_in new) octets told
+  pub progress : IfOk answer (λ step. Takes piece step)
+  pub starved : (octets : List ℕ) (told : List Told) → Goes (channel_in server) octets told
+      → IsErrOf answer step_fault.OutOfMemory → bound_of (channel_in new) ≡ bound_of (channel_in server)
+  pub closed : IsDone (channel_in server) → (answer ≡ Err step_fault.Closed) × (new ≡ server) × (left ≡ services)
+  pub limits : limits_of (channel_in new) ≡ limits_of (channel_in server)
+  pub channel : channel_of (channel_in new) ≡ channel_of (channel_in server)
+
+-- ---- what of that C is told
+
+-- the status of a step by how the connection ended, if it did
+abbrev pub status_of : Option End → ℕ
+status_of None = ok
+status_of (Some (ending.Refused code)) = refused
+status_of (Some ending.Closed) = ended
+status_of (Some ending.NoClose) = ended
+status_of (Some ending.Cut) = ended
+
+-- the code of a refusal, and 0 where there is none
+abbrev pub code_of : Option End → ℕ
+code_of None = 0
+code_of (Some (ending.Refused code)) = code.code
+code_of (Some ending.Closed) = 0
+code_of (Some ending.NoClose) = 0
+code_of (Some ending.Cut) = 0
+
+-- only a status
+abbrev pub nothing : ℕ → Report
+nothing status = record { status = status; taken = 0; code = 0 }
+
+-- what C is told of an answer, and which octets then wait
+abbrev pub Shows : Result Step StepFault → Report → List ℕ → List ℕ → Type 0
+Shows (Ok step) report before waiting = (report ≡ record { status = status_of step.end; taken = step.taken; code = code_of step.end }) × (waiting ≡ step.out.items)
+Shows (Err step_fault.Closed) report before waiting = (report ≡ nothing closed) × (waiting ≡ before)
+Shows (Err step_fault.OutOfMemory) report before waiting = (report ≡ nothing no_memory) × (waiting ≡ before)
+
+-- ---- what a handle holds
+
+-- a server of these limits that took no octet yet, over these services; no octets wait
+pub record HoldsFresh (limits : Limits) (channel : ℕ) (services : State) (new : Holding) : Type 0 where
+  pub station : Station
+  pub machine_is : new.machine ≡ machine.Server station
+  pub server_is : IsFresh limits channel station.server
+  pub services_is : station.services ≡ services
+  pub limits_is : station.limits ≡ limits
+  pub silent : new.waiting ≡ []
+
+-- one step of a server: the answer is one of `Server::step`, and C is told just that
+pub record StepsServer (old : Station) (new : Holding) (piece : List ℕ) (moment : DateTime) (report : Report) : Type 0 where
+  pub answer : Result Step StepFault
+  pub station : Station
+  pub machine_is : new.machine ≡ machine.Server station
+  pub steps : StepsAs old.server old.services piece moment answer station.server station.services
+  pub limits_is : station.limits ≡ old.limits
+  pub shown : Shows answer report [] new.waiting
+
+-- what a step does with what a handle holds
+abbrev pub StepsMachine : Holding → Holding → List ℕ → DateTime → Report → Type 0
+StepsMachine old new piece moment report = OfServer old.machine old new (λ why. report ≡ nothing why) (λ station. WhereNone old new (λ why. report ≡ nothing why) (StepsServer station new piece moment report))
+
+-- the next connection begins over the same services, without a session; what still waited is let go
+abbrev pub NextMachine : Holding → Holding → ℕ → ℕ → Type 0
+NextMachine old new channel status = OfServer old.machine old new (λ why. status ≡ why) (λ station. (status ≡ ok) × HoldsFresh station.limits channel (begun station.services) new)

@@ -1,0 +1,74 @@
+-- What calls answer, as numbers.
+use Rattle.std.specs.Prelude.{ℕ}
+
+-- the call did what it is for
+abbrev pub ok : ℕ
+ok = 0
+
+-- memory was refused
+abbrev pub no_memory : ℕ
+no_memory = 1
+
+-- the limits are below the least
+abbrev pub bad_limits : ℕ
+bad_limits = 2
+
+-- a line of the node file is none
+abbrev pub bad_nodes : ℕ
+bad_nodes = 3
+
+-- the handle holds nothing
+abbrev pub no_handle : ℕ
+no_handle = 4
+
+-- the connection ended, or failed, before
+abbrev pub closed : ℕ
+closed = 5
+
+-- the connection was refused
+abbrev pub refused : ℕ
+refused = 6
+
+-- the peer closed the connection
+abbrev pub ended : ℕ
+ended = 7
+
+-- octets wait to be fetched
+abbrev pub fetch_first : ℕ
+fetch_first = 8
+
+-- a text is none of those that the call takes
+abbrev pub bad_text : ℕ
+bad_text = 9
+
+-- the handle is of another kind
+abbrev pub other_handle : ℕ
+other_handle = 10
+
+-- the channel of a client is not open
+abbrev pub not_open : ℕ
+not_open = 11
+
+-- 64 calls are unanswered
+abbrev pub too_many_pending : ℕ
+too_many_pending = 12
+
+-- a renewal is unanswered
+abbrev pub renew_pending : ℕ
+renew_pending = 13
+
+-- 16 tokens are held
+abbrev pub too_many_tokens : ℕ
+too_many_tokens = 14
+
+-- all request ids were used
+abbrev pub exhausted : ℕ
+exhausted = 15
+
+-- the server takes no message of so many octets or chunks
+abbrev pub too_large : ℕ
+too_large = 16
+
+-- the body of a call is empty
+abbrev pub empty : ℕ
+empty = 17

@@ -1,0 +1,18 @@
+-- Octets that wait to be fetched.
+use Rattle.std.specs.Prelude.{◌≡◌, ℕ, List, ◌++◌, length, min, take, drop, Option, Some, None, Result, Ok, Err}
+use Rattle.std.specs.List.{concat}
+use Rattle.std.specs.declared.alloc.AllocError.{AllocError}
+
+-- the octets of a message, where there is one, else these
+abbrev pub waiting : Option (List (List ℕ)) → List ℕ → List ℕ
+waiting None octets = octets
+waiting (Some parts) octets = concat parts
+
+-- as many octets as fit go to the front of a buffer, whose rest is as it was; the others wait
+abbrev pub Moves : List ℕ → List ℕ → List ℕ → List ℕ → ℕ → Type 0
+Moves old new before after count = (count ≡ min (length old) (length before)) × (after ≡ take count old ++ drop count before) × (new ≡ drop count old)
+
+-- the same, or memory was refused and nothing changed
+abbrev pub Fetches : List ℕ → List ℕ → List ℕ → List ℕ → Result ℕ AllocError → Type 0
+Fetches old new before after (Ok count) = Moves old new before after count
+Fetches old new before after (Err e) = (new ≡ old) × (after ≡ before)

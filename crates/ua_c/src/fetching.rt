@@ -1,0 +1,96 @@
+//! What any handle answers: how many octets it holds, and those that wait.
+
+ghost use Rattle.std.specs.Prelude.{◌≡◌, length};
+ghost use Rattle.ua_c.specs.Fetching.{Bounds, Counts, FetchesHandle, Holds};
+
+use crate::handle::UaHandle;
+use crate::holding::{Holding, Machine};
+use crate::status::{NO_HANDLE, NO_MEMORY, OK};
+use std::alloc::Global;
+
+impl Holding {
+    fn held(&self) -> usize
+        ensures { Holds self.now.machine result }
+    {
+        match &self.machine {
+            Machine::Server(station) => station.server.held(),
+            Machine::Client(client) => client.held(),
+        }
+    }
+
+    fn bound(&self) -> usize
+        ensures { Bounds self.now.machine result }
+    {
+        match &self.machine {
+            Machine::Server(station) => station.server.bound(),
+            Machine::Client(client) => client.bound(),
+        }
+    }
+}
+
+/// How many octets are held of what is not whole yet; 0 where the handle holds nothing.
+#[unsafe(no_mangle)]
+pub extern "C" fn ua_held(alloc: Global, h: &mut UaHandle) -> usize
+    ensures held { Counts (λ holding. Holds holding.machine result) result h.old.value }
+    ensures same { h.new.value ≡ h.old.value }
+{
+    let Some(held) = h.take(alloc) else {
+        return 0;
+    };
+    let count = held.held();
+    *h = UaHandle::of(held);
+    count
+}
+
+/// The most octets that may be held; 0 where the handle holds nothing.
+#[unsafe(no_mangle)]
+pub extern "C" fn ua_bound(alloc: Global, h: &mut UaHandle) -> usize
+    ensures bound { Counts (λ holding. Bounds holding.machine result) result h.old.value }
+    ensures same { h.new.value ≡ h.old.value }
+{
+    let Some(held) = h.take(alloc) else {
+        return 0;
+    };
+    let count = held.bound();
+    *h = UaHandle::of(held);
+    count
+}
+
+/// How many octets wait to be fetched; 0 where the handle holds nothing.
+#[unsafe(no_mangle)]
+pub extern "C" fn ua_waiting(alloc: Global, h: &mut UaHandle) -> usize
+    ensures waiting { Counts (λ holding. result ≡ length holding.waiting) result h.old.value }
+    ensures same { h.new.value ≡ h.old.value }
+{
+    let Some(held) = h.take(alloc) else {
+        return 0;
+    };
+    let count = held.waiting.len();
+    *h = UaHandle::of(held);
+    count
+}
+
+/// Moves as many of the octets that wait as fit to the front of a buffer, and says how many.
+#[unsafe(no_mangle)]
+pub extern "C" fn ua_fetch(
+    alloc: Global,
+    h: &mut UaHandle,
+    buffer: &mut [u8],
+    fetched: &mut usize,
+) -> u32
+    ensures { FetchesHandle h.old.value h.new.value buffer.old buffer.new fetched.new result }
+{
+    *fetched = 0;
+    let Some(mut held) = h.take(alloc) else {
+        return NO_HANDLE;
+    };
+    let moved = held.waiting.fetch(alloc, buffer);
+    *h = UaHandle::of(held);
+    match moved {
+        Ok(count) => {
+            *fetched = count;
+            OK
+        }
+        Err(_) => NO_MEMORY,
+    }
+}

@@ -1,0 +1,23 @@
+//! The stack for C, as a static library: a server and a client over octets, and what needs no handle.
+//! `include/ua.h` declares each call, and says what C has to keep.
+//!
+//! A call does what the library's call does, and says so: its contract has that call's clauses over
+//! what the handle owns. There is no logic of its own.
+#![tactic(auto)]
+
+mod asking;
+mod fetching;
+mod handle;
+mod holding;
+mod limits;
+mod loose;
+mod making;
+mod report;
+mod serving;
+mod station;
+mod status;
+mod told;
+mod waiting;
+
+pub use handle::UaHandle;
+pub use limits::UaLimits;

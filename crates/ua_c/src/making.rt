@@ -1,0 +1,173 @@
+//! Servers and clients for C, as they begin.
+
+ghost use Rattle.std.specs.Prelude.{◌≡◌, ◌⊎◌, [], Some, IsTrue, IfOk, IfErr, OnOk};
+ghost use Rattle.std.specs.declared.option.Option.{Option as Maybe};
+ghost use Rattle.ua_nodes.specs.NodeFile.{WriteNodes, node_lines};
+ghost use Rattle.ua_nodes.specs.Sound.{IsSound};
+ghost use Rattle.ua_octets.specs.Counted.{text};
+ghost use Rattle.ua_server.specs.State.{fresh};
+ghost use Rattle.ua_c.specs.Making.{IsNoUrl, IsUrlOf, MakesClient, MakesServer, MakesStation, RefusesNodes, Seats, endpoint_of};
+ghost use Rattle.ua_c.specs.Status.{no_memory};
+
+use crate::handle::UaHandle;
+use crate::holding::{Holding, Machine};
+use crate::limits::{UaLimits, allowed};
+use crate::station::Station;
+use crate::status::{BAD_LIMITS, BAD_NODES, BAD_TEXT, NO_MEMORY, OK};
+use crate::waiting::Waiting;
+use std::alloc::{AllocError, Global};
+use std::str;
+use ua_builtin::{UaString, Wire};
+use ua_channel::ClientChannel;
+use ua_frame::Limits;
+use ua_nodes::{LoadFault, NodeTable};
+use ua_server::{Endpoint, Services};
+
+/// Puts a machine into a handle, in the place of what it held.
+fn seat(alloc: Global, machine: Machine, out: &mut UaHandle) -> u32
+    ensures { Seats machine out.old.value out.new.value result }
+{
+    let holding = Holding {
+        machine,
+        waiting: Waiting::none(alloc),
+    };
+    match Box::new(alloc, holding) {
+        Ok(held) => {
+            *out = UaHandle::of(held);
+            OK
+        }
+        Err(_) => NO_MEMORY,
+    }
+}
+
+/// The URL that octets are, or a status.
+fn url_of(alloc: Global, octets: &[u8]) -> Result<UaString, u32>
+    ensures url { IfOk result (λ url. IsUrlOf octets.now url) }
+    ensures fault { IfErr result (λ status. IsNoUrl octets.now status) }
+{
+    let Ok(text) = str::from_utf8(octets) else {
+        return Err(BAD_TEXT);
+    };
+    let Ok(url) = UaString::from_str(alloc, text) else {
+        return Err(NO_MEMORY);
+    };
+    if url.is_encodable() {
+        Ok(url)
+    } else {
+        Err(BAD_TEXT)
+    }
+}
+
+/// Makes a client of these limits for the server of this URL, and puts it into a handle.
+#[unsafe(no_mangle)]
+pub extern "C" fn ua_client_new(
+    alloc: Global,
+    limits: &UaLimits,
+    url: &[u8],
+    out: &mut UaHandle,
+) -> u32
+    ensures { MakesClient limits.now url.now out.old.value out.new.value result }
+{
+    let Some(limits) = allowed(limits) else {
+        return BAD_LIMITS;
+    };
+    match url_of(alloc, url) {
+        Ok(url) => {
+            let client = ClientChannel::new(alloc, limits, url);
+            seat(alloc, Machine::Client(client), out)
+        }
+        Err(status) => status,
+    }
+}
+
+/// The nodes that the lines of a text write, or a status and the number of the first bad line.
+fn nodes_of(alloc: Global, octets: &[u8], line: &mut usize) -> Result<NodeTable, u32>
+    ensures nodes { IfOk result (λ nodes. WriteNodes (node_lines octets.now) nodes) }
+    ensures sound { IfOk result (λ nodes. IsSound nodes) }
+    ensures fault { IfErr result (λ status. RefusesNodes octets.now line.new status) }
+    ensures none { OnOk result (line.new ≡ 0) }
+{
+    *line = 0;
+    let Ok(text) = str::from_utf8(octets) else {
+        return Err(BAD_TEXT);
+    };
+    match NodeTable::load(alloc, text) {
+        Ok(nodes) => Ok(nodes),
+        Err(LoadFault::Line { line: number, .. }) => {
+            *line = number;
+            Err(BAD_NODES)
+        }
+        Err(LoadFault::OutOfMemory) => Err(NO_MEMORY),
+    }
+}
+
+/// What a server says of itself.
+fn endpoint(alloc: Global, url: UaString, message_limit: u32) -> Result<Endpoint, AllocError>
+    ensures { IfOk result (λ e. e ≡ endpoint_of url message_limit) }
+{
+    Ok(Endpoint {
+        url,
+        application_uri: UaString::from_str(alloc, "urn:ua:server")?,
+        name: UaString::from_str(alloc, "ua")?,
+        message_limit,
+    })
+}
+
+/// The services over nodes, under a URL.
+fn services(
+    alloc: Global,
+    nodes: NodeTable,
+    url: UaString,
+    message_limit: u32,
+) -> Result<Services, AllocError>
+    requires sound { IsSound nodes }
+    requires writable { IsTrue (text.encodable url) }
+    ensures { IfOk result (λ s. s ≡ fresh nodes (endpoint_of url message_limit)) }
+{
+    let endpoint = endpoint(alloc, url, message_limit)?;
+    Ok(Services::new(nodes, endpoint))
+}
+
+/// A server of these limits over nodes, or a status and the number of the first bad line.
+fn station(
+    alloc: Global,
+    nodes: &[u8],
+    limits: Limits,
+    url: &[u8],
+    channel: u32,
+    line: &mut usize,
+) -> Result<Station, u32>
+    ensures { MakesStation nodes.now limits url.now channel line.new result }
+{
+    *line = 0;
+    let url = url_of(alloc, url)?;
+    let nodes = nodes_of(alloc, nodes, line)?;
+    match services(alloc, nodes, url, limits.max_message_size) {
+        Ok(services) => Ok(Station::new(alloc, services, limits, channel)),
+        Err(_) => Err(NO_MEMORY),
+    }
+}
+
+/// Makes a server of these limits over the nodes of a node file, that is found at this URL, for a
+/// channel of this id, and puts it into a handle. A bad node file says its first bad line.
+#[unsafe(no_mangle)]
+pub extern "C" fn ua_server_new(
+    alloc: Global,
+    nodes: &[u8],
+    limits: &UaLimits,
+    url: &[u8],
+    channel: u32,
+    out: &mut UaHandle,
+    line: &mut usize,
+) -> u32
+    ensures { MakesServer nodes.now limits.now url.now channel out.old.value out.new.value line.new result }
+{
+    let Some(limits) = allowed(limits) else {
+        *line = 0;
+        return BAD_LIMITS;
+    };
+    match station(alloc, nodes, limits, url, channel, line) {
+        Ok(station) => seat(alloc, Machine::Server(station), out),
+        Err(status) => status,
+    }
+}

@@ -1,0 +1,59 @@
+//! What a step of a server comes to, for C.
+
+ghost use Rattle.std.specs.Prelude.{◌≡◌};
+ghost use Rattle.ua_c.specs.Serving.{Shows, nothing, code_of, status_of};
+
+use crate::status::{CLOSED, ENDED, NO_MEMORY, OK, REFUSED};
+use crate::waiting::Waiting;
+use ua_server::{End, Step, StepFault};
+
+/// A status, how many octets were taken, and the code of a refusal.
+#[derive(Clone, Copy)]
+pub struct Report {
+    pub status: u32,
+    pub taken: usize,
+    pub code: u32,
+}
+
+impl Report {
+    /// Only a status: nothing was taken.
+    pub(crate) fn only(status: u32) -> Report
+        ensures { result ≡ nothing status }
+    {
+        Report {
+            status,
+            taken: 0,
+            code: 0,
+        }
+    }
+
+    /// What a step comes to that took so many octets, and ended the connection or not.
+    fn of_end(taken: usize, end: Option<End>) -> Report
+        ensures { result ≡ record { status = status_of end; taken = taken; code = code_of end } }
+    {
+        let (status, code) = match end {
+            None => (OK, 0),
+            Some(End::Refused(code)) => (REFUSED, code.code),
+            Some(_) => (ENDED, 0),
+        };
+        Report {
+            status,
+            taken,
+            code,
+        }
+    }
+
+    /// What a step comes to; what it says waits from now on.
+    pub(crate) fn of_step(answer: Result<Step, StepFault>, waiting: &mut Waiting) -> Report
+        ensures { Shows answer result waiting.old waiting.new }
+    {
+        match answer {
+            Ok(Step { taken, out, end }) => {
+                *waiting = Waiting::of(out);
+                Report::of_end(taken, end)
+            }
+            Err(StepFault::Closed) => Report::only(CLOSED),
+            Err(StepFault::OutOfMemory) => Report::only(NO_MEMORY),
+        }
+    }
+}

@@ -1,0 +1,38 @@
+//! What calls answer, as numbers.
+
+/// The call did what it is for.
+pub const OK: u32 = 0;
+/// Memory was refused.
+pub const NO_MEMORY: u32 = 1;
+/// The limits are below the least.
+pub const BAD_LIMITS: u32 = 2;
+/// A line of the node file is none.
+pub const BAD_NODES: u32 = 3;
+/// The handle holds nothing.
+pub const NO_HANDLE: u32 = 4;
+/// The connection ended, or failed, before.
+pub const CLOSED: u32 = 5;
+/// The connection was refused.
+pub const REFUSED: u32 = 6;
+/// The peer closed the connection.
+pub const ENDED: u32 = 7;
+/// Octets wait to be fetched.
+pub const FETCH_FIRST: u32 = 8;
+/// A text is none of those that the call takes.
+pub const BAD_TEXT: u32 = 9;
+/// The handle is of another kind.
+pub const OTHER_HANDLE: u32 = 10;
+/// The channel of a client is not open.
+pub const NOT_OPEN: u32 = 11;
+/// 64 calls are unanswered.
+pub const TOO_MANY_PENDING: u32 = 12;
+/// A renewal is unanswered.
+pub const RENEW_PENDING: u32 = 13;
+/// 16 tokens are held.
+pub const TOO_MANY_TOKENS: u32 = 14;
+/// All request ids were used.
+pub const EXHAUSTED: u32 = 15;
+/// The server takes no message of so many octets or chunks.
+pub const TOO_LARGE: u32 = 16;
+/// The body of a call is empty.
+pub const EMPTY: u32 = 17;

@@ -1,0 +1,141 @@
+//! What a client's channel tells and answers, for C.
+
+ghost use Rattle.std.specs.Prelude.{◌≡◌};
+ghost use Rattle.ua_c.specs.Asking.{ShowsAsk, ShowsEvent, ShowsClose, ShowsTake, only, status_for};
+
+use crate::status::{
+    CLOSED, EXHAUSTED, NO_MEMORY, NOT_OPEN, OK, REFUSED, RENEW_PENDING, TOO_LARGE,
+    TOO_MANY_PENDING, TOO_MANY_TOKENS,
+};
+use crate::waiting::Waiting;
+use std::alloc::Global;
+use ua_channel::{AskFault, ClientEvent, ClientTakeFault};
+
+/// More octets are to come.
+const NEED_MORE: u32 = 0;
+/// What waits is to be sent.
+const SEND: u32 = 1;
+/// The channel is open.
+const OPEN: u32 = 2;
+/// What waits is the body of the reply to a call.
+const ANSWERED: u32 = 3;
+/// The server gave up its reply to a call.
+const ABORTED: u32 = 4;
+/// A renewal was answered.
+const RENEWED: u32 = 5;
+/// This end refused what came.
+const FAILED: u32 = 6;
+/// The server refused, by an ERR frame.
+const FAILED_BY_PEER: u32 = 7;
+
+/// A status, how many octets were taken, and what they told: an event, the request id or the token
+/// that it speaks of, and a code.
+#[derive(Clone, Copy)]
+pub struct Told {
+    pub status: u32,
+    pub taken: usize,
+    pub event: u32,
+    pub id: u32,
+    pub code: u32,
+}
+
+impl Told {
+    /// Only a status: nothing was taken.
+    pub(crate) fn only(status: u32) -> Told
+        ensures { result ≡ only status }
+    {
+        Told::event(status, 0, NEED_MORE, 0, 0)
+    }
+
+    fn event(status: u32, taken: usize, event: u32, id: u32, code: u32) -> Told
+        ensures { result ≡ record { status = status; taken = taken; event = event; id = id; code = code } }
+    {
+        Told {
+            status,
+            taken,
+            event,
+            id,
+            code,
+        }
+    }
+
+    /// What is told of octets that were taken; what is to be sent or to be read waits from now on.
+    fn of_event(alloc: Global, taken: usize, event: ClientEvent, waiting: &mut Waiting) -> Told
+        ensures { ShowsEvent taken event result waiting.old waiting.new }
+    {
+        match event {
+            ClientEvent::NeedMore => Told::event(OK, taken, NEED_MORE, 0, 0),
+            ClientEvent::Send(octets) => {
+                *waiting = Waiting::of(octets);
+                Told::event(OK, taken, SEND, 0, 0)
+            }
+            ClientEvent::Open => Told::event(OK, taken, OPEN, 0, 0),
+            ClientEvent::Answered(id, message) => {
+                *waiting = Waiting::message(alloc, message);
+                Told::event(OK, taken, ANSWERED, id, 0)
+            }
+            ClientEvent::Aborted(id, code) => Told::event(OK, taken, ABORTED, id, code.code),
+            ClientEvent::Renewed(token) => Told::event(OK, taken, RENEWED, token, 0),
+            ClientEvent::Failed { code, peer } => {
+                let event = if peer { FAILED_BY_PEER } else { FAILED };
+                Told::event(REFUSED, taken, event, 0, code.code)
+            }
+        }
+    }
+
+    /// What is told of an answer of a client's channel.
+    pub(crate) fn of_take(
+        alloc: Global,
+        answer: Result<(usize, ClientEvent), ClientTakeFault>,
+        waiting: &mut Waiting,
+    ) -> Told
+        ensures { ShowsTake answer result waiting.old waiting.new }
+    {
+        match answer {
+            Ok((taken, event)) => Told::of_event(alloc, taken, event, waiting),
+            Err(ClientTakeFault::Closed) => Told::only(CLOSED),
+            Err(ClientTakeFault::OutOfMemory) => Told::only(NO_MEMORY),
+        }
+    }
+}
+
+/// Why nothing was asked, as a status.
+fn status_for(fault: AskFault) -> u32
+    ensures { result ≡ status_for fault }
+{
+    match fault {
+        AskFault::NotOpen => NOT_OPEN,
+        AskFault::TooManyPending => TOO_MANY_PENDING,
+        AskFault::RenewPending => RENEW_PENDING,
+        AskFault::TooManyTokens => TOO_MANY_TOKENS,
+        AskFault::Exhausted => EXHAUSTED,
+        AskFault::RequestTooLarge => TOO_LARGE,
+        AskFault::OutOfMemory => NO_MEMORY,
+    }
+}
+
+/// A status, and the request id of what is asked, which is to be sent and waits from now on.
+pub(crate) fn of_ask(answer: Result<(u32, Vec<u8>), AskFault>, waiting: &mut Waiting) -> (u32, u32)
+    ensures { ShowsAsk answer result.0 result.1 waiting.old waiting.new }
+{
+    match answer {
+        Ok((id, octets)) => {
+            *waiting = Waiting::of(octets);
+            (OK, id)
+        }
+        Err(fault) => (status_for(fault), 0),
+    }
+}
+
+/// A status; what is to be sent waits from now on.
+pub(crate) fn of_close(answer: Result<Vec<u8>, AskFault>, waiting: &mut Waiting) -> u32
+    ensures { ShowsClose answer result waiting.old waiting.new }
+{
+    match answer {
+        Ok(octets) => {
+            *waiting = Waiting::of(octets);
+            OK
+        }
+        Err(fault) => status_for(fault),
+    }
+}
