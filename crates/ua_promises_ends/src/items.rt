@@ -9,7 +9,7 @@ use std::alloc::{AllocError, Global};
 use ua_builtin::{DateTime, StatusCode, UaString};
 use ua_nodes::{NodeTable, Stamps};
 use ua_structures::ReadValueId;
-use ua_variant::{DataValue, HeldVariant, Scalar, Variant};
+use ua_variant::DataValue;
 
 /// The answer to an item of a Read, at a moment.
 pub fn read_one_item(
