@@ -1,6 +1,6 @@
 -- The format of ExtensionObjects is sound and lawful.
-use Rattle.std.specs.Prelude.{IsTrue}
-use Rattle.std.proofs.Common.{◌≡◌, ◌<◌, ℕ, nat_eq, List, [], ◌∷◌, ◌++◌, refl, sym, ap, subst, ◌∙◌, arith, lit<, append_assoc}
+use Rattle.std.specs.Prelude.{IsTrue, OnOk, Result, Ok, Err}
+use Rattle.std.proofs.Common.{◌≡◌, ◌<◌, ℕ, nat_eq, List, [], ◌∷◌, ◌++◌, refl, sym, ap, subst, ◌∙◌, arith, lit<}
 use Rattle.std.proofs.lemmas.Bool.{eqb-true, eqb-false}
 use Rattle.ua_octets.specs.Exact.{Exact, Follows, IsOnly, only_read, Image, image_read, Never, never_read}
 use Rattle.ua_octets.specs.Number.{number_octets, number_at, IsNumber}
@@ -12,9 +12,7 @@ use Rattle.ua_octets.proofs.Lawfulness.{sound_made, sound_both, lawful_flat}
 use Rattle.ua_octets.proofs.CountedLawful.{sound_counted}
 use Rattle.ua_octets.proofs.Leasts.{least_starts}
 use Rattle.ua_builtin.specs.XmlElement.{xml_element}
-use Rattle.ua_builtin.specs.NodeId.{node_id}
 use Rattle.ua_builtin.specs.ExtensionObject.{extension_object, body, EncodesBody, body_fits, body_octets, body_at, behind_kind}
-use Rattle.ua_builtin.specs.declared.extension_object.ExtensionObject.{ExtensionObject}
 use Rattle.ua_builtin.specs.declared.extension_object.ExtensionBody.{ExtensionBody}
 use Rattle.ua_builtin.specs.declared.extension_object.ExtensionBody.TheVariants.{Absent, ByteString, Xml}
 use Rattle.ua_builtin.proofs.PlainLawful.{sound_xml_element}
@@ -105,14 +103,10 @@ sound_extension_object = sound_made _ _ (λ v. refl) (sound_both sound_node_id s
 pub lawful_extension_object : IsLawful (flat extension_object)
 lawful_extension_object = lawful_flat sound_extension_object (least_starts 2 extension_object.encodes extension_object_least)
 
--- ---- what is written, part by part
+-- ---- what is written of the body
 
-pub written_parts : (v : ExtensionObject) (start first second third back : List ℕ) (kind : ℕ) → kind < 256 → first ≡ start ++ node_id.canonical v.type_id → second ≡ first ++ number_octets 1 kind → third ≡ second ++ back
-    → body_octets v.body ≡ kind ∷ back → third ≡ start ++ extension_object.canonical v
-unfolding extension_object
-written_parts v start first second third back kind fits typed kinded whole is =
-    whole ∙ ap (λ (t : List ℕ). t ++ back) (kinded ∙ ap (λ (t : List ℕ). first ++ t) (one_octet kind fits))
-    ∙ append_assoc first (kind ∷ []) back
-    ∙ ap (λ (t : List ℕ). t ++ kind ∷ back) typed
-    ∙ append_assoc start (node_id.canonical v.type_id) (kind ∷ back)
-    ∙ ap (λ (t : List ℕ). start ++ (node_id.canonical v.type_id ++ t)) (sym is)
+pub written_kind : {E : Type 0} (r : Result (Unit {0}) E) (b : ExtensionBody) (kind : ℕ) (back octets start new : List ℕ) → kind < 256 → body_octets b ≡ kind ∷ back
+    → octets ≡ number_octets 1 kind ++ back → OnOk r (new ≡ start ++ octets) → OnOk r (new ≡ start ++ body_octets b)
+written_kind (Ok _) b kind back octets start new fits is all was =
+    was ∙ ap (λ (t : List ℕ). start ++ t) (all ∙ ap (λ (t : List ℕ). t ++ back) (one_octet kind fits) ∙ sym is)
+written_kind (Err _) b kind back octets start new fits is all was = tt

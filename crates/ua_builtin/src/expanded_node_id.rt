@@ -23,8 +23,9 @@ const HAS_SERVER_INDEX: u8 = 0x40;
 const HAS_NAMESPACE_URI: u8 = 0x80;
 
 impl ExpandedNodeId {
-    ghost use Rattle.std.specs.Prelude.{◌≡◌, ◌++◌, not, IfOk, OnOk, OnErr};
+    ghost use Rattle.std.specs.Prelude.{◌≡◌, ◌++◌, IsTrue, is_some, not, IfOk, OnOk, OnErr};
     ghost use Rattle.ua_octets.specs.Format.{Extends};
+    ghost use Rattle.ua_builtin.specs.Flags.{flagged_text};
     ghost use Rattle.ua_builtin.specs.ExpandedNodeId.{octet_of, flagged_index, is_here};
 
     /// A value of its own, equal to this one.
@@ -52,10 +53,20 @@ impl ExpandedNodeId {
         ensures ok { OnOk result (out.new.items ≡ out.old.items ++ (flagged_index (not (is_here self.now.server_index))).canonical self.now.server_index) }
         ensures err { OnErr result (Extends out.old.items out.new.items) }
     {
-        if self.server_index != 0 {
-            self.server_index.append(out)?;
+        if self.server_index == 0 {
+            return Ok(());
         }
-        Ok(())
+        self.server_index.append(out)
+    }
+
+    // Adds the URI unless it is null, and the index unless it is 0.
+    fn append_behind(&self, out: &mut Vec<u8>) -> Result<(), AllocError>
+        requires { IsTrue ((flagged_text (is_some self.now.namespace_uri)).encodable self.now.namespace_uri) }
+        ensures ok { OnOk result (out.new.items ≡ out.old.items ++ ((flagged_text (is_some self.now.namespace_uri)).canonical self.now.namespace_uri ++ (flagged_index (not (is_here self.now.server_index))).canonical self.now.server_index)) }
+        ensures err { OnErr result (Extends out.old.items out.new.items) }
+    {
+        flags::append_flagged(&self.namespace_uri, out)?;
+        self.append_index(out)
     }
 }
 
@@ -101,8 +112,6 @@ impl Wire for ExpandedNodeId {
     fn append(&self, out: &mut Vec<u8>) -> Result<(), AllocError> {
         self.octet().append(out)?;
         self.node_id.append_form(out)?;
-        flags::append_flagged(&self.namespace_uri, out)?;
-        self.append_index(out)?;
-        Ok(())
+        self.append_behind(out)
     }
 }

@@ -3,7 +3,7 @@
 use crate::node_id::NodeId;
 use crate::xml_element::XmlElement;
 use std::alloc::{AllocError, Global};
-use ua_octets::{ReadFault, Source, UaBytes, Wire};
+use ua_octets::{ReadFault, Source, UaBytes, Wire, append_two};
 
 /// The body of an [`ExtensionObject`]. A ByteString or an XmlElement that is null is a body, and
 /// differs from none.
@@ -64,6 +64,25 @@ impl ExtensionObject {
     }
 }
 
+impl ExtensionBody {
+    ghost use Rattle.std.specs.Prelude.{◌≡◌, ◌++◌, IsTrue, OnOk, OnErr};
+    ghost use Rattle.ua_octets.specs.Format.{Extends};
+    ghost use Rattle.ua_builtin.specs.ExtensionObject.{body_fits, body_octets};
+
+    // Adds the octet for the kind of body, and the body.
+    fn append_kind(&self, out: &mut Vec<u8>) -> Result<(), AllocError>
+        requires { IsTrue (body_fits self.now) }
+        ensures ok { OnOk result (out.new.items ≡ out.old.items ++ body_octets self.now) }
+        ensures err { OnErr result (Extends out.old.items out.new.items) }
+    {
+        match self {
+            ExtensionBody::Absent => 0u8.append(out),
+            ExtensionBody::ByteString(octets) => append_two(&1u8, octets, out),
+            ExtensionBody::Xml(element) => append_two(&2u8, element, out),
+        }
+    }
+}
+
 impl Wire for ExtensionObject {
     ghost use Rattle.ua_octets.specs.Format.{flat};
     ghost use Rattle.ua_builtin.specs.ExtensionObject.{extension_object};
@@ -103,17 +122,6 @@ impl Wire for ExtensionObject {
     #[tactic(auto, unfolding(crate::specs::ExtensionObject::extension_object))]
     fn append(&self, out: &mut Vec<u8>) -> Result<(), AllocError> {
         self.type_id.append(out)?;
-        match &self.body {
-            ExtensionBody::Absent => 0u8.append(out)?,
-            ExtensionBody::ByteString(octets) => {
-                1u8.append(out)?;
-                octets.append(out)?;
-            }
-            ExtensionBody::Xml(element) => {
-                2u8.append(out)?;
-                element.append(out)?;
-            }
-        }
-        Ok(())
+        self.body.append_kind(out)
     }
 }

@@ -66,7 +66,6 @@ impl Wire for LocalizedText {
         let text = flags::flag_of(TEXT, self.text.is_some());
         (locale + text).append(out)?;
         flags::append_flagged(&self.locale, out)?;
-        flags::append_flagged(&self.text, out)?;
-        Ok(())
+        flags::append_flagged(&self.text, out)
     }
 }

@@ -1,8 +1,13 @@
 //! NodeId.
 
+ghost use Rattle.std.specs.Prelude.{◌≡◌, ◌++◌, OnOk, OnErr};
+ghost use Rattle.ua_octets.specs.Format.{Extends};
+ghost use Rattle.ua_builtin.specs.NodeId.{node, in_form, shortest_form};
+ghost use Rattle.ua_builtin.specs.declared.node_id.Identifier.TheVariants.{Numeric};
+
 use crate::guid::Guid;
 use std::alloc::{AllocError, Global};
-use ua_octets::{ReadFault, Source, UaBytes, UaString, Wire};
+use ua_octets::{ReadFault, Source, UaBytes, UaString, Wire, append_two};
 
 const TWO_OCTET: u8 = 0x00;
 
@@ -163,31 +168,25 @@ impl NodeId {
         ensures err { OnErr result (Extends out.old.items out.new.items) }
     {
         match &self.identifier {
-            Identifier::Numeric(number) => {
-                if self.namespace == 0 && *number < 256 {
-                    (*number as u8).append(out)?;
-                } else if self.namespace < 256 && *number < 65536 {
-                    (self.namespace as u8).append(out)?;
-                    (*number as u16).append(out)?;
-                } else {
-                    self.namespace.append(out)?;
-                    number.append(out)?;
-                }
-            }
-            Identifier::Text(text) => {
-                self.namespace.append(out)?;
-                text.append(out)?;
-            }
-            Identifier::Guid(guid) => {
-                self.namespace.append(out)?;
-                guid.append(out)?;
-            }
-            Identifier::Opaque(octets) => {
-                self.namespace.append(out)?;
-                octets.append(out)?;
-            }
+            Identifier::Numeric(number) => append_numeric(self.namespace, *number, out),
+            Identifier::Text(text) => append_two(&self.namespace, text, out),
+            Identifier::Guid(guid) => append_two(&self.namespace, guid, out),
+            Identifier::Opaque(octets) => append_two(&self.namespace, octets, out),
         }
-        Ok(())
+    }
+}
+
+/// Adds a number and its namespace in the shortest form that holds both.
+fn append_numeric(namespace: u16, number: u32, out: &mut Vec<u8>) -> Result<(), AllocError>
+    ensures ok { OnOk result (out.new.items ≡ out.old.items ++ (in_form (shortest_form namespace number)).canonical (node namespace (Numeric number))) }
+    ensures err { OnErr result (Extends out.old.items out.new.items) }
+{
+    if namespace == 0 && number < 256 {
+        (number as u8).append(out)
+    } else if namespace < 256 && number < 65536 {
+        append_two(&(namespace as u8), &(number as u16), out)
+    } else {
+        append_two(&namespace, &number, out)
     }
 }
 
@@ -215,7 +214,6 @@ impl Wire for NodeId {
     #[tactic(auto, unfolding(crate::specs::NodeId::node_id))]
     fn append(&self, out: &mut Vec<u8>) -> Result<(), AllocError> {
         self.form().append(out)?;
-        self.append_form(out)?;
-        Ok(())
+        self.append_form(out)
     }
 }

@@ -1,7 +1,7 @@
 //! QualifiedName.
 
 use std::alloc::{AllocError, Global};
-use ua_octets::{ReadFault, Source, UaString, Wire};
+use ua_octets::{ReadFault, Source, UaString, Wire, append_two};
 
 /// A name within a namespace, which is an index into the server's table of namespaces
 /// (OPC 10000-6, 5.2.2.13).
@@ -53,8 +53,6 @@ impl Wire for QualifiedName {
 
     #[tactic(auto, unfolding(crate::specs::QualifiedName::qualified_name))]
     fn append(&self, out: &mut Vec<u8>) -> Result<(), AllocError> {
-        self.namespace.append(out)?;
-        self.name.append(out)?;
-        Ok(())
+        append_two(&self.namespace, &self.name, out)
     }
 }

@@ -18,3 +18,4 @@ pub mod GroupCalls
 pub mod Grouping
 pub mod Ones
 pub mod Sessions
+pub mod Tokens

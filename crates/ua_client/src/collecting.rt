@@ -83,14 +83,14 @@ fn add_reply(replies: &mut Vec<Reply>, reply: Reply) -> Result<(), ClientFault>
 
 /// Adds the replies that there are, in order.
 pub fn append_replies(
-    mut slots: Vec<Option<Reply>>,
+    slots: Vec<Option<Reply>>,
     replies: &mut Vec<Reply>,
 ) -> Result<(), ClientFault>
     ensures ok { OnOk result (replies.new.items ≡ replies.old.items ++ somes slots.items) }
     ensures err { OnErr result (result ≡ Err OutOfMemory) }
 {
-    while !slots.is_empty() {
-        if let Some(reply) = slots.remove(0) {
+    for slot in slots {
+        if let Some(reply) = slot {
             add_reply(replies, reply)?;
         }
     }

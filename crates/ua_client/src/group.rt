@@ -14,7 +14,7 @@ use std::alloc::Global;
 use std::marker::Model;
 use ua_builtin::WriteFault;
 use ua_channel::{AskFault, ClientChannel};
-use ua_services::{Request, write_request};
+use ua_services::{Request, empty_body, write_request};
 
 /// The body of a call, which is not empty.
 #[derive(Drop)]
@@ -40,7 +40,7 @@ impl Body {
         ensures encodable { OnOk result (IsTrue (request.encodable message.now)) }
         ensures refused { IsErrOf result NotWritable ↔ IsFalse (request.encodable message.now) }
     {
-        let mut octets = Vec::new(alloc);
+        let mut octets = empty_body(alloc);
         match write_request(message, &mut octets) {
             Ok(()) => Ok(Body { octets }),
             Err(fault) => Err(fault),

@@ -46,16 +46,20 @@ fn judge_reply(reply: Reply) -> Result<Reply, ClientFault>
 }
 
 /// The token in a reply to CreateSession.
+#[tactic(auto, using(crate::proofs::Tokens::no_token))]
 fn token_of(reply: Reply) -> Result<NodeId, ClientFault>
     ensures token { IfOk result (λ token. brings_token token reply) }
     ensures fault { IfErr result (λ fault. LacksToken reply fault) }
 {
     match reply {
-        Reply::Response(Response::CreateSession(message)) => Ok(message.authentication_token),
-        other => {
-            drop(other);
-            Err(ClientFault::UnknownResponse)
-        }
+        Reply::Response(response) => match response.into_create_session() {
+            Ok(message) => Ok(message.authentication_token),
+            Err(other) => {
+                drop(other);
+                Err(ClientFault::UnknownResponse)
+            }
+        },
+        Reply::Aborted(_) => Err(ClientFault::UnknownResponse),
     }
 }
 

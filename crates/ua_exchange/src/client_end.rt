@@ -19,7 +19,7 @@ use std::alloc::{AllocError, Global};
 use ua_builtin::{DateTime, WriteFault};
 use ua_channel::{AskFault, ClientChannel, ClientEvent};
 use ua_chunk::Message;
-use ua_services::{Request, read_response, write_request};
+use ua_services::{Request, empty_body, read_response, write_request};
 
 /// The encoding of a request.
 #[tactic(auto, using(crate::proofs::Asking::request_takes_some))]
@@ -29,7 +29,7 @@ fn encode(alloc: Global, message: &Request) -> Result<Vec<u8>, WriteFault>
     ensures encodable { OnOk result (IsTrue (request.encodable message.now)) }
     ensures refused { IsErrOf result NotWritable → request.encodable message.now ≡ false }
 {
-    let mut body = Vec::new(alloc);
+    let mut body = empty_body(alloc);
     match write_request(message, &mut body) {
         Ok(()) => Ok(body),
         Err(fault) => Err(fault),

@@ -11,9 +11,17 @@ use std::hash::{Hash, Hasher};
 use std::marker::Model;
 
 /// A ByteString: octets, or null, which differs from no octets (OPC 10000-6, 5.2.2.7).
-#[derive(Debug, Drop)]
+#[derive(Debug)]
 pub struct UaBytes {
     octets: Option<Vec<u8>>,
+}
+
+// By hand, as that of `UaString`.
+impl Drop for UaBytes {
+    fn drop(self) {
+        let UaBytes { octets } = self;
+        drop(octets);
+    }
 }
 
 impl Model for UaBytes {

@@ -19,6 +19,7 @@
 //! ```
 #![tactic(auto)]
 
+mod append;
 mod boolean;
 mod byte_string;
 mod counted;
@@ -35,6 +36,7 @@ mod source;
 mod text;
 mod wire;
 
+pub use append::{append_three, append_two};
 pub use byte_string::UaBytes;
 pub use counted::{FIRST_NEGATIVE, NULL_COUNT, fill_octets};
 pub use double_bits::DoubleBits;

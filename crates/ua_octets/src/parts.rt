@@ -1,6 +1,6 @@
 //! Octets that lie in several parts.
 
-ghost use Rattle.std.specs.Prelude.{◌≡◌, ◌≤◌, ◌<◌, ◌^◌, ◌++◌, ℕ, List, [], length};
+ghost use Rattle.std.specs.Prelude.{◌≡◌, ◌≤◌, ◌<◌, ◌^◌, ◌++◌, ℕ, List, [], length, drop, MatchBool};
 ghost use Rattle.std.specs.List.{concat};
 
 use crate::source::Source;
@@ -77,18 +77,13 @@ impl<'a> Parts<'a> {
         self.left -= run.len();
         run
     }
-}
 
-impl Source for Parts<'_> {
-    ghost octets = { λ p. p };
-
-    #[inline]
-    fn left(&self) -> usize {
-        self.left
-    }
-
-    #[inline]
-    fn take_into(&mut self, out: &mut [u8]) -> bool {
+    /// As `take_into`, where the octets lie in several parts.
+    #[inline(never)]
+    fn take_across(&mut self, out: &mut [u8]) -> bool
+        ensures { MatchBool result (self.old ≡ out.new ++ self.new)
+            ((length self.old < length out.old) × (self.new ≡ self.old) × (out.new ≡ out.old)) }
+    {
         if self.left < out.len() {
             return false;
         }
@@ -101,8 +96,12 @@ impl Source for Parts<'_> {
         true
     }
 
-    #[inline]
-    fn skip(&mut self, n: usize) -> bool {
+    /// As `skip`, where the octets lie in several parts.
+    #[inline(never)]
+    fn skip_across(&mut self, n: usize) -> bool
+        ensures { MatchBool result ((n ≤ length self.old) × (self.new ≡ drop n self.old))
+            ((length self.old < n) × (self.new ≡ self.old)) }
+    {
         if self.left < n {
             return false;
         }
@@ -111,5 +110,37 @@ impl Source for Parts<'_> {
             passed += self.take_run(n - passed).len();
         }
         true
+    }
+}
+
+impl Source for Parts<'_> {
+    ghost octets = { λ p. p };
+
+    #[inline]
+    fn left(&self) -> usize {
+        self.left
+    }
+
+    #[inline]
+    fn take_into(&mut self, out: &mut [u8]) -> bool {
+        if out.len() <= self.front.len() {
+            // nearly always: one part has them all
+            let (run, front) = self.front.split_at(out.len());
+            out.copy_from_slice(run);
+            self.front = front;
+            self.left -= run.len();
+            return true;
+        }
+        self.take_across(out)
+    }
+
+    #[inline]
+    fn skip(&mut self, n: usize) -> bool {
+        if n <= self.front.len() {
+            self.front = &self.front[n..];
+            self.left -= n;
+            return true;
+        }
+        self.skip_across(n)
     }
 }

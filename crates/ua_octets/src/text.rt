@@ -10,9 +10,18 @@ use std::hash::{Hash, Hasher};
 use std::marker::Model;
 
 /// A String: a text, or null, which differs from the empty text (OPC 10000-6, 5.2.2.4).
-#[derive(Debug, Drop)]
+#[derive(Debug)]
 pub struct UaString {
     text: Option<String>,
+}
+
+// By hand, not derived: a derived drop is spelled out, field by field, in each function of each crate
+// that lets a value go without a call, and its lifetimes with it; this one is called.
+impl Drop for UaString {
+    fn drop(self) {
+        let UaString { text } = self;
+        drop(text);
+    }
 }
 
 impl Model for UaString {

@@ -1,10 +1,9 @@
 mod Befores
 mod Codes
 mod CutBacks
-mod Nexts
+mod Dissections
 mod Readings
 mod Refusals
 mod RestLines
 mod Shows
-mod Stages
 mod Standings

@@ -36,6 +36,14 @@ pub record AreLines (side : Side) (octets lines : List ℕ) : Type 0 where
   pub run : Run (rules side) octets frames rest end
   pub lines_are : lines ≡ events (rules side) frames ++ last_line (place_behind frames) rest end
 
+-- the lines of the frames of the octets, in order up to the first that is refused: all but the last line
+pub record AreTold (side : Side) (octets told : List ℕ) : Type 0 where
+  pub frames : List Frame
+  pub rest : List ℕ
+  pub end : End ℕ
+  pub run : Run (rules side) octets frames rest end
+  pub told_are : told ≡ events (rules side) frames
+
 -- these octets have lines
 pub record HasLines (side : Side) (octets : List ℕ) : Type 0 where
   pub lines : List ℕ

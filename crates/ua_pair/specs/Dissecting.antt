@@ -1,80 +1,137 @@
--- How a dissector stands, and what becomes of a frame and of what follows the frames.
-use Rattle.std.specs.Prelude.{◌≡◌, ℕ, ◌<◌, ◌≤◌, length, take, List, [], ◌∷◌, ◌++◌, Option, Some, None, Result, Ok, Err}
-use Rattle.ua_builtin.specs.Reasons.{first_reason}
-use Rattle.ua_builtin.specs.Status.{of_code}
+-- Where a dissector stands behind octets, and what one more piece makes of it.
+use Rattle.std.specs.Prelude.{◌≡◌, ℕ, ◌+◌, ◌<◌, ◌≤◌, ◌⊎◌, Bool, true, false, length, take, List, [], ◌∷◌, ◌++◌, Option, Some, None}
 use Rattle.ua_frame.specs.declared.frame.Frame.{Frame}
-use Rattle.ua_frame.specs.declared.kind.Kind.{Kind}
-use Rattle.ua_frame.specs.Frames.{frame_octets, IsSized, LetsIn}
-use Rattle.ua_frame.specs.Run.{End, EndsIn, refusal}
-use Rattle.ua_chunk.specs.declared.fault.AssembleFault.{AssembleFault}
-use Rattle.ua_chunk.specs.declared.fault.AssembleFault.TheVariants.{Sequence, Unreadable, TooManyOpen, MessageTooLarge, TooManyChunks, Closed}
-use Rattle.ua_chunk.specs.declared.fault.AssembleFault.TheVariants as assemble
-use Rattle.ua_chunk.specs.declared.fault.OpenFault.{OpenFault}
-use Rattle.ua_chunk.specs.declared.fault.OpenFault.TheVariants as opening
-use Rattle.ua_chunk.specs.Assembling.{Stands as AssemblerStands, octet_limit, chunk_limit, last_number}
+use Rattle.ua_frame.specs.Reader.{open_reader}
+use Rattle.ua_frame.specs.Run.{Run, End, Going, Stopped, Over, refusal}
+use Rattle.ua_builtin.specs.Status.{of_code}
+use Rattle.ua_chunk.specs.Open.{open_octets}
 use Rattle.ua_pair.specs.declared.dissector.Dissector.{Dissector}
-use Rattle.ua_pair.specs.declared.fault.DissectFault.{DissectFault}
-use Rattle.ua_pair.specs.declared.fault.DissectFault.TheVariants.{Refused, OutOfMemory}
+use Rattle.ua_pair.specs.declared.dissector.State.{State}
+use Rattle.ua_pair.specs.declared.dissector.State.TheVariants as state
 use Rattle.ua_pair.specs.declared.side.Side.{Side}
-use Rattle.ua_pair.specs.Before.{message_chunks, last_sequence}
-use Rattle.ua_pair.specs.Dissected.{rules, every_frame, last_line}
-use Rattle.ua_pair.specs.Refused.{most_octets, most_chunks, chunk_code, reasons_by}
-use Rattle.ua_pair.specs.Told.{frame_lines, lines_by, place_behind}
+use Rattle.ua_pair.specs.Before.{message_chunks}
+use Rattle.ua_pair.specs.Dissected.{rules, every_frame, AreTold, AreLines}
+use Rattle.ua_pair.specs.Telling.{Stands}
+use Rattle.ua_pair.specs.Told.{frame_lines, place_behind}
 
--- what a fault of the assembler comes to: a refusal by its code, else want of memory
-abbrev pub chunk_fault : Side → AssembleFault → DissectFault
-chunk_fault side Sequence = Refused (of_code (chunk_code side Sequence))
-chunk_fault side Unreadable = Refused (of_code (chunk_code side Unreadable))
-chunk_fault side TooManyOpen = Refused (of_code (chunk_code side TooManyOpen))
-chunk_fault side MessageTooLarge = Refused (of_code (chunk_code side MessageTooLarge))
-chunk_fault side TooManyChunks = Refused (of_code (chunk_code side TooManyChunks))
-chunk_fault side assemble.OutOfMemory = OutOfMemory
-chunk_fault side Closed = OutOfMemory
+-- ---- what is held
 
--- what a fault in the headers of an OPN comes to: BadDecodingError, BadSecurityPolicyRejected, else want of memory
-abbrev pub opening_fault : OpenFault → DissectFault
-opening_fault opening.Unreadable = Refused (of_code 0x8007_0000)
-opening_fault opening.Policy = Refused (of_code 0x8055_0000)
-opening_fault opening.OutOfMemory = OutOfMemory
+-- how many octets are held behind frames: those of a frame that is not whole and those of unfinished messages, none where a frame is refused
+abbrev pub held_behind : List Frame → List ℕ → End ℕ → ℕ
+held_behind fs rest Going = length rest + open_octets (message_chunks fs)
+held_behind fs rest (Stopped code) = 0
+held_behind fs rest Over = 0
 
--- the dissector is where these frames leave it
-pub record Stands (d : Dissector) (fs : List Frame) : Type 0 where
-  pub messages : AssemblerStands d.assembler (message_chunks fs)
-  pub last : last_number d.assembler ≡ last_sequence fs
-  pub octets : octet_limit d.assembler ≡ most_octets
-  pub chunks : chunk_limit d.assembler ≡ most_chunks
-
--- what becomes of a frame: it has no reason against it, and its lines were added; or it is refused for its first reason; or memory was refused
-abbrev pub Judges : Option ℕ → List ℕ → Result (Unit {0}) DissectFault → List ℕ → List ℕ → Type 0
-Judges why lines (Ok x) old new = (why ≡ None) × (new ≡ old ++ lines)
-Judges why lines (Err (Refused code)) old new = why ≡ Some code.code
-Judges why lines (Err OutOfMemory) old new = Unit {0}
-
--- what becomes of a frame of this kind at this place, behind these frames
-abbrev pub JudgesKind : Kind → Side → List Frame → ℕ → Frame → Result (Unit {0}) DissectFault → List ℕ → List ℕ → Type 0
-JudgesKind k side before place f result old new =
-    Judges (first_reason (reasons_by k side (last_sequence before) (message_chunks before) f)) (lines_by k side (message_chunks before) place f) result old new
-
--- the frame at the front of octets is taken behind these frames, and these are its lines
-pub record TakesFrame (side : Side) (before : List Frame) (rest : List ℕ) (n : ℕ) (lines : List ℕ) (d : Dissector) : Type 0 where
-  pub frame : Frame
-  pub some : 0 < n
-  pub within : n ≤ length rest
-  pub octets : take n rest ≡ frame_octets frame
-  pub sized : IsSized frame
-  pub let_in : LetsIn every_frame frame
-  pub accepted : refusal (rules side) before frame ≡ None
-  pub lines_are : lines ≡ frame_lines side before frame
-  pub stands : Stands d (before ++ frame ∷ [])
-
--- no frame is taken of these octets behind these frames, and this is the last line
-pub record EndsThere (side : Side) (before : List Frame) (rest lines : List ℕ) : Type 0 where
+-- so many octets are held of these
+pub record AreHeld (side : Side) (octets : List ℕ) (held : ℕ) : Type 0 where
+  pub frames : List Frame
+  pub rest : List ℕ
   pub end : End ℕ
-  pub ends : EndsIn (rules side) before rest end
-  pub lines_are : lines ≡ last_line (place_behind before) rest end
+  pub run : Run (rules side) octets frames rest end
+  pub held_are : held ≡ held_behind frames rest end
 
--- what becomes of the octets behind these frames: the size of their first frame, or none where no frame is taken
-abbrev pub Goes : {E : Type 0} → Side → List Frame → List ℕ → Result (Option ℕ) E → List ℕ → Dissector → Type 0
-Goes side before rest (Ok (Some n)) lines d = TakesFrame side before rest n lines d
-Goes side before rest (Ok None) lines d = EndsThere side before rest lines
-Goes side before rest (Err e) lines d = Unit {0}
+-- the most octets that are held: of a frame that is not whole 16777216, and of 4 unfinished messages as many each
+abbrev pub most_held : ℕ
+most_held = 83886080
+
+-- ---- where a dissector stands
+
+-- it holds these octets of a frame that is not whole, and what these frames leave unfinished
+pub record Holds (d : Dissector) (fs : List Frame) (rest : List ℕ) : Type 0 where
+  pub reader : d.reader ≡ open_reader every_frame rest
+  pub teller : Stands d.teller fs
+
+-- it goes on behind these frames
+pub record GoesOn (d : Dissector) (side : Side) (fs : List Frame) (rest : List ℕ) : Type 0 where
+  pub state : d.state ≡ state.Going
+  pub side_is : d.teller.side ≡ side
+  pub holds : Holds d fs rest
+
+-- it met a frame that is refused with this code
+pub record HasRefused (d : Dissector) (code : ℕ) : Type 0 where
+  pub state : d.state ≡ state.Refused (of_code code)
+  pub nothing : Holds d [] []
+
+-- memory was refused: it takes nothing more
+pub record IsClosed (d : Dissector) : Type 0 where
+  pub state : d.state ≡ state.Closed
+  pub nothing : Holds d [] []
+
+-- it stands behind these frames of octets that end so
+abbrev pub StandsAt : Dissector → Side → List Frame → List ℕ → End ℕ → Type 0
+StandsAt d side fs rest Going = GoesOn d side fs rest
+StandsAt d side fs rest (Stopped code) = HasRefused d code
+StandsAt d side fs rest Over = ⊥
+
+-- it is where these octets of this side leave it, which in all were told by these lines
+pub record StandsBehind (d : Dissector) (side : Side) (octets told : List ℕ) : Type 0 where
+  pub are : AreTold side octets told
+  pub at : StandsAt d side are.frames are.rest are.end
+  pub place : d.place ≡ place_behind are.frames
+
+-- ---- what is added to a text
+
+-- these lines more are told of octets of this side with a piece more
+pub record TellsMore (d : Dissector) (side : Side) (octets told old new : List ℕ) : Type 0 where
+  pub lines : List ℕ
+  pub added : new ≡ old ++ lines
+  pub stands : StandsBehind d side octets (told ++ lines)
+
+-- the last line was added: with what was told, these are the lines of the octets
+pub record EndsLines (side : Side) (octets told old new : List ℕ) : Type 0 where
+  pub line : List ℕ
+  pub added : new ≡ old ++ line
+  pub are : AreLines side octets (told ++ line)
+
+-- ---- a piece, as it is taken
+
+-- octets to come count
+abbrev pub is_going : State → Bool
+is_going state.Going = true
+is_going (state.Refused code) = false
+is_going state.Closed = false
+
+-- wherever the old one stood, with this piece the new one stands, and these lines more are told
+abbrev pub MovesOn : Dissector → Dissector → List ℕ → List ℕ → Type 0
+MovesOn old new piece lines = (side : Side) (octets told : List ℕ) → StandsBehind old side octets told → StandsBehind new side (octets ++ piece) (told ++ lines)
+
+-- a piece was taken, and lines were added to a text
+pub record Takes (old new : Dissector) (piece before after : List ℕ) : Type 0 where
+  pub lines : List ℕ
+  pub added : after ≡ before ++ lines
+  pub moves : MovesOn old new piece lines
+
+-- a frame behind these has these lines
+pub record Accepts (new : Dissector) (side : Side) (before : List Frame) (f : Frame) (lines : List ℕ) : Type 0 where
+  pub accepted : refusal (rules side) before f ≡ None
+  pub lines_are : lines ≡ frame_lines side before f
+  pub goes_on : GoesOn new side (before ++ f ∷ []) []
+  pub place : new.place ≡ place_behind (before ++ f ∷ [])
+
+-- a frame behind these is refused
+pub record Refuses (new : Dissector) (side : Side) (before : List Frame) (f : Frame) (lines : List ℕ) : Type 0 where
+  pub code : ℕ
+  pub refused : refusal (rules side) before f ≡ Some code
+  pub lines_are : lines ≡ []
+  pub stopped : HasRefused new code
+  pub place : new.place ≡ place_behind before
+
+-- what became of a frame behind these
+abbrev pub FrameTold : Dissector → Side → List Frame → Frame → List ℕ → Type 0
+FrameTold new side before f lines = Accepts new side before f lines ⊎ Refuses new side before f lines
+
+-- nothing is left to be taken
+pub record TakesNone (old : Dissector) (octets : List ℕ) (new : Dissector) (lines : List ℕ) : Type 0 where
+  pub why : (octets ≡ []) ⊎ (is_going old.state ≡ false)
+  pub same : new ≡ old
+
+-- so many octets were taken
+pub record TakesSome (old : Dissector) (octets : List ℕ) (n : ℕ) (new : Dissector) (lines : List ℕ) : Type 0 where
+  pub some : 0 < n
+  pub within : n ≤ length octets
+  pub moves : MovesOn old new (take n octets) lines
+
+-- what was taken of octets, and the lines that were made
+abbrev pub TakesNext : Dissector → List ℕ → Option ℕ → Dissector → List ℕ → Type 0
+TakesNext old octets None new lines = TakesNone old octets new lines
+TakesNext old octets (Some n) new lines = TakesSome old octets n new lines

@@ -7,4 +7,5 @@ pub mod Before
 pub mod Told
 pub mod Refused
 pub mod Dissected
+pub mod Telling
 pub mod Dissecting

@@ -59,10 +59,14 @@ opening_line place size c =
     ++ codes " sequence " ++ decimal c.sequence
     ++ codes " request " ++ decimal c.request ++ codes "\n"
 
+-- the first four words of a MSG or a CLO, by its name: P MSG X S
+unfoldable pub chunk_head : List ℕ → ℕ → ℕ → Flag → List ℕ
+chunk_head name place size flag = decimal place ++ codes " " ++ name ++ codes " " ++ flag_text flag ++ codes " " ++ decimal size
+
 -- a MSG or a CLO, by its name: P MSG X S channel N token K sequence Q request I
 unfoldable pub chunk_line : List ℕ → ℕ → ℕ → Chunk → List ℕ
 chunk_line name place size c =
-    decimal place ++ codes " " ++ name ++ codes " " ++ flag_text c.flag ++ codes " " ++ decimal size
+    chunk_head name place size c.flag
     ++ codes " channel " ++ decimal c.channel
     ++ codes " token " ++ decimal c.token
     ++ codes " sequence " ++ decimal c.sequence

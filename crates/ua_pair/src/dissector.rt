@@ -1,203 +1,217 @@
-//! The dissector of one side's frames.
+//! The dissector of the octets that one side sent.
 
-ghost use Rattle.std.specs.Prelude.{◌≡◌, ◌∷◌, ◌++◌, [], List, OnOk, string_bytes};
-ghost use Rattle.ua_builtin.specs.Reasons.{first_reason};
+ghost use Rattle.std.specs.Prelude.{◌≡◌, ◌++◌, ◌≤◌, [], ℕ, List, IsErr, OnOk, OnErr, IfOk, string_bytes};
+ghost use Rattle.ua_octets.specs.Format.{Extends};
 ghost use Rattle.ua_frame.specs.declared.frame.Frame.{Frame};
-ghost use Rattle.ua_frame.specs.declared.kind.Kind.TheVariants.{Msg, Opn, Clo};
-ghost use Rattle.ua_frame.specs.Frames.{IsSized, LetsIn, frame_size as size_of_frame};
-ghost use Rattle.ua_frame.specs.Whole.{whole_of};
-ghost use Rattle.ua_chunk.specs.View.{item_of};
-ghost use Rattle.ua_pair.specs.Dissected.{every_frame};
-ghost use Rattle.ua_pair.specs.Dissecting.{Stands, Judges, JudgesKind};
-ghost use Rattle.ua_pair.specs.Refused.{greeting_reasons, frame_reasons};
-ghost use Rattle.ua_pair.specs.Told.{line_if, item_line, frame_lines, place_behind};
+ghost use Rattle.ua_frame.specs.Frames.{IsSized, LetsIn};
+ghost use Rattle.ua_pair.specs.Dissected.{every_frame as open_gate};
+ghost use Rattle.ua_pair.specs.Dissecting.{StandsBehind, TellsMore, EndsLines, AreHeld, IsClosed, most_held, Holds, GoesOn, FrameTold, Takes, TakesNext, is_going};
+ghost use Rattle.ua_pair.specs.Told.{place_behind};
 
 use crate::fault::DissectFault;
-use crate::line::{
-    GreetingLine, push_aborted_line, push_chunk_line, push_message_line, push_opening_line,
-};
-use crate::name::{message_name, opening_name};
+use crate::line::{push_refused_line, push_rest_line};
+use crate::reader::EveryReader;
 use crate::side::Side;
+use crate::teller::{Teller, frame_size};
 use std::alloc::{AllocError, Global};
 use ua_builtin::StatusCode;
-use ua_chunk::{Assembler, Delivered, read_chunk, read_open};
-use ua_frame::{Ack, ErrorFrame, Frame, HEADER_LEN, Hello, Kind};
+use ua_frame::Frame;
 
-/// The most octets of a message.
-const MOST_OCTETS: u32 = 16777216;
+/// The most octets that a dissector holds: those of a frame, and of four messages as many each.
+const MOST_HELD: usize = 83886080;
 
-/// The most chunks of a message.
-const MOST_CHUNKS: u32 = 4096;
+/// How far a dissector has come.
+#[derive(Clone, Copy)]
+pub enum State {
+    /// It goes on.
+    Going,
+    /// A frame was refused with this code, and nothing behind it counts.
+    Refused(StatusCode),
+    /// Memory was refused.
+    Closed,
+}
 
-/// Makes lines of the frames that one side sent, one behind the other. Of the frames before it keeps
-/// the unfinished messages and the last sequence number. After a fault it is to be given up.
+/// Makes lines of the octets that one side of a connection sent, which come in any pieces. A frame,
+/// and a message with its last chunk, has its line as soon as it is whole.
 #[derive(Drop)]
 pub struct Dissector {
     alloc: Global,
-    side: Side,
-    assembler: Assembler,
-}
-
-/// The size of a frame in octets, with its header.
-fn frame_size(frame: &Frame) -> usize
-    requires { IsSized frame.now }
-    ensures { result ≡ size_of_frame frame.now }
-{
-    HEADER_LEN + frame.body.len()
-}
-
-/// Adds the line of a HEL, an ACK or an ERR of this body, which stands in a frame at this place, of this
-/// size.
-fn push_greeting<T: GreetingLine>(
-    alloc: Global,
-    body: &[u8],
+    state: State,
+    reader: EveryReader,
+    teller: Teller,
+    /// The place behind the frames that have lines.
     place: usize,
-    size: usize,
-    lines: &mut String,
-) -> Result<(), DissectFault>
-    ensures { Judges (first_reason (greeting_reasons (whole_of T.message body.now))) (line_if (T.line place size) (whole_of T.message body.now)) result (string_bytes lines.old) (string_bytes lines.new) }
-{
-    let Some(message) = T::read_whole(alloc, body)? else {
-        return Err(DissectFault::Refused(StatusCode::BAD_DECODING_ERROR));
-    };
-    message.push_line(lines, place, size)?;
-    Ok(())
-}
-
-/// Adds the line of what a chunk delivers.
-fn push_delivered(
-    alloc: Global,
-    side: Side,
-    delivered: Delivered,
-    lines: &mut String,
-) -> Result<(), AllocError>
-    ensures { OnOk result (string_bytes lines.new ≡ string_bytes lines.old ++ item_line side (item_of delivered)) }
-{
-    match delivered {
-        Delivered::Whole(request, message) => {
-            let name = message_name(alloc, side, &message)?;
-            push_message_line(lines, request, message.len(), name)
-        }
-        Delivered::Aborted(request, code, _) => push_aborted_line(lines, request, code),
-    }
 }
 
 impl Dissector {
-    /// A dissector of what this side sends, from its first frame on.
+    /// A dissector of what this side sends, from its first octet on.
     pub fn new(alloc: Global, side: Side) -> Dissector
-        ensures stands { Stands result [] }
-        ensures side { result.side ≡ side }
+        ensures { StandsBehind result side [] [] }
     {
         Dissector {
             alloc,
-            side,
-            assembler: Assembler::new(alloc, MOST_OCTETS, MOST_CHUNKS, None),
+            state: State::Going,
+            reader: EveryReader::new(alloc),
+            teller: Teller::new(alloc, side),
+            place: 0,
         }
     }
 
-    /// Adds the lines of an OPN at this place.
-    fn push_opening(
-        &mut self,
-        frame: Frame,
-        place: usize,
-        lines: &mut String,
-    ) -> Result<(), DissectFault>
-        requires kind { frame.kind ≡ Opn }
-        requires sized { IsSized frame }
-        ensures judged { (before : List Frame) → Stands self.old before →
-            JudgesKind Opn self.old.side before place frame result (string_bytes lines.old) (string_bytes lines.new) }
-        ensures stands { (before : List Frame) → Stands self.old before → OnOk result (Stands self.new (before ++ frame ∷ [])) }
-        ensures side { self.new.side ≡ self.old.side }
+    /// Whether octets to come count.
+    fn goes_on(&self) -> bool
+        ensures { result ≡ is_going self.now.state }
     {
-        let size = frame_size(&frame);
-        let chunk = match read_open(frame) {
-            Ok(chunk) => chunk,
-            Err(fault) => return Err(DissectFault::of_opening(fault)),
-        };
-        if let Err(fault) = self.assembler.step(chunk.sequence) {
-            return Err(DissectFault::of_chunk(self.side, fault));
+        match self.state {
+            State::Going => true,
+            State::Refused(_) | State::Closed => false,
         }
-        push_opening_line(lines, place, size, &chunk)?;
-        let name = opening_name(self.alloc, self.side, &chunk.body)?;
-        push_message_line(lines, chunk.request, chunk.body.len(), name)?;
-        Ok(())
     }
 
-    /// Adds the lines of a MSG at this place.
-    fn push_message(
-        &mut self,
-        frame: Frame,
-        place: usize,
-        lines: &mut String,
-    ) -> Result<(), DissectFault>
-        requires kind { frame.kind ≡ Msg }
+    /// Goes no further, and lets go of what is held.
+    fn stop(&mut self, state: State)
+        ensures state { self.new.state ≡ state }
+        ensures nothing { Holds self.new [] [] }
+        ensures place { self.new.place ≡ self.old.place }
+    {
+        self.state = state;
+        self.reader = EveryReader::new(self.alloc);
+        self.teller = Teller::new(self.alloc, self.teller.side);
+    }
+
+    /// Makes the lines of a frame that is whole, in the place of what stood in `lines`; where it is
+    /// refused, it has none, and the dissector goes no further.
+    fn tell(&mut self, frame: Frame, lines: &mut String) -> Result<(), AllocError>
         requires sized { IsSized frame }
-        requires let_in { LetsIn every_frame frame }
-        ensures judged { (before : List Frame) → Stands self.old before →
-            JudgesKind Msg self.old.side before place frame result (string_bytes lines.old) (string_bytes lines.new) }
-        ensures stands { (before : List Frame) → Stands self.old before → OnOk result (Stands self.new (before ++ frame ∷ [])) }
-        ensures side { self.new.side ≡ self.old.side }
+        requires let_in { LetsIn open_gate frame }
+        ensures { (side : Side) (before : List Frame) → GoesOn self.old side before [] → self.old.place ≡ place_behind before
+            → OnOk result (FrameTold self.new side before frame (string_bytes lines.new)) }
     {
         let size = frame_size(&frame);
-        let chunk = read_chunk(frame);
-        push_chunk_line(lines, "MSG", place, size, &chunk)?;
-        match self.assembler.accept(chunk) {
-            Ok(Some(delivered)) => {
-                push_delivered(self.alloc, self.side, delivered, lines)?;
+        lines.clear();
+        match self.teller.push_frame(frame, self.place, lines) {
+            Ok(()) => {
+                let Some(place) = self.place.checked_add(size) else {
+                    return Err(AllocError);
+                };
+                self.place = place;
                 Ok(())
             }
-            Ok(None) => Ok(()),
-            Err(fault) => Err(DissectFault::of_chunk(self.side, fault)),
+            Err(DissectFault::Refused(code)) => {
+                lines.clear();
+                self.stop(State::Refused(code));
+                Ok(())
+            }
+            Err(DissectFault::OutOfMemory) => Err(AllocError),
         }
     }
 
-    /// Adds the line of a CLO at this place.
-    fn push_close(
-        &mut self,
-        frame: Frame,
-        place: usize,
-        lines: &mut String,
-    ) -> Result<(), DissectFault>
-        requires kind { frame.kind ≡ Clo }
-        requires sized { IsSized frame }
-        requires let_in { LetsIn every_frame frame }
-        ensures judged { (before : List Frame) → Stands self.old before →
-            JudgesKind Clo self.old.side before place frame result (string_bytes lines.old) (string_bytes lines.new) }
-        ensures stands { (before : List Frame) → Stands self.old before → OnOk result (Stands self.new (before ++ frame ∷ [])) }
-        ensures side { self.new.side ≡ self.old.side }
+    /// Takes octets up to the end of the first frame, else all of them, and answers how many; none
+    /// where none are there, or none count. The lines of the frame take the place of what stood in
+    /// `lines`.
+    fn take_next(&mut self, octets: &[u8], lines: &mut String) -> Result<Option<usize>, AllocError>
+        ensures { IfOk result (λ taken. TakesNext self.old octets.now taken self.new (string_bytes lines.new)) }
     {
-        let size = frame_size(&frame);
-        let chunk = read_chunk(frame);
-        if let Err(fault) = self.assembler.step(chunk.sequence) {
-            return Err(DissectFault::of_chunk(self.side, fault));
+        lines.clear();
+        if octets.is_empty() || !self.goes_on() {
+            return Ok(None);
         }
-        push_chunk_line(lines, "CLO", place, size, &chunk)?;
+        match self.reader.take(octets) {
+            Ok((size, Some(frame))) => {
+                self.tell(frame, lines)?;
+                Ok(Some(size))
+            }
+            Ok((size, None)) => Ok(Some(size)),
+            Err(fault) => {
+                let Some(code) = fault.code() else {
+                    return Err(AllocError);
+                };
+                self.stop(State::Refused(code));
+                Ok(Some(octets.len()))
+            }
+        }
+    }
+
+    /// Adds the lines of what is whole with a piece, where memory was not refused before. After an error
+    /// some of them may stand there.
+    fn take_all(&mut self, piece: &[u8], out: &mut String) -> Result<(), AllocError>
+        ensures takes { OnOk result (Takes self.old self.new piece.now (string_bytes out.old) (string_bytes out.new)) }
+        ensures err { OnErr result (Extends (string_bytes out.old) (string_bytes out.new)) }
+        ensures closed { IsClosed self.old → IsErr result }
+    {
+        if let State::Closed = self.state {
+            return Err(AllocError);
+        }
+        let mut lines = String::new(self.alloc);
+        let mut at = 0;
+        while let Some(taken) = self.take_next(&piece[at..], &mut lines)? {
+            out.push_str(&lines)?;
+            at += taken;
+        }
         Ok(())
     }
 
-    /// Adds the lines of the next frame, which begins at this place.
-    #[tactic(auto, using(crate::proofs::Standings::stands_hello, crate::proofs::Standings::stands_ack, crate::proofs::Standings::stands_error))]
-    pub fn push_frame(
-        &mut self,
-        frame: Frame,
-        place: usize,
-        lines: &mut String,
-    ) -> Result<(), DissectFault>
-        requires sized { IsSized frame }
-        requires let_in { LetsIn every_frame frame }
-        ensures judged { (before : List Frame) → Stands self.old before → place ≡ place_behind before →
-            Judges (first_reason (frame_reasons self.old.side before frame)) (frame_lines self.old.side before frame) result (string_bytes lines.old) (string_bytes lines.new) }
-        ensures stands { (before : List Frame) → Stands self.old before → OnOk result (Stands self.new (before ++ frame ∷ [])) }
-        ensures side { self.new.side ≡ self.old.side }
+    /// Takes the next octets, and adds the lines of the frames and messages that are whole by then.
+    /// After an error, which is want of memory, the text is as it was, and the dissector takes nothing
+    /// more. Places go up to 18446744073709551615; beyond, there is an error, too.
+    pub fn take(&mut self, piece: &[u8], out: &mut String) -> Result<(), AllocError>
+        // What is told by then is told by the octets alone, however they were cut.
+        ensures told { (side : Side) (octets told : List ℕ) → StandsBehind self.old side octets told
+            → OnOk result (TellsMore self.new side (octets ++ piece.now) told (string_bytes out.old) (string_bytes out.new)) }
+        ensures err { OnErr result (string_bytes out.new ≡ string_bytes out.old) }
+        ensures failed { OnErr result (IsClosed self.new) }
+        ensures closed { IsClosed self.old → IsErr result }
     {
-        let size = frame_size(&frame);
-        match frame.kind {
-            Kind::Hel => push_greeting::<Hello>(self.alloc, &frame.body, place, size, lines),
-            Kind::Ack => push_greeting::<Ack>(self.alloc, &frame.body, place, size, lines),
-            Kind::Err => push_greeting::<ErrorFrame>(self.alloc, &frame.body, place, size, lines),
-            Kind::Msg => self.push_message(frame, place, lines),
-            Kind::Opn => self.push_opening(frame, place, lines),
-            Kind::Clo => self.push_close(frame, place, lines),
+        let len = out.len();
+        let taken = self.take_all(piece, out);
+        if taken.is_err() {
+            out.truncate(len);
+            self.stop(State::Closed);
         }
+        taken
+    }
+
+    /// Makes the last line, where no octets are to come.
+    fn push_last(&self, line: &mut String) -> Result<(), AllocError>
+        ensures last { (side : Side) (octets told : List ℕ) → StandsBehind self.now side octets told
+            → OnOk result (EndsLines side octets told (string_bytes line.old) (string_bytes line.new)) }
+        ensures closed { IsClosed self.now → IsErr result }
+    {
+        match self.state {
+            State::Going => push_rest_line(line, self.place, self.reader.held()),
+            State::Refused(code) => push_refused_line(line, self.place, code),
+            State::Closed => Err(AllocError),
+        }
+    }
+
+    /// Adds the last line, where no octets are to come: with what was added before, these are the
+    /// lines of all that were taken. After an error, which is want of memory, now or before, the text
+    /// is as it was.
+    pub fn finish(&self, out: &mut String) -> Result<(), AllocError>
+        ensures last { (side : Side) (octets told : List ℕ) → StandsBehind self.now side octets told
+            → OnOk result (EndsLines side octets told (string_bytes out.old) (string_bytes out.new)) }
+        ensures err { OnErr result (string_bytes out.new ≡ string_bytes out.old) }
+        ensures closed { IsClosed self.now → IsErr result }
+    {
+        let mut line = String::new(self.alloc);
+        self.push_last(&mut line)?;
+        out.push_str(&line)
+    }
+
+    /// How many octets are held: those of a frame that is not whole, and those of unfinished
+    /// messages. They are never more than [`bound`](Dissector::bound) says.
+    pub fn held(&self) -> usize
+        ensures held { (side : Side) (octets told : List ℕ) → StandsBehind self.now side octets told → AreHeld side octets result }
+        ensures bound { (side : Side) (octets told : List ℕ) → StandsBehind self.now side octets told → result ≤ most_held }
+        ensures closed { IsClosed self.now → result ≡ 0 }
+    {
+        self.reader.held().saturating_add(self.teller.held())
+    }
+
+    /// The most octets that are held: those of a frame of the greatest size, and of four messages of
+    /// the greatest size.
+    pub fn bound() -> usize
+        ensures { result ≡ most_held }
+    {
+        MOST_HELD
     }
 }

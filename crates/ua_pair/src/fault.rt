@@ -1,7 +1,7 @@
 //! Why a frame has no lines.
 
 ghost use Rattle.std.specs.Prelude.{◌≡◌};
-ghost use Rattle.ua_pair.specs.Dissecting.{chunk_fault, opening_fault};
+ghost use Rattle.ua_pair.specs.Telling.{chunk_fault, opening_fault};
 
 use crate::side::Side;
 use std::alloc::AllocError;

@@ -1,16 +1,18 @@
 //! The dissector: the octets that one side of a connection sent, as lines for people, frame by frame and
 //! message by message.
 //!
-//! Its contract is that of [`dissect`]: whatever the octets are, just their lines are added, and any
-//! octets have one list of lines (`laws`).
+//! Its contract is that of [`Dissector`]: whatever the octets are, and in whatever pieces they come, just
+//! their lines are added, and any octets have one list of lines (`laws`). [`dissect`] takes them at once.
 //!
 //! ```
+//! let mut dissector = Dissector::new(alloc, Side::Client);
 //! let mut text = String::new(alloc);
-//! dissect(alloc, &octets, Side::Client, &mut text)?; // an error leaves the text as it was
-//! for line in text.lines() {
-//!     show(line)?; // `188 MSG F 159 channel 1 token 1 sequence 2 request 2`, ..
+//! for piece in pieces {
+//!     dissector.take(piece, &mut text)?; // an error leaves the text as it was
+//!     show(&text)?; // `188 MSG F 159 channel 1 token 1 sequence 2 request 2`, ..
+//!     text.clear();
 //! }
-//! // the last line is `end P`, `rest N`, or `refused CODE at P`
+//! dissector.finish(&mut text)?; // the last line: `end P`, `rest N`, or `refused CODE at P`
 //! ```
 #![tactic(auto)]
 
@@ -19,9 +21,12 @@ mod fault;
 pub mod laws;
 mod line;
 mod name;
+mod reader;
 mod side;
 mod stream;
+mod teller;
 mod text;
 
+pub use dissector::Dissector;
 pub use side::Side;
 pub use stream::dissect;

@@ -1,9 +1,11 @@
 //! Lines of frames and messages.
 
+ghost use Rattle.std.specs.Fmt.{decimal};
 ghost use Rattle.std.specs.Prelude.{◌≡◌, ◌++◌, codes, string_bytes, OnOk};
-ghost use Rattle.ua_pair.specs.Lines.{numbers_text, flag_text, opening_line, chunk_line, message_line, aborted_line, rest_line, refused_line};
+ghost use Rattle.ua_pair.specs.Lines.{numbers_text, flag_text, opening_line, chunk_line, message_line, aborted_line, rest_line, refused_line, chunk_head};
 
 use crate::text::push_string;
+use itoa::Buffer;
 use std::alloc::AllocError;
 use std::fmt::Write;
 use ua_builtin::{StatusCode, Wire};
@@ -43,7 +45,8 @@ impl GreetingLine for Hello {
     ghost reads = { whole_read hello sound_hello };
 
     fn push_line(&self, lines: &mut String, place: usize, size: usize) -> Result<(), AllocError> {
-        write!(lines, "{place} HEL {size}")?;
+        push_number(lines, "", place as u64)?;
+        push_number(lines, " HEL ", size as u64)?;
         push_numbers(
             lines,
             self.protocol_version,
@@ -71,7 +74,8 @@ impl GreetingLine for Ack {
     ghost reads = { whole_read ack sound_ack };
 
     fn push_line(&self, lines: &mut String, place: usize, size: usize) -> Result<(), AllocError> {
-        write!(lines, "{place} ACK {size}")?;
+        push_number(lines, "", place as u64)?;
+        push_number(lines, " ACK ", size as u64)?;
         push_numbers(
             lines,
             self.protocol_version,
@@ -118,10 +122,27 @@ fn push_numbers(
 ) -> Result<(), AllocError>
     ensures { OnOk result (string_bytes lines.new ≡ string_bytes lines.old ++ numbers_text version receive send message chunks) }
 {
-    write!(
-        lines,
-        " version {version} receive {receive} send {send} message {message} chunks {chunks}"
-    )
+    push_number(lines, " version ", version as u64)?;
+    push_number(lines, " receive ", receive as u64)?;
+    push_number(lines, " send ", send as u64)?;
+    push_number(lines, " message ", message as u64)?;
+    push_number(lines, " chunks ", chunks as u64)
+}
+
+/// Adds a word and the decimal digits of a number.
+fn push_number(lines: &mut String, word: &str, number: u64) -> Result<(), AllocError>
+    ensures { OnOk result (string_bytes lines.new ≡ string_bytes lines.old ++ (word.now ++ decimal number)) }
+{
+    lines.push_str(word)?;
+    lines.push_str(Buffer::new().format(number))
+}
+
+/// Adds a word, the decimal digits of a number, and the end of the line.
+fn push_ended(lines: &mut String, word: &str, number: u64) -> Result<(), AllocError>
+    ensures { OnOk result (string_bytes lines.new ≡ string_bytes lines.old ++ (word.now ++ (decimal number ++ codes "\n"))) }
+{
+    push_number(lines, word, number)?;
+    push_newline(lines)
 }
 
 fn push_newline(lines: &mut String) -> Result<(), AllocError>
@@ -150,11 +171,12 @@ pub fn push_opening_line(
 ) -> Result<(), AllocError>
     ensures { OnOk result (string_bytes lines.new ≡ string_bytes lines.old ++ opening_line place size chunk.now) }
 {
-    writeln!(
-        lines,
-        "{place} OPN F {size} channel {} sequence {} request {}",
-        chunk.channel, chunk.sequence, chunk.request
-    )
+    push_number(lines, "", place as u64)?;
+    push_number(lines, " OPN F ", size as u64)?;
+    push_number(lines, " channel ", chunk.channel as u64)?;
+    push_number(lines, " sequence ", chunk.sequence as u64)?;
+    push_number(lines, " request ", chunk.request as u64)?;
+    push_newline(lines)
 }
 
 /// Adds the line of a MSG or a CLO frame, by its name, at this place, of this size.
@@ -167,13 +189,30 @@ pub fn push_chunk_line(
 ) -> Result<(), AllocError>
     ensures { OnOk result (string_bytes lines.new ≡ string_bytes lines.old ++ chunk_line name.now place size chunk.now) }
 {
-    let flag = flag_letter(chunk.flag);
-    write!(lines, "{place} {name} {flag} {size}")?;
-    writeln!(
-        lines,
-        " channel {} token {} sequence {} request {}",
-        chunk.channel, chunk.token, chunk.sequence, chunk.request
-    )
+    push_chunk_head(lines, name, place, size, chunk.flag)?;
+    push_number(lines, " channel ", chunk.channel as u64)?;
+    push_number(lines, " token ", chunk.token as u64)?;
+    push_number(lines, " sequence ", chunk.sequence as u64)?;
+    push_number(lines, " request ", chunk.request as u64)?;
+    push_newline(lines)
+}
+
+/// Adds the place, the name, the flag and the size of a MSG or a CLO frame.
+fn push_chunk_head(
+    lines: &mut String,
+    name: &str,
+    place: usize,
+    size: usize,
+    flag: Flag,
+) -> Result<(), AllocError>
+    ensures { OnOk result (string_bytes lines.new ≡ string_bytes lines.old ++ chunk_head name.now place size flag) }
+{
+    push_number(lines, "", place as u64)?;
+    lines.push_str(" ")?;
+    lines.push_str(name)?;
+    lines.push_str(" ")?;
+    lines.push_str(flag_letter(flag))?;
+    push_number(lines, " ", size as u64)
 }
 
 /// Adds the line of a message of so many octets, under its request id.
@@ -185,7 +224,11 @@ pub fn push_message_line(
 ) -> Result<(), AllocError>
     ensures { OnOk result (string_bytes lines.new ≡ string_bytes lines.old ++ message_line request size name.now) }
 {
-    writeln!(lines, "message {request} octets {size} {name}")
+    push_number(lines, "message ", request as u64)?;
+    push_number(lines, " octets ", size as u64)?;
+    lines.push_str(" ")?;
+    lines.push_str(name)?;
+    push_newline(lines)
 }
 
 /// Adds the line of a message that its sender gave up.
@@ -204,9 +247,9 @@ pub fn push_rest_line(lines: &mut String, place: usize, left: usize) -> Result<(
     ensures { OnOk result (string_bytes lines.new ≡ string_bytes lines.old ++ rest_line place left) }
 {
     if left == 0 {
-        writeln!(lines, "end {place}")
+        push_ended(lines, "end ", place as u64)
     } else {
-        writeln!(lines, "rest {left}")
+        push_ended(lines, "rest ", left as u64)
     }
 }
 

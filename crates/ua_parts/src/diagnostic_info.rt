@@ -28,9 +28,18 @@ pub struct DiagnosticInfo {
 
 /// A DiagnosticInfo within another.
 #[cycle(diagnostics)]
-#[derive(Drop)]
 pub struct BoxedDiagnostic {
     inner: Box<DiagnosticInfo>,
+}
+
+// By hand, so that a crate that lets a DiagnosticInfo go calls this, and proves nothing of what lies
+// deeper.
+impl Drop for BoxedDiagnostic {
+    #[cycle(letting_go)]
+    fn drop(self) {
+        let BoxedDiagnostic { inner } = self;
+        drop(inner);
+    }
 }
 
 impl Model for BoxedDiagnostic {
@@ -77,7 +86,8 @@ impl BoxedDiagnostic {
     pub fn into_inner(self) -> DiagnosticInfo
         ensures { diagnostic_of result ≡ self }
     {
-        Box::into_inner(self.inner)
+        let BoxedDiagnostic { inner } = self;
+        Box::into_inner(inner)
     }
 }
 

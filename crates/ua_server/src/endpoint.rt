@@ -3,7 +3,7 @@
 ghost use Rattle.std.specs.Prelude.{◌≡◌, ◌∷◌, [], Some, IfOk};
 ghost use Rattle.std.specs.List.{list_any};
 ghost use Rattle.ua_server.specs.Sessions.{endpoints_for};
-ghost use Rattle.ua_server.specs.Endpoint.{anonymous, description_of, is_served, are_served};
+ghost use Rattle.ua_server.specs.Endpoint.{anonymous, description_of, is_served, are_served, none_policy, transport_profile};
 
 use std::alloc::{AllocError, Global};
 use ua_builtin::{UaBytes, UaString};
@@ -33,17 +33,67 @@ impl Endpoint {
         ensures { IfOk result (λ e. e ≡ description_of self.now) }
     {
         let server = self.application(alloc)?;
-        let user_identity_tokens = policies(alloc)?;
-        Ok(EndpointDescription {
-            endpoint_url: self.url.try_clone()?,
-            server,
-            server_certificate: UaBytes::null(),
-            security_mode: 1,
-            security_policy_uri: UaString::from_str(alloc, NONE_POLICY)?,
-            user_identity_tokens,
-            transport_profile_uri: UaString::from_str(alloc, TRANSPORT_PROFILE)?,
-            security_level: 0,
-        })
+        self.describe(alloc, server)
+    }
+
+    // Each part is handed on as soon as it stands: what a check takes grows fast with the values that
+    // wait where memory may be refused.
+
+    /// The endpoint of this server.
+    fn describe(
+        &self,
+        alloc: Global,
+        server: ApplicationDescription,
+    ) -> Result<EndpointDescription, AllocError>
+        ensures { IfOk result (λ e. e ≡ record (description_of self.now) { server = server }) }
+    {
+        match policies(alloc) {
+            Ok(tokens) => self.describe_with(alloc, server, tokens),
+            Err(refused) => {
+                drop(server);
+                Err(refused)
+            }
+        }
+    }
+
+    /// The endpoint of this server, with these ways to say who one is.
+    fn describe_with(
+        &self,
+        alloc: Global,
+        server: ApplicationDescription,
+        user_identity_tokens: UaArray<UserTokenPolicy>,
+    ) -> Result<EndpointDescription, AllocError>
+        ensures { IfOk result (λ e. e ≡ record (description_of self.now) { server = server; user_identity_tokens = user_identity_tokens }) }
+    {
+        match self.texts(alloc) {
+            Ok((endpoint_url, security_policy_uri, transport_profile_uri)) => {
+                Ok(EndpointDescription {
+                    endpoint_url,
+                    server,
+                    server_certificate: UaBytes::null(),
+                    security_mode: 1,
+                    security_policy_uri,
+                    user_identity_tokens,
+                    transport_profile_uri,
+                    security_level: 0,
+                })
+            }
+            Err(refused) => {
+                drop(server);
+                drop(user_identity_tokens);
+                Err(refused)
+            }
+        }
+    }
+
+    /// The address, the security policy and the transport profile.
+    fn texts(&self, alloc: Global) -> Result<(UaString, UaString, UaString), AllocError>
+        ensures { IfOk result (λ t. (t.0 ≡ self.now.url) × ((t.1 ≡ Some none_policy) × (t.2 ≡ Some transport_profile))) }
+    {
+        let url = self.url.try_clone()?;
+        let policy = UaString::from_str(alloc, NONE_POLICY)?;
+        let profile = UaString::from_str(alloc, TRANSPORT_PROFILE)?;
+        Ok((url, policy, profile))
     }
 
     /// The one endpoint, or none where it is not asked for.

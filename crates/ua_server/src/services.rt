@@ -89,9 +89,9 @@ impl Services {
         ensures kept { OnErr result (self.new ≡ self.old) }
         ensures encodable { IfOk result (λ r. IsTrue (response.encodable r)) }
     {
-        match request {
-            Request::Write(message) => self.write(alloc, message, moment),
-            other => {
+        match request.into_write() {
+            Ok(message) => self.write(alloc, message, moment),
+            Err(other) => {
                 let response = self.respond(alloc, &other, moment);
                 drop(other);
                 response

@@ -27,6 +27,7 @@ mod response;
 
 pub use fault::{RequestFault, ResponseFault};
 pub use identity::{read_identity, write_identity};
+pub use message::empty_body;
 pub use open::{
     OpenAnswer, read_open_request, read_open_response, write_close_request, write_open_request,
     write_open_response,

@@ -1,6 +1,6 @@
 //! Messages: a structure behind the NodeId of its encoding.
 
-ghost use Rattle.std.specs.Prelude.{◌≡◌, ◌++◌, ◌<◌, ◌^◌, ◌↔◌, List, ℕ, IsTrue, IsFalse, IfOk, OnOk, OnErr, IsErrOf};
+ghost use Rattle.std.specs.Prelude.{◌≡◌, ◌++◌, ◌<◌, ◌^◌, ◌↔◌, [], List, ℕ, IsTrue, IsFalse, IfOk, OnOk, OnErr, IsErrOf};
 ghost use Rattle.ua_builtin.specs.Format.{Extends};
 ghost use Rattle.ua_builtin.specs.NodeId.{node_id};
 ghost use Rattle.ua_octets.specs.declared.fault.ReadFault.TheVariants.{NoValue};
@@ -25,6 +25,20 @@ fn standard_id(number: u32) -> NodeId
     ensures { result ≡ standard number }
 {
     NodeId::new(0, Identifier::Numeric(number))
+}
+
+/// The octets that a body is given room for before it is written: most requests and responses of a
+/// few nodes take fewer, and are then written without being moved.
+const BODY_ROOM: usize = 256;
+
+/// A body without octets. It has room for a small message where there is memory for that; where there
+/// is none, the writer asks for what it needs.
+pub fn empty_body(alloc: Global) -> Vec<u8>
+    ensures { result.items ≡ [] }
+{
+    let mut body = Vec::new(alloc);
+    let _has_room = body.reserve(BODY_ROOM).is_ok();
+    body
 }
 
 /// Adds the canonical encoding of a structure behind the NodeId with this number.

@@ -7,7 +7,7 @@ ghost use Rattle.ua_services.specs.Message.{IsBody, handle_behind};
 ghost use Rattle.ua_services.specs.Request.{request, request_kind, behind_header, unread_with, kind_read, request_read, Misread};
 
 use crate::fault::RequestFault;
-use crate::message::{append_message, standard_number};
+use crate::message::{append_message, empty_body, standard_number};
 use std::alloc::{AllocError, Global};
 use ua_builtin::{MOST_LEVELS, NodeId, ReadFault, Source, Wire, WriteFault};
 use ua_structures::{
@@ -27,7 +27,6 @@ pub enum RequestKind {
 }
 
 /// A request, as the body of a message (OPC 10000-6, 5.2.9).
-#[derive(Drop)]
 pub enum Request {
     GetEndpoints(GetEndpointsRequest),
     CreateSession(CreateSessionRequest),
@@ -37,9 +36,37 @@ pub enum Request {
     Write(WriteRequest),
 }
 
+// By hand, so that a crate that lets a request go calls this, and proves nothing of what lies in it.
+impl Drop for Request {
+    fn drop(self) {
+        match self {
+            Request::GetEndpoints(message) => drop(message),
+            Request::CreateSession(message) => drop(message),
+            Request::ActivateSession(message) => drop(message),
+            Request::CloseSession(message) => drop(message),
+            Request::Read(message) => drop(message),
+            Request::Write(message) => drop(message),
+        }
+    }
+}
+
 impl Request {
-    ghost use Rattle.std.specs.Prelude.{◌≡◌};
+    ghost use Rattle.std.specs.Prelude.{◌≡◌, ◌≢◌, IfOk, IfErr};
     ghost use Rattle.ua_services.specs.Request.{kind_of, header_of};
+    ghost use Rattle.ua_services.specs.declared.request.Request.TheVariants.{Write};
+    ghost use Rattle.ua_services.specs.declared.request.RequestKind.TheVariants.{Write as WriteKind};
+
+    /// The Write, or the request itself where it is another one.
+    pub fn into_write(self) -> Result<WriteRequest, Request>
+        ensures taken { IfOk result (λ message. self ≡ Write message) }
+        ensures same { IfErr result (λ other. other ≡ self) }
+        ensures other { IfErr result (λ other. kind_of other ≢ WriteKind) }
+    {
+        match self {
+            Request::Write(message) => Ok(message),
+            other => Err(other),
+        }
+    }
 
     /// The kind of request.
     pub fn kind(&self) -> RequestKind
@@ -247,7 +274,7 @@ pub fn request_body(alloc: Global, message: Request) -> Result<Vec<u8>, WriteFau
     ensures ok { IfOk result (λ body. body.items ≡ request.canonical message) }
     ensures refused { IsErrOf result NotWritable ↔ IsFalse (request.encodable message) }
 {
-    let mut body = Vec::new(alloc);
+    let mut body = empty_body(alloc);
     let written = message.write(&mut body);
     drop(message);
     match written {

@@ -7,7 +7,7 @@ ghost use Rattle.ua_services.specs.Message.{IsBody, kind_at};
 ghost use Rattle.ua_services.specs.Response.{response, responses, response_kind, unread_by, response_read, Misread};
 
 use crate::fault::ResponseFault;
-use crate::message::{append_message, standard_number};
+use crate::message::{append_message, empty_body, standard_number};
 use crate::request::RequestKind;
 use std::alloc::{AllocError, Global};
 use ua_builtin::{MOST_LEVELS, NodeId, ReadFault, Source, Wire, WriteFault};
@@ -29,7 +29,6 @@ pub enum ResponseKind {
 }
 
 /// A response, as the body of a message (OPC 10000-6, 5.2.9).
-#[derive(Drop)]
 pub enum Response {
     GetEndpoints(GetEndpointsResponse),
     CreateSession(CreateSessionResponse),
@@ -40,9 +39,38 @@ pub enum Response {
     ServiceFault(ServiceFault),
 }
 
+// By hand, so that a crate that lets a response go calls this, and proves nothing of what lies in it.
+impl Drop for Response {
+    fn drop(self) {
+        match self {
+            Response::GetEndpoints(message) => drop(message),
+            Response::CreateSession(message) => drop(message),
+            Response::ActivateSession(message) => drop(message),
+            Response::CloseSession(message) => drop(message),
+            Response::Read(message) => drop(message),
+            Response::Write(message) => drop(message),
+            Response::ServiceFault(message) => drop(message),
+        }
+    }
+}
+
 impl Response {
-    ghost use Rattle.std.specs.Prelude.{◌≡◌, ◌↔◌, IsTrue};
+    ghost use Rattle.std.specs.Prelude.{◌≡◌, ◌≢◌, ◌↔◌, IsTrue, IfOk, IfErr};
     ghost use Rattle.ua_services.specs.Response.{kind_of, header_of, Answers};
+    ghost use Rattle.ua_services.specs.declared.response.Response.TheVariants.{CreateSession};
+    ghost use Rattle.ua_services.specs.declared.response.ResponseKind.TheVariants.{CreateSession as CreateSessionKind};
+
+    /// The answer to CreateSession, or the response itself where it is another one.
+    pub fn into_create_session(self) -> Result<CreateSessionResponse, Response>
+        ensures taken { IfOk result (λ message. self ≡ CreateSession message) }
+        ensures same { IfErr result (λ other. other ≡ self) }
+        ensures other { IfErr result (λ other. kind_of other ≢ CreateSessionKind) }
+    {
+        match self {
+            Response::CreateSession(message) => Ok(message),
+            other => Err(other),
+        }
+    }
 
     /// The kind of response.
     pub fn kind(&self) -> ResponseKind
@@ -245,7 +273,7 @@ pub fn response_body(alloc: Global, message: Response) -> Result<Vec<u8>, WriteF
     ensures ok { IfOk result (λ body. body.items ≡ response.canonical message) }
     ensures refused { IsErrOf result NotWritable ↔ IsFalse (response.encodable message) }
 {
-    let mut body = Vec::new(alloc);
+    let mut body = empty_body(alloc);
     let written = message.write(&mut body);
     drop(message);
     match written {

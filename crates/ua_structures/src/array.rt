@@ -13,9 +13,16 @@ use std::marker::Model;
 use ua_builtin::{FIRST_NEGATIVE, NULL_COUNT, ReadFault, Source, Wire};
 
 /// An array of values, or null, which differs from no values (OPC 10000-6, 5.2.5).
-#[derive(Drop)]
 pub struct UaArray<T> {
     items: Option<Vec<T>>,
+}
+
+// By hand, so that a function that lets an array go without a call calls this, and is not written out.
+impl<T: Drop> Drop for UaArray<T> {
+    fn drop(self) {
+        let UaArray { items } = self;
+        drop(items);
+    }
 }
 
 impl<T> Model for UaArray<T> {
@@ -61,7 +68,8 @@ impl<T> UaArray<T> {
     pub fn into_items(self) -> Option<Vec<T>>
         ensures { option_map (λ v. v.items) result ≡ self }
     {
-        self.items
+        let UaArray { items } = self;
+        items
     }
 }
 

@@ -10,7 +10,6 @@ ghost use Rattle.ua_structures.specs.Attribute.{read_value_id, read_request, rea
 ghost use Rattle.ua_structures.specs.Header.{request_header as header_format, response_header as answer_format};
 ghost use Rattle.ua_structures.specs.Plain.{value_of_node, value_for_node, read_of, write_of, values_of, statuses_of};
 
-use crate::append::{append_three, append_two};
 use crate::array::UaArray;
 use crate::data_values::read_data_values;
 use crate::header::{RequestHeader, ResponseHeader};
@@ -18,6 +17,7 @@ use std::alloc::{AllocError, Global};
 use ua_builtin::{
     DoubleBits, NodeId, QualifiedName, ReadFault, Source, StatusCode, UaString, Wire,
 };
+use ua_octets::{append_three, append_two};
 use ua_variant::{DataValue, DiagnosticInfo};
 
 /// What is to be read: an attribute of a node, or a part of it (OPC 10000-4, 7.29).

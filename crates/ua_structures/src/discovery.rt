@@ -7,11 +7,11 @@ ghost use Rattle.ua_structures.specs.Field.{string};
 ghost use Rattle.ua_structures.specs.Header.{request_header as header_format};
 ghost use Rattle.ua_structures.specs.Plain.{application_of, endpoints_of};
 
-use crate::append::{append_three, append_two};
 use crate::array::UaArray;
 use crate::header::{RequestHeader, ResponseHeader};
 use std::alloc::{AllocError, Global};
 use ua_builtin::{LocalizedText, ReadFault, Source, UaBytes, UaString, Wire};
+use ua_octets::{append_three, append_two};
 
 /// A server or a client (OPC 10000-4, 7.2).
 #[derive(Drop)]

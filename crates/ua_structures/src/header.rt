@@ -5,13 +5,13 @@ ghost use Rattle.ua_builtin.specs.NodeId.{node_id};
 ghost use Rattle.ua_structures.specs.Header.{request_header, response_header, service_fault};
 ghost use Rattle.ua_structures.specs.Plain.{request_header_of, response_header_of, service_fault_of};
 
-use crate::append::{append_three, append_two};
 use crate::array::UaArray;
 use std::alloc::{AllocError, Global};
 use ua_builtin::laws::{moment_is_encodable, status_is_encodable};
 use ua_builtin::{
     DateTime, ExtensionObject, NodeId, ReadFault, Source, StatusCode, UaString, Wire,
 };
+use ua_octets::{append_three, append_two};
 use ua_variant::DiagnosticInfo;
 
 /// What stands at the head of each request (OPC 10000-4, 7.33).

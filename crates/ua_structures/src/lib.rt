@@ -16,7 +16,6 @@
 //! ```
 #![tactic(auto)]
 
-mod append;
 mod array;
 mod attribute;
 mod data_values;

@@ -4,11 +4,11 @@ ghost use Rattle.std.specs.Prelude.{◌≡◌, pos, IsTrue};
 ghost use Rattle.ua_structures.specs.Plain.{open_request_of, open_response_of, close_request_of};
 ghost use Rattle.ua_structures.specs.SecureChannel.{open_request, open_response, close_request};
 
-use crate::append::{append_three, append_two};
 use crate::header::{RequestHeader, ResponseHeader};
 use std::alloc::{AllocError, Global};
 use ua_builtin::laws::moment_is_encodable;
 use ua_builtin::{DateTime, NodeId, ReadFault, Source, StatusCode, UaBytes, Wire};
+use ua_octets::{append_three, append_two};
 
 /// OpenSecureChannel: asks for a secure channel, or for a new token of one (OPC 10000-4, 5.6.2).
 #[derive(Drop)]

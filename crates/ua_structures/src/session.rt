@@ -11,7 +11,6 @@ ghost use Rattle.ua_structures.specs.Header.{request_header as header_format, re
 ghost use Rattle.ua_structures.specs.Plain.{create_session_of, session_of, activate_session_of, activated_of};
 ghost use Rattle.ua_structures.specs.Session.{create_session_request, create_session_response, activate_session_request, activate_session_response};
 
-use crate::append::{append_three, append_two};
 use crate::array::UaArray;
 use crate::discovery::{ApplicationDescription, EndpointDescription};
 use crate::header::{RequestHeader, ResponseHeader};
@@ -20,6 +19,7 @@ use std::alloc::{AllocError, Global};
 use ua_builtin::{
     DoubleBits, ExtensionObject, NodeId, ReadFault, Source, StatusCode, UaBytes, UaString, Wire,
 };
+use ua_octets::{append_three, append_two};
 use ua_variant::DiagnosticInfo;
 
 /// Every timeout can be written: its bits are within the range of their type once they are read.

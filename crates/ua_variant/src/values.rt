@@ -17,7 +17,6 @@ use ua_parts::{BoxedDiagnostic, Dimensions};
 
 /// A value of any built-in type, or an array of such (OPC 10000-6, 5.2.2.16).
 #[cycle(values)]
-#[derive(Drop)]
 pub enum Variant {
     /// No value.
     Null,
@@ -31,9 +30,29 @@ pub enum Variant {
     },
 }
 
+// The drops of this file are by hand, so that a crate that lets a value go calls the one of its type,
+// and proves nothing of what lies in it.
+
+impl Drop for Variant {
+    #[cycle(letting_go)]
+    fn drop(self) {
+        match self {
+            Variant::Null => {}
+            Variant::One(scalar) => drop(scalar),
+            Variant::Many {
+                kind: _,
+                items,
+                dims,
+            } => {
+                drop(items);
+                drop(dims);
+            }
+        }
+    }
+}
+
 /// A value of a built-in type (OPC 10000-6, 5.1.2).
 #[cycle(values)]
-#[derive(Drop)]
 pub enum Scalar {
     Boolean(bool),
     SByte(i8),
@@ -64,6 +83,40 @@ pub enum Scalar {
     Reserved(u8, UaBytes),
 }
 
+impl Drop for Scalar {
+    #[cycle(letting_go)]
+    fn drop(self) {
+        match self {
+            Scalar::Boolean(_) => {}
+            Scalar::SByte(_) => {}
+            Scalar::Byte(_) => {}
+            Scalar::Int16(_) => {}
+            Scalar::UInt16(_) => {}
+            Scalar::Int32(_) => {}
+            Scalar::UInt32(_) => {}
+            Scalar::Int64(_) => {}
+            Scalar::UInt64(_) => {}
+            Scalar::Float(_) => {}
+            Scalar::Double(_) => {}
+            Scalar::String(held) => drop(held),
+            Scalar::DateTime(_) => {}
+            Scalar::Guid(_) => {}
+            Scalar::ByteString(held) => drop(held),
+            Scalar::XmlElement(held) => drop(held),
+            Scalar::NodeId(held) => drop(held),
+            Scalar::ExpandedNodeId(held) => drop(held),
+            Scalar::StatusCode(_) => {}
+            Scalar::QualifiedName(held) => drop(held),
+            Scalar::LocalizedText(held) => drop(held),
+            Scalar::ExtensionObject(held) => drop(held),
+            Scalar::DataValue(held) => drop(held),
+            Scalar::Variant(held) => drop(held),
+            Scalar::DiagnosticInfo(held) => drop(held),
+            Scalar::Reserved(_, held) => drop(held),
+        }
+    }
+}
+
 /// A value with its status and when it came about (OPC 10000-6, 5.2.2.17). Picoseconds are kept
 /// as they stand, also above 9999 or without their time.
 #[cycle(values)]
@@ -81,9 +134,16 @@ pub struct DataValue {
 
 /// A Variant among other Variants, on the heap.
 #[cycle(values)]
-#[derive(Drop)]
 pub struct BoxedVariant {
     inner: Box<Variant>,
+}
+
+impl Drop for BoxedVariant {
+    #[cycle(letting_go)]
+    fn drop(self) {
+        let BoxedVariant { inner } = self;
+        drop(inner);
+    }
 }
 
 impl Model for BoxedVariant {
@@ -110,9 +170,16 @@ impl Model for BoxedVariant {
 
 /// A Variant within a DataValue, in its place.
 #[cycle(values)]
-#[derive(Drop)]
 pub struct HeldVariant {
     inner: Variant,
+}
+
+impl Drop for HeldVariant {
+    #[cycle(letting_go)]
+    fn drop(self) {
+        let HeldVariant { inner } = self;
+        drop(inner);
+    }
 }
 
 impl Model for HeldVariant {
@@ -139,9 +206,16 @@ impl Model for HeldVariant {
 
 /// A DataValue among Variants, on the heap.
 #[cycle(values)]
-#[derive(Drop)]
 pub struct BoxedDataValue {
     inner: Box<DataValue>,
+}
+
+impl Drop for BoxedDataValue {
+    #[cycle(letting_go)]
+    fn drop(self) {
+        let BoxedDataValue { inner } = self;
+        drop(inner);
+    }
 }
 
 impl Model for BoxedDataValue {
@@ -178,9 +252,16 @@ pub enum Elements {
 
 /// The elements of an array.
 #[cycle(values)]
-#[derive(Drop)]
 pub struct Scalars {
     elements: Elements,
+}
+
+impl Drop for Scalars {
+    #[cycle(letting_go)]
+    fn drop(self) {
+        let Scalars { elements } = self;
+        drop(elements);
+    }
 }
 
 impl Model for Scalars {
@@ -230,7 +311,8 @@ impl BoxedVariant {
     pub fn into_inner(self) -> Variant
         ensures { variant_of result ≡ self }
     {
-        Box::into_inner(self.inner)
+        let BoxedVariant { inner } = self;
+        Box::into_inner(inner)
     }
 }
 
@@ -256,7 +338,8 @@ impl HeldVariant {
     pub fn into_inner(self) -> Variant
         ensures { variant_of result ≡ self }
     {
-        self.inner
+        let HeldVariant { inner } = self;
+        inner
     }
 }
 
@@ -284,7 +367,8 @@ impl BoxedDataValue {
     pub fn into_inner(self) -> DataValue
         ensures { data_value_of result ≡ self }
     {
-        Box::into_inner(self.inner)
+        let BoxedDataValue { inner } = self;
+        Box::into_inner(inner)
     }
 }
 
@@ -333,7 +417,8 @@ impl Scalars {
     pub fn into_elements(self) -> Elements
         ensures { elements_of result ≡ self }
     {
-        self.elements
+        let Scalars { elements } = self;
+        elements
     }
 
     /// These elements, in a vector of their type.

@@ -4,4 +4,12 @@ use Rattle.ua_pair.proofs.line.push_chunk_line.Goals as goal
 
 pub returns : goal.returns
 unfolding chunk_line
-returns c = simp append_assoc (simp (c.in_ok-write.ensures.bytes, c.flag_letter-flag.ensures, append_assoc) at c.writeln.ensures.bytes)
+returns c =
+    simp append_assoc (simp (
+      c.in_ok-push_number-4.ensures,
+      c.in_ok-push_number-3.ensures,
+      c.in_ok-push_number-2.ensures,
+      c.in_ok-push_number.ensures,
+      c.in_ok-push_chunk_head.ensures,
+      append_assoc,
+    ) at c.push_newline.ensures)

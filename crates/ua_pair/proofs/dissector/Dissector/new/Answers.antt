@@ -1,5 +1,9 @@
-use Rattle.ua_pair.proofs.Standings.{stands_first}
+use Rattle.std.proofs.Common.{refl}
+use Rattle.ua_pair.specs.declared.dissector.State.TheVariants as state
+use Rattle.ua_pair.proofs.Dissections.{stands_first}
 use Rattle.ua_pair.proofs.dissector.Dissector.new.Goals as goal
 
-pub returns-clause-stands : goal.returns-clause-stands
-returns-clause-stands c = stands_first (record { alloc = c.args.alloc; side = c.args.side; assembler = c.new.result }) c.new.ensures.stands c.new.ensures.last c.new.ensures.octets c.new.ensures.chunks
+pub returns : goal.returns
+returns c =
+    stands_first (record { alloc = c.args.alloc; state = state.Going; reader = c.new.result; teller = c.new-2.result; place = 0 }) c.args.side
+    refl c.new.ensures c.new-2.ensures.stands c.new-2.ensures.side refl

@@ -1,8 +1,0 @@
-use Rattle.ua_pair.specs.Before.{message_chunks}
-use Rattle.ua_pair.proofs.Standings.{stands_opening}
-use Rattle.ua_pair.proofs.dissector.Dissector.push_opening.Goals as goal
-
-pub returns-clause-stands : goal.returns-clause-stands
-returns-clause-stands c = λ before s.
-    stands_opening c.args.self.now (record c.args.self.now { assembler = c.step.new.self }) before c.args.frame c.in-Ok.chunk
-    s c.requires.kind c.in-Ok.ensures.found (c.in_default.ensures.stands (message_chunks before) s.messages) c.in_default.ensures.last c.in_default.ensures.limits
