@@ -28,7 +28,16 @@ use ua_commands::{refuse_words, run};
 fn main(rt: HostRuntime) -> ExitCode {
     let mut err = rt.stderr();
     let status = match words_of(&rt) {
-        Ok(words) => run(&rt, words.as_slice(), &mut rt.stdout(), &mut err),
+        Ok(words) => {
+            let mut input = rt.reader();
+            run(
+                &rt,
+                words.as_slice(),
+                &mut input,
+                &mut rt.stdout(),
+                &mut err,
+            )
+        }
         Err(error) => refuse_words(&error, &mut err),
     };
     ExitCode::from(status)

@@ -1,3 +1,4 @@
+mod HexParts
 mod Loops
-mod Prints
+mod Readings
 mod Serves

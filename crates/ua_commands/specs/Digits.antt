@@ -1,5 +1,5 @@
 -- What a file holds: octets, or hexadecimal digits among white space.
-use Rattle.std.specs.Prelude.{◌≡◌, ℕ, Bool, true, false, not, List, Ok}
+use Rattle.std.specs.Prelude.{◌≡◌, ℕ, Bool, true, false, not, List, ◌++◌, Option, option_to_list, Ok}
 use Rattle.std.specs.Char.{is_ascii_whitespace}
 use Rattle.std.specs.List.{filter}
 use Rattle.hex.specs.Hex.{decode_of}
@@ -20,3 +20,24 @@ HoldsOctets true content octets = IsHex content octets
 -- a file with this content holds no octets: with `--hex`, where its digits stand for none
 abbrev pub HoldsNone : Bool → List ℕ → Type 0
 HoldsNone hex content = (octets : List ℕ) → ¬ (HoldsOctets hex content octets)
+
+-- ---- a text that comes in pieces
+
+-- the text so far is pairs of digits that stand for these octets, and behind them this digit, if any
+pub record HexSoFar (half : Option ℕ) (text octets : List ℕ) : Type 0 where
+  pub pairs : List ℕ
+  pub parts : digits_in text ≡ pairs ++ option_to_list half
+  pub decoded : decode_of pairs ≡ Ok octets
+
+-- whatever follows, the text stands for no octets
+abbrev pub IsNeverHex : List ℕ → Type 0
+IsNeverHex text = (more octets : List ℕ) → ¬ (IsHex (text ++ more) octets)
+
+-- the octets of a file whose content so far is this, with `--hex` where a digit may have no pair yet
+abbrev pub HoldsSoFar : Bool → Option ℕ → List ℕ → List ℕ → Type 0
+HoldsSoFar false half content octets = octets ≡ content
+HoldsSoFar true half content octets = HexSoFar half content octets
+
+-- whatever follows, a file whose content begins so holds no octets
+abbrev pub HoldsNever : Bool → List ℕ → Type 0
+HoldsNever hex content = (more octets : List ℕ) → ¬ (HoldsOctets hex (content ++ more) octets)

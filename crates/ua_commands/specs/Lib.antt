@@ -1,4 +1,5 @@
 pub mod Digits
+pub mod Dissects
 pub mod Lines
 pub mod Moment
 pub mod Refused

@@ -1,18 +1,12 @@
--- What the program prints of a file, and what a run leaves on a stream.
-use Rattle.std.specs.Prelude.{◌⊎◌, ℕ, Bool, List, Option}
+-- What a run leaves on a stream.
+use Rattle.std.specs.Prelude.{◌⊎◌, ℕ, List, Option}
 use Rattle.std.specs.Io.KnownBytes.{Appends}
 use Rattle.ua_pair.specs.declared.side.Side.{Side}
 use Rattle.ua_pair.specs.Dissected.{AreLines}
 use Rattle.ua_asking.specs.Printed.{AreAnswerLines}
-use Rattle.ua_commands.specs.Digits.{HoldsOctets}
+use Rattle.ua_commands.specs.Dissects.{HasBegunDissecting}
 use Rattle.ua_commands.specs.Looped.{HasLoopedSome}
 use Rattle.ua_commands.specs.Served.{HasServed}
-
--- the text is the lines of the octets of this side that a file with this content holds, with `--hex` or without
-pub record AreLinesOf (hex : Bool) (side : Side) (content text : List ℕ) : Type 0 where
-  pub octets : List ℕ
-  pub holds : HoldsOctets hex content octets
-  pub lines : AreLines side octets text
 
 -- the text is the lines of some octets of one side
 pub record AreSomeLines (text : List ℕ) : Type 0 where
@@ -42,9 +36,14 @@ pub record HasBegunServing (old new : Option (List ℕ)) : Type 0 where
   pub connections : ℕ
   pub lines : HasServed port connections old new
 
--- what a run may add that then meets a fault: the first lines of `ua serve`, lines of answers, or those of a script
+-- a writer that held the old octets then holds behind them the lines of frames of one side, without a last line
+pub record HasToldSome (old new : Option (List ℕ)) : Type 0 where
+  pub side : Side
+  pub lines : HasBegunDissecting side old new
+
+-- what a run may add that then meets a fault: the lines of frames, the first lines of `ua serve`, lines of answers, or those of a script
 abbrev pub HasBegun : Option (List ℕ) → Option (List ℕ) → Type 0
-HasBegun old new = HasBegunServing old new ⊎ HasAnswered old new ⊎ HasLoopedSome old new
+HasBegun old new = HasToldSome old new ⊎ HasBegunServing old new ⊎ HasAnswered old new ⊎ HasLoopedSome old new
 
 -- what a run adds that does what its words ask for
 abbrev pub HasPrinted : Option (List ℕ) → Option (List ℕ) → Type 0

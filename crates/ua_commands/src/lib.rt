@@ -15,6 +15,7 @@ mod clock_moments;
 mod commands;
 mod dissect;
 mod fault;
+mod hex_pieces;
 mod input;
 mod loop_line;
 mod looping;

@@ -4,31 +4,33 @@ ghost use Rattle.std.specs.Prelude.{◌≡◌, ◌≤◌, ◌≢◌, ◌⊎◌, 
 ghost use Rattle.std.specs.Io.KnownBytes.{Appends};
 ghost use Rattle.std.specs.IoError.{error_kind};
 ghost use Rattle.std.specs.declared.io.ErrorKind.TheVariants.{OutOfMemory};
-ghost use Rattle.ua_commands.specs.Printed.{HasBegun, HasDissected, HasPrinted};
+ghost use Rattle.ua_commands.specs.Printed.{HasBegun, HasDissected, HasPrinted, HasToldSome};
 ghost use Rattle.ua_commands.specs.declared.output.Stop.TheVariants.{Output};
 
 use crate::arguments::{self, Dissect, Task};
 use crate::ask::{endpoints, read, write};
-use crate::dissect::dissect_content;
+use crate::dissect::dissect_source;
 use crate::fault::Fault;
-use crate::input::read_file;
+use crate::input::open_file;
 use crate::looping::run_files;
-use crate::output::{Stop, say, write_text};
+use crate::output::{Stop, write_text};
 use crate::serve::serve_connections;
 use clap::error::ErrorKind;
 use std::alloc::Global;
 use std::convert::AsStr;
 use std::io;
-use std::io::Write;
+use std::io::{Read, Write};
 use std::net::Net;
 use std::rt::Files;
 use std::time::Clock;
 
-/// Runs the program on its words, of which the first is its name. The status is 0 where the
-/// command is done, 1 where it met a fault or a writer failed, 2 where the words don't parse.
-pub fn run<S: AsStr, R: Files + Net + Clock + AllocGlobal, O: Write, E: Write>(
+/// Runs the program on its words, of which the first is its name. The input is read only where the
+/// words ask for it. The status is 0 where the command is done, 1 where it met a fault or a writer
+/// failed, 2 where the words don't parse.
+pub fn run<S: AsStr, R: Files + Net + Clock + AllocGlobal, I: Read, O: Write, E: Write>(
     rt: &R,
     words: &[S],
+    input: &mut I,
     out: &mut O,
     err: &mut E,
 ) -> u8
@@ -43,7 +45,7 @@ pub fn run<S: AsStr, R: Files + Net + Clock + AllocGlobal, O: Write, E: Write>(
         Ok(None) => return print(err, "ua: a number is not from 1 to 65535\n", 2),
         Err(error) => return refuse(rt.alloc(), &error, err),
     };
-    match perform(rt, task, out) {
+    match perform(rt, task, input, out) {
         Ok(()) => 0,
         Err(Stop::Fault(fault)) => tell(rt.alloc(), &fault, err),
         Err(Stop::Output) => 1,
@@ -51,16 +53,17 @@ pub fn run<S: AsStr, R: Files + Net + Clock + AllocGlobal, O: Write, E: Write>(
 }
 
 /// Does what the words ask for.
-fn perform<'a, R: Files + Net + Clock + AllocGlobal, O: Write>(
+fn perform<'a, R: Files + Net + Clock + AllocGlobal, I: Read, O: Write>(
     rt: &R,
     task: Task<'a>,
+    input: &mut I,
     out: &mut O,
 ) -> Result<(), Stop<'a>>
     ensures done { OnOk result (HasPrinted (O.contents out.old) (O.contents out.new)) }
     ensures stopped { IfErr result (λ stop. (stop ≡ Output) ⊎ (out.new ≡ out.old) ⊎ HasBegun (O.contents out.old) (O.contents out.new)) }
 {
     match task {
-        Task::Dissect(asked) => dissect(rt, &asked, out),
+        Task::Dissect(asked) => dissect(rt, &asked, input, out),
         Task::Serve(asked) => serve_connections(rt, &asked, out),
         Task::Endpoints(port) => endpoints(rt, port, out),
         Task::Read(asked) => read(rt, &asked, out),
@@ -92,18 +95,34 @@ fn tell<E: Write>(alloc: Global, fault: &Fault<'_>, err: &mut E) -> u8
     }
 }
 
-/// Prints the frames and messages of a file.
-fn dissect<'a, R: Files + AllocGlobal, O: Write>(
+/// Prints the frames and messages of a file, or of the input where it is named `-`.
+fn dissect<'a, R: Files + AllocGlobal, I: Read, O: Write>(
     rt: &R,
     asked: &Dissect<'a>,
+    input: &mut I,
     out: &mut O,
 ) -> Result<(), Stop<'a>>
     ensures dissected { OnOk result (HasDissected (O.contents out.old) (O.contents out.new)) }
-    ensures stopped { IfErr result (λ stop. (stop ≡ Output) ⊎ (out.new ≡ out.old)) }
+    ensures stopped { IfErr result (λ stop. (stop ≡ Output) ⊎ (out.new ≡ out.old) ⊎ HasToldSome (O.contents out.old) (O.contents out.new)) }
 {
-    let content = read_file(rt, asked.file)?;
-    let text = dissect_content(rt.alloc(), asked, content.as_slice())?;
-    say(out, &text)
+    if asked.file == "-" {
+        return dissect_some(rt.alloc(), asked, input, out);
+    }
+    let mut file = open_file(rt, asked.file)?;
+    dissect_some(rt.alloc(), asked, &mut file, out)
+}
+
+/// Prints the lines of what a source gives.
+fn dissect_some<'a, I: Read, O: Write>(
+    alloc: Global,
+    asked: &Dissect<'a>,
+    source: &mut I,
+    out: &mut O,
+) -> Result<(), Stop<'a>>
+    ensures dissected { OnOk result (HasDissected (O.contents out.old) (O.contents out.new)) }
+    ensures stopped { IfErr result (λ stop. (stop ≡ Output) ⊎ HasToldSome (O.contents out.old) (O.contents out.new)) }
+{
+    dissect_source(alloc, asked, source, out)
 }
 
 /// Tells why the words of the command line could not be gathered. The status is 2 where a word is

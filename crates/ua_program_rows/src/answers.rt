@@ -3,7 +3,7 @@
 use crate::ask::{ask, ask_tcp};
 use crate::fault::Fault;
 use crate::files::{file, text};
-use crate::run::{run_row, words_row};
+use crate::run::{pipe_row, run_row, words_row};
 use crate::script::script;
 use crate::serve::{connections, serve, serve_tcp};
 use std::alloc::AllocError;
@@ -40,6 +40,7 @@ fn answer<R: Files + Net + Clock + AllocGlobal>(
         "file" => file(rt, words),
         "text" => text(rt, words),
         "run" => run_row(rt, taken, words),
+        "pipe" => pipe_row(rt, taken, words),
         "words" => words_row(rt, taken, words),
         "script" => script(rt, words),
         "ask" => ask(rt, words),

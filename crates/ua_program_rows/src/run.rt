@@ -1,8 +1,9 @@
 //! Runs of the program `ua` on words.
 
 use crate::fault::Fault;
+use crate::files::content;
 use crate::tcp::free_port;
-use crate::texts::{marked, unmarked};
+use crate::texts::{first_word, marked, unmarked};
 use std::net::Net;
 use std::rt::Files;
 use std::time::Clock;
@@ -22,7 +23,21 @@ pub fn run_row<R: Files + Net + Clock + AllocGlobal>(
     taken: u16,
     words: &str,
 ) -> Result<String, Fault> {
-    let ran = run_words(rt, &words_of(rt, taken, words)?);
+    told(rt, &run_words(rt, &words_of(rt, taken, words)?, &[]))
+}
+
+/// `pipe NAME WORDS`: the same of a run whose input is what a file holds.
+pub fn pipe_row<R: Files + Net + Clock + AllocGlobal>(
+    rt: &R,
+    taken: u16,
+    words: &str,
+) -> Result<String, Fault> {
+    let (name, words) = first_word(words);
+    let input = content(rt, name)?;
+    told(rt, &run_words(rt, &words_of(rt, taken, words)?, &input))
+}
+
+fn told<R: AllocGlobal>(rt: &R, ran: &Ran) -> Result<String, Fault> {
     let status = ran.status;
     let out = marked(rt.alloc(), &ran.out)?;
     let err = marked(rt.alloc(), &ran.err)?;
@@ -35,7 +50,7 @@ pub fn words_row<R: Files + Net + Clock + AllocGlobal>(
     taken: u16,
     words: &str,
 ) -> Result<String, Fault> {
-    let ran = run_words(rt, &words_of(rt, taken, words)?);
+    let ran = run_words(rt, &words_of(rt, taken, words)?, &[]);
     let status = ran.status;
     let out = presence(&ran.out);
     let err = presence(&ran.err);
@@ -51,10 +66,14 @@ fn presence(octets: &[u8]) -> &'static str {
 }
 
 /// Nothing is promised of it: what `run` promises of each call costs its callers.
-fn run_words<R: Files + Net + Clock + AllocGlobal>(rt: &R, words: &[String]) -> Ran {
+fn run_words<R: Files + Net + Clock + AllocGlobal>(
+    rt: &R,
+    words: &[String],
+    mut input: &[u8],
+) -> Ran {
     let mut out = Vec::new(rt.alloc());
     let mut err = Vec::new(rt.alloc());
-    let status = run(rt, words, &mut out, &mut err);
+    let status = run(rt, words, &mut input, &mut out, &mut err);
     Ran { status, out, err }
 }
 

@@ -53,8 +53,20 @@ impl Drop for Request {
 impl Request {
     ghost use Rattle.std.specs.Prelude.{◌≡◌, ◌≢◌, IfOk, IfErr};
     ghost use Rattle.ua_services.specs.Request.{kind_of, header_of};
-    ghost use Rattle.ua_services.specs.declared.request.Request.TheVariants.{Write};
-    ghost use Rattle.ua_services.specs.declared.request.RequestKind.TheVariants.{Write as WriteKind};
+    ghost use Rattle.ua_services.specs.declared.request.Request.TheVariants.{Read, Write};
+    ghost use Rattle.ua_services.specs.declared.request.RequestKind.TheVariants.{Read as ReadKind, Write as WriteKind};
+
+    /// The Read, or the request itself where it is another one.
+    pub fn into_read(self) -> Result<ReadRequest, Request>
+        ensures taken { IfOk result (λ message. self ≡ Read message) }
+        ensures same { IfErr result (λ other. other ≡ self) }
+        ensures other { IfErr result (λ other. kind_of other ≢ ReadKind) }
+    {
+        match self {
+            Request::Read(message) => Ok(message),
+            other => Err(other),
+        }
+    }
 
     /// The Write, or the request itself where it is another one.
     pub fn into_write(self) -> Result<WriteRequest, Request>

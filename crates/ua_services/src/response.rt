@@ -57,8 +57,20 @@ impl Drop for Response {
 impl Response {
     ghost use Rattle.std.specs.Prelude.{◌≡◌, ◌≢◌, ◌↔◌, IsTrue, IfOk, IfErr};
     ghost use Rattle.ua_services.specs.Response.{kind_of, header_of, Answers};
-    ghost use Rattle.ua_services.specs.declared.response.Response.TheVariants.{CreateSession};
-    ghost use Rattle.ua_services.specs.declared.response.ResponseKind.TheVariants.{CreateSession as CreateSessionKind};
+    ghost use Rattle.ua_services.specs.declared.response.Response.TheVariants.{CreateSession, Read};
+    ghost use Rattle.ua_services.specs.declared.response.ResponseKind.TheVariants.{CreateSession as CreateSessionKind, Read as ReadKind};
+
+    /// The answer to a Read, or the response itself where it is another one.
+    pub fn into_read(self) -> Result<ReadResponse, Response>
+        ensures taken { IfOk result (λ message. self ≡ Read message) }
+        ensures same { IfErr result (λ other. other ≡ self) }
+        ensures other { IfErr result (λ other. kind_of other ≢ ReadKind) }
+    {
+        match self {
+            Response::Read(message) => Ok(message),
+            other => Err(other),
+        }
+    }
 
     /// The answer to CreateSession, or the response itself where it is another one.
     pub fn into_create_session(self) -> Result<CreateSessionResponse, Response>

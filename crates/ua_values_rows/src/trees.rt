@@ -153,9 +153,9 @@ pub fn mixed(alloc: Global, words: &str) -> Result<String, Fault> {
 fn scalar_in(alloc: Global, word: &str) -> Result<Scalar, Fault> {
     let octets = octets_of(alloc, word)?;
     let (value, _) = read::<Variant>(alloc, octets.as_slice())?;
-    match value {
-        Variant::One(scalar) => Ok(scalar),
-        _ => Err(Fault::NoRow),
+    match value.into_scalar() {
+        Ok(scalar) => Ok(scalar),
+        Err(_) => Err(Fault::NoRow),
     }
 }
 

@@ -30,8 +30,9 @@ pub enum Variant {
     },
 }
 
-// The drops of this file are by hand, so that a crate that lets a value go calls the one of its type,
-// and proves nothing of what lies in it.
+// The drops of this file are by hand, so that a crate that lets a Variant or what boxes one go makes a
+// call, and proves nothing of what lies in it. Those of Scalar and DataValue are derived, so that they
+// can be taken apart anywhere.
 
 impl Drop for Variant {
     #[cycle(letting_go)]
@@ -52,6 +53,7 @@ impl Drop for Variant {
 }
 
 /// A value of a built-in type (OPC 10000-6, 5.1.2).
+#[derive(Drop)]
 #[cycle(values)]
 pub enum Scalar {
     Boolean(bool),
@@ -81,40 +83,6 @@ pub enum Scalar {
     DiagnosticInfo(BoxedDiagnostic),
     /// Octets under a type id from 26 to 31, which are reserved. They are read, and not written.
     Reserved(u8, UaBytes),
-}
-
-impl Drop for Scalar {
-    #[cycle(letting_go)]
-    fn drop(self) {
-        match self {
-            Scalar::Boolean(_) => {}
-            Scalar::SByte(_) => {}
-            Scalar::Byte(_) => {}
-            Scalar::Int16(_) => {}
-            Scalar::UInt16(_) => {}
-            Scalar::Int32(_) => {}
-            Scalar::UInt32(_) => {}
-            Scalar::Int64(_) => {}
-            Scalar::UInt64(_) => {}
-            Scalar::Float(_) => {}
-            Scalar::Double(_) => {}
-            Scalar::String(held) => drop(held),
-            Scalar::DateTime(_) => {}
-            Scalar::Guid(_) => {}
-            Scalar::ByteString(held) => drop(held),
-            Scalar::XmlElement(held) => drop(held),
-            Scalar::NodeId(held) => drop(held),
-            Scalar::ExpandedNodeId(held) => drop(held),
-            Scalar::StatusCode(_) => {}
-            Scalar::QualifiedName(held) => drop(held),
-            Scalar::LocalizedText(held) => drop(held),
-            Scalar::ExtensionObject(held) => drop(held),
-            Scalar::DataValue(held) => drop(held),
-            Scalar::Variant(held) => drop(held),
-            Scalar::DiagnosticInfo(held) => drop(held),
-            Scalar::Reserved(_, held) => drop(held),
-        }
-    }
 }
 
 /// A value with its status and when it came about (OPC 10000-6, 5.2.2.17). Picoseconds are kept
@@ -285,6 +253,36 @@ impl Model for Scalars {
     ghost use Rattle.std.proofs.Common.{arith};
 
     ghost size_decreases = { λ a h. omega (arith, elements_fall a.elements) };
+}
+
+impl Variant {
+    ghost use Rattle.std.specs.Prelude.{◌≡◌, IfOk, IfErr};
+    ghost use Rattle.ua_variant.specs.declared.values.Variant.TheVariants.{Many, One};
+
+    /// Hands the scalar over, or the value itself where it holds none.
+    #[inline]
+    pub fn into_scalar(self) -> Result<Scalar, Variant>
+        ensures taken { IfOk result (λ scalar. self ≡ One scalar) }
+        ensures same { IfErr result (λ other. other ≡ self) }
+    {
+        match self {
+            Variant::One(scalar) => Ok(scalar),
+            other => Err(other),
+        }
+    }
+
+    /// Hands the array over, as its type id, its elements and its dimensions, or the value itself where
+    /// it is none.
+    #[inline]
+    pub fn into_array(self) -> Result<(u8, Option<Scalars>, Dimensions), Variant>
+        ensures taken { IfOk result (λ (kind, items, dims). self ≡ Many kind items dims) }
+        ensures same { IfErr result (λ other. other ≡ self) }
+    {
+        match self {
+            Variant::Many { kind, items, dims } => Ok((kind, items, dims)),
+            other => Err(other),
+        }
+    }
 }
 
 impl BoxedVariant {
