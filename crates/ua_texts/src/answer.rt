@@ -3,9 +3,10 @@
 ghost use Rattle.std.specs.Prelude.{◌≡◌, ◌++◌, codes, string_bytes, OnOk};
 ghost use Rattle.ua_builtin.specs.NodeText.{node_text};
 ghost use Rattle.ua_texts.specs.Answers.{endpoint_line, number_of, read_line, status_text, value_part, write_line};
-ghost use Rattle.ua_texts.specs.Shown.{code_text};
+ghost use Rattle.ua_texts.specs.Names.{named_code};
 
-use crate::text::{push_code, push_string};
+use crate::names::push_code_as;
+use crate::text::push_string;
 use crate::value::push_variant;
 use std::alloc::{AllocError, Global};
 use std::fmt::Write;
@@ -14,46 +15,56 @@ use ua_structures::EndpointDescription;
 use ua_variant::{DataValue, HeldVariant};
 
 /// Adds the answer to an item of a Read: `NODE CODE TYPE VALUE`, or `NODE CODE` where there is no
-/// value.
+/// value. Where names are wanted, the code's name stands behind it.
 pub fn push_read_line(
     alloc: Global,
     out: &mut String,
     node: &NodeId,
     answer: &DataValue,
+    names: bool,
 ) -> Result<(), AllocError>
-    ensures { OnOk result (string_bytes out.new ≡ string_bytes out.old ++ read_line node.now answer.now) }
+    ensures { OnOk result (string_bytes out.new ≡ string_bytes out.old ++ read_line names node.now answer.now) }
 {
-    push_status(alloc, out, node, answer.status.unwrap_or(StatusCode::GOOD))?;
+    push_status(
+        alloc,
+        out,
+        node,
+        answer.status.unwrap_or(StatusCode::GOOD),
+        names,
+    )?;
     push_value_part(alloc, out, &answer.value)?;
     out.push_str("\n")
 }
 
-/// Adds the answer to an item of a Write: `NODE CODE`.
+/// Adds the answer to an item of a Write: `NODE CODE`. Where names are wanted, the code's name stands
+/// behind it.
 pub fn push_write_line(
     alloc: Global,
     out: &mut String,
     node: &NodeId,
     status: StatusCode,
+    names: bool,
 ) -> Result<(), AllocError>
-    ensures { OnOk result (string_bytes out.new ≡ string_bytes out.old ++ write_line node.now status) }
+    ensures { OnOk result (string_bytes out.new ≡ string_bytes out.old ++ write_line names node.now status) }
 {
-    push_status(alloc, out, node, status)?;
+    push_status(alloc, out, node, status, names)?;
     out.push_str("\n")
 }
 
-/// Adds a NodeId and a status code.
+/// Adds a NodeId and a status code, with its name where names are wanted.
 fn push_status(
     alloc: Global,
     out: &mut String,
     node: &NodeId,
     status: StatusCode,
+    names: bool,
 ) -> Result<(), AllocError>
-    ensures { OnOk result (string_bytes out.new ≡ string_bytes out.old ++ status_text node.now status.code) }
+    ensures { OnOk result (string_bytes out.new ≡ string_bytes out.old ++ status_text names node.now status.code) }
 {
     let name = node.to_text(alloc)?;
     out.push_str(&name)?;
     out.push_str(" ")?;
-    push_code(out, status)
+    push_code_as(out, status, names)
 }
 
 /// Adds a value behind a space, where there is one.

@@ -13,14 +13,16 @@ use ua_services::Response;
 use ua_structures::EndpointDescription;
 use ua_variant::DataValue;
 
-/// Adds the lines of the answers to a Read of these nodes, in their order.
+/// Adds the lines of the answers to a Read of these nodes, in their order, with the names of status
+/// codes where they are wanted.
 pub fn push_read_answers(
     alloc: Global,
     out: &mut String,
     nodes: &[NodeId],
     response: &Response,
+    names: bool,
 ) -> Result<(), AnswerFault>
-    ensures lines { OnOk result (AreAnswers (values_in response.now) (length nodes.now) (read_lines nodes.now) (string_bytes out.old) (string_bytes out.new)) }
+    ensures lines { OnOk result (AreAnswers (values_in response.now) (length nodes.now) (read_lines names nodes.now) (string_bytes out.old) (string_bytes out.new)) }
     ensures faults { IfErr result (NoAnswers (values_in response.now) (length nodes.now) response.now) }
     ensures kept { IfErr result (Leaves (string_bytes out.old) (string_bytes out.new)) }
 {
@@ -33,7 +35,7 @@ pub fn push_read_answers(
     };
     match answers {
         Some(answers) if answers.len() == nodes.len() => {
-            Ok(push_read_lines(alloc, out, nodes, answers)?)
+            Ok(push_read_lines(alloc, out, nodes, answers, names)?)
         }
         _ => Err(AnswerFault::Unknown),
     }
@@ -44,24 +46,27 @@ fn push_read_lines(
     out: &mut String,
     nodes: &[NodeId],
     answers: &[DataValue],
+    names: bool,
 ) -> Result<(), AllocError>
     requires { length answers.now ≡ length nodes.now }
-    ensures { OnOk result (string_bytes out.new ≡ string_bytes out.old ++ read_lines nodes.now answers.now) }
+    ensures { OnOk result (string_bytes out.new ≡ string_bytes out.old ++ read_lines names nodes.now answers.now) }
 {
     for (index, answer) in answers.iter().enumerate() {
-        push_read_line(alloc, out, &nodes[index], answer)?;
+        push_read_line(alloc, out, &nodes[index], answer, names)?;
     }
     Ok(())
 }
 
-/// Adds the lines of the answers to a Write to these nodes, in their order.
+/// Adds the lines of the answers to a Write to these nodes, in their order, with the names of status
+/// codes where they are wanted.
 pub fn push_write_answers(
     alloc: Global,
     out: &mut String,
     nodes: &[NodeId],
     response: &Response,
+    names: bool,
 ) -> Result<(), AnswerFault>
-    ensures lines { OnOk result (AreAnswers (statuses_in response.now) (length nodes.now) (write_lines nodes.now) (string_bytes out.old) (string_bytes out.new)) }
+    ensures lines { OnOk result (AreAnswers (statuses_in response.now) (length nodes.now) (write_lines names nodes.now) (string_bytes out.old) (string_bytes out.new)) }
     ensures faults { IfErr result (NoAnswers (statuses_in response.now) (length nodes.now) response.now) }
     ensures kept { IfErr result (Leaves (string_bytes out.old) (string_bytes out.new)) }
 {
@@ -74,7 +79,7 @@ pub fn push_write_answers(
     };
     match answers {
         Some(answers) if answers.len() == nodes.len() => {
-            Ok(push_write_lines(alloc, out, nodes, answers)?)
+            Ok(push_write_lines(alloc, out, nodes, answers, names)?)
         }
         _ => Err(AnswerFault::Unknown),
     }
@@ -85,12 +90,13 @@ fn push_write_lines(
     out: &mut String,
     nodes: &[NodeId],
     answers: &[StatusCode],
+    names: bool,
 ) -> Result<(), AllocError>
     requires { length answers.now ≡ length nodes.now }
-    ensures { OnOk result (string_bytes out.new ≡ string_bytes out.old ++ write_lines nodes.now answers.now) }
+    ensures { OnOk result (string_bytes out.new ≡ string_bytes out.old ++ write_lines names nodes.now answers.now) }
 {
     for (index, status) in answers.iter().enumerate() {
-        push_write_line(alloc, out, &nodes[index], *status)?;
+        push_write_line(alloc, out, &nodes[index], *status, names)?;
     }
     Ok(())
 }

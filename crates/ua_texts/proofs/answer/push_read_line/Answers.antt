@@ -7,4 +7,4 @@ pub returns : goal.returns
 unfolding read_line
 returns c =
     let code : c.unwrap_or.result.code ≡ number_of c.args.answer.now.status = ap (λ s. s.code) c.unwrap_or.ensures ∙ status_number c.args.answer.now.status _ refl in
-    then_two _ _ _ _ _ _ _ _ (c.in_ok-push_status.ensures ∙ ap (λ k. string_bytes c.args.out.now ++ status_text c.args.node.now k) code) c.in_ok-push_value_part.ensures c.push_str.ensures.bytes
+    then_two _ _ _ _ _ _ _ _ (c.in_ok-push_status.ensures ∙ ap (λ k. string_bytes c.args.out.now ++ status_text c.args.names c.args.node.now k) code) c.in_ok-push_value_part.ensures c.push_str.ensures.bytes
