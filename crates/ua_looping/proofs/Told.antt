@@ -1,5 +1,5 @@
 -- What is told of replies, one at a time.
-use Rattle.std.proofs.Common.{◌≡◌, ◌≢◌, ℕ, zero, suc, ◌+◌, ◌<◌, ◌≤◌, List, [], ◌∷◌, ◌++◌, Option, Some, None, Result, Ok, Err, length, get_or, drop, map, refl, sym, ◌∙◌, ap, subst, inl, inr, arith, append-nil, append_assoc, drop-cons}
+use Rattle.std.proofs.Common.{◌≡◌, ◌≢◌, ℕ, Bool, zero, suc, ◌+◌, ◌<◌, ◌≤◌, List, [], ◌∷◌, ◌++◌, Option, Some, None, Result, Ok, Err, length, get_or, drop, map, refl, sym, ◌∙◌, ap, subst, inl, inr, arith, append-nil, append_assoc, drop-cons}
 use Rattle.std.specs.List.{slice_get}
 use Rattle.std.proofs.lemmas.List.{drop_all}
 use Rattle.ua_builtin.specs.declared.node_id.NodeId.{NodeId}
@@ -20,29 +20,29 @@ use Rattle.ua_variant.specs.declared.values.DataValue.{DataValue}
 
 -- ---- a response without answers
 
-other_read : (node : NodeId) (results : Option (List DataValue)) → ((each : List DataValue) → results ≡ Some each → length each ≢ 1) → read_told node results ≡ Err UnknownResponse
-other_read node None h = refl
-other_read node (Some []) h = refl
-other_read node (Some (v ∷ [])) h = absurd (h (v ∷ []) refl refl)
-other_read node (Some (v ∷ (w ∷ ws))) h = refl
+other_read : (names : Bool) (node : NodeId) (results : Option (List DataValue)) → ((each : List DataValue) → results ≡ Some each → length each ≢ 1) → read_told names node results ≡ Err UnknownResponse
+other_read names node None h = refl
+other_read names node (Some []) h = refl
+other_read names node (Some (v ∷ [])) h = absurd (h (v ∷ []) refl refl)
+other_read names node (Some (v ∷ (w ∷ ws))) h = refl
 
-other_write : (node : NodeId) (results : Option (List StatusCode)) → ((each : List StatusCode) → results ≡ Some each → length each ≢ 1) → write_told node results ≡ Err UnknownResponse
-other_write node None h = refl
-other_write node (Some []) h = refl
-other_write node (Some (v ∷ [])) h = absurd (h (v ∷ []) refl refl)
-other_write node (Some (v ∷ (w ∷ ws))) h = refl
+other_write : (names : Bool) (node : NodeId) (results : Option (List StatusCode)) → ((each : List StatusCode) → results ≡ Some each → length each ≢ 1) → write_told names node results ≡ Err UnknownResponse
+other_write names node None h = refl
+other_write names node (Some []) h = refl
+other_write names node (Some (v ∷ [])) h = absurd (h (v ∷ []) refl refl)
+other_write names node (Some (v ∷ (w ∷ ws))) h = refl
 
-pub read_failed : (node : NodeId) (r : Response) (f : AnswerFault) (had have : List ℕ) → NoAnswers (values_in r) 1 r f → Leaves had have f
-    → AddsTold (unless_failed (fault_in r) (read_told node (values_in r))) (Err (of_answer f)) had have
-read_failed node r (answer.Service code) had have none kept = inr (ap (λ o. unless_failed o (read_told node (values_in r))) none, kept)
-read_failed node r answer.Unknown had have none kept = inr (ap (λ o. unless_failed o (read_told node (values_in r))) none.0 ∙ other_read node (values_in r) none.1, kept)
-read_failed node r answer.OutOfMemory had have none kept = inl refl
+pub read_failed : (names : Bool) (node : NodeId) (r : Response) (f : AnswerFault) (had have : List ℕ) → NoAnswers (values_in r) 1 r f → Leaves had have f
+    → AddsTold (unless_failed (fault_in r) (read_told names node (values_in r))) (Err (of_answer f)) had have
+read_failed names node r (answer.Service code) had have none kept = inr (ap (λ o. unless_failed o (read_told names node (values_in r))) none, kept)
+read_failed names node r answer.Unknown had have none kept = inr (ap (λ o. unless_failed o (read_told names node (values_in r))) none.0 ∙ other_read names node (values_in r) none.1, kept)
+read_failed names node r answer.OutOfMemory had have none kept = inl refl
 
-pub write_failed : (node : NodeId) (r : Response) (f : AnswerFault) (had have : List ℕ) → NoAnswers (statuses_in r) 1 r f → Leaves had have f
-    → AddsTold (unless_failed (fault_in r) (write_told node (statuses_in r))) (Err (of_answer f)) had have
-write_failed node r (answer.Service code) had have none kept = inr (ap (λ o. unless_failed o (write_told node (statuses_in r))) none, kept)
-write_failed node r answer.Unknown had have none kept = inr (ap (λ o. unless_failed o (write_told node (statuses_in r))) none.0 ∙ other_write node (statuses_in r) none.1, kept)
-write_failed node r answer.OutOfMemory had have none kept = inl refl
+pub write_failed : (names : Bool) (node : NodeId) (r : Response) (f : AnswerFault) (had have : List ℕ) → NoAnswers (statuses_in r) 1 r f → Leaves had have f
+    → AddsTold (unless_failed (fault_in r) (write_told names node (statuses_in r))) (Err (of_answer f)) had have
+write_failed names node r (answer.Service code) had have none kept = inr (ap (λ o. unless_failed o (write_told names node (statuses_in r))) none, kept)
+write_failed names node r answer.Unknown had have none kept = inr (ap (λ o. unless_failed o (write_told names node (statuses_in r))) none.0 ∙ other_write names node (statuses_in r) none.1, kept)
+write_failed names node r answer.OutOfMemory had have none kept = inl refl
 
 -- ---- lists of what is told
 
@@ -98,12 +98,12 @@ all-front ts us f a b (inr all) = let p = fault-front ts us f all.0 in inr (p.0,
 -- ---- the reply at a place
 
 -- what is told of the replies from a place on is what is told of the one there, and of those behind it
-pub told-drop : (s : Option Step) (ss : List (Option Step)) (rs : List Reply) (place : ℕ)
-    → replies_told (s ∷ ss) (drop place (map Some rs)) ≡ reply_told s (slice_get rs place) ∷ replies_told ss (drop (suc place) (map Some rs))
-told-drop s ss [] zero = refl
-told-drop s ss [] (suc place) = refl
-told-drop s ss (r ∷ rs) zero = refl
-told-drop s ss (r ∷ rs) (suc place) = told-drop s ss rs place
+pub told-drop : (names : Bool) (s : Option Step) (ss : List (Option Step)) (rs : List Reply) (place : ℕ)
+    → replies_told names (s ∷ ss) (drop place (map Some rs)) ≡ reply_told names s (slice_get rs place) ∷ replies_told names ss (drop (suc place) (map Some rs))
+told-drop names s ss [] zero = refl
+told-drop names s ss [] (suc place) = refl
+told-drop names s ss (r ∷ rs) zero = refl
+told-drop names s ss (r ∷ rs) (suc place) = told-drop names s ss rs place
 
 -- ---- the lines
 
@@ -118,14 +118,14 @@ pub record StillAdds (told rest : List (Result (List ℕ) LoopFault)) (had have 
   pub adds : (result : Result (Unit {0}) LoopFault) (new : List ℕ) → AddsAll rest result have new → AddsAll told result had new
 
 -- behind so many lines, whose replies stand in front of this place
-abbrev pub Behind : List ScriptLine → List Reply → ℕ → ℕ → List ℕ → List ℕ → Type 0
-Behind lines replies index place had have =
-    StillAdds (replies_told (asked_behind lines) (drop 2 (map Some replies))) (replies_told (asked_behind (drop index lines)) (drop place (map Some replies))) had have
+abbrev pub Behind : Bool → List ScriptLine → List Reply → ℕ → ℕ → List ℕ → List ℕ → Type 0
+Behind names lines replies index place had have =
+    StillAdds (replies_told names (asked_behind lines) (drop 2 (map Some replies))) (replies_told names (asked_behind (drop index lines)) (drop place (map Some replies))) had have
 
-pub behind-none : (lines : List ScriptLine) (replies : List Reply) (had : List ℕ) → Behind lines replies 0 2 had had
-behind-none lines replies had = record { adds = λ result new all. all }
+pub behind-none : (names : Bool) (lines : List ScriptLine) (replies : List Reply) (had : List ℕ) → Behind names lines replies 0 2 had had
+behind-none names lines replies had = record { adds = λ result new all. all }
 
-module _ (lines : List ScriptLine) (replies : List Reply) (index place : ℕ) (had have : List ℕ) (so : Behind lines replies index place had have) (line : ScriptLine) (less : index < length lines) (is : line ≡ get_or lines index line) where
+module _ (names : Bool) (lines : List ScriptLine) (replies : List Reply) (index place : ℕ) (had have : List ℕ) (so : Behind names lines replies index place had have) (line : ScriptLine) (less : index < length lines) (is : line ≡ get_or lines index line) where
   next_index : suc index ≡ index + 1
   next_index = omega arith
 
@@ -139,85 +139,85 @@ module _ (lines : List ScriptLine) (replies : List Reply) (index place : ℕ) (h
   asked_skip e = ap asked_behind lines_at ∙ rw e refl
 
   -- a renewal
-  pub behind-skip : line.step ≡ Renew → Behind lines replies (index + 1) place had have
+  pub behind-skip : line.step ≡ Renew → Behind names lines replies (index + 1) place had have
   behind-skip e = record {
-    adds = λ result new all. so.adds result new (subst (λ (ss : List (Option Step)). AddsAll (replies_told ss (drop place (map Some replies))) result have new) (sym (asked_skip e)) all);
+    adds = λ result new all. so.adds result new (subst (λ (ss : List (Option Step)). AddsAll (replies_told names ss (drop place (map Some replies))) result have new) (sym (asked_skip e)) all);
   }
 
   asked_step : asked_by line.step ≡ Some line.step → asked_behind (drop index lines) ≡ Some line.step ∷ asked_behind (drop (index + 1) lines)
   asked_step e = ap asked_behind lines_at ∙ rw e refl
 
-  told_here : asked_by line.step ≡ Some line.step → replies_told (asked_behind (drop index lines)) (drop place (map Some replies))
-      ≡ reply_told (Some line.step) (slice_get replies place) ∷ replies_told (asked_behind (drop (index + 1) lines)) (drop (place + 1) (map Some replies))
+  told_here : asked_by line.step ≡ Some line.step → replies_told names (asked_behind (drop index lines)) (drop place (map Some replies))
+      ≡ reply_told names (Some line.step) (slice_get replies place) ∷ replies_told names (asked_behind (drop (index + 1) lines)) (drop (place + 1) (map Some replies))
   told_here e =
-      ap (λ (ss : List (Option Step)). replies_told ss (drop place (map Some replies))) (asked_step e)
-      ∙ told-drop (Some line.step) (asked_behind (drop (index + 1) lines)) replies place
-      ∙ ap (λ (n : ℕ). reply_told (Some line.step) (slice_get replies place) ∷ replies_told (asked_behind (drop (index + 1) lines)) (drop n (map Some replies))) next_place
+      ap (λ (ss : List (Option Step)). replies_told names ss (drop place (map Some replies))) (asked_step e)
+      ∙ told-drop names (Some line.step) (asked_behind (drop (index + 1) lines)) replies place
+      ∙ ap (λ (n : ℕ). reply_told names (Some line.step) (slice_get replies place) ∷ replies_told names (asked_behind (drop (index + 1) lines)) (drop n (map Some replies))) next_place
 
   -- a request whose answer was added
-  pub behind-step : (now : List ℕ) → asked_by line.step ≡ Some line.step → AddsTold (reply_told (Some line.step) (slice_get replies place)) (Ok tt) have now → Behind lines replies (index + 1) (place + 1) had now
+  pub behind-step : (now : List ℕ) → asked_by line.step ≡ Some line.step → AddsTold (reply_told names (Some line.step) (slice_get replies place)) (Ok tt) have now → Behind names lines replies (index + 1) (place + 1) had now
   behind-step now e one = record {
     adds = λ result new all. so.adds result new
         (subst (λ (ts : List (Result (List ℕ) LoopFault)). AddsAll ts result have new) (sym (told_here e))
-        (all-cons (reply_told (Some line.step) (slice_get replies place)) (replies_told (asked_behind (drop (index + 1) lines)) (drop (place + 1) (map Some replies))) result have now new one all));
+        (all-cons (reply_told names (Some line.step) (slice_get replies place)) (replies_told names (asked_behind (drop (index + 1) lines)) (drop (place + 1) (map Some replies))) result have now new one all));
   }
 
   -- a request whose answer was not
-  pub behind-fault : (now : List ℕ) (f : LoopFault) → asked_by line.step ≡ Some line.step → AddsTold (reply_told (Some line.step) (slice_get replies place)) (Err f) have now
-      → AddsAll (replies_told (asked_behind lines) (drop 2 (map Some replies))) (Err f) had now
+  pub behind-fault : (now : List ℕ) (f : LoopFault) → asked_by line.step ≡ Some line.step → AddsTold (reply_told names (Some line.step) (slice_get replies place)) (Err f) have now
+      → AddsAll (replies_told names (asked_behind lines) (drop 2 (map Some replies))) (Err f) had now
   behind-fault now f e one =
       so.adds (Err f) now
       (subst (λ (ts : List (Result (List ℕ) LoopFault)). AddsAll ts (Err f) have now) (sym (told_here e))
-      (all-fault (reply_told (Some line.step) (slice_get replies place)) (replies_told (asked_behind (drop (index + 1) lines)) (drop (place + 1) (map Some replies))) f have now one))
+      (all-fault (reply_told names (Some line.step) (slice_get replies place)) (replies_told names (asked_behind (drop (index + 1) lines)) (drop (place + 1) (map Some replies))) f have now one))
 
 -- all lines, and the reply that ends the session
-pub behind-all : (lines : List ScriptLine) (replies : List Reply) (index place : ℕ) (had have : List ℕ) (result : Result (Unit {0}) LoopFault) → Behind lines replies index place had have → length lines ≤ index
-    → AddsTold (reply_told None (slice_get replies place)) result have have → AddsAll (replies_told (asked_behind lines) (drop 2 (map Some replies))) result had have
-behind-all lines replies index place had have result so enough one =
-    let told : replies_told (asked_behind (drop index lines)) (drop place (map Some replies)) ≡ reply_told None (slice_get replies place) ∷ [] =
-    ap (λ (ls : List ScriptLine). replies_told (asked_behind ls) (drop place (map Some replies))) (drop_all index lines enough) ∙ told-drop None [] replies place in
+pub behind-all : (names : Bool) (lines : List ScriptLine) (replies : List Reply) (index place : ℕ) (had have : List ℕ) (result : Result (Unit {0}) LoopFault) → Behind names lines replies index place had have → length lines ≤ index
+    → AddsTold (reply_told names None (slice_get replies place)) result have have → AddsAll (replies_told names (asked_behind lines) (drop 2 (map Some replies))) result had have
+behind-all names lines replies index place had have result so enough one =
+    let told : replies_told names (asked_behind (drop index lines)) (drop place (map Some replies)) ≡ reply_told names None (slice_get replies place) ∷ [] =
+    ap (λ (ls : List ScriptLine). replies_told names (asked_behind ls) (drop place (map Some replies))) (drop_all index lines enough) ∙ told-drop names None [] replies place in
     so.adds result have
-    (subst (λ (ts : List (Result (List ℕ) LoopFault)). AddsAll ts result have have) (sym told) (all-last (reply_told None (slice_get replies place)) result have have one))
+    (subst (λ (ts : List (Result (List ℕ) LoopFault)). AddsAll ts result have have) (sym told) (all-last (reply_told names None (slice_get replies place)) result have have one))
 
 -- ---- a whole script
 
-module _ (lines : List ScriptLine) (replies : List Reply) (totals had : List ℕ) where
+module _ (names : Bool) (lines : List ScriptLine) (replies : List Reply) (totals had : List ℕ) where
   -- what is told of the first reply, of the second, and of those to the lines and behind them
   abbrev first : Result (List ℕ) LoopFault
-  first = reply_told None (slice_get replies 0)
+  first = reply_told names None (slice_get replies 0)
 
   abbrev second : Result (List ℕ) LoopFault
-  second = reply_told None (slice_get replies 1)
+  second = reply_told names None (slice_get replies 1)
 
   abbrev others : List (Result (List ℕ) LoopFault)
-  others = replies_told (asked_behind lines) (drop 2 (map Some replies))
+  others = replies_told names (asked_behind lines) (drop 2 (map Some replies))
 
   abbrev whole : List (Result (List ℕ) LoopFault)
-  whole = replies_told (asked_for lines) (map Some replies) ++ Ok totals ∷ []
+  whole = replies_told names (asked_for lines) (map Some replies) ++ Ok totals ∷ []
 
   whole_is : whole ≡ first ∷ (second ∷ (others ++ Ok totals ∷ []))
   whole_is =
       ap (λ (ts : List (Result (List ℕ) LoopFault)). ts ++ Ok totals ∷ [])
-      (told-drop None (None ∷ asked_behind lines) replies 0 ∙ ap (λ (ts : List (Result (List ℕ) LoopFault)). first ∷ ts) (told-drop None (asked_behind lines) replies 1))
+      (told-drop names None (None ∷ asked_behind lines) replies 0 ∙ ap (λ (ts : List (Result (List ℕ) LoopFault)). first ∷ ts) (told-drop names None (asked_behind lines) replies 1))
 
   adds_whole : (r : Result (Unit {0}) LoopFault) (new : List ℕ) → AddsAll (first ∷ (second ∷ (others ++ Ok totals ∷ []))) r had new → AddsAll whole r had new
   adds_whole r new all = subst (λ (ts : List (Result (List ℕ) LoopFault)). AddsAll ts r had new) (sym whole_is) all
 
-  pub whole-first : (f : LoopFault) → AddsTold (reply_told None (slice_get replies 0)) (Err f) had had → AddsAll (replies_told (asked_for lines) (map Some replies) ++ Ok totals ∷ []) (Err f) had had
+  pub whole-first : (f : LoopFault) → AddsTold (reply_told names None (slice_get replies 0)) (Err f) had had → AddsAll (replies_told names (asked_for lines) (map Some replies) ++ Ok totals ∷ []) (Err f) had had
   whole-first f one = adds_whole (Err f) had (all-fault first (second ∷ (others ++ Ok totals ∷ [])) f had had one)
 
-  pub whole-second : (f : LoopFault) → AddsTold (reply_told None (slice_get replies 0)) (Ok tt) had had → AddsTold (reply_told None (slice_get replies 1)) (Err f) had had
-      → AddsAll (replies_told (asked_for lines) (map Some replies) ++ Ok totals ∷ []) (Err f) had had
+  pub whole-second : (f : LoopFault) → AddsTold (reply_told names None (slice_get replies 0)) (Ok tt) had had → AddsTold (reply_told names None (slice_get replies 1)) (Err f) had had
+      → AddsAll (replies_told names (asked_for lines) (map Some replies) ++ Ok totals ∷ []) (Err f) had had
   whole-second f one two = adds_whole (Err f) had (all-cons first (second ∷ (others ++ Ok totals ∷ [])) (Err f) had had had one (all-fault second (others ++ Ok totals ∷ []) f had had two))
 
-  module _ (one : AddsTold (reply_told None (slice_get replies 0)) (Ok tt) had had) (two : AddsTold (reply_told None (slice_get replies 1)) (Ok tt) had had) where
+  module _ (one : AddsTold (reply_told names None (slice_get replies 0)) (Ok tt) had had) (two : AddsTold (reply_told names None (slice_get replies 1)) (Ok tt) had had) where
     behind_both : (r : Result (Unit {0}) LoopFault) (new : List ℕ) → AddsAll (others ++ Ok totals ∷ []) r had new → AddsAll whole r had new
     behind_both r new all = adds_whole r new (all-cons first (second ∷ (others ++ Ok totals ∷ [])) r had had new one (all-cons second (others ++ Ok totals ∷ []) r had had new two all))
 
-    pub whole-others : (f : LoopFault) (have : List ℕ) → AddsAll (replies_told (asked_behind lines) (drop 2 (map Some replies))) (Err f) had have
-        → AddsAll (replies_told (asked_for lines) (map Some replies) ++ Ok totals ∷ []) (Err f) had have
+    pub whole-others : (f : LoopFault) (have : List ℕ) → AddsAll (replies_told names (asked_behind lines) (drop 2 (map Some replies))) (Err f) had have
+        → AddsAll (replies_told names (asked_for lines) (map Some replies) ++ Ok totals ∷ []) (Err f) had have
     whole-others f have all = behind_both (Err f) have (all-front others (Ok totals ∷ []) f had have all)
 
-    pub whole-all : (have now : List ℕ) → AddsAll (replies_told (asked_behind lines) (drop 2 (map Some replies))) (Ok tt) had have → now ≡ have ++ totals
-        → AddsAll (replies_told (asked_for lines) (map Some replies) ++ Ok totals ∷ []) (Ok tt) had now
+    pub whole-all : (have now : List ℕ) → AddsAll (replies_told names (asked_behind lines) (drop 2 (map Some replies))) (Ok tt) had have → now ≡ have ++ totals
+        → AddsAll (replies_told names (asked_for lines) (map Some replies) ++ Ok totals ∷ []) (Ok tt) had now
     whole-all have now all added = behind_both (Ok tt) now (all-append others (Ok totals ∷ []) (Ok tt) had have now all (all-last (Ok totals) (Ok tt) have now (totals, refl, added)))

@@ -1,5 +1,5 @@
 -- What is printed of the replies to a script.
-use Rattle.std.specs.Prelude.{◌≡◌, ◌⊎◌, ℕ, length, List, [], ◌∷◌, ◌++◌, map, Option, Some, None, Result, Ok, Err, codes}
+use Rattle.std.specs.Prelude.{◌≡◌, ◌⊎◌, ℕ, Bool, length, List, [], ◌∷◌, ◌++◌, map, Option, Some, None, Result, Ok, Err, codes}
 use Rattle.std.specs.Fmt.{decimal}
 use Rattle.std.specs.List.{filter_map}
 use Rattle.ua_builtin.specs.declared.node_id.NodeId.{NodeId}
@@ -18,28 +18,28 @@ use Rattle.ua_server.specs.declared.step.End.{End}
 use Rattle.ua_server.specs.declared.step.End.TheVariants.{Closed, NoClose, Cut, Refused}
 use Rattle.ua_services.specs.declared.response.Response.{Response}
 use Rattle.ua_texts.specs.Answers.{read_line, write_line}
+use Rattle.ua_texts.specs.Names.{named_code}
 use Rattle.ua_texts.specs.Replies.{fault_in, statuses_in, values_in}
-use Rattle.ua_texts.specs.Shown.{code_text}
 use Rattle.ua_texts.specs.declared.script.ScriptLine.{ScriptLine}
 use Rattle.ua_texts.specs.declared.script.Step.{Step}
 use Rattle.ua_texts.specs.declared.script.Step.TheVariants.{Read, Write, Renew}
 use Rattle.ua_variant.specs.declared.values.DataValue.{DataValue}
 
--- ---- one reply: what is told of it is a text, or why there is none
+-- ---- one reply: what is told of it is a text, with the names of status codes where they are wanted, or why there is none
 
 -- the line of the one result of a Read of a node
-abbrev pub read_told : NodeId → Option (List DataValue) → Result (List ℕ) LoopFault
-read_told node None = Err UnknownResponse
-read_told node (Some []) = Err UnknownResponse
-read_told node (Some (value ∷ [])) = Ok (read_line node value)
-read_told node (Some (value ∷ (other ∷ others))) = Err UnknownResponse
+abbrev pub read_told : Bool → NodeId → Option (List DataValue) → Result (List ℕ) LoopFault
+read_told names node None = Err UnknownResponse
+read_told names node (Some []) = Err UnknownResponse
+read_told names node (Some (value ∷ [])) = Ok (read_line names node value)
+read_told names node (Some (value ∷ (other ∷ others))) = Err UnknownResponse
 
 -- the line of the one result of a Write to a node
-abbrev pub write_told : NodeId → Option (List StatusCode) → Result (List ℕ) LoopFault
-write_told node None = Err UnknownResponse
-write_told node (Some []) = Err UnknownResponse
-write_told node (Some (status ∷ [])) = Ok (write_line node status)
-write_told node (Some (status ∷ (other ∷ others))) = Err UnknownResponse
+abbrev pub write_told : Bool → NodeId → Option (List StatusCode) → Result (List ℕ) LoopFault
+write_told names node None = Err UnknownResponse
+write_told names node (Some []) = Err UnknownResponse
+write_told names node (Some (status ∷ [])) = Ok (write_line names node status)
+write_told names node (Some (status ∷ (other ∷ others))) = Err UnknownResponse
 
 -- the code of a ServiceFault, where there is one
 abbrev pub unless_failed : Option StatusCode → Result (List ℕ) LoopFault → Result (List ℕ) LoopFault
@@ -47,17 +47,17 @@ unless_failed None told = told
 unless_failed (Some code) told = Err (Service code)
 
 -- of a response to a step, or to a request that begins or ends the session, of which nothing is printed; a renewal asks no request
-abbrev pub response_told : Option Step → Response → Result (List ℕ) LoopFault
-response_told None response = unless_failed (fault_in response) (Ok [])
-response_told (Some (Read node range)) response = unless_failed (fault_in response) (read_told node (values_in response))
-response_told (Some (Write node value)) response = unless_failed (fault_in response) (write_told node (statuses_in response))
-response_told (Some Renew) response = Err UnknownResponse
+abbrev pub response_told : Bool → Option Step → Response → Result (List ℕ) LoopFault
+response_told names None response = unless_failed (fault_in response) (Ok [])
+response_told names (Some (Read node range)) response = unless_failed (fault_in response) (read_told names node (values_in response))
+response_told names (Some (Write node value)) response = unless_failed (fault_in response) (write_told names node (statuses_in response))
+response_told names (Some Renew) response = Err UnknownResponse
 
 -- of a reply, if there is one: the server may have given it up
-abbrev pub reply_told : Option Step → Option Reply → Result (List ℕ) LoopFault
-reply_told step None = Err UnknownResponse
-reply_told step (Some (Responds response)) = response_told step response
-reply_told step (Some (Aborted code)) = Err (Service code)
+abbrev pub reply_told : Bool → Option Step → Option Reply → Result (List ℕ) LoopFault
+reply_told names step None = Err UnknownResponse
+reply_told names step (Some (Responds response)) = response_told names step response
+reply_told names step (Some (Aborted code)) = Err (Service code)
 
 -- ---- all replies
 
@@ -80,22 +80,22 @@ abbrev pub asked_for : List ScriptLine → List (Option Step)
 asked_for lines = None ∷ (None ∷ asked_behind lines)
 
 -- what is told of replies, each by what its request is for
-abbrev pub replies_told : List (Option Step) → List (Option Reply) → List (Result (List ℕ) LoopFault)
-replies_told [] replies = []
-replies_told (step ∷ steps) [] = reply_told step None ∷ replies_told steps []
-replies_told (step ∷ steps) (reply ∷ replies) = reply_told step reply ∷ replies_told steps replies
+abbrev pub replies_told : Bool → List (Option Step) → List (Option Reply) → List (Result (List ℕ) LoopFault)
+replies_told names [] replies = []
+replies_told names (step ∷ steps) [] = reply_told names step None ∷ replies_told names steps []
+replies_told names (step ∷ steps) (reply ∷ replies) = reply_told names step reply ∷ replies_told names steps replies
 
 -- ---- how a connection ended
 
-abbrev pub end_text : End → List ℕ
-end_text Closed = codes "Closed"
-end_text NoClose = codes "NoClose"
-end_text Cut = codes "Cut"
-end_text (Refused status) = codes "Refused " ++ code_text status.code
+abbrev pub end_text : Bool → End → List ℕ
+end_text names Closed = codes "Closed"
+end_text names NoClose = codes "NoClose"
+end_text names Cut = codes "Cut"
+end_text names (Refused status) = codes "Refused " ++ named_code names status.code
 
 -- the last line: so many octets went up and so many down, and the connection ended so
-unfoldable pub totals_line : ℕ → ℕ → End → List ℕ
-totals_line up down end = (codes "up " ++ (decimal up ++ (codes " down " ++ (decimal down ++ codes " end ")))) ++ (end_text end ++ codes "\n")
+unfoldable pub totals_line : Bool → ℕ → ℕ → End → List ℕ
+totals_line names up down end = (codes "up " ++ (decimal up ++ (codes " down " ++ (decimal down ++ codes " end ")))) ++ (end_text names end ++ codes "\n")
 
 -- ---- a whole script
 
@@ -112,18 +112,19 @@ fault_of (Ok text ∷ told) = fault_of told
 fault_of (Err fault ∷ told) = Some fault
 
 -- the octets each way, and how the connection ended
-abbrev pub script_totals : Nodes → List ScriptLine → List ℕ
-script_totals nodes lines = totals_line (length (up_octets script_moment (script_turns lines))) (length (down_octets nodes script_moment (script_turns lines))) Closed
+abbrev pub script_totals : Bool → Nodes → List ScriptLine → List ℕ
+script_totals names nodes lines = totals_line names (length (up_octets script_moment (script_turns lines))) (length (down_octets nodes script_moment (script_turns lines))) Closed
 
 -- what is told of a script that is run over these nodes: of the reply to each request in order, and behind them the octets each way
-abbrev pub script_told : Nodes → List ScriptLine → List (Result (List ℕ) LoopFault)
-script_told nodes lines = replies_told (asked_for lines) (turns_replies (begun_over nodes) script_moment (script_turns lines)) ++ Ok (script_totals nodes lines) ∷ []
+abbrev pub script_told : Bool → Nodes → List ScriptLine → List (Result (List ℕ) LoopFault)
+script_told names nodes lines =
+    replies_told names (asked_for lines) (turns_replies (begun_over nodes) script_moment (script_turns lines)) ++ Ok (script_totals names nodes lines) ∷ []
 
--- the text is what is printed of a script
-pub record AreLoopLines (text : List ℕ) : Type 0 where
+-- the text is what is printed of a script, with names or without
+pub record AreLoopLines (names : Bool) (text : List ℕ) : Type 0 where
   pub nodes : Nodes
   pub lines : List ScriptLine
-  pub is : text ≡ text_of (script_told nodes lines)
+  pub is : text ≡ text_of (script_told names nodes lines)
 
 -- ---- what a call adds to a text
 

@@ -6,7 +6,7 @@
 //!
 //! ```
 //! let lines = parse_lines(alloc, "write\tns=1;s=Pump\tInt32\t6\nread\tns=1;s=Pump\n")?;
-//! let looped = run_lines(alloc, nodes, &lines, 65535)?;
+//! let looped = run_lines(alloc, nodes, &lines, 65535, false)?;
 //! // looped.up, looped.down: what each end wrote; looped.text: what is printed, up to looped.fault
 //! ```
 #![tactic(auto)]

@@ -87,25 +87,26 @@ fn converse(
 /// The session is begun by CreateSession and ActivateSession, and ended by CloseSession behind the
 /// lines. All is said at the moment 1970-01-01 00:00 UTC, on channel 1, and the server's address is
 /// `opc.tcp://localhost:4840`. Each end takes what the other wrote in pieces of so many octets as
-/// `cut` says; 0 counts as 1.
+/// `cut` says; 0 counts as 1. Where `names` says so, the names of status codes stand behind them.
 pub fn run_lines(
     alloc: Global,
     nodes: NodeTable,
     lines: &[ScriptLine],
     cut: u16,
+    names: bool,
 ) -> Result<Looped, LoopFault>
     requires sound { IsSound nodes }
     ensures accepted { IfOk result (λ l. AreAccepted (turns_of_script lines.now)) }
     ensures refused { IfErr result (λ fault. Stops lines.now fault) }
     ensures up { IfOk result (λ l. l.up.items ≡ up_octets script_moment (turns_of_script lines.now)) }
     ensures down { IfOk result (λ l. l.down.items ≡ down_octets nodes script_moment (turns_of_script lines.now)) }
-    ensures text { IfOk result (λ l. string_bytes l.text ≡ text_of (script_told nodes lines.now)) }
-    ensures fault { IfOk result (λ l. l.fault ≡ fault_of (script_told nodes lines.now)) }
-    ensures lines { IfOk result (λ l. AreLoopLines (string_bytes l.text)) }
+    ensures text { IfOk result (λ l. string_bytes l.text ≡ text_of (script_told names nodes lines.now)) }
+    ensures fault { IfOk result (λ l. l.fault ≡ fault_of (script_told names nodes lines.now)) }
+    ensures lines { IfOk result (λ l. AreLoopLines names (string_bytes l.text)) }
 {
     let transcript = converse(alloc, nodes, lines, cut)?;
     let mut text = String::new(alloc);
-    let fault = match push_transcript(alloc, &mut text, lines, &transcript) {
+    let fault = match push_transcript(alloc, &mut text, lines, &transcript, names) {
         Ok(()) => None,
         Err(LoopFault::NoMemory) => return Err(LoopFault::NoMemory),
         Err(fault) => Some(fault),

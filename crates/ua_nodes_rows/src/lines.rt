@@ -9,8 +9,8 @@ use ua_builtin::{NodeId, Octets, StatusCode};
 use ua_services::{Response, ResponseFault, read_response};
 use ua_structures::EndpointDescription;
 use ua_texts::{
-    AnswerFault, push_endpoint_line, push_endpoints, push_read_answers, push_read_line,
-    push_write_answers, push_write_line,
+    AnswerFault, push_code_as, push_endpoint_line, push_endpoints, push_read_answers,
+    push_read_line, push_write_answers, push_write_line,
 };
 use ua_variant::DataValue;
 
@@ -26,7 +26,7 @@ pub fn read_line(alloc: Global, words: &str) -> Result<String, Fault> {
 
 fn answer_line(alloc: Global, node: &NodeId, answer: &DataValue) -> Result<String, Fault> {
     let mut out = page(alloc);
-    push_read_line(alloc, &mut out, node, answer)?;
+    push_read_line(alloc, &mut out, node, answer, false)?;
     Ok(out)
 }
 
@@ -36,7 +36,15 @@ pub fn write_line(alloc: Global, words: &str) -> Result<String, Fault> {
     let code = code_of(code)?;
     let node = NodeId::parse_text(alloc, node)?;
     let mut out = page(alloc);
-    push_write_line(alloc, &mut out, &node, StatusCode { code })?;
+    push_write_line(alloc, &mut out, &node, StatusCode { code }, false)?;
+    quoted(alloc, out.as_str())
+}
+
+/// A status code with its name.
+pub fn named_code(alloc: Global, words: &str) -> Result<String, Fault> {
+    let code = code_of(words)?;
+    let mut out = page(alloc);
+    push_code_as(&mut out, StatusCode { code }, true)?;
     quoted(alloc, out.as_str())
 }
 
@@ -81,8 +89,8 @@ fn lines_in(alloc: Global, kind: &str, names: &str, response: &Response) -> Resu
     let nodes = nodes_of(alloc, names)?;
     let mut out = page(alloc);
     let printed = match kind {
-        "read-lines" => push_read_answers(alloc, &mut out, nodes.as_slice(), response),
-        "write-lines" => push_write_answers(alloc, &mut out, nodes.as_slice(), response),
+        "read-lines" => push_read_answers(alloc, &mut out, nodes.as_slice(), response, false),
+        "write-lines" => push_write_answers(alloc, &mut out, nodes.as_slice(), response, false),
         _ => push_endpoints(&mut out, response),
     };
     told(alloc, out.as_str(), printed)
