@@ -1,5 +1,5 @@
 -- What conversations come to, and what they add to a text.
-use Rattle.std.proofs.Common.{◌≡◌, inl, inr, ℕ, ℤ, List, [], ◌∷◌, Option, Result, Ok, Err, sym, subst}
+use Rattle.std.proofs.Common.{◌≡◌, inl, inr, ℕ, ℤ, Bool, false, List, [], ◌∷◌, Option, Result, Ok, Err, sym, subst}
 use Rattle.std.specs.Prelude.{MatchResult, OnOk}
 use Rattle.ua_builtin.specs.declared.date_time.DateTime.{DateTime}
 use Rattle.ua_builtin.specs.declared.node_id.NodeId.{NodeId}
@@ -28,68 +28,68 @@ ends_by token handle same moment old new before after result is ends = subst (λ
 -- ---- what is added
 
 -- what was added behind a result: the lines of answers, and behind a fault these or none
-abbrev Prints : Done → List ℕ → List ℕ → Type 0
-Prints (Ok done) had have = AddsLines had have
-Prints (Err fault) had have = AddsAnswers had have
+abbrev Prints : Bool → Done → List ℕ → List ℕ → Type 0
+Prints names (Ok done) had have = AddsLines names had have
+Prints names (Err fault) had have = AddsAnswers names had have
 
-prints_adds : (result : Done) (had have : List ℕ) → Prints result had have → AddsAnswers had have
-prints_adds (Ok done) had have h = inr h
-prints_adds (Err fault) had have h = h
+prints_adds : (names : Bool) (result : Done) (had have : List ℕ) → Prints names result had have → AddsAnswers names had have
+prints_adds names (Ok done) had have h = inr h
+prints_adds names (Err fault) had have h = h
 
-prints_answered : (result : Done) (had have : List ℕ) → Prints result had have → OnOk result (AddsLines had have)
-prints_answered (Ok done) had have h = h
-prints_answered (Err fault) had have h = tt
+prints_answered : (names : Bool) (result : Done) (had have : List ℕ) → Prints names result had have → OnOk result (AddsLines names had have)
+prints_answered names (Ok done) had have h = h
+prints_answered names (Err fault) had have h = tt
 
 -- what was added behind one result was added behind the first fault of this one and another
-first_prints : (printed closed result : Done) (had have : List ℕ) → Prints printed had have → result ≡ first_of printed closed → Prints result had have
-first_prints (Ok done) (Ok closed) result had have adds is = subst (λ (r : Done). Prints r had have) (sym is) adds
-first_prints (Ok done) (Err fault) result had have adds is = subst (λ (r : Done). Prints r had have) (sym is) (inr adds)
-first_prints (Err fault) closed result had have adds is = subst (λ (r : Done). Prints r had have) (sym is) adds
+first_prints : (names : Bool) (printed closed result : Done) (had have : List ℕ) → Prints names printed had have → result ≡ first_of printed closed → Prints names result had have
+first_prints names (Ok done) (Ok closed) result had have adds is = subst (λ (r : Done). Prints names r had have) (sym is) adds
+first_prints names (Ok done) (Err fault) result had have adds is = subst (λ (r : Done). Prints names r had have) (sym is) (inr adds)
+first_prints names (Err fault) closed result had have adds is = subst (λ (r : Done). Prints names r had have) (sym is) adds
 
 -- none was added
-none_prints : (fault : AskFault) (result : Done) (had have : List ℕ) → result ≡ Err fault → have ≡ had → Prints result had have
-none_prints fault result had have is same = subst (λ (r : Done). Prints r had have) (sym is) (inl same)
+none_prints : (names : Bool) (fault : AskFault) (result : Done) (had have : List ℕ) → result ≡ Err fault → have ≡ had → Prints names result had have
+none_prints names fault result had have is same = subst (λ (r : Done). Prints names r had have) (sym is) (inl same)
 
 -- ---- of endpoints
 
-endpoints_print : (called : Result Reply AskFault) (result : Done) (had have : List ℕ) → PrintsEndpoints had have called result → Prints result had have
+endpoints_print : (called : Result Reply AskFault) (result : Done) (had have : List ℕ) → PrintsEndpoints had have called result → Prints false result had have
 endpoints_print (Ok reply) (Ok done) had have h = record { text = endpoint_lines h.each; lines = OfEndpoints h.each; added = h.added }
 endpoints_print (Ok reply) (Err fault) had have h = inl h.0
-endpoints_print (Err fault) result had have h = none_prints fault result had have h.1 h.0
+endpoints_print (Err fault) result had have h = none_prints false fault result had have h.1 h.0
 
-pub endpoints_add : (called : Result Reply AskFault) (printed closed result : Done) (had have : List ℕ) → PrintsEndpoints had have called printed → result ≡ first_of printed closed → AddsAnswers had have
-endpoints_add called printed closed result had have prints is = prints_adds result had have (first_prints printed closed result had have (endpoints_print called printed had have prints) is)
+pub endpoints_add : (called : Result Reply AskFault) (printed closed result : Done) (had have : List ℕ) → PrintsEndpoints had have called printed → result ≡ first_of printed closed → AddsAnswers false had have
+endpoints_add called printed closed result had have prints is = prints_adds false result had have (first_prints false printed closed result had have (endpoints_print called printed had have prints) is)
 
 pub endpoints_answer : (called : Result Reply AskFault) (printed closed result : Done) (had have : List ℕ) → PrintsEndpoints had have called printed → result ≡ first_of printed closed
-    → OnOk result (AddsLines had have)
-endpoints_answer called printed closed result had have prints is = prints_answered result had have (first_prints printed closed result had have (endpoints_print called printed had have prints) is)
+    → OnOk result (AddsLines false had have)
+endpoints_answer called printed closed result had have prints is = prints_answered false result had have (first_prints false printed closed result had have (endpoints_print called printed had have prints) is)
 
 -- ---- of a question
 
-answers_print : (question : Question) (called : Result Reply AskFault) (result : Done) (had have : List ℕ) → PrintsAnswers question had have called result → Prints result had have
-answers_print (Read nodes) (Ok reply) (Ok done) had have h = record { text = read_lines nodes.items h.each; lines = OfRead nodes.items h.each h.many; added = h.added }
-answers_print (Write node value) (Ok reply) (Ok done) had have h = record { text = write_lines (node ∷ []) h.each; lines = OfWrite (node ∷ []) h.each h.many; added = h.added }
-answers_print question (Ok reply) (Err fault) had have h = inl h.0
-answers_print question (Err fault) result had have h = none_prints fault result had have h.1 h.0
+answers_print : (names : Bool) (question : Question) (called : Result Reply AskFault) (result : Done) (had have : List ℕ) → PrintsAnswers names question had have called result → Prints names result had have
+answers_print names (Read nodes) (Ok reply) (Ok done) had have h = record { text = read_lines names nodes.items h.each; lines = OfRead nodes.items h.each h.many; added = h.added }
+answers_print names (Write node value) (Ok reply) (Ok done) had have h = record { text = write_lines names (node ∷ []) h.each; lines = OfWrite (node ∷ []) h.each h.many; added = h.added }
+answers_print names question (Ok reply) (Err fault) had have h = inl h.0
+answers_print names question (Err fault) result had have h = none_prints names fault result had have h.1 h.0
 
 -- whatever a result is, this holds
 by_result : {A : Type 0} (r : Result A AskFault) (P : A → Type 0) (Q : AskFault → Type 0) (R : Type 0) → MatchResult r P Q → ((x : A) → P x → R) → ((fault : AskFault) → Q fault → R) → R
 by_result (Ok x) P Q R h p q = p x h
 by_result (Err fault) P Q R h p q = q fault h
 
-session_prints : {M : Type 0} (gives : M → ℤ → M → Type 0) (question : Question) (first last : M) (old new : Client) (before after : Option Traffic) (had have : List ℕ) (result : Done)
-    → AsksInSession gives question first last old new before after had have result → Prints result had have
-session_prints gives question first last old new before after had have result asks =
-    by_result asks.begun _ _ (Prints result had have) asks.further
-    (λ token under. first_prints under.printed under.ended result had have (answers_print question under.called under.printed had have under.prints) under.result_is)
-    (λ fault h. none_prints fault result had have h.0 h.4)
+session_prints : {M : Type 0} (gives : M → ℤ → M → Type 0) (names : Bool) (question : Question) (first last : M) (old new : Client) (before after : Option Traffic) (had have : List ℕ) (result : Done)
+    → AsksInSession gives names question first last old new before after had have result → Prints names result had have
+session_prints gives names question first last old new before after had have result asks =
+    by_result asks.begun _ _ (Prints names result had have) asks.further
+    (λ token under. first_prints names under.printed under.ended result had have (answers_print names question under.called under.printed had have under.prints) under.result_is)
+    (λ fault h. none_prints names fault result had have h.0 h.4)
 
-pub session_adds : {M : Type 0} (gives : M → ℤ → M → Type 0) (question : Question) (first last : M) (old new : Client) (before after : Option Traffic) (had have : List ℕ) (printed closed result : Done)
-    → AsksInSession gives question first last old new before after had have printed → result ≡ first_of printed closed → AddsAnswers had have
-session_adds gives question first last old new before after had have printed closed result asks is =
-    prints_adds result had have (first_prints printed closed result had have (session_prints gives question first last old new before after had have printed asks) is)
+pub session_adds : {M : Type 0} (gives : M → ℤ → M → Type 0) (names : Bool) (question : Question) (first last : M) (old new : Client) (before after : Option Traffic) (had have : List ℕ) (printed closed result : Done)
+    → AsksInSession gives names question first last old new before after had have printed → result ≡ first_of printed closed → AddsAnswers names had have
+session_adds gives names question first last old new before after had have printed closed result asks is =
+    prints_adds names result had have (first_prints names printed closed result had have (session_prints gives names question first last old new before after had have printed asks) is)
 
-pub session_answers : {M : Type 0} (gives : M → ℤ → M → Type 0) (question : Question) (first last : M) (old new : Client) (before after : Option Traffic) (had have : List ℕ) (printed closed result : Done)
-    → AsksInSession gives question first last old new before after had have printed → result ≡ first_of printed closed → OnOk result (AddsLines had have)
-session_answers gives question first last old new before after had have printed closed result asks is =
-    prints_answered result had have (first_prints printed closed result had have (session_prints gives question first last old new before after had have printed asks) is)
+pub session_answers : {M : Type 0} (gives : M → ℤ → M → Type 0) (names : Bool) (question : Question) (first last : M) (old new : Client) (before after : Option Traffic) (had have : List ℕ) (printed closed result : Done)
+    → AsksInSession gives names question first last old new before after had have printed → result ≡ first_of printed closed → OnOk result (AddsLines names had have)
+session_answers gives names question first last old new before after had have printed closed result asks is =
+    prints_answered names result had have (first_prints names printed closed result had have (session_prints gives names question first last old new before after had have printed asks) is)

@@ -1,5 +1,5 @@
 -- What a run adds to a text.
-use Rattle.std.specs.Prelude.{◌≡◌, ◌⊎◌, ◌++◌, ℕ, List, length, Option}
+use Rattle.std.specs.Prelude.{◌≡◌, ◌⊎◌, ◌++◌, ℕ, Bool, List, length, Option}
 use Rattle.ua_builtin.specs.declared.node_id.NodeId.{NodeId}
 use Rattle.ua_builtin.specs.declared.status_code.StatusCode.{StatusCode}
 use Rattle.ua_structures.specs.declared.discovery.EndpointDescription.{EndpointDescription}
@@ -7,18 +7,18 @@ use Rattle.ua_texts.specs.Answers.{read_lines, write_lines}
 use Rattle.ua_texts.specs.Replies.{endpoint_lines}
 use Rattle.ua_variant.specs.declared.values.DataValue.{DataValue}
 
--- the lines of answers: of endpoints, of a Read of nodes, or of a Write to nodes
-pub data AreAnswerLines : List ℕ → Type 0 where
-  OfEndpoints : (list : Option (List EndpointDescription)) → AreAnswerLines (endpoint_lines list)
-  OfRead : (nodes : List NodeId) (answers : List DataValue) → length answers ≡ length nodes → AreAnswerLines (read_lines nodes answers)
-  OfWrite : (nodes : List NodeId) (answers : List StatusCode) → length answers ≡ length nodes → AreAnswerLines (write_lines nodes answers)
+-- the lines of answers, with the names of status codes or without: of endpoints, of a Read of nodes, or of a Write to nodes
+pub data AreAnswerLines (names : Bool) : List ℕ → Type 0 where
+  OfEndpoints : (list : Option (List EndpointDescription)) → AreAnswerLines names (endpoint_lines list)
+  OfRead : (nodes : List NodeId) (answers : List DataValue) → length answers ≡ length nodes → AreAnswerLines names (read_lines names nodes answers)
+  OfWrite : (nodes : List NodeId) (answers : List StatusCode) → length answers ≡ length nodes → AreAnswerLines names (write_lines names nodes answers)
 
 -- the lines of answers were added
-pub record AddsLines (had have : List ℕ) : Type 0 where
+pub record AddsLines (names : Bool) (had have : List ℕ) : Type 0 where
   pub text : List ℕ
-  pub lines : AreAnswerLines text
+  pub lines : AreAnswerLines names text
   pub added : have ≡ had ++ text
 
 -- the lines of answers were added, or none
-abbrev pub AddsAnswers : List ℕ → List ℕ → Type 0
-AddsAnswers had have = (have ≡ had) ⊎ AddsLines had have
+abbrev pub AddsAnswers : Bool → List ℕ → List ℕ → Type 0
+AddsAnswers names had have = (have ≡ had) ⊎ AddsLines names had have

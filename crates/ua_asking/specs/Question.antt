@@ -1,5 +1,5 @@
 -- What is asked in a session, and what is printed of the answers.
-use Rattle.std.specs.Prelude.{◌≡◌, ◌≢◌, ℕ, List, [], ◌∷◌, map, length, Option, Some, None, Result, Ok, Err}
+use Rattle.std.specs.Prelude.{◌≡◌, ◌≢◌, ℕ, Bool, List, [], ◌∷◌, map, length, Option, Some, None, Result, Ok, Err}
 use Rattle.ua_builtin.specs.declared.date_time.DateTime.{DateTime}
 use Rattle.ua_builtin.specs.declared.node_id.NodeId.{NodeId}
 use Rattle.ua_builtin.specs.declared.status_code.StatusCode.{StatusCode}
@@ -47,10 +47,10 @@ abbrev pub statuses_of : Reply → Option (List StatusCode)
 statuses_of (Responds m) = statuses_in m
 statuses_of (Aborted code) = None
 
--- a reply has as many results as a question has items, and their lines were added
-abbrev pub AnswersQuestion : Question → Reply → List ℕ → List ℕ → Type 0
-AnswersQuestion (Read nodes) reply had have = AreAnswers (values_of reply) (length nodes.items) (read_lines nodes.items) had have
-AnswersQuestion (Write node value) reply had have = AreAnswers (statuses_of reply) 1 (write_lines (node ∷ [])) had have
+-- a reply has as many results as a question has items, and their lines were added, with the names of status codes where they are wanted
+abbrev pub AnswersQuestion : Bool → Question → Reply → List ℕ → List ℕ → Type 0
+AnswersQuestion names (Read nodes) reply had have = AreAnswers (values_of reply) (length nodes.items) (read_lines names nodes.items) had have
+AnswersQuestion names (Write node value) reply had have = AreAnswers (statuses_of reply) 1 (write_lines names (node ∷ [])) had have
 
 -- a reply has no such results, or another number of them
 abbrev pub AnswersNothing : Question → Reply → Type 0
@@ -58,7 +58,7 @@ AnswersNothing (Read nodes) reply = (each : List DataValue) → values_of reply 
 AnswersNothing (Write node value) reply = (each : List StatusCode) → statuses_of reply ≡ Some each → length each ≢ 1
 
 -- the lines of the answers in a reply are added, or none, and why not is told
-abbrev pub PrintsAnswers : Question → List ℕ → List ℕ → Result Reply AskFault → Result (Unit {0}) AskFault → Type 0
-PrintsAnswers question had have (Ok reply) (Ok done) = AnswersQuestion question reply had have
-PrintsAnswers question had have (Ok reply) (Err fault) = (have ≡ had) × IsRefusedBy (AnswersNothing question reply) reply fault
-PrintsAnswers question had have (Err fault) result = (have ≡ had) × (result ≡ Err fault)
+abbrev pub PrintsAnswers : Bool → Question → List ℕ → List ℕ → Result Reply AskFault → Result (Unit {0}) AskFault → Type 0
+PrintsAnswers names question had have (Ok reply) (Ok done) = AnswersQuestion names question reply had have
+PrintsAnswers names question had have (Ok reply) (Err fault) = (have ≡ had) × IsRefusedBy (AnswersNothing question reply) reply fault
+PrintsAnswers names question had have (Err fault) result = (have ≡ had) × (result ≡ Err fault)

@@ -1,5 +1,5 @@
 -- What `ua read` and `ua write` ask a server in a session of its own, and what is printed of it.
-use Rattle.std.specs.Prelude.{◌≡◌, ℕ, ℤ, List, Option, Result, Ok, Err, MatchResult}
+use Rattle.std.specs.Prelude.{◌≡◌, ℕ, ℤ, Bool, List, Option, Result, Ok, Err, MatchResult}
 use Rattle.ua_builtin.specs.declared.date_time.DateTime.{DateTime}
 use Rattle.ua_builtin.specs.declared.node_id.NodeId.{NodeId}
 use Rattle.ua_channel.specs.Line.{Traffic}
@@ -30,7 +30,7 @@ pub record EndsSession (token : NodeId) (handle : ℕ) (moment : DateTime) (old 
 
 -- a question was asked under the token of a session, the reply printed, and the session ended, also behind a fault; each RequestHandle is
 -- the request id of its call
-pub record AsksUnder {M : Type 0} (gives : M → ℤ → M → Type 0) (question : Question) (token : NodeId) (first last : M) (old new : Client) (before after : Option Traffic) (had have : List ℕ) (result : Result (Unit {0}) AskFault) : Type 0 where
+pub record AsksUnder {M : Type 0} (gives : M → ℤ → M → Type 0) (names : Bool) (question : Question) (token : NodeId) (first last : M) (old new : Client) (before after : Option Traffic) (had have : List ℕ) (result : Result (Unit {0}) AskFault) : Type 0 where
   pub asked_at : DateTime
   pub behind : M
   pub asking_given : gives first asked_at.ticks behind
@@ -39,7 +39,7 @@ pub record AsksUnder {M : Type 0} (gives : M → ℤ → M → Type 0) (question
   pub answered : Option Traffic
   pub asks : Asks (request_of question token asked_at first_call) old asked before answered called
   pub printed : Result (Unit {0}) AskFault
-  pub prints : PrintsAnswers question had have called printed
+  pub prints : PrintsAnswers names question had have called printed
   pub ended_at : DateTime
   pub ending_given : gives behind ended_at.ticks last
   pub ended : Result (Unit {0}) AskFault
@@ -47,7 +47,7 @@ pub record AsksUnder {M : Type 0} (gives : M → ℤ → M → Type 0) (question
   pub result_is : result ≡ first_of printed ended
 
 -- a session was begun, a question asked in it, and the session ended; where none was begun that is told, and no line was added
-pub record AsksInSession {M : Type 0} (gives : M → ℤ → M → Type 0) (question : Question) (first last : M) (old new : Client) (before after : Option Traffic) (had have : List ℕ) (result : Result (Unit {0}) AskFault) : Type 0 where
+pub record AsksInSession {M : Type 0} (gives : M → ℤ → M → Type 0) (names : Bool) (question : Question) (first last : M) (old new : Client) (before after : Option Traffic) (had have : List ℕ) (result : Result (Unit {0}) AskFault) : Type 0 where
   pub begun_at : DateTime
   pub behind : M
   pub given : gives first begun_at.ticks behind
@@ -56,10 +56,10 @@ pub record AsksInSession {M : Type 0} (gives : M → ℤ → M → Type 0) (ques
   pub once_begun : Option Traffic
   pub begins : Begins begun_at old client before once_begun begun
   pub further : MatchResult begun
-      (λ token. AsksUnder gives question token behind last client new once_begun after had have result)
+      (λ token. AsksUnder gives names question token behind last client new once_begun after had have result)
       (λ fault. (result ≡ Err fault) × (last ≡ behind) × (new ≡ client) × (after ≡ once_begun) × (have ≡ had))
 
 -- a client was opened, asked a question in a session, and closed
-abbrev pub RunsQuestion : {M : Type 0} → (M → ℤ → M → Type 0) → Limits → ℕ → Question → M → M → Option Traffic → Option Traffic → List ℕ → List ℕ → Result (Unit {0}) AskFault → Type 0
-RunsQuestion gives limits port question first last before after had have result =
-    Runs gives limits port first last before after had have (λ x y m n s t printed. AsksInSession gives question m n x y s t had have printed) result
+abbrev pub RunsQuestion : {M : Type 0} → (M → ℤ → M → Type 0) → Limits → ℕ → Bool → Question → M → M → Option Traffic → Option Traffic → List ℕ → List ℕ → Result (Unit {0}) AskFault → Type 0
+RunsQuestion gives limits port names question first last before after had have result =
+    Runs gives limits port first last before after had have (λ x y m n s t printed. AsksInSession gives names question m n x y s t had have printed) result

@@ -1,6 +1,6 @@
 //! `ua endpoints`: the endpoints of a server.
 
-ghost use Rattle.std.specs.Prelude.{string_bytes, OnOk, Some};
+ghost use Rattle.std.specs.Prelude.{string_bytes, OnOk, Some, false};
 ghost use Rattle.ua_requests.specs.Requests.{get_endpoints, local_url as url_of};
 ghost use Rattle.ua_asking.specs.Endpoints.{AsksEndpoints, RunsEndpoints};
 ghost use Rattle.ua_asking.specs.Printed.{AddsAnswers, AddsLines};
@@ -65,8 +65,8 @@ pub fn endpoints_over<L: Line, M: Moments>(
     out: &mut String,
 ) -> Result<(), AskFault>
     ensures runs { RunsEndpoints M.gives limits port moments.old moments.new (L.traffic line.old) (L.traffic line.new) (string_bytes out.old) (string_bytes out.new) result }
-    ensures adds { AddsAnswers (string_bytes out.old) (string_bytes out.new) }
-    ensures answered { OnOk result (AddsLines (string_bytes out.old) (string_bytes out.new)) }
+    ensures adds { AddsAnswers false (string_bytes out.old) (string_bytes out.new) }
+    ensures answered { OnOk result (AddsLines false (string_bytes out.old) (string_bytes out.new)) }
 {
     let opened_at = next_moment(moments);
     match open(alloc, line, limits, port, opened_at) {

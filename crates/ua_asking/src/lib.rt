@@ -6,7 +6,7 @@
 //!
 //! ```
 //! let question = Question::parse_read(alloc, &["ns=1;s=Pump"])?;
-//! ask_over(alloc, &mut line, limits, 4840, &question, &mut moments, &mut out)?;
+//! ask_over(alloc, &mut line, limits, 4840, &question, false, &mut moments, &mut out)?;
 //! // `ns=1;s=Pump 00000000 Int32 6` is added to `out`
 //! ```
 #![tactic(auto)]

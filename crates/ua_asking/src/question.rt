@@ -69,31 +69,39 @@ impl Question {
         }
     }
 
-    /// Adds the lines of its answers in a response.
-    fn push(&self, alloc: Global, out: &mut String, response: &Response) -> Result<(), AnswerFault>
-        ensures lines { OnOk result (AnswersQuestion self.now (Responds response.now) (string_bytes out.old) (string_bytes out.new)) }
+    /// Adds the lines of its answers in a response, with the names of status codes where they are wanted.
+    fn push(
+        &self,
+        alloc: Global,
+        out: &mut String,
+        response: &Response,
+        names: bool,
+    ) -> Result<(), AnswerFault>
+        ensures lines { OnOk result (AnswersQuestion names self.now (Responds response.now) (string_bytes out.old) (string_bytes out.new)) }
         ensures faults { IfErr result (λ fault. IsRefusedBy (AnswersNothing self.now (Responds response.now)) (Responds response.now) (of_answer fault)) }
     {
         match self {
-            Question::Read(nodes) => push_read_answers(alloc, out, nodes, response),
+            Question::Read(nodes) => push_read_answers(alloc, out, nodes, response, names),
             Question::Write(node, _) => {
-                push_write_answers(alloc, out, slice::from_ref(node), response)
+                push_write_answers(alloc, out, slice::from_ref(node), response, names)
             }
         }
     }
 
-    /// Adds the lines of its answers in a reply, all or none.
+    /// Adds the lines of its answers in a reply, all or none, with the names of status codes where they
+    /// are wanted.
     pub(crate) fn print(
         &self,
         alloc: Global,
         out: &mut String,
         called: Result<Reply, AskFault>,
+        names: bool,
     ) -> Result<(), AskFault>
-        ensures { PrintsAnswers self.now (string_bytes out.old) (string_bytes out.new) called result }
+        ensures { PrintsAnswers names self.now (string_bytes out.old) (string_bytes out.new) called result }
     {
         let response = response_of(called)?;
         let mut lines = String::new(alloc);
-        let pushed = self.push(alloc, &mut lines, &response);
+        let pushed = self.push(alloc, &mut lines, &response, names);
         drop(response);
         pushed?;
         Ok(out.push_str(&lines)?)

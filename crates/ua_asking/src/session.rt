@@ -75,16 +75,17 @@ fn ask_under<L: Line, M: Moments>(
     line: &mut L,
     client: &mut Client,
     question: &Question,
+    names: bool,
     token: NodeId,
     moments: &mut M,
     out: &mut String,
 ) -> Result<(), AskFault>
-    ensures { AsksUnder M.gives question.now token moments.old moments.new client.old client.new (L.traffic line.old) (L.traffic line.new) (string_bytes out.old) (string_bytes out.new) result }
+    ensures { AsksUnder M.gives names question.now token moments.old moments.new client.old client.new (L.traffic line.old) (L.traffic line.new) (string_bytes out.old) (string_bytes out.new) result }
 {
     let asked_at = next_moment(moments);
     let called = call_question(alloc, line, client, question, &token, asked_at);
     let handle = handle_behind(&called);
-    let printed = question.print(alloc, out, called);
+    let printed = question.print(alloc, out, called, names);
     let ended_at = next_moment(moments);
     let ended = end_session(line, client, token, handle, ended_at);
     first_of(printed, ended)
@@ -96,14 +97,15 @@ fn ask_in_session<L: Line, M: Moments>(
     line: &mut L,
     client: &mut Client,
     question: &Question,
+    names: bool,
     moments: &mut M,
     out: &mut String,
 ) -> Result<(), AskFault>
-    ensures { AsksInSession M.gives question.now moments.old moments.new client.old client.new (L.traffic line.old) (L.traffic line.new) (string_bytes out.old) (string_bytes out.new) result }
+    ensures { AsksInSession M.gives names question.now moments.old moments.new client.old client.new (L.traffic line.old) (L.traffic line.new) (string_bytes out.old) (string_bytes out.new) result }
 {
     let begun_at = next_moment(moments);
     match begin(line, client, begun_at) {
-        Ok(token) => ask_under(alloc, line, client, question, token, moments, out),
+        Ok(token) => ask_under(alloc, line, client, question, names, token, moments, out),
         Err(fault) => Err(fault),
     }
 }
@@ -112,23 +114,25 @@ fn ask_in_session<L: Line, M: Moments>(
 /// of the answers: as the server on a port of this machine, whose connection stands at its beginning.
 /// A client is opened, begins a session, asks, ends the session and is closed, these two also behind a
 /// fault after which it may go on; the first fault is told. Each of these steps has the next moment.
+/// Where `names` says so, the names of status codes stand behind them.
 pub fn ask_over<L: Line, M: Moments>(
     alloc: Global,
     line: &mut L,
     limits: Limits,
     port: u16,
     question: &Question,
+    names: bool,
     moments: &mut M,
     out: &mut String,
 ) -> Result<(), AskFault>
-    ensures runs { RunsQuestion M.gives limits port question.now moments.old moments.new (L.traffic line.old) (L.traffic line.new) (string_bytes out.old) (string_bytes out.new) result }
-    ensures adds { AddsAnswers (string_bytes out.old) (string_bytes out.new) }
-    ensures answered { OnOk result (AddsLines (string_bytes out.old) (string_bytes out.new)) }
+    ensures runs { RunsQuestion M.gives limits port names question.now moments.old moments.new (L.traffic line.old) (L.traffic line.new) (string_bytes out.old) (string_bytes out.new) result }
+    ensures adds { AddsAnswers names (string_bytes out.old) (string_bytes out.new) }
+    ensures answered { OnOk result (AddsLines names (string_bytes out.old) (string_bytes out.new)) }
 {
     let opened_at = next_moment(moments);
     match open(alloc, line, limits, port, opened_at) {
         Ok(mut client) => {
-            let asked = ask_in_session(alloc, line, &mut client, question, moments, out);
+            let asked = ask_in_session(alloc, line, &mut client, question, names, moments, out);
             let closed_at = next_moment(moments);
             let closed = close(line, client, closed_at);
             first_of(asked, closed)
