@@ -54,7 +54,7 @@ fn looped(rt: &impl Abort, alloc: Global) -> Looped {
     let nodes = NodeTable::load(alloc, NODES).expect(rt, "nodes");
     let script = "write\tns=1;s=Pump\tInt32\t6\nread\tns=1;s=Pump\n";
     let lines = parse_lines(alloc, script).expect(rt, "lines");
-    let looped = run_lines(alloc, nodes, &lines, 65535);
+    let looped = run_lines(alloc, nodes, &lines, 65535, false);
     drop(lines);
     looped.expect(rt, "a run")
 }

@@ -59,9 +59,17 @@ fn ends_have_names(rt: HostRuntime) {
         (End::Refused(CODE), "Refused 80BE00EF"),
     ] {
         let mut out = String::new(rt.alloc());
-        push_end(&mut out, end).expect(&rt, "memory");
+        push_end(&mut out, end, false).expect(&rt, "memory");
         assert_eq!(rt; out.as_str(), text);
     }
+}
+
+#[test]
+fn an_end_has_the_name_of_its_code(rt: HostRuntime) {
+    let code = StatusCode { code: 0x807F_0000 };
+    let mut out = String::new(rt.alloc());
+    push_end(&mut out, End::Refused(code), true).expect(&rt, "memory");
+    assert_eq!(rt; out.as_str(), "Refused 807F0000 BadTcpSecureChannelUnknown");
 }
 
 #[test]

@@ -1,5 +1,5 @@
 -- What a run leaves on a stream.
-use Rattle.std.specs.Prelude.{◌⊎◌, ℕ, List, Option}
+use Rattle.std.specs.Prelude.{◌⊎◌, ℕ, Bool, List, Option}
 use Rattle.std.specs.Io.KnownBytes.{Appends}
 use Rattle.ua_pair.specs.declared.side.Side.{Side}
 use Rattle.ua_pair.specs.Dissected.{AreLines}
@@ -26,9 +26,14 @@ pub record HasAdded (Is : List ℕ → Type 0) (old new : Option (List ℕ)) : T
   pub is : Is text
   pub added : Appends old new text
 
--- such a writer then holds behind them the lines of the answers of a server
-abbrev pub HasAnswered : Option (List ℕ) → Option (List ℕ) → Type 0
-HasAnswered old new = HasAdded AreAnswerLines old new
+-- such a writer then holds behind them the lines of the answers of a server, with the names of status codes where they are wanted
+abbrev pub HasAnswered : Bool → Option (List ℕ) → Option (List ℕ) → Type 0
+HasAnswered names old new = HasAdded (AreAnswerLines names) old new
+
+-- the same, with or without names
+pub record HasAnsweredSome (old new : Option (List ℕ)) : Type 0 where
+  pub names : Bool
+  pub answered : HasAnswered names old new
 
 -- a writer that held the old octets then holds behind them the first lines of `ua serve` on some port
 pub record HasBegunServing (old new : Option (List ℕ)) : Type 0 where
@@ -43,7 +48,7 @@ pub record HasToldSome (old new : Option (List ℕ)) : Type 0 where
 
 -- what a run may add that then meets a fault: the lines of frames, the first lines of `ua serve`, lines of answers, or those of a script
 abbrev pub HasBegun : Option (List ℕ) → Option (List ℕ) → Type 0
-HasBegun old new = HasToldSome old new ⊎ HasBegunServing old new ⊎ HasAnswered old new ⊎ HasLoopedSome old new
+HasBegun old new = HasToldSome old new ⊎ HasBegunServing old new ⊎ HasAnsweredSome old new ⊎ HasLoopedSome old new
 
 -- what a run adds that does what its words ask for
 abbrev pub HasPrinted : Option (List ℕ) → Option (List ℕ) → Type 0

@@ -56,6 +56,8 @@ pub struct ReadNodes<'a> {
     pub port: u16,
     /// The texts of NodeIds.
     pub nodes: Vec<&'a str>,
+    /// Whether status codes are named.
+    pub names: bool,
 }
 
 /// The words of `ua write`.
@@ -69,6 +71,8 @@ pub struct WriteNode<'a> {
     pub kind: &'a str,
     /// The text of a value of that type.
     pub value: &'a str,
+    /// Whether status codes are named.
+    pub names: bool,
 }
 
 /// The words of `ua loop`.
@@ -82,6 +86,8 @@ pub struct Loop<'a> {
     pub cut: u16,
     /// Whether the octets go over a connection, too.
     pub tcp: bool,
+    /// Whether status codes are named.
+    pub names: bool,
 }
 
 fn side_of(matches: &ArgMatches<'_>) -> Side {
@@ -146,11 +152,13 @@ fn written_of<'a>(matches: &ArgMatches<'a>) -> Option<WriteNode<'a>>
     let Some(value) = matches.get_str("VALUE") else {
         return None;
     };
+    let names = matches.get_flag("names");
     Some(WriteNode {
         port,
         node,
         kind,
         value,
+        names,
     })
 }
 
@@ -186,11 +194,13 @@ fn looped_of<'a>(matches: &ArgMatches<'a>) -> Option<Loop<'a>>
         return None;
     };
     let tcp = matches.get_flag("tcp");
+    let names = matches.get_flag("names");
     Some(Loop {
         nodes,
         script,
         cut,
         tcp,
+        names,
     })
 }
 
@@ -211,9 +221,10 @@ fn nodes_of<'a>(alloc: Global, matches: &ArgMatches<'a>) -> Result<Vec<&'a str>,
 fn read_of<'a>(alloc: Global, matches: &ArgMatches<'a>) -> Result<Option<Task<'a>>, AllocError>
     ensures { IfOk result (λ task. IfSome task CountsFromOne) }
 {
+    let names = matches.get_flag("names");
     match number_of(matches, "PORT") {
         Some(port) => match nodes_of(alloc, matches) {
-            Ok(nodes) => Ok(Some(Task::Read(ReadNodes { port, nodes }))),
+            Ok(nodes) => Ok(Some(Task::Read(ReadNodes { port, nodes, names }))),
             Err(error) => Err(error),
         },
         None => Ok(None),

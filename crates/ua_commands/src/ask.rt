@@ -1,6 +1,6 @@
 //! `ua endpoints`, `ua read` and `ua write`: what the server on a port of this machine is asked.
 
-ghost use Rattle.std.specs.Prelude.{◌≡◌, ◌⊎◌, OnOk, IfErr};
+ghost use Rattle.std.specs.Prelude.{◌≡◌, ◌⊎◌, false, OnOk, IfErr};
 ghost use Rattle.ua_commands.specs.Printed.{HasAnswered};
 ghost use Rattle.ua_commands.specs.declared.output.Stop.TheVariants.{Output};
 
@@ -30,8 +30,8 @@ pub fn endpoints<'a, R: Net + Clock + AllocGlobal, O: Write>(
     port: u16,
     out: &mut O,
 ) -> Result<(), Stop<'a>>
-    ensures answered { OnOk result (HasAnswered (O.contents out.old) (O.contents out.new)) }
-    ensures stopped { IfErr result (λ stop. (stop ≡ Output) ⊎ (out.new ≡ out.old) ⊎ HasAnswered (O.contents out.old) (O.contents out.new)) }
+    ensures answered { OnOk result (HasAnswered false (O.contents out.old) (O.contents out.new)) }
+    ensures stopped { IfErr result (λ stop. (stop ≡ Output) ⊎ (out.new ≡ out.old) ⊎ HasAnswered false (O.contents out.old) (O.contents out.new)) }
 {
     let mut line = connect(rt, port)?;
     let mut moments = ClockMoments::new(rt);
@@ -49,15 +49,17 @@ pub fn endpoints<'a, R: Net + Clock + AllocGlobal, O: Write>(
     Ok(asked?)
 }
 
-/// Asks the server on a port of this machine a question, and prints the answers.
+/// Asks the server on a port of this machine a question, and prints the answers, with
+/// the names of status codes where they are wanted.
 fn ask<'a, R: Net + Clock + AllocGlobal, O: Write>(
     rt: &R,
     port: u16,
     question: &Question,
+    names: bool,
     out: &mut O,
 ) -> Result<(), Stop<'a>>
-    ensures answered { OnOk result (HasAnswered (O.contents out.old) (O.contents out.new)) }
-    ensures stopped { IfErr result (λ stop. (stop ≡ Output) ⊎ (out.new ≡ out.old) ⊎ HasAnswered (O.contents out.old) (O.contents out.new)) }
+    ensures answered { OnOk result (HasAnswered names (O.contents out.old) (O.contents out.new)) }
+    ensures stopped { IfErr result (λ stop. (stop ≡ Output) ⊎ (out.new ≡ out.old) ⊎ HasAnswered names (O.contents out.old) (O.contents out.new)) }
 {
     let mut line = connect(rt, port)?;
     let mut moments = ClockMoments::new(rt);
@@ -68,6 +70,7 @@ fn ask<'a, R: Net + Clock + AllocGlobal, O: Write>(
         limits(),
         port,
         question,
+        names,
         &mut moments,
         &mut text,
     );
@@ -82,11 +85,11 @@ pub fn read<'a, R: Net + Clock + AllocGlobal, O: Write>(
     asked: &ReadNodes<'a>,
     out: &mut O,
 ) -> Result<(), Stop<'a>>
-    ensures answered { OnOk result (HasAnswered (O.contents out.old) (O.contents out.new)) }
-    ensures stopped { IfErr result (λ stop. (stop ≡ Output) ⊎ (out.new ≡ out.old) ⊎ HasAnswered (O.contents out.old) (O.contents out.new)) }
+    ensures answered { OnOk result (HasAnswered asked.now.names (O.contents out.old) (O.contents out.new)) }
+    ensures stopped { IfErr result (λ stop. (stop ≡ Output) ⊎ (out.new ≡ out.old) ⊎ HasAnswered asked.now.names (O.contents out.old) (O.contents out.new)) }
 {
     let question = Question::parse_read(rt.alloc(), &asked.nodes)?;
-    ask(rt, asked.port, &question, out)
+    ask(rt, asked.port, &question, asked.names, out)
 }
 
 /// Sets the Value of a node of the server on a port of this machine, and prints what became of it.
@@ -95,9 +98,9 @@ pub fn write<'a, R: Net + Clock + AllocGlobal, O: Write>(
     asked: &WriteNode<'a>,
     out: &mut O,
 ) -> Result<(), Stop<'a>>
-    ensures answered { OnOk result (HasAnswered (O.contents out.old) (O.contents out.new)) }
-    ensures stopped { IfErr result (λ stop. (stop ≡ Output) ⊎ (out.new ≡ out.old) ⊎ HasAnswered (O.contents out.old) (O.contents out.new)) }
+    ensures answered { OnOk result (HasAnswered asked.now.names (O.contents out.old) (O.contents out.new)) }
+    ensures stopped { IfErr result (λ stop. (stop ≡ Output) ⊎ (out.new ≡ out.old) ⊎ HasAnswered asked.now.names (O.contents out.old) (O.contents out.new)) }
 {
     let question = Question::parse_write(rt.alloc(), asked.node, asked.kind, asked.value)?;
-    ask(rt, asked.port, &question, out)
+    ask(rt, asked.port, &question, asked.names, out)
 }

@@ -98,6 +98,12 @@ const NODE_FILE: Word = Word {
     help: "the node file",
 };
 
+const NAMES: Word = Word {
+    name: "names",
+    kind: FLAG,
+    help: "the standard's name stands behind each status code that has one",
+};
+
 const DISSECT: &[Word] = &[
     Word {
         name: "FILE",
@@ -133,6 +139,7 @@ const READ: &[Word] = &[
         kind: SEVERAL,
         help: "a NodeId, as ns=1;s=Pump",
     },
+    NAMES,
 ];
 
 const WRITE: &[Word] = &[
@@ -152,6 +159,7 @@ const WRITE: &[Word] = &[
         kind: NEEDED,
         help: "a value of the type; one that begins with - stands behind the word --",
     },
+    NAMES,
 ];
 
 const LOOP: &[Word] = &[
@@ -171,6 +179,7 @@ const LOOP: &[Word] = &[
         kind: FLAG,
         help: "the same octets go over a connection within this process, too",
     },
+    NAMES,
 ];
 
 /// The commands, in the order of the help.

@@ -102,19 +102,20 @@ fn carry_over_tcp<'a, R: Net + AllocGlobal>(
 }
 
 /// Runs the script of a text over nodes, each end taking what the other wrote in pieces of so many
-/// octets.
+/// octets. Where `names` says so, the names of status codes stand behind them.
 pub fn run_script(
     alloc: Global,
     nodes: NodeTable,
     script: &str,
     cut: u16,
+    names: bool,
 ) -> Result<Looped, LoopFault>
     requires sound { IsSound nodes }
-    ensures ran { IfOk result (λ looped. RunsScript nodes script.now looped) }
+    ensures ran { IfOk result (λ looped. RunsScript names nodes script.now looped) }
     ensures refused { IfErr result (λ fault. RefusesScript script.now fault) }
 {
     let lines = parse_lines(alloc, script)?;
-    run_lines(alloc, nodes, &lines, cut)
+    run_lines(alloc, nodes, &lines, cut, names)
 }
 
 /// Runs the script of a file over the nodes of another, and prints the answers to its lines and how
@@ -124,13 +125,13 @@ pub fn run_files<'a, R: Files + Net + AllocGlobal, O: Write>(
     asked: &Loop<'a>,
     out: &mut O,
 ) -> Result<(), Stop<'a>>
-    ensures looped { OnOk result (HasLooped None (O.contents out.old) (O.contents out.new)) }
-    ensures stopped { IfErr result (λ stop. (stop ≡ Output) ⊎ (out.new ≡ out.old) ⊎ HasLoopedUntil stop (O.contents out.old) (O.contents out.new)) }
+    ensures looped { OnOk result (HasLooped asked.now.names None (O.contents out.old) (O.contents out.new)) }
+    ensures stopped { IfErr result (λ stop. (stop ≡ Output) ⊎ (out.new ≡ out.old) ⊎ HasLoopedUntil asked.now.names stop (O.contents out.old) (O.contents out.new)) }
 {
     let text = read_text(rt, asked.nodes)?;
     let nodes = parse_nodes(rt.alloc(), &text)?;
     let script = read_text(rt, asked.script)?;
-    let looped = run_script(rt.alloc(), nodes, &script, asked.cut)?;
+    let looped = run_script(rt.alloc(), nodes, &script, asked.cut, asked.names)?;
     if asked.tcp {
         carry_over_tcp(rt, &text, &looped)?;
     }

@@ -67,8 +67,26 @@ fn asked<L: Line>(
     if question == "endpoints" {
         return Ok(endpoints_over(alloc, line, limits(), PORT, &mut moments, out));
     }
-    let question = question_of(alloc, question)?;
-    Ok(ask_over(alloc, line, limits(), PORT, &question, &mut moments, out))
+    let (words, names) = named(question);
+    let question = question_of(alloc, words)?;
+    Ok(ask_over(
+        alloc,
+        line,
+        limits(),
+        PORT,
+        &question,
+        names,
+        &mut moments,
+        out,
+    ))
+}
+
+/// The words of a question, and whether the names of status codes are wanted: `--names` behind them.
+fn named(question: &str) -> (&str, bool) {
+    match question.strip_suffix(" --names") {
+        Some(words) => (words, true),
+        None => (question, false),
+    }
 }
 
 /// The question of these words: `read NODE..` or `write NODE TYPE VALUE`.

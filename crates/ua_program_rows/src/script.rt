@@ -36,7 +36,7 @@ fn looped(alloc: Global, nodes: &str, script: &str, cut: u16) -> Result<Looped, 
     let Ok(lines) = parse_lines(alloc, script) else {
         return Err(Fault::NoRow);
     };
-    let looped = run_lines(alloc, nodes, &lines, cut);
+    let looped = run_lines(alloc, nodes, &lines, cut, false);
     drop(lines);
     looped.map_err(|_| Fault::NoRow)
 }
