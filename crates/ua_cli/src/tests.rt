@@ -127,6 +127,43 @@ fn numbers_that_are_not_given_are_1_and_65535(rt: HostRuntime) {
     assert_eq!(rt; (asked.cut, asked.tcp), (65535, false));
 }
 
+#[test]
+fn names_are_wanted_where_the_words_say_so(rt: HostRuntime) {
+    assert_eq!(rt; wants_names(&rt, &["ua", "read", "7", "i=1"]), Some(false));
+    assert_eq!(rt;
+        wants_names(&rt, &["ua", "read", "7", "i=1", "--names"]),
+        Some(true)
+    );
+    assert_eq!(rt;
+        wants_names(&rt, &["ua", "read", "--names", "7", "i=1"]),
+        Some(true)
+    );
+    assert_eq!(rt;
+        wants_names(&rt, &["ua", "write", "7", "i=1", "Byte", "6"]),
+        Some(false)
+    );
+    let words = ["ua", "write", "7", "i=1", "SByte", "--names", "--", "-6"];
+    assert_eq!(rt; wants_names(&rt, &words), Some(true));
+    let words = ["ua", "write", "7", "i=1", "String", "--", "--names"];
+    assert_eq!(rt; wants_names(&rt, &words), Some(false));
+    assert_eq!(rt; wants_names(&rt, &["ua", "loop", "n", "s"]), Some(false));
+    assert_eq!(rt;
+        wants_names(&rt, &["ua", "loop", "n", "s", "--names"]),
+        Some(true)
+    );
+}
+
+/// Whether the words ask for the names of status codes; nothing where they ask for something that has
+/// none, or for nothing.
+fn wants_names(rt: &HostRuntime, words: &[&str]) -> Option<bool> {
+    match parse(rt.alloc(), words) {
+        Ok(Some(Task::Read(asked))) => Some(asked.names),
+        Ok(Some(Task::Write(asked))) => Some(asked.names),
+        Ok(Some(Task::Loop(asked))) => Some(asked.names),
+        _ => None,
+    }
+}
+
 // What the script prints has 77 octets. The server ends before it takes a connection.
 #[test]
 fn fails_where_a_writer_fails_behind_a_script_or_a_port(rt: HostRuntime) -> Result<(), Fail> {
