@@ -1,0 +1,4 @@
+mod Elements
+mod Ends
+mod Bodies
+mod OneLine

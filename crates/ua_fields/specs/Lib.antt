@@ -1,0 +1,10 @@
+pub mod Tree
+pub mod Leaves
+pub mod Header
+pub mod Attribute
+pub mod Discovery
+pub mod Session
+pub mod SecureChannel
+pub mod Messages
+pub mod Bodies
+pub mod Laws
