@@ -3,7 +3,7 @@ use Rattle.std.proofs.Common.{◌≡◌, ◌⊎◌, inl, inr, ℕ, zero, suc, �
 use Rattle.std.specs.Io.KnownBytes.{Appends, Consumes, IsAtEnd}
 use Rattle.std.specs.Borrow.{Bor}
 use Rattle.ua_pair.specs.declared.dissector.Dissector.{Dissector}
-use Rattle.ua_pair.specs.declared.side.Side.{Side}
+use Rattle.ua_pair.specs.declared.options.DissectOptions.{DissectOptions}
 use Rattle.ua_pair.specs.Dissecting.{StandsBehind, TellsMore, EndsLines}
 use Rattle.hex.specs.Hex.{decode_of}
 use Rattle.hex.proofs.HexLemmas.{decode_of-ok}
@@ -21,8 +21,8 @@ first_holds : (hex : Bool) (half : Option ℕ) → half ≡ None → HoldsSoFar 
 first_holds false half none = refl
 first_holds true half none = subst (λ (h : Option ℕ). HexSoFar h [] []) (sym none) hex_first
 
-pub told_first : (hex : Bool) (side : Side) (half : Option ℕ) (d : Dissector) → half ≡ None → StandsBehind d side [] [] → ToldSoFar hex side half d [] []
-told_first hex side half d none stands = record { octets = []; holds = first_holds hex half none; stands = stands }
+pub told_first : (hex : Bool) (options : DissectOptions) (half : Option ℕ) (d : Dissector) → half ≡ None → StandsBehind d options [] [] → ToldSoFar hex options half d [] []
+told_first hex options half d none stands = record { octets = []; holds = first_holds hex half none; stands = stands }
 
 -- a piece of octets as they are
 pub plain_piece : (hex : Bool) (old new : Option ℕ) (content octets piece : List ℕ) → hex ≡ false → HoldsSoFar hex old content octets → HoldsSoFar hex new (content ++ piece) (octets ++ piece)
@@ -39,18 +39,18 @@ digit_piece true half content octets digits h = h
 digit_piece false half content octets digits h = absurd cc
 
 -- lines more of a piece whose octets are these
-pub tells_piece : (hex : Bool) (side : Side) (half : Option ℕ) (e : Dissector) (content octets told old new : List ℕ) → HoldsSoFar hex half content octets → TellsMore e side octets told old new → TellsPiece hex side half e content told old new
-tells_piece hex side half e content octets told old new holds t = record {
+pub tells_piece : (hex : Bool) (options : DissectOptions) (half : Option ℕ) (e : Dissector) (content octets told old new : List ℕ) → HoldsSoFar hex half content octets → TellsMore e options octets told old new → TellsPiece hex options half e content told old new
+tells_piece hex options half e content octets told old new holds t = record {
   lines = t.lines;
   added = t.added;
   so_far = record { octets = octets; holds = holds; stands = t.stands };
 }
 
-pub tells_so : (hex : Bool) (side : Side) (half half2 : Option ℕ) (e e2 : Dissector) (content octets told old new new2 : List ℕ) → half ≡ half2 → e ≡ e2 → new ≡ new2 → HoldsSoFar hex half2 content octets → TellsMore e2 side octets told old new2 → TellsPiece hex side half e content told old new
-tells_so hex side half half2 e e2 content octets told old new new2 p q r holds t =
-    tells_piece hex side half e content octets told old new
+pub tells_so : (hex : Bool) (options : DissectOptions) (half half2 : Option ℕ) (e e2 : Dissector) (content octets told old new new2 : List ℕ) → half ≡ half2 → e ≡ e2 → new ≡ new2 → HoldsSoFar hex half2 content octets → TellsMore e2 options octets told old new2 → TellsPiece hex options half e content told old new
+tells_so hex options half half2 e e2 content octets told old new new2 p q r holds t =
+    tells_piece hex options half e content octets told old new
     (subst (λ (h : Option ℕ). HoldsSoFar hex h content octets) (sym p) holds)
-    (subst (λ (d : Dissector). TellsMore d side octets told old new) (sym q) (subst (λ (n : List ℕ). TellsMore e2 side octets told old n) (sym r) t))
+    (subst (λ (d : Dissector). TellsMore d options octets told old new) (sym q) (subst (λ (n : List ℕ). TellsMore e2 options octets told old n) (sym r) t))
 
 -- the content is there: with --hex each digit has its pair
 pub whole_octets : (hex : Bool) (half : Option ℕ) (content octets : List ℕ) → (hex ≡ false) ⊎ (half ≡ None) → HoldsSoFar hex half content octets → HoldsOctets hex content octets
@@ -72,8 +72,8 @@ none_holds true (Some e) d content octets is some h x k = odd_text e content oct
 none_holds true None d content octets is some h x k = absurd cc
 none_holds false half d content octets is some h x k = absurd cc
 
-pub ends_file : (hex : Bool) (side : Side) (content octets told old new : List ℕ) → HoldsOctets hex content octets → EndsLines side octets told old new → EndsFile hex side content told old new
-ends_file hex side content octets told old new holds l = record { line = l.line; added = l.added; lines = record { octets = octets; holds = holds; lines = l.are } }
+pub ends_file : (hex : Bool) (options : DissectOptions) (content octets told old new : List ℕ) → HoldsOctets hex content octets → EndsLines options octets told old new → EndsFile hex options content told old new
+ends_file hex options content octets told old new holds l = record { line = l.line; added = l.added; lines = record { octets = octets; holds = holds; lines = l.are } }
 
 -- no digit is left
 pub none_left : (half : Option ℕ) → is_none half ≡ true → half ≡ None
@@ -120,8 +120,8 @@ reason_left f (inl memory) = inl memory
 reason_left f (inr refused) = inr (refused.0, f refused.1)
 
 -- the last line is printed
-pub prints_last : (hex : Bool) (side : Side) (content told cleared text said : List ℕ) (before after old new : Option (List ℕ)) (read : List ℕ) → read ≡ [] → Consumes before after read → IsAtEnd after → cleared ≡ [] → EndsFile hex side content told cleared text → said ≡ text → Appends old new said → PrintsLast hex side content told before after old new
-prints_last hex side content told cleared text said before after old new read none consumed end empty e same printed = record {
+pub prints_last : (hex : Bool) (options : DissectOptions) (content told cleared text said : List ℕ) (before after old new : Option (List ℕ)) (read : List ℕ) → read ≡ [] → Consumes before after read → IsAtEnd after → cleared ≡ [] → EndsFile hex options content told cleared text → said ≡ text → Appends old new said → PrintsLast hex options content told before after old new
+prints_last hex options content told cleared text said before after old new read none consumed end empty e same printed = record {
   consumed = subst (λ (u : List ℕ). Consumes before after u) none consumed;
   at_end = end;
   line = e.line;
@@ -137,11 +137,11 @@ nothing_read (suc n) known after piece r none room = absurd cc
 -- ---- all that is read
 
 -- a file was read and its lines were printed so far
-pub record ReadSoFar (hex : Bool) (side : Side) (half : Option ℕ) (d : Dissector) (before now old new : Option (List ℕ)) : Type 0 where
+pub record ReadSoFar (hex : Bool) (options : DissectOptions) (half : Option ℕ) (d : Dissector) (before now old new : Option (List ℕ)) : Type 0 where
   pub content : List ℕ
   pub told : List ℕ
   pub consumed : Consumes before now content
-  pub so_far : ToldSoFar hex side half d content told
+  pub so_far : ToldSoFar hex options half d content told
   pub added : Appends old new told
 
 consumes_none : (known : Option (List ℕ)) → Consumes known known []
@@ -152,17 +152,17 @@ appends_none : (known : Option (List ℕ)) → Appends known known []
 appends_none None = tt
 appends_none (Some xs) = sym (append-nil xs)
 
-pub read_first : (hex : Bool) (side : Side) (half : Option ℕ) (d : Dissector) (known held : Option (List ℕ)) → half ≡ None → StandsBehind d side [] [] → ReadSoFar hex side half d known known held held
-read_first hex side half d known held none stands = record {
+pub read_first : (hex : Bool) (options : DissectOptions) (half : Option ℕ) (d : Dissector) (known held : Option (List ℕ)) → half ≡ None → StandsBehind d options [] [] → ReadSoFar hex options half d known known held held
+read_first hex options half d known held none stands = record {
   content = [];
   told = [];
   consumed = consumes_none known;
-  so_far = told_first hex side half d none stands;
+  so_far = told_first hex options half d none stands;
   added = appends_none held;
 }
 
-pub reads_on : (hex : Bool) (side : Side) (half half2 : Option ℕ) (d e : Dissector) (before now after old held new : Option (List ℕ)) (s : ReadSoFar hex side half d before now old held) → PrintsPiece hex side half2 e s.content s.told now after held new → ReadSoFar hex side half2 e before after old new
-reads_on hex side half half2 d e before now after old held new s p = record {
+pub reads_on : (hex : Bool) (options : DissectOptions) (half half2 : Option ℕ) (d e : Dissector) (before now after old held new : Option (List ℕ)) (s : ReadSoFar hex options half d before now old held) → PrintsPiece hex options half2 e s.content s.told now after held new → ReadSoFar hex options half2 e before after old new
+reads_on hex options half half2 d e before now after old held new s p = record {
   content = s.content ++ p.piece;
   told = s.told ++ p.lines;
   consumed = consumes_more before now after s.content p.piece s.consumed p.consumed;
@@ -170,8 +170,8 @@ reads_on hex side half half2 d e before now after old held new s p = record {
   added = appends_more old held new s.told p.lines s.added p.added;
 }
 
-pub reads_all : (hex : Bool) (side : Side) (half : Option ℕ) (d : Dissector) (before now after old held new : Option (List ℕ)) (s : ReadSoFar hex side half d before now old held) → PrintsLast hex side s.content s.told now after held new → DissectsAll hex side before after old new
-reads_all hex side half d before now after old held new s p = record {
+pub reads_all : (hex : Bool) (options : DissectOptions) (half : Option ℕ) (d : Dissector) (before now after old held new : Option (List ℕ)) (s : ReadSoFar hex options half d before now old held) → PrintsLast hex options s.content s.told now after held new → DissectsAll hex options before after old new
+reads_all hex options half d before now after old held new s p = record {
   content = s.content;
   consumed = subst (λ (u : List ℕ). Consumes before after u) (append-nil s.content) (consumes_more before now after s.content [] s.consumed p.consumed);
   at_end = p.at_end;
@@ -182,8 +182,8 @@ reads_all hex side half d before now after old held new s p = record {
   };
 }
 
-pub has_begun : (hex : Bool) (side : Side) (half : Option ℕ) (d : Dissector) (before now old held : Option (List ℕ)) → ReadSoFar hex side half d before now old held → HasBegunDissecting side old held
-has_begun hex side half d before now old held s = record {
+pub has_begun : (hex : Bool) (options : DissectOptions) (half : Option ℕ) (d : Dissector) (before now old held : Option (List ℕ)) → ReadSoFar hex options half d before now old held → HasBegunDissecting options old held
+has_begun hex options half d before now old held s = record {
   octets = s.so_far.octets;
   text = s.told;
   told = s.so_far.stands.are;
@@ -204,22 +204,22 @@ stops_reading hex file before now content why h (inr (inr (inl read))) = inr (in
 stops_reading hex file before now content why h (inr (inr (inr refused))) = inr (inr (inr (refused.0, gives_none hex before now content h refused.1)))
 
 -- a read that is the last one, or is not
-pub as_piece : (ended hex : Bool) (side : Side) (half : Option ℕ) (d : Dissector) (content told : List ℕ) (before after old new : Option (List ℕ)) → ended ≡ false → PrintsNext ended hex side half d content told before after old new → PrintsPiece hex side half d content told before after old new
-as_piece false hex side half d content told before after old new is p = p
-as_piece true hex side half d content told before after old new is p = absurd cc
+pub as_piece : (ended hex : Bool) (options : DissectOptions) (half : Option ℕ) (d : Dissector) (content told : List ℕ) (before after old new : Option (List ℕ)) → ended ≡ false → PrintsNext ended hex options half d content told before after old new → PrintsPiece hex options half d content told before after old new
+as_piece false hex options half d content told before after old new is p = p
+as_piece true hex options half d content told before after old new is p = absurd cc
 
-pub as_last : (ended hex : Bool) (side : Side) (half : Option ℕ) (d : Dissector) (content told : List ℕ) (before after old new : Option (List ℕ)) → ended ≡ true → PrintsNext ended hex side half d content told before after old new → PrintsLast hex side content told before after old new
-as_last true hex side half d content told before after old new is p = p
-as_last false hex side half d content told before after old new is p = absurd cc
+pub as_last : (ended hex : Bool) (options : DissectOptions) (half : Option ℕ) (d : Dissector) (content told : List ℕ) (before after old new : Option (List ℕ)) → ended ≡ true → PrintsNext ended hex options half d content told before after old new → PrintsLast hex options content told before after old new
+as_last true hex options half d content told before after old new is p = p
+as_last false hex options half d content told before after old new is p = absurd cc
 
 -- ---- what a run leaves
 
-pub dissected : (hex : Bool) (side : Side) (before after old new : Option (List ℕ)) → DissectsAll hex side before after old new → HasDissected old new
-dissected hex side before after old new d = record {
+pub dissected : (hex : Bool) (options : DissectOptions) (before after old new : Option (List ℕ)) → DissectsAll hex options before after old new → HasDissected old new
+dissected hex options before after old new d = record {
   text = d.printed.text;
-  lines = record { side = side; octets = d.printed.lines.octets; lines = d.printed.lines.lines };
+  lines = record { options = options; octets = d.printed.lines.octets; lines = d.printed.lines.lines };
   added = d.printed.added;
 }
 
-pub told_some : (side : Side) (old new : Option (List ℕ)) → HasBegunDissecting side old new → HasToldSome old new
-told_some side old new h = record { side = side; lines = h }
+pub told_some : (options : DissectOptions) (old new : Option (List ℕ)) → HasBegunDissecting options old new → HasToldSome old new
+told_some options old new h = record { options = options; lines = h }

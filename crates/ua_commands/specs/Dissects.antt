@@ -3,7 +3,7 @@ use Rattle.std.specs.Prelude.{◌≡◌, ◌⊎◌, ◌<◌, ◌≤◌, ℕ, Boo
 use Rattle.std.specs.Borrow.{Bor}
 use Rattle.std.specs.Io.KnownBytes.{Appends, Consumes, IsAtEnd}
 use Rattle.ua_pair.specs.declared.dissector.Dissector.{Dissector}
-use Rattle.ua_pair.specs.declared.side.Side.{Side}
+use Rattle.ua_pair.specs.declared.options.DissectOptions.{DissectOptions}
 use Rattle.ua_pair.specs.Dissected.{AreLines, AreTold}
 use Rattle.ua_pair.specs.Dissecting.{StandsBehind}
 use Rattle.ua_commands.specs.Digits.{HoldsNever, HoldsNone, HoldsOctets, HoldsSoFar}
@@ -13,30 +13,30 @@ use Rattle.ua_commands.specs.declared.output.Stop.TheVariants.{Output}
 use Rattle.ua_commands.specs.declared.output.Stop.TheVariants as stop
 
 -- the text is the lines of the octets of this side that a file with this content holds, with `--hex` or without
-pub record AreLinesOf (hex : Bool) (side : Side) (content text : List ℕ) : Type 0 where
+pub record AreLinesOf (hex : Bool) (options : DissectOptions) (content text : List ℕ) : Type 0 where
   pub octets : List ℕ
   pub holds : HoldsOctets hex content octets
-  pub lines : AreLines side octets text
+  pub lines : AreLines options octets text
 
 -- a writer that held the old octets then holds behind them the lines of a file with this content
-pub record HasDissectedAll (hex : Bool) (side : Side) (content : List ℕ) (old new : Option (List ℕ)) : Type 0 where
+pub record HasDissectedAll (hex : Bool) (options : DissectOptions) (content : List ℕ) (old new : Option (List ℕ)) : Type 0 where
   pub text : List ℕ
-  pub lines : AreLinesOf hex side content text
+  pub lines : AreLinesOf hex options content text
   pub added : Appends old new text
 
 -- a writer that held the old octets then holds behind them the lines of the frames of some octets, but for the last line
-pub record HasBegunDissecting (side : Side) (old new : Option (List ℕ)) : Type 0 where
+pub record HasBegunDissecting (options : DissectOptions) (old new : Option (List ℕ)) : Type 0 where
   pub octets : List ℕ
   pub text : List ℕ
-  pub told : AreTold side octets text
+  pub told : AreTold options octets text
   pub added : Appends old new text
 
 -- a source is read to its end, and a writer that held the old octets then holds behind them the lines of all that was read
-pub record DissectsAll (hex : Bool) (side : Side) (before after old new : Option (List ℕ)) : Type 0 where
+pub record DissectsAll (hex : Bool) (options : DissectOptions) (before after old new : Option (List ℕ)) : Type 0 where
   pub content : List ℕ
   pub consumed : Consumes before after content
   pub at_end : IsAtEnd after
-  pub printed : HasDissectedAll hex side content old new
+  pub printed : HasDissectedAll hex options content old new
 
 -- a source of known octets holds no octets of messages: with `--hex`, its digits stand for none
 abbrev pub GivesNone : Bool → Option (List ℕ) → Type 0
@@ -50,22 +50,22 @@ StopsReading hex file known why =
 -- ---- a file whose content comes in pieces
 
 -- a dissector stands behind the octets that a file with this content so far holds, which it told by these lines
-pub record ToldSoFar (hex : Bool) (side : Side) (half : Option ℕ) (d : Dissector) (content told : List ℕ) : Type 0 where
+pub record ToldSoFar (hex : Bool) (options : DissectOptions) (half : Option ℕ) (d : Dissector) (content told : List ℕ) : Type 0 where
   pub octets : List ℕ
   pub holds : HoldsSoFar hex half content octets
-  pub stands : StandsBehind d side octets told
+  pub stands : StandsBehind d options octets told
 
 -- with more content, these lines more were added to a text
-pub record TellsPiece (hex : Bool) (side : Side) (half : Option ℕ) (d : Dissector) (content told old new : List ℕ) : Type 0 where
+pub record TellsPiece (hex : Bool) (options : DissectOptions) (half : Option ℕ) (d : Dissector) (content told old new : List ℕ) : Type 0 where
   pub lines : List ℕ
   pub added : new ≡ old ++ lines
-  pub so_far : ToldSoFar hex side half d content (told ++ lines)
+  pub so_far : ToldSoFar hex options half d content (told ++ lines)
 
 -- the last line was added: with what was told, these are the lines of the file
-pub record EndsFile (hex : Bool) (side : Side) (content told old new : List ℕ) : Type 0 where
+pub record EndsFile (hex : Bool) (options : DissectOptions) (content told old new : List ℕ) : Type 0 where
   pub line : List ℕ
   pub added : new ≡ old ++ line
-  pub lines : AreLinesOf hex side content (told ++ line)
+  pub lines : AreLinesOf hex options content (told ++ line)
 
 -- ---- one read
 
@@ -75,25 +75,25 @@ Reads None before after piece = Consumes before after []
 Reads (Some n) before after piece = (n ≤ length piece) × Consumes before after (take n piece) × (n ≡ 0 → 0 < length piece → IsAtEnd after)
 
 -- a piece more was read, and the lines of what is whole with it were printed
-pub record PrintsPiece (hex : Bool) (side : Side) (half : Option ℕ) (d : Dissector) (content told : List ℕ) (before after old new : Option (List ℕ)) : Type 0 where
+pub record PrintsPiece (hex : Bool) (options : DissectOptions) (half : Option ℕ) (d : Dissector) (content told : List ℕ) (before after old new : Option (List ℕ)) : Type 0 where
   pub piece : List ℕ
   pub consumed : Consumes before after piece
   pub lines : List ℕ
   pub added : Appends old new lines
-  pub so_far : ToldSoFar hex side half d (content ++ piece) (told ++ lines)
+  pub so_far : ToldSoFar hex options half d (content ++ piece) (told ++ lines)
 
 -- nothing is left, and the last line was printed
-pub record PrintsLast (hex : Bool) (side : Side) (content told : List ℕ) (before after old new : Option (List ℕ)) : Type 0 where
+pub record PrintsLast (hex : Bool) (options : DissectOptions) (content told : List ℕ) (before after old new : Option (List ℕ)) : Type 0 where
   pub consumed : Consumes before after []
   pub at_end : IsAtEnd after
   pub line : List ℕ
   pub added : Appends old new line
-  pub lines : AreLinesOf hex side content (told ++ line)
+  pub lines : AreLinesOf hex options content (told ++ line)
 
 -- what one read more prints, at the end or not
-abbrev pub PrintsNext : Bool → Bool → Side → Option ℕ → Dissector → List ℕ → List ℕ → Option (List ℕ) → Option (List ℕ) → Option (List ℕ) → Option (List ℕ) → Type 0
-PrintsNext false hex side half d content told before after old new = PrintsPiece hex side half d content told before after old new
-PrintsNext true hex side half d content told before after old new = PrintsLast hex side content told before after old new
+abbrev pub PrintsNext : Bool → Bool → DissectOptions → Option ℕ → Dissector → List ℕ → List ℕ → Option (List ℕ) → Option (List ℕ) → Option (List ℕ) → Option (List ℕ) → Type 0
+PrintsNext false hex options half d content told before after old new = PrintsPiece hex options half d content told before after old new
+PrintsNext true hex options half d content told before after old new = PrintsLast hex options content told before after old new
 
 -- behind this content, what is left to read stands for no octets
 abbrev pub LeavesNone : Bool → List ℕ → Option (List ℕ) → Type 0

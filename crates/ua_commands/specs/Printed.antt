@@ -1,7 +1,7 @@
 -- What a run leaves on a stream.
 use Rattle.std.specs.Prelude.{◌⊎◌, ℕ, Bool, List, Option}
 use Rattle.std.specs.Io.KnownBytes.{Appends}
-use Rattle.ua_pair.specs.declared.side.Side.{Side}
+use Rattle.ua_pair.specs.declared.options.DissectOptions.{DissectOptions}
 use Rattle.ua_pair.specs.Dissected.{AreLines}
 use Rattle.ua_asking.specs.Printed.{AreAnswerLines}
 use Rattle.ua_commands.specs.Dissects.{HasBegunDissecting}
@@ -10,9 +10,9 @@ use Rattle.ua_commands.specs.Served.{HasServed}
 
 -- the text is the lines of some octets of one side
 pub record AreSomeLines (text : List ℕ) : Type 0 where
-  pub side : Side
+  pub options : DissectOptions
   pub octets : List ℕ
-  pub lines : AreLines side octets text
+  pub lines : AreLines options octets text
 
 -- a writer that held the old octets then holds the lines of some octets behind them
 pub record HasDissected (old new : Option (List ℕ)) : Type 0 where
@@ -43,8 +43,8 @@ pub record HasBegunServing (old new : Option (List ℕ)) : Type 0 where
 
 -- a writer that held the old octets then holds behind them the lines of frames of one side, without a last line
 pub record HasToldSome (old new : Option (List ℕ)) : Type 0 where
-  pub side : Side
-  pub lines : HasBegunDissecting side old new
+  pub options : DissectOptions
+  pub lines : HasBegunDissecting options old new
 
 -- what a run may add that then meets a fault: the lines of frames, the first lines of `ua serve`, lines of answers, or those of a script
 abbrev pub HasBegun : Option (List ℕ) → Option (List ℕ) → Type 0

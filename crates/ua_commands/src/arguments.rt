@@ -8,7 +8,7 @@ use crate::number::parse_number;
 use clap::{ArgMatches, Error};
 use std::alloc::{AllocError, Global};
 use std::convert::AsStr;
-use ua_pair::Side;
+use ua_pair::{DissectOptions, Side};
 
 /// What the words ask for.
 #[derive(Drop)]
@@ -34,8 +34,8 @@ pub struct Dissect<'a> {
     pub file: &'a str,
     /// Whether the file holds hexadecimal digits.
     pub hex: bool,
-    /// The side that sent the octets.
-    pub side: Side,
+    /// Which side sent the octets, and what is wanted of them.
+    pub options: DissectOptions,
 }
 
 /// The words of `ua serve`.
@@ -112,9 +112,13 @@ fn dissect_of<'a>(matches: &ArgMatches<'a>) -> Option<Task<'a>>
     ensures { IfSome result CountsFromOne }
 {
     let hex = matches.get_flag("hex");
-    let side = side_of(matches);
+    let options = DissectOptions {
+        side: side_of(matches),
+        fields: matches.get_flag("fields"),
+        names: matches.get_flag("names"),
+    };
     match matches.get_str("FILE") {
-        Some(file) => Some(Task::Dissect(Dissect { file, hex, side })),
+        Some(file) => Some(Task::Dissect(Dissect { file, hex, options })),
         None => None,
     }
 }

@@ -108,7 +108,7 @@ const DISSECT: &[Word] = &[
     Word {
         name: "FILE",
         kind: NEEDED,
-        help: "the file of octets",
+        help: "the file of octets, or - for standard input",
     },
     Word {
         name: "hex",
@@ -119,6 +119,16 @@ const DISSECT: &[Word] = &[
         name: "server",
         kind: FLAG,
         help: "the octets are those that a server sent",
+    },
+    Word {
+        name: "fields",
+        kind: FLAG,
+        help: "the fields of each message stand behind its line",
+    },
+    Word {
+        name: "names",
+        kind: FLAG,
+        help: "each status code has its standard name behind it",
     },
 ];
 

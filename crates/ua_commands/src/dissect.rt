@@ -27,9 +27,9 @@ fn push_piece<'a>(
     piece: &[u8],
     text: &mut String,
 ) -> Result<(), Fault<'a>>
-    ensures lines { (content told : List ℕ) → ToldSoFar asked.now.hex asked.now.side digits.old.half dissector.old content told
-        → OnOk result (TellsPiece asked.now.hex asked.now.side digits.new.half dissector.new (content ++ piece.now) told (string_bytes text.old) (string_bytes text.new)) }
-    ensures faults { (content told : List ℕ) → ToldSoFar asked.now.hex asked.now.side digits.old.half dissector.old content told
+    ensures lines { (content told : List ℕ) → ToldSoFar asked.now.hex asked.now.options digits.old.half dissector.old content told
+        → OnOk result (TellsPiece asked.now.hex asked.now.options digits.new.half dissector.new (content ++ piece.now) told (string_bytes text.old) (string_bytes text.new)) }
+    ensures faults { (content told : List ℕ) → ToldSoFar asked.now.hex asked.now.options digits.old.half dissector.old content told
         → IfErr result (λ fault. (fault ≡ NoMemory) ⊎ ((fault ≡ NotHexadecimal asked.now.file) × HoldsNever asked.now.hex (content ++ piece.now))) }
 {
     if asked.hex {
@@ -48,9 +48,9 @@ fn push_last<'a>(
     dissector: &Dissector,
     text: &mut String,
 ) -> Result<(), Fault<'a>>
-    ensures lines { (content told : List ℕ) → ToldSoFar asked.now.hex asked.now.side digits.now.half dissector.now content told
-        → OnOk result (EndsFile asked.now.hex asked.now.side content told (string_bytes text.old) (string_bytes text.new)) }
-    ensures faults { (content told : List ℕ) → ToldSoFar asked.now.hex asked.now.side digits.now.half dissector.now content told
+    ensures lines { (content told : List ℕ) → ToldSoFar asked.now.hex asked.now.options digits.now.half dissector.now content told
+        → OnOk result (EndsFile asked.now.hex asked.now.options content told (string_bytes text.old) (string_bytes text.new)) }
+    ensures faults { (content told : List ℕ) → ToldSoFar asked.now.hex asked.now.options digits.now.half dissector.now content told
         → IfErr result (λ fault. (fault ≡ NoMemory) ⊎ ((fault ≡ NotHexadecimal asked.now.file) × HoldsNone asked.now.hex content)) }
 {
     if asked.hex && !digits.is_whole() {
@@ -92,10 +92,10 @@ fn print_next<'a, I: Read, O: Write>(
     out: &mut O,
 ) -> Result<bool, Stop<'a>>
     requires room { 0 < length piece.old }
-    ensures prints { (content told : List ℕ) → ToldSoFar asked.now.hex asked.now.side digits.old.half dissector.old content told
-        → IfOk result (λ ended. PrintsNext ended asked.now.hex asked.now.side digits.new.half dissector.new content told (I.remaining source.old) (I.remaining source.new) (O.contents out.old) (O.contents out.new)) }
+    ensures prints { (content told : List ℕ) → ToldSoFar asked.now.hex asked.now.options digits.old.half dissector.old content told
+        → IfOk result (λ ended. PrintsNext ended asked.now.hex asked.now.options digits.new.half dissector.new content told (I.remaining source.old) (I.remaining source.new) (O.contents out.old) (O.contents out.new)) }
     ensures kept { IfErr result (λ stop. (stop ≡ Output) ⊎ (out.new ≡ out.old)) }
-    ensures stopped { (content told : List ℕ) → ToldSoFar asked.now.hex asked.now.side digits.old.half dissector.old content told
+    ensures stopped { (content told : List ℕ) → ToldSoFar asked.now.hex asked.now.options digits.old.half dissector.old content told
         → IfErr result (λ stop. StopsNext asked.now.hex asked.now.file content (I.remaining source.old) stop) }
 {
     text.clear();
@@ -121,12 +121,12 @@ pub fn dissect_source<'a, I: Read, O: Write>(
     source: &mut I,
     out: &mut O,
 ) -> Result<(), Stop<'a>>
-    ensures lines { OnOk result (DissectsAll asked.now.hex asked.now.side (I.remaining source.old) (I.remaining source.new) (O.contents out.old) (O.contents out.new)) }
-    ensures begun { IfErr result (λ stop. (stop ≡ Output) ⊎ HasBegunDissecting asked.now.side (O.contents out.old) (O.contents out.new)) }
+    ensures lines { OnOk result (DissectsAll asked.now.hex asked.now.options (I.remaining source.old) (I.remaining source.new) (O.contents out.old) (O.contents out.new)) }
+    ensures begun { IfErr result (λ stop. (stop ≡ Output) ⊎ HasBegunDissecting asked.now.options (O.contents out.old) (O.contents out.new)) }
     ensures stopped { IfErr result (λ stop. StopsReading asked.now.hex asked.now.file (I.remaining source.old) stop) }
 {
     let mut digits = HexPieces::new();
-    let mut dissector = Dissector::new(alloc, asked.side);
+    let mut dissector = Dissector::new(alloc, asked.options);
     let mut text = String::new(alloc);
     let mut piece = [0u8; PIECE];
     for _reads in 0..u64::MAX {

@@ -1,9 +1,7 @@
 mod Befores
-mod Codes
 mod CutBacks
 mod Dissections
 mod Readings
 mod Refusals
 mod RestLines
-mod Shows
 mod Standings

@@ -5,28 +5,28 @@ use Rattle.ua_frame.specs.Laws.{IsSame}
 use Rattle.ua_frame.specs.Run.{End, events}
 use Rattle.ua_frame.proofs.Readings.{reading}
 use Rattle.ua_frame.proofs.Unique.{unique}
-use Rattle.ua_pair.specs.declared.side.Side.{Side}
+use Rattle.ua_pair.specs.declared.options.DissectOptions.{DissectOptions}
 use Rattle.ua_pair.specs.Dissected.{rules, last_line, AreLines, HasLines}
 use Rattle.ua_pair.specs.Told.{place_behind}
 
 -- the lines of a reading
-abbrev lines_of : Side → List Frame → List ℕ → End ℕ → List ℕ
-lines_of side fs rest end = events (rules side) fs ++ last_line (place_behind fs) rest end
+abbrev lines_of : DissectOptions → List Frame → List ℕ → End ℕ → List ℕ
+lines_of options fs rest end = events (rules options) fs ++ last_line options.names (place_behind fs) rest end
 
 -- octets have lines
-pub has_lines : (side : Side) (octets : List ℕ) → HasLines side octets
-has_lines side octets = let r = reading (rules side) octets in record {
-  lines = lines_of side r.frames r.rest r.end;
+pub has_lines : (options : DissectOptions) (octets : List ℕ) → HasLines options octets
+has_lines options octets = let r = reading (rules options) octets in record {
+  lines = lines_of options r.frames r.rest r.end;
   are = record { frames = r.frames; rest = r.rest; end = r.end; run = r.run; lines_are = refl };
 }
 
-same_lines : (side : Side) (fs gs : List Frame) (x y : List ℕ) (e d : End ℕ) → IsSame fs gs x y e d → lines_of side fs x e ≡ lines_of side gs y d
-same_lines side fs gs x y e d s =
-    ap (λ (t : List Frame). lines_of side t x e) s.frames ∙ ap (λ (t : List ℕ). lines_of side gs t e) s.rests ∙ ap (lines_of side gs y) s.ends
+same_lines : (options : DissectOptions) (fs gs : List Frame) (x y : List ℕ) (e d : End ℕ) → IsSame fs gs x y e d → lines_of options fs x e ≡ lines_of options gs y d
+same_lines options fs gs x y e d s =
+    ap (λ (t : List Frame). lines_of options t x e) s.frames ∙ ap (λ (t : List ℕ). lines_of options gs t e) s.rests ∙ ap (lines_of options gs y) s.ends
 
 -- octets have one list of lines
-pub one_reading : (side : Side) (octets lines others : List ℕ) → AreLines side octets lines → AreLines side octets others → lines ≡ others
-one_reading side octets lines others h k =
+pub one_reading : (options : DissectOptions) (octets lines others : List ℕ) → AreLines options octets lines → AreLines options octets others → lines ≡ others
+one_reading options octets lines others h k =
     h.lines_are
-    ∙ same_lines side h.frames k.frames h.rest k.rest h.end k.end (unique (rules side) octets h.frames k.frames h.rest k.rest h.end k.end h.run k.run)
+    ∙ same_lines options h.frames k.frames h.rest k.rest h.end k.end (unique (rules options) octets h.frames k.frames h.rest k.rest h.end k.end h.run k.run)
     ∙ sym k.lines_are

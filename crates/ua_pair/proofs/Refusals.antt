@@ -21,10 +21,11 @@ use Rattle.ua_chunk.specs.Layout.{chunk_in}
 use Rattle.ua_chunk.specs.Refusal.{reasons, refusal, IsFor}
 use Rattle.ua_pair.specs.declared.fault.DissectFault.{DissectFault}
 use Rattle.ua_pair.specs.declared.side.Side.{Side}
+use Rattle.ua_pair.specs.declared.options.DissectOptions.{DissectOptions}
 use Rattle.ua_pair.specs.Before.{message_chunks, last_sequence}
 use Rattle.ua_pair.specs.Telling.{Stands, Judges, JudgesKind, chunk_fault}
 use Rattle.ua_pair.specs.Refused.{most_octets, most_chunks, chunk_code, chunk_reasons, greeting_reasons, frame_reasons}
-use Rattle.ua_pair.specs.Told.{line_if, item_line, chunk_lines, frame_lines, place_behind}
+use Rattle.ua_pair.specs.Told.{line_if, item_lines, chunk_lines, frame_lines, place_behind}
 
 -- ---- MSG
 
@@ -56,35 +57,35 @@ refusal_at d fs cs c s =
     ∙ ap (λ (o : Option ℕ). refusal most_octets most_chunks o cs c) s.last
 
 -- the lines of a chunk that is taken
-message_told : (side : Side) (cs : List Chunk) (place n : ℕ) (f : Frame) (c : Chunk) (items : List Item) (old mid new : List ℕ) → chunk_in f ≡ Some c → n ≡ frame_size f → given cs c ≡ items → mid ≡ old ++ chunk_line (codes "MSG") place n c → new ≡ mid ++ flat_map (item_line side) items → new ≡ old ++ line_if (chunk_lines side cs place (frame_size f)) (chunk_in f)
-message_told side cs place n f c items old mid new e size given_is first second =
+message_told : (options : DissectOptions) (cs : List Chunk) (place n : ℕ) (f : Frame) (c : Chunk) (items : List Item) (old mid new : List ℕ) → chunk_in f ≡ Some c → n ≡ frame_size f → given cs c ≡ items → mid ≡ old ++ chunk_line (codes "MSG") place n c → new ≡ mid ++ flat_map (item_lines options) items → new ≡ old ++ line_if (chunk_lines options cs place (frame_size f)) (chunk_in f)
+message_told options cs place n f c items old mid new e size given_is first second =
     second
-    ∙ ap (λ (t : List ℕ). t ++ flat_map (item_line side) items) first
-    ∙ append_assoc old (chunk_line (codes "MSG") place n c) (flat_map (item_line side) items)
-    ∙ ap (λ (its : List Item). old ++ (chunk_line (codes "MSG") place n c ++ flat_map (item_line side) its)) (sym given_is)
-    ∙ ap (λ (m : ℕ). old ++ chunk_lines side cs place m c) size
-    ∙ ap (λ (o : Option Chunk). old ++ line_if (chunk_lines side cs place (frame_size f)) o) (sym e)
+    ∙ ap (λ (t : List ℕ). t ++ flat_map (item_lines options) items) first
+    ∙ append_assoc old (chunk_line (codes "MSG") place n c) (flat_map (item_lines options) items)
+    ∙ ap (λ (its : List Item). old ++ (chunk_line (codes "MSG") place n c ++ flat_map (item_lines options) its)) (sym given_is)
+    ∙ ap (λ (m : ℕ). old ++ chunk_lines options cs place m c) size
+    ∙ ap (λ (o : Option Chunk). old ++ line_if (chunk_lines options cs place (frame_size f)) o) (sym e)
 
 module _ (d : Teller) (fs : List Frame) (place n : ℕ) (f : Frame) (c : Chunk) (old mid : List ℕ) (s : Stands d fs) (chunk : chunk_in f ≡ Some c) (size : n ≡ frame_size f) (first : mid ≡ old ++ chunk_line (codes "MSG") place n c) where
   -- a chunk that delivers nothing
-  pub message_continued : refusal (octet_limit d.assembler) (chunk_limit d.assembler) (last_number d.assembler) (message_chunks fs) c ≡ None → given (message_chunks fs) c ≡ [] → JudgesKind Msg d.side fs place f (Ok tt) old mid
+  pub message_continued : refusal (octet_limit d.assembler) (chunk_limit d.assembler) (last_number d.assembler) (message_chunks fs) c ≡ None → given (message_chunks fs) c ≡ [] → JudgesKind Msg d.options fs place f (Ok tt) old mid
   message_continued none given_is = (
-    message_taken d.side (last_sequence fs) (message_chunks fs) f c chunk (sym (refusal_at d fs (message_chunks fs) c s) ∙ none),
-    message_told d.side (message_chunks fs) place n f c [] old mid mid chunk size given_is first (sym (append-nil mid)),
+    message_taken d.options.side (last_sequence fs) (message_chunks fs) f c chunk (sym (refusal_at d fs (message_chunks fs) c s) ∙ none),
+    message_told d.options (message_chunks fs) place n f c [] old mid mid chunk size given_is first (sym (append-nil mid)),
   )
 
   -- a chunk that delivers a message
-  pub message_delivered : (item : Item) (new : List ℕ) → refusal (octet_limit d.assembler) (chunk_limit d.assembler) (last_number d.assembler) (message_chunks fs) c ≡ None → given (message_chunks fs) c ≡ item ∷ [] → new ≡ mid ++ item_line d.side item → JudgesKind Msg d.side fs place f (Ok tt) old new
+  pub message_delivered : (item : Item) (new : List ℕ) → refusal (octet_limit d.assembler) (chunk_limit d.assembler) (last_number d.assembler) (message_chunks fs) c ≡ None → given (message_chunks fs) c ≡ item ∷ [] → new ≡ mid ++ item_lines d.options item → JudgesKind Msg d.options fs place f (Ok tt) old new
   message_delivered item new none given_is second = (
-    message_taken d.side (last_sequence fs) (message_chunks fs) f c chunk (sym (refusal_at d fs (message_chunks fs) c s) ∙ none),
-    message_told d.side (message_chunks fs) place n f c (item ∷ []) old mid new chunk size given_is first (second ∙ ap (λ (t : List ℕ). mid ++ t) (sym (append-nil (item_line d.side item)))),
+    message_taken d.options.side (last_sequence fs) (message_chunks fs) f c chunk (sym (refusal_at d fs (message_chunks fs) c s) ∙ none),
+    message_told d.options (message_chunks fs) place n f c (item ∷ []) old mid new chunk size given_is first (second ∙ ap (λ (t : List ℕ). mid ++ t) (sym (append-nil (item_lines d.options item)))),
   )
 
 -- a chunk that is refused
-pub message_fails : (d : Teller) (fs : List Frame) (place : ℕ) (f : Frame) (c : Chunk) (fault : AssembleFault) (e : DissectFault) (old new : List ℕ) → Stands d fs → chunk_in f ≡ Some c → IsFor (refusal (octet_limit d.assembler) (chunk_limit d.assembler) (last_number d.assembler) (message_chunks fs) c) fault → e ≡ chunk_fault d.side fault → JudgesKind Msg d.side fs place f (Err e) old new
+pub message_fails : (d : Teller) (fs : List Frame) (place : ℕ) (f : Frame) (c : Chunk) (fault : AssembleFault) (e : DissectFault) (old new : List ℕ) → Stands d fs → chunk_in f ≡ Some c → IsFor (refusal (octet_limit d.assembler) (chunk_limit d.assembler) (last_number d.assembler) (message_chunks fs) c) fault → e ≡ chunk_fault d.options.side fault → JudgesKind Msg d.options fs place f (Err e) old new
 message_fails d fs place f c fault e old new s chunk why is =
-    subst (λ (x : DissectFault). JudgesKind Msg d.side fs place f (Err x) old new) (sym is)
-    (message_refused d.side (last_sequence fs) (message_chunks fs) f c fault (line_if (chunk_lines d.side (message_chunks fs) place (frame_size f)) (chunk_in f)) old new chunk (subst (λ (o : Option AssembleFault). IsFor o fault) (refusal_at d fs (message_chunks fs) c s) why))
+    subst (λ (x : DissectFault). JudgesKind Msg d.options fs place f (Err x) old new) (sym is)
+    (message_refused d.options.side (last_sequence fs) (message_chunks fs) f c fault (line_if (chunk_lines d.options (message_chunks fs) place (frame_size f)) (chunk_in f)) old new chunk (subst (λ (o : Option AssembleFault). IsFor o fault) (refusal_at d fs (message_chunks fs) c s) why))
 
 -- ---- any frame
 
@@ -95,8 +96,8 @@ greeting_judged message line read body n m result old new e size h =
     (subst (λ (b : List ℕ). Judges (first_reason (greeting_reasons (whole_of message b))) (line_if (line n) (whole_of message b)) result old new) e h)
 
 -- a frame is judged by its kind
-pub judged_kind : (k : Kind) (side : Side) (before : List Frame) (place : ℕ) (f : Frame) (result : Result (Unit {0}) DissectFault) (old new : List ℕ) → f.kind ≡ k → place ≡ place_behind before → JudgesKind k side before place f result old new → Judges (first_reason (frame_reasons side before f)) (frame_lines side before f) result old new
+pub judged_kind : (k : Kind) (options : DissectOptions) (before : List Frame) (place : ℕ) (f : Frame) (result : Result (Unit {0}) DissectFault) (old new : List ℕ) → f.kind ≡ k → place ≡ place_behind before → JudgesKind k options before place f result old new → Judges (first_reason (frame_reasons options.side before f)) (frame_lines options before f) result old new
 unfolding frame_reasons frame_lines
-judged_kind k side before place f result old new is place_is h =
-    subst (λ (p : ℕ). JudgesKind f.kind side before p f result old new) place_is
-    (subst (λ (j : Kind). JudgesKind j side before place f result old new) (sym is) h)
+judged_kind k options before place f result old new is place_is h =
+    subst (λ (p : ℕ). JudgesKind f.kind options before p f result old new) place_is
+    (subst (λ (j : Kind). JudgesKind j options before place f result old new) (sym is) h)

@@ -8,7 +8,7 @@ use Rattle.ua_chunk.specs.Open.{open_octets}
 use Rattle.ua_pair.specs.declared.dissector.Dissector.{Dissector}
 use Rattle.ua_pair.specs.declared.dissector.State.{State}
 use Rattle.ua_pair.specs.declared.dissector.State.TheVariants as state
-use Rattle.ua_pair.specs.declared.side.Side.{Side}
+use Rattle.ua_pair.specs.declared.options.DissectOptions.{DissectOptions}
 use Rattle.ua_pair.specs.Before.{message_chunks}
 use Rattle.ua_pair.specs.Dissected.{rules, every_frame, AreTold, AreLines}
 use Rattle.ua_pair.specs.Telling.{Stands}
@@ -23,11 +23,11 @@ held_behind fs rest (Stopped code) = 0
 held_behind fs rest Over = 0
 
 -- so many octets are held of these
-pub record AreHeld (side : Side) (octets : List ℕ) (held : ℕ) : Type 0 where
+pub record AreHeld (options : DissectOptions) (octets : List ℕ) (held : ℕ) : Type 0 where
   pub frames : List Frame
   pub rest : List ℕ
   pub end : End ℕ
-  pub run : Run (rules side) octets frames rest end
+  pub run : Run (rules options) octets frames rest end
   pub held_are : held ≡ held_behind frames rest end
 
 -- the most octets that are held: of a frame that is not whole 16777216, and of 4 unfinished messages as many each
@@ -42,14 +42,15 @@ pub record Holds (d : Dissector) (fs : List Frame) (rest : List ℕ) : Type 0 wh
   pub teller : Stands d.teller fs
 
 -- it goes on behind these frames
-pub record GoesOn (d : Dissector) (side : Side) (fs : List Frame) (rest : List ℕ) : Type 0 where
+pub record GoesOn (d : Dissector) (options : DissectOptions) (fs : List Frame) (rest : List ℕ) : Type 0 where
   pub state : d.state ≡ state.Going
-  pub side_is : d.teller.side ≡ side
+  pub options_are : d.teller.options ≡ options
   pub holds : Holds d fs rest
 
 -- it met a frame that is refused with this code
-pub record HasRefused (d : Dissector) (code : ℕ) : Type 0 where
+pub record HasRefused (d : Dissector) (options : DissectOptions) (code : ℕ) : Type 0 where
   pub state : d.state ≡ state.Refused (of_code code)
+  pub options_are : d.teller.options ≡ options
   pub nothing : Holds d [] []
 
 -- memory was refused: it takes nothing more
@@ -58,30 +59,30 @@ pub record IsClosed (d : Dissector) : Type 0 where
   pub nothing : Holds d [] []
 
 -- it stands behind these frames of octets that end so
-abbrev pub StandsAt : Dissector → Side → List Frame → List ℕ → End ℕ → Type 0
-StandsAt d side fs rest Going = GoesOn d side fs rest
-StandsAt d side fs rest (Stopped code) = HasRefused d code
-StandsAt d side fs rest Over = ⊥
+abbrev pub StandsAt : Dissector → DissectOptions → List Frame → List ℕ → End ℕ → Type 0
+StandsAt d options fs rest Going = GoesOn d options fs rest
+StandsAt d options fs rest (Stopped code) = HasRefused d options code
+StandsAt d options fs rest Over = ⊥
 
 -- it is where these octets of this side leave it, which in all were told by these lines
-pub record StandsBehind (d : Dissector) (side : Side) (octets told : List ℕ) : Type 0 where
-  pub are : AreTold side octets told
-  pub at : StandsAt d side are.frames are.rest are.end
+pub record StandsBehind (d : Dissector) (options : DissectOptions) (octets told : List ℕ) : Type 0 where
+  pub are : AreTold options octets told
+  pub at : StandsAt d options are.frames are.rest are.end
   pub place : d.place ≡ place_behind are.frames
 
 -- ---- what is added to a text
 
 -- these lines more are told of octets of this side with a piece more
-pub record TellsMore (d : Dissector) (side : Side) (octets told old new : List ℕ) : Type 0 where
+pub record TellsMore (d : Dissector) (options : DissectOptions) (octets told old new : List ℕ) : Type 0 where
   pub lines : List ℕ
   pub added : new ≡ old ++ lines
-  pub stands : StandsBehind d side octets (told ++ lines)
+  pub stands : StandsBehind d options octets (told ++ lines)
 
 -- the last line was added: with what was told, these are the lines of the octets
-pub record EndsLines (side : Side) (octets told old new : List ℕ) : Type 0 where
+pub record EndsLines (options : DissectOptions) (octets told old new : List ℕ) : Type 0 where
   pub line : List ℕ
   pub added : new ≡ old ++ line
-  pub are : AreLines side octets (told ++ line)
+  pub are : AreLines options octets (told ++ line)
 
 -- ---- a piece, as it is taken
 
@@ -93,7 +94,7 @@ is_going state.Closed = false
 
 -- wherever the old one stood, with this piece the new one stands, and these lines more are told
 abbrev pub MovesOn : Dissector → Dissector → List ℕ → List ℕ → Type 0
-MovesOn old new piece lines = (side : Side) (octets told : List ℕ) → StandsBehind old side octets told → StandsBehind new side (octets ++ piece) (told ++ lines)
+MovesOn old new piece lines = (options : DissectOptions) (octets told : List ℕ) → StandsBehind old options octets told → StandsBehind new options (octets ++ piece) (told ++ lines)
 
 -- a piece was taken, and lines were added to a text
 pub record Takes (old new : Dissector) (piece before after : List ℕ) : Type 0 where
@@ -102,23 +103,23 @@ pub record Takes (old new : Dissector) (piece before after : List ℕ) : Type 0 
   pub moves : MovesOn old new piece lines
 
 -- a frame behind these has these lines
-pub record Accepts (new : Dissector) (side : Side) (before : List Frame) (f : Frame) (lines : List ℕ) : Type 0 where
-  pub accepted : refusal (rules side) before f ≡ None
-  pub lines_are : lines ≡ frame_lines side before f
-  pub goes_on : GoesOn new side (before ++ f ∷ []) []
+pub record Accepts (new : Dissector) (options : DissectOptions) (before : List Frame) (f : Frame) (lines : List ℕ) : Type 0 where
+  pub accepted : refusal (rules options) before f ≡ None
+  pub lines_are : lines ≡ frame_lines options before f
+  pub goes_on : GoesOn new options (before ++ f ∷ []) []
   pub place : new.place ≡ place_behind (before ++ f ∷ [])
 
 -- a frame behind these is refused
-pub record Refuses (new : Dissector) (side : Side) (before : List Frame) (f : Frame) (lines : List ℕ) : Type 0 where
+pub record Refuses (new : Dissector) (options : DissectOptions) (before : List Frame) (f : Frame) (lines : List ℕ) : Type 0 where
   pub code : ℕ
-  pub refused : refusal (rules side) before f ≡ Some code
+  pub refused : refusal (rules options) before f ≡ Some code
   pub lines_are : lines ≡ []
-  pub stopped : HasRefused new code
+  pub stopped : HasRefused new options code
   pub place : new.place ≡ place_behind before
 
 -- what became of a frame behind these
-abbrev pub FrameTold : Dissector → Side → List Frame → Frame → List ℕ → Type 0
-FrameTold new side before f lines = Accepts new side before f lines ⊎ Refuses new side before f lines
+abbrev pub FrameTold : Dissector → DissectOptions → List Frame → Frame → List ℕ → Type 0
+FrameTold new options before f lines = Accepts new options before f lines ⊎ Refuses new options before f lines
 
 -- nothing is left to be taken
 pub record TakesNone (old : Dissector) (octets : List ℕ) (new : Dissector) (lines : List ℕ) : Type 0 where

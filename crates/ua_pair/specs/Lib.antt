@@ -1,6 +1,5 @@
--- The definitions, in the order in which they are best read: texts and codes, the lines of frames, the names of messages, what of
+-- The definitions, in the order in which they are best read: the lines of frames, the names of messages, what of
 -- the frames before counts, what one frame says, the reasons against it, and last the lines of a whole list of octets.
-pub mod Shown
 pub mod Lines
 pub mod Names
 pub mod Before

@@ -1,5 +1,5 @@
--- The lines that the dissector prints of frames and messages. P is the place where a frame begins in the octets, S its size.
-use Rattle.std.specs.Prelude.{ℕ, ◌==◌, if◌then◌else◌, List, ◌++◌, codes}
+-- The lines that the dissector prints of frames and messages. P is the place where a frame begins in the octets, S its size, CODE a status code, with its standard name behind it where names are wanted.
+use Rattle.std.specs.Prelude.{ℕ, Bool, ◌==◌, if◌then◌else◌, List, ◌++◌, codes}
 use Rattle.std.specs.Fmt.{decimal}
 use Rattle.ua_builtin.specs.declared.status_code.StatusCode.{StatusCode}
 use Rattle.ua_frame.specs.declared.ack.Ack.{Ack}
@@ -9,7 +9,8 @@ use Rattle.ua_chunk.specs.declared.chunk.Chunk.{Chunk}
 use Rattle.ua_chunk.specs.declared.flag.Flag.{Flag}
 use Rattle.ua_chunk.specs.declared.flag.Flag.TheVariants.{F, C, A}
 use Rattle.ua_chunk.specs.declared.open_chunk.OpenChunk.{OpenChunk}
-use Rattle.ua_pair.specs.Shown.{shown_string, code_text}
+use Rattle.ua_texts.specs.Names.{named_code}
+use Rattle.ua_texts.specs.Shown.{shown_string}
 
 -- ---- HEL, ACK and ERR
 
@@ -37,10 +38,10 @@ ack_line place size a =
     ++ codes "\n"
 
 -- an Error: P ERR S code CODE reason U
-unfoldable pub error_line : ℕ → ℕ → ErrorFrame → List ℕ
-error_line place size e =
+unfoldable pub error_line : Bool → ℕ → ℕ → ErrorFrame → List ℕ
+error_line names place size e =
     decimal place ++ codes " ERR " ++ decimal size
-    ++ codes " code " ++ code_text e.error.code
+    ++ codes " code " ++ named_code names e.error.code
     ++ codes " reason " ++ shown_string e.reason ++ codes "\n"
 
 -- ---- OPN, MSG and CLO
@@ -80,8 +81,8 @@ message_line request size name =
     codes "message " ++ decimal request ++ codes " octets " ++ decimal size ++ codes " " ++ name ++ codes "\n"
 
 -- a message that its sender gave up: message I aborted CODE
-unfoldable pub aborted_line : ℕ → StatusCode → List ℕ
-aborted_line request code = codes "message " ++ decimal request ++ codes " aborted " ++ code_text code.code ++ codes "\n"
+unfoldable pub aborted_line : Bool → ℕ → StatusCode → List ℕ
+aborted_line names request code = codes "message " ++ decimal request ++ codes " aborted " ++ named_code names code.code ++ codes "\n"
 
 -- ---- the end
 
@@ -90,5 +91,5 @@ unfoldable pub rest_line : ℕ → ℕ → List ℕ
 rest_line place left = if left == 0 then codes "end " ++ decimal place ++ codes "\n" else codes "rest " ++ decimal left ++ codes "\n"
 
 -- the frame at this place is refused: refused CODE at P
-unfoldable pub refused_line : ℕ → ℕ → List ℕ
-refused_line place code = codes "refused " ++ code_text code ++ codes " at " ++ decimal place ++ codes "\n"
+unfoldable pub refused_line : Bool → ℕ → ℕ → List ℕ
+refused_line names place code = codes "refused " ++ named_code names code ++ codes " at " ++ decimal place ++ codes "\n"

@@ -18,8 +18,20 @@ use Rattle.ua_services.specs.declared.fault.RequestFault.{RequestFault}
 use Rattle.ua_services.specs.declared.fault.RequestFault.TheVariants as request_fault
 use Rattle.ua_services.specs.declared.fault.ResponseFault.{ResponseFault}
 use Rattle.ua_services.specs.declared.fault.ResponseFault.TheVariants as response_fault
+use Rattle.ua_fields.specs.declared.body.BodyKind.{BodyKind}
+use Rattle.ua_fields.specs.declared.body.BodyKind.TheVariants as kind
 use Rattle.ua_pair.specs.declared.side.Side.{Side}
 use Rattle.ua_pair.specs.declared.side.Side.TheVariants.{Client, Server}
+
+-- what the body of a MSG is read as
+abbrev pub message_kind : Side → BodyKind
+message_kind Client = kind.Request
+message_kind Server = kind.Response
+
+-- what the body of an OPN is read as
+abbrev pub opening_kind : Side → BodyKind
+opening_kind Client = kind.OpenRequest
+opening_kind Server = kind.OpenResponse
 
 -- ---- requests
 

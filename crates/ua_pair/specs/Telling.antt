@@ -14,6 +14,7 @@ use Rattle.ua_pair.specs.declared.teller.Teller.{Teller}
 use Rattle.ua_pair.specs.declared.fault.DissectFault.{DissectFault}
 use Rattle.ua_pair.specs.declared.fault.DissectFault.TheVariants.{Refused, OutOfMemory}
 use Rattle.ua_pair.specs.declared.side.Side.{Side}
+use Rattle.ua_pair.specs.declared.options.DissectOptions.{DissectOptions}
 use Rattle.ua_pair.specs.Before.{message_chunks, last_sequence}
 use Rattle.ua_pair.specs.Refused.{most_octets, most_chunks, chunk_code, reasons_by}
 use Rattle.ua_pair.specs.Told.{lines_by}
@@ -48,6 +49,6 @@ Judges why lines (Err (Refused code)) old new = why ≡ Some code.code
 Judges why lines (Err OutOfMemory) old new = Unit {0}
 
 -- what becomes of a frame of this kind at this place, behind these frames
-abbrev pub JudgesKind : Kind → Side → List Frame → ℕ → Frame → Result (Unit {0}) DissectFault → List ℕ → List ℕ → Type 0
-JudgesKind k side before place f result old new =
-    Judges (first_reason (reasons_by k side (last_sequence before) (message_chunks before) f)) (lines_by k side (message_chunks before) place f) result old new
+abbrev pub JudgesKind : Kind → DissectOptions → List Frame → ℕ → Frame → Result (Unit {0}) DissectFault → List ℕ → List ℕ → Type 0
+JudgesKind k options before place f result old new =
+    Judges (first_reason (reasons_by k options.side (last_sequence before) (message_chunks before) f)) (lines_by k options (message_chunks before) place f) result old new

@@ -1,5 +1,5 @@
--- The lines of one frame behind others: its own, and that of the message which it delivers.
-use Rattle.std.specs.Prelude.{ℕ, List, [], ◌++◌, length, Option, Some, None, codes}
+-- The lines of one frame behind others: its own, and those of the message which it delivers.
+use Rattle.std.specs.Prelude.{ℕ, List, [], ◌++◌, cond, length, Option, Some, None, codes}
 use Rattle.std.specs.List.{flat_map}
 use Rattle.ua_frame.specs.declared.frame.Frame.{Frame}
 use Rattle.ua_frame.specs.declared.kind.Kind.{Kind}
@@ -15,42 +15,49 @@ use Rattle.ua_chunk.specs.Item.{Item}
 use Rattle.ua_chunk.specs.Item.Item.{Whole, Aborted}
 use Rattle.ua_chunk.specs.Layout.{chunk_in}
 use Rattle.ua_chunk.specs.Opening.{opening_in}
-use Rattle.ua_pair.specs.declared.side.Side.{Side}
+use Rattle.ua_fields.specs.Bodies.{body_fields}
+use Rattle.ua_fields.specs.declared.body.BodyKind.{BodyKind}
+use Rattle.ua_pair.specs.declared.options.DissectOptions.{DissectOptions}
 use Rattle.ua_pair.specs.Before.{message_chunks}
 use Rattle.ua_pair.specs.Lines.{hello_line, ack_line, error_line, opening_line, chunk_line, message_line, aborted_line}
-use Rattle.ua_pair.specs.Names.{message_name, opening_name}
+use Rattle.ua_pair.specs.Names.{message_kind, message_name, opening_kind, opening_name}
 
 -- the line of what was read, or nothing where nothing was
 abbrev pub line_if : {A : Type 0} → (A → List ℕ) → Option A → List ℕ
 line_if line None = []
 line_if line (Some m) = line m
 
--- the line of what a chunk delivers
-abbrev pub item_line : Side → Item → List ℕ
-item_line side (Whole id octets) = message_line id (length octets) (message_name side octets)
-item_line side (Aborted id code reason) = aborted_line id code
+-- the lines of the fields of a body of this kind, where they are wanted
+abbrev pub fields_of : DissectOptions → BodyKind → List ℕ → List ℕ
+fields_of options kind octets = cond options.fields (body_fields options.names kind octets) []
 
--- an OPN of this place and size: its line, and that of its body
-abbrev pub opening_lines : Side → ℕ → ℕ → OpenChunk → List ℕ
-opening_lines side place size c = opening_line place size c ++ message_line c.request (length c.body) (opening_name side c.body)
+-- the lines of what a chunk delivers: that of the message, and those of its fields
+abbrev pub item_lines : DissectOptions → Item → List ℕ
+item_lines options (Whole id octets) = message_line id (length octets) (message_name options.side octets) ++ fields_of options (message_kind options.side) octets
+item_lines options (Aborted id code reason) = aborted_line options.names id code
 
--- a MSG of this place and size behind these chunks: its line, and that of what it delivers
-abbrev pub chunk_lines : Side → List Chunk → ℕ → ℕ → Chunk → List ℕ
-chunk_lines side cs place size c = chunk_line (codes "MSG") place size c ++ flat_map (item_line side) (given cs c)
+-- an OPN of this place and size: its line, that of its body, and those of its fields
+abbrev pub opening_lines : DissectOptions → ℕ → ℕ → OpenChunk → List ℕ
+opening_lines options place size c =
+    opening_line place size c ++ (message_line c.request (length c.body) (opening_name options.side c.body) ++ fields_of options (opening_kind options.side) c.body)
+
+-- a MSG of this place and size behind these chunks: its line, and those of what it delivers
+abbrev pub chunk_lines : DissectOptions → List Chunk → ℕ → ℕ → Chunk → List ℕ
+chunk_lines options cs place size c = chunk_line (codes "MSG") place size c ++ flat_map (item_lines options) (given cs c)
 
 -- the lines of a frame of this kind at this place, behind these chunks
-abbrev pub lines_by : Kind → Side → List Chunk → ℕ → Frame → List ℕ
-lines_by Hel side cs place f = line_if (hello_line place (frame_size f)) (whole_of hello f.body)
-lines_by Acknowledge side cs place f = line_if (ack_line place (frame_size f)) (whole_of ack f.body)
-lines_by kind.Err side cs place f = line_if (error_line place (frame_size f)) (whole_of error f.body)
-lines_by Msg side cs place f = line_if (chunk_lines side cs place (frame_size f)) (chunk_in f)
-lines_by Opn side cs place f = line_if (opening_lines side place (frame_size f)) (opening_in f)
-lines_by Clo side cs place f = line_if (chunk_line (codes "CLO") place (frame_size f)) (chunk_in f)
+abbrev pub lines_by : Kind → DissectOptions → List Chunk → ℕ → Frame → List ℕ
+lines_by Hel options cs place f = line_if (hello_line place (frame_size f)) (whole_of hello f.body)
+lines_by Acknowledge options cs place f = line_if (ack_line place (frame_size f)) (whole_of ack f.body)
+lines_by kind.Err options cs place f = line_if (error_line options.names place (frame_size f)) (whole_of error f.body)
+lines_by Msg options cs place f = line_if (chunk_lines options cs place (frame_size f)) (chunk_in f)
+lines_by Opn options cs place f = line_if (opening_lines options place (frame_size f)) (opening_in f)
+lines_by Clo options cs place f = line_if (chunk_line (codes "CLO") place (frame_size f)) (chunk_in f)
 
 -- the place of the frame behind these: how many octets they have
 abbrev pub place_behind : List Frame → ℕ
 place_behind fs = length (frames_octets fs)
 
 -- the lines of a frame behind these frames
-unfoldable pub frame_lines : Side → List Frame → Frame → List ℕ
-frame_lines side before f = lines_by f.kind side (message_chunks before) (place_behind before) f
+unfoldable pub frame_lines : DissectOptions → List Frame → Frame → List ℕ
+frame_lines options before f = lines_by f.kind options (message_chunks before) (place_behind before) f

@@ -10,8 +10,8 @@ ghost use Rattle.ua_pair.specs.Told.{place_behind};
 
 use crate::fault::DissectFault;
 use crate::line::{push_refused_line, push_rest_line};
+use crate::options::DissectOptions;
 use crate::reader::EveryReader;
-use crate::side::Side;
 use crate::teller::{Teller, frame_size};
 use std::alloc::{AllocError, Global};
 use ua_builtin::StatusCode;
@@ -44,15 +44,15 @@ pub struct Dissector {
 }
 
 impl Dissector {
-    /// A dissector of what this side sends, from its first octet on.
-    pub fn new(alloc: Global, side: Side) -> Dissector
-        ensures { StandsBehind result side [] [] }
+    /// A dissector of what one side sends, from its first octet on.
+    pub fn new(alloc: Global, options: DissectOptions) -> Dissector
+        ensures { StandsBehind result options [] [] }
     {
         Dissector {
             alloc,
             state: State::Going,
             reader: EveryReader::new(alloc),
-            teller: Teller::new(alloc, side),
+            teller: Teller::new(alloc, options),
             place: 0,
         }
     }
@@ -70,12 +70,13 @@ impl Dissector {
     /// Goes no further, and lets go of what is held.
     fn stop(&mut self, state: State)
         ensures state { self.new.state ≡ state }
+        ensures options { self.new.teller.options ≡ self.old.teller.options }
         ensures nothing { Holds self.new [] [] }
         ensures place { self.new.place ≡ self.old.place }
     {
         self.state = state;
         self.reader = EveryReader::new(self.alloc);
-        self.teller = Teller::new(self.alloc, self.teller.side);
+        self.teller = Teller::new(self.alloc, self.teller.options);
     }
 
     /// Makes the lines of a frame that is whole, in the place of what stood in `lines`; where it is
@@ -83,8 +84,8 @@ impl Dissector {
     fn tell(&mut self, frame: Frame, lines: &mut String) -> Result<(), AllocError>
         requires sized { IsSized frame }
         requires let_in { LetsIn open_gate frame }
-        ensures { (side : Side) (before : List Frame) → GoesOn self.old side before [] → self.old.place ≡ place_behind before
-            → OnOk result (FrameTold self.new side before frame (string_bytes lines.new)) }
+        ensures { (options : DissectOptions) (before : List Frame) → GoesOn self.old options before [] → self.old.place ≡ place_behind before
+            → OnOk result (FrameTold self.new options before frame (string_bytes lines.new)) }
     {
         let size = frame_size(&frame);
         lines.clear();
@@ -155,8 +156,8 @@ impl Dissector {
     /// more. Places go up to 18446744073709551615; beyond, there is an error, too.
     pub fn take(&mut self, piece: &[u8], out: &mut String) -> Result<(), AllocError>
         // What is told by then is told by the octets alone, however they were cut.
-        ensures told { (side : Side) (octets told : List ℕ) → StandsBehind self.old side octets told
-            → OnOk result (TellsMore self.new side (octets ++ piece.now) told (string_bytes out.old) (string_bytes out.new)) }
+        ensures told { (options : DissectOptions) (octets told : List ℕ) → StandsBehind self.old options octets told
+            → OnOk result (TellsMore self.new options (octets ++ piece.now) told (string_bytes out.old) (string_bytes out.new)) }
         ensures err { OnErr result (string_bytes out.new ≡ string_bytes out.old) }
         ensures failed { OnErr result (IsClosed self.new) }
         ensures closed { IsClosed self.old → IsErr result }
@@ -172,13 +173,18 @@ impl Dissector {
 
     /// Makes the last line, where no octets are to come.
     fn push_last(&self, line: &mut String) -> Result<(), AllocError>
-        ensures last { (side : Side) (octets told : List ℕ) → StandsBehind self.now side octets told
-            → OnOk result (EndsLines side octets told (string_bytes line.old) (string_bytes line.new)) }
+        ensures last { (options : DissectOptions) (octets told : List ℕ) → StandsBehind self.now options octets told
+            → OnOk result (EndsLines options octets told (string_bytes line.old) (string_bytes line.new)) }
         ensures closed { IsClosed self.now → IsErr result }
     {
         match self.state {
             State::Going => push_rest_line(line, self.place, self.reader.held()),
-            State::Refused(code) => push_refused_line(line, self.place, code),
+            State::Refused(code) => push_refused_line(
+                line,
+                self.teller.options.names,
+                self.place,
+                code,
+            ),
             State::Closed => Err(AllocError),
         }
     }
@@ -187,8 +193,8 @@ impl Dissector {
     /// lines of all that were taken. After an error, which is want of memory, now or before, the text
     /// is as it was.
     pub fn finish(&self, out: &mut String) -> Result<(), AllocError>
-        ensures last { (side : Side) (octets told : List ℕ) → StandsBehind self.now side octets told
-            → OnOk result (EndsLines side octets told (string_bytes out.old) (string_bytes out.new)) }
+        ensures last { (options : DissectOptions) (octets told : List ℕ) → StandsBehind self.now options octets told
+            → OnOk result (EndsLines options octets told (string_bytes out.old) (string_bytes out.new)) }
         ensures err { OnErr result (string_bytes out.new ≡ string_bytes out.old) }
         ensures closed { IsClosed self.now → IsErr result }
     {
@@ -200,8 +206,8 @@ impl Dissector {
     /// How many octets are held: those of a frame that is not whole, and those of unfinished
     /// messages. They are never more than [`bound`](Dissector::bound) says.
     pub fn held(&self) -> usize
-        ensures held { (side : Side) (octets told : List ℕ) → StandsBehind self.now side octets told → AreHeld side octets result }
-        ensures bound { (side : Side) (octets told : List ℕ) → StandsBehind self.now side octets told → result ≤ most_held }
+        ensures held { (options : DissectOptions) (octets told : List ℕ) → StandsBehind self.now options octets told → AreHeld options octets result }
+        ensures bound { (options : DissectOptions) (octets told : List ℕ) → StandsBehind self.now options octets told → result ≤ most_held }
         ensures closed { IsClosed self.now → result ≡ 0 }
     {
         self.reader.held().saturating_add(self.teller.held())

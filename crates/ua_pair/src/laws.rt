@@ -1,15 +1,15 @@
 //! Laws of the dissector's lines. Each is the contract of a function that does nothing.
 
 ghost use Rattle.std.specs.Prelude.{◌≡◌, ℕ, List};
-ghost use Rattle.ua_pair.specs.declared.side.Side.{Side};
+ghost use Rattle.ua_pair.specs.declared.options.DissectOptions.{DissectOptions};
 ghost use Rattle.ua_pair.specs.Dissected.{AreLines, HasLines};
 
-/// Any octets have lines, on either side.
+/// Any octets have lines, on either side, with fields or without.
 pub fn has_lines()
-    ensures { (side : Side) (octets : List ℕ) → HasLines side octets }
+    ensures { (options : DissectOptions) (octets : List ℕ) → HasLines options octets }
 {}
 
-/// The lines of octets are determined by them and by the side that sent them.
+/// The lines of octets are determined by them, by the side that sent them and by what is wanted of them.
 pub fn one_reading()
-    ensures { (side : Side) (octets lines others : List ℕ) → AreLines side octets lines → AreLines side octets others → lines ≡ others }
+    ensures { (options : DissectOptions) (octets lines others : List ℕ) → AreLines options octets lines → AreLines options octets others → lines ≡ others }
 {}

@@ -21,12 +21,13 @@ mod fault;
 pub mod laws;
 mod line;
 mod name;
+mod options;
 mod reader;
 mod side;
 mod stream;
 mod teller;
-mod text;
 
 pub use dissector::Dissector;
+pub use options::DissectOptions;
 pub use side::Side;
 pub use stream::dissect;

@@ -4,29 +4,35 @@ ghost use Rattle.std.specs.Fmt.{decimal};
 ghost use Rattle.std.specs.Prelude.{◌≡◌, ◌++◌, codes, string_bytes, OnOk};
 ghost use Rattle.ua_pair.specs.Lines.{numbers_text, flag_text, opening_line, chunk_line, message_line, aborted_line, rest_line, refused_line, chunk_head};
 
-use crate::text::push_string;
 use itoa::Buffer;
 use std::alloc::AllocError;
-use std::fmt::Write;
 use ua_builtin::{StatusCode, Wire};
 use ua_chunk::{Chunk, Flag, OpenChunk};
 use ua_frame::{Ack, ErrorFrame, Hello};
+use ua_texts::{push_code_as, push_string};
 
 /// A message that is printed as a line, where it is the body of a HEL, an ACK or an ERR frame.
 pub trait GreetingLine: Wire + Drop {
-    ghost use Rattle.std.specs.Prelude.{◌≡◌, ◌++◌, ℕ, List, Option, string_bytes, OnOk};
+    ghost use Rattle.std.specs.Prelude.{◌≡◌, ◌++◌, ℕ, Bool, List, Option, string_bytes, OnOk};
     ghost use Rattle.ua_builtin.specs.Format.{Flat, IsWhole};
     ghost use Rattle.ua_frame.specs.Whole.{whole_of};
 
     /// How octets encode the message.
     ghost message: { Flat Self };
 
-    /// The line of the message in a frame at this place, of this size.
-    ghost line: { ℕ → ℕ → Self → List ℕ };
+    /// The line of the message in a frame at this place, of this size, with the names of codes or
+    /// without.
+    ghost line: { Bool → ℕ → ℕ → Self → List ℕ };
 
     /// Adds the line of the message in a frame at this place, of this size.
-    fn push_line(&self, lines: &mut String, place: usize, size: usize) -> Result<(), AllocError>
-        ensures { OnOk result (string_bytes lines.new ≡ string_bytes lines.old ++ line place size self.now) };
+    fn push_line(
+        &self,
+        lines: &mut String,
+        names: bool,
+        place: usize,
+        size: usize,
+    ) -> Result<(), AllocError>
+        ensures { OnOk result (string_bytes lines.new ≡ string_bytes lines.old ++ line names place size self.now) };
 
     /// What is read of the whole of some octets is what they encode.
     ghost reads: { (octets : List ℕ) (read : Option Self) → IsWhole Self.format octets read → whole_of message octets ≡ read };
@@ -40,11 +46,17 @@ impl GreetingLine for Hello {
 
     ghost message = { hello };
 
-    ghost line = { hello_line };
+    ghost line = { λ names. hello_line };
 
     ghost reads = { whole_read hello sound_hello };
 
-    fn push_line(&self, lines: &mut String, place: usize, size: usize) -> Result<(), AllocError> {
+    fn push_line(
+        &self,
+        lines: &mut String,
+        _names: bool,
+        place: usize,
+        size: usize,
+    ) -> Result<(), AllocError> {
         push_number(lines, "", place as u64)?;
         push_number(lines, " HEL ", size as u64)?;
         push_numbers(
@@ -69,11 +81,17 @@ impl GreetingLine for Ack {
 
     ghost message = { ack };
 
-    ghost line = { ack_line };
+    ghost line = { λ names. ack_line };
 
     ghost reads = { whole_read ack sound_ack };
 
-    fn push_line(&self, lines: &mut String, place: usize, size: usize) -> Result<(), AllocError> {
+    fn push_line(
+        &self,
+        lines: &mut String,
+        _names: bool,
+        place: usize,
+        size: usize,
+    ) -> Result<(), AllocError> {
         push_number(lines, "", place as u64)?;
         push_number(lines, " ACK ", size as u64)?;
         push_numbers(
@@ -100,12 +118,18 @@ impl GreetingLine for ErrorFrame {
 
     ghost reads = { whole_read error sound_error };
 
-    fn push_line(&self, lines: &mut String, place: usize, size: usize) -> Result<(), AllocError> {
-        write!(
-            lines,
-            "{place} ERR {size} code {:08X} reason ",
-            self.error.code
-        )?;
+    fn push_line(
+        &self,
+        lines: &mut String,
+        names: bool,
+        place: usize,
+        size: usize,
+    ) -> Result<(), AllocError> {
+        push_number(lines, "", place as u64)?;
+        push_number(lines, " ERR ", size as u64)?;
+        lines.push_str(" code ")?;
+        push_code_as(lines, self.error, names)?;
+        lines.push_str(" reason ")?;
         push_string(lines, &self.reason)?;
         push_newline(lines)
     }
@@ -234,12 +258,16 @@ pub fn push_message_line(
 /// Adds the line of a message that its sender gave up.
 pub fn push_aborted_line(
     lines: &mut String,
+    names: bool,
     request: u32,
     code: StatusCode,
 ) -> Result<(), AllocError>
-    ensures { OnOk result (string_bytes lines.new ≡ string_bytes lines.old ++ aborted_line request code) }
+    ensures { OnOk result (string_bytes lines.new ≡ string_bytes lines.old ++ aborted_line names request code) }
 {
-    writeln!(lines, "message {request} aborted {:08X}", code.code)
+    push_number(lines, "message ", request as u64)?;
+    lines.push_str(" aborted ")?;
+    push_code_as(lines, code, names)?;
+    push_newline(lines)
 }
 
 /// Adds the last line, where frames end at this place and so many octets are left.
@@ -256,10 +284,13 @@ pub fn push_rest_line(lines: &mut String, place: usize, left: usize) -> Result<(
 /// Adds the last line, where the frame at this place is refused.
 pub fn push_refused_line(
     lines: &mut String,
+    names: bool,
     place: usize,
     code: StatusCode,
 ) -> Result<(), AllocError>
-    ensures { OnOk result (string_bytes lines.new ≡ string_bytes lines.old ++ refused_line place code.code) }
+    ensures { OnOk result (string_bytes lines.new ≡ string_bytes lines.old ++ refused_line names place code.code) }
 {
-    writeln!(lines, "refused {:08X} at {place}", code.code)
+    lines.push_str("refused ")?;
+    push_code_as(lines, code, names)?;
+    push_ended(lines, " at ", place as u64)
 }

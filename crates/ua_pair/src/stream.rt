@@ -2,29 +2,35 @@
 
 ghost use Rattle.std.specs.Prelude.{◌≡◌, OnOk, OnErr, string_bytes};
 ghost use Rattle.ua_octets.specs.Format.{Extends};
-ghost use Rattle.ua_pair.specs.Dissected.{AddsLines};
+ghost use Rattle.ua_pair.specs.Dissected.{AddsLines, plain};
 
 use crate::dissector::Dissector;
+use crate::options::DissectOptions;
 use crate::side::Side;
 use std::alloc::{AllocError, Global};
 
 /// Adds the lines of octets, which are taken in one piece. After an error some of them may stand there.
-fn push_lines(alloc: Global, octets: &[u8], side: Side, out: &mut String) -> Result<(), AllocError>
-    ensures lines { OnOk result (AddsLines side octets.now (string_bytes out.old) (string_bytes out.new)) }
+fn push_lines(
+    alloc: Global,
+    octets: &[u8],
+    options: DissectOptions,
+    out: &mut String,
+) -> Result<(), AllocError>
+    ensures lines { OnOk result (AddsLines options octets.now (string_bytes out.old) (string_bytes out.new)) }
     ensures err { OnErr result (Extends (string_bytes out.old) (string_bytes out.new)) }
 {
-    let mut dissector = Dissector::new(alloc, side);
+    let mut dissector = Dissector::new(alloc, options);
     dissector.take(octets, out)?;
     dissector.finish(out)
 }
 
 /// Adds the lines of the octets that one side of a connection sent. An error leaves what was there.
 pub fn dissect(alloc: Global, octets: &[u8], side: Side, out: &mut String) -> Result<(), AllocError>
-    ensures lines { OnOk result (AddsLines side octets.now (string_bytes out.old) (string_bytes out.new)) }
+    ensures lines { OnOk result (AddsLines (plain side) octets.now (string_bytes out.old) (string_bytes out.new)) }
     ensures err { OnErr result (string_bytes out.new ≡ string_bytes out.old) }
 {
     let len = out.len();
-    let added = push_lines(alloc, octets, side, out);
+    let added = push_lines(alloc, octets, DissectOptions::plain(side), out);
     if added.is_err() {
         out.truncate(len);
     }

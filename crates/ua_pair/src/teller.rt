@@ -1,6 +1,8 @@
 //! The lines of one side's frames.
 
-ghost use Rattle.std.specs.Prelude.{◌≡◌, ◌≤◌, ◌∷◌, ◌++◌, [], List, OnOk, string_bytes};
+ghost use Rattle.std.specs.Prelude.{◌≡◌, ◌≤◌, ◌∷◌, ◌++◌, [], List, length, OnOk, string_bytes};
+ghost use Rattle.std.specs.List.{concat};
+ghost use Rattle.ua_chunk.specs.Item.Item.{Whole};
 ghost use Rattle.ua_builtin.specs.Reasons.{first_reason};
 ghost use Rattle.ua_frame.specs.declared.frame.Frame.{Frame};
 ghost use Rattle.ua_frame.specs.declared.kind.Kind.TheVariants.{Msg, Opn, Clo};
@@ -12,17 +14,21 @@ ghost use Rattle.ua_pair.specs.Before.{message_chunks};
 ghost use Rattle.ua_pair.specs.Dissected.{every_frame};
 ghost use Rattle.ua_pair.specs.Telling.{Stands, Judges, JudgesKind};
 ghost use Rattle.ua_pair.specs.Refused.{greeting_reasons, frame_reasons};
-ghost use Rattle.ua_pair.specs.Told.{line_if, item_line, frame_lines, place_behind};
+ghost use Rattle.ua_pair.specs.Lines.{message_line};
+ghost use Rattle.ua_pair.specs.Names.{message_kind as kind_of_message, opening_kind as kind_of_opening, opening_name as name_of_opening};
+ghost use Rattle.ua_pair.specs.Told.{fields_of, frame_lines, item_lines, line_if, place_behind};
 
 use crate::fault::DissectFault;
 use crate::line::{
     GreetingLine, push_aborted_line, push_chunk_line, push_message_line, push_opening_line,
 };
 use crate::name::{message_name, opening_name};
+use crate::options::DissectOptions;
 use crate::side::Side;
 use std::alloc::{AllocError, Global};
-use ua_builtin::StatusCode;
-use ua_chunk::{Assembler, Delivered, read_chunk, read_open};
+use ua_builtin::{Octets, Source, StatusCode};
+use ua_chunk::{Assembler, Delivered, Message, OpenChunk, read_chunk, read_open};
+use ua_fields::{BodyKind, push_body_fields};
 use ua_frame::{Ack, ErrorFrame, Frame, HEADER_LEN, Hello, Kind};
 
 /// The most octets of a message.
@@ -36,7 +42,7 @@ const MOST_CHUNKS: u32 = 4096;
 #[derive(Drop)]
 pub struct Teller {
     alloc: Global,
-    pub side: Side,
+    pub options: DissectOptions,
     assembler: Assembler,
 }
 
@@ -53,46 +59,117 @@ pub fn frame_size(frame: &Frame) -> usize
 fn push_greeting<T: GreetingLine>(
     alloc: Global,
     body: &[u8],
+    names: bool,
     place: usize,
     size: usize,
     lines: &mut String,
 ) -> Result<(), DissectFault>
-    ensures { Judges (first_reason (greeting_reasons (whole_of T.message body.now))) (line_if (T.line place size) (whole_of T.message body.now)) result (string_bytes lines.old) (string_bytes lines.new) }
+    ensures { Judges (first_reason (greeting_reasons (whole_of T.message body.now))) (line_if (T.line names place size) (whole_of T.message body.now)) result (string_bytes lines.old) (string_bytes lines.new) }
 {
     let Some(message) = T::read_whole(alloc, body)? else {
         return Err(DissectFault::Refused(StatusCode::BAD_DECODING_ERROR));
     };
-    message.push_line(lines, place, size)?;
+    message.push_line(lines, names, place, size)?;
     Ok(())
 }
 
-/// Adds the line of what a chunk delivers.
-fn push_delivered(
-    alloc: Global,
-    side: Side,
-    delivered: Delivered,
-    lines: &mut String,
-) -> Result<(), AllocError>
-    ensures { OnOk result (string_bytes lines.new ≡ string_bytes lines.old ++ item_line side (item_of delivered)) }
+/// What the body of a MSG of this side is read as.
+fn message_kind(side: Side) -> BodyKind
+    ensures { result ≡ kind_of_message side }
 {
-    match delivered {
-        Delivered::Whole(request, message) => {
-            let name = message_name(alloc, side, &message)?;
-            push_message_line(lines, request, message.len(), name)
-        }
-        Delivered::Aborted(request, code, _) => push_aborted_line(lines, request, code),
+    match side {
+        Side::Client => BodyKind::Request,
+        Side::Server => BodyKind::Response,
     }
 }
 
+/// What the body of an OPN of this side is read as.
+fn opening_kind(side: Side) -> BodyKind
+    ensures { result ≡ kind_of_opening side }
+{
+    match side {
+        Side::Client => BodyKind::OpenRequest,
+        Side::Server => BodyKind::OpenResponse,
+    }
+}
+
+/// Adds the lines of the fields of a body of this kind, where they are wanted.
+fn push_fields<S: Source>(
+    alloc: Global,
+    options: &DissectOptions,
+    kind: BodyKind,
+    src: &mut S,
+    lines: &mut String,
+) -> Result<(), AllocError>
+    ensures { OnOk result (string_bytes lines.new ≡ string_bytes lines.old ++ fields_of options.now kind (S.octets src.old)) }
+{
+    if options.fields {
+        push_body_fields(alloc, kind, options.names, src, lines)
+    } else {
+        Ok(())
+    }
+}
+
+/// Adds the line of a message, and those of its fields.
+fn push_message(
+    alloc: Global,
+    options: &DissectOptions,
+    request: u32,
+    message: &Message,
+    lines: &mut String,
+) -> Result<(), AllocError>
+    ensures { OnOk result (string_bytes lines.new ≡ string_bytes lines.old ++ item_lines options.now (Whole request (concat message.now))) }
+{
+    let name = message_name(alloc, options.side, message)?;
+    push_message_line(lines, request, message.len(), name)?;
+    let mut src = message.source();
+    push_fields(alloc, options, message_kind(options.side), &mut src, lines)
+}
+
+/// Adds the lines of what a chunk delivers.
+fn push_delivered(
+    alloc: Global,
+    options: &DissectOptions,
+    delivered: Delivered,
+    lines: &mut String,
+) -> Result<(), AllocError>
+    ensures { OnOk result (string_bytes lines.new ≡ string_bytes lines.old ++ item_lines options.now (item_of delivered)) }
+{
+    match delivered {
+        Delivered::Whole(request, message) => {
+            push_message(alloc, options, request, &message, lines)
+        }
+        Delivered::Aborted(request, code, _) => {
+            push_aborted_line(lines, options.names, request, code)
+        }
+    }
+}
+
+/// Adds the line of the body of an OPN, and those of its fields.
+fn push_opened(
+    alloc: Global,
+    options: &DissectOptions,
+    chunk: &OpenChunk,
+    lines: &mut String,
+) -> Result<(), AllocError>
+    ensures { OnOk result (string_bytes lines.new ≡ string_bytes lines.old
+        ++ (message_line chunk.now.request (length chunk.now.body) (name_of_opening options.now.side chunk.now.body) ++ fields_of options.now (kind_of_opening options.now.side) chunk.now.body)) }
+{
+    let name = opening_name(alloc, options.side, &chunk.body)?;
+    push_message_line(lines, chunk.request, chunk.body.len(), name)?;
+    let mut src = Octets::new(&chunk.body);
+    push_fields(alloc, options, opening_kind(options.side), &mut src, lines)
+}
+
 impl Teller {
-    /// A teller of what this side sends, from its first frame on.
-    pub fn new(alloc: Global, side: Side) -> Teller
+    /// A teller of what one side sends, from its first frame on.
+    pub fn new(alloc: Global, options: DissectOptions) -> Teller
         ensures stands { Stands result [] }
-        ensures side { result.side ≡ side }
+        ensures options { result.options ≡ options }
     {
         Teller {
             alloc,
-            side,
+            options,
             assembler: Assembler::new(alloc, MOST_OCTETS, MOST_CHUNKS, None),
         }
     }
@@ -107,9 +184,9 @@ impl Teller {
         requires kind { frame.kind ≡ Opn }
         requires sized { IsSized frame }
         ensures judged { (before : List Frame) → Stands self.old before →
-            JudgesKind Opn self.old.side before place frame result (string_bytes lines.old) (string_bytes lines.new) }
+            JudgesKind Opn self.old.options before place frame result (string_bytes lines.old) (string_bytes lines.new) }
         ensures stands { (before : List Frame) → Stands self.old before → OnOk result (Stands self.new (before ++ frame ∷ [])) }
-        ensures side { self.new.side ≡ self.old.side }
+        ensures options { self.new.options ≡ self.old.options }
     {
         let size = frame_size(&frame);
         let chunk = match read_open(frame) {
@@ -117,11 +194,10 @@ impl Teller {
             Err(fault) => return Err(DissectFault::of_opening(fault)),
         };
         if let Err(fault) = self.assembler.step(chunk.sequence) {
-            return Err(DissectFault::of_chunk(self.side, fault));
+            return Err(DissectFault::of_chunk(self.options.side, fault));
         }
         push_opening_line(lines, place, size, &chunk)?;
-        let name = opening_name(self.alloc, self.side, &chunk.body)?;
-        push_message_line(lines, chunk.request, chunk.body.len(), name)?;
+        push_opened(self.alloc, &self.options, &chunk, lines)?;
         Ok(())
     }
 
@@ -136,20 +212,20 @@ impl Teller {
         requires sized { IsSized frame }
         requires let_in { LetsIn every_frame frame }
         ensures judged { (before : List Frame) → Stands self.old before →
-            JudgesKind Msg self.old.side before place frame result (string_bytes lines.old) (string_bytes lines.new) }
+            JudgesKind Msg self.old.options before place frame result (string_bytes lines.old) (string_bytes lines.new) }
         ensures stands { (before : List Frame) → Stands self.old before → OnOk result (Stands self.new (before ++ frame ∷ [])) }
-        ensures side { self.new.side ≡ self.old.side }
+        ensures options { self.new.options ≡ self.old.options }
     {
         let size = frame_size(&frame);
         let chunk = read_chunk(frame);
         push_chunk_line(lines, "MSG", place, size, &chunk)?;
         match self.assembler.accept(chunk) {
             Ok(Some(delivered)) => {
-                push_delivered(self.alloc, self.side, delivered, lines)?;
+                push_delivered(self.alloc, &self.options, delivered, lines)?;
                 Ok(())
             }
             Ok(None) => Ok(()),
-            Err(fault) => Err(DissectFault::of_chunk(self.side, fault)),
+            Err(fault) => Err(DissectFault::of_chunk(self.options.side, fault)),
         }
     }
 
@@ -164,14 +240,14 @@ impl Teller {
         requires sized { IsSized frame }
         requires let_in { LetsIn every_frame frame }
         ensures judged { (before : List Frame) → Stands self.old before →
-            JudgesKind Clo self.old.side before place frame result (string_bytes lines.old) (string_bytes lines.new) }
+            JudgesKind Clo self.old.options before place frame result (string_bytes lines.old) (string_bytes lines.new) }
         ensures stands { (before : List Frame) → Stands self.old before → OnOk result (Stands self.new (before ++ frame ∷ [])) }
-        ensures side { self.new.side ≡ self.old.side }
+        ensures options { self.new.options ≡ self.old.options }
     {
         let size = frame_size(&frame);
         let chunk = read_chunk(frame);
         if let Err(fault) = self.assembler.step(chunk.sequence) {
-            return Err(DissectFault::of_chunk(self.side, fault));
+            return Err(DissectFault::of_chunk(self.options.side, fault));
         }
         push_chunk_line(lines, "CLO", place, size, &chunk)?;
         Ok(())
@@ -188,15 +264,18 @@ impl Teller {
         requires sized { IsSized frame }
         requires let_in { LetsIn every_frame frame }
         ensures judged { (before : List Frame) → Stands self.old before → place ≡ place_behind before →
-            Judges (first_reason (frame_reasons self.old.side before frame)) (frame_lines self.old.side before frame) result (string_bytes lines.old) (string_bytes lines.new) }
+            Judges (first_reason (frame_reasons self.old.options.side before frame)) (frame_lines self.old.options before frame) result (string_bytes lines.old) (string_bytes lines.new) }
         ensures stands { (before : List Frame) → Stands self.old before → OnOk result (Stands self.new (before ++ frame ∷ [])) }
-        ensures side { self.new.side ≡ self.old.side }
+        ensures options { self.new.options ≡ self.old.options }
     {
         let size = frame_size(&frame);
+        let names = self.options.names;
         match frame.kind {
-            Kind::Hel => push_greeting::<Hello>(self.alloc, &frame.body, place, size, lines),
-            Kind::Ack => push_greeting::<Ack>(self.alloc, &frame.body, place, size, lines),
-            Kind::Err => push_greeting::<ErrorFrame>(self.alloc, &frame.body, place, size, lines),
+            Kind::Hel => push_greeting::<Hello>(self.alloc, &frame.body, names, place, size, lines),
+            Kind::Ack => push_greeting::<Ack>(self.alloc, &frame.body, names, place, size, lines),
+            Kind::Err => {
+                push_greeting::<ErrorFrame>(self.alloc, &frame.body, names, place, size, lines)
+            }
             Kind::Msg => self.push_message(frame, place, lines),
             Kind::Opn => self.push_opening(frame, place, lines),
             Kind::Clo => self.push_close(frame, place, lines),

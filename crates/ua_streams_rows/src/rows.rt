@@ -16,7 +16,7 @@ use ua_channel::{ClientChannel, ServerChannel};
 use ua_client::Client;
 use ua_exchange::Turn;
 use ua_frame::{Ack, ErrorFrame, FrameReader, Hello};
-use ua_pair::Side;
+use ua_pair::{DissectOptions, Side};
 
 /// What rows take steps of.
 #[derive(Drop)]
@@ -104,7 +104,9 @@ impl Rows {
             "assembler" => self.begin_assembler(words, told),
             "server" => self.begin_server(words, told),
             "client" => self.begin_client(words, told),
-            "dissect" => self.begin_dissector(words, told),
+            "dissect" | "dissect-fields" | "dissect-names" | "dissect-named-fields" => {
+                self.begin_dissector(kind, words, told)
+            }
             "open" => self.begin_caller(words, told),
             "take" | "pieces" => self.take(kind, words, told),
             "number"
@@ -205,13 +207,17 @@ impl Rows {
         }
     }
 
-    fn begin_dissector(&mut self, words: &str, told: &mut Told) {
+    fn begin_dissector(&mut self, kind: &str, words: &str, told: &mut Told) {
         let (side, words) = front(words);
-        let side = match side {
-            "client" => Side::Client,
-            _ => Side::Server,
+        let options = DissectOptions {
+            side: match side {
+                "client" => Side::Client,
+                _ => Side::Server,
+            },
+            fields: kind == "dissect-fields" || kind == "dissect-named-fields",
+            names: kind == "dissect-names" || kind == "dissect-named-fields",
         };
-        self.machine = Machine::Dissector(Dissection::new(told.alloc(), side));
+        self.machine = Machine::Dissector(Dissection::new(told.alloc(), options));
         self.step("take", words, told);
     }
 

@@ -23,7 +23,7 @@ returns-then-n-eq0-clause-prints g c = λ content told s.
     let after = g.I.Read.remaining c.read_piece.new.source in
     let read : Reads (Some c.in-Some.n) known after c.read_piece.new.piece = subst (λ (n : Option ℕ). Reads n known after c.read_piece.new.piece) c.in-Some.is c.in_ok-n.ensures.read in
     let none = nothing_read c.in-Some.n known after c.read_piece.new.piece read c.if-n-eq0.true (let was = c.requires.room in let same = c.read_piece.auto.piece in omega (arith, was, same)) in
-    prints_last asked.hex asked.side content told (string_bytes c.clear.new.self) (string_bytes c.push_last.new.text) c.deref.result.now known after
+    prints_last asked.hex asked.options content told (string_bytes c.clear.new.self) (string_bytes c.push_last.new.text) c.deref.result.now known after
     (g.O.Write.contents c.args.out.now) (g.O.Write.contents c.say.new.out) (take c.in-Some.n c.read_piece.new.piece) none.0 read.1 none.1 c.clear.ensures.bytes
     (c.in_ok-push_last.ensures.lines content told s) c.deref.ensures c.in_ok-say.ensures.said
 

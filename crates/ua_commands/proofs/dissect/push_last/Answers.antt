@@ -12,6 +12,6 @@ returns-clause-lines c = λ content told s.
       | else-asked-via-then-asked+else-not-is_whole w ↦ inr (none_left half cc)
       | else-asked-via-else-asked w ↦ inl cc
     ] in
-    ends_file asked.hex asked.side content s.octets told (string_bytes c.args.text.now) (string_bytes c.finish.new.out)
+    ends_file asked.hex asked.options content s.octets told (string_bytes c.args.text.now) (string_bytes c.finish.new.out)
     (whole_octets asked.hex half content s.octets whole s.holds)
-    (c.in_ok-finish.ensures.last asked.side s.octets told s.stands)
+    (c.in_ok-finish.ensures.last asked.options s.octets told s.stands)

@@ -4,10 +4,10 @@ use Rattle.ua_pair.proofs.stream.push_lines.Goals as goal
 
 pub returns-clause-lines : goal.returns-clause-lines
 returns-clause-lines c =
-    lines_at_once c.finish.result c.args.side c.args.octets.now _ _ _ c.take.new.self
-    (c.in_ok-take.ensures.told c.args.side [] [] c.new-dissector.ensures) c.finish.ensures.last
+    lines_at_once c.finish.result c.args.options c.args.octets.now _ _ _ c.take.new.self
+    (c.in_ok-take.ensures.told c.args.options [] [] c.new-dissector.ensures) c.finish.ensures.last
 
 pub returns-clause-err : goal.returns-clause-err
 returns-clause-err c =
-    told_extends c.finish.result c.args.side c.args.octets.now _ _ _ c.take.new.self
-    (c.in_ok-take.ensures.told c.args.side [] [] c.new-dissector.ensures) c.finish.ensures.err
+    told_extends c.finish.result c.args.options c.args.octets.now _ _ _ c.take.new.self
+    (c.in_ok-take.ensures.told c.args.options [] [] c.new-dissector.ensures) c.finish.ensures.err

@@ -5,5 +5,5 @@ use Rattle.ua_pair.proofs.dissector.Dissector.new.Goals as goal
 
 pub returns : goal.returns
 returns c =
-    stands_first (record { alloc = c.args.alloc; state = state.Going; reader = c.new.result; teller = c.new-2.result; place = 0 }) c.args.side
-    refl c.new.ensures c.new-2.ensures.stands c.new-2.ensures.side refl
+    stands_first (record { alloc = c.args.alloc; state = state.Going; reader = c.new.result; teller = c.new-2.result; place = 0 }) c.args.options
+    refl c.new.ensures c.new-2.ensures.stands c.new-2.ensures.options refl

@@ -27,4 +27,4 @@ returns-in-Some c =
     let goes : is_going c.args.self.now.state ≡ true = sym c.goes_on.ensures ∙ c.if-not-goes_on.false in
     let some : 0 < length c.args.octets.now = search rules in
     takes_header c.args.self.now c.stop.new.self c.args.octets.now goes some c.in-Err.fault c.take.new.self c.in-Some.code _
-    c.in-Err.ensures.takes (sym c.in-Some.ensures) (record { state = c.stop.ensures.state; nothing = c.stop.ensures.nothing }) c.stop.ensures.place c.clear.ensures.bytes
+    c.in-Err.ensures.takes (sym c.in-Some.ensures) (record { state = c.stop.ensures.state; options_are = c.stop.ensures.options; nothing = c.stop.ensures.nothing }) c.stop.ensures.place c.clear.ensures.bytes

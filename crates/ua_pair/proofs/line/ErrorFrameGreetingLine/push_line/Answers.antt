@@ -1,10 +1,10 @@
-use Rattle.std.proofs.Common.{append_assoc}
-use Rattle.ua_pair.proofs.Codes.{code_output}
+use Rattle.std.proofs.Common.{◌≡◌, ◌++◌, codes, string_bytes, append_assoc}
 use Rattle.ua_pair.specs.Lines.{error_line}
 use Rattle.ua_pair.proofs.line.ErrorFrameGreetingLine.push_line.Goals as goal
 
 pub returns : goal.returns
 unfolding error_line
 returns c =
-    let begun = rw (code_output c.in_radix.result c.laid_out.result c.args.self.now.error.code c.in_radix.ensures c.laid_out.ensures) at c.in_ok-write.ensures.bytes in
-    simp append_assoc (simp (c.in_ok-push_string.ensures, begun, append_assoc) at c.push_newline.ensures)
+    let code : string_bytes c.push_str.new.self ≡ string_bytes c.push_number-2.new.lines ++ codes " code " = c.in_ok-push_str.ensures.bytes in
+    let reason : string_bytes c.push_str-2.new.self ≡ string_bytes c.push_code_as.new.out ++ codes " reason " = c.in_ok-push_str-2.ensures.bytes in
+    simp append_assoc (simp (c.in_ok-push_string.ensures, reason, c.in_ok-push_code_as.ensures, code, c.in_ok-push_number-2.ensures, c.in_ok-push_number.ensures, append_assoc) at c.push_newline.ensures)
