@@ -1,12 +1,16 @@
-/* Throws pieces at ua_server_step and ua_client_take, and counts what is answered.
+/* Throws pieces at servers and clients, and counts what is answered.
  *
  *     hammer PIECES SECONDS SEED STREAM..
  *
  * It stops behind PIECES pieces or SECONDS seconds, whichever comes first. A STREAM is a file of octets
  * as one end sent them; a piece is random, or a part of a stream with octets that are changed, left out
- * or said twice. A machine that ended is made anew. Besides what a sanitizer or valgrind sees, it checks
- * what ua.h says: what is taken lies within the piece, nothing is taken or waits at other statuses, and
- * no more is held than the bound. docs/C.md says how it is built, and what was seen. */
+ * or said twice. A further server and a client talk to each other: the client asks, renews and closes,
+ * and what passes between them is changed now and then. A machine that ended is made anew. Besides what
+ * a sanitizer or valgrind sees, it checks what ua.h says: what is taken lies within the piece, nothing
+ * is taken or waits at other statuses, no more is held than the bound, a buffer is written just where it
+ * is said to be, and UA_NO_MEMORY is answered only where memory was refused. That is never, unless it is
+ * built with -DREFUSE=N and linked with -Wl,--wrap=malloc,--wrap=realloc: then at one call in N.
+ * docs/C.md says how it is built, and what was seen. */
 #include <stdio.h>
 #include <stdlib.h>
 #include <string.h>
@@ -16,13 +20,23 @@
 
 #define MOST_STREAMS 16
 #define MOST_OCTETS 65536
+#define TEXT(t) (const uint8_t *)(t), strlen(t)
+
+/* A server and a client that streams are thrown at, and a server and a client that talk. */
+enum { SERVER, CLIENT, TALKING_SERVER, TALKING_CLIENT, HANDLES };
 
 static const struct ua_limits limits = {65535, 65535, 1048576, 256};
 static const char nodes[] = "ns=1;s=Pump\trw\tPump\tInt32\t5\nns=1;s=Row\trw\tRow\tInt32[]\t1,2,3\n";
 static const char url[] = "opc.tcp://localhost:4840";
-static uint8_t streams[MOST_STREAMS][MOST_OCTETS], piece[MOST_OCTETS];
-static size_t sizes[MOST_STREAMS], stream_count;
-static unsigned long long state, seen[2][32], events[8], octets_taken, octets_fetched;
+static const char *const asked_nodes[] = {"ns=1;s=Pump", "ns=1;s=Row", "ns=1;s=Pump\nns=1;s=Row"};
+static struct ua_handle handles[HANDLES];
+static uint8_t streams[MOST_STREAMS][MOST_OCTETS], piece[MOST_OCTETS], text[2048];
+static size_t sizes[MOST_STREAMS], stream_count, places[2], stream_of[2], room, needed;
+static uint8_t line[HANDLES][2 * MOST_OCTETS]; /* what a talking machine was sent, and did not take yet */
+static size_t line_size[HANDLES];
+static char token[64] = "i=0";
+static unsigned long long state, seen[HANDLES][32], events[8], put[32], asked[32], taken_in_all, fetched_in_all;
+static unsigned long long refused, refused_in_all;
 
 static uint32_t next(uint32_t below) {
     state = state * 6364136223846793005ull + 1442695040888963407ull;
@@ -34,16 +48,41 @@ static void fail(const char *what) {
     exit(1);
 }
 
+#ifdef REFUSE
+void *__real_malloc(size_t size);
+void *__real_realloc(void *block, size_t size);
+
+static int refuses(void) {
+    return next(REFUSE) == 0 && ++refused && ++refused_in_all;
+}
+
+void *__wrap_malloc(size_t size) {
+    return refuses() ? NULL : __real_malloc(size);
+}
+
+void *__wrap_realloc(void *block, size_t size) {
+    return refuses() ? NULL : __real_realloc(block, size);
+}
+#endif
+
+/* The status of a call, which says UA_NO_MEMORY only where memory was refused. */
+static uint32_t said(uint32_t status) {
+    if (status == UA_NO_MEMORY && !refused)
+        fail("no memory was refused");
+    refused = 0;
+    return status;
+}
+
 /* A piece of random octets, or of a stream that is changed here and there. */
-static size_t make_piece(size_t *place, size_t stream) {
-    size_t size = 1 + next(next(8) ? 64 : 4096), at = 0;
+static size_t make_piece(int kind) {
+    size_t size = 1 + next(next(8) ? 64 : 4096), at = 0, *place = &places[kind];
     if (next(16) == 0) {
         while (at < size)
             piece[at++] = (uint8_t)next(256);
         return size;
     }
     while (at < size) {
-        if (*place >= sizes[stream])
+        if (*place >= sizes[stream_of[kind]])
             *place = 0;
         uint32_t change = next(2048);
         if (change == 0)
@@ -53,78 +92,220 @@ static size_t make_piece(size_t *place, size_t stream) {
         else if (change == 2)
             *place -= next((uint32_t)(*place + 1));
         else
-            piece[at++] = streams[stream][(*place)++];
+            piece[at++] = streams[stream_of[kind]][(*place)++];
     }
     return size;
 }
 
-static void fetch_all(struct ua_handle *handle) {
-    uint8_t buffer[512];
-    size_t waiting = ua_waiting(handle), fetched;
-    while (waiting > 0) {
-        size_t room = next(sizeof buffer + 1);
-        uint32_t status = ua_fetch(handle, buffer, room, &fetched);
-        if (status != UA_OK || fetched != (room < waiting ? room : waiting))
-            fail("fetch");
-        waiting -= fetched;
-        octets_fetched += fetched;
-        if (ua_waiting(handle) != waiting)
-            fail("waiting");
+/* The front of what a talking machine was sent. One in 256 has an octet changed, left out or said twice. */
+static size_t take_piece(int kind) {
+    size_t size = 1 + next(next(4) ? 64 : 4096), end;
+    size = end = size < line_size[kind] ? size : line_size[kind];
+    memcpy(piece, line[kind], size);
+    if (next(256) == 0) {
+        size_t at = next((uint32_t)size);
+        if (next(3) == 0)
+            piece[at] = (uint8_t)next(256);
+        else if (next(2))
+            memmove(piece + at, piece + at + 1, --size - at);
+        else
+            memmove(piece + at + 1, piece + at, size++ - at);
     }
+    memmove(line[kind], line[kind] + end, line_size[kind] -= end);
+    return size;
 }
 
-static void renew(struct ua_handle *handle, int kind) {
-    size_t line;
-    uint32_t status = kind ? ua_client_new(&limits, (const uint8_t *)url, strlen(url), handle)
-                           : ua_server_new((const uint8_t *)nodes, strlen(nodes), &limits,
-                                           (const uint8_t *)url, strlen(url), 1, handle, &line);
-    if (status != UA_OK || (kind && ua_client_hello(handle) != UA_OK))
+/* Fetches all that waits in pieces of any size, and says how many octets; hands them to the other end. */
+static size_t fetch_all(int kind, uint8_t *out, size_t most) {
+    uint8_t buffer[512];
+    size_t waiting = ua_waiting(&handles[kind]), fetched, count = 0;
+    while (waiting > 0) {
+        size_t size = next(sizeof buffer + 1);
+        uint32_t status = said(ua_fetch(&handles[kind], buffer, size, &fetched));
+        if (status == UA_NO_MEMORY && fetched == 0)
+            continue;
+        if (status != UA_OK || fetched != (size < waiting ? size : waiting))
+            fail("fetch");
+        waiting -= fetched;
+        fetched_in_all += fetched;
+        if (ua_waiting(&handles[kind]) != waiting)
+            fail("waiting");
+        for (size_t at = 0; at < fetched && count < most; at++)
+            out[count++] = buffer[at];
+    }
+    return count;
+}
+
+/* What waits goes to the other talking machine; of the others it is let go. */
+static void pass_on(int kind) {
+    int other = TALKING_SERVER + TALKING_CLIENT - kind;
+    if (kind < TALKING_SERVER)
+        fetch_all(kind, NULL, 0);
+    else
+        line_size[other] += fetch_all(kind, line[other] + line_size[other], sizeof line[0] - line_size[other]);
+}
+
+static size_t make_room(void) {
+    memset(text, 0xA5, sizeof text);
+    return room = next(8) ? sizeof text : next(64);
+}
+
+/* The status of a call that puts `needed` octets into the first `room` of `text`. */
+static uint32_t checked(uint32_t status) {
+    size_t at = said(status) == UA_OK ? needed : 0;
+    if (status == UA_OK ? needed > room : status == UA_TOO_SMALL ? needed <= room : needed != 0)
+        fail("needed");
+    for (; at < sizeof text; at++)
+        if (text[at] != 0xA5)
+            fail("a buffer");
+    put[status]++;
+    return status;
+}
+
+/* The talking client asks a request of one of the calls, or other octets, or renews or closes. */
+static uint32_t ask(void) {
+    struct ua_handle *client = &handles[TALKING_CLIENT];
+    uint32_t id, choice = next(64), status = UA_OK;
+    const char *read = asked_nodes[next(3)], *written = asked_nodes[next(8) == 0], *range = next(4) ? "" : "0:1";
+    needed = 0;
+    if (choice < 2)
+        status = checked(ua_get_endpoints_request(TEXT(url), 7, 1, text, make_room(), &needed));
+    else if (choice < 6)
+        status = checked(ua_create_session_request(TEXT(url), 7, 1, text, make_room(), &needed));
+    else if (choice < 12)
+        status = checked(ua_activate_session_request(TEXT(token), 7, 1, text, make_room(), &needed));
+    else if (choice < 14)
+        status = checked(ua_close_session_request(TEXT(token), 7, 1, text, make_room(), &needed));
+    else if (choice < 36)
+        status = checked(ua_read_request(TEXT(token), 7, 1, TEXT(read), TEXT(range), text, make_room(), &needed));
+    else if (choice < 58)
+        status = checked(ua_write_request(TEXT(token), 7, 1, TEXT(written), TEXT("Int32"), TEXT("6"), text,
+                                          make_room(), &needed));
+    else if (choice < 60)
+        needed = next(64);
+    if (status != UA_OK)
+        return UA_OK;
+    if (choice < 60)
+        status = ua_client_ask(client, text, needed, &id);
+    else if (choice < 63 || next(8))
+        status = ua_client_renew(client, 7, &id);
+    else
+        status = ua_client_close(client, 7);
+    asked[said(status)]++;
+    if ((status == UA_OK) != (ua_waiting(client) > 0))
+        fail("asked");
+    return status;
+}
+
+/* What the calls without a handle make of octets. */
+static void read_octets(const uint8_t *octets, size_t size) {
+    const char *read = asked_nodes[next(3)];
+    uint32_t code = 7;
+    uint32_t status = checked(ua_session_token(octets, size, text, make_room(), &needed, &code));
+    if (status == UA_OK && needed < sizeof token) {
+        memcpy(token, text, needed);
+        token[needed] = 0;
+    }
+    checked(ua_response_text(TEXT(read), octets, size, text, make_room(), &needed, &code));
+    checked(ua_decode_value(octets, size, text, make_room(), &needed));
+    checked(ua_dissect(octets, size, next(3), text, make_room(), &needed));
+    checked(ua_encode_value(TEXT("String"), octets, size, text, make_room(), &needed));
+}
+
+static void make(int kind) {
+    size_t bad;
+    uint32_t status;
+    do
+        status = said(kind & 1 ? ua_client_new(&limits, TEXT(url), &handles[kind])
+                               : ua_server_new(TEXT(nodes), &limits, TEXT(url), 1, &handles[kind], &bad));
+    while (status == UA_NO_MEMORY);
+    while (kind & 1 && status == UA_OK && said(ua_client_hello(&handles[kind])) == UA_NO_MEMORY)
+        continue;
+    if (status != UA_OK || (kind & 1) != (ua_waiting(&handles[kind]) > 0))
         fail("new");
-    fetch_all(handle);
+    pass_on(kind);
 }
 
 /* Gives one piece to a machine, and says whether it ended. */
-static int give(struct ua_handle *handle, int kind, size_t size) {
-    uint32_t status = UA_OK, code, event, id;
+static int give(int kind, size_t size) {
+    struct ua_handle *handle = &handles[kind];
     for (size_t at = 0, taken; at < size; at += taken) {
-        size_t waiting = 0;
-        status = kind ? ua_client_take(handle, piece + at, size - at, 7, &taken, &event, &id, &code)
-                      : ua_server_step(handle, piece + at, size - at, 7, &taken, &waiting, &code);
-        seen[kind][status]++;
-        if (kind)
+        size_t waiting = 0, none;
+        uint32_t code, event = UA_NEED_MORE, id, other;
+        uint32_t status = kind & 1 ? ua_client_take(handle, piece + at, size - at, 7, &taken, &event, &id, &code)
+                                   : ua_server_step(handle, piece + at, size - at, 7, &taken, &waiting, &code);
+        seen[kind][said(status)]++;
+        if (kind & 1)
             events[event]++;
         if (taken > size - at || (status == UA_OK && taken == 0))
             fail("taken");
-        if (!kind && waiting != ua_waiting(handle))
+        if (!(kind & 1) && waiting != ua_waiting(handle))
             fail("waiting");
         if (status != UA_OK && status != UA_REFUSED && status != UA_ENDED && (taken || waiting))
             fail("taken at a status");
         if (ua_held(handle) > ua_bound(handle))
             fail("bound");
-        octets_taken += taken;
+        taken_in_all += taken;
         if (status == UA_OK && ua_waiting(handle) > 0 && next(4) == 0) {
-            size_t none;
-            status = kind ? ua_client_take(handle, piece, 1, 7, &none, &event, &id, &code)
-                          : ua_server_step(handle, piece, 1, 7, &none, &waiting, &code);
-            if (status != UA_FETCH_FIRST || none != 0)
+            uint32_t second = kind & 1 ? ua_client_take(handle, piece, 1, 7, &none, &other, &id, &code)
+                                       : ua_server_step(handle, piece, 1, 7, &none, &waiting, &code);
+            if (second != UA_FETCH_FIRST || none != 0)
                 fail("fetch first");
-            status = UA_OK;
         }
-        fetch_all(handle);
-        if (kind && event == UA_OPEN) {
-            status = ua_client_ask(handle, piece, next(64), &id);
-            fetch_all(handle);
-            status = UA_OK;
+        if (event == UA_ANSWERED) {
+            static uint8_t body[MOST_OCTETS];
+            read_octets(body, fetch_all(kind, body, sizeof body));
         }
+        pass_on(kind);
         if (status != UA_OK)
             return 1;
     }
     return 0;
 }
 
+/* One turn of the two that talk: an end takes a piece, or the client asks. Both begin anew where one ended
+ * and the other was told, or the client waits for what was left out. */
+static void talk(void) {
+    int kind = next(2) ? TALKING_SERVER : TALKING_CLIENT, is_over;
+    if (!line_size[kind])
+        kind = TALKING_SERVER + TALKING_CLIENT - kind;
+    if (line_size[kind] && next(8)) {
+        is_over = give(kind, take_piece(kind)) && (kind == TALKING_CLIENT || !line_size[TALKING_CLIENT]);
+    } else {
+        is_over = ask() == UA_NOT_OPEN && !line_size[kind];
+        pass_on(TALKING_CLIENT);
+    }
+    if (is_over) {
+        line_size[TALKING_SERVER] = line_size[TALKING_CLIENT] = 0;
+        if (next(2))
+            make(TALKING_SERVER);
+        else if (ua_server_next_connection(&handles[TALKING_SERVER], next(1024)) != UA_OK)
+            fail("next connection");
+        make(TALKING_CLIENT);
+    }
+}
+
+/* One piece for one of the others. */
+static void throw_piece(int kind) {
+    if (!give(kind, make_piece(kind)))
+        return;
+    places[kind] = 0;
+    stream_of[kind] = next((uint32_t)stream_count);
+    if (kind == CLIENT || next(2))
+        make(kind);
+    else if (ua_server_next_connection(&handles[kind], next(1024)) != UA_OK)
+        fail("next connection");
+}
+
+static void print_counts(const char *what, const unsigned long long *counts, int most) {
+    for (int number = 0; number < most; number++)
+        if (counts[number])
+            printf("%s %d: %llu\n", what, number, counts[number]);
+}
+
 int main(int count, char **words) {
-    struct ua_handle handles[2] = {{0}, {0}};
-    size_t places[2] = {0, 0};
+    static const char *names[HANDLES] = {"server status", "client status", "talking server status",
+                                         "talking client status"};
     if (count < 5)
         return 2;
     unsigned long long pieces = strtoull(words[1], NULL, 10), done = 0;
@@ -136,28 +317,24 @@ int main(int count, char **words) {
             fail("a stream cannot be read");
         fclose(file);
     }
-    size_t stream[2] = {0, stream_count - 1};
-    renew(&handles[0], 0);
-    renew(&handles[1], 1);
+    stream_of[CLIENT] = stream_count - 1;
+    for (int kind = 0; kind < HANDLES; kind++)
+        make(kind);
     for (; done < pieces && ((done & 1023) || time(NULL) < end); done++) {
-        int kind = (int)next(2);
-        if (!give(&handles[kind], kind, make_piece(&places[kind], stream[kind])))
-            continue;
-        places[kind] = 0;
-        stream[kind] = next((uint32_t)stream_count);
-        if (kind || next(2))
-            renew(&handles[kind], kind);
-        else if (ua_server_next_connection(&handles[kind], (uint32_t)done) != UA_OK)
-            fail("next connection");
+        uint32_t choice = next(4);
+        if (choice < TALKING_SERVER)
+            throw_piece((int)choice);
+        else
+            talk();
     }
-    printf("pieces %llu octets taken %llu octets fetched %llu\n", done, octets_taken, octets_fetched);
-    for (int kind = 0; kind < 2; kind++)
-        for (int status = 0; status < 32; status++)
-            if (seen[kind][status])
-                printf("%s status %d: %llu\n", kind ? "client" : "server", status, seen[kind][status]);
-    for (int event = 0; event < 8; event++)
-        printf("client event %d: %llu\n", event, events[event]);
-    ua_free(&handles[0]);
-    ua_free(&handles[1]);
+    printf("pieces %llu octets taken %llu octets fetched %llu times that memory was refused %llu\n", done,
+           taken_in_all, fetched_in_all, refused_in_all);
+    for (int kind = 0; kind < HANDLES; kind++) {
+        print_counts(names[kind], seen[kind], 32);
+        ua_free(&handles[kind]);
+    }
+    print_counts("client event", events, 8);
+    print_counts("asked status", asked, 32);
+    print_counts("put status", put, 32);
     return 0;
 }

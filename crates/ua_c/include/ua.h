@@ -61,7 +61,12 @@ enum {
     UA_TOO_MANY_TOKENS = 14, /* 16 tokens are held */
     UA_EXHAUSTED = 15,       /* all request ids were used */
     UA_TOO_LARGE = 16,       /* the server takes no message of so many octets or chunks */
-    UA_EMPTY = 17            /* the body of a call is empty */
+    UA_EMPTY = 17,           /* the body of a call is empty */
+    UA_TOO_SMALL = 18,       /* the buffer has no room for `needed` octets */
+    UA_BAD_SIDE = 19,        /* the side is neither 0 nor 1 */
+    UA_BAD_OCTETS = 20,      /* the octets encode nothing that the call takes */
+    UA_SERVICE = 21,         /* the service failed, with `code` */
+    UA_UNKNOWN = 22          /* the response is that of another request, or has not as many answers */
 };
 
 /* Events of ua_client_take. */
@@ -171,6 +176,82 @@ uint32_t ua_client_renew(struct ua_handle *handle, int64_t moment, uint32_t *id)
 /* Closes the channel; the CLO waits: send it. UA_NOT_OPEN, UA_EXHAUSTED, UA_NO_MEMORY,
  * UA_FETCH_FIRST, UA_NO_HANDLE, UA_OTHER_HANDLE. */
 uint32_t ua_client_close(struct ua_handle *handle, int64_t moment);
+
+/* ---- no handle: with UA_OK the front of the buffer is written, and `needed` is how many octets that
+ * are; with UA_TOO_SMALL `needed` says how many it would be, and nothing is written. So a call with a
+ * buffer of no room says how much is needed. At every other status `needed` is 0. */
+
+/* The octets that one side of a connection sent (0: the client, 1: the server), as lines of text, as
+ * `ua dissect` prints them. UA_TOO_SMALL, UA_BAD_SIDE, UA_NO_MEMORY. */
+uint32_t ua_dissect(const uint8_t *octets, size_t octets_len, uint32_t side, uint8_t *buffer,
+                    size_t buffer_len, size_t *needed);
+
+/* The canonical encoding, as a Variant, of the value that a type (`Int32`, `Double[]`) and a text
+ * denote, as in a node file. UA_TOO_SMALL, UA_BAD_TEXT (also where the value is too large to be
+ * encoded), UA_NO_MEMORY. */
+uint32_t ua_encode_value(const uint8_t *type, size_t type_len, const uint8_t *text, size_t text_len,
+                         uint8_t *buffer, size_t buffer_len, size_t *needed);
+
+/* The type and the text, with a space between, of the Variant that octets encode and nothing behind it,
+ * as `ua read` prints them. UA_TOO_SMALL, UA_BAD_OCTETS (no Variant of at most 100 levels),
+ * UA_NO_MEMORY. */
+uint32_t ua_decode_value(const uint8_t *octets, size_t octets_len, uint8_t *buffer,
+                         size_t buffer_len, size_t *needed);
+
+/* ---- requests from texts, as bodies for ua_client_ask: UA_TOO_SMALL, as above; UA_BAD_TEXT: a text is
+ * not UTF-8, or not what it stands for, or too large to be encoded; UA_NO_MEMORY. `request` is the
+ * RequestHandle, any number. A token is the text that ua_session_token gave; a node a NodeId's text, as
+ * `ns=1;s=Pump`; nodes are such texts, with an LF between */
+
+/* A GetEndpoints for the server of this URL. */
+uint32_t ua_get_endpoints_request(const uint8_t *url, size_t url_len, int64_t moment,
+                                  uint32_t request, uint8_t *buffer, size_t buffer_len,
+                                  size_t *needed);
+
+/* A CreateSession for the server of this URL: a session `ua` of the client `urn:ua:client`, for 120
+ * seconds. */
+uint32_t ua_create_session_request(const uint8_t *url, size_t url_len, int64_t moment,
+                                   uint32_t request, uint8_t *buffer, size_t buffer_len,
+                                   size_t *needed);
+
+/* An ActivateSession under this token, by a user without a name. */
+uint32_t ua_activate_session_request(const uint8_t *token, size_t token_len, int64_t moment,
+                                     uint32_t request, uint8_t *buffer, size_t buffer_len,
+                                     size_t *needed);
+
+/* A CloseSession under this token. */
+uint32_t ua_close_session_request(const uint8_t *token, size_t token_len, int64_t moment,
+                                  uint32_t request, uint8_t *buffer, size_t buffer_len,
+                                  size_t *needed);
+
+/* A Read of the Values of nodes, in their order, or of the parts of arrays that an index range (`0:3`)
+ * names, which is asked for as it stands; an empty range asks for the whole. */
+uint32_t ua_read_request(const uint8_t *token, size_t token_len, int64_t moment, uint32_t request,
+                         const uint8_t *nodes, size_t nodes_len, const uint8_t *range,
+                         size_t range_len, uint8_t *buffer, size_t buffer_len, size_t *needed);
+
+/* A Write that sets the Value of one node to the one that a type and a text denote, as in
+ * ua_encode_value, without a status and times. */
+uint32_t ua_write_request(const uint8_t *token, size_t token_len, int64_t moment, uint32_t request,
+                          const uint8_t *node, size_t node_len, const uint8_t *type,
+                          size_t type_len, const uint8_t *text, size_t text_len, uint8_t *buffer,
+                          size_t buffer_len, size_t *needed);
+
+/* ---- what a reply says: UA_TOO_SMALL, as above; UA_BAD_OCTETS: the body is that of no response that
+ * this library reads; UA_SERVICE: it is a ServiceFault with `code`, which is 0 at every other status;
+ * UA_UNKNOWN: it is the response to another request; UA_NO_MEMORY */
+
+/* The text of the AuthenticationToken in the reply to a CreateSession. It names the token for the
+ * requests above; an identifier that is null reads as an empty one there. */
+uint32_t ua_session_token(const uint8_t *body, size_t body_len, uint8_t *buffer, size_t buffer_len,
+                          size_t *needed, uint32_t *code);
+
+/* The lines of the reply to a Read or a Write of these nodes, or of one to a GetEndpoints, as `ua read`,
+ * `ua write` and `ua endpoints` print them. UA_UNKNOWN: also a reply that has not one answer for each
+ * node. Also UA_BAD_TEXT: a line names no node. */
+uint32_t ua_response_text(const uint8_t *nodes, size_t nodes_len, const uint8_t *body,
+                          size_t body_len, uint8_t *buffer, size_t buffer_len, size_t *needed,
+                          uint32_t *code);
 
 #ifdef __cplusplus
 }

@@ -1,11 +1,11 @@
 -- Servers and clients as they begin.
-use Rattle.std.proofs.Common.{◌≡◌, ◌⊎◌, ◌∙◌, ℕ, List, [], Option, Some, IsTrue, refl, subst, inl}
+use Rattle.std.proofs.Common.{◌≡◌, ◌∙◌, ℕ, List, [], Option, Some, IsTrue, refl, subst, inl}
 use Rattle.ua_channel.specs.Client.{Stands, limits_of, next_of, url_of}
 use Rattle.ua_channel.specs.declared.client.channel.ClientChannel.{ClientChannel}
 use Rattle.ua_frame.specs.declared.limits.Limits.{Limits}
 use Rattle.ua_octets.specs.Counted.{text}
 use Rattle.ua_c.specs.Limits.{AreEnough, AreThese}
-use Rattle.ua_c.specs.Making.{IsMadeClient, IsMadeServer, IsStation, IsUrlOf, MakesClient, MakesServer, Seats}
+use Rattle.ua_c.specs.Making.{IsStation, IsUrlOf, MakesClient, MakesServer, Seats}
 use Rattle.ua_c.specs.declared.holding.Holding.{Holding}
 use Rattle.ua_c.specs.declared.holding.Machine.TheVariants as machine
 use Rattle.ua_c.specs.declared.limits.UaLimits.{UaLimits}

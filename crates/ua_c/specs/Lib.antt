@@ -4,6 +4,9 @@ pub mod Handled
 pub mod Held
 pub mod Limits
 pub mod Making
+pub mod Requests
+pub mod Responses
 pub mod Serving
 pub mod Status
+pub mod Texts
 pub mod Waiting

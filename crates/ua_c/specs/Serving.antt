@@ -1,5 +1,5 @@
 -- What a server does for C: each clause of the calls of `ua_server`, over what a handle holds.
-use Rattle.std.specs.Prelude.{◌≡◌, ◌≤◌, ◌<◌, ℕ, List, [], ◌∷◌, length, Option, Some, None, Result, Ok, Err, IfOk, IsErrOf}
+use Rattle.std.specs.Prelude.{◌≡◌, ℕ, List, [], Option, Some, None, Result, Ok, Err, IfOk, IsErrOf}
 use Rattle.ua_builtin.specs.declared.date_time.DateTime.{DateTime}
 use Rattle.ua_channel.specs.ServerStands.{limits_of, channel_of, bound_of, IsDone, Goes, Stands as Holds}
 use Rattle.ua_channel.specs.ServerTold.{Told}

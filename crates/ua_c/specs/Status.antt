@@ -72,3 +72,23 @@ too_large = 16
 -- the body of a call is empty
 abbrev pub empty : ℕ
 empty = 17
+
+-- the buffer is too small
+abbrev pub too_small : ℕ
+too_small = 18
+
+-- there is no such side
+abbrev pub bad_side : ℕ
+bad_side = 19
+
+-- the octets are none of what the call takes
+abbrev pub bad_octets : ℕ
+bad_octets = 20
+
+-- the service failed
+abbrev pub service : ℕ
+service = 21
+
+-- the response is that of another request
+abbrev pub unknown : ℕ
+unknown = 22

@@ -13,9 +13,12 @@ mod limits;
 mod loose;
 mod making;
 mod report;
+mod requests;
+mod responses;
 mod serving;
 mod station;
 mod status;
+mod texts;
 mod told;
 mod waiting;
 

@@ -41,7 +41,7 @@ fn seat(alloc: Global, machine: Machine, out: &mut UaHandle) -> u32
 }
 
 /// The URL that octets are, or a status.
-fn url_of(alloc: Global, octets: &[u8]) -> Result<UaString, u32>
+pub(crate) fn url_of(alloc: Global, octets: &[u8]) -> Result<UaString, u32>
     ensures url { IfOk result (λ url. IsUrlOf octets.now url) }
     ensures fault { IfErr result (λ status. IsNoUrl octets.now status) }
 {

@@ -36,3 +36,13 @@ pub const EXHAUSTED: u32 = 15;
 pub const TOO_LARGE: u32 = 16;
 /// The body of a call is empty.
 pub const EMPTY: u32 = 17;
+/// The buffer is too small.
+pub const TOO_SMALL: u32 = 18;
+/// There is no such side.
+pub const BAD_SIDE: u32 = 19;
+/// The octets are none of what the call takes.
+pub const BAD_OCTETS: u32 = 20;
+/// The service failed.
+pub const SERVICE: u32 = 21;
+/// The response is that of another request.
+pub const UNKNOWN: u32 = 22;

@@ -109,7 +109,7 @@ impl Waiting {
 }
 
 /// Copies as many octets as fit to the front of a buffer, and says how many.
-fn move_front(octets: &[u8], buffer: &mut [u8]) -> usize
+pub(crate) fn move_front(octets: &[u8], buffer: &mut [u8]) -> usize
     ensures count { result ≡ min (length octets.now) (length buffer.old) }
     ensures buffer { buffer.new ≡ take result octets.now ++ drop result buffer.old }
 {

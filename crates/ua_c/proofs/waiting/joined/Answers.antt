@@ -1,4 +1,4 @@
-use Rattle.std.proofs.Common.{◌≡◌, ◌∙◌, ap, ◌++◌, List, ℕ}
+use Rattle.std.proofs.Common.{◌∙◌, ap, ◌++◌, List, ℕ}
 use Rattle.ua_c.proofs.Parts.{one_more}
 use Rattle.ua_c.proofs.waiting.joined.Goals as goal
 

@@ -1,4 +1,4 @@
-use Rattle.std.proofs.Common.{◌≡◌, ◌<◌, ℕ, length, refl, arith}
+use Rattle.std.proofs.Common.{refl, arith}
 use Rattle.ua_c.proofs.Asked.{asks_machine}
 use Rattle.ua_c.proofs.holding.Holding.ask.Goals as goal
 

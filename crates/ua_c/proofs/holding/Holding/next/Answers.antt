@@ -1,4 +1,4 @@
-use Rattle.std.proofs.Common.{◌≡◌, refl}
+use Rattle.std.proofs.Common.{refl}
 use Rattle.ua_c.proofs.Served.{next_machine}
 use Rattle.ua_c.proofs.holding.Holding.next.Goals as goal
 

@@ -1,0 +1,143 @@
+-- Requests from texts.
+use Rattle.std.specs.Prelude.{◌≡◌, ◌⊎◌, ℕ, nat_eq, List, [], ◌∷◌, map, Option, Some, Result, Ok, Err, IsTrue, IsFalse}
+use Rattle.std.specs.List.{AllZip, Any, slice_split}
+use Rattle.std.specs.Str.{IsUtf8}
+use Rattle.ua_builtin.specs.NodeText.{NamesNode}
+use Rattle.ua_builtin.specs.declared.date_time.DateTime.{DateTime}
+use Rattle.ua_builtin.specs.declared.node_id.NodeId.{NodeId}
+use Rattle.ua_requests.specs.Requests.{part_of_node, read, value_alone, write}
+use Rattle.ua_services.specs.Request.{request}
+use Rattle.ua_services.specs.declared.request.Request.{Request}
+use Rattle.ua_structures.specs.Plain.{value_for_node}
+use Rattle.ua_structures.specs.declared.attribute.ReadValueId.{ReadValueId}
+use Rattle.ua_texts.specs.Script.{range_of}
+use Rattle.ua_variant.specs.View.{variant_of}
+use Rattle.ua_variant.specs.declared.values.Variant.{Variant}
+use Rattle.ua_c.specs.Making.{IsNoUrl, IsUrl}
+use Rattle.ua_c.specs.Status.{no_memory, bad_text}
+use Rattle.ua_c.specs.Texts.{HasNoValue, IsKept, IsValueOf, Puts}
+
+-- ---- the texts of NodeIds
+
+-- a text names a NodeId
+abbrev pub Names : List ℕ → NodeId → Type 0
+Names text node = NamesNode node text
+
+-- a text names none
+abbrev pub NamesNone : List ℕ → Type 0
+NamesNone text = (node : NodeId) → ¬ (Names text node)
+
+-- memory was refused, or a text names no NodeId
+abbrev pub IsUnnamed : List ℕ → ℕ → Type 0
+IsUnnamed text status = (status ≡ no_memory) ⊎ ((status ≡ bad_text) × NamesNone text)
+
+-- octets are UTF-8, and the text of a NodeId
+pub record IsNodeText (octets : List ℕ) (node : NodeId) : Type 0 where
+  pub utf8 : IsUtf8 octets
+  pub names : Names octets node
+
+-- memory was refused, or octets are not UTF-8, or the text of no NodeId
+abbrev pub IsNoNode : List ℕ → ℕ → Type 0
+IsNoNode octets status = (status ≡ no_memory) ⊎ ((status ≡ bad_text) × (¬ (IsUtf8 octets) ⊎ NamesNone octets))
+
+-- the lines of a text: what stands in front of, between and behind its LFs
+abbrev pub lines : List ℕ → List (List ℕ)
+lines text = slice_split (λ b. nat_eq b 10) text
+
+-- the lines of a text name these NodeIds, each its own
+abbrev pub AreNamed : List ℕ → List NodeId → Type 0
+AreNamed text nodes = AllZip Names (lines text) nodes
+
+-- memory was refused, or a line names no NodeId
+abbrev pub AreUnnamed : List ℕ → ℕ → Type 0
+AreUnnamed text status = (status ≡ no_memory) ⊎ ((status ≡ bad_text) × Any NamesNone (lines text))
+
+-- octets are UTF-8, and their lines the texts of NodeIds
+pub record AreNodeTexts (octets : List ℕ) (nodes : List NodeId) : Type 0 where
+  pub utf8 : IsUtf8 octets
+  pub named : AreNamed octets nodes
+
+-- memory was refused, or octets are not UTF-8, or a line of them is the text of no NodeId
+abbrev pub AreNoNodes : List ℕ → ℕ → Type 0
+AreNoNodes octets status = (status ≡ no_memory) ⊎ ((status ≡ bad_text) × (¬ (IsUtf8 octets) ⊎ Any NamesNone (lines octets)))
+
+-- ---- index ranges
+
+-- octets are UTF-8, and an index range, which is null where there are none
+pub record IsRangeText (octets : List ℕ) (range : Option (List ℕ)) : Type 0 where
+  pub utf8 : IsUtf8 octets
+  pub is : range ≡ range_of octets
+
+-- memory was refused, or octets are not UTF-8
+abbrev pub IsNoRange : List ℕ → ℕ → Type 0
+IsNoRange octets status = (status ≡ no_memory) ⊎ ((status ≡ bad_text) × ¬ (IsUtf8 octets))
+
+-- ---- requests
+
+-- the request of a URL, or why there is none
+abbrev pub MakesOfUrl : (Option (List ℕ) → Request) → List ℕ → Result Request ℕ → Type 0
+MakesOfUrl request_of url (Ok r) = IsUrl url × (r ≡ request_of (Some url))
+MakesOfUrl request_of url (Err status) = IsNoUrl url status
+
+-- the request under the token of a text
+pub record IsUnder (request_of : NodeId → Request) (token : List ℕ) (r : Request) : Type 0 where
+  pub id : NodeId
+  pub is_text : IsNodeText token id
+  pub is : r ≡ request_of id
+
+-- the same, or why there is none
+abbrev pub MakesUnder : (NodeId → Request) → List ℕ → Result Request ℕ → Type 0
+MakesUnder request_of token (Ok r) = IsUnder request_of token r
+MakesUnder request_of token (Err status) = IsNoNode token status
+
+-- the items of a Read of the Values of nodes, or of the parts of them that an index range names
+abbrev pub items_of : Option (List ℕ) → List NodeId → List ReadValueId
+items_of part nodes = map (λ node. part_of_node node part) nodes
+
+-- a Read of the Values of the nodes that lines name, or of the parts of them that an index range names
+pub record IsReadOf (token : List ℕ) (moment : DateTime) (handle : ℕ) (nodes range : List ℕ) (r : Request) : Type 0 where
+  pub id : NodeId
+  pub is_token : IsNodeText token id
+  pub each : List NodeId
+  pub are_nodes : AreNodeTexts nodes each
+  pub part : Option (List ℕ)
+  pub is_range : IsRangeText range part
+  pub is : r ≡ read id moment handle (items_of part each)
+
+-- the same, or why there is none
+abbrev pub MakesRead : List ℕ → DateTime → ℕ → List ℕ → List ℕ → Result Request ℕ → Type 0
+MakesRead token moment handle nodes range (Ok r) = IsReadOf token moment handle nodes range r
+MakesRead token moment handle nodes range (Err status) = IsNoNode token status ⊎ AreNoNodes nodes status ⊎ IsNoRange range status
+
+-- a Write that sets the Value of one node to that of a type and a text, without a status and times
+pub record IsWriteOf (token : List ℕ) (moment : DateTime) (handle : ℕ) (node kind text : List ℕ) (r : Request) : Type 0 where
+  pub id : NodeId
+  pub is_token : IsNodeText token id
+  pub item : NodeId
+  pub is_node : IsNodeText node item
+  pub value : Variant
+  pub is_value : IsValueOf kind text value
+  pub is : r ≡ write id moment handle (value_for_node item (value_alone (variant_of value)) ∷ [])
+
+-- the same, or why there is none
+abbrev pub MakesWrite : List ℕ → DateTime → ℕ → List ℕ → List ℕ → List ℕ → Result Request ℕ → Type 0
+MakesWrite token moment handle node kind text (Ok r) = IsWriteOf token moment handle node kind text r
+MakesWrite token moment handle node kind text (Err status) = IsNoNode token status ⊎ IsNoNode node status ⊎ HasNoValue kind text status
+
+-- ---- bodies
+
+-- a request can be written, and its body is put into a buffer; else nothing was written: memory was refused, or it cannot be
+abbrev pub PutsBody : Request → List ℕ → List ℕ → ℕ → ℕ → Type 0
+PutsBody r before after needed status = (IsTrue (request.encodable r) × Puts (request.canonical r) before after needed status)
+    ⊎ (IsKept before after needed × ((status ≡ no_memory) ⊎ ((status ≡ bad_text) × IsFalse (request.encodable r))))
+
+-- the same, or there is no request
+abbrev pub PutsMade : Result Request ℕ → List ℕ → List ℕ → ℕ → ℕ → Type 0
+PutsMade (Ok r) before after needed status = PutsBody r before after needed status
+PutsMade (Err why) before after needed status = IsKept before after needed × (status ≡ why)
+
+-- a request is `P`, or there is none for a reason that is `P`; its body is put into a buffer
+pub record Makes (P : Result Request ℕ → Type 0) (before after : List ℕ) (needed status : ℕ) : Type 0 where
+  pub made : Result Request ℕ
+  pub is : P made
+  pub puts : PutsMade made before after needed status

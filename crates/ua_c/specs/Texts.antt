@@ -1,0 +1,119 @@
+-- What needs no handle: octets as lines, and values as texts.
+use Rattle.std.specs.Prelude.{◌≡◌, ◌⊎◌, ◌≤◌, ◌<◌, ℕ, List, ◌++◌, length, drop, Bool, Some, None, IsTrue, IsFalse}
+use Rattle.std.specs.Str.{IsUtf8}
+use Rattle.ua_nodes.specs.TypeName.{type_denoted}
+use Rattle.ua_nodes.specs.ValueText.{value_denoted}
+use Rattle.ua_octets.specs.Format.{IsWhole}
+use Rattle.ua_pair.specs.Dissected.{AreLines, plain}
+use Rattle.ua_pair.specs.declared.side.Side.{Side}
+use Rattle.ua_pair.specs.declared.side.Side.TheVariants.{Client, Server}
+use Rattle.ua_texts.specs.Values.{variant_text}
+use Rattle.ua_variant.specs.Formats.{variant_format}
+use Rattle.ua_variant.specs.View.{variant_of}
+use Rattle.ua_variant.specs.declared.values.Variant.{Variant}
+use Rattle.ua_c.specs.Status.{ok, no_memory, bad_text, too_small, bad_side, bad_octets}
+
+-- ---- buffers
+
+-- octets stand at the front of a buffer where they fit, whose rest is as it was; else the buffer is as it was, and too small
+abbrev pub Puts : List ℕ → List ℕ → List ℕ → ℕ → ℕ → Type 0
+Puts octets before after needed status = (needed ≡ length octets)
+    × (length octets ≤ length before → (status ≡ ok) × (after ≡ octets ++ drop (length octets) before))
+    × (length before < length octets → (status ≡ too_small) × (after ≡ before))
+
+-- nothing was written
+abbrev pub IsKept : List ℕ → List ℕ → ℕ → Type 0
+IsKept before after needed = (needed ≡ 0) × (after ≡ before)
+
+-- ---- lines
+
+-- the side of a number: 0 is the client, 1 the server
+abbrev pub IsSide : ℕ → Side → Type 0
+IsSide number side = ((number ≡ 0) × (side ≡ Client)) ⊎ ((number ≡ 1) × (side ≡ Server))
+
+abbrev pub IsNoSide : ℕ → Type 0
+IsNoSide number = ¬ (number ≡ 0) × ¬ (number ≡ 1)
+
+-- the lines of what one side sent were put into a buffer
+pub record PutsLines (octets : List ℕ) (number : ℕ) (before after : List ℕ) (needed status : ℕ) : Type 0 where
+  pub side : Side
+  pub side_is : IsSide number side
+  pub lines : List ℕ
+  pub are : AreLines (plain side) octets lines
+  pub puts : Puts lines before after needed status
+
+-- or there is no such side, or memory was refused
+abbrev pub DissectsTo : List ℕ → ℕ → List ℕ → List ℕ → ℕ → ℕ → Type 0
+DissectsTo octets number before after needed status =
+    PutsLines octets number before after needed status ⊎ (IsKept before after needed × ((status ≡ no_memory) ⊎ ((status ≡ bad_side) × IsNoSide number)))
+
+-- ---- values
+
+-- a value is that which a type and a text denote
+pub record IsValueOf (kind text : List ℕ) (value : Variant) : Type 0 where
+  pub kind_utf8 : IsUtf8 kind
+  pub text_utf8 : IsUtf8 text
+  pub number : ℕ
+  pub array : Bool
+  pub type_is : type_denoted kind ≡ Some (number, array)
+  pub value_is : value_denoted number array text ≡ Some (variant_of value)
+
+-- a type is named, of which a text denotes no value
+pub record DenotesNone (kind text : List ℕ) : Type 0 where
+  pub number : ℕ
+  pub array : Bool
+  pub type_is : type_denoted kind ≡ Some (number, array)
+  pub none : value_denoted number array text ≡ None
+
+-- why a type and a text denote none
+abbrev pub IsBadText : List ℕ → List ℕ → Type 0
+IsBadText kind text = ¬ (IsUtf8 kind) ⊎ ¬ (IsUtf8 text) ⊎ (type_denoted kind ≡ None) ⊎ DenotesNone kind text
+
+abbrev pub HasNoValue : List ℕ → List ℕ → ℕ → Type 0
+HasNoValue kind text status = (status ≡ no_memory) ⊎ ((status ≡ bad_text) × IsBadText kind text)
+
+-- a value can be encoded, and octets are its canonical encoding
+abbrev pub IsEncodingOf : Variant → List ℕ → Type 0
+IsEncodingOf value octets = IsTrue (variant_format.encodable value) × (octets ≡ variant_format.canonical value)
+
+abbrev pub IsNoEncoding : Variant → ℕ → Type 0
+IsNoEncoding value status = (status ≡ no_memory) ⊎ ((status ≡ bad_text) × IsFalse (variant_format.encodable value))
+
+-- the encoding of the value that a type and a text denote was put into a buffer
+pub record PutsValue (kind text before after : List ℕ) (needed status : ℕ) : Type 0 where
+  pub value : Variant
+  pub is : IsValueOf kind text value
+  pub octets : List ℕ
+  pub are : IsEncodingOf value octets
+  pub puts : Puts octets before after needed status
+
+-- or it cannot be encoded
+pub record CannotEncode (kind text : List ℕ) (status : ℕ) : Type 0 where
+  pub value : Variant
+  pub is : IsValueOf kind text value
+  pub not : IsNoEncoding value status
+
+-- or there is none
+abbrev pub EncodesTo : List ℕ → List ℕ → List ℕ → List ℕ → ℕ → ℕ → Type 0
+EncodesTo kind text before after needed status =
+    PutsValue kind text before after needed status ⊎ (IsKept before after needed × (HasNoValue kind text status ⊎ CannotEncode kind text status))
+
+-- the type and the text of a value that octets encode
+pub record IsTextOf (octets text : List ℕ) : Type 0 where
+  pub value : Variant
+  pub encodes : variant_format.encodes value octets
+  pub is : text ≡ variant_text (variant_of value)
+
+-- octets encode no value of at most 100 levels
+abbrev pub IsNoValueEncoded : List ℕ → ℕ → Type 0
+IsNoValueEncoded octets status = (status ≡ bad_octets) × IsWhole variant_format octets None
+
+-- the type and the text were put into a buffer
+pub record PutsText (octets before after : List ℕ) (needed status : ℕ) : Type 0 where
+  pub text : List ℕ
+  pub is : IsTextOf octets text
+  pub puts : Puts text before after needed status
+
+abbrev pub DecodesTo : List ℕ → List ℕ → List ℕ → ℕ → ℕ → Type 0
+DecodesTo octets before after needed status =
+    PutsText octets before after needed status ⊎ (IsKept before after needed × ((status ≡ no_memory) ⊎ IsNoValueEncoded octets status))

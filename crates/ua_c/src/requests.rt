@@ -1,0 +1,338 @@
+//! Requests from texts.
+
+ghost use Rattle.std.specs.Prelude.{◌≡◌, IfOk, IfErr};
+ghost use Rattle.ua_requests.specs.Requests.{activate_session, close_session, create_session, get_endpoints};
+ghost use Rattle.ua_c.specs.Requests.{AreNamed, AreNoNodes, AreNodeTexts, AreUnnamed, IsNoNode, IsNoRange, IsNodeText, IsRangeText, IsUnnamed, Makes, MakesOfUrl, MakesRead, MakesUnder, MakesWrite, Names, PutsBody, PutsMade, items_of};
+
+use crate::making::url_of;
+use crate::status::{BAD_TEXT, NO_MEMORY};
+use crate::texts::{put, value_of};
+use std::alloc::{AllocError, Global};
+use std::str;
+use ua_builtin::{DateTime, NodeId, TextFault, UaString, WriteFault};
+use ua_requests::{
+    activate_session_request, close_session_request, create_session_request, get_endpoints_request,
+    read_item, read_request, write_item, write_request,
+};
+use ua_services::{ReadValueId, Request, request_body};
+
+/// The NodeId that a text names, or a status.
+fn node_named(alloc: Global, text: &str) -> Result<NodeId, u32>
+    ensures node { IfOk result (λ node. Names text.now node) }
+    ensures fault { IfErr result (λ status. IsUnnamed text.now status) }
+{
+    match NodeId::parse_text(alloc, text) {
+        Ok(node) => Ok(node),
+        Err(TextFault::NotNodeId) => Err(BAD_TEXT),
+        Err(TextFault::OutOfMemory) => Err(NO_MEMORY),
+    }
+}
+
+/// The NodeId that octets name, or a status.
+fn node_of(alloc: Global, octets: &[u8]) -> Result<NodeId, u32>
+    ensures node { IfOk result (λ node. IsNodeText octets.now node) }
+    ensures fault { IfErr result (λ status. IsNoNode octets.now status) }
+{
+    match str::from_utf8(octets) {
+        Ok(text) => node_named(alloc, text),
+        Err(_) => Err(BAD_TEXT),
+    }
+}
+
+/// The NodeIds that the lines of a text name, or a status.
+fn nodes_named(alloc: Global, text: &str) -> Result<Vec<NodeId>, u32>
+    ensures nodes { IfOk result (λ nodes. AreNamed text.now nodes.items) }
+    ensures fault { IfErr result (λ status. AreUnnamed text.now status) }
+{
+    let mut nodes = Vec::new(alloc);
+    for line in text.split('\n') {
+        let node = match node_named(alloc, line) {
+            Ok(node) => node,
+            Err(status) => return Err(status),
+        };
+        let Ok(()) = nodes.push(node) else {
+            return Err(NO_MEMORY);
+        };
+    }
+    Ok(nodes)
+}
+
+/// The NodeIds that the lines of octets name, or a status.
+pub(crate) fn nodes_of(alloc: Global, octets: &[u8]) -> Result<Vec<NodeId>, u32>
+    ensures nodes { IfOk result (λ nodes. AreNodeTexts octets.now nodes.items) }
+    ensures fault { IfErr result (λ status. AreNoNodes octets.now status) }
+{
+    match str::from_utf8(octets) {
+        Ok(text) => nodes_named(alloc, text),
+        Err(_) => Err(BAD_TEXT),
+    }
+}
+
+/// The index range that octets are, null where there are none, or a status.
+fn range_of(alloc: Global, octets: &[u8]) -> Result<UaString, u32>
+    ensures range { IfOk result (λ range. IsRangeText octets.now range) }
+    ensures fault { IfErr result (λ status. IsNoRange octets.now status) }
+{
+    if octets.is_empty() {
+        return Ok(UaString::null());
+    }
+    let Ok(text) = str::from_utf8(octets) else {
+        return Err(BAD_TEXT);
+    };
+    match UaString::from_str(alloc, text) {
+        Ok(range) => Ok(range),
+        Err(_) => Err(NO_MEMORY),
+    }
+}
+
+/// Puts the body of a request into a buffer.
+fn put_request(alloc: Global, request: Request, buffer: &mut [u8], needed: &mut usize) -> u32
+    ensures { PutsBody request buffer.old buffer.new needed.new result }
+{
+    *needed = 0;
+    match request_body(alloc, request) {
+        Ok(body) => put(body.as_slice(), buffer, needed),
+        Err(WriteFault::NotWritable) => BAD_TEXT,
+        Err(WriteFault::OutOfMemory) => NO_MEMORY,
+    }
+}
+
+/// Puts the body of a request into a buffer, if there is one.
+fn put_made(alloc: Global, made: Result<Request, u32>, buffer: &mut [u8], needed: &mut usize) -> u32
+    ensures { PutsMade made buffer.old buffer.new needed.new result }
+{
+    match made {
+        Ok(request) => put_request(alloc, request, buffer, needed),
+        Err(status) => {
+            *needed = 0;
+            status
+        }
+    }
+}
+
+/// A request of CreateSession.
+fn creating(alloc: Global, url: &[u8], moment: DateTime, handle: u32) -> Result<Request, u32>
+    ensures { MakesOfUrl (λ u. create_session u moment handle) url.now result }
+{
+    let url = match url_of(alloc, url) {
+        Ok(url) => url,
+        Err(status) => return Err(status),
+    };
+    match create_session_request(alloc, url, moment, handle) {
+        Ok(request) => Ok(request),
+        Err(_) => Err(NO_MEMORY),
+    }
+}
+
+/// A request of ActivateSession under a token.
+fn activating(alloc: Global, token: &[u8], moment: DateTime, handle: u32) -> Result<Request, u32>
+    ensures { MakesUnder (λ id. activate_session id moment handle) token.now result }
+{
+    let token = match node_of(alloc, token) {
+        Ok(token) => token,
+        Err(status) => return Err(status),
+    };
+    match activate_session_request(alloc, token, moment, handle) {
+        Ok(request) => Ok(request),
+        Err(_) => Err(NO_MEMORY),
+    }
+}
+
+/// The items of a Read of the Values of nodes, or of the parts of them that an index range names.
+fn items_of(
+    alloc: Global,
+    nodes: &[NodeId],
+    range: &UaString,
+) -> Result<Vec<ReadValueId>, AllocError>
+    ensures { IfOk result (λ items. items.items ≡ items_of range.now nodes.now) }
+{
+    let mut items = Vec::with_capacity(alloc, nodes.len())?;
+    for node in nodes {
+        items.push(read_item(node.try_clone()?, range.try_clone()?))?;
+    }
+    Ok(items)
+}
+
+/// A request of Read for the Values of the nodes that lines name, or for the parts of them that an
+/// index range names, under a token.
+fn reading(
+    alloc: Global,
+    token: &[u8],
+    moment: DateTime,
+    handle: u32,
+    nodes: &[u8],
+    range: &[u8],
+) -> Result<Request, u32>
+    ensures { MakesRead token.now moment handle nodes.now range.now result }
+{
+    let range = match range_of(alloc, range) {
+        Ok(range) => range,
+        Err(status) => return Err(status),
+    };
+    let nodes = match nodes_of(alloc, nodes) {
+        Ok(nodes) => nodes,
+        Err(status) => return Err(status),
+    };
+    let token = match node_of(alloc, token) {
+        Ok(token) => token,
+        Err(status) => return Err(status),
+    };
+    match items_of(alloc, nodes.as_slice(), &range) {
+        Ok(items) => Ok(read_request(token, moment, handle, items)),
+        Err(_) => Err(NO_MEMORY),
+    }
+}
+
+/// A request of Write for the Value of a node, under a token.
+fn writing(
+    alloc: Global,
+    token: &[u8],
+    moment: DateTime,
+    handle: u32,
+    node: &[u8],
+    kind: &[u8],
+    text: &[u8],
+) -> Result<Request, u32>
+    ensures { MakesWrite token.now moment handle node.now kind.now text.now result }
+{
+    let value = match value_of(alloc, kind, text) {
+        Ok(value) => value,
+        Err(status) => return Err(status),
+    };
+    let node = match node_of(alloc, node) {
+        Ok(node) => node,
+        Err(status) => return Err(status),
+    };
+    let token = match node_of(alloc, token) {
+        Ok(token) => token,
+        Err(status) => return Err(status),
+    };
+    let mut items = Vec::new(alloc);
+    match items.push(write_item(node, value)) {
+        Ok(()) => Ok(write_request(token, moment, handle, items)),
+        Err(_) => Err(NO_MEMORY),
+    }
+}
+
+/// The body of a GetEndpoints for the server of this URL.
+#[unsafe(no_mangle)]
+pub extern "C" fn ua_get_endpoints_request(
+    alloc: Global,
+    url: &[u8],
+    moment: i64,
+    handle: u32,
+    buffer: &mut [u8],
+    needed: &mut usize,
+) -> u32
+    ensures { Makes (λ made. MakesOfUrl (λ u. get_endpoints u (record { ticks = moment }) handle) url.now made) buffer.old buffer.new needed.new result }
+{
+    let made = match url_of(alloc, url) {
+        Ok(url) => Ok(get_endpoints_request(url, DateTime { ticks: moment }, handle)),
+        Err(status) => Err(status),
+    };
+    put_made(alloc, made, buffer, needed)
+}
+
+/// The body of a CreateSession for the server of this URL.
+#[unsafe(no_mangle)]
+pub extern "C" fn ua_create_session_request(
+    alloc: Global,
+    url: &[u8],
+    moment: i64,
+    handle: u32,
+    buffer: &mut [u8],
+    needed: &mut usize,
+) -> u32
+    ensures { Makes (λ made. MakesOfUrl (λ u. create_session u (record { ticks = moment }) handle) url.now made) buffer.old buffer.new needed.new result }
+{
+    let made = creating(alloc, url, DateTime { ticks: moment }, handle);
+    put_made(alloc, made, buffer, needed)
+}
+
+/// The body of an ActivateSession under this token, by a user without a name.
+#[unsafe(no_mangle)]
+pub extern "C" fn ua_activate_session_request(
+    alloc: Global,
+    token: &[u8],
+    moment: i64,
+    handle: u32,
+    buffer: &mut [u8],
+    needed: &mut usize,
+) -> u32
+    ensures { Makes (λ made. MakesUnder (λ id. activate_session id (record { ticks = moment }) handle) token.now made) buffer.old buffer.new needed.new result }
+{
+    let made = activating(alloc, token, DateTime { ticks: moment }, handle);
+    put_made(alloc, made, buffer, needed)
+}
+
+/// The body of a CloseSession under this token.
+#[unsafe(no_mangle)]
+pub extern "C" fn ua_close_session_request(
+    alloc: Global,
+    token: &[u8],
+    moment: i64,
+    handle: u32,
+    buffer: &mut [u8],
+    needed: &mut usize,
+) -> u32
+    ensures { Makes (λ made. MakesUnder (λ id. close_session id (record { ticks = moment }) handle) token.now made) buffer.old buffer.new needed.new result }
+{
+    let made = match node_of(alloc, token) {
+        Ok(token) => Ok(close_session_request(token, DateTime { ticks: moment }, handle)),
+        Err(status) => Err(status),
+    };
+    put_made(alloc, made, buffer, needed)
+}
+
+/// The body of a Read for the Values of the nodes that lines name, or for the parts of them that an
+/// index range names.
+#[unsafe(no_mangle)]
+pub extern "C" fn ua_read_request(
+    alloc: Global,
+    token: &[u8],
+    moment: i64,
+    handle: u32,
+    nodes: &[u8],
+    range: &[u8],
+    buffer: &mut [u8],
+    needed: &mut usize,
+) -> u32
+    ensures { Makes (λ made. MakesRead token.now (record { ticks = moment }) handle nodes.now range.now made) buffer.old buffer.new needed.new result }
+{
+    let made = reading(
+        alloc,
+        token,
+        DateTime { ticks: moment },
+        handle,
+        nodes,
+        range,
+    );
+    put_made(alloc, made, buffer, needed)
+}
+
+/// The body of a Write that sets the Value of a node to the one that a type and a text denote.
+#[unsafe(no_mangle)]
+pub extern "C" fn ua_write_request(
+    alloc: Global,
+    token: &[u8],
+    moment: i64,
+    handle: u32,
+    node: &[u8],
+    kind: &[u8],
+    text: &[u8],
+    buffer: &mut [u8],
+    needed: &mut usize,
+) -> u32
+    ensures { Makes (λ made. MakesWrite token.now (record { ticks = moment }) handle node.now kind.now text.now made) buffer.old buffer.new needed.new result }
+{
+    let made = writing(
+        alloc,
+        token,
+        DateTime { ticks: moment },
+        handle,
+        node,
+        kind,
+        text,
+    );
+    put_made(alloc, made, buffer, needed)
+}

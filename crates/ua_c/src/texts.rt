@@ -1,0 +1,163 @@
+//! What needs no handle: octets as lines, and values as texts.
+
+ghost use Rattle.std.specs.Prelude.{◌≡◌, ◌⊎◌, IfOk, IfErr, MatchOption, string_bytes};
+ghost use Rattle.ua_pair.specs.Dissected.{AreLines, plain};
+ghost use Rattle.ua_c.specs.Status.{no_memory};
+ghost use Rattle.ua_c.specs.Texts.{DecodesTo, DissectsTo, EncodesTo, HasNoValue, IsEncodingOf, IsNoEncoding, IsNoSide, IsNoValueEncoded, IsSide, IsTextOf, IsValueOf, Puts};
+
+use crate::status::{BAD_OCTETS, BAD_SIDE, BAD_TEXT, NO_MEMORY, OK, TOO_SMALL};
+use crate::waiting::move_front;
+use std::alloc::{AllocError, Global};
+use std::str;
+use ua_builtin::{Wire, WriteFault};
+use ua_nodes::{ValueFault, parse_type, parse_value};
+use ua_pair::{Side, dissect};
+use ua_texts::push_variant;
+use ua_variant::Variant;
+
+/// Copies octets to the front of a buffer where they fit, and says how many they are.
+pub(crate) fn put(octets: &[u8], buffer: &mut [u8], needed: &mut usize) -> u32
+    ensures { Puts octets.now buffer.old buffer.new needed.new result }
+{
+    *needed = octets.len();
+    if octets.len() > buffer.len() {
+        return TOO_SMALL;
+    }
+    move_front(octets, buffer);
+    OK
+}
+
+/// The side of a number.
+fn side_of(number: u32) -> Option<Side>
+    ensures { MatchOption result (IsNoSide number) (λ side. IsSide number side) }
+{
+    match number {
+        0 => Some(Side::Client),
+        1 => Some(Side::Server),
+        _ => None,
+    }
+}
+
+/// The lines of octets that one side sent.
+fn lines_of(alloc: Global, octets: &[u8], side: Side) -> Result<String, AllocError>
+    ensures { IfOk result (λ text. AreLines (plain side) octets.now (string_bytes text)) }
+{
+    let mut text = String::new(alloc);
+    dissect(alloc, octets, side, &mut text)?;
+    Ok(text)
+}
+
+/// The octets that one side of a connection sent, as lines, frame by frame and message by message.
+#[unsafe(no_mangle)]
+pub extern "C" fn ua_dissect(
+    alloc: Global,
+    octets: &[u8],
+    side: u32,
+    buffer: &mut [u8],
+    needed: &mut usize,
+) -> u32
+    ensures { DissectsTo octets.now side buffer.old buffer.new needed.new result }
+{
+    *needed = 0;
+    let Some(side) = side_of(side) else {
+        return BAD_SIDE;
+    };
+    match lines_of(alloc, octets, side) {
+        Ok(text) => put(text.as_bytes(), buffer, needed),
+        Err(_) => NO_MEMORY,
+    }
+}
+
+/// The value that a type and a text denote, or a status.
+pub(crate) fn value_of(alloc: Global, kind: &[u8], text: &[u8]) -> Result<Variant, u32>
+    ensures value { IfOk result (λ value. IsValueOf kind.now text.now value) }
+    ensures fault { IfErr result (λ status. HasNoValue kind.now text.now status) }
+{
+    let Ok(kind) = str::from_utf8(kind) else {
+        return Err(BAD_TEXT);
+    };
+    let Ok(text) = str::from_utf8(text) else {
+        return Err(BAD_TEXT);
+    };
+    let Some((kind, array)) = parse_type(kind) else {
+        return Err(BAD_TEXT);
+    };
+    match parse_value(alloc, kind, array, text) {
+        Ok(value) => Ok(value),
+        Err(ValueFault::NotValue) => Err(BAD_TEXT),
+        Err(ValueFault::OutOfMemory) => Err(NO_MEMORY),
+    }
+}
+
+/// The canonical encoding of a value, or a status.
+fn encoding_of(alloc: Global, value: Variant) -> Result<Vec<u8>, u32>
+    ensures octets { IfOk result (λ octets. IsEncodingOf value octets.items) }
+    ensures fault { IfErr result (λ status. IsNoEncoding value status) }
+{
+    let mut octets = Vec::new(alloc);
+    let written = value.write(&mut octets);
+    drop(value);
+    match written {
+        Ok(()) => Ok(octets),
+        Err(WriteFault::NotWritable) => Err(BAD_TEXT),
+        Err(WriteFault::OutOfMemory) => Err(NO_MEMORY),
+    }
+}
+
+/// The canonical encoding of the value that a type and a text denote.
+#[unsafe(no_mangle)]
+pub extern "C" fn ua_encode_value(
+    alloc: Global,
+    kind: &[u8],
+    text: &[u8],
+    buffer: &mut [u8],
+    needed: &mut usize,
+) -> u32
+    ensures { EncodesTo kind.now text.now buffer.old buffer.new needed.new result }
+{
+    *needed = 0;
+    let value = match value_of(alloc, kind, text) {
+        Ok(value) => value,
+        Err(status) => return status,
+    };
+    match encoding_of(alloc, value) {
+        Ok(octets) => put(octets.as_slice(), buffer, needed),
+        Err(status) => status,
+    }
+}
+
+/// The type and the text of the value that octets encode, or a status.
+fn text_of(alloc: Global, octets: &[u8]) -> Result<String, u32>
+    ensures text { IfOk result (λ text. IsTextOf octets.now (string_bytes text)) }
+    ensures fault { IfErr result (λ status. (status ≡ no_memory) ⊎ IsNoValueEncoded octets.now status) }
+{
+    let value = match Variant::read_whole(alloc, octets) {
+        Ok(Some(value)) => value,
+        Ok(None) => return Err(BAD_OCTETS),
+        Err(_) => return Err(NO_MEMORY),
+    };
+    let mut text = String::new(alloc);
+    let pushed = push_variant(alloc, &mut text, &value);
+    drop(value);
+    match pushed {
+        Ok(()) => Ok(text),
+        Err(_) => Err(NO_MEMORY),
+    }
+}
+
+/// The type and the text of the value that octets encode.
+#[unsafe(no_mangle)]
+pub extern "C" fn ua_decode_value(
+    alloc: Global,
+    octets: &[u8],
+    buffer: &mut [u8],
+    needed: &mut usize,
+) -> u32
+    ensures { DecodesTo octets.now buffer.old buffer.new needed.new result }
+{
+    *needed = 0;
+    match text_of(alloc, octets) {
+        Ok(text) => put(text.as_bytes(), buffer, needed),
+        Err(status) => status,
+    }
+}
