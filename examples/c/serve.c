@@ -99,6 +99,10 @@ static void accept_line(int listener, unsigned number, const char *url) {
             exit(1);
         }
         polled[place].fd = accept(listener, NULL, NULL);
+        if (polled[place].fd < 0) {
+            perror("serve: accept");
+            exit(1);
+        }
         numbers[place] = number;
         return;
     }

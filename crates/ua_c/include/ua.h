@@ -27,7 +27,8 @@
  * - Numbers that a call gives back through pointers are written at every status, as 0 where there is
  *   nothing to tell.
  * - A handle that holds nothing, one that holds a machine of the other kind, and one whose connection
- *   ended are statuses.
+ *   ended are statuses; only `ua_client_hello` still makes its HEL then. Where octets wait,
+ *   UA_FETCH_FIRST comes in front of UA_CLOSED.
  * - UA_NO_MEMORY: `malloc` or `realloc` gave null. At `ua_server_step` and `ua_client_take` the
  *   connection then failed, and holds nothing; the server's nodes and session are as they were, or as
  *   the message that was being answered leaves them. At every other call nothing has changed.
@@ -122,7 +123,8 @@ size_t ua_bound(struct ua_handle *handle);
 /* Makes a server over the nodes of a node file (a text, as `ua serve` reads it), found at this URL,
  * whose channel has this id, and puts it into `out`, in the place of what that held.
  * UA_BAD_NODES: `line` is the first bad line, counted from 1. UA_BAD_LIMITS. UA_BAD_TEXT: the URL is
- * no text that can be sent, or the nodes are not UTF-8. After a failure `out` holds what it held. */
+ * no text that can be sent, or the nodes are not UTF-8. UA_NO_MEMORY. After a failure `out` holds what
+ * it held. */
 uint32_t ua_server_new(const uint8_t *nodes, size_t nodes_len, const struct ua_limits *limits,
                        const uint8_t *url, size_t url_len, uint32_t channel,
                        struct ua_handle *out, size_t *line);
@@ -132,7 +134,7 @@ uint32_t ua_server_new(const uint8_t *nodes, size_t nodes_len, const struct ua_l
  * then waits (`waiting` octets): fetch it and send it before the next step. A piece that is not empty
  * is taken in part at least.
  * UA_OK: the connection goes on. UA_ENDED: the client closed it, and nothing is to be sent.
- * UA_REFUSED: what stands behind the octets that were taken is refused for `code`, and the ERR frame
+ * UA_REFUSED: what the octets that were taken end with is refused for `code`, and the ERR frame
  * waits. UA_CLOSED: it ended or failed before. UA_FETCH_FIRST: octets wait.
  * Also UA_NO_MEMORY, UA_NO_HANDLE, UA_OTHER_HANDLE. */
 uint32_t ua_server_step(struct ua_handle *handle, const uint8_t *piece, size_t piece_len,
@@ -151,7 +153,8 @@ uint32_t ua_client_new(const struct ua_limits *limits, const uint8_t *url, size_
                        struct ua_handle *out);
 
 /* The HEL, which waits: send it first.
- * UA_OK, UA_NO_MEMORY, UA_FETCH_FIRST, UA_NO_HANDLE, UA_OTHER_HANDLE. */
+ * UA_OK, also where the client failed or was closed, UA_NO_MEMORY, UA_FETCH_FIRST, UA_NO_HANDLE,
+ * UA_OTHER_HANDLE. */
 uint32_t ua_client_hello(struct ua_handle *handle);
 
 /* Takes octets of the server up to the end of the first frame at which there is something to be sent
@@ -166,7 +169,8 @@ uint32_t ua_client_take(struct ua_handle *handle, const uint8_t *piece, size_t p
 
 /* Asks a call with this body, whose chunks wait: send them. `id` is its request id, under which it is
  * answered. UA_NOT_OPEN, UA_TOO_MANY_PENDING, UA_EXHAUSTED, UA_TOO_LARGE, UA_EMPTY, UA_NO_MEMORY,
- * UA_FETCH_FIRST, UA_NO_HANDLE, UA_OTHER_HANDLE: nothing was asked. */
+ * UA_FETCH_FIRST, UA_NO_HANDLE, UA_OTHER_HANDLE: nothing was asked, and the client stands where it
+ * stood. */
 uint32_t ua_client_ask(struct ua_handle *handle, const uint8_t *body, size_t body_len, uint32_t *id);
 
 /* Asks for a further token; the OPN waits: send it. UA_NOT_OPEN, UA_RENEW_PENDING,
@@ -182,7 +186,7 @@ uint32_t ua_client_close(struct ua_handle *handle, int64_t moment);
  * buffer of no room says how much is needed. At every other status `needed` is 0. */
 
 /* The octets that one side of a connection sent (0: the client, 1: the server), as lines of text, as
- * `ua dissect` prints them. UA_TOO_SMALL, UA_BAD_SIDE, UA_NO_MEMORY. */
+ * `ua dissect` prints them without fields and names. UA_TOO_SMALL, UA_BAD_SIDE, UA_NO_MEMORY. */
 uint32_t ua_dissect(const uint8_t *octets, size_t octets_len, uint32_t side, uint8_t *buffer,
                     size_t buffer_len, size_t *needed);
 
@@ -247,8 +251,9 @@ uint32_t ua_session_token(const uint8_t *body, size_t body_len, uint8_t *buffer,
                           size_t *needed, uint32_t *code);
 
 /* The lines of the reply to a Read or a Write of these nodes, or of one to a GetEndpoints, as `ua read`,
- * `ua write` and `ua endpoints` print them. UA_UNKNOWN: also a reply that has not one answer for each
- * node. Also UA_BAD_TEXT: a line names no node. */
+ * `ua write` and `ua endpoints` print them without names. UA_UNKNOWN: also a reply that has not one
+ * answer for each node. Also UA_BAD_TEXT: a line names no node, as where `nodes` is empty or ends with
+ * an LF; so at a GetEndpoints, too, it has to name some node, as `i=0`. */
 uint32_t ua_response_text(const uint8_t *nodes, size_t nodes_len, const uint8_t *body,
                           size_t body_len, uint8_t *buffer, size_t buffer_len, size_t *needed,
                           uint32_t *code);

@@ -38,6 +38,7 @@ IsNoUrl octets status = (status ≡ no_memory) ⊎ ((status ≡ bad_text) × ¬ 
 
 -- the line of this number is the first bad one of a node file
 pub record IsBadAt (octets : List ℕ) (line : ℕ) : Type 0 where
+  pub utf8 : IsUtf8 octets
   pub reason : LineReason
   pub is : IsFirstBad (node_lines octets) line reason
 
@@ -72,6 +73,7 @@ MakesClient limits url old new status = IsMadeClient limits url old new status �
 -- a server over the nodes of a file waits for a client
 pub record IsStation (nodes : List ℕ) (limits : Limits) (url : List ℕ) (channel : ℕ) (station : Station) : Type 0 where
   pub table : Nodes
+  pub utf8 : IsUtf8 nodes
   pub written : WriteNodes (node_lines nodes) table
   pub is_url : IsUrlOf url (Some url)
   pub services_is : station.services ≡ fresh table (endpoint_of (Some url) limits.max_message_size)

@@ -2,6 +2,7 @@
 
 ghost use Rattle.std.specs.Prelude.{◌≡◌, ◌⊎◌, [], Some, IsTrue, IfOk, IfErr, OnOk};
 ghost use Rattle.std.specs.declared.option.Option.{Option as Maybe};
+ghost use Rattle.std.specs.Str.{IsUtf8};
 ghost use Rattle.ua_nodes.specs.NodeFile.{WriteNodes, node_lines};
 ghost use Rattle.ua_nodes.specs.Sound.{IsSound};
 ghost use Rattle.ua_octets.specs.Counted.{text};
@@ -83,6 +84,7 @@ pub extern "C" fn ua_client_new(
 /// The nodes that the lines of a text write, or a status and the number of the first bad line.
 fn nodes_of(alloc: Global, octets: &[u8], line: &mut usize) -> Result<NodeTable, u32>
     ensures nodes { IfOk result (λ nodes. WriteNodes (node_lines octets.now) nodes) }
+    ensures utf8 { OnOk result (IsUtf8 octets.now) }
     ensures sound { IfOk result (λ nodes. IsSound nodes) }
     ensures fault { IfErr result (λ status. RefusesNodes octets.now line.new status) }
     ensures none { OnOk result (line.new ≡ 0) }
