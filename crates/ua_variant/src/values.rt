@@ -256,7 +256,7 @@ impl Model for Scalars {
 }
 
 impl Variant {
-    ghost use Rattle.std.specs.Prelude.{◌≡◌, IfOk, IfErr};
+    ghost use Rattle.std.specs.Prelude.{◌≡◌, ◌≢◌, ℕ, Option, IfOk, IfErr};
     ghost use Rattle.ua_variant.specs.declared.values.Variant.TheVariants.{Many, One};
 
     /// Hands the scalar over, or the value itself where it holds none.
@@ -264,6 +264,7 @@ impl Variant {
     pub fn into_scalar(self) -> Result<Scalar, Variant>
         ensures taken { IfOk result (λ scalar. self ≡ One scalar) }
         ensures same { IfErr result (λ other. other ≡ self) }
+        ensures other { IfErr result (λ other. (scalar : Scalar) → other ≢ One scalar) }
     {
         match self {
             Variant::One(scalar) => Ok(scalar),
@@ -277,6 +278,7 @@ impl Variant {
     pub fn into_array(self) -> Result<(u8, Option<Scalars>, Dimensions), Variant>
         ensures taken { IfOk result (λ (kind, items, dims). self ≡ Many kind items dims) }
         ensures same { IfErr result (λ other. other ≡ self) }
+        ensures other { IfErr result (λ other. (kind : ℕ) (items : Option Scalars) (dims : Dimensions) → other ≢ Many kind items dims) }
     {
         match self {
             Variant::Many { kind, items, dims } => Ok((kind, items, dims)),
