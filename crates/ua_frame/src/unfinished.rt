@@ -8,7 +8,7 @@ use crate::frame::Frame;
 use crate::gate::Gate;
 use crate::header;
 use crate::header::HEADER_LEN;
-use bytes::BytesMut;
+use bytes::Bytes;
 use std::alloc::{AllocError, Global};
 use std::mem;
 
@@ -19,7 +19,7 @@ pub struct Unfinished {
     pub gate: Gate,
     header: [u8; HEADER_LEN],
     have: usize,
-    body: BytesMut,
+    body: Vec<u8>,
 }
 
 /// Puts the front of a piece where the header goes on.
@@ -33,19 +33,19 @@ fn fill(header: &mut [u8], have: usize, piece: &[u8]) -> usize
     n
 }
 
-/// Adds the front of a piece to a body, up to the length that it is to have.
-fn extend(alloc: Global, body: &mut BytesMut, len: usize, piece: &[u8]) -> Result<usize, AllocError>
+/// Adds the front of a piece to a body, up to the length that it is to have. Room is made for at most
+/// twice the octets that have come, and never for more than that length.
+fn extend(body: &mut Vec<u8>, len: usize, piece: &[u8]) -> Result<usize, AllocError>
     requires { length body.old.items ≤ len }
     ensures count { IfOk result (λ n. n ≡ min (len - length body.old.items) (length piece.now)) }
     ensures added { IfOk result (λ n. body.new.items ≡ body.old.items ++ take n piece.now) }
 {
     let n = (len - body.len()).min(piece.len());
-    if body.is_empty() {
-        // `extend_from_slice` would write zeros first, and octets over them.
-        *body = BytesMut::copy_from_slice(alloc, &piece[..n])?;
-    } else {
-        body.extend_from_slice(&piece[..n])?;
+    if n > body.capacity() - body.len() {
+        let come = body.len() + n;
+        body.reserve_exact(n + come.min(len - come))?;
     }
+    body.extend_from_slice(&piece[..n])?;
     Ok(n)
 }
 
@@ -60,7 +60,7 @@ impl Unfinished {
             gate,
             header: [0; HEADER_LEN],
             have: 0,
-            body: BytesMut::new(alloc),
+            body: Vec::new(alloc),
         }
     }
 
@@ -82,7 +82,7 @@ impl Unfinished {
         ensures gate { self.new.gate ≡ self.old.gate }
     {
         let len = header::read_size(&self.header) as usize - HEADER_LEN;
-        let Ok(n) = extend(alloc, &mut self.body, len, piece) else {
+        let Ok(n) = extend(&mut self.body, len, piece) else {
             *self = Unfinished::new(alloc, self.gate);
             return Err(FrameFault::OutOfMemory);
         };
@@ -90,8 +90,8 @@ impl Unfinished {
             return Ok((n, None));
         }
         self.have = 0;
-        let whole = mem::replace(&mut self.body, BytesMut::new(alloc));
-        let Ok(body) = whole.freeze() else {
+        let whole = mem::replace(&mut self.body, Vec::new(alloc));
+        let Ok(body) = Bytes::from_vec(whole) else {
             return Err(FrameFault::OutOfMemory);
         };
         Ok((n, Some(header::make_frame(&self.header, body))))
