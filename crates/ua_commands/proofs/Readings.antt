@@ -182,9 +182,14 @@ reads_all hex options half d before now after old held new s p = record {
   };
 }
 
-pub has_begun : (hex : Bool) (options : DissectOptions) (half : Option ℕ) (d : Dissector) (before now old held : Option (List ℕ)) → ReadSoFar hex options half d before now old held → HasBegunDissecting options old held
+pub has_begun : (hex : Bool) (options : DissectOptions) (half : Option ℕ) (d : Dissector) (before now old held : Option (List ℕ)) → ReadSoFar hex options half d before now old held → HasBegunDissecting hex options before old held
 has_begun hex options half d before now old held s = record {
+  after = now;
+  content = s.content;
+  consumed = s.consumed;
+  half = half;
   octets = s.so_far.octets;
+  holds = s.so_far.holds;
   text = s.told;
   told = s.so_far.stands.are;
   added = s.added;
@@ -221,5 +226,5 @@ dissected hex options before after old new d = record {
   added = d.printed.added;
 }
 
-pub told_some : (options : DissectOptions) (old new : Option (List ℕ)) → HasBegunDissecting options old new → HasToldSome old new
-told_some options old new h = record { options = options; lines = h }
+pub told_some : (hex : Bool) (options : DissectOptions) (source old new : Option (List ℕ)) → HasBegunDissecting hex options source old new → HasToldSome old new
+told_some hex options source old new h = record { hex = hex; options = options; source = source; lines = h }

@@ -24,9 +24,14 @@ pub record HasDissectedAll (hex : Bool) (options : DissectOptions) (content : Li
   pub lines : AreLinesOf hex options content text
   pub added : Appends old new text
 
--- a writer that held the old octets then holds behind them the lines of the frames of some octets, but for the last line
-pub record HasBegunDissecting (options : DissectOptions) (old new : Option (List ℕ)) : Type 0 where
+-- content was read from the front of a source, and a writer that held the old octets then holds behind them the lines of the frames of what it holds so far, but for the last line
+pub record HasBegunDissecting (hex : Bool) (options : DissectOptions) (before old new : Option (List ℕ)) : Type 0 where
+  pub after : Option (List ℕ)
+  pub content : List ℕ
+  pub consumed : Consumes before after content
+  pub half : Option ℕ
   pub octets : List ℕ
+  pub holds : HoldsSoFar hex half content octets
   pub text : List ℕ
   pub told : AreTold options octets text
   pub added : Appends old new text

@@ -41,10 +41,12 @@ pub record HasBegunServing (old new : Option (List ℕ)) : Type 0 where
   pub connections : ℕ
   pub lines : HasServed port connections old new
 
--- a writer that held the old octets then holds behind them the lines of frames of one side, without a last line
+-- a writer that held the old octets then holds behind them the lines of the frames of one side that the front of some source holds, without a last line
 pub record HasToldSome (old new : Option (List ℕ)) : Type 0 where
+  pub hex : Bool
   pub options : DissectOptions
-  pub lines : HasBegunDissecting options old new
+  pub source : Option (List ℕ)
+  pub lines : HasBegunDissecting hex options source old new
 
 -- what a run may add that then meets a fault: the lines of frames, the first lines of `ua serve`, lines of answers, or those of a script
 abbrev pub HasBegun : Option (List ℕ) → Option (List ℕ) → Type 0

@@ -122,7 +122,7 @@ pub fn dissect_source<'a, I: Read, O: Write>(
     out: &mut O,
 ) -> Result<(), Stop<'a>>
     ensures lines { OnOk result (DissectsAll asked.now.hex asked.now.options (I.remaining source.old) (I.remaining source.new) (O.contents out.old) (O.contents out.new)) }
-    ensures begun { IfErr result (λ stop. (stop ≡ Output) ⊎ HasBegunDissecting asked.now.options (O.contents out.old) (O.contents out.new)) }
+    ensures begun { IfErr result (λ stop. (stop ≡ Output) ⊎ HasBegunDissecting asked.now.hex asked.now.options (I.remaining source.old) (O.contents out.old) (O.contents out.new)) }
     ensures stopped { IfErr result (λ stop. StopsReading asked.now.hex asked.now.file (I.remaining source.old) stop) }
 {
     let mut digits = HexPieces::new();

@@ -5,7 +5,7 @@
 //! their lines are added, and any octets have one list of lines (`laws`). [`dissect`] takes them at once.
 //!
 //! ```
-//! let mut dissector = Dissector::new(alloc, Side::Client);
+//! let mut dissector = Dissector::new(alloc, DissectOptions::plain(Side::Client));
 //! let mut text = String::new(alloc);
 //! for piece in pieces {
 //!     dissector.take(piece, &mut text)?; // an error leaves the text as it was

@@ -11,6 +11,6 @@ returns-clause-stopped g c =
     IfErr-weaker c.dissect_source.result _ _
     (λ why begun. elim begun [
       | inl output ↦ inl output
-      | inr lines ↦ inr (told_some _ _ _ lines)
+      | inr lines ↦ inr (told_some _ _ _ _ _ lines)
     ])
     c.dissect_source.ensures.begun
