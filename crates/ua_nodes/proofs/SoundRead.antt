@@ -1,5 +1,5 @@
 -- What a Read of a sound table answers can be written.
-use Rattle.std.proofs.Common.{◌≡◌, ℕ, suc, ◌+◌, ◌<◌, ◌≤◌, Bool, true, false, not, ◌&&◌, cond, if◌then◌else◌, leb, nat_eq, nat_lt, List, [], ◌∷◌, Option, Some, None, pos, refl, sym, ◌∙◌, ap, subst, arith, lit<}
+use Rattle.std.proofs.Common.{◌≡◌, ℕ, suc, ◌+◌, ◌<◌, ◌≤◌, Bool, true, false, not, ◌&&◌, cond, if◌then◌else◌, leb, nat_eq, nat_lt, List, [], ◌∷◌, Option, Some, None, option_map, pos, refl, sym, ◌∙◌, ap, subst, arith, lit<}
 use Rattle.std.proofs.lemmas.Bool.{eqb-true, lt-ltb, ltb-true, le-leb, leb-true}
 use Rattle.ua_builtin.specs.Counted.{text}
 use Rattle.ua_builtin.specs.DateTime.{date_time}
@@ -13,17 +13,19 @@ use Rattle.ua_builtin.specs.declared.node_id.Identifier.{Identifier}
 use Rattle.ua_builtin.specs.declared.node_id.Identifier.TheVariants.{Numeric, Text, Guid as Global, Opaque}
 use Rattle.ua_builtin.specs.declared.status_code.StatusCode.{StatusCode}
 use Rattle.ua_structures.specs.declared.attribute.ReadValueId.{ReadValueId}
-use Rattle.ua_variant.specs.Data.{LeafData, boolean, sbyte, byte, int16, uint16, int32, uint32, int64, uint64, float, double, string, date_time as date_time_leaf, guid, byte_string, xml_element, node_id, expanded_node_id, status_code, qualified_name, localized_text, extension_object, reserved, ScalarData, leaf, data_value, variant, diagnostic, ScalarsData, no_scalars, scalar, VariantData, null, one, absent, many}
+use Rattle.ua_variant.specs.Data.{DataFields, LeafData, boolean, sbyte, byte, int16, uint16, int32, uint32, int64, uint64, float, double, string, date_time as date_time_leaf, guid, byte_string, xml_element, node_id, expanded_node_id, status_code, qualified_name, localized_text, extension_object, reserved, ScalarData, leaf, data_value, variant, diagnostic, ScalarsData, no_scalars, scalar, VariantData, null, one, absent, many}
 use Rattle.ua_variant.specs.Encodable.{kind_of, is_kind, dims_encodable, row_length, scalar_fits, scalars_fit, variant_fits, data_fields_encodable, data_value_encodable}
 use Rattle.ua_variant.specs.Leaf.{leaf_kind, leaf_encodable}
 use Rattle.ua_variant.specs.Measure.{scalars_depth, variant_depth}
 use Rattle.ua_variant.specs.View.{row, row_list}
+use Rattle.ua_nodes.specs.declared.attribute.Attribute.{Attribute}
+use Rattle.ua_nodes.specs.declared.attribute.Attribute.TheVariants as attribute
 use Rattle.ua_nodes.specs.declared.node.Variable.{Variable}
 use Rattle.ua_nodes.specs.declared.range.IndexRange.{IndexRange}
 use Rattle.ua_nodes.specs.declared.stamps.Stamps.{Stamps}
-use Rattle.ua_nodes.specs.Attribute.{level, access_level, single, type_node, attribute_value}
+use Rattle.ua_nodes.specs.Attribute.{level, access_level, single, type_node, attribute_of, attribute_value}
 use Rattle.ua_nodes.specs.Range.{asked_range, is_within, ranged_from, ranged, part_of}
-use Rattle.ua_nodes.specs.Read.{read_reasons, gives_source, gives_server, refused, where_so, stamps_of, value_read, read_by, read_answer}
+use Rattle.ua_nodes.specs.Read.{read_item_reasons, gives_source, gives_server, refused, where_so, stamps_of, value_read, with_stamps, read_by, read_answer}
 use Rattle.ua_nodes.specs.Sound.{held_fields, IsSoundNode, IsSound}
 use Rattle.ua_builtin.specs.Reasons.{first_reason}
 use Rattle.ua_nodes.specs.Status.{bad_node_id_unknown, bad_attribute_id_invalid, bad_index_range_invalid, bad_index_range_no_data, bad_data_encoding_invalid, bad_not_readable}
@@ -52,7 +54,7 @@ where_holds false code rest here more c e = more c e
 no_code : CodeFits None
 no_code c e = absurd cc
 
-reason_fits : (v : Variable) (item : ReadValueId) → CodeFits (first_reason (read_reasons v item))
+reason_fits : (v : Variable) (item : ReadValueId) → CodeFits (first_reason (read_item_reasons v item))
 reason_fits v item =
     where_holds _ bad_attribute_id_invalid _ refl (
     where_holds _ bad_index_range_invalid _ refl (
@@ -69,10 +71,6 @@ record Fits (x : VariantData) : Type 0 where
 
 single_fits : (l : LeafData) → leaf_encodable l ≡ true → Fits (single l)
 single_fits l h = record { depth = omega arith; fits = h }
-
-where_so_fits : (t : Bool) (x rest : VariantData) → Fits x → Fits rest → Fits (cond t x rest)
-where_so_fits true x rest here more = here
-where_so_fits false x rest here more = more
 
 namespace_fits : (ns : ℕ) (i : Identifier) → node_id_format.encodable (node ns i) ≡ true → nat_lt ns 65536 ≡ true
 unfolding node_id_format
@@ -153,15 +151,15 @@ kind_fits kind array (many k ss ds) h f =
     let known = (both_true (is_kind k) (leb n 2147483647) (both_true (is_kind k && leb n 2147483647) (dims_encodable ds n) (both_true (is_kind k && leb n 2147483647 && dims_encodable ds n) (scalars_fit k ss) f).0).0).0 in
     ap_less (same_kind kind k array (has_none ds) h) (kind_small k known)
 
-attribute_fits : (id : NodeId) (v : Variable) (n : ℕ) → IsSoundNode id v → Fits v.value → Fits (attribute_value id v n)
-attribute_fits id v n w value =
-    where_so_fits (nat_eq n 1) _ _ (single_fits (node_id id) w.id_fits) (
-    where_so_fits (nat_eq n 2) _ _ (single_fits (int32 (pos 2)) refl) (
-    where_so_fits (nat_eq n 3) _ _ (single_fits (qualified_name (record { namespace = id.namespace; name = v.name })) (qualified_fits id v.name w.id_fits w.name_fits)) (
-    where_so_fits (nat_eq n 4) _ _ (single_fits (localized_text (record { locale = None; text = v.name })) (localized_fits v.name w.name_fits)) (
-    where_so_fits (nat_eq n 13) _ _ value (
-    where_so_fits (nat_eq n 14) _ _ (single_fits (node_id (type_node v.kind)) (numeric_fits 0 v.kind (omega arith) (kind_fits v.kind v.array v.value w.of_type value.fits))) (
-    single_fits (byte (access_level v.access)) (level_fits v.access.readable v.access.writable)))))))
+attribute_fits : (id : NodeId) (v : Variable) (a : Attribute) → IsSoundNode id v → Fits v.value → Fits (attribute_value id v a)
+attribute_fits id v attribute.NodeId w value = single_fits (node_id id) w.id_fits
+attribute_fits id v attribute.NodeClass w value = single_fits (int32 (pos 2)) refl
+attribute_fits id v attribute.BrowseName w value = single_fits (qualified_name (record { namespace = id.namespace; name = v.name })) (qualified_fits id v.name w.id_fits w.name_fits)
+attribute_fits id v attribute.DisplayName w value = single_fits (localized_text (record { locale = None; text = v.name })) (localized_fits v.name w.name_fits)
+attribute_fits id v attribute.Value w value = value
+attribute_fits id v attribute.DataType w value = single_fits (node_id (type_node v.kind)) (numeric_fits 0 v.kind (omega arith) (kind_fits v.kind v.array v.value w.of_type value.fits))
+attribute_fits id v attribute.AccessLevel w value = single_fits (byte (access_level v.access)) (level_fits v.access.readable v.access.writable)
+attribute_fits id v attribute.UserAccessLevel w value = single_fits (byte (access_level v.access)) (level_fits v.access.readable v.access.writable)
 
 -- ---- parts of arrays
 
@@ -213,9 +211,9 @@ part_of_fits r (many kind ss ds) h =
     let each = part_fits r 0 kind ss a.1 in
     record { depth = omega arith; fits = rw (c.0, counted, each) refl }
 
-value_read_fits : (id : NodeId) (v : Variable) (n : ℕ) (o : Option IndexRange) → IsSoundNode id v → Fits v.value → Fits (value_read id v n o)
-value_read_fits id v n None w value = attribute_fits id v n w value
-value_read_fits id v n (Some r) w value = part_of_fits r v.value value
+value_read_fits : (id : NodeId) (v : Variable) (a : Attribute) (o : Option IndexRange) → IsSoundNode id v → Fits v.value → Fits (value_read id v a o)
+value_read_fits id v a None w value = attribute_fits id v a w value
+value_read_fits id v a (Some r) w value = part_of_fits r v.value value
 
 -- ---- status and times
 
@@ -237,17 +235,23 @@ stamps_fit v is_value stamps moment m h =
 
 -- ---- answers
 
+stamped_fits : (o : Option Attribute) (value : Attribute → VariantData) (fields : DataFields) → ((a : Attribute) → Fits (value a)) → data_fields_encodable fields ≡ true → data_value_encodable (with_stamps (option_map value o) fields) ≡ true
+stamped_fits None value fields each h = h
+stamped_fits (Some a) value fields each h =
+    let fits = each a in
+    let low = fits.depth in
+    both_are (leb (1 + variant_depth (value a)) 100) (data_fields_encodable fields && variant_fits (value a)) (le-leb (1 + variant_depth (value a)) 100 (omega arith))
+    (both_are (data_fields_encodable fields) (variant_fits (value a)) h fits.fits)
+
 by_reason : (o : Option StatusCode) (v : Variable) (item : ReadValueId) (stamps : Stamps) (moment : DateTime) → date_time.encodable moment ≡ true → IsSoundNode item.node_id v → CodeFits o → data_value_encodable (read_by o v item stamps moment) ≡ true
 by_reason (Some code) v item stamps moment m w c = code_fits code (c code refl)
 by_reason None v item stamps moment m w c =
     let held_parts = both_true (leb (1 + variant_depth v.value) 100) (data_fields_encodable (held_fields v) && variant_fits v.value) w.value_fits in
     let deep = leb-true (1 + variant_depth v.value) 100 held_parts.0 in
     let parts = both_true (data_fields_encodable (held_fields v)) (variant_fits v.value) held_parts.1 in
-    let x = value_read item.node_id v item.attribute_id (asked_range item.index_range) in
-    let fits = value_read_fits item.node_id v item.attribute_id (asked_range item.index_range) w (record { depth = omega arith; fits = parts.1 }) in
-    let low = fits.depth in
-    both_are (leb (1 + variant_depth x) 100) (data_fields_encodable (stamps_of v (nat_eq item.attribute_id 13) stamps moment) && variant_fits x) (le-leb (1 + variant_depth x) 100 (omega arith))
-    (both_are (data_fields_encodable (stamps_of v (nat_eq item.attribute_id 13) stamps moment)) (variant_fits x) (stamps_fit v (nat_eq item.attribute_id 13) stamps moment m parts.0) fits.fits)
+    let value : Fits v.value = record { depth = omega arith; fits = parts.1 } in
+    stamped_fits (attribute_of item.attribute_id) (λ a. value_read item.node_id v a (asked_range item.index_range)) (stamps_of v (nat_eq item.attribute_id 13) stamps moment)
+    (λ a. value_read_fits item.node_id v a (asked_range item.index_range) w value) (stamps_fit v (nat_eq item.attribute_id 13) stamps moment m parts.0)
 
 pub sound_at : (nodes : Nodes) (id : NodeId) (v : Variable) → IsSound nodes → node_at nodes id ≡ Some v → IsSoundNode id v
 sound_at [] id v h e = absurd cc
@@ -265,4 +269,4 @@ read_sound nodes item stamps moment m h = by (node_at nodes item.node_id) refl
   where
     by : (o : Option Variable) → node_at nodes item.node_id ≡ o → data_value_encodable (read_answer o item stamps moment) ≡ true
     by None e = code_fits bad_node_id_unknown refl
-    by (Some v) e = by_reason (first_reason (read_reasons v item)) v item stamps moment m (sound_at nodes item.node_id v h e) (reason_fits v item)
+    by (Some v) e = by_reason (first_reason (read_item_reasons v item)) v item stamps moment m (sound_at nodes item.node_id v h e) (reason_fits v item)

@@ -18,7 +18,7 @@ use Rattle.ua_nodes.specs.Sound.{held_fields, held, IsSoundNode, IsSound}
 use Rattle.ua_builtin.specs.Reasons.{first_reason}
 use Rattle.ua_nodes.specs.Status.{bad_attribute_id_invalid, bad_not_writable, bad_write_not_supported, bad_type_mismatch}
 use Rattle.ua_nodes.specs.Table.{Nodes}
-use Rattle.ua_nodes.specs.Write.{is_of_type, holds_type, write_reasons, or_else, time_of, picoseconds_of, stored, written_by, is_good_for, later, last_good, after_write}
+use Rattle.ua_nodes.specs.Write.{is_of_type, holds_type, write_item_reasons, or_else, time_of, picoseconds_of, stored, written_by, is_good_for, later, last_good, after_write}
 use Rattle.ua_octets.proofs.Readers.{both_true}
 use Rattle.ua_nodes.proofs.Fits.{both_are}
 use Rattle.ua_nodes.proofs.FieldsFit.{field_fits, parts_of, fields_from}
@@ -48,7 +48,7 @@ not_refused : (a : Bool) → not a ≡ false → a ≡ true
 not_refused true e = refl
 not_refused false e = absurd cc
 
-gives : (v : Variable) (item : WriteValue) → is_none (first_reason (write_reasons v item)) ≡ true → Gives v item
+gives : (v : Variable) (item : WriteValue) → is_none (first_reason (write_item_reasons v item)) ≡ true → Gives v item
 gives v item h =
     let fits = holds_type v.kind v.array item.value.value && data_value_encodable (data_value_of item.value) in
     let last = last_fails (not (is_attribute item.attribute_id)) (not (nat_eq item.attribute_id 13 && v.access.writable)) (is_filled item.index_range || is_none item.value.value) (not fits)
@@ -92,18 +92,18 @@ good_sound id v item moment m w g =
     record { id_fits = w.id_fits; name_fits = w.name_fits; of_type = s.0; value_fits = s.1 }
 
 -- the last good item is good
-last_is_good : (node : NodeId × Variable) (items : List WriteValue) (item : WriteValue) → last_good node items ≡ Some item → is_none (first_reason (write_reasons node.1 item)) ≡ true
+last_is_good : (node : NodeId × Variable) (items : List WriteValue) (item : WriteValue) → last_good node items ≡ Some item → is_none (first_reason (write_item_reasons node.1 item)) ≡ true
 last_is_good node [] item e = absurd cc
 last_is_good node (i ∷ items) item e = by (is_good_for node i) (last_good node items) refl refl e (last_is_good node items item)
   where
     by : (t : Bool) (o : Option WriteValue) → is_good_for node i ≡ t → last_good node items ≡ o → later (cond t (Some i) None) o ≡ Some item
-        → (last_good node items ≡ Some item → is_none (first_reason (write_reasons node.1 item)) ≡ true) → is_none (first_reason (write_reasons node.1 item)) ≡ true
+        → (last_good node items ≡ Some item → is_none (first_reason (write_item_reasons node.1 item)) ≡ true) → is_none (first_reason (write_item_reasons node.1 item)) ≡ true
     by t (Some x) h l f more = more (l ∙ f)
     by false None h l f more = absurd cc
     by true None h l f more =
         let same : i ≡ item = cc in
-        let good = both_true _ (is_none (first_reason (write_reasons node.1 i))) h in
-        subst (λ (x : WriteValue). is_none (first_reason (write_reasons node.1 x)) ≡ true) same good.1
+        let good = both_true _ (is_none (first_reason (write_item_reasons node.1 i))) h in
+        subst (λ (x : WriteValue). is_none (first_reason (write_item_reasons node.1 x)) ≡ true) same good.1
 
 written_sound : (node : NodeId × Variable) (items : List WriteValue) (moment : DateTime) → date_time.encodable moment ≡ true → IsSoundNode node.0 node.1 → IsSoundNode node.0 (written_by node.1 (last_good node items) moment)
 written_sound node items moment m w = by (last_good node items) refl

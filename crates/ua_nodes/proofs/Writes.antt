@@ -12,7 +12,7 @@ use Rattle.ua_structures.specs.declared.attribute.WriteValue.{WriteValue}
 use Rattle.ua_nodes.specs.declared.node.Variable.{Variable}
 use Rattle.ua_builtin.specs.Reasons.{first_reason}
 use Rattle.ua_nodes.specs.Table.{Nodes, node_at, same_id}
-use Rattle.ua_nodes.specs.Write.{write_reasons, write_answer, written_by, is_good_for, later, last_good, after_item, after_write, write_answers}
+use Rattle.ua_nodes.specs.Write.{write_item_reasons, write_answer, written_by, is_good_for, later, last_good, after_item, after_write, write_answers}
 
 -- the same NodeId is an equal one
 pub same_id_is : (a b : NodeId) → Decides (same_id a b) (a ≡ b)
@@ -29,7 +29,7 @@ abbrev after_one : WriteValue → DateTime → Node → Node
 after_one item moment node = (node.0, written_by node.1 (good_item node item) moment)
 
 apart_one : (item : WriteValue) (moment : DateTime) (node : Node) → same_id item.node_id node.0 ≡ false → after_one item moment node ≡ node
-apart_one item moment node e = ap (λ (t : Bool). (node.0, written_by node.1 (cond (t && is_none (first_reason (write_reasons node.1 item))) (Some item) None) moment)) e
+apart_one item moment node e = ap (λ (t : Bool). (node.0, written_by node.1 (cond (t && is_none (first_reason (write_item_reasons node.1 item))) (Some item) None) moment)) e
 
 head_is : {A : Type 0} {x y : A} {xs ys : List A} → x ≡ y → xs ≡ ys → x ∷ xs ≡ y ∷ ys
 head_is p q = λ i. p i ∷ q i
@@ -62,10 +62,10 @@ past_head id node nodes d e =
 
 -- a node with what an item does to it
 abbrev reached : WriteValue → DateTime → Variable → Variable
-reached item moment v = written_by v (cond (is_none (first_reason (write_reasons v item))) (Some item) None) moment
+reached item moment v = written_by v (cond (is_none (first_reason (write_item_reasons v item))) (Some item) None) moment
 
 here_one : (item : WriteValue) (moment : DateTime) (node : Node) → same_id item.node_id node.0 ≡ true → after_one item moment node ≡ (node.0, reached item moment node.1)
-here_one item moment node e = ap (λ (t : Bool). (node.0, written_by node.1 (cond (t && is_none (first_reason (write_reasons node.1 item))) (Some item) None) moment)) e
+here_one item moment node e = ap (λ (t : Bool). (node.0, written_by node.1 (cond (t && is_none (first_reason (write_item_reasons node.1 item))) (Some item) None) moment)) e
 
 some_same : {x y : Variable} → ◌≡◌ {A = Option Variable} (Some x) (Some y) → x ≡ y
 some_same e = cc

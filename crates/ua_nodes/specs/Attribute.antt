@@ -1,14 +1,39 @@
 -- The attributes of a node (OPC 10000-3, 5.6.2; OPC 10000-6, A.1).
-use Rattle.std.specs.Prelude.{ℕ, pos, Bool, true, false, ◌||◌, cond, nat_eq, None}
+use Rattle.std.specs.Prelude.{ℕ, pos, Bool, true, false, cond, nat_eq, List, [], ◌∷◌, Option, Some, None}
+use Rattle.std.specs.Option.{is_some}
 use Rattle.ua_builtin.specs.declared.node_id.NodeId.{NodeId}
 use Rattle.ua_builtin.specs.declared.node_id.Identifier.TheVariants.{Numeric}
 use Rattle.ua_variant.specs.Data.{LeafData, int32, byte, node_id, qualified_name, localized_text, leaf, VariantData, one}
+use Rattle.ua_nodes.specs.declared.attribute.Attribute.{Attribute}
+use Rattle.ua_nodes.specs.declared.attribute.Attribute.TheVariants as attribute
 use Rattle.ua_nodes.specs.declared.node.Access.{Access}
 use Rattle.ua_nodes.specs.declared.node.Variable.{Variable}
 
--- the attribute ids that a Variable has here
+-- the attributes that a Variable has here, each behind its id
+abbrev pub attributes : List (ℕ × Attribute)
+attributes =
+    (1, attribute.NodeId)
+    ∷ (2, attribute.NodeClass)
+    ∷ (3, attribute.BrowseName)
+    ∷ (4, attribute.DisplayName)
+    ∷ (13, attribute.Value)
+    ∷ (14, attribute.DataType)
+    ∷ (17, attribute.AccessLevel)
+    ∷ (18, attribute.UserAccessLevel)
+    ∷ []
+
+-- what stands in a list behind this number
+abbrev pub behind_number : {A : Type 0} → ℕ → List (ℕ × A) → Option A
+behind_number n [] = None
+behind_number n (x ∷ xs) = cond (nat_eq n x.0) (Some x.1) (behind_number n xs)
+
+-- the attribute with this id, if it is in the list
+abbrev pub attribute_of : ℕ → Option Attribute
+attribute_of n = behind_number n attributes
+
+-- a Variable has an attribute with this id here
 abbrev pub is_attribute : ℕ → Bool
-is_attribute n = nat_eq n 1 || nat_eq n 2 || nat_eq n 3 || nat_eq n 4 || nat_eq n 13 || nat_eq n 14 || nat_eq n 17 || nat_eq n 18
+is_attribute n = is_some (attribute_of n)
 
 -- 1 where the value may be read and 2 where it may be written, added up (OPC 10000-3, 8.57)
 abbrev pub level : Bool → Bool → ℕ
@@ -29,14 +54,13 @@ single l = one (leaf l)
 abbrev pub type_node : ℕ → NodeId
 type_node kind = record { namespace = 0; identifier = Numeric kind }
 
--- what an attribute of a node is: its NodeId, NodeClass, BrowseName, DisplayName, Value, DataType and, else,
--- AccessLevel and UserAccessLevel
-abbrev pub attribute_value : NodeId → Variable → ℕ → VariantData
-attribute_value id v n =
-    cond (nat_eq n 1) (single (node_id id)) (
-    cond (nat_eq n 2) (single (int32 (pos 2))) (
-    cond (nat_eq n 3) (single (qualified_name (record { namespace = id.namespace; name = v.name }))) (
-    cond (nat_eq n 4) (single (localized_text (record { locale = None; text = v.name }))) (
-    cond (nat_eq n 13) v.value (
-    cond (nat_eq n 14) (single (node_id (type_node v.kind))) (
-    single (byte (access_level v.access))))))))
+-- what an attribute of a node is, which this NodeId names
+abbrev pub attribute_value : NodeId → Variable → Attribute → VariantData
+attribute_value id v attribute.NodeId = single (node_id id)
+attribute_value id v attribute.NodeClass = single (int32 (pos 2))
+attribute_value id v attribute.BrowseName = single (qualified_name (record { namespace = id.namespace; name = v.name }))
+attribute_value id v attribute.DisplayName = single (localized_text (record { locale = None; text = v.name }))
+attribute_value id v attribute.Value = v.value
+attribute_value id v attribute.DataType = single (node_id (type_node v.kind))
+attribute_value id v attribute.AccessLevel = single (byte (access_level v.access))
+attribute_value id v attribute.UserAccessLevel = single (byte (access_level v.access))

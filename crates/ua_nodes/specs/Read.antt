@@ -1,5 +1,5 @@
 -- The answer to an item of a Read (OPC 10000-4, 5.11.2).
-use Rattle.std.specs.Prelude.{ℕ, Bool, true, false, not, ◌&&◌, ◌||◌, cond, nat_eq, nat_lt, leb, List, [], ◌∷◌, length, Option, None, Some, Result, Ok, Err, ℤ, pos, negsuc, codes}
+use Rattle.std.specs.Prelude.{ℕ, Bool, true, false, not, ◌&&◌, ◌||◌, cond, nat_eq, nat_lt, leb, List, [], ◌∷◌, length, Option, None, Some, option_map, Result, Ok, Err, ℤ, pos, negsuc, codes}
 use Rattle.std.specs.Option.{is_some}
 use Rattle.std.specs.Str.{bytes_eq}
 use Rattle.ua_builtin.specs.Reasons.{first_reason}
@@ -9,11 +9,12 @@ use Rattle.ua_builtin.specs.declared.qualified_name.QualifiedName.{QualifiedName
 use Rattle.ua_builtin.specs.declared.node_id.NodeId.{NodeId}
 use Rattle.ua_variant.specs.Data.{DataFields, VariantData, DataValueData, bare, valued}
 use Rattle.ua_structures.specs.declared.attribute.ReadValueId.{ReadValueId}
+use Rattle.ua_nodes.specs.declared.attribute.Attribute.{Attribute}
 use Rattle.ua_nodes.specs.declared.node.Variable.{Variable}
 use Rattle.ua_nodes.specs.declared.stamps.Stamps.{Stamps}
 use Rattle.ua_nodes.specs.declared.stamps.Stamps.TheVariants.{Source, Server, Both, Neither}
 use Rattle.ua_nodes.specs.declared.range.IndexRange.{IndexRange}
-use Rattle.ua_nodes.specs.Attribute.{is_attribute, attribute_value}
+use Rattle.ua_nodes.specs.Attribute.{attribute_of, is_attribute, attribute_value}
 use Rattle.ua_nodes.specs.Range.{asked_range, elements_of, part_of}
 use Rattle.ua_nodes.specs.Status.{bad_node_id_unknown, bad_attribute_id_invalid, bad_index_range_invalid, bad_index_range_no_data, bad_data_encoding_invalid, bad_not_readable}
 
@@ -45,8 +46,8 @@ is_past None value = false
 is_past (Some r) value = leb (length (elements_of value)) r.first
 
 -- why an item for this node is refused, in the order in which it is judged
-abbrev pub read_reasons : Variable → ReadValueId → List (StatusCode × Bool)
-read_reasons v item =
+abbrev pub read_item_reasons : Variable → ReadValueId → List (StatusCode × Bool)
+read_item_reasons v item =
     (bad_attribute_id_invalid, not (is_attribute item.attribute_id))
     ∷ (bad_index_range_invalid, asks_range item && not (is_array_attribute v item.attribute_id && is_some (asked_range item.index_range)))
     ∷ (bad_data_encoding_invalid, not (is_default_encoding item.data_encoding))
@@ -54,10 +55,11 @@ read_reasons v item =
     ∷ (bad_index_range_no_data, is_past (asked_range item.index_range) v.value)
     ∷ []
 
--- an item is refused, or it asks for this range
-abbrev pub judged : Option StatusCode → Option IndexRange → Result (Option IndexRange) StatusCode
-judged (Some code) r = Err code
-judged None r = Ok r
+-- an item is refused, or it asks for this attribute, and this range
+abbrev pub judged : Option StatusCode → Option Attribute → Option IndexRange → Result (Attribute × Option IndexRange) StatusCode
+judged (Some code) a r = Err code
+judged None None r = Err bad_attribute_id_invalid
+judged None (Some a) r = Ok (a, r)
 
 -- the times that a number in a Read request asks for (OPC 10000-4, 7.40)
 abbrev pub stamps_numbered : ℤ → Option Stamps
@@ -98,17 +100,22 @@ stamps_of v is_value stamps moment = record {
 }
 
 -- what is read of a node: an attribute, or of the Value the part at the places of a range
-abbrev pub value_read : NodeId → Variable → ℕ → Option IndexRange → VariantData
-value_read id v attribute_id None = attribute_value id v attribute_id
-value_read id v attribute_id (Some r) = part_of r v.value
+abbrev pub value_read : NodeId → Variable → Attribute → Option IndexRange → VariantData
+value_read id v a None = attribute_value id v a
+value_read id v a (Some r) = part_of r v.value
+
+-- a value, where there is one, with its status and times
+abbrev pub with_stamps : Option VariantData → DataFields → DataValueData
+with_stamps None fields = bare fields
+with_stamps (Some value) fields = valued value fields
 
 -- the answer for a node: the refusal where there is a reason, else what is read with its status and times
 abbrev pub read_by : Option StatusCode → Variable → ReadValueId → Stamps → DateTime → DataValueData
 read_by (Some code) v item stamps moment = refused code
 read_by None v item stamps moment =
-    valued (value_read item.node_id v item.attribute_id (asked_range item.index_range)) (stamps_of v (nat_eq item.attribute_id 13) stamps moment)
+    with_stamps (option_map (λ a. value_read item.node_id v a (asked_range item.index_range)) (attribute_of item.attribute_id)) (stamps_of v (nat_eq item.attribute_id 13) stamps moment)
 
 -- the answer to an item, by the node that it names
 abbrev pub read_answer : Option Variable → ReadValueId → Stamps → DateTime → DataValueData
 read_answer None item stamps moment = refused bad_node_id_unknown
-read_answer (Some v) item stamps moment = read_by (first_reason (read_reasons v item)) v item stamps moment
+read_answer (Some v) item stamps moment = read_by (first_reason (read_item_reasons v item)) v item stamps moment

@@ -33,8 +33,8 @@ holds_type kind array None = false
 holds_type kind array (Some v) = is_of_type kind array v
 
 -- why an item for this node is refused, in the order in which it is judged
-abbrev pub write_reasons : Variable → WriteValue → List (StatusCode × Bool)
-write_reasons v item =
+abbrev pub write_item_reasons : Variable → WriteValue → List (StatusCode × Bool)
+write_item_reasons v item =
     (bad_attribute_id_invalid, not (is_attribute item.attribute_id))
     ∷ (bad_not_writable, not (nat_eq item.attribute_id 13 && v.access.writable))
     ∷ (bad_write_not_supported, is_filled item.index_range || is_none item.value.value)
@@ -49,7 +49,7 @@ good_or (Some code) = code
 -- the answer to an item, by the node that it names
 abbrev pub write_answer : Option Variable → WriteValue → StatusCode
 write_answer None item = bad_node_id_unknown
-write_answer (Some v) item = good_or (first_reason (write_reasons v item))
+write_answer (Some v) item = good_or (first_reason (write_item_reasons v item))
 
 -- what is there, or else the other
 abbrev pub or_else : {A : Type 0} → Option A → A → A
@@ -84,7 +84,7 @@ written v item moment = stored v item.value moment
 
 -- the item names the node and is not refused
 abbrev pub is_good_for : NodeId × Variable → WriteValue → Bool
-is_good_for node item = same_id item.node_id node.0 && is_none (first_reason (write_reasons node.1 item))
+is_good_for node item = same_id item.node_id node.0 && is_none (first_reason (write_item_reasons node.1 item))
 
 -- the later one, if there is one
 abbrev pub later : {A : Type 0} → Option A → Option A → Option A

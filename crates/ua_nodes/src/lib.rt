@@ -11,6 +11,7 @@
 //! ```
 #![tactic(auto)]
 
+mod attribute;
 mod fault;
 mod laws;
 mod node;

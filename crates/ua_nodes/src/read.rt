@@ -4,13 +4,14 @@ ghost use Rattle.std.specs.Prelude.{◌≡◌, IfOk, IsTrue};
 ghost use Rattle.ua_variant.specs.View.{variant_of, data_value_of};
 ghost use Rattle.ua_variant.specs.Data.{valued};
 ghost use Rattle.ua_variant.specs.Encodable.{data_value_encodable};
-ghost use Rattle.ua_nodes.specs.Attribute.{is_attribute, attribute_value};
+ghost use Rattle.ua_nodes.specs.Attribute.{attribute_of, attribute_value};
 ghost use Rattle.ua_nodes.specs.Range.{asked_range};
-ghost use Rattle.ua_nodes.specs.Read.{is_filled, is_default_encoding, read_reasons, judged, refused as refused_data, stamps_of, value_read, read_by, read_answer};
+ghost use Rattle.ua_nodes.specs.Read.{is_filled, is_default_encoding, read_item_reasons, judged, refused as refused_data, stamps_of, value_read, read_by, read_answer};
 ghost use Rattle.ua_nodes.specs.Sound.{IsSound};
 ghost use Rattle.ua_builtin.specs.Reasons.{first_reason};
 ghost use Rattle.ua_nodes.specs.Table.{node_at};
 
+use crate::attribute::Attribute;
 use crate::node::Variable;
 use crate::range::IndexRange;
 use crate::stamps::Stamps;
@@ -55,23 +56,23 @@ impl Variable {
         stamps: Stamps,
         moment: DateTime,
     ) -> Result<DataValue, AllocError>
-        ensures { IfOk result (λ d. data_value_of d ≡ read_by (first_reason (read_reasons self.now item.now)) self.now item.now stamps moment) }
+        ensures { IfOk result (λ d. data_value_of d ≡ read_by (first_reason (read_item_reasons self.now item.now)) self.now item.now stamps moment) }
     {
-        let range = match self.judge_read(item) {
-            Ok(range) => range,
+        let (attribute, range) = match self.judge_read(item) {
+            Ok(asked) => asked,
             Err(code) => return Ok(refused(code)),
         };
-        let value = HeldVariant::new(self.value_read(alloc, item, range)?);
+        let value = HeldVariant::new(self.value_read(alloc, &item.node_id, attribute, range)?);
         Ok(self.stamped(value, item.attribute_id == VALUE, stamps, moment))
     }
 
-    /// The range that an item for this node asks for, or why the item is refused.
-    fn judge_read(&self, item: &ReadValueId) -> Result<Option<IndexRange>, StatusCode>
-        ensures { result ≡ judged (first_reason (read_reasons self.now item.now)) (asked_range item.now.index_range) }
+    /// The attribute and the range that an item for this node asks for, or why the item is refused.
+    fn judge_read(&self, item: &ReadValueId) -> Result<(Attribute, Option<IndexRange>), StatusCode>
+        ensures { result ≡ judged (first_reason (read_item_reasons self.now item.now)) (attribute_of item.now.attribute_id) (asked_range item.now.index_range) }
     {
-        if !is_known(item.attribute_id) {
+        let Some(attribute) = Attribute::of_id(item.attribute_id) else {
             return Err(StatusCode::BAD_ATTRIBUTE_ID_INVALID);
-        }
+        };
         let range = IndexRange::asked(&item.index_range);
         let is_array = item.attribute_id == VALUE && self.array;
         if has_text(&item.index_range) && !(is_array && range.is_some()) {
@@ -88,21 +89,22 @@ impl Variable {
                 return Err(StatusCode::BAD_INDEX_RANGE_NO_DATA);
             }
         }
-        Ok(range)
+        Ok((attribute, range))
     }
 
     /// What is read of this node: an attribute, or of the Value the part at the places of a range.
     fn value_read(
         &self,
         alloc: Global,
-        item: &ReadValueId,
+        id: &NodeId,
+        attribute: Attribute,
         range: Option<IndexRange>,
     ) -> Result<Variant, AllocError>
-        ensures { IfOk result (λ v. variant_of v ≡ value_read item.now.node_id self.now item.now.attribute_id range) }
+        ensures { IfOk result (λ v. variant_of v ≡ value_read id.now self.now attribute range) }
     {
         match range {
             Some(range) => self.value.part(alloc, range),
-            None => self.attribute(alloc, &item.node_id, item.attribute_id),
+            None => self.attribute(alloc, id, attribute),
         }
     }
 
@@ -111,30 +113,32 @@ impl Variable {
         &self,
         alloc: Global,
         id: &NodeId,
-        attribute_id: u32,
+        attribute: Attribute,
     ) -> Result<Variant, AllocError>
-        ensures { IfOk result (λ v. variant_of v ≡ attribute_value id.now self.now attribute_id) }
+        ensures { IfOk result (λ v. variant_of v ≡ attribute_value id.now self.now attribute) }
     {
-        match attribute_id {
-            1 => Ok(Variant::One(Scalar::NodeId(id.try_clone()?))),
-            2 => Ok(Variant::One(Scalar::Int32(2))),
-            3 => Ok(Variant::One(Scalar::QualifiedName(QualifiedName {
+        match attribute {
+            Attribute::NodeId => Ok(Variant::One(Scalar::NodeId(id.try_clone()?))),
+            Attribute::NodeClass => Ok(Variant::One(Scalar::Int32(2))),
+            Attribute::BrowseName => Ok(Variant::One(Scalar::QualifiedName(QualifiedName {
                 namespace: id.namespace,
                 name: self.name.try_clone()?,
             }))),
-            4 => {
+            Attribute::DisplayName => {
                 let text = LocalizedText {
                     locale: UaString::null(),
                     text: self.name.try_clone()?,
                 };
                 Ok(Variant::One(Scalar::LocalizedText(Boxed::new(alloc, text)?)))
             }
-            13 => self.value.try_clone(alloc),
-            14 => Ok(Variant::One(Scalar::NodeId(NodeId {
+            Attribute::Value => self.value.try_clone(alloc),
+            Attribute::DataType => Ok(Variant::One(Scalar::NodeId(NodeId {
                 namespace: 0,
                 identifier: Identifier::Numeric(u32::from(self.kind)),
             }))),
-            _ => Ok(Variant::One(Scalar::Byte(self.access.level()))),
+            Attribute::AccessLevel | Attribute::UserAccessLevel => {
+                Ok(Variant::One(Scalar::Byte(self.access.level())))
+            }
         }
     }
 
@@ -180,13 +184,6 @@ fn refused(code: StatusCode) -> DataValue
         server_timestamp: None,
         server_picoseconds: None,
     }
-}
-
-/// Whether nodes have the attribute.
-pub(crate) fn is_known(attribute_id: u32) -> bool
-    ensures { result ≡ is_attribute attribute_id }
-{
-    matches!(attribute_id, 1 | 2 | 3 | 4 | 13 | 14 | 17 | 18)
 }
 
 /// Whether a text is neither null nor empty.

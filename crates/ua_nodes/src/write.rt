@@ -5,10 +5,11 @@ ghost use Rattle.ua_variant.specs.View.{variant_of};
 ghost use Rattle.ua_builtin.specs.Reasons.{first_reason};
 ghost use Rattle.ua_nodes.specs.Sound.{IsSound};
 ghost use Rattle.ua_nodes.specs.Table.{node_at};
-ghost use Rattle.ua_nodes.specs.Write.{is_of_type, write_reasons, write_answer, good_or, stored, written_by, after_item, after_write, write_answers};
+ghost use Rattle.ua_nodes.specs.Write.{is_of_type, write_item_reasons, write_answer, good_or, stored, written_by, after_item, after_write, write_answers};
 
+use crate::attribute::Attribute;
 use crate::node::{NodeValue, Variable};
-use crate::read::{VALUE, has_text, is_known};
+use crate::read::{VALUE, has_text};
 use crate::table::NodeTable;
 use ua_builtin::laws::moment_is_encodable;
 use ua_builtin::{DateTime, StatusCode};
@@ -54,8 +55,8 @@ impl NodeTable {
 impl Variable {
     /// Takes the value of an item, unless it is refused.
     fn write(&mut self, item: WriteValue, moment: DateTime) -> StatusCode
-        ensures answer { result ≡ good_or (first_reason (write_reasons self.old item)) }
-        ensures node { self.new ≡ written_by self.old (cond (is_none (first_reason (write_reasons self.old item))) (Some item) None) moment }
+        ensures answer { result ≡ good_or (first_reason (write_item_reasons self.old item)) }
+        ensures node { self.new ≡ written_by self.old (cond (is_none (first_reason (write_item_reasons self.old item))) (Some item) None) moment }
     {
         if let Some(code) = self.write_refusal(&item) {
             drop(item);
@@ -67,9 +68,9 @@ impl Variable {
 
     /// Why an item for this node is refused.
     fn write_refusal(&self, item: &WriteValue) -> Option<StatusCode>
-        ensures { result ≡ first_reason (write_reasons self.now item.now) }
+        ensures { result ≡ first_reason (write_item_reasons self.now item.now) }
     {
-        if !is_known(item.attribute_id) {
+        if Attribute::of_id(item.attribute_id).is_none() {
             return Some(StatusCode::BAD_ATTRIBUTE_ID_INVALID);
         }
         if !(item.attribute_id == VALUE && self.access.writable) {
