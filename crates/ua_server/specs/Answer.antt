@@ -8,7 +8,12 @@ use Rattle.ua_services.specs.declared.request.Request.TheVariants.{GetEndpoints,
 use Rattle.ua_services.specs.declared.response.Response.{Response}
 use Rattle.ua_services.specs.declared.response.Response.TheVariants.{ServiceFault}
 use Rattle.ua_structures.specs.Plain.{service_fault_of}
+use Rattle.ua_structures.specs.declared.attribute.ReadRequest.{ReadRequest}
+use Rattle.ua_structures.specs.declared.attribute.WriteRequest.{WriteRequest}
 use Rattle.ua_structures.specs.declared.header.RequestHeader.{RequestHeader}
+use Rattle.ua_structures.specs.declared.session.ActivateSessionRequest.{ActivateSessionRequest}
+use Rattle.ua_structures.specs.declared.session.CloseSessionRequest.{CloseSessionRequest}
+use Rattle.ua_structures.specs.declared.session.CreateSessionRequest.{CreateSessionRequest}
 use Rattle.ua_server.specs.Attributes.{read_reasons, values_given, write_reasons, with_written, statuses_given}
 use Rattle.ua_server.specs.Sessions.{endpoints_given, create_reasons, session_given, activate_reasons, with_activated, activation_given, close_reasons, close_given}
 use Rattle.ua_server.specs.State.{State, begun, with_next_session}
@@ -22,11 +27,33 @@ abbrev pub unless : Option ℕ → State → DateTime → RequestHeader → Stat
 unless None s moment asking given = given
 unless (Some code) s moment asking given = (s, fault_of asking.request_handle code moment)
 
+-- ---- the services, each with its refusals: the state that a request leaves, and the response to it
+
+-- CreateSession (OPC 10000-4, 5.7.2)
+abbrev pub create_session : State → DateTime → CreateSessionRequest → State × Response
+create_session s moment m = unless (first_reason (create_reasons s)) s moment m.request_header (with_next_session s, session_given s moment m)
+
+-- ActivateSession (OPC 10000-4, 5.7.3)
+abbrev pub activate_session : State → DateTime → ActivateSessionRequest → State × Response
+activate_session s moment m = unless (first_reason (activate_reasons s m)) s moment m.request_header (with_activated s, activation_given moment m)
+
+-- CloseSession (OPC 10000-4, 5.7.4)
+abbrev pub close_session : State → DateTime → CloseSessionRequest → State × Response
+close_session s moment m = unless (first_reason (close_reasons s m)) s moment m.request_header (begun s, close_given moment m)
+
+-- Read (OPC 10000-4, 5.11.2)
+abbrev pub read_items : State → DateTime → ReadRequest → State × Response
+read_items s moment m = unless (first_reason (read_reasons s m)) s moment m.request_header (s, values_given s moment m)
+
+-- Write (OPC 10000-4, 5.11.4)
+abbrev pub write_items : State → DateTime → WriteRequest → State × Response
+write_items s moment m = unless (first_reason (write_reasons s m)) s moment m.request_header (with_written s moment m, statuses_given s moment m)
+
 -- the state that a request leaves, and the response to it
 abbrev pub answer : State → DateTime → Request → State × Response
 answer s moment (GetEndpoints m) = (s, endpoints_given s moment m)
-answer s moment (CreateSession m) = unless (first_reason (create_reasons s)) s moment m.request_header (with_next_session s, session_given s moment m)
-answer s moment (ActivateSession m) = unless (first_reason (activate_reasons s m)) s moment m.request_header (with_activated s, activation_given moment m)
-answer s moment (CloseSession m) = unless (first_reason (close_reasons s m)) s moment m.request_header (begun s, close_given moment m)
-answer s moment (Read m) = unless (first_reason (read_reasons s m)) s moment m.request_header (s, values_given s moment m)
-answer s moment (Write m) = unless (first_reason (write_reasons s m)) s moment m.request_header (with_written s moment m, statuses_given s moment m)
+answer s moment (CreateSession m) = create_session s moment m
+answer s moment (ActivateSession m) = activate_session s moment m
+answer s moment (CloseSession m) = close_session s moment m
+answer s moment (Read m) = read_items s moment m
+answer s moment (Write m) = write_items s moment m

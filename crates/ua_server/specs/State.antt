@@ -1,11 +1,9 @@
 -- The state of a server: its nodes, what it says of itself, how many sessions it made, and at most one session (OPC 10000-4, 5.7).
-use Rattle.std.specs.Prelude.{ℕ, ◌+◌, Bool, true, false, IsTrue, Option, Some, None}
+use Rattle.std.specs.Prelude.{ℕ, ◌+◌, Bool, true, false, Option, Some, None}
 use Rattle.ua_builtin.specs.NodeId.{node}
 use Rattle.ua_builtin.specs.declared.node_id.NodeId.{NodeId}
 use Rattle.ua_builtin.specs.declared.node_id.Identifier.TheVariants.{Numeric}
-use Rattle.ua_nodes.specs.Sound.{IsSound}
 use Rattle.ua_nodes.specs.Table.{Nodes, same_id}
-use Rattle.ua_server.specs.Endpoint.{Fits}
 use Rattle.ua_server.specs.declared.endpoint.Endpoint.{Endpoint}
 use Rattle.ua_server.specs.declared.session.Session.{Session}
 
@@ -23,10 +21,6 @@ fresh nodes endpoint = record { nodes = nodes; endpoint = endpoint; made = 0; se
 -- the state as a connection begins: without a session
 abbrev pub begun : State → State
 begun s = record { nodes = s.nodes; endpoint = s.endpoint; made = s.made; session = None }
-
--- the state with this session
-abbrev pub with_session : State → Session → State
-with_session s session = record { nodes = s.nodes; endpoint = s.endpoint; made = s.made; session = Some session }
 
 -- the state with a session more, that is not activated yet
 abbrev pub with_next_session : State → State
@@ -58,8 +52,3 @@ is_activated (Some session) = session.activated
 abbrev pub activated : Option Session → Option Session
 activated None = None
 activated (Some session) = Some (record { number = session.number; activated = true })
-
--- whatever the state answers can be written: its nodes are sound, and the texts of its endpoint fit
-pub record IsSoundState (s : State) : Type 0 where
-  pub nodes : IsSound s.nodes
-  pub endpoint : Fits s.endpoint

@@ -11,7 +11,7 @@ ghost use Rattle.ua_nodes.specs.Write.{write_answers, after_write};
 ghost use Rattle.ua_structures.specs.declared.attribute.WriteRequest.{WriteRequest};
 ghost use Rattle.ua_variant.specs.Formats.{data_value_format};
 ghost use Rattle.ua_server.specs.State.{with_nodes};
-ghost use Rattle.ua_server.specs.Answer.{unless};
+ghost use Rattle.ua_server.specs.Answer.{read_items, write_items};
 ghost use Rattle.ua_server.specs.Attributes.{items_of, most_items, value_from, session_reasons, count_reasons, read_reasons, read_answers, values_given, write_reasons, with_written, statuses_given};
 
 use crate::services::Services;
@@ -118,7 +118,7 @@ impl Services {
         request: &ReadRequest,
         moment: DateTime,
     ) -> Result<Response, AllocError>
-        ensures response { IfOk result (λ r. r ≡ (unless (first_reason (read_reasons self.now request.now)) self.now moment request.now.request_header (self.now, values_given self.now moment request.now)).1) }
+        ensures response { IfOk result (λ r. r ≡ (read_items self.now moment request.now).1) }
         ensures encodable { IfOk result (λ r. IsTrue (response.encodable r)) }
     {
         let handle = request.request_header.request_handle;
@@ -178,8 +178,8 @@ impl Services {
         request: WriteRequest,
         moment: DateTime,
     ) -> Result<Response, AllocError>
-        ensures response { IfOk result (λ r. r ≡ (unless (first_reason (write_reasons self.old request)) self.old moment request.request_header (with_written self.old moment request, statuses_given self.old moment request)).1) }
-        ensures state { IfOk result (λ r. self.new ≡ (unless (first_reason (write_reasons self.old request)) self.old moment request.request_header (with_written self.old moment request, statuses_given self.old moment request)).0) }
+        ensures response { IfOk result (λ r. r ≡ (write_items self.old moment request).1) }
+        ensures state { IfOk result (λ r. self.new ≡ (write_items self.old moment request).0) }
         ensures kept { OnErr result (self.new ≡ self.old) }
         ensures encodable { IfOk result (λ r. IsTrue (response.encodable r)) }
     {

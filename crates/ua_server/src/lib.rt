@@ -13,8 +13,8 @@
 //! let mut server = Server::new(alloc, limits, channel_id);
 //! let step = server.step(&mut services, piece, moment)?; // then go on with &piece[step.taken..]
 //! write(&step.out);
-//! if let Some(End::Closed) = step.end {
-//!     hang_up();
+//! if step.end.is_some() {
+//!     hang_up(); // the client closed, or was refused: the ERR frame is written
 //! }
 //! ```
 #![tactic(auto)]

@@ -7,7 +7,7 @@ ghost use Rattle.ua_services.specs.Response.{response};
 ghost use Rattle.ua_builtin.specs.Status.{of_code};
 ghost use Rattle.ua_structures.specs.Header.{response_header};
 ghost use Rattle.ua_structures.specs.Plain.{response_header_of};
-ghost use Rattle.ua_server.specs.Answer.{unless};
+ghost use Rattle.ua_server.specs.Answer.{activate_session, close_session, create_session};
 ghost use Rattle.ua_server.specs.Sessions.{endpoints_given, create_reasons, session_given, is_anonymous, activate_reasons, with_activated, activation_given, close_reasons, close_given};
 ghost use Rattle.ua_server.specs.State.{begun, with_next_session, is_own, is_activated};
 
@@ -103,8 +103,8 @@ impl Services {
         request: &CreateSessionRequest,
         moment: DateTime,
     ) -> Result<Response, AllocError>
-        ensures response { IfOk result (λ r. r ≡ (unless (first_reason (create_reasons self.old)) self.old moment request.now.request_header (with_next_session self.old, session_given self.old moment request.now)).1) }
-        ensures state { IfOk result (λ r. self.new ≡ (unless (first_reason (create_reasons self.old)) self.old moment request.now.request_header (with_next_session self.old, session_given self.old moment request.now)).0) }
+        ensures response { IfOk result (λ r. r ≡ (create_session self.old moment request.now).1) }
+        ensures state { IfOk result (λ r. self.new ≡ (create_session self.old moment request.now).0) }
         ensures kept { OnErr result (self.new ≡ self.old) }
         ensures encodable { IfOk result (λ r. IsTrue (response.encodable r)) }
     {
@@ -154,8 +154,8 @@ impl Services {
         request: &ActivateSessionRequest,
         moment: DateTime,
     ) -> Result<Response, AllocError>
-        ensures response { IfOk result (λ r. r ≡ (unless (first_reason (activate_reasons self.old request.now)) self.old moment request.now.request_header (with_activated self.old, activation_given moment request.now)).1) }
-        ensures state { IfOk result (λ r. self.new ≡ (unless (first_reason (activate_reasons self.old request.now)) self.old moment request.now.request_header (with_activated self.old, activation_given moment request.now)).0) }
+        ensures response { IfOk result (λ r. r ≡ (activate_session self.old moment request.now).1) }
+        ensures state { IfOk result (λ r. self.new ≡ (activate_session self.old moment request.now).0) }
         ensures kept { OnErr result (self.new ≡ self.old) }
         ensures encodable { IfOk result (λ r. IsTrue (response.encodable r)) }
     {
@@ -177,8 +177,8 @@ impl Services {
         request: &CloseSessionRequest,
         moment: DateTime,
     ) -> Response
-        ensures response { result ≡ (unless (first_reason (close_reasons self.old request.now)) self.old moment request.now.request_header (begun self.old, close_given moment request.now)).1 }
-        ensures state { self.new ≡ (unless (first_reason (close_reasons self.old request.now)) self.old moment request.now.request_header (begun self.old, close_given moment request.now)).0 }
+        ensures response { result ≡ (close_session self.old moment request.now).1 }
+        ensures state { self.new ≡ (close_session self.old moment request.now).0 }
         ensures encodable { IsTrue (response.encodable result) }
     {
         let header = &request.request_header;
