@@ -1,7 +1,6 @@
 -- What a step makes of a connection that is served.
-use Rattle.std.specs.Prelude.{◌≡◌, ◌⊎◌, ℕ, ◌+◌, ◌≤◌, ◌<◌, ℤ, Bool, true, false, IsTrue, List, [], ◌∷◌, ◌++◌, cond, map, take, drop, length, Option, None, Some, Err}
+use Rattle.std.specs.Prelude.{◌≡◌, ◌⊎◌, ℕ, ◌+◌, ◌≤◌, ◌<◌, Bool, true, false, IsTrue, List, [], ◌∷◌, ◌++◌, cond, take, drop, length, Option, None, Some, Err}
 use Rattle.std.proofs.Common.{refl, sym, ◌∙◌, ap, subst, inl, inr, append_assoc, append-nil, length-append, take-append-drop, arith}
-use Rattle.std.proofs.lemmas.List.{map-append}
 use Rattle.ua_builtin.specs.declared.date_time.DateTime.{DateTime}
 use Rattle.ua_frame.specs.Run.{End, Rules, Run, Going, Stopped, Over, events}
 use Rattle.ua_frame.specs.declared.frame.Frame.{Frame}
@@ -17,8 +16,10 @@ use Rattle.ua_channel.specs.Stops.{StopsAt}
 use Rattle.ua_channel.specs.declared.server.ServerChannel.{ServerChannel}
 use Rattle.ua_server.specs.Said.{Course, say, left, said, used_in, is_answered}
 use Rattle.ua_server.specs.Served.{channel_in}
-use Rattle.ua_server.specs.Serving.{moment_of, Answer, Refusal, FailsBy}
-use Rattle.ua_server.specs.ServingParts.{AdvancesTo, Ends, Keeps, Owes, Pending, is_there, noted}
+use Rattle.ua_server.specs.Happening.{Event, noted_in}
+use Rattle.ua_server.specs.Requests.{requests}
+use Rattle.ua_server.specs.Serving.{moments_in, Answer, BrokenOff, Refusal}
+use Rattle.ua_server.specs.ServingParts.{AdvancesTo, Ends, FailsTelling, Keeps, Owes, Pending, is_there, noted}
 use Rattle.ua_server.specs.State.{State}
 use Rattle.ua_server.specs.Stepping.{AdvanceBy, Stands, StepAnswers, StepBy, Stops, Tells, given_up, spent}
 use Rattle.ua_server.specs.declared.serve_fault.ServeFault.TheVariants as serve_fault
@@ -28,7 +29,10 @@ use Rattle.ua_server.specs.declared.step.End.{End as Ending}
 use Rattle.ua_server.specs.declared.step.End.TheVariants as ending
 use Rattle.ua_server.specs.declared.step.StepFault.{StepFault}
 use Rattle.ua_server.specs.declared.step.StepFault.TheVariants as step_fault
-use Rattle.ua_server.proofs.Pendings.{pending-on, pending-unwritten, answered-as}
+use Rattle.ua_server.specs.declared.watch.AnsweredRequest.{AnsweredRequest}
+use Rattle.ua_server.proofs.Happened.{moments-append, noted-append}
+use Rattle.ua_server.proofs.Pendings.{pending-on, pending-unwritten, answered-as, requests-as}
+use Rattle.ua_server.proofs.RequestsInParts.{requests-silent, requests-closed, requests-more}
 use Rattle.ua_server.proofs.SaidInParts.{used_in-append, left-append, said-more}
 use Rattle.ua_server.proofs.Steps.{left-quiet, said-silent, used-quiet, course, left-agreement, left-course, agreed-quiet, left-one, said-one}
 
@@ -87,9 +91,9 @@ asked-used told id token octets used m e =
     let l = length-append used (m ∷ []) in
     (omega (arith, e, u, l), omega (arith, e, u, l))
 
-module _ (x : Serving) (server : Server) (m : DateTime) (piece read written : List ℕ) (given ts : List ℤ) (first now0 now1 : State)
+module _ (x : Serving) (server : Server) (m : DateTime) (piece read written : List ℕ) (given ts : List Event) (first now0 now1 : State)
     (lim : limits_of (channel_in server) ≡ limits_of (channel_in x.server)) (chan : channel_of (channel_in server) ≡ channel_of (channel_in x.server))
-    (asked : listed x.moment ++ map moment_of ts ≡ m ∷ [])
+    (asked : listed x.moment ++ moments_in ts ≡ m ∷ [])
     (o : Keeps x (limits_of (channel_in x.server)) (channel_of (channel_in x.server)) first read written given now0) where
   abbrev l : Limits
   l = limits_of (channel_in x.server)
@@ -103,10 +107,10 @@ module _ (x : Serving) (server : Server) (m : DateTime) (piece read written : Li
   abbrev y : Serving
   y = record x { server = server; moment = Some m }
 
-  moments-are : map moment_of (given ++ ts) ≡ o.used ++ m ∷ []
-  moments-are = map-append moment_of given ts
-      ∙ (ap (λ (a : List DateTime). a ++ map moment_of ts) o.moments_are
-      ∙ (append_assoc o.used (listed x.moment) (map moment_of ts) ∙ ap (λ (a : List DateTime). o.used ++ a) asked))
+  moments-are : moments_in (given ++ ts) ≡ o.used ++ m ∷ []
+  moments-are = moments-append given ts
+      ∙ (ap (λ (a : List DateTime). a ++ moments_in ts) o.moments_are
+      ∙ (append_assoc o.used (listed x.moment) (moments_in ts) ∙ ap (λ (a : List DateTime). o.used ++ a) asked))
 
   one-kept : length (m ∷ []) ≤ 1
   one-kept = omega arith
@@ -143,12 +147,23 @@ module _ (x : Serving) (server : Server) (m : DateTime) (piece read written : Li
   state-here : (q : List ℕ) → (left c first (o.told ++ given_up q) o.used).state ≡ now0
   state-here q = ap (λ (d : Course). d.state) (left-quiet c first o.told q o.used) ∙ o.stands.state_is
 
+  -- the requests that were told of, and those told of now
+  requests-then : (told : List Told) (used : List DateTime) (rs : List AnsweredRequest) → noted_in ts ≡ rs → requests c first told used ≡ requests c first o.told o.used ++ rs → noted_in (given ++ ts) ≡ requests c first told used
+  requests-then told used rs is e = noted-append given ts ∙ (ap (λ (a : List AnsweredRequest). a ++ noted_in ts) o.requests_are ∙ (ap (λ (a : List AnsweredRequest). requests c first o.told o.used ++ a) is ∙ sym e))
+
+  -- no request more was told of
+  noted-before : noted_in ts ≡ [] → noted_in (given ++ ts) ≡ noted_in given
+  noted-before none = noted-append given ts ∙ (ap (λ (a : List AnsweredRequest). noted_in given ++ a) none ∙ append-nil (noted_in given))
+
+  noted-told : noted_in ts ≡ [] → noted_in (given ++ ts) ≡ requests c first o.told o.used
+  noted-told none = noted-before none ∙ o.requests_are
+
   -- nothing is answered
-  on-silent : (n : ℕ) (out q : List ℕ) (more : List Told) → false ≡ has_some more → Stops ch read piece n out (o.told ++ given_up q) more
+  on-silent : noted_in ts ≡ [] → (n : ℕ) (out q : List ℕ) (more : List Told) → false ≡ has_some more → Stops ch read piece n out (o.told ++ given_up q) more
       → Stands ch (read ++ take n piece) ((o.told ++ given_up q) ++ more) first (o.used ++ spent more m) now1
       → said c first ((o.told ++ given_up q) ++ more) Going (o.used ++ spent more m) ≡ said c first o.told Going o.used ++ out
       → Owes y l c first (read ++ take n piece) out written (given ++ ts) now1
-  on-silent n out q [] none stops stands said_is =
+  on-silent no_request n out q [] none stops stands said_is =
       let ds = append-nil (o.told ++ given_up q) in
       let us = append-nil o.used in
       let same : now0 ≡ now1 =
@@ -165,22 +180,27 @@ module _ (x : Serving) (server : Server) (m : DateTime) (piece read written : Li
         greeted_is = o.greeted_is ∙ ap is_there (sym (ap agreed_by ds ∙ agreed-quiet c first o.told q o.used));
         count_is = o.count_is;
         said_is = said-more-here out _ said_is;
+        requests_are = noted-told no_request ∙ sym (
+            ap (λ (u : List DateTime). requests c first ((o.told ++ given_up q) ++ []) u) us
+            ∙ (ap (λ (d : List Told). requests c first d o.used) ds ∙ requests-silent c first o.told q o.used));
         pending =
-            subst (λ (u : List DateTime). Pending l c first (read ++ take n piece) out written u now1) (sym us)
-            (subst (λ (s : State). Pending l c first (read ++ take n piece) out written o.used s) same
-            (subst (λ (w : List ℕ). Pending l c first (read ++ take n piece) w written o.used now0) (sym stops.1)
-            (pending-on l c first read (take n piece) [] written o.used now0 o.pending)));
+            subst (λ (rs : List AnsweredRequest). Pending rs l c first (read ++ take n piece) out written (o.used ++ []) now1) (sym (noted-before no_request))
+            (subst (λ (u : List DateTime). Pending (noted_in given) l c first (read ++ take n piece) out written u now1) (sym us)
+            (subst (λ (s : State). Pending (noted_in given) l c first (read ++ take n piece) out written o.used s) same
+            (subst (λ (w : List ℕ). Pending (noted_in given) l c first (read ++ take n piece) w written o.used now0) (sym stops.1)
+            (pending-on l c first (noted_in given) read (take n piece) [] written o.used now0 o.pending))));
       }
-  on-silent n out q (t ∷ more) none stops stands said_is = absurd cc
+  on-silent no_request n out q (t ∷ more) none stops stands said_is = absurd cc
 
   -- something is answered
-  on-saying : (n : ℕ) (out q : List ℕ) (more : List Told) → true ≡ has_some more → Stops ch read piece n out (o.told ++ given_up q) more
+  on-saying : (request : Option AnsweredRequest) → noted_in ts ≡ listed request → (n : ℕ) (out q : List ℕ) (more : List Told) → true ≡ has_some more → Stops ch read piece n out (o.told ++ given_up q) more
       → Stands ch (read ++ take n piece) ((o.told ++ given_up q) ++ more) first (o.used ++ spent more m) now1
       → said c first ((o.told ++ given_up q) ++ more) Going (o.used ++ spent more m) ≡ said c first o.told Going o.used ++ out
+      → requests c first ((o.told ++ given_up q) ++ more) (o.used ++ spent more m) ≡ requests c first o.told o.used ++ listed request
       → Owes (noted y) l c first (read ++ take n piece) out written (given ++ ts) now1
-  on-saying n out q [] some stops stands said_is = absurd cc
-  on-saying n out q (t ∷ (u ∷ more)) some stops stands said_is = absurd stops
-  on-saying n out q (t ∷ []) some stops stands said_is =
+  on-saying request telling n out q [] some stops stands said_is asks = absurd cc
+  on-saying request telling n out q (t ∷ (u ∷ more)) some stops stands said_is asks = absurd stops
+  on-saying request telling n out q (t ∷ []) some stops stands said_is asks =
       let g = stops.3 in
       let before = agreed-quiet c first o.told q o.used in
       let greets : (x.greeted ≡ false → (a : Agreement) × (t ≡ Agreed a)) =
@@ -201,6 +221,7 @@ module _ (x : Serving) (server : Server) (m : DateTime) (piece read written : Li
         greeted_is = sym agreed;
         count_is = o.count_is;
         said_is = said-more-here out _ said_is;
+        requests_are = requests-then _ _ (listed request) telling asks;
         pending = record {
           front = read ++ take n piece;
           behind = [];
@@ -217,6 +238,7 @@ module _ (x : Serving) (server : Server) (m : DateTime) (piece read written : Li
           };
           state_is = ap (λ (k : ℕ). (left k first ((o.told ++ given_up q) ++ t ∷ []) (o.used ++ spent (t ∷ []) m)).state) (sym chan) ∙ stands.state_is;
           all_used = stands.used;
+          requests_are = requests-then _ _ (listed request) telling asks;
           part = [];
           written_is = said-before q (spent (t ∷ []) m);
           said_is = said-more-here out _ said_is;
@@ -224,34 +246,40 @@ module _ (x : Serving) (server : Server) (m : DateTime) (piece read written : Li
       }
 
   -- the connection ends
-  on-end : (end : Ending) (n : ℕ) (out : List ℕ) → StepBy c m piece (Some end) n out ch read o.told first o.used now0 now1 → Ends y end l c first (read ++ take n piece) out written (given ++ ts) now1
-  on-end ending.Closed n out s = record {
+  on-end : noted_in ts ≡ [] → (end : Ending) (n : ℕ) (out : List ℕ) → StepBy c m piece (Some end) n out ch read o.told first o.used now0 now1 → Ends y end l c first (read ++ take n piece) out written (given ++ ts) now1
+  on-end no_request ending.Closed n out s = record {
     count_is = o.count_is;
     ends = record {
       frames = s.closed.frames;
       rest = [];
-      to = answered-as l c first (read ++ take n piece) (written ++ out) s.closed.frames [] Over ((o.told ++ given_up s.quiet) ++ Closed ∷ []) o.used (m ∷ []) (map moment_of (given ++ ts)) now1
+      to = answered-as l c first (read ++ take n piece) (written ++ out) s.closed.frames [] Over ((o.told ++ given_up s.quiet) ++ Closed ∷ []) o.used (m ∷ []) (moments_in (given ++ ts)) now1
           moments-are one-kept (run-here (read ++ take n piece) s.closed.frames [] Over s.closed.run) (events-here s.closed.frames _ s.closed.told_is)
           (sym (said-more-here out _ s.out_is)) s.left_is (close-used (o.told ++ given_up s.quiet) (length o.used) (used-here s.quiet));
     };
+    tells = requests-as l c first (noted_in (given ++ ts)) s.closed.frames ((o.told ++ given_up s.quiet) ++ Closed ∷ []) o.used (m ∷ []) (moments_in (given ++ ts)) moments-are (events-here s.closed.frames _ s.closed.told_is)
+        (close-used (o.told ++ given_up s.quiet) (length o.used) (used-here s.quiet))
+        (noted-told no_request ∙ sym (requests-closed c first (o.told ++ given_up s.quiet) o.used ∙ requests-silent c first o.told s.quiet o.used));
     used = o.used;
     kept = m ∷ [];
     moments_are = moments-are;
     one = one-kept;
     pending =
-        subst (λ (z : State). Pending l c first (read ++ take n piece) out written o.used z) (sym s.state_is)
-        (subst (λ (w : List ℕ). Pending l c first (read ++ take n piece) w written o.used now0) (sym s.silent)
-        (pending-on l c first read (take n piece) [] written o.used now0 o.pending));
+        subst (λ (rs : List AnsweredRequest). Pending rs l c first (read ++ take n piece) out written o.used now1) (sym (noted-before no_request))
+        (subst (λ (z : State). Pending (noted_in given) l c first (read ++ take n piece) out written o.used z) (sym s.state_is)
+        (subst (λ (w : List ℕ). Pending (noted_in given) l c first (read ++ take n piece) w written o.used now0) (sym s.silent)
+        (pending-on l c first (noted_in given) read (take n piece) [] written o.used now0 o.pending)));
   }
-  on-end (ending.Refused code) n out s = record {
+  on-end no_request (ending.Refused code) n out s = record {
     count_is = o.count_is;
     ends = record {
       frames = s.refused.frames;
       rest = s.refused.rest;
-      to = answered-as l c first (read ++ take n piece) (written ++ out) s.refused.frames s.refused.rest (Stopped code.code) (o.told ++ given_up s.quiet) o.used (m ∷ []) (map moment_of (given ++ ts)) now1
+      to = answered-as l c first (read ++ take n piece) (written ++ out) s.refused.frames s.refused.rest (Stopped code.code) (o.told ++ given_up s.quiet) o.used (m ∷ []) (moments_in (given ++ ts)) now1
           moments-are one-kept (run-here (read ++ take n piece) s.refused.frames s.refused.rest (Stopped code.code) s.refused.run) (events-here s.refused.frames _ s.refused.told_is)
           (sym (said-more-here out _ s.out_is)) s.left_is (used-here s.quiet);
     };
+    tells = requests-as l c first (noted_in (given ++ ts)) s.refused.frames (o.told ++ given_up s.quiet) o.used (m ∷ []) (moments_in (given ++ ts)) moments-are (events-here s.refused.frames _ s.refused.told_is)
+        (used-here s.quiet) (noted-told no_request ∙ sym (requests-silent c first o.told s.quiet o.used));
     used = o.used;
     kept = m ∷ [];
     moments_are = moments-are;
@@ -271,39 +299,42 @@ module _ (x : Serving) (server : Server) (m : DateTime) (piece read written : Li
       };
       state_is = ap (λ (d : List Told). (left c first d o.used).state) (append-nil (o.told ++ given_up s.quiet)) ∙ s.left_is;
       all_used = plain-used (o.told ++ given_up s.quiet) (length o.used) (used-here s.quiet);
+      requests_are = noted-told no_request ∙ sym (ap (λ (d : List Told). requests c first d o.used) (append-nil (o.told ++ given_up s.quiet)) ∙ requests-silent c first o.told s.quiet o.used);
       part = [];
       written_is = said-before s.quiet [] ∙ ap (λ (u : List DateTime). said c first (o.told ++ given_up s.quiet) Going u ++ []) (append-nil o.used);
       said_is = ap (λ (d : List Told). said c first d (Stopped code.code) o.used) (append-nil (o.told ++ given_up s.quiet)) ∙ said-more-here out _ s.out_is;
     };
   }
-  on-end ending.NoClose n out s = absurd s
-  on-end ending.Cut n out s = absurd s
+  on-end no_request ending.NoClose n out s = absurd s
+  on-end no_request ending.Cut n out s = absurd s
 
   -- what became of the first octets of the piece
-  pub advanced-quiet : (end : Option Ending) (n : ℕ) (out : List ℕ) → AdvanceBy false c m piece end n out ch read o.told first o.used now0 now1 → AdvancesTo end y l c first (read ++ take n piece) out written (given ++ ts) now1
-  advanced-quiet None n out t = on-silent n out t.goes.quiet t.goes.more t.answered_is t.goes.stops t.goes.stands t.goes.out_is
-  advanced-quiet (Some end) n out t = on-end end n out t.0
+  pub advanced-quiet : (request : Option AnsweredRequest) → noted_in ts ≡ [] → (end : Option Ending) (n : ℕ) (out : List ℕ) → AdvanceBy false request c m piece end n out ch read o.told first o.used now0 now1 → AdvancesTo end y l c first (read ++ take n piece) out written (given ++ ts) now1
+  advanced-quiet request no_request None n out t = on-silent no_request n out t.goes.quiet t.goes.more t.answered_is t.goes.stops t.goes.stands t.goes.out_is
+  advanced-quiet request no_request (Some end) n out t = on-end no_request end n out t.0
 
-  pub advanced-saying : (end : Option Ending) (n : ℕ) (out : List ℕ) → AdvanceBy true c m piece end n out ch read o.told first o.used now0 now1 → AdvancesTo end (noted y) l c first (read ++ take n piece) out written (given ++ ts) now1
-  advanced-saying None n out t = on-saying n out t.goes.quiet t.goes.more t.answered_is t.goes.stops t.goes.stands t.goes.out_is
-  advanced-saying (Some end) n out t = absurd cc
+  pub advanced-saying : (request : Option AnsweredRequest) → noted_in ts ≡ listed request → (end : Option Ending) (n : ℕ) (out : List ℕ) → AdvanceBy true request c m piece end n out ch read o.told first o.used now0 now1 → AdvancesTo end (noted y) l c first (read ++ take n piece) out written (given ++ ts) now1
+  advanced-saying request telling None n out t = on-saying request telling n out t.goes.quiet t.goes.more t.answered_is t.goes.stops t.goes.stands t.goes.out_is t.requests_are
+  advanced-saying request telling (Some end) n out t = absurd cc
 
   -- memory was refused
-  broken-on : now1 ≡ now0 → FailsBy serve_fault.OutOfMemory l c first (read ++ piece) written (map moment_of (given ++ ts)) now1
-  broken-on e =
-      let broken = pending-unwritten l c first (read ++ piece) [] written o.used (m ∷ []) (map moment_of (given ++ ts)) now1 moments-are one-kept
-      (subst (λ (z : State). Pending l c first (read ++ piece) [] written o.used z) (sym e) (pending-on l c first read piece [] written o.used now0 o.pending)) in
-      (broken.0, inr broken.1)
+  broken-on : noted_in ts ≡ [] → now1 ≡ now0 → FailsTelling serve_fault.OutOfMemory l c first (read ++ piece) written (given ++ ts) now1
+  broken-on no_request e =
+      let broken = pending-unwritten l c first (noted_in (given ++ ts)) (read ++ piece) [] written o.used (m ∷ []) (moments_in (given ++ ts)) now1 moments-are one-kept
+      (subst (λ (rs : List AnsweredRequest). Pending rs l c first (read ++ piece) [] written o.used now1) (sym (noted-before no_request))
+      (subst (λ (z : State). Pending (noted_in given) l c first (read ++ piece) [] written o.used z) (sym e) (pending-on l c first (noted_in given) read piece [] written o.used now0 o.pending))) in
+      record { fails = (broken.0, inr broken.1); tells = inr (broken.1, broken.2) }
 
-  pub advanced-broken : (f : StepFault) → StepAnswers l c m piece (Err f) ch read o.told first o.used now0 now1 → FailsBy serve_fault.OutOfMemory l c first (read ++ piece) written (map moment_of (given ++ ts)) now1
-  advanced-broken step_fault.Closed s = absurd s
-  advanced-broken step_fault.OutOfMemory (done, inl e) = broken-on e
-  advanced-broken step_fault.OutOfMemory (done, inr by) =
+  pub advanced-broken : noted_in ts ≡ [] → (f : StepFault) → StepAnswers l c m piece (Err f) ch read o.told first o.used now0 now1 → FailsTelling serve_fault.OutOfMemory l c first (read ++ piece) written (given ++ ts) now1
+  advanced-broken no_request step_fault.Closed s = absurd s
+  advanced-broken no_request step_fault.OutOfMemory (done, inl e) = broken-on no_request e
+  advanced-broken no_request step_fault.OutOfMemory (done, inr by) =
       let w = by.ends in
       let before = o.told ++ given_up w.quiet in
       let t = Asked w.id w.token by.message in
       let behind : left c first before o.used ≡ course now0 (next_of (channel_in x.server)) [] (agreed_by o.told) = left-quiet c first o.told w.quiet o.used ∙ left-course (channel_in x.server) read o.told first o.used now0 o.stands in
-      subst (λ (ms : List DateTime). FailsBy serve_fault.OutOfMemory l c first (read ++ piece) written ms now1) (sym moments-are) (
+      let at : List DateTime → Type 0 = λ ms. (broken : BrokenOff l c first (read ++ piece) written ms now1) × (broken.part ≡ []) × (noted_in (given ++ ts) ≡ requests c first broken.before ms) in
+      let broken : at (moments_in (given ++ ts)) = subst at (sym moments-are) (
         record {
           front = read ++ take w.n piece;
           behind = drop w.n piece;
@@ -319,5 +350,7 @@ module _ (x : Serving) (server : Server) (m : DateTime) (piece read written : Li
           said_is = said-one c first before t o.used (m ∷ []) (course now0 (next_of (channel_in x.server)) [] (agreed_by o.told)) behind (room w.quiet)
               ∙ ap (λ (s : List ℕ). s ++ (say c (course now0 (next_of (channel_in x.server)) (m ∷ []) (agreed_by o.told)) t).0) (said-silent c first o.told w.quiet o.used ∙ all-said);
         },
-        inl refl,
-      )
+        refl,
+        noted-told no_request ∙ sym (requests-more c first before o.used (m ∷ []) (room w.quiet) ∙ requests-silent c first o.told w.quiet o.used),
+      ) in
+      record { fails = (broken.0, inl broken.1); tells = inl (broken.1, broken.2) }

@@ -25,11 +25,16 @@ use Rattle.ua_channel.specs.declared.server_fault.ChannelFault.{ChannelFault}
 use Rattle.ua_channel.specs.declared.server_fault.ChannelFault.TheVariants as fault
 use Rattle.ua_server.proofs.Steps.{says-sent, says-reply, agreed-quiet, goes-silent, goes-saying, closes, refuses}
 use Rattle.ua_server.specs.Reply.{answered}
+use Rattle.ua_chunk.specs.Cutting.{cut_refusal}
+use Rattle.ua_server.proofs.Octets.{with-code}
+use Rattle.ua_server.specs.Requests.{code_by, request_answered}
+use Rattle.ua_server.specs.Said.{lane_at}
 use Rattle.ua_server.specs.State.{State}
 use Rattle.ua_server.specs.declared.step.End.{End as Ending}
 use Rattle.ua_server.specs.declared.step.Step.{Step}
 use Rattle.ua_server.specs.declared.step.StepFault.{StepFault}
 use Rattle.ua_server.specs.declared.step.StepFault.TheVariants as step_fault
+use Rattle.ua_server.specs.declared.watch.AnsweredRequest.{AnsweredRequest}
 use Rattle.ua_server.specs.Stepping.{AdvanceBy, AnsweredBehind, AnswersBehind, IsReplyAt, Stands, StepAnswers, StepBreaks, StepBy, StepCloses, StepRefuses, Tells, given_up}
 
 -- ---- a channel that replied
@@ -64,6 +69,21 @@ replied-there x octets before id token message g lane body out next goes reply =
     let there = reply_goes x octets before id token message (g.frames ++ g.frame ∷ []) [] lane g g.stands goes in
     reply-at (channel_of x) token (agreed_by before) there.0 lane body (next_of x) id out next there.1 there.2 reply
 
+-- what is told of a message, by the reply that goes there
+pub noted-there : (x : ServerChannel) (octets : List ℕ) (before : List Told) (id token : ℕ) (message : List ℕ) (g : GoesTelling x octets before (Asked id token message)) (lane : Lane) (s : State) (moment : DateTime) (body out : List ℕ) (next : ℕ) (request sent : AnsweredRequest)
+    → RepliesGo (limits_of x) (channel_of x) (received (g.frames ++ g.frame ∷ [])) lane → body ≡ response.canonical (answered s moment message).1 → request ≡ request_answered None s moment message
+    → sent ≡ with-code request (code_by (cut_refusal lane body) request.code) → sent ≡ request_answered (lane_at (channel_of x) token (agreed_by before)) s moment message
+noted-there x octets before id token message g lane s moment body out next request sent goes is asked as_sent =
+    let there = reply_goes x octets before id token message (g.frames ++ g.frame ∷ []) [] lane g g.stands goes in
+    let r = (answered s moment message).1 in
+    let at : Option Lane → AnsweredRequest = λ o. request_answered o s moment message in
+    let going : Lane → Option Lane = λ l. Some l in
+    let agreed : Option Agreement → Option Lane = λ a. lane_at (channel_of x) token a in
+    as_sent
+    ∙ (ap (λ (b : List ℕ). with-code request (code_by (cut_refusal lane b) request.code)) is
+    ∙ (ap (λ (q : AnsweredRequest). with-code q (code_by (cut_refusal lane (response.canonical r)) q.code)) asked
+    ∙ ap at (ap going there.2 ∙ sym (ap agreed there.1))))
+
 -- ---- by events
 
 module _ (old mid : ServerChannel) (moment : DateTime) (piece : List ℕ) (n : ℕ) (octets : List ℕ) (told : List Told) (first : State) (ms : List DateTime) (before : State) where
@@ -87,44 +107,47 @@ module _ (old mid : ServerChannel) (moment : DateTime) (piece : List ℕ) (n : �
 
   -- a step that says nothing, and one that says something
   pub silently : (s : Step) (end : Option Ending) → s.taken ≡ n → s.out.items ≡ [] → s.end ≡ end
-      → ((out : List ℕ) → out ≡ [] → AdvanceBy false (channel_of old) moment piece end n out mid octets told first ms before before)
-      → AdvanceBy false (channel_of old) moment piece s.end s.taken s.out.items mid octets told first ms before before
+      → ((out : List ℕ) → out ≡ [] → AdvanceBy false None (channel_of old) moment piece end n out mid octets told first ms before before)
+      → AdvanceBy false None (channel_of old) moment piece s.end s.taken s.out.items mid octets told first ms before before
   silently s end taken out is by =
-      subst (λ (k : ℕ). AdvanceBy false (channel_of old) moment piece s.end k s.out.items mid octets told first ms before before) (sym taken)
-      (subst (λ (e : Option Ending). AdvanceBy false (channel_of old) moment piece e n s.out.items mid octets told first ms before before) (sym is) (by s.out.items out))
+      subst (λ (k : ℕ). AdvanceBy false None (channel_of old) moment piece s.end k s.out.items mid octets told first ms before before) (sym taken)
+      (subst (λ (e : Option Ending). AdvanceBy false None (channel_of old) moment piece e n s.out.items mid octets told first ms before before) (sym is) (by s.out.items out))
 
-  pub saying : (s t : Step) (new : ServerChannel) (now : State) → s ≡ t → AdvanceBy true (channel_of old) moment piece t.end t.taken t.out.items new octets told first ms before now
-      → AdvanceBy true (channel_of old) moment piece s.end s.taken s.out.items new octets told first ms before now
-  saying s t new now is a = subst (λ (x : Step). AdvanceBy true (channel_of old) moment piece x.end x.taken x.out.items new octets told first ms before now) (sym is) a
+  pub saying : (request : Option AnsweredRequest) (s t : Step) (new : ServerChannel) (now : State) → s ≡ t → AdvanceBy true request (channel_of old) moment piece t.end t.taken t.out.items new octets told first ms before now
+      → AdvanceBy true request (channel_of old) moment piece s.end s.taken s.out.items new octets told first ms before now
+  saying request s t new now is a = subst (λ (x : Step). AdvanceBy true request (channel_of old) moment piece x.end x.taken x.out.items new octets told first ms before now) (sym is) a
 
 module _ (old mid : ServerChannel) (moment : DateTime) (piece : List ℕ) (n : ℕ) (octets : List ℕ) (told : List Told) (first : State) (ms : List DateTime) (before : State) where
   -- nothing came
-  pub on-quiet : AnsweredBehind old moment piece n (Ok event.NeedMore) mid octets told first ms before → (out : List ℕ) → out ≡ [] → Tells false (channel_of old) moment piece n out mid octets told first ms before
+  pub on-quiet : AnsweredBehind old moment piece n (Ok event.NeedMore) mid octets told first ms before → (out : List ℕ) → out ≡ [] → Tells false None (channel_of old) moment piece n out mid octets told first ms before
   on-quiet b out none =
-      subst (λ (o : List ℕ). Tells false (channel_of old) moment piece n o mid octets told first ms before) (sym none)
+      subst (λ (o : List ℕ). Tells false None (channel_of old) moment piece n o mid octets told first ms before) (sym none)
       (goes-silent old mid moment piece n octets told first ms before b.quiet b.stands b.channel b.answers.0 b.answers.1.0 b.answers.1.1)
 
   -- an ACK or an OPN response
-  pub on-send : (sent : Vec ℕ Global) → AnsweredBehind old moment piece n (Ok (event.Send sent)) mid octets told first ms before → Tells true (channel_of old) moment piece n sent.items mid octets told first ms before
+  pub on-send : (sent : Vec ℕ Global) → AnsweredBehind old moment piece n (Ok (event.Send sent)) mid octets told first ms before → Tells true None (channel_of old) moment piece n sent.items mid octets told first ms before
   on-send sent b =
       let sends = b.answers.1 in
-      goes-saying old mid moment piece n octets told first ms before b.quiet b.stands b.channel sends.said sent.items before b.answers.0 sends.goes
+      goes-saying old mid moment piece n octets told first ms before b.quiet b.stands b.channel None sends.said sent.items before b.answers.0 sends.goes
       (says-sent (channel_of old) (next_of old) (next_of mid) moment before (agreed_by told) sends.said sent.items sends.are_sent sends.counted)
 
   -- a message, and its reply
-  pub on-reply : (new : ServerChannel) (id : ℕ) (message : List (List ℕ)) (out : List ℕ) (now : State) (b : AnsweredBehind old moment piece n (Ok (event.Asked id message)) mid octets told first ms before) → channel_of new ≡ channel_of mid
+  pub on-reply : (request : AnsweredRequest) (new : ServerChannel) (id : ℕ) (message : List (List ℕ)) (out : List ℕ) (now : State) (b : AnsweredBehind old moment piece n (Ok (event.Asked id message)) mid octets told first ms before) → channel_of new ≡ channel_of mid
       → GoesTelling new (octets ++ take n piece) (told ++ given_up b.quiet) (Asked id b.answers.1.0.token (concat message))
       × IsReplyAt (channel_of mid) b.answers.1.0.token (agreed_by (told ++ given_up b.quiet)) (response.canonical (answered before moment (concat message)).1) (next_of mid) id out (next_of new)
       → now ≡ (answered before moment (concat message)).0
-      → Tells true (channel_of old) moment piece n out new octets told first ms now
-  on-reply new id message out now b same sent state =
+      → request ≡ request_answered (lane_at (channel_of mid) b.answers.1.0.token (agreed_by (told ++ given_up b.quiet))) before moment (concat message)
+      → Tells true (Some request) (channel_of old) moment piece n out new octets told first ms now
+  on-reply request new id message out now b same sent state is =
       let token = b.answers.1.0.token in
       let body = response.canonical (answered before moment (concat message)).1 in
-      goes-saying old new moment piece n octets told first ms before b.quiet b.stands (same ∙ b.channel) (Asked id token (concat message)) out now b.answers.0 sent.0
-      (says-reply (channel_of old) (next_of old) (next_of new) moment before now (agreed_by told) id token (concat message) out state
+      goes-saying old new moment piece n octets told first ms before b.quiet b.stands (same ∙ b.channel) (Some request) (Asked id token (concat message)) out now b.answers.0 sent.0
+      (says-reply request (channel_of old) (next_of old) (next_of new) moment before now (agreed_by told) id token (concat message) out state
       (subst (λ (k : ℕ). IsReplyAt k token (agreed_by told) body (next_of old) id out (next_of new)) b.channel
       (subst (λ (k : ℕ). IsReplyAt (channel_of mid) token (agreed_by told) body k id out (next_of new)) b.answers.1.1
-      (subst (λ (a : Option Agreement). IsReplyAt (channel_of mid) token a body (next_of mid) id out (next_of new)) (agreed-quiet (channel_of old) first told b.quiet ms) sent.1))))
+      (subst (λ (a : Option Agreement). IsReplyAt (channel_of mid) token a body (next_of mid) id out (next_of new)) (agreed-quiet (channel_of old) first told b.quiet ms) sent.1)))
+      (is ∙ (ap (λ (k : ℕ). request_answered (lane_at k token (agreed_by (told ++ given_up b.quiet))) before moment (concat message)) b.channel
+      ∙ ap (λ (a : Option Agreement). request_answered (lane_at (channel_of old) token a) before moment (concat message)) (agreed-quiet (channel_of old) first told b.quiet ms))))
 
   -- a message, and no memory for its reply
   pub on-break : (new : ServerChannel) (id : ℕ) (message : List (List ℕ)) (now : State) → AnsweredBehind old moment piece n (Ok (event.Asked id message)) mid octets told first ms before → IsDone new
@@ -173,22 +196,22 @@ module _ (old mid : ServerChannel) (moment : DateTime) (piece : List ℕ) (n : �
   on-failure b = (b.answers.1, inl refl)
 
 -- without a word on whether something was answered
-pub without : (answered : Bool) (channel : ℕ) (moment : DateTime) (piece : List ℕ) (end : Option Ending) (n : ℕ) (out : List ℕ) (new : ServerChannel) (octets : List ℕ) (told : List Told) (first : State) (ms : List DateTime) (before now : State)
-    → AdvanceBy answered channel moment piece end n out new octets told first ms before now → StepBy channel moment piece end n out new octets told first ms before now
-without answered channel moment piece None n out new octets told first ms before now a = a.goes
-without answered channel moment piece (Some end) n out new octets told first ms before now a = a.0
+pub without : (answered : Bool) (request : Option AnsweredRequest) (channel : ℕ) (moment : DateTime) (piece : List ℕ) (end : Option Ending) (n : ℕ) (out : List ℕ) (new : ServerChannel) (octets : List ℕ) (told : List Told) (first : State) (ms : List DateTime) (before now : State)
+    → AdvanceBy answered request channel moment piece end n out new octets told first ms before now → StepBy channel moment piece end n out new octets told first ms before now
+without answered request channel moment piece None n out new octets told first ms before now a = a.goes
+without answered request channel moment piece (Some end) n out new octets told first ms before now a = a.0
 
 -- what ended the connection is nothing that was answered
 pub ended-with : (channel : ℕ) (moment : DateTime) (piece : List ℕ) (end : Option Ending) (n : ℕ) (out : List ℕ) (new : ServerChannel) (octets : List ℕ) (told : List Told) (first : State) (ms : List DateTime) (before now : State)
-    → (end ≡ None → ⊥) → StepBy channel moment piece end n out new octets told first ms before now → AdvanceBy false channel moment piece end n out new octets told first ms before now
+    → (end ≡ None → ⊥) → StepBy channel moment piece end n out new octets told first ms before now → AdvanceBy false None channel moment piece end n out new octets told first ms before now
 ended-with channel moment piece None n out new octets told first ms before now some s = absurd (some refl)
 ended-with channel moment piece (Some end) n out new octets told first ms before now some s = (s, refl)
 
-same-fault : (f g : StepFault) → ◌≡◌ {A = Result (Vec ℕ Global) StepFault} (Err f) (Err g) → f ≡ g
+same-fault : {A : Type 0} (f g : StepFault) → ◌≡◌ {A = Result A StepFault} (Err f) (Err g) → f ≡ g
 same-fault f g e = cc
 
 -- a fault for want of memory
-pub breaks-by : (limits : Limits) (channel : ℕ) (moment : DateTime) (piece : List ℕ) (f : StepFault) (new : ServerChannel) (octets : List ℕ) (told : List Told) (first : State) (ms : List DateTime) (before now : State)
-    → ◌≡◌ {A = Result (Vec ℕ Global) StepFault} (Err f) (Err step_fault.OutOfMemory) → StepBreaks limits channel moment piece new octets told before now → StepAnswers limits channel moment piece (Err f) new octets told first ms before now
-breaks-by limits channel moment piece f new octets told first ms before now e b =
-    subst (λ (x : StepFault). StepAnswers limits channel moment piece (Err x) new octets told first ms before now) (sym (same-fault f step_fault.OutOfMemory e)) b
+pub breaks-by : {A : Type 0} (limits : Limits) (channel : ℕ) (moment : DateTime) (piece : List ℕ) (f : StepFault) (new : ServerChannel) (octets : List ℕ) (told : List Told) (first : State) (ms : List DateTime) (before now : State)
+    → ◌≡◌ {A = Result A StepFault} (Err f) (Err step_fault.OutOfMemory) → StepBreaks limits channel moment piece new octets told before now → StepAnswers limits channel moment piece (Err f) new octets told first ms before now
+breaks-by {A = A} limits channel moment piece f new octets told first ms before now e b =
+    subst (λ (x : StepFault). StepAnswers limits channel moment piece (Err x) new octets told first ms before now) (sym (same-fault {A = A} f step_fault.OutOfMemory e)) b

@@ -1,11 +1,11 @@
 -- Octets that a line moves and moments that are given, one after the other.
-use Rattle.std.specs.Prelude.{◌≡◌, ℕ, ◌+◌, ◌≤◌, ℤ, List, [], ◌∷◌, ◌++◌, take, length, Option, Some, None, Ok, Err}
+use Rattle.std.specs.Prelude.{◌≡◌, ℕ, ◌+◌, ◌≤◌, List, [], ◌∷◌, ◌++◌, take, length, Option, Some, None, Ok, Err}
 use Rattle.std.proofs.Common.{refl, sym, ◌∙◌, ap, subst, append_assoc, append-nil, arith}
 use Rattle.std.proofs.Math.Seq.{take-length}
 use Rattle.ua_channel.specs.Line.{Traffic, Takes, WhereTold}
-use Rattle.ua_channel.specs.Moments.{Gives}
 use Rattle.ua_channel.specs.declared.line.LineFault.{LineFault}
 use Rattle.ua_server.proofs.Passing.{rest_of, joined}
+use Rattle.ua_server.specs.Happening.{Event, Leads}
 use Rattle.ua_server.specs.Serving.{Moves}
 use Rattle.ua_server.specs.ServingParts.{Exchanged}
 
@@ -25,12 +25,12 @@ pub told-nothing : (a : Option Traffic) → WhereTold (Moves [] []) a a
 told-nothing (Some t) = (refl, sym (append-nil t.written))
 told-nothing None = refl
 
-pub gives-then : {M : Type 0} (gives : M → ℤ → M → Type 0) (a b c : M) (ts us : List ℤ) → Gives gives a ts b → Gives gives b us c → Gives gives a (ts ++ us) c
-gives-then {M = M} gives a b c [] us g h = subst (λ (x : M). Gives gives x us c) (sym g) h
+pub gives-then : {M : Type 0} (gives : M → Event → M → Type 0) (a b c : M) (ts us : List Event) → Leads gives a ts b → Leads gives b us c → Leads gives a (ts ++ us) c
+gives-then {M = M} gives a b c [] us g h = subst (λ (x : M). Leads gives x us c) (sym g) h
 gives-then gives a b c (t ∷ ts) us g h = (g.0, g.1, gives-then gives g.0 b c ts us g.2 h)
 
-pub exchanged-then : {M : Type 0} (gives : M → ℤ → M → Type 0) (a b c : M) (r r' : List ℕ) (x y z : Option Traffic) (P P' Q : List ℕ → List ℤ → Type 0)
-    (e : Exchanged gives a b r x y P) → Exchanged gives b c r' y z P' → ((w : List ℕ) (ts : List ℤ) → P' w ts → Q (e.written ++ w) (e.ticks ++ ts)) → Exchanged gives a c (r ++ r') x z Q
+pub exchanged-then : {M : Type 0} (gives : M → Event → M → Type 0) (a b c : M) (r r' : List ℕ) (x y z : Option Traffic) (P P' Q : List ℕ → List Event → Type 0)
+    (e : Exchanged gives a b r x y P) → Exchanged gives b c r' y z P' → ((w : List ℕ) (ts : List Event) → P' w ts → Q (e.written ++ w) (e.ticks ++ ts)) → Exchanged gives a c (r ++ r') x z Q
 exchanged-then gives a b c r r' x y z P P' Q e f on = record {
   written = e.written ++ f.written;
   ticks = e.ticks ++ f.ticks;

@@ -1,5 +1,5 @@
 -- What becomes of pieces, one turn after the other, and of a line, one read after the other.
-use Rattle.std.specs.Prelude.{◌≡◌, ℕ, ◌+◌, ◌-◌, ◌≤◌, ◌<◌, ℤ, List, [], ◌∷◌, ◌++◌, map, take, drop, length, Option, None, Some, Result, Ok, Err}
+use Rattle.std.specs.Prelude.{◌≡◌, ℕ, ◌+◌, ◌-◌, ◌≤◌, ◌<◌, ℤ, List, [], ◌∷◌, ◌++◌, take, drop, length, Option, None, Some, Result, Ok, Err}
 use Rattle.std.proofs.Common.{refl, sym, ◌∙◌, ap, subst, inr, append_assoc, append-nil, length-append, take-append-drop, arith}
 use Rattle.std.proofs.Math.Seq.{take-length}
 use Rattle.std.proofs.lemmas.List.{length-take-le}
@@ -17,53 +17,66 @@ use Rattle.ua_channel.specs.declared.line.LineFault.{LineFault}
 use Rattle.ua_channel.specs.declared.server.ServerChannel.{ServerChannel}
 use Rattle.ua_server.specs.Said.{left}
 use Rattle.ua_server.specs.Served.{channel_in}
-use Rattle.ua_server.specs.Serving.{moment_of, greatest, Answered, AnsweredTo, EndsBy, FailsBy, IsClean, Moves, Serves, ServesBy}
-use Rattle.ua_server.specs.ServingParts.{Exchanged, Finishes, Handles, Keeps, Reads, Turns, TurnsTo}
+use Rattle.ua_server.specs.Happening.{Event, Happens, noted_in}
+use Rattle.ua_server.specs.Requests.{requests}
+use Rattle.ua_server.specs.Serving.{moments_in, greatest, Answered, AnsweredTo, IsClean, Moves, ServesTelling, ServesBy, TellsAll, TellsBy}
+use Rattle.ua_server.specs.ServingParts.{EndsTelling, Exchanged, FailsTelling, Finishes, Handles, Keeps, Reads, Turns, TurnsTo}
 use Rattle.ua_server.specs.State.{State}
 use Rattle.ua_server.specs.declared.serve_fault.ServeFault.{ServeFault}
 use Rattle.ua_server.specs.declared.serve_fault.ServeFault.TheVariants as fault
 use Rattle.ua_server.specs.declared.serving.Serving.{Serving}
 use Rattle.ua_server.specs.declared.step.End.{End as Ending}
 use Rattle.ua_server.specs.declared.step.End.TheVariants as ending
+use Rattle.ua_server.specs.declared.watch.AnsweredRequest.{AnsweredRequest}
 use Rattle.ua_server.proofs.Exchanges.{told-then, told-nothing, gives-then, exchanged-then}
 use Rattle.ua_server.proofs.Passing.{rest_of, rest-is, rest-length, joined, fewer}
-use Rattle.ua_server.proofs.Pendings.{pending-unwritten, answered-as}
+use Rattle.ua_server.proofs.Pendings.{pending-unwritten, answered-as, requests-as}
 use Rattle.ua_server.proofs.Turning.{listed-one}
 
 -- the same at other lists
-moved-to : (P : List ℕ → List ℕ → List ℤ → Type 0) (r r' w w' : List ℕ) (t t' : List ℤ) → r ≡ r' → w ≡ w' → t ≡ t' → P r w t → P r' w' t'
-moved-to P r r' w w' t t' a b c p = subst (λ (x : List ℕ). P x w' t') a (subst (λ (x : List ℕ). P r x t') b (subst (λ (x : List ℤ). P r w x) c p))
+moved-to : (P : List ℕ → List ℕ → List Event → Type 0) (r r' w w' : List ℕ) (t t' : List Event) → r ≡ r' → w ≡ w' → t ≡ t' → P r w t → P r' w' t'
+moved-to P r r' w w' t t' a b c p = subst (λ (x : List ℕ). P x w' t') a (subst (λ (x : List ℕ). P r x t') b (subst (λ (x : List Event). P r w x) c p))
 
 -- ---- behind the end of a connection nothing counts
 
 module _ (limits : Limits) (channel : ℕ) (first : State) where
-  answered-on : (read more written : List ℕ) (moments : List DateTime) (now : State) (end : End ℕ) → (end ≡ Going → ⊥) → Answered limits channel first read written moments now end
-      → Answered limits channel first (read ++ more) written moments now end
-  answered-on read more written moments now end over a = record {
-    frames = a.frames;
-    rest = a.rest ++ more;
-    to = record {
-      run = ends_stay (server_rules limits channel) read more a.frames a.rest end over a.to.run;
-      written_is = a.to.written_is;
-      state_is = a.to.state_is;
-      asked = a.to.asked;
-    };
-  }
+  answered-on : (read more written : List ℕ) (moments : List DateTime) (now : State) (end : End ℕ) → (end ≡ Going → ⊥) → (a : Answered limits channel first read written moments now end)
+      → (b : Answered limits channel first (read ++ more) written moments now end) × (a.frames ≡ b.frames)
+  answered-on read more written moments now end over a = (
+    record {
+      frames = a.frames;
+      rest = a.rest ++ more;
+      to = record {
+        run = ends_stay (server_rules limits channel) read more a.frames a.rest end over a.to.run;
+        written_is = a.to.written_is;
+        state_is = a.to.state_is;
+        asked = a.to.asked;
+      };
+    },
+    refl,
+  )
 
-  ends-on : (end : Ending) (read more written : List ℕ) (moments : List DateTime) (now : State) → EndsBy end limits channel first read written moments now → EndsBy end limits channel first (read ++ more) written moments now
-  ends-on ending.Closed read more written moments now a = answered-on read more written moments now Over (λ e. absurd cc) a
-  ends-on (ending.Refused code) read more written moments now a = answered-on read more written moments now (Stopped code.code) (λ e. absurd cc) a
-  ends-on ending.NoClose read more written moments now a = a
-  ends-on ending.Cut read more written moments now a = a
+  told-as : (moments : List DateTime) (f g : List Frame) (told : List AnsweredRequest) → f ≡ g → TellsAll limits channel first moments f told → TellsAll limits channel first moments g told
+  told-as moments f g told e t = t ∙ ap (λ (fs : List Frame). requests channel first (events (server_rules limits channel) fs) moments) e
+
+  ends-on : (end : Ending) (read more written : List ℕ) (ticks : List Event) (now : State) → EndsTelling end limits channel first read written ticks now → EndsTelling end limits channel first (read ++ more) written ticks now
+  ends-on ending.Closed read more written ticks now t =
+      let a = answered-on read more written (moments_in ticks) now Over (λ e. absurd cc) t.ends in
+      record { ends = a.0; tells = told-as (moments_in ticks) t.ends.frames a.0.frames (noted_in ticks) a.1 t.tells }
+  ends-on (ending.Refused code) read more written ticks now t =
+      let a = answered-on read more written (moments_in ticks) now (Stopped code.code) (λ e. absurd cc) t.ends in
+      record { ends = a.0; tells = told-as (moments_in ticks) t.ends.frames a.0.frames (noted_in ticks) a.1 t.tells }
+  ends-on ending.NoClose read more written ticks now t = absurd t.ends
+  ends-on ending.Cut read more written ticks now t = absurd t.ends
 
   -- ---- a piece
 
-  module _ {M : Type 0} (gives : M → ℤ → M → Type 0) (m0 : M) (la : Option Traffic) (x : Serving) (now0 : State) (piece : List ℕ) where
+  module _ {M : Type 0} (gives : M → Event → M → Type 0) (m0 : M) (la : Option Traffic) (x : Serving) (now0 : State) (piece : List ℕ) where
     -- so many octets of the piece are answered, and it goes on
-    abbrev pub Handled : ℕ → M → Option Traffic → Serving → State → List ℕ → List ℕ → List ℤ → Type 0
+    abbrev pub Handled : ℕ → M → Option Traffic → Serving → State → List ℕ → List ℕ → List Event → Type 0
     Handled taken m lb y now read written given = Exchanged gives m0 m [] la lb (λ more ts. Keeps y limits channel first (read ++ take taken piece) (written ++ more) (given ++ ts) now)
 
-    pub handled-nothing : (read written : List ℕ) (given : List ℤ) → Keeps x limits channel first read written given now0 → Handled 0 m0 la x now0 read written given
+    pub handled-nothing : (read written : List ℕ) (given : List Event) → Keeps x limits channel first read written given now0 → Handled 0 m0 la x now0 read written given
     handled-nothing read written given k = record {
       written = [];
       ticks = [];
@@ -72,7 +85,7 @@ module _ (limits : Limits) (channel : ℕ) (first : State) where
       holds = moved-to (λ r w t. Keeps x limits channel first r w t now0) read (read ++ []) written (written ++ []) given (given ++ []) (sym (append-nil read)) (sym (append-nil written)) (sym (append-nil given)) k;
     }
 
-    module _ (taken : ℕ) (m m' : M) (lb lc : Option Traffic) (mid y : Serving) (now now' : State) (read written : List ℕ) (given : List ℤ) (so_far : Handled taken m lb mid now read written given) where
+    module _ (taken : ℕ) (m m' : M) (lb lc : Option Traffic) (mid y : Serving) (now now' : State) (read written : List ℕ) (given : List Event) (so_far : Handled taken m lb mid now read written given) where
       -- where a turn begins
       abbrev there : List ℕ
       there = read ++ take taken piece
@@ -102,11 +115,11 @@ module _ (limits : Limits) (channel : ℕ) (first : State) where
       handled-end n end e is f =
           exchanged-then gives m0 m m' [] [] la lb lc (λ more ts. Keeps mid limits channel first there (written ++ more) (given ++ ts) now)
           (λ more ts. Turns (Ok (n, end)) y limits channel first (rest_of piece taken) there ((written ++ so_far.written) ++ more) ((given ++ so_far.ticks) ++ ts) now')
-          (λ more ts. EndsBy e limits channel first (read ++ piece) (written ++ more) (map moment_of (given ++ ts)) now') so_far f
-          (λ w ts h. moved-to (λ r u t. EndsBy e limits channel first r u (map moment_of t) now') ((there ++ take n (rest_of piece taken)) ++ drop n (rest_of piece taken)) (read ++ piece)
+          (λ more ts. EndsTelling e limits channel first (read ++ piece) (written ++ more) (given ++ ts) now') so_far f
+          (λ w ts h. moved-to (λ r u t. EndsTelling e limits channel first r u t now') ((there ++ take n (rest_of piece taken)) ++ drop n (rest_of piece taken)) (read ++ piece)
           ((written ++ so_far.written) ++ w) (written ++ (so_far.written ++ w)) ((given ++ so_far.ticks) ++ ts) (given ++ (so_far.ticks ++ ts))
           (back n) (append_assoc written so_far.written w) (append_assoc given so_far.ticks ts)
-          (ends-on e (there ++ take n (rest_of piece taken)) (drop n (rest_of piece taken)) ((written ++ so_far.written) ++ w) (map moment_of ((given ++ so_far.ticks) ++ ts)) now'
+          (ends-on e (there ++ take n (rest_of piece taken)) (drop n (rest_of piece taken)) ((written ++ so_far.written) ++ w) ((given ++ so_far.ticks) ++ ts) now'
           (subst (λ (o : Option Ending). TurnsTo o y limits channel first (there ++ take n (rest_of piece taken)) ((written ++ so_far.written) ++ w) ((given ++ so_far.ticks) ++ ts) now') is h)))
 
       -- an answer fails
@@ -116,8 +129,8 @@ module _ (limits : Limits) (channel : ℕ) (first : State) where
       handled-fault f t =
           exchanged-then gives m0 m m' [] [] la lb lc (λ more ts. Keeps mid limits channel first there (written ++ more) (given ++ ts) now)
           (λ more ts. Turns (Err f) y limits channel first (rest_of piece taken) there ((written ++ so_far.written) ++ more) ((given ++ so_far.ticks) ++ ts) now')
-          (λ more ts. FailsBy f limits channel first (read ++ piece) (written ++ more) (map moment_of (given ++ ts)) now') so_far t
-          (λ w ts h. moved-to (λ r u o. FailsBy f limits channel first r u (map moment_of o) now') (there ++ rest_of piece taken) (read ++ piece)
+          (λ more ts. FailsTelling f limits channel first (read ++ piece) (written ++ more) (given ++ ts) now') so_far t
+          (λ w ts h. moved-to (λ r u o. FailsTelling f limits channel first r u o now') (there ++ rest_of piece taken) (read ++ piece)
           ((written ++ so_far.written) ++ w) (written ++ (so_far.written ++ w)) ((given ++ so_far.ticks) ++ ts) (given ++ (so_far.ticks ++ ts))
           (ap (λ (p : List ℕ). there ++ p) (rest-is piece taken) ∙ (append_assoc read (take taken piece) (drop taken piece) ∙ ap (λ (p : List ℕ). read ++ p) (take-append-drop taken piece)))
           (append_assoc written so_far.written w) (append_assoc given so_far.ticks ts) h)
@@ -140,52 +153,80 @@ module _ (limits : Limits) (channel : ℕ) (first : State) where
   rules-at : (ch : ServerChannel) → limits_of ch ≡ limits → channel_of ch ≡ channel → rules_of ch ≡ server_rules limits channel
   rules-at ch a b = ap (λ (l : Limits). server_rules l (channel_of ch)) a ∙ ap (λ (n : ℕ). server_rules limits n) b
 
+  -- the frames of all that was read
+  run-of : (x : Serving) (read written : List ℕ) (given : List Event) (now : State) (k : Keeps x limits channel first read written given now)
+      → Run (server_rules limits channel) read k.stands.goes.frames k.stands.goes.rest Going × (events (server_rules limits channel) k.stands.goes.frames ≡ k.told)
+  run-of x read written given now k =
+      let g = k.stands.goes in
+      let same = rules-at (channel_in x.server) k.limits_is k.channel_is in (
+        subst (λ (R : Rules Told ℕ). Run R read g.frames g.rest Going) same g.stands.run,
+        ap (λ (R : Rules Told ℕ). events R g.frames) (sym same) ∙ g.told_is,
+      )
+
   -- all that was read is answered
-  keeps-answered : (x : Serving) (read written : List ℕ) (given : List ℤ) (now : State) (k : Keeps x limits channel first read written given now)
-      → AnsweredTo limits channel first read written (map moment_of given) now k.stands.goes.frames k.stands.goes.rest Going
+  keeps-answered : (x : Serving) (read written : List ℕ) (given : List Event) (now : State) (k : Keeps x limits channel first read written given now)
+      → AnsweredTo limits channel first read written (moments_in given) now k.stands.goes.frames k.stands.goes.rest Going
   keeps-answered x read written given now k =
       let g = k.stands.goes in
-      let same = rules-at (channel_in x.server) k.limits_is k.channel_is in
-      answered-as limits channel first read written g.frames g.rest Going k.told k.used (listed x.moment) (map moment_of given) now k.moments_are (listed-one limits channel first x.moment)
-      (subst (λ (R : Rules Told ℕ). Run R read g.frames g.rest Going) same g.stands.run)
-      (ap (λ (R : Rules Told ℕ). events R g.frames) (sym same) ∙ g.told_is)
+      let run = run-of x read written given now k in
+      answered-as limits channel first read written g.frames g.rest Going k.told k.used (listed x.moment) (moments_in given) now k.moments_are (listed-one limits channel first x.moment)
+      run.0
+      run.1
       (sym (k.said_is ∙ append-nil written))
       (ap (λ (n : ℕ). (left n first k.told k.used).state) (sym k.channel_is) ∙ k.stands.state_is)
       k.stands.used
 
-  pub still-going : (x : Serving) (read written : List ℕ) (given : List ℤ) (now : State) → Keeps x limits channel first read written given now → Answered limits channel first read written (map moment_of given) now Going
-  still-going x read written given now k = record { frames = k.stands.goes.frames; rest = k.stands.goes.rest; to = keeps-answered x read written given now k }
+  keeps-told : (x : Serving) (read written : List ℕ) (given : List Event) (now : State) (k : Keeps x limits channel first read written given now) → TellsAll limits channel first (moments_in given) k.stands.goes.frames (noted_in given)
+  keeps-told x read written given now k =
+      requests-as limits channel first (noted_in given) k.stands.goes.frames k.told k.used (listed x.moment) (moments_in given) k.moments_are (run-of x read written given now k).1 k.stands.used k.requests_are
+
+  pub still-going : (x : Serving) (read written : List ℕ) (given : List Event) (now : State) → Keeps x limits channel first read written given now
+      → (a : Answered limits channel first read written (moments_in given) now Going) × TellsAll limits channel first (moments_in given) a.frames (noted_in given)
+  still-going x read written given now k = (
+    record { frames = k.stands.goes.frames; rest = k.stands.goes.rest; to = keeps-answered x read written given now k },
+    keeps-told x read written given now k,
+  )
+
+  -- what serving comes to, and which requests are told of
+  abbrev pub ComesTo : Result Ending ServeFault → List ℕ → List ℕ → List Event → State → List ℕ → Type 0
+  ComesTo result read written ticks now coming = (s : ServesBy result limits channel first read written (moments_in ticks) now coming) × TellsBy result limits channel first read written (moments_in ticks) now coming s (noted_in ticks)
 
   -- the input ended
-  pub finished : (x : Serving) (end : Ending) (read written : List ℕ) (given : List ℤ) (now : State) (coming : List ℕ) → Keeps x limits channel first read written given now
+  pub finished : (x : Serving) (end : Ending) (read written : List ℕ) (given : List Event) (now : State) (coming : List ℕ) → Keeps x limits channel first read written given now
       → ((octets : List ℕ) (frames : List Frame) (rest : List ℕ) → Holds (channel_in x.server) octets frames rest → Finishes end frames rest) → coming ≡ []
-      → ServesBy (Ok end) limits channel first read written (map moment_of given) now coming
+      → ComesTo (Ok end) read written given now coming
   finished x end read written given now coming k by none = by-end end (by read k.stands.goes.frames k.stands.goes.rest k.stands.goes.stands)
     where
-      by-end : (e : Ending) → Finishes e k.stands.goes.frames k.stands.goes.rest → ServesBy (Ok e) limits channel first read written (map moment_of given) now coming
-      by-end ending.NoClose h = record { frames = k.stands.goes.frames; rest = k.stands.goes.rest; to = keeps-answered x read written given now k; none = none; stands = h }
-      by-end ending.Cut h = record { frames = k.stands.goes.frames; rest = k.stands.goes.rest; to = keeps-answered x read written given now k; none = none; stands = h }
+      by-end : (e : Ending) → Finishes e k.stands.goes.frames k.stands.goes.rest → ComesTo (Ok e) read written given now coming
+      by-end ending.NoClose h = (record { frames = k.stands.goes.frames; rest = k.stands.goes.rest; to = keeps-answered x read written given now k; none = none; stands = h }, keeps-told x read written given now k)
+      by-end ending.Cut h = (record { frames = k.stands.goes.frames; rest = k.stands.goes.rest; to = keeps-answered x read written given now k; none = none; stands = h }, keeps-told x read written given now k)
       by-end ending.Closed h = absurd h
       by-end (ending.Refused code) h = absurd h
 
-  ends-serves : (end : Ending) (read written : List ℕ) (moments : List DateTime) (now : State) (coming : List ℕ) → EndsBy end limits channel first read written moments now → ServesBy (Ok end) limits channel first read written moments now coming
-  ends-serves ending.Closed read written moments now coming a = a
-  ends-serves (ending.Refused code) read written moments now coming a = a
-  ends-serves ending.NoClose read written moments now coming a = absurd a
-  ends-serves ending.Cut read written moments now coming a = absurd a
+  ends-serves : (end : Ending) (read written : List ℕ) (ticks : List Event) (now : State) (coming : List ℕ) → EndsTelling end limits channel first read written ticks now → ComesTo (Ok end) read written ticks now coming
+  ends-serves ending.Closed read written ticks now coming a = (a.ends, a.tells)
+  ends-serves (ending.Refused code) read written ticks now coming a = (a.ends, a.tells)
+  ends-serves ending.NoClose read written ticks now coming a = absurd a.ends
+  ends-serves ending.Cut read written ticks now coming a = absurd a.ends
 
-  fails-serves : (f : ServeFault) (read written : List ℕ) (moments : List DateTime) (now : State) (coming : List ℕ) → FailsBy f limits channel first read written moments now → ServesBy (Err f) limits channel first read written moments now coming
-  fails-serves fault.Read read written moments now coming a = absurd a
-  fails-serves (fault.Write n) read written moments now coming a = a
-  fails-serves fault.OutOfMemory read written moments now coming a = a
-  fails-serves fault.TooLong read written moments now coming a = absurd a
+  fails-serves : (f : ServeFault) (read written : List ℕ) (ticks : List Event) (now : State) (coming : List ℕ) → FailsTelling f limits channel first read written ticks now → ComesTo (Err f) read written ticks now coming
+  fails-serves fault.Read read written ticks now coming a = absurd a.fails
+  fails-serves (fault.Write n) read written ticks now coming a = (a.fails, a.tells)
+  fails-serves fault.OutOfMemory read written ticks now coming a = (a.fails, a.tells)
+  fails-serves fault.TooLong read written ticks now coming a = absurd a.fails
 
-  module _ {M : Type 0} (gives : M → ℤ → M → Type 0) (m0 : M) where
+  module _ {M W : Type 0} (gives : M → ℤ → M → Type 0) (notes : W → AnsweredRequest → W → Type 0) (m0 : M × W) where
+    -- one step of both
+    abbrev step : M × W → Event → M × W → Type 0
+    step = Happens gives notes
+
     -- what is exchanged with a line that tells its octets is served
-    pub served : (m : M) (read : List ℕ) (la lb : Option Traffic) (result : Result Ending ServeFault) (now : State) (P : List ℕ → List ℤ → Type 0) → Exchanged gives m0 m read la lb P
-        → ((b : Traffic) (w : List ℕ) (ts : List ℤ) → lb ≡ Some b → P w ts → ServesBy result limits channel first read w (map moment_of ts) now b.coming)
-        → WhereTold (Serves limits channel gives first m0 result now m) la lb
-    served m read (Some a) (Some b) result now P e by = record { read = read; written = e.written; ticks = e.ticks; moved = e.moved; given = e.given; comes_to = by b e.written e.ticks refl e.holds }
+    pub served : (m : M × W) (read : List ℕ) (la lb : Option Traffic) (result : Result Ending ServeFault) (now : State) (P : List ℕ → List Event → Type 0) → Exchanged step m0 m read la lb P
+        → ((b : Traffic) (w : List ℕ) (ts : List Event) → lb ≡ Some b → P w ts → ComesTo result read w ts now b.coming)
+        → WhereTold (ServesTelling limits channel gives notes first m0 result now m) la lb
+    served m read (Some a) (Some b) result now P e by =
+        let to = by b e.written e.ticks refl e.holds in
+        record { read = read; written = e.written; happened = e.ticks; moved = e.moved; led = e.given; comes_to = to.0; tells = to.1 }
     served m read (Some a) None result now P e by = e.moved
     served m read None lb result now P e by = e.moved
 
@@ -207,23 +248,23 @@ module _ (limits : Limits) (channel : ℕ) (first : State) where
     ended n buffer None b t h zero room is = let none : ◌≡◌ {A = Option Traffic} None (Some t) = sym h ∙ is in absurd cc
 
     -- so many reads are answered, and it goes on
-    abbrev pub Served : Option Traffic → ℕ → M → Option Traffic → Serving → State → Type 0
-    Served la reads m lb x now = Reads gives m0 m la lb reads (λ read written ts. Keeps x limits channel first read written ts now)
+    abbrev pub Served : Option Traffic → ℕ → M × W → Option Traffic → Serving → State → Type 0
+    Served la reads m lb x now = Reads step m0 m la lb reads (λ read written ts. Keeps x limits channel first read written ts now)
 
     pub served-nothing : (la : Option Traffic) (x : Serving) (now : State) → Keeps x limits channel first [] [] [] now → Served la 0 m0 la x now
     served-nothing la x now k = record { read = []; enough = omega arith; exchanged = record { written = []; ticks = []; moved = told-nothing la; given = refl; holds = k } }
 
     -- nothing was read, for want of memory
-    pub serves-nothing : (la : Option Traffic) (x : Serving) (now : State) → Keeps x limits channel first [] [] [] now → WhereTold (Serves limits channel gives first m0 (Err fault.OutOfMemory) now m0) la la
+    pub serves-nothing : (la : Option Traffic) (x : Serving) (now : State) → Keeps x limits channel first [] [] [] now → WhereTold (ServesTelling limits channel gives notes first m0 (Err fault.OutOfMemory) now m0) la la
     serves-nothing la x now k =
         served m0 [] la la (Err fault.OutOfMemory) now (λ w ts. Keeps x limits channel first [] w ts now) (record { written = []; ticks = []; moved = told-nothing la; given = refl; holds = k })
         (λ b w ts is h.
-        let broken = pending-unwritten limits channel first [] [] w h.used (listed x.moment) (map moment_of ts) now h.moments_are (listed-one limits channel first x.moment) h.pending in
-        (broken.0, inr broken.1))
+        let broken = pending-unwritten limits channel first (noted_in ts) [] [] w h.used (listed x.moment) (moments_in ts) now h.moments_are (listed-one limits channel first x.moment) h.pending in
+        ((broken.0, inr broken.1), inr (broken.1, broken.2)))
 
     -- a read is handed out
-    read-on : (la lb lc : Option Traffic) (reads : ℕ) (m : M) (x : Serving) (now : State) (n : ℕ) (buffer : List ℕ) (s : Served la reads m lb x now) → WhereTold (Moves (take n buffer) []) lb lc
-        → Exchanged gives m0 m (s.read ++ take n buffer) la lc (λ written ts. Keeps x limits channel first s.read written ts now)
+    read-on : (la lb lc : Option Traffic) (reads : ℕ) (m : M × W) (x : Serving) (now : State) (n : ℕ) (buffer : List ℕ) (s : Served la reads m lb x now) → WhereTold (Moves (take n buffer) []) lb lc
+        → Exchanged step m0 m (s.read ++ take n buffer) la lc (λ written ts. Keeps x limits channel first s.read written ts now)
     read-on la lb lc reads m x now n buffer s moved = record {
       written = s.exchanged.written;
       ticks = s.exchanged.ticks;
@@ -232,36 +273,38 @@ module _ (limits : Limits) (channel : ℕ) (first : State) where
       holds = s.exchanged.holds;
     }
 
-    pub read-failed : (la lb lc : Option Traffic) (reads : ℕ) (m : M) (x : Serving) (now : State) (f : LineFault) (buffer : List ℕ) → Served la reads m lb x now → WhereTold (Hands (Err f) buffer) lb lc
-        → WhereTold (Serves limits channel gives first m0 (Err fault.Read) now m) la lc
+    pub read-failed : (la lb lc : Option Traffic) (reads : ℕ) (m : M × W) (x : Serving) (now : State) (f : LineFault) (buffer : List ℕ) → Served la reads m lb x now → WhereTold (Hands (Err f) buffer) lb lc
+        → WhereTold (ServesTelling limits channel gives notes first m0 (Err fault.Read) now m) la lc
     read-failed la lb lc reads m x now f buffer s h =
         served m s.read la lc (Err fault.Read) now (λ written ts. Keeps x limits channel first s.read written ts now)
-        (subst (λ (r : List ℕ). Exchanged gives m0 m r la lc (λ written ts. Keeps x limits channel first s.read written ts now)) (append-nil s.read)
+        (subst (λ (r : List ℕ). Exchanged step m0 m r la lc (λ written ts. Keeps x limits channel first s.read written ts now)) (append-nil s.read)
         (read-on la lb lc reads m x now 0 [] s (not-handed f buffer lb lc h)))
         (λ b w ts is k. still-going x s.read w ts now k)
 
-    pub read-ended : (la lb lc : Option Traffic) (reads : ℕ) (m : M) (x : Serving) (now : State) (n : ℕ) (buffer : List ℕ) (end : Ending) → Served la reads m lb x now → WhereTold (Hands (Ok n) buffer) lb lc → n ≡ 0 → 0 < length buffer
+    pub read-ended : (la lb lc : Option Traffic) (reads : ℕ) (m : M × W) (x : Serving) (now : State) (n : ℕ) (buffer : List ℕ) (end : Ending) → Served la reads m lb x now → WhereTold (Hands (Ok n) buffer) lb lc → n ≡ 0 → 0 < length buffer
         → ((octets : List ℕ) (frames : List Frame) (rest : List ℕ) → Holds (channel_in x.server) octets frames rest → Finishes end frames rest)
-        → WhereTold (Serves limits channel gives first m0 (Ok end) now m) la lc
+        → WhereTold (ServesTelling limits channel gives notes first m0 (Ok end) now m) la lc
     read-ended la lb lc reads m x now n buffer end s h zero room by =
         served m s.read la lc (Ok end) now (λ written ts. Keeps x limits channel first s.read written ts now)
-        (subst (λ (r : List ℕ). Exchanged gives m0 m r la lc (λ written ts. Keeps x limits channel first s.read written ts now)) (ap (λ (k : ℕ). s.read ++ take k buffer) zero ∙ append-nil s.read)
+        (subst (λ (r : List ℕ). Exchanged step m0 m r la lc (λ written ts. Keeps x limits channel first s.read written ts now)) (ap (λ (k : ℕ). s.read ++ take k buffer) zero ∙ append-nil s.read)
         (read-on la lb lc reads m x now n buffer s (handed n buffer lb lc h)))
         (λ b w ts is k. finished x end s.read w ts now b.coming k by (ended n buffer lb lc b h zero room is))
 
-    pub read-too-long : (la lb : Option Traffic) (reads : ℕ) (m : M) (x : Serving) (now : State) → greatest ≤ reads → Served la reads m lb x now → WhereTold (Serves limits channel gives first m0 (Err fault.TooLong) now m) la lb
+    pub read-too-long : (la lb : Option Traffic) (reads : ℕ) (m : M × W) (x : Serving) (now : State) → greatest ≤ reads → Served la reads m lb x now → WhereTold (ServesTelling limits channel gives notes first m0 (Err fault.TooLong) now m) la lb
     read-too-long la lb reads m x now h s =
         served m s.read la lb (Err fault.TooLong) now (λ written ts. Keeps x limits channel first s.read written ts now) s.exchanged
-        (λ b w ts is k. (still-going x s.read w ts now k, more-than greatest reads (length s.read) h s.enough))
+        (λ b w ts is k.
+        let going = still-going x s.read w ts now k in
+        ((going.0, more-than greatest reads (length s.read) h s.enough), going.1))
       where
         more-than : (a b c : ℕ) → a ≤ b → b ≤ c → a ≤ c
         more-than a b c p q = omega (arith, p, q)
 
-    module _ (la lb lc ld : Option Traffic) (reads : ℕ) (m m' : M) (x y : Serving) (now now' : State) (n : ℕ) (buffer : List ℕ) (s : Served la reads m lb x now) (h : WhereTold (Hands (Ok n) buffer) lb lc) where
+    module _ (la lb lc ld : Option Traffic) (reads : ℕ) (m m' : M × W) (x y : Serving) (now now' : State) (n : ℕ) (buffer : List ℕ) (s : Served la reads m lb x now) (h : WhereTold (Hands (Ok n) buffer) lb lc) where
       -- the octets that were read are handled so
       handles-on : (result : Result (Option Ending) ServeFault)
-          → Exchanged gives m m' [] lc ld (λ more ts. Handles result y limits channel first (s.read ++ take n buffer) (s.exchanged.written ++ more) (s.exchanged.ticks ++ ts) now')
-          → Exchanged gives m0 m' (s.read ++ take n buffer) la ld (λ written ts. Handles result y limits channel first (s.read ++ take n buffer) written ts now')
+          → Exchanged step m m' [] lc ld (λ more ts. Handles result y limits channel first (s.read ++ take n buffer) (s.exchanged.written ++ more) (s.exchanged.ticks ++ ts) now')
+          → Exchanged step m0 m' (s.read ++ take n buffer) la ld (λ written ts. Handles result y limits channel first (s.read ++ take n buffer) written ts now')
       handles-on result f =
           record {
             written = s.exchanged.written ++ f.written;
@@ -269,14 +312,14 @@ module _ (limits : Limits) (channel : ℕ) (first : State) where
             moved = subst (λ (r : List ℕ). WhereTold (Moves r (s.exchanged.written ++ f.written)) la ld) (append-nil (s.read ++ take n buffer))
                 (subst (λ (w : List ℕ). WhereTold (Moves ((s.read ++ take n buffer) ++ []) (w ++ f.written)) la ld) (append-nil s.exchanged.written)
                 (told-then (s.read ++ take n buffer) (s.exchanged.written ++ []) [] f.written la lc ld (told-then s.read s.exchanged.written (take n buffer) [] la lb lc s.exchanged.moved (handed n buffer lb lc h)) f.moved));
-            given = gives-then gives m0 m m' s.exchanged.ticks f.ticks s.exchanged.given f.given;
+            given = gives-then step m0 m m' s.exchanged.ticks f.ticks s.exchanged.given f.given;
             holds = f.holds;
           }
 
       one-more : (a b r k : ℕ) → r ≤ a → b ≡ a + k → 0 < k → r + 1 ≤ b
       one-more a b r k p q z = omega (arith, p, q, z)
 
-      pub served-more : 0 < n → n ≤ length buffer → Exchanged gives m m' [] lc ld (λ more ts. Handles (Ok None) y limits channel first (s.read ++ take n buffer) (s.exchanged.written ++ more) (s.exchanged.ticks ++ ts) now')
+      pub served-more : 0 < n → n ≤ length buffer → Exchanged step m m' [] lc ld (λ more ts. Handles (Ok None) y limits channel first (s.read ++ take n buffer) (s.exchanged.written ++ more) (s.exchanged.ticks ++ ts) now')
           → Served la (reads + 1) m' ld y now'
       served-more some within f = record {
         read = s.read ++ take n buffer;
@@ -284,17 +327,17 @@ module _ (limits : Limits) (channel : ℕ) (first : State) where
         exchanged = handles-on (Ok None) f;
       }
 
-      pub served-end : (end : Ending) → Exchanged gives m m' [] lc ld (λ more ts. Handles (Ok (Some end)) y limits channel first (s.read ++ take n buffer) (s.exchanged.written ++ more) (s.exchanged.ticks ++ ts) now')
-          → WhereTold (Serves limits channel gives first m0 (Ok end) now' m') la ld
+      pub served-end : (end : Ending) → Exchanged step m m' [] lc ld (λ more ts. Handles (Ok (Some end)) y limits channel first (s.read ++ take n buffer) (s.exchanged.written ++ more) (s.exchanged.ticks ++ ts) now')
+          → WhereTold (ServesTelling limits channel gives notes first m0 (Ok end) now' m') la ld
       served-end end f =
-          served m' (s.read ++ take n buffer) la ld (Ok end) now' (λ written ts. EndsBy end limits channel first (s.read ++ take n buffer) written (map moment_of ts) now') (handles-on (Ok (Some end)) f)
-          (λ b w ts is k. ends-serves end (s.read ++ take n buffer) w (map moment_of ts) now' b.coming k)
+          served m' (s.read ++ take n buffer) la ld (Ok end) now' (λ written ts. EndsTelling end limits channel first (s.read ++ take n buffer) written ts now') (handles-on (Ok (Some end)) f)
+          (λ b w ts is k. ends-serves end (s.read ++ take n buffer) w ts now' b.coming k)
 
-      pub served-fault : (f : ServeFault) → Exchanged gives m m' [] lc ld (λ more ts. Handles (Err f) y limits channel first (s.read ++ take n buffer) (s.exchanged.written ++ more) (s.exchanged.ticks ++ ts) now')
-          → WhereTold (Serves limits channel gives first m0 (Err f) now' m') la ld
+      pub served-fault : (f : ServeFault) → Exchanged step m m' [] lc ld (λ more ts. Handles (Err f) y limits channel first (s.read ++ take n buffer) (s.exchanged.written ++ more) (s.exchanged.ticks ++ ts) now')
+          → WhereTold (ServesTelling limits channel gives notes first m0 (Err f) now' m') la ld
       served-fault f e =
-          served m' (s.read ++ take n buffer) la ld (Err f) now' (λ written ts. FailsBy f limits channel first (s.read ++ take n buffer) written (map moment_of ts) now') (handles-on (Err f) e)
-          (λ b w ts is k. fails-serves f (s.read ++ take n buffer) w (map moment_of ts) now' b.coming k)
+          served m' (s.read ++ take n buffer) la ld (Err f) now' (λ written ts. FailsTelling f limits channel first (s.read ++ take n buffer) written ts now') (handles-on (Err f) e)
+          (λ b w ts is k. fails-serves f (s.read ++ take n buffer) w ts now' b.coming k)
 
 -- less of a piece is left behind a turn
 pub turns-fewer : (piece : List ℕ) (taken n : ℕ) → taken < length piece → n ≤ length (rest_of piece taken) → (0 < length (rest_of piece taken) → 0 < n) → length piece - (taken + n) < length piece - taken

@@ -15,4 +15,7 @@ mod Turning
 mod Handling
 mod Stepped
 mod Clean
+mod Octets
+mod Happened
+mod RequestsInParts
 pub mod SaidInParts

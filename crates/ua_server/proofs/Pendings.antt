@@ -8,19 +8,22 @@ use Rattle.ua_frame.specs.declared.limits.Limits.{Limits}
 use Rattle.ua_channel.specs.ServerRules.{server_rules}
 use Rattle.ua_channel.specs.ServerStands.{limits_of, channel_of}
 use Rattle.ua_channel.specs.ServerTold.{Told}
+use Rattle.ua_server.specs.Requests.{requests}
 use Rattle.ua_server.specs.Said.{Course, left, said, used_in}
 use Rattle.ua_server.specs.Served.{channel_in}
-use Rattle.ua_server.specs.Serving.{AnsweredTo, AreAsked, BrokenOff, Nothing, told_at, end_at}
+use Rattle.ua_server.specs.Serving.{AnsweredTo, AreAsked, BrokenOff, Nothing, TellsAll, told_at, end_at}
 use Rattle.ua_server.specs.Stepping.{Stands}
 use Rattle.ua_server.specs.declared.server.Server.{Server}
 use Rattle.ua_server.specs.ServingParts.{Keeps, Pending}
 use Rattle.ua_server.specs.State.{State}
+use Rattle.ua_server.specs.declared.watch.AnsweredRequest.{AnsweredRequest}
+use Rattle.ua_server.proofs.RequestsInParts.{requests-more}
 use Rattle.ua_server.proofs.SaidInParts.{used_in-append, left-more, said-more}
 
 module _ (limits : Limits) (channel : ℕ) (first : State) where
   -- more octets are read
-  pub pending-on : (read more out written : List ℕ) (used : List DateTime) (now : State) → Pending limits channel first read out written used now → Pending limits channel first (read ++ more) out written used now
-  pending-on read more out written used now p = record {
+  pub pending-on : (requested : List AnsweredRequest) (read more out written : List ℕ) (used : List DateTime) (now : State) → Pending requested limits channel first read out written used now → Pending requested limits channel first (read ++ more) out written used now
+  pending-on requested read more out written used now p = record {
     front = p.front;
     behind = p.behind ++ more;
     front_is = ap (λ (x : List ℕ). x ++ more) p.front_is ∙ append_assoc p.front p.behind more;
@@ -29,15 +32,16 @@ module _ (limits : Limits) (channel : ℕ) (first : State) where
     ends = p.ends;
     state_is = p.state_is;
     all_used = p.all_used;
+    requests_are = p.requests_are;
     part = p.part;
     written_is = p.written_is;
     said_is = p.said_is;
   }
 
   -- more octets are written
-  pub pending-written : (read out written : List ℕ) (used : List DateTime) (now : State) (done left : List ℕ) → out ≡ done ++ left → Pending limits channel first read out written used now
-      → Pending limits channel first read left (written ++ done) used now
-  pending-written read out written used now done left e p = record {
+  pub pending-written : (requested : List AnsweredRequest) (read out written : List ℕ) (used : List DateTime) (now : State) (done left : List ℕ) → out ≡ done ++ left → Pending requested limits channel first read out written used now
+      → Pending requested limits channel first read left (written ++ done) used now
+  pending-written requested read out written used now done left e p = record {
     front = p.front;
     behind = p.behind;
     front_is = p.front_is;
@@ -46,6 +50,7 @@ module _ (limits : Limits) (channel : ℕ) (first : State) where
     ends = p.ends;
     state_is = p.state_is;
     all_used = p.all_used;
+    requests_are = p.requests_are;
     part = p.part ++ done;
     written_is = ap (λ (w : List ℕ). w ++ done) p.written_is ∙ append_assoc (said channel first p.before Going used) p.part done;
     said_is = p.said_is ∙ (ap (λ (o : List ℕ). written ++ o) e ∙ sym (append_assoc written done left));
@@ -63,10 +68,10 @@ module _ (limits : Limits) (channel : ℕ) (first : State) where
   enough told n e = omega (arith, e)
 
   -- the connection breaks off there, and this is unwritten
-  pub pending-unwritten : (read out written : List ℕ) (used kept moments : List DateTime) (now : State) → moments ≡ used ++ kept → length kept ≤ 1 → Pending limits channel first read out written used now
-      → (broken : BrokenOff limits channel first read written moments now) × (broken.unwritten ≡ out)
-  pending-unwritten read out written used kept moments now is one p =
-      subst (λ (ms : List DateTime). (broken : BrokenOff limits channel first read written ms now) × (broken.unwritten ≡ out)) (sym is) (
+  pub pending-unwritten : (requested : List AnsweredRequest) (read out written : List ℕ) (used kept moments : List DateTime) (now : State) → moments ≡ used ++ kept → length kept ≤ 1 → Pending requested limits channel first read out written used now
+      → (broken : BrokenOff limits channel first read written moments now) × (broken.unwritten ≡ out) × (requested ≡ requests channel first (broken.before ++ told_at broken.word) moments)
+  pending-unwritten requested read out written used kept moments now is one p =
+      subst (λ (ms : List DateTime). (broken : BrokenOff limits channel first read written ms now) × (broken.unwritten ≡ out) × (requested ≡ requests channel first (broken.before ++ told_at broken.word) ms)) (sym is) (
         record {
           front = p.front;
           behind = p.behind;
@@ -82,7 +87,15 @@ module _ (limits : Limits) (channel : ℕ) (first : State) where
           said_is = said-more channel first (p.before ++ told_at p.word) (end_at p.word) used kept (enough (p.before ++ told_at p.word) (length used) p.all_used) ∙ p.said_is;
         },
         refl,
+        p.requests_are ∙ sym (requests-more channel first (p.before ++ told_at p.word) used kept (enough (p.before ++ told_at p.word) (length used) p.all_used)),
       )
+
+  -- the requests that are told of are those of all that was read
+  pub requests-as : (requested : List AnsweredRequest) (frames : List Frame) (told : List Told) (used kept moments : List DateTime) → moments ≡ used ++ kept → events (server_rules limits channel) frames ≡ told → length used ≡ used_in told
+      → requested ≡ requests channel first told used → TellsAll limits channel first moments frames requested
+  requests-as requested frames told used kept moments is told_is used_is e =
+      e ∙ (sym (requests-more channel first told used kept (enough told (length used) used_is))
+      ∙ (ap (λ (ms : List DateTime). requests channel first told ms) (sym is) ∙ ap (λ (t : List Told). requests channel first t moments) (sym told_is)))
 
   -- what was read is answered and written
   pub answered-as : (read written : List ℕ) (frames : List Frame) (rest : List ℕ) (end : End ℕ) (told : List Told) (used kept moments : List DateTime) (now : State) → moments ≡ used ++ kept → length kept ≤ 1
@@ -99,7 +112,7 @@ module _ (limits : Limits) (channel : ℕ) (first : State) where
 -- before any octet
 pub keeps-first : (server : Server) (limits : Limits) (channel : ℕ) (first : State) → limits_of (channel_in server) ≡ limits → channel_of (channel_in server) ≡ channel → Stands (channel_in server) [] [] first [] first
     → Keeps (record { server = server; moment = None; greeted = false; written = 0 }) limits channel first [] [] [] first
-unfolding left said
+unfolding left said requests
 keeps-first server limits channel first lim chan stands = record {
   limits_is = lim;
   channel_is = chan;
@@ -110,5 +123,6 @@ keeps-first server limits channel first lim chan stands = record {
   greeted_is = refl;
   count_is = refl;
   said_is = refl;
-  pending = record { front = []; behind = []; front_is = refl; before = []; word = Nothing; ends = (refl, refl); state_is = refl; all_used = refl; part = []; written_is = refl; said_is = refl };
+  requests_are = refl;
+  pending = record { front = []; behind = []; front_is = refl; before = []; word = Nothing; ends = (refl, refl); state_is = refl; all_used = refl; requests_are = refl; part = []; written_is = refl; said_is = refl };
 }

@@ -26,10 +26,10 @@ used_in-append (t ∷ a) b = let more = used_in-append a b in omega (arith, more
 
 -- ---- with moments that come later
 
-abbrev course : State → ℕ → List DateTime → Option Agreement → Course
+abbrev pub course : State → ℕ → List DateTime → Option Agreement → Course
 course s n moments a = record { state = s; number = n; moments = moments; agreement = a }
 
-say-more : (channel : ℕ) (s : State) (n : ℕ) (ms : List DateTime) (a : Option Agreement) (more : List DateTime) (t : Told) → uses t ≤ length ms
+pub say-more : (channel : ℕ) (s : State) (n : ℕ) (ms : List DateTime) (a : Option Agreement) (more : List DateTime) (t : Told) → uses t ≤ length ms
     → say channel (with_more (course s n ms a) more) t ≡ ((say channel (course s n ms a) t).0, with_more (say channel (course s n ms a) t).1 more)
 say-more channel s n ms a more (Agreed g) h = refl
 say-more channel s n [] a more (Opened id handle token lifetime) h = absurd (omega (arith, h))
@@ -49,10 +49,10 @@ say-uses channel s n (m ∷ ms) a (Asked id token octets) h = omega arith
 say-uses channel s n ms a (GaveUp id) h = omega arith
 say-uses channel s n ms a Closed h = omega arith
 
-uses-first : (t : Told) (told : List Told) (n : ℕ) → used_in (t ∷ told) ≤ n → uses t ≤ n
+pub uses-first : (t : Told) (told : List Told) (n : ℕ) → used_in (t ∷ told) ≤ n → uses t ≤ n
 uses-first t told n h = omega (arith, h)
 
-enough-left : (channel : ℕ) (c : Course) (t : Told) (told : List Told) → used_in (t ∷ told) ≤ length c.moments → used_in told ≤ length (say channel c t).1.moments
+pub enough-left : (channel : ℕ) (c : Course) (t : Told) (told : List Told) → used_in (t ∷ told) ≤ length c.moments → used_in told ≤ length (say channel c t).1.moments
 enough-left channel c t told h =
     let spent = say-uses channel c.state c.number c.moments c.agreement t (uses-first t told (length c.moments) h) in
     omega (arith, h, spent)

@@ -94,6 +94,6 @@ module _ (channel number : ℕ) (moment : DateTime) (piece : List ℕ) (n : ℕ)
   stands-starved fault.Closed b = absurd b.answers
 
 -- a fault of a reply
-pub stands-broken : (piece octets : List ℕ) (told : List Told) (new : ServerChannel) (f : StepFault) → ◌≡◌ {A = Result (Vec ℕ Global) StepFault} (Err f) (Err step_fault.OutOfMemory) → IsDone new → StepStands piece (Err f) new octets told
+pub stands-broken : {A : Type 0} (piece octets : List ℕ) (told : List Told) (new : ServerChannel) (f : StepFault) → ◌≡◌ {A = Result A StepFault} (Err f) (Err step_fault.OutOfMemory) → IsDone new → StepStands piece (Err f) new octets told
 stands-broken piece octets told new step_fault.OutOfMemory e done = done
 stands-broken piece octets told new step_fault.Closed e done = absurd cc

@@ -7,8 +7,9 @@ use Rattle.ua_channel.specs.Received.{listed}
 use Rattle.ua_channel.specs.ServerStands.{limits_of, channel_of}
 use Rattle.ua_channel.specs.ServerTold.{Told}
 use Rattle.ua_server.specs.Served.{channel_in}
-use Rattle.ua_server.specs.Serving.{moment_of, FailsBy}
-use Rattle.ua_server.specs.ServingParts.{AdvancesTo, Asked, Keeps, Steps, noted}
+use Rattle.ua_server.specs.Happening.{Event, Happens, IsTold}
+use Rattle.ua_server.specs.Serving.{moment_of, moments_in}
+use Rattle.ua_server.specs.ServingParts.{AdvancesTo, Asked, FailsTelling, Keeps, Met, Steps, noted}
 use Rattle.ua_server.specs.State.{State}
 use Rattle.ua_server.specs.Stepping.{AdvanceBy, Advances, Stands}
 use Rattle.ua_server.specs.declared.serve_fault.ServeFault.TheVariants as serve_fault
@@ -16,6 +17,8 @@ use Rattle.ua_server.specs.declared.server.Server.{Server}
 use Rattle.ua_server.specs.declared.serving.Serving.{Serving}
 use Rattle.ua_server.specs.declared.step.Step.{Step}
 use Rattle.ua_server.specs.declared.step.StepFault.{StepFault}
+use Rattle.ua_server.specs.declared.watch.AnsweredRequest.{AnsweredRequest}
+use Rattle.ua_server.proofs.Happened.{meeting, meeting-led, meeting-moments, meeting-noted}
 use Rattle.ua_server.proofs.Advancing.{advanced-quiet, advanced-saying, advanced-broken}
 
 -- an answer is noted
@@ -29,9 +32,9 @@ pub noted-first : (server : Server) (m : Option DateTime) (greeted : Bool) (n : 
 noted-first server m false n e = refl
 noted-first server m true n e = absurd cc
 
-module _ {M : Type 0} (gives : M → ℤ → M → Type 0) (m0 m1 : M) (limits : Limits) (channel : ℕ) (first : State) (x mid : Serving) (server : Server) (mom : DateTime) (piece read written : List ℕ) (given : List ℤ) (now0 now1 : State)
+module _ {M W : Type 0} (gives : M → ℤ → M → Type 0) (notes : W → AnsweredRequest → W → Type 0) (m0 m1 : M) (limits : Limits) (channel : ℕ) (first : State) (x mid : Serving) (server : Server) (mom : DateTime) (piece read written : List ℕ) (given : List Event) (now0 now1 : State)
     (kept : mid ≡ record x { moment = Some mom }) (a : Asked gives m0 m1 (λ ts. listed x.moment ++ map moment_of ts ≡ mom ∷ []))
-    (lim : limits_of (channel_in server) ≡ limits_of (channel_in mid.server)) (chan : channel_of (channel_in server) ≡ channel_of (channel_in mid.server)) (result : Result (Step × Bool) StepFault)
+    (lim : limits_of (channel_in server) ≡ limits_of (channel_in mid.server)) (chan : channel_of (channel_in server) ≡ channel_of (channel_in mid.server)) (result : Result (Step × Bool × Option AnsweredRequest) StepFault)
     (answers : (octets : List ℕ) (told : List Told) (f : State) (moments : List DateTime) → Stands (channel_in mid.server) octets told f moments now0
     → Advances (limits_of (channel_in mid.server)) (channel_of (channel_in mid.server)) mom piece result (channel_in server) octets told f moments now0 now1)
     (k : Keeps x limits channel first read written given now0) where
@@ -58,37 +61,48 @@ module _ {M : Type 0} (gives : M → ℤ → M → Type 0) (m0 m1 : M) (limits :
       subst (λ (s : Server). Advances (limits_of (channel_in s)) (channel_of (channel_in s)) mom piece result (channel_in server) read own.told first own.used now0 now1) same
       (answers read own.told first own.used (subst (λ (s : Server). Stands (channel_in s) read own.told first own.used now0) (sym same) own.stands))
 
-  advanced-at : (r : Result (Step × Bool) StepFault) → result ≡ r → Advances l c mom piece r (channel_in server) read own.told first own.used now0 now1
-  advanced-at r is = subst (λ (v : Result (Step × Bool) StepFault). Advances l c mom piece v (channel_in server) read own.told first own.used now0 now1) is advanced
+  advanced-at : (r : Result (Step × Bool × Option AnsweredRequest) StepFault) → result ≡ r → Advances l c mom piece r (channel_in server) read own.told first own.used now0 now1
+  advanced-at r is = subst (λ (v : Result (Step × Bool × Option AnsweredRequest) StepFault). Advances l c mom piece v (channel_in server) read own.told first own.used now0 now1) is advanced
 
   -- at the limits and the channel that are named
   there : (P : Limits → ℕ → Type 0) → P l c → P limits channel
   there P p = subst (λ (n : ℕ). P limits n) k.channel_is (subst (λ (v : Limits). P v c) k.limits_is p)
 
-  pub steps-quiet : (found : Step × Bool) → result ≡ Ok found → found.1 ≡ false → Asked gives m0 m1 (λ ts. Steps (Ok found.0) (record mid { server = server }) limits channel first piece read written (given ++ ts) now1)
-  steps-quiet found is quiet = record {
-    ticks = a.ticks;
-    given = a.given;
-    holds = subst (λ (z : Serving). AdvancesTo found.0.end (record z { server = server }) limits channel first (read ++ take found.0.taken piece) found.0.out.items written (given ++ a.ticks) now1) (sym kept)
-        (there (λ v n. AdvancesTo found.0.end (record x { server = server; moment = Some mom }) v n first (read ++ take found.0.taken piece) found.0.out.items written (given ++ a.ticks) now1)
-        (advanced-quiet x server mom piece read written given a.ticks first now0 now1 lim-here chan-here a.holds own found.0.end found.0.taken found.0.out.items
-        (subst (λ (b : Bool). AdvanceBy b c mom piece found.0.end found.0.taken found.0.out.items (channel_in server) read own.told first own.used now0 now1) quiet (advanced-at (Ok found) is))));
-  }
+  kept-moment : (request : Option AnsweredRequest) → listed x.moment ++ moments_in (meeting a.ticks request) ≡ mom ∷ []
+  kept-moment request = ap (λ (ms : List DateTime). listed x.moment ++ ms) (meeting-moments a.ticks request) ∙ a.holds
 
-  pub steps-saying : (found : Step × Bool) → result ≡ Ok found → found.1 ≡ true → Asked gives m0 m1 (λ ts. Steps (Ok found.0) (noted (record mid { server = server })) limits channel first piece read written (given ++ ts) now1)
-  steps-saying found is said = record {
-    ticks = a.ticks;
-    given = a.given;
-    holds = subst (λ (z : Serving). AdvancesTo found.0.end (noted (record z { server = server })) limits channel first (read ++ take found.0.taken piece) found.0.out.items written (given ++ a.ticks) now1) (sym kept)
-        (there (λ v n. AdvancesTo found.0.end (noted (record x { server = server; moment = Some mom })) v n first (read ++ take found.0.taken piece) found.0.out.items written (given ++ a.ticks) now1)
-        (advanced-saying x server mom piece read written given a.ticks first now0 now1 lim-here chan-here a.holds own found.0.end found.0.taken found.0.out.items
-        (subst (λ (b : Bool). AdvanceBy b c mom piece found.0.end found.0.taken found.0.out.items (channel_in server) read own.told first own.used now0 now1) said (advanced-at (Ok found) is))));
-  }
+  pub steps-quiet : (w : W) (found : Step × Bool × Option AnsweredRequest) → result ≡ Ok found → found.1 ≡ false
+      → Met (Happens gives notes) (m0, w) (m1, w) (λ ts. Steps (Ok found.0) (record mid { server = server }) limits channel first piece read written (given ++ ts) now1)
+  steps-quiet w found is quiet =
+      let ts = meeting a.ticks None in
+      record {
+        ticks = ts;
+        given = meeting-led gives notes m0 m1 w w a.ticks None a.given refl;
+        holds = subst (λ (z : Serving). AdvancesTo found.0.end (record z { server = server }) limits channel first (read ++ take found.0.taken piece) found.0.out.items written (given ++ ts) now1) (sym kept)
+            (there (λ v n. AdvancesTo found.0.end (record x { server = server; moment = Some mom }) v n first (read ++ take found.0.taken piece) found.0.out.items written (given ++ ts) now1)
+            (advanced-quiet x server mom piece read written given ts first now0 now1 lim-here chan-here (kept-moment None) own found.2 (meeting-noted a.ticks None) found.0.end found.0.taken found.0.out.items
+            (subst (λ (b : Bool). AdvanceBy b found.2 c mom piece found.0.end found.0.taken found.0.out.items (channel_in server) read own.told first own.used now0 now1) quiet (advanced-at (Ok found) is))));
+      }
 
-  pub steps-broken : (f : StepFault) (y : Serving) → result ≡ Err f → Asked gives m0 m1 (λ ts. Steps (Err f) y limits channel first piece read written (given ++ ts) now1)
-  steps-broken f y is = record {
-    ticks = a.ticks;
-    given = a.given;
-    holds = there (λ v n. FailsBy serve_fault.OutOfMemory v n first (read ++ piece) written (map moment_of (given ++ a.ticks)) now1)
-        (advanced-broken x server mom piece read written given a.ticks first now0 now1 lim-here chan-here a.holds own f (advanced-at (Err f) is));
-  }
+  pub steps-saying : (w w' : W) (found : Step × Bool × Option AnsweredRequest) → IsTold notes w found.2 w' → result ≡ Ok found → found.1 ≡ true
+      → Met (Happens gives notes) (m0, w) (m1, w') (λ ts. Steps (Ok found.0) (noted (record mid { server = server })) limits channel first piece read written (given ++ ts) now1)
+  steps-saying w w' found led is said =
+      let ts = meeting a.ticks found.2 in
+      record {
+        ticks = ts;
+        given = meeting-led gives notes m0 m1 w w' a.ticks found.2 a.given led;
+        holds = subst (λ (z : Serving). AdvancesTo found.0.end (noted (record z { server = server })) limits channel first (read ++ take found.0.taken piece) found.0.out.items written (given ++ ts) now1) (sym kept)
+            (there (λ v n. AdvancesTo found.0.end (noted (record x { server = server; moment = Some mom })) v n first (read ++ take found.0.taken piece) found.0.out.items written (given ++ ts) now1)
+            (advanced-saying x server mom piece read written given ts first now0 now1 lim-here chan-here (kept-moment found.2) own found.2 (meeting-noted a.ticks found.2) found.0.end found.0.taken found.0.out.items
+            (subst (λ (b : Bool). AdvanceBy b found.2 c mom piece found.0.end found.0.taken found.0.out.items (channel_in server) read own.told first own.used now0 now1) said (advanced-at (Ok found) is))));
+      }
+
+  pub steps-broken : (w : W) (f : StepFault) (y : Serving) → result ≡ Err f → Met (Happens gives notes) (m0, w) (m1, w) (λ ts. Steps (Err f) y limits channel first piece read written (given ++ ts) now1)
+  steps-broken w f y is =
+      let ts = meeting a.ticks None in
+      record {
+        ticks = ts;
+        given = meeting-led gives notes m0 m1 w w a.ticks None a.given refl;
+        holds = there (λ v n. FailsTelling serve_fault.OutOfMemory v n first (read ++ piece) written (given ++ ts) now1)
+            (advanced-broken x server mom piece read written given ts first now0 now1 lim-here chan-here (kept-moment None) own (meeting-noted a.ticks None) f (advanced-at (Err f) is));
+      }

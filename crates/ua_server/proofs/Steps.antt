@@ -8,16 +8,19 @@ use Rattle.ua_frame.specs.Run.{End, Going, Stopped, Over}
 use Rattle.ua_services.specs.Response.{response}
 use Rattle.ua_channel.proofs.ServerReadings.{goes_behind}
 use Rattle.ua_channel.specs.Agreement.{Agreement}
-use Rattle.ua_channel.specs.Received.{latest_behind}
+use Rattle.ua_channel.specs.Received.{latest_behind, listed}
 use Rattle.ua_channel.specs.ServerPlaces.{agreements_in, agreed_by}
 use Rattle.ua_channel.specs.ServerSends.{AreSent, counted_by}
 use Rattle.ua_channel.specs.ServerStands.{channel_of, next_of, Goes, GoesTelling, ClosedAt, RefusedAt}
 use Rattle.ua_channel.specs.ServerTold.{Told, Agreed, Opened, Asked, GaveUp, Closed}
 use Rattle.ua_channel.specs.declared.server.ServerChannel.{ServerChannel}
 use Rattle.ua_server.specs.Reply.{answered}
-use Rattle.ua_server.specs.Said.{Course, start, with_more, say, said_of, left_by, last_words, said, left, used_in, is_answered}
+use Rattle.ua_server.specs.Said.{Course, start, with_more, say, said_of, left_by, last_words, said, left, used_in, is_answered, lane_at}
 use Rattle.ua_server.specs.State.{State}
+use Rattle.ua_server.specs.Requests.{request_at, request_answered, requests}
 use Rattle.ua_server.specs.Stepping.{IsReplyAt, given_up, Stands, spent, StepCloses, StepRefuses, Tells}
+use Rattle.ua_server.specs.declared.watch.AnsweredRequest.{AnsweredRequest}
+use Rattle.ua_server.proofs.RequestsInParts.{requests-silent, requests-one}
 use Rattle.ua_server.proofs.SaidInParts.{used_in-append, left_by-uses, left-append, said-append, left-more, said-more}
 
 -- ---- messages that were given up
@@ -136,24 +139,25 @@ used-one told t ms moment e =
 -- ---- what is answered
 
 -- what is said of one thing that is answered, and how far the server is behind it
-pub record Says (channel number next : ℕ) (moment : DateTime) (before now : State) (agreement : Option Agreement) (t : Told) (out : List ℕ) : Type 0 where
+pub record Says (request : Option AnsweredRequest) (channel number next : ℕ) (moment : DateTime) (before now : State) (agreement : Option Agreement) (t : Told) (out : List ℕ) : Type 0 where
   pub out_is : (say channel (course before number (spent (t ∷ []) moment) agreement) t).0 ≡ out
   pub state_is : (say channel (course before number (spent (t ∷ []) moment) agreement) t).1.state ≡ now
   pub number_is : (say channel (course before number (spent (t ∷ []) moment) agreement) t).1.number ≡ next
   pub answered : IsTrue (is_answered t)
+  pub request_is : request_at channel (course before number (spent (t ∷ []) moment) agreement) t ≡ request
 
 pub says-sent : (channel number next : ℕ) (moment : DateTime) (before : State) (agreement : Option Agreement) (t : Told) (out : List ℕ) → AreSent channel number moment t out → next ≡ counted_by t number
-    → Says channel number next moment before before agreement t out
-says-sent channel number next moment before agreement (Agreed a) out sent e = record { out_is = sym sent; state_is = refl; number_is = sym e; answered = refl }
-says-sent channel number next moment before agreement (Opened id handle token lifetime) out sent e = record { out_is = sym sent; state_is = refl; number_is = sym e; answered = refl }
+    → Says None channel number next moment before before agreement t out
+says-sent channel number next moment before agreement (Agreed a) out sent e = record { out_is = sym sent; state_is = refl; number_is = sym e; answered = refl; request_is = refl }
+says-sent channel number next moment before agreement (Opened id handle token lifetime) out sent e = record { out_is = sym sent; state_is = refl; number_is = sym e; answered = refl; request_is = refl }
 says-sent channel number next moment before agreement (Asked id token octets) out sent e = absurd sent
 says-sent channel number next moment before agreement (GaveUp id) out sent e = absurd sent
 says-sent channel number next moment before agreement Closed out sent e = absurd sent
 
-pub says-reply : (channel number next : ℕ) (moment : DateTime) (before now : State) (agreement : Option Agreement) (id token : ℕ) (octets out : List ℕ)
-    → now ≡ (answered before moment octets).0 → IsReplyAt channel token agreement (response.canonical (answered before moment octets).1) number id out next
-    → Says channel number next moment before now agreement (Asked id token octets) out
-says-reply channel number next moment before now agreement id token octets out s r = record { out_is = sym r.0; state_is = sym s; number_is = sym r.1; answered = refl }
+pub says-reply : (request : AnsweredRequest) (channel number next : ℕ) (moment : DateTime) (before now : State) (agreement : Option Agreement) (id token : ℕ) (octets out : List ℕ)
+    → now ≡ (answered before moment octets).0 → IsReplyAt channel token agreement (response.canonical (answered before moment octets).1) number id out next → request ≡ request_answered (lane_at channel token agreement) before moment octets
+    → Says (Some request) channel number next moment before now agreement (Asked id token octets) out
+says-reply request channel number next moment before now agreement id token octets out s r is = record { out_is = sym r.0; state_is = sym s; number_is = sym r.1; answered = refl; request_is = let one : AnsweredRequest → Option AnsweredRequest = λ x. Some x in ap one (sym is) }
 
 -- ---- a step
 
@@ -169,12 +173,15 @@ module _ (old new : ServerChannel) (moment : DateTime) (piece : List ℕ) (n : �
   state-behind = ap (λ (c : Course). c.state) behind
 
   -- nothing is answered
-  pub goes-silent : n ≡ length piece → Goes new (octets ++ take n piece) (told ++ given_up quiet) → next_of new ≡ next_of old → Tells false (channel_of old) moment piece n [] new octets told first ms before
+  pub goes-silent : n ≡ length piece → Goes new (octets ++ take n piece) (told ++ given_up quiet) → next_of new ≡ next_of old → Tells false None (channel_of old) moment piece n [] new octets told first ms before
   goes-silent whole goes next =
       let ts = append-nil (told ++ given_up quiet) in
       let moments = append-nil ms in
       record {
         answered_is = refl;
+        requests_are = ap (λ (x : List DateTime). requests (channel_of old) first ((told ++ given_up quiet) ++ []) x) moments
+            ∙ (ap (λ (x : List Told). requests (channel_of old) first x ms) ts
+            ∙ (requests-silent (channel_of old) first told quiet ms ∙ sym (append-nil (requests (channel_of old) first told ms))));
         goes = record {
           quiet = quiet;
           more = [];
@@ -194,15 +201,18 @@ module _ (old new : ServerChannel) (moment : DateTime) (piece : List ℕ) (n : �
       }
 
   -- one thing is answered
-  pub goes-saying : (t : Told) (out : List ℕ) (now : State) → (0 < n) × (n ≤ length piece) → GoesTelling new (octets ++ take n piece) (told ++ given_up quiet) t
-      → Says (channel_of old) (next_of old) (next_of new) moment before now (agreed_by told) t out → Tells true (channel_of old) moment piece n out new octets told first ms now
-  goes-saying t out now counts goes says =
+  pub goes-saying : (request : Option AnsweredRequest) (t : Told) (out : List ℕ) (now : State) → (0 < n) × (n ≤ length piece) → GoesTelling new (octets ++ take n piece) (told ++ given_up quiet) t
+      → Says request (channel_of old) (next_of old) (next_of new) moment before now (agreed_by told) t out → Tells true request (channel_of old) moment piece n out new octets told first ms now
+  goes-saying request t out now counts goes says =
       let extra = spent (t ∷ []) moment in
       let c = course before (next_of old) [] (agreed_by told) in
       let room = enough (used_in (told ++ given_up quiet)) (length ms) used-behind in
       let one = left-one (channel_of old) first (told ++ given_up quiet) t ms extra c behind room in
       record {
         answered_is = refl;
+        requests_are = requests-one (channel_of old) first (told ++ given_up quiet) t ms extra c behind room
+            ∙ (ap (λ (r : List AnsweredRequest). r ++ listed (request_at (channel_of old) (course before (next_of old) extra (agreed_by told)) t)) (requests-silent (channel_of old) first told quiet ms)
+            ∙ ap (λ (r : Option AnsweredRequest). requests (channel_of old) first told ms ++ listed r) says.request_is);
         goes = record {
           quiet = quiet;
           more = t ∷ [];

@@ -5,6 +5,8 @@ pub mod Attributes
 pub mod Answer
 pub mod Reply
 pub mod Said
+pub mod Requests
+pub mod Happening
 pub mod Stepping
 pub mod Served
 pub mod Serving

@@ -11,18 +11,25 @@ use Rattle.ua_channel.specs.Received.{received}
 use Rattle.ua_channel.specs.ServerRules.{server_rules}
 use Rattle.ua_channel.specs.ServerTold.{Told}
 use Rattle.ua_channel.specs.Stops.{StopsAt}
+use Rattle.ua_server.specs.Happening.{Event, Happens, Leads, noted_in, ticks_in}
+use Rattle.ua_server.specs.Requests.{requests}
 use Rattle.ua_server.specs.Said.{is_answered, left, said, used_in}
 use Rattle.ua_server.specs.State.{State}
 use Rattle.ua_server.specs.declared.serve_fault.ServeFault.{ServeFault}
 use Rattle.ua_server.specs.declared.serve_fault.ServeFault.TheVariants as fault
 use Rattle.ua_server.specs.declared.step.End.{End as Ending}
 use Rattle.ua_server.specs.declared.step.End.TheVariants as ending
+use Rattle.ua_server.specs.declared.watch.AnsweredRequest.{AnsweredRequest}
 
 -- ---- moments
 
 -- the moment of so many ticks
 abbrev pub moment_of : ℤ → DateTime
 moment_of ticks = record { ticks = ticks }
+
+-- the moments among what happened
+abbrev pub moments_in : List Event → List DateTime
+moments_in events = map moment_of (ticks_in events)
 
 -- each of the moments is used by what was told, but perhaps the last one
 abbrev pub AreAsked : List Told → List DateTime → Type 0
@@ -146,6 +153,41 @@ ServesBy (Err (fault.Write n)) limits channel first read written moments now com
 ServesBy (Err fault.OutOfMemory) limits channel first read written moments now coming = FailsBy fault.OutOfMemory limits channel first read written moments now
 ServesBy (Err fault.TooLong) limits channel first read written moments now coming = Answered limits channel first read written moments now Going × (greatest ≤ length read)
 
+-- ---- the requests that are told of
+
+-- they are those that are answered of all that was read
+abbrev pub TellsAll : (limits : Limits) (channel : ℕ) (first : State) (moments : List DateTime) → List Frame → List AnsweredRequest → Type 0
+TellsAll limits channel first moments frames told = told ≡ requests channel first (events (server_rules limits channel) frames) moments
+
+-- how a connection ended that its own octets ended
+abbrev pub EndTells : (end : Ending) (limits : Limits) (channel : ℕ) (first : State) (read written : List ℕ) (moments : List DateTime) (now : State) → EndsBy end limits channel first read written moments now → List AnsweredRequest → Type 0
+EndTells ending.Closed limits channel first read written moments now a told = TellsAll limits channel first moments a.frames told
+EndTells (ending.Refused code) limits channel first read written moments now a told = TellsAll limits channel first moments a.frames told
+EndTells ending.NoClose limits channel first read written moments now a told = ⊥
+EndTells ending.Cut limits channel first read written moments now a told = ⊥
+
+-- how an answer failed: at a failed write the request of the last word is told of; where memory is refused it is where that word is written
+-- whole, and not where none of it is
+abbrev pub FailTells : (f : ServeFault) (limits : Limits) (channel : ℕ) (first : State) (read written : List ℕ) (moments : List DateTime) (now : State) → FailsBy f limits channel first read written moments now → List AnsweredRequest → Type 0
+FailTells fault.Read limits channel first read written moments now b told = ⊥
+FailTells (fault.Write n) limits channel first read written moments now b told = told ≡ requests channel first (b.0.before ++ told_at b.0.word) moments
+FailTells fault.OutOfMemory limits channel first read written moments now b told =
+    ((b.0.part ≡ []) × (told ≡ requests channel first b.0.before moments)) ⊎ ((b.0.unwritten ≡ []) × (told ≡ requests channel first (b.0.before ++ told_at b.0.word) moments))
+FailTells fault.TooLong limits channel first read written moments now b told = ⊥
+
+-- which requests are told of, by what serving comes to: those that are answered of all that was read, or where it broke off of the front that is answered
+abbrev pub TellsBy : (result : Result Ending ServeFault) (limits : Limits) (channel : ℕ) (first : State) (read written : List ℕ) (moments : List DateTime) (now : State) (coming : List ℕ) → ServesBy result limits channel first read written moments now coming → List AnsweredRequest → Type 0
+TellsBy (Ok ending.Closed) limits channel first read written moments now coming a told = TellsAll limits channel first moments a.frames told
+TellsBy (Ok (ending.Refused code)) limits channel first read written moments now coming a told = TellsAll limits channel first moments a.frames told
+TellsBy (Ok ending.NoClose) limits channel first read written moments now coming a told = TellsAll limits channel first moments a.frames told
+TellsBy (Ok ending.Cut) limits channel first read written moments now coming a told = TellsAll limits channel first moments a.frames told
+TellsBy (Err fault.Read) limits channel first read written moments now coming a told = TellsAll limits channel first moments a.frames told
+TellsBy (Err (fault.Write n)) limits channel first read written moments now coming b told = FailTells (fault.Write n) limits channel first read written moments now b told
+TellsBy (Err fault.OutOfMemory) limits channel first read written moments now coming b told = FailTells fault.OutOfMemory limits channel first read written moments now b told
+TellsBy (Err fault.TooLong) limits channel first read written moments now coming a told = TellsAll limits channel first moments a.0.frames told
+
+-- ---- by the line
+
 -- a line moved octets: those read were to come before those that still are, and those written stand behind those written before
 abbrev pub Moves : List ℕ → List ℕ → Traffic → Traffic → Type 0
 Moves read written before after = (before.coming ≡ read ++ after.coming) × (after.written ≡ before.written ++ written)
@@ -158,6 +200,16 @@ pub record Serves {M : Type 0} (limits : Limits) (channel : ℕ) (gives : M → 
   pub moved : Moves read written before after
   pub given : Gives gives moments ticks later
   pub comes_to : ServesBy result limits channel first read written (map moment_of ticks) now after.coming
+
+-- the same with who is told of requests: moments were given and requests told in turn
+pub record ServesTelling {M W : Type 0} (limits : Limits) (channel : ℕ) (gives : M → ℤ → M → Type 0) (notes : W → AnsweredRequest → W → Type 0) (first : State) (beside : M × W) (result : Result Ending ServeFault) (now : State) (later : M × W) (before after : Traffic) : Type 0 where
+  pub read : List ℕ
+  pub written : List ℕ
+  pub happened : List Event
+  pub moved : Moves read written before after
+  pub led : Leads (Happens gives notes) beside happened later
+  pub comes_to : ServesBy result limits channel first read written (moments_in happened) now after.coming
+  pub tells : TellsBy result limits channel first read written (moments_in happened) now after.coming comes_to (noted_in happened)
 
 -- the count of failures of a line after a call: it moved on by one where the line is named as failing, and nowhere else
 abbrev pub LineFailed : {A : Type 0} → ℕ → Result A ServeFault → ℕ → Type 0

@@ -11,9 +11,11 @@ use Rattle.ua_channel.specs.Received.{listed}
 use Rattle.ua_channel.specs.ServerPlaces.{agreed_by}
 use Rattle.ua_channel.specs.ServerStands.{limits_of, channel_of}
 use Rattle.ua_channel.specs.ServerTold.{Told}
+use Rattle.ua_server.specs.Happening.{Event, Leads, noted_in}
+use Rattle.ua_server.specs.Requests.{requests}
 use Rattle.ua_server.specs.Said.{left, said, used_in}
 use Rattle.ua_server.specs.Served.{channel_in}
-use Rattle.ua_server.specs.Serving.{moment_of, LastWord, told_at, end_at, EndsAt, IsClean, EndsBy, FailsBy, ServesBy, Moves, greatest}
+use Rattle.ua_server.specs.Serving.{moments_in, LastWord, told_at, end_at, EndsAt, IsClean, EndsBy, EndTells, FailsBy, FailTells, Moves, greatest}
 use Rattle.ua_server.specs.State.{State}
 use Rattle.ua_server.specs.Stepping.{Stands}
 use Rattle.ua_server.specs.declared.serve_fault.ServeFault.{ServeFault}
@@ -23,6 +25,7 @@ use Rattle.ua_server.specs.declared.step.End.{End as Ending}
 use Rattle.ua_server.specs.declared.step.End.TheVariants as ending
 use Rattle.ua_server.specs.declared.step.Step.{Step}
 use Rattle.ua_server.specs.declared.step.StepFault.{StepFault}
+use Rattle.ua_server.specs.declared.watch.AnsweredRequest.{AnsweredRequest}
 
 -- ---- the end of the input
 
@@ -77,7 +80,7 @@ is_there None = false
 is_there (Some a) = true
 
 -- a front of what was read ends at the last word of what is said so far; of that these octets are written, and these are not yet
-pub record Pending (limits : Limits) (channel : ℕ) (first : State) (read out written : List ℕ) (used : List DateTime) (now : State) : Type 0 where
+pub record Pending (requested : List AnsweredRequest) (limits : Limits) (channel : ℕ) (first : State) (read out written : List ℕ) (used : List DateTime) (now : State) : Type 0 where
   pub front : List ℕ
   pub behind : List ℕ
   pub front_is : read ≡ front ++ behind
@@ -86,71 +89,84 @@ pub record Pending (limits : Limits) (channel : ℕ) (first : State) (read out w
   pub ends : EndsAt limits channel front before word
   pub state_is : (left channel first (before ++ told_at word) used).state ≡ now
   pub all_used : length used ≡ used_in (before ++ told_at word)
+  pub requests_are : requested ≡ requests channel first (before ++ told_at word) used
   pub part : List ℕ
   pub written_is : written ≡ said channel first before Going used ++ part
   pub said_is : said channel first (before ++ told_at word) (end_at word) used ≡ written ++ out
 
 -- a connection that is served goes on: of what is said of the octets read, these are written and these are not yet; and of the moments given
 -- all are used, but the one that is kept, if there is one
-pub record Owes (x : Serving) (limits : Limits) (channel : ℕ) (first : State) (read out written : List ℕ) (ticks : List ℤ) (now : State) : Type 0 where
+pub record Owes (x : Serving) (limits : Limits) (channel : ℕ) (first : State) (read out written : List ℕ) (ticks : List Event) (now : State) : Type 0 where
   pub limits_is : limits_of (channel_in x.server) ≡ limits
   pub channel_is : channel_of (channel_in x.server) ≡ channel
   pub told : List Told
   pub used : List DateTime
-  pub moments_are : map moment_of ticks ≡ used ++ listed x.moment
+  pub moments_are : moments_in ticks ≡ used ++ listed x.moment
   pub stands : Stands (channel_in x.server) read told first used now
   pub greeted_is : x.greeted ≡ is_there (agreed_by told)
   pub count_is : x.written ≡ min (length written) greatest
   pub said_is : said channel first told Going used ≡ written ++ out
-  pub pending : Pending limits channel first read out written used now
+  pub requests_are : noted_in ticks ≡ requests channel first told used
+  pub pending : Pending (noted_in ticks) limits channel first read out written used now
 
 -- all that is said is written
-abbrev pub Keeps : Serving → Limits → ℕ → State → List ℕ → List ℕ → List ℤ → State → Type 0
+abbrev pub Keeps : Serving → Limits → ℕ → State → List ℕ → List ℕ → List Event → State → Type 0
 Keeps x limits channel first read written ticks now = Owes x limits channel first read [] written ticks now
 
 -- the connection ended, and of what is said these octets are not written yet
-pub record Ends (x : Serving) (end : Ending) (limits : Limits) (channel : ℕ) (first : State) (read out written : List ℕ) (ticks : List ℤ) (now : State) : Type 0 where
+pub record Ends (x : Serving) (end : Ending) (limits : Limits) (channel : ℕ) (first : State) (read out written : List ℕ) (ticks : List Event) (now : State) : Type 0 where
   pub count_is : x.written ≡ min (length written) greatest
-  pub ends : EndsBy end limits channel first read (written ++ out) (map moment_of ticks) now
+  pub ends : EndsBy end limits channel first read (written ++ out) (moments_in ticks) now
+  pub tells : EndTells end limits channel first read (written ++ out) (moments_in ticks) now ends (noted_in ticks)
   pub used : List DateTime
   pub kept : List DateTime
-  pub moments_are : map moment_of ticks ≡ used ++ kept
+  pub moments_are : moments_in ticks ≡ used ++ kept
   pub one : length kept ≤ 1
-  pub pending : Pending limits channel first read out written used now
+  pub pending : Pending (noted_in ticks) limits channel first read out written used now
+
+-- how a connection ended, and which requests are told of
+pub record EndsTelling (end : Ending) (limits : Limits) (channel : ℕ) (first : State) (read written : List ℕ) (ticks : List Event) (now : State) : Type 0 where
+  pub ends : EndsBy end limits channel first read written (moments_in ticks) now
+  pub tells : EndTells end limits channel first read written (moments_in ticks) now ends (noted_in ticks)
+
+-- how an answer failed, and which requests are told of
+pub record FailsTelling (f : ServeFault) (limits : Limits) (channel : ℕ) (first : State) (read written : List ℕ) (ticks : List Event) (now : State) : Type 0 where
+  pub fails : FailsBy f limits channel first read written (moments_in ticks) now
+  pub tells : FailTells f limits channel first read written (moments_in ticks) now fails (noted_in ticks)
 
 -- what became of the first octets of a piece, by how the connection ended, if it did, before its answer is written
-abbrev pub AdvancesTo : Option Ending → Serving → Limits → ℕ → State → List ℕ → List ℕ → List ℕ → List ℤ → State → Type 0
+abbrev pub AdvancesTo : Option Ending → Serving → Limits → ℕ → State → List ℕ → List ℕ → List ℕ → List Event → State → Type 0
 AdvancesTo None x limits channel first read out written ticks now = Owes x limits channel first read out written ticks now
 AdvancesTo (Some end) x limits channel first read out written ticks now = Ends x end limits channel first read out written ticks now
 
 -- a step, whose answer is not written yet
-abbrev pub Steps : Result Step StepFault → Serving → Limits → ℕ → State → List ℕ → List ℕ → List ℕ → List ℤ → State → Type 0
+abbrev pub Steps : Result Step StepFault → Serving → Limits → ℕ → State → List ℕ → List ℕ → List ℕ → List Event → State → Type 0
 Steps (Ok step) x limits channel first piece read written ticks now = AdvancesTo step.end x limits channel first (read ++ take step.taken piece) step.out.items written ticks now
-Steps (Err f) x limits channel first piece read written ticks now = FailsBy fault.OutOfMemory limits channel first (read ++ piece) written (map moment_of ticks) now
+Steps (Err f) x limits channel first piece read written ticks now = FailsTelling fault.OutOfMemory limits channel first (read ++ piece) written ticks now
 
 -- the same by how the connection ended, once the answer is written
-abbrev pub TurnsTo : Option Ending → Serving → Limits → ℕ → State → List ℕ → List ℕ → List ℤ → State → Type 0
+abbrev pub TurnsTo : Option Ending → Serving → Limits → ℕ → State → List ℕ → List ℕ → List Event → State → Type 0
 TurnsTo None x limits channel first read written ticks now = Keeps x limits channel first read written ticks now
-TurnsTo (Some end) x limits channel first read written ticks now = EndsBy end limits channel first read written (map moment_of ticks) now
+TurnsTo (Some end) x limits channel first read written ticks now = EndsTelling end limits channel first read written ticks now
 
 -- a step and its answer
-abbrev pub Turns : Result (ℕ × Option Ending) ServeFault → Serving → Limits → ℕ → State → List ℕ → List ℕ → List ℕ → List ℤ → State → Type 0
+abbrev pub Turns : Result (ℕ × Option Ending) ServeFault → Serving → Limits → ℕ → State → List ℕ → List ℕ → List ℕ → List Event → State → Type 0
 Turns (Ok turn) x limits channel first piece read written ticks now = TurnsTo turn.1 x limits channel first (read ++ take turn.0 piece) written ticks now
-Turns (Err f) x limits channel first piece read written ticks now = FailsBy f limits channel first (read ++ piece) written (map moment_of ticks) now
+Turns (Err f) x limits channel first piece read written ticks now = FailsTelling f limits channel first (read ++ piece) written ticks now
 
 -- a whole piece, or the octets of it up to the end of the connection
-abbrev pub Handles : Result (Option Ending) ServeFault → Serving → Limits → ℕ → State → List ℕ → List ℕ → List ℤ → State → Type 0
+abbrev pub Handles : Result (Option Ending) ServeFault → Serving → Limits → ℕ → State → List ℕ → List ℕ → List Event → State → Type 0
 Handles (Ok end) x limits channel first read written ticks now = TurnsTo end x limits channel first read written ticks now
-Handles (Err f) x limits channel first read written ticks now = FailsBy f limits channel first read written (map moment_of ticks) now
+Handles (Err f) x limits channel first read written ticks now = FailsTelling f limits channel first read written ticks now
 
 -- ---- what is exchanged
 
--- in between octets were read and written and moments given, of which this holds
-pub record Exchanged {M : Type 0} (gives : M → ℤ → M → Type 0) (moments later : M) (read : List ℕ) (before after : Option Traffic) (P : List ℕ → List ℤ → Type 0) : Type 0 where
+-- in between octets were read and written, moments given and requests told, of which this holds
+pub record Exchanged {M : Type 0} (gives : M → Event → M → Type 0) (moments later : M) (read : List ℕ) (before after : Option Traffic) (P : List ℕ → List Event → Type 0) : Type 0 where
   pub written : List ℕ
-  pub ticks : List ℤ
+  pub ticks : List Event
   pub moved : WhereTold (Moves read written) before after
-  pub given : Gives gives moments ticks later
+  pub given : Leads gives moments ticks later
   pub holds : P written ticks
 
 -- moments were given, of which this holds
@@ -159,8 +175,14 @@ pub record Asked {M : Type 0} (gives : M → ℤ → M → Type 0) (moments late
   pub given : Gives gives moments ticks later
   pub holds : P ticks
 
+-- moments were given and requests told, of which this holds
+pub record Met {M : Type 0} (step : M → Event → M → Type 0) (before later : M) (P : List Event → Type 0) : Type 0 where
+  pub ticks : List Event
+  pub given : Leads step before ticks later
+  pub holds : P ticks
+
 -- a line is read up to its end: so many reads handed out this, and it is answered
-pub record Reads {M : Type 0} (gives : M → ℤ → M → Type 0) (moments later : M) (before after : Option Traffic) (reads : ℕ) (P : List ℕ → List ℕ → List ℤ → Type 0) : Type 0 where
+pub record Reads {M : Type 0} (gives : M → Event → M → Type 0) (moments later : M) (before after : Option Traffic) (reads : ℕ) (P : List ℕ → List ℕ → List Event → Type 0) : Type 0 where
   pub read : List ℕ
   pub enough : reads ≤ length read
   pub exchanged : Exchanged gives moments later read before after (λ written ticks. P read written ticks)

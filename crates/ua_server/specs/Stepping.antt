@@ -5,7 +5,7 @@ use Rattle.ua_frame.specs.Run.{Going, Run, Stopped, Over, events}
 use Rattle.ua_frame.specs.declared.frame.Frame.{Frame}
 use Rattle.ua_frame.specs.declared.limits.Limits.{Limits}
 use Rattle.ua_channel.specs.Agreement.{Agreement}
-use Rattle.ua_channel.specs.Received.{has_some}
+use Rattle.ua_channel.specs.Received.{has_some, listed}
 use Rattle.ua_channel.specs.ServerAnswers.{AnswersAt}
 use Rattle.ua_channel.specs.ServerRules.{server_rules}
 use Rattle.ua_channel.specs.ServerStands.{limits_of, channel_of, next_of, IsDone, Goes, GoesTelling, ClosedAt, RefusedAt}
@@ -15,6 +15,7 @@ use Rattle.ua_channel.specs.declared.server_event.ServerEvent.{ServerEvent}
 use Rattle.ua_channel.specs.declared.server_event.ServerEvent.TheVariants as event
 use Rattle.ua_channel.specs.declared.server_fault.ChannelFault.{ChannelFault}
 use Rattle.ua_server.specs.Reply.{answered}
+use Rattle.ua_server.specs.Requests.{requests}
 use Rattle.ua_server.specs.Said.{is_answered, lane_at, left, replied_at, said, used_in}
 use Rattle.ua_server.specs.State.{State}
 use Rattle.ua_server.specs.declared.step.End.{End as Ending}
@@ -22,6 +23,7 @@ use Rattle.ua_server.specs.declared.step.End.TheVariants as ending
 use Rattle.ua_server.specs.declared.step.Step.{Step}
 use Rattle.ua_server.specs.declared.step.StepFault.{StepFault}
 use Rattle.ua_server.specs.declared.step.StepFault.TheVariants as step_fault
+use Rattle.ua_server.specs.declared.watch.AnsweredRequest.{AnsweredRequest}
 
 -- ---- where a server stands
 
@@ -177,23 +179,24 @@ pub record AnsweredBehind (old : ServerChannel) (moment : DateTime) (piece : Lis
   pub quiet : List ℕ
   pub answers : AnswersAt (channel_of old) (next_of old) moment piece n answer mid octets (told ++ given_up quiet)
 
--- what is answered is told apart
-pub record Tells (answered : Bool) (channel : ℕ) (moment : DateTime) (piece : List ℕ) (n : ℕ) (out : List ℕ) (new : ServerChannel) (octets : List ℕ) (told : List Told) (first : State) (moments : List DateTime) (now : State) : Type 0 where
+-- what is answered is told apart, and which request it is, if it is one
+pub record Tells (answered : Bool) (request : Option AnsweredRequest) (channel : ℕ) (moment : DateTime) (piece : List ℕ) (n : ℕ) (out : List ℕ) (new : ServerChannel) (octets : List ℕ) (told : List Told) (first : State) (moments : List DateTime) (now : State) : Type 0 where
   pub goes : StepGoes channel moment piece n out new octets told first moments now
   pub answered_is : answered ≡ has_some goes.more
+  pub requests_are : requests channel first ((told ++ given_up goes.quiet) ++ goes.more) (moments ++ spent goes.more moment) ≡ requests channel first told moments ++ listed request
 
--- the same by how the connection ended, with whether something was answered
-abbrev pub AdvanceBy : Bool → ℕ → DateTime → List ℕ → Option Ending → ℕ → List ℕ → ServerChannel → List ℕ → List Told → State → List DateTime → State → State → Type 0
-AdvanceBy answered channel moment piece None n out new octets told first moments before now = Tells answered channel moment piece n out new octets told first moments now
-AdvanceBy answered channel moment piece (Some end) n out new octets told first moments before now = StepBy channel moment piece (Some end) n out new octets told first moments before now × (answered ≡ false)
+-- the same by how the connection ended, with whether something was answered, and which request
+abbrev pub AdvanceBy : Bool → Option AnsweredRequest → ℕ → DateTime → List ℕ → Option Ending → ℕ → List ℕ → ServerChannel → List ℕ → List Told → State → List DateTime → State → State → Type 0
+AdvanceBy answered request channel moment piece None n out new octets told first moments before now = Tells answered request channel moment piece n out new octets told first moments now
+AdvanceBy answered request channel moment piece (Some end) n out new octets told first moments before now = StepBy channel moment piece (Some end) n out new octets told first moments before now × (answered ≡ false)
 
--- what a step answers, with whether something was answered
-abbrev pub Advances : Limits → ℕ → DateTime → List ℕ → Result (Step × Bool) StepFault → ServerChannel → List ℕ → List Told → State → List DateTime → State → State → Type 0
-Advances limits channel moment piece (Ok found) new octets told first moments before now = AdvanceBy found.1 channel moment piece found.0.end found.0.taken found.0.out.items new octets told first moments before now
+-- what a step answers, with whether something was answered, and which request
+abbrev pub Advances : Limits → ℕ → DateTime → List ℕ → Result (Step × Bool × Option AnsweredRequest) StepFault → ServerChannel → List ℕ → List Told → State → List DateTime → State → State → Type 0
+Advances limits channel moment piece (Ok found) new octets told first moments before now = AdvanceBy found.1 found.2 channel moment piece found.0.end found.0.taken found.0.out.items new octets told first moments before now
 Advances limits channel moment piece (Err f) new octets told first moments before now = StepAnswers limits channel moment piece (Err f) new octets told first moments before now
 
 -- where it leaves a server, with whether something was answered
-abbrev pub AdvanceStands : List ℕ → Result (Step × Bool) StepFault → ServerChannel → List ℕ → List Told → Type 0
+abbrev pub AdvanceStands : List ℕ → Result (Step × Bool × Option AnsweredRequest) StepFault → ServerChannel → List ℕ → List Told → Type 0
 AdvanceStands piece (Ok found) new octets told = StandsBy piece found.0.end found.0.taken found.0.out.items new octets told
 AdvanceStands piece (Err f) new octets told = StepStands piece (Err f) new octets told
 

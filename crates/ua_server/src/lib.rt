@@ -30,10 +30,12 @@ mod serving;
 mod session;
 mod sessions;
 mod step;
+mod watch;
 
 pub use endpoint::Endpoint;
 pub use serve_fault::ServeFault;
 pub use server::Server;
 pub use services::Services;
-pub use serving::serve;
+pub use serving::{serve, serve_watched};
 pub use step::{End, Step, StepFault};
+pub use watch::{AnsweredRequest, Unwatched, Watch};

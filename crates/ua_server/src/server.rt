@@ -11,12 +11,15 @@ ghost use Rattle.ua_channel.specs.ServerTold.{Told, Asked};
 ghost use Rattle.ua_channel.specs.declared.server.ServerChannel.{ServerChannel};
 ghost use Rattle.ua_channel.specs.declared.server_fault.ChannelFault.TheVariants as channel_fault;
 ghost use Rattle.ua_server.specs.Reply.{answered};
+ghost use Rattle.ua_server.specs.Requests.{request_answered};
+ghost use Rattle.ua_server.specs.Said.{lane_at};
 ghost use Rattle.ua_server.specs.State.{State};
 ghost use Rattle.ua_server.specs.Stepping.{AnswersBehind, AnsweredBehind, IsReplyAt, StepAnswers, StepStands, is_given_up};
 ghost use Rattle.ua_server.specs.declared.step.StepFault.TheVariants as step_fault;
 
 use crate::services::Services;
 use crate::step::{End, Step, StepFault};
+use crate::watch::AnsweredRequest;
 use std::alloc::Global;
 use ua_builtin::DateTime;
 use ua_channel::{ChannelFault, ReplyFault, ServerChannel, ServerEvent};
@@ -67,7 +70,7 @@ fn next_answered(
     (taken, Ok(ServerEvent::NeedMore))
 }
 
-/// Answers a whole message, under its request id.
+/// Answers a whole message, under its request id, with what is told of it.
 fn reply_to(
     alloc: Global,
     channel: &mut ServerChannel,
@@ -75,11 +78,13 @@ fn reply_to(
     id: u32,
     message: Message,
     moment: DateTime,
-) -> Result<Vec<u8>, StepFault>
+) -> Result<(Vec<u8>, AnsweredRequest), StepFault>
     ensures sent { (octets : List ℕ) (before : List Told) (token : ℕ) → GoesTelling channel.old octets before (Asked id token (concat message))
-        → IfOk result (λ out. GoesTelling channel.new octets before (Asked id token (concat message))
-        × IsReplyAt (channel_of channel.old) token (agreed_by before) (response.canonical (answered services.old moment (concat message)).1) (next_of channel.old) id out.items (next_of channel.new)) }
-    ensures state { IfOk result (λ out. services.new ≡ (answered services.old moment (concat message)).0) }
+        → IfOk result (λ told. GoesTelling channel.new octets before (Asked id token (concat message))
+        × IsReplyAt (channel_of channel.old) token (agreed_by before) (response.canonical (answered services.old moment (concat message)).1) (next_of channel.old) id told.0.items (next_of channel.new)) }
+    ensures noted { (octets : List ℕ) (before : List Told) (token : ℕ) → GoesTelling channel.old octets before (Asked id token (concat message))
+        → IfOk result (λ told. told.1 ≡ request_answered (lane_at (channel_of channel.old) token (agreed_by before)) services.old moment (concat message)) }
+    ensures state { IfOk result (λ told. services.new ≡ (answered services.old moment (concat message)).0) }
     ensures failed { (octets : List ℕ) (before : List Told) (token : ℕ) → GoesTelling channel.old octets before (Asked id token (concat message))
         → OnErr result ((result ≡ Err step_fault.OutOfMemory) × IsDone channel.new) }
     ensures broken { OnErr result ((services.new ≡ services.old) ⊎ (services.new ≡ (answered services.old moment (concat message)).0)) }
@@ -87,14 +92,20 @@ fn reply_to(
     ensures limits { limits_of channel.new ≡ limits_of channel.old }
     ensures channel { channel_of channel.new ≡ channel_of channel.old }
 {
-    let body = services.reply(alloc, &mut message.source(), moment);
+    let told = services.reply_telling(alloc, &mut message.source(), moment);
     drop(message);
-    let Ok(body) = body else {
-        channel.end();
-        return Err(StepFault::OutOfMemory);
+    let (body, request) = match told {
+        Ok(told) => told,
+        Err(_) => {
+            channel.end();
+            return Err(StepFault::OutOfMemory);
+        }
     };
     match channel.reply(id, &body) {
-        Ok(out) => Ok(out),
+        Ok(out) => {
+            let request = request.sent_as(&out);
+            Ok((out, request))
+        }
         Err(ReplyFault::OutOfMemory) => Err(StepFault::OutOfMemory),
         Err(ReplyFault::NotOpen) => Err(StepFault::Closed),
     }
@@ -222,13 +233,13 @@ impl Server {
         self.channel.open_count() == 0 && self.channel.held() == 0
     }
 
-    /// What [`step`](Server::step) does, with whether something was answered.
+    /// What [`step`](Server::step) does, with whether something was answered, and which request.
     pub(crate) fn advance(
         &mut self,
         services: &mut Services,
         piece: &[u8],
         moment: DateTime,
-    ) -> Result<(Step, bool), StepFault>
+    ) -> Result<(Step, bool, Option<AnsweredRequest>), StepFault>
         ensures answers { (octets : List ℕ) (told : List Told) (first : State) (moments : List DateTime) → Stands (channel_in self.old) octets told first moments services.old
             → Advances (limits_of (channel_in self.old)) (channel_of (channel_in self.old)) moment piece.now result (channel_in self.new) octets told first moments services.old services.new }
         ensures stands { (octets : List ℕ) (told : List Told) → Goes (channel_in self.old) octets told → AdvanceStands piece.now result (channel_in self.new) octets told }
@@ -243,7 +254,7 @@ impl Server {
         match answer {
             Ok(event) => self.answer(services, taken, event, moment),
             Err(fault) => match refusal(self.alloc, taken, fault) {
-                Ok(step) => Ok((step, false)),
+                Ok(step) => Ok((step, false, None)),
                 Err(fault) => Err(fault),
             },
         }
@@ -256,7 +267,7 @@ impl Server {
         taken: usize,
         event: ServerEvent,
         moment: DateTime,
-    ) -> Result<(Step, bool), StepFault>
+    ) -> Result<(Step, bool, Option<AnsweredRequest>), StepFault>
         requires { is_given_up (Ok event) ≡ false }
         ensures answers { (old : ServerChannel) (piece octets : List ℕ) (told : List Told) (first : State) (moments : List DateTime)
             → AnsweredBehind old moment piece taken (Ok event) (channel_in self.old) octets told first moments services.old
@@ -271,17 +282,18 @@ impl Server {
         ensures channel { channel_of (channel_in self.new) ≡ channel_of (channel_in self.old) }
     {
         match event {
-            ServerEvent::NeedMore => Ok((Step::silent(self.alloc, taken, None), false)),
-            ServerEvent::Send(out) => Ok((Step::saying(taken, out), true)),
+            ServerEvent::NeedMore => Ok((Step::silent(self.alloc, taken, None), false, None)),
+            ServerEvent::Send(out) => Ok((Step::saying(taken, out), true, None)),
             ServerEvent::Asked(id, message) => {
                 match reply_to(self.alloc, &mut self.channel, services, id, message, moment) {
-                    Ok(out) => Ok((Step::saying(taken, out), true)),
+                    Ok(told) => Ok((Step::saying(taken, told.0), true, Some(told.1))),
                     Err(fault) => Err(fault),
                 }
             }
             ServerEvent::Aborted(_) => unreachable!(),
             ServerEvent::Closed => {
-                Ok((Step::silent(self.alloc, taken, Some(End::Closed)), false))
+                let step = Step::silent(self.alloc, taken, Some(End::Closed));
+                Ok((step, false, None))
             }
         }
     }

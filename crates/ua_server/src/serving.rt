@@ -2,7 +2,7 @@
 
 ghost use Rattle.std.specs.Prelude.{◌≡◌, ◌<◌, ℕ, List, [], IfOk, length};
 ghost use Rattle.ua_channel.specs.Line.{WhereTold};
-ghost use Rattle.ua_server.specs.Serving.{Serves, LineFailed};
+ghost use Rattle.ua_server.specs.Serving.{Serves, ServesTelling, LineFailed};
 ghost use Rattle.ua_server.specs.ServingParts.{StopsWithin, Wrote, most_at_once, write_failures};
 ghost use Rattle.ua_server.specs.State.{begun};
 
@@ -10,6 +10,7 @@ use crate::serve_fault::ServeFault;
 use crate::server::Server;
 use crate::services::Services;
 use crate::step::{End, Step, StepFault};
+use crate::watch::{Unwatched, Watch, tell};
 use std::alloc::{AllocError, Global};
 use ua_builtin::DateTime;
 use ua_channel::{Line, Moments};
@@ -35,10 +36,35 @@ pub fn serve<L: Line, M: Moments>(
     ensures serves { WhereTold (Serves limits channel_id M.gives (begun services.old) moments.old result services.new moments.new) (L.traffic line.old) (L.traffic line.new) }
     ensures failed { LineFailed (L.failures line.old) result (L.failures line.new) }
 {
+    serve_watched(
+        alloc,
+        line,
+        services,
+        limits,
+        channel_id,
+        moments,
+        &mut Unwatched,
+    )
+}
+
+/// Does what [`serve`] does, and tells of each request that is answered, in order, as its answer is
+/// made: right before the answer is written. A message that is given up is not answered.
+pub fn serve_watched<L: Line, M: Moments, W: Watch>(
+    alloc: Global,
+    line: &mut L,
+    services: &mut Services,
+    limits: Limits,
+    channel_id: u32,
+    moments: &mut M,
+    watch: &mut W,
+) -> Result<End, ServeFault>
+    ensures serves { WhereTold (ServesTelling limits channel_id M.gives W.notes (begun services.old) (moments.old, watch.old) result services.new (moments.new, watch.new)) (L.traffic line.old) (L.traffic line.new) }
+    ensures failed { LineFailed (L.failures line.old) result (L.failures line.new) }
+{
     services.begin();
     let mut serving = Serving::new(alloc, limits, channel_id);
     match piece(alloc) {
-        Ok(mut buffer) => serving.run(line, services, moments, &mut buffer),
+        Ok(mut buffer) => serving.run(line, services, moments, watch, &mut buffer),
         Err(_) => Err(ServeFault::OutOfMemory),
     }
 }
@@ -89,8 +115,9 @@ impl Serving {
     ghost use Rattle.ua_frame.specs.declared.frame.Frame.{Frame};
     ghost use Rattle.ua_frame.specs.declared.limits.Limits.{Limits};
     ghost use Rattle.ua_server.specs.Served.{channel_in};
-    ghost use Rattle.ua_server.specs.Serving.{moment_of, Moves, Serves, LineFailed};
-    ghost use Rattle.ua_server.specs.ServingParts.{Asked, Exchanged, Finishes, Handles, Keeps, Says, Steps, Turns, noted};
+    ghost use Rattle.ua_server.specs.Happening.{Event, Happens};
+    ghost use Rattle.ua_server.specs.Serving.{moment_of, Moves, ServesTelling, LineFailed};
+    ghost use Rattle.ua_server.specs.ServingParts.{Asked, Exchanged, Finishes, Handles, Keeps, Met, Says, Steps, Turns, noted};
     ghost use Rattle.ua_server.specs.Stepping.{Takes};
     ghost use Rattle.ua_server.specs.State.{State};
 
@@ -135,19 +162,21 @@ impl Serving {
         }
     }
 
-    /// One step of the server. The moment that it used is kept no longer.
-    fn step<M: Moments>(
+    /// One step of the server. The moment that it used is kept no longer, and the request that it
+    /// answered is told.
+    fn step<M: Moments, W: Watch>(
         &mut self,
         services: &mut Services,
         moments: &mut M,
+        watch: &mut W,
         piece: &[u8],
     ) -> Result<Step, StepFault>
-        ensures steps { (limits : Limits) (channel : ℕ) (first : State) (read written : List ℕ) (given : List ℤ) → Keeps self.old limits channel first read written given services.old
-            → Asked M.gives moments.old moments.new (λ ticks. Steps result self.new limits channel first piece.now read written (given ++ ticks) services.new) }
+        ensures steps { (limits : Limits) (channel : ℕ) (first : State) (read written : List ℕ) (given : List Event) → Keeps self.old limits channel first read written given services.old
+            → Met (Happens M.gives W.notes) (moments.old, watch.old) (moments.new, watch.new) (λ events. Steps result self.new limits channel first piece.now read written (given ++ events) services.new) }
         ensures progress { IfOk result (λ step. Takes piece.now step) }
     {
         let moment = self.moment(moments);
-        let (step, answered) = match self.server.advance(services, piece, moment) {
+        let (step, answered, request) = match self.server.advance(services, piece, moment) {
             Ok(found) => found,
             Err(fault) => return Err(fault),
         };
@@ -155,6 +184,7 @@ impl Serving {
             return Ok(step);
         }
         self.note_answer();
+        tell(watch, request);
         Ok(step)
     }
 
@@ -185,20 +215,21 @@ impl Serving {
 
     /// One step of the server, and its answer. Says how many octets were taken, and how the
     /// connection ended, if it did.
-    fn turn<L: Line, M: Moments>(
+    fn turn<L: Line, M: Moments, W: Watch>(
         &mut self,
         line: &mut L,
         services: &mut Services,
         moments: &mut M,
+        watch: &mut W,
         piece: &[u8],
     ) -> Result<(usize, Option<End>), ServeFault>
-        ensures turns { (limits : Limits) (channel : ℕ) (first : State) (read written : List ℕ) (given : List ℤ) → Keeps self.old limits channel first read written given services.old
-            → Exchanged M.gives moments.old moments.new [] (L.traffic line.old) (L.traffic line.new)
-            (λ more ticks. Turns result self.new limits channel first piece.now read (written ++ more) (given ++ ticks) services.new) }
+        ensures turns { (limits : Limits) (channel : ℕ) (first : State) (read written : List ℕ) (given : List Event) → Keeps self.old limits channel first read written given services.old
+            → Exchanged (Happens M.gives W.notes) (moments.old, watch.old) (moments.new, watch.new) [] (L.traffic line.old) (L.traffic line.new)
+            (λ more events. Turns result self.new limits channel first piece.now read (written ++ more) (given ++ events) services.new) }
         ensures progress { IfOk result (λ turn. (turn.0 ≤ length piece.now) × (turn.1 ≡ None → 0 < length piece.now → 0 < turn.0)) }
         ensures failed { LineFailed (L.failures line.old) result (L.failures line.new) }
     {
-        let step = match self.step(services, moments, piece) {
+        let step = match self.step(services, moments, watch, piece) {
             Ok(step) => step,
             Err(_) => return Err(ServeFault::OutOfMemory),
         };
@@ -209,21 +240,22 @@ impl Serving {
     }
 
     /// Answers a piece, up to its end or to that of the connection.
-    fn handle<L: Line, M: Moments>(
+    fn handle<L: Line, M: Moments, W: Watch>(
         &mut self,
         line: &mut L,
         services: &mut Services,
         moments: &mut M,
+        watch: &mut W,
         piece: &[u8],
     ) -> Result<Option<End>, ServeFault>
-        ensures handles { (limits : Limits) (channel : ℕ) (first : State) (read written : List ℕ) (given : List ℤ) → Keeps self.old limits channel first read written given services.old
-            → Exchanged M.gives moments.old moments.new [] (L.traffic line.old) (L.traffic line.new)
-            (λ more ticks. Handles result self.new limits channel first (read ++ piece.now) (written ++ more) (given ++ ticks) services.new) }
+        ensures handles { (limits : Limits) (channel : ℕ) (first : State) (read written : List ℕ) (given : List Event) → Keeps self.old limits channel first read written given services.old
+            → Exchanged (Happens M.gives W.notes) (moments.old, watch.old) (moments.new, watch.new) [] (L.traffic line.old) (L.traffic line.new)
+            (λ more events. Handles result self.new limits channel first (read ++ piece.now) (written ++ more) (given ++ events) services.new) }
         ensures failed { LineFailed (L.failures line.old) result (L.failures line.new) }
     {
         let mut taken = 0;
         while taken < piece.len() {
-            let (n, end) = match self.turn(line, services, moments, &piece[taken..]) {
+            let (n, end) = match self.turn(line, services, moments, watch, &piece[taken..]) {
                 Ok(turn) => turn,
                 Err(fault) => return Err(fault),
             };
@@ -236,16 +268,17 @@ impl Serving {
     }
 
     /// Reads the line into this buffer again and again, and answers what it reads.
-    fn run<L: Line, M: Moments>(
+    fn run<L: Line, M: Moments, W: Watch>(
         &mut self,
         line: &mut L,
         services: &mut Services,
         moments: &mut M,
+        watch: &mut W,
         buffer: &mut [u8],
     ) -> Result<End, ServeFault>
         requires { 0 < length buffer.old }
         ensures serves { (limits : Limits) (channel : ℕ) (first : State) → Keeps self.old limits channel first [] [] [] services.old
-            → WhereTold (Serves limits channel M.gives first moments.old result services.new moments.new) (L.traffic line.old) (L.traffic line.new) }
+            → WhereTold (ServesTelling limits channel M.gives W.notes first (moments.old, watch.old) result services.new (moments.new, watch.new)) (L.traffic line.old) (L.traffic line.new) }
         ensures failed { LineFailed (L.failures line.old) result (L.failures line.new) }
     {
         for _reads in 0..u64::MAX {
@@ -256,7 +289,7 @@ impl Serving {
             if n == 0 {
                 return Ok(self.finish());
             }
-            match self.handle(line, services, moments, &buffer[..n]) {
+            match self.handle(line, services, moments, watch, &buffer[..n]) {
                 Ok(None) => {}
                 Ok(Some(end)) => return Ok(end),
                 Err(fault) => return Err(fault),

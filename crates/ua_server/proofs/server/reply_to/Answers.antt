@@ -1,14 +1,16 @@
-use Rattle.std.proofs.Common.{rules, Vec, Global, ◌≡◌, ◌++◌, ◌∷◌, [], ℕ, List, Result, Err, ap, subst}
+use Rattle.std.proofs.Common.{rules, None, ◌<◌, length, sym, Vec, Global, ◌≡◌, ◌++◌, ◌∷◌, [], ℕ, List, Result, Err, ap, subst}
 use Rattle.std.specs.List.{concat}
 use Rattle.ua_services.specs.Response.{response}
 use Rattle.ua_channel.proofs.Opened.{server_asked}
 use Rattle.ua_channel.specs.ServerPlaces.{agreed_by}
+use Rattle.ua_channel.specs.ServerSends.{IsReply}
 use Rattle.ua_channel.specs.ServerStands.{channel_of, next_of}
 use Rattle.ua_channel.specs.ServerTold.{Asked}
 use Rattle.ua_channel.specs.declared.server_fault.ReplyFault.{ReplyFault}
 use Rattle.ua_server.specs.Reply.{answered}
+use Rattle.ua_server.specs.Requests.{request_answered}
 use Rattle.ua_server.specs.Stepping.{IsReplyAt}
-use Rattle.ua_server.proofs.Events.{telling-on, replied-there}
+use Rattle.ua_server.proofs.Events.{telling-on, replied-there, noted-there}
 use Rattle.ua_server.proofs.server.reply_to.Goals as goal
 
 pub returns-in-Ok-reply-clause-sent : goal.returns-in-Ok-reply-clause-sent
@@ -19,6 +21,16 @@ returns-in-Ok-reply-clause-sent c = λ octets before token g.
       subst (λ (b : List ℕ). IsReplyAt (channel_of c.args.channel.now) token (agreed_by before) b (next_of c.args.channel.now) c.args.id c.in-Ok-reply.out.items (next_of c.reply.new.self)) body
           (replied-there c.args.channel.now octets before c.args.id token (concat c.args.message) g sent.0 c.deref.result.now c.in-Ok-reply.out.items (next_of c.reply.new.self) sent.1 sent.2),
     )
+
+pub returns-in-Ok-reply-clause-noted : goal.returns-in-Ok-reply-clause-noted
+returns-in-Ok-reply-clause-noted c = λ octets before token g.
+    let sent = c.in-Ok-reply.ensures.sent octets (g.frames ++ g.frame ∷ []) [] g.stands in
+    let body : c.deref.result.now ≡ response.canonical (answered c.args.services.now c.args.moment (concat c.args.message)).1 = search rules in
+    let some : 0 < length c.deref.result.now = search rules in
+    let out : c.deref-in-Ok-reply.result.now ≡ c.in-Ok-reply.out.items = search rules in
+    let request : c.in-Ok.told.1 ≡ request_answered None c.args.services.now c.args.moment (concat c.args.message) = search rules in
+    noted-there c.args.channel.now octets before c.args.id token (concat c.args.message) g sent.0 c.args.services.now c.args.moment c.deref.result.now c.deref-in-Ok-reply.result.now (next_of c.reply.new.self) c.in-Ok.told.1 c.sent_as-request.result sent.1 body request
+    (c.sent_as-request.ensures sent.0 c.deref.result.now (next_of c.args.channel.now) c.args.id (next_of c.reply.new.self) some (subst (λ (o : List ℕ). IsReply sent.0 c.deref.result.now (next_of c.args.channel.now) c.args.id o (next_of c.reply.new.self)) (sym out) sent.2))
 
 pub returns-clause-failed : goal.returns-clause-failed
 returns-clause-failed c = λ octets before token g.

@@ -19,17 +19,18 @@ returns-in-NeedMore-clause-answers c = λ old piece octets told first moments b.
 pub returns-in-Send-clause-answers : goal.returns-in-Send-clause-answers
 returns-in-Send-clause-answers c = λ old piece octets told first moments b.
     let said : Step = record { taken = c.args.taken; out = c.in-Send.out; end = None } in
-    saying old (channel_in c.args.self.now) c.args.moment piece c.args.taken octets told first moments c.args.services.now c.saying.result said (channel_in c.args.self.now) c.args.services.now c.saying.ensures
+    saying old (channel_in c.args.self.now) c.args.moment piece c.args.taken octets told first moments c.args.services.now None c.saying.result said (channel_in c.args.self.now) c.args.services.now c.saying.ensures
     (on-send old (channel_in c.args.self.now) c.args.moment piece c.args.taken octets told first moments c.args.services.now c.in-Send.out
     (at-event old (channel_in c.args.self.now) c.args.moment piece c.args.taken octets told first moments c.args.services.now c.args.event (event.Send c.in-Send.out) c.in-Send.is b))
 
 pub returns-in-Ok-clause-answers : goal.returns-in-Ok-clause-answers
 returns-in-Ok-clause-answers c = λ old piece octets told first moments b.
-    let said : Step = record { taken = c.args.taken; out = c.in-Ok.out; end = None } in
+    let said : Step = record { taken = c.args.taken; out = c.in-Ok.told.0; end = None } in
     let there = at-event old (channel_in c.args.self.now) c.args.moment piece c.args.taken octets told first moments c.args.services.now c.args.event (event.Asked c.in-Asked.id c.in-Asked.message) c.in-Asked.is b in
-    saying old (channel_in c.args.self.now) c.args.moment piece c.args.taken octets told first moments c.args.services.now c.saying-in-Ok.result said c.reply_to.new.channel c.reply_to.new.services c.saying-in-Ok.ensures
-    (on-reply old (channel_in c.args.self.now) c.args.moment piece c.args.taken octets told first moments c.args.services.now c.reply_to.new.channel c.in-Asked.id c.in-Asked.message c.in-Ok.out.items c.reply_to.new.services there
-    c.reply_to.ensures.channel (c.in-Ok.ensures.sent (octets ++ take c.args.taken piece) (told ++ given_up there.quiet) there.answers.1.0.token there.answers.1.0.goes) c.in-Ok.ensures.state)
+    saying old (channel_in c.args.self.now) c.args.moment piece c.args.taken octets told first moments c.args.services.now (Some c.in-Ok.told.1) c.saying-in-Ok.result said c.reply_to.new.channel c.reply_to.new.services c.saying-in-Ok.ensures
+    (on-reply old (channel_in c.args.self.now) c.args.moment piece c.args.taken octets told first moments c.args.services.now c.in-Ok.told.1 c.reply_to.new.channel c.in-Asked.id c.in-Asked.message c.in-Ok.told.0.items c.reply_to.new.services there
+    c.reply_to.ensures.channel (c.in-Ok.ensures.sent (octets ++ take c.args.taken piece) (told ++ given_up there.quiet) there.answers.1.0.token there.answers.1.0.goes) c.in-Ok.ensures.state
+    (c.in-Ok.ensures.noted (octets ++ take c.args.taken piece) (told ++ given_up there.quiet) there.answers.1.0.token there.answers.1.0.goes))
 
 pub returns-in-Err-clause-answers : goal.returns-in-Err-clause-answers
 returns-in-Err-clause-answers c = λ old piece octets told first moments b.
@@ -46,7 +47,7 @@ returns-in-Err-clause-starved c = λ old piece octets told g limits b fails.
 
 pub returns-in-Closed-clause-answers : goal.returns-in-Closed-clause-answers
 returns-in-Closed-clause-answers c = λ old piece octets told first moments b.
-    silently old (channel_in c.args.self.now) c.args.moment piece c.args.taken octets told first moments c.args.services.now c.silent-in-Closed.result (Some ending.Closed) c.silent-in-Closed.ensures.taken c.silent-in-Closed.ensures.out c.silent-in-Closed.ensures.end
+    silently old (channel_in c.args.self.now) c.args.moment piece c.args.taken octets told first moments c.args.services.now c.silent-step.result (Some ending.Closed) c.silent-step.ensures.taken c.silent-step.ensures.out c.silent-step.ensures.end
     (λ out none. (
       on-close old (channel_in c.args.self.now) c.args.moment piece c.args.taken octets told first moments c.args.services.now
           (at-event old (channel_in c.args.self.now) c.args.moment piece c.args.taken octets told first moments c.args.services.now c.args.event event.Closed c.in-Closed.is b) out none,
@@ -68,10 +69,10 @@ returns-in-Send-clause-stands c = λ old piece octets told b.
 
 pub returns-in-Ok-clause-stands : goal.returns-in-Ok-clause-stands
 returns-in-Ok-clause-stands c = λ old piece octets told b.
-    let said : Step = record { taken = c.args.taken; out = c.in-Ok.out; end = None } in
+    let said : Step = record { taken = c.args.taken; out = c.in-Ok.told.0; end = None } in
     let there = event-as (channel_of old) (next_of old) c.args.moment piece c.args.taken (channel_in c.args.self.now) octets told c.args.event (event.Asked c.in-Asked.id c.in-Asked.message) c.in-Asked.is b in
     saying-stands (channel_of old) (next_of old) c.args.moment piece c.args.taken (channel_in c.args.self.now) octets told c.saying-in-Ok.result said c.reply_to.new.channel c.saying-in-Ok.ensures
-    (stands-replied (channel_of old) (next_of old) c.args.moment piece c.args.taken (channel_in c.args.self.now) octets told c.in-Asked.id c.in-Asked.message c.reply_to.new.channel c.in-Ok.out.items there
+    (stands-replied (channel_of old) (next_of old) c.args.moment piece c.args.taken (channel_in c.args.self.now) octets told c.in-Asked.id c.in-Asked.message c.reply_to.new.channel c.in-Ok.told.0.items there
     (c.in-Ok.ensures.sent (octets ++ take c.args.taken piece) (told ++ given_up there.quiet) there.answers.1.0.token there.answers.1.0.goes).0)
 
 pub returns-in-Err-clause-stands : goal.returns-in-Err-clause-stands
@@ -82,6 +83,6 @@ returns-in-Err-clause-stands c = λ old piece octets told b.
 
 pub returns-in-Closed-clause-stands : goal.returns-in-Closed-clause-stands
 returns-in-Closed-clause-stands c = λ old piece octets told b.
-    silent-stands (channel_of old) (next_of old) c.args.moment piece c.args.taken (channel_in c.args.self.now) octets told c.silent-in-Closed.result (Some ending.Closed) c.silent-in-Closed.ensures.taken c.silent-in-Closed.ensures.out c.silent-in-Closed.ensures.end
+    silent-stands (channel_of old) (next_of old) c.args.moment piece c.args.taken (channel_in c.args.self.now) octets told c.silent-step.result (Some ending.Closed) c.silent-step.ensures.taken c.silent-step.ensures.out c.silent-step.ensures.end
     (stands-closed (channel_of old) (next_of old) c.args.moment piece c.args.taken (channel_in c.args.self.now) octets told
     (event-as (channel_of old) (next_of old) c.args.moment piece c.args.taken (channel_in c.args.self.now) octets told c.args.event event.Closed c.in-Closed.is b))

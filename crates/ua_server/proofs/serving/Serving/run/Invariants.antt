@@ -10,6 +10,6 @@ abbrev pub invariant-loop-reads : goal.invariant-loop-reads
 invariant-loop-reads g l = record {
   room : 0 < length l.buffer;
   so_far : (limits : Limits) (channel : ℕ) (first : State) → Keeps l.fn.self limits channel first [] [] [] l.fn.services
-      → Served limits channel first g.M.Moments.gives l.fn.moments (g.L.Line.traffic l.fn.line) l._reads l.moments (g.L.Line.traffic l.line) l.self l.services;
+      → Served limits channel first g.M.Moments.gives g.W.Watch.notes (l.fn.moments, l.fn.watch) (g.L.Line.traffic l.fn.line) l._reads (l.moments, l.watch) (g.L.Line.traffic l.line) l.self l.services;
   same : g.L.Line.failures l.line ≡ g.L.Line.failures l.fn.line;
 }

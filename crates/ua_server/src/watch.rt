@@ -1,0 +1,102 @@
+//! The requests that a server answered, and who is told of them.
+
+ghost use Rattle.std.specs.Prelude.{◌≡◌};
+ghost use Rattle.ua_server.specs.Happening.{IsTold};
+ghost use Rattle.ua_server.specs.Requests.{is_abort, items_asked};
+
+use ua_builtin::StatusCode;
+use ua_services::{Request, RequestKind};
+
+/// A request that was answered.
+#[derive(Clone, Copy)]
+pub struct AnsweredRequest {
+    /// Its kind; none where a message was answered that is no request of these services.
+    pub kind: Option<RequestKind>,
+    /// How many items it asks for: the nodes of a Read or of a Write, 0 of the others.
+    pub items: usize,
+    /// The service result of its answer; where the client takes no such answer, the code of the
+    /// abort that goes in its place.
+    pub code: StatusCode,
+}
+
+/// Who is told of each request that a server answers.
+pub trait Watch {
+    ghost use Rattle.ua_server.specs.declared.watch.AnsweredRequest.{AnsweredRequest};
+
+    /// A request leads from what was told before to what is told after.
+    ghost notes: { Self → AnsweredRequest → Self → Type 0 };
+
+    /// A request was answered. Its answer is written next.
+    fn note(&mut self, request: AnsweredRequest)
+        ensures { notes self.old request self.new };
+}
+
+/// Nobody: what is told is dropped.
+#[derive(Clone, Copy)]
+pub struct Unwatched;
+
+impl Watch for Unwatched {
+    ghost use Rattle.std.specs.Prelude.{⊤};
+
+    ghost notes = { λ before request after. ⊤ };
+
+    fn note(&mut self, request: AnsweredRequest) {}
+}
+
+/// Tells of a request, if there is one.
+pub(crate) fn tell<W: Watch>(watch: &mut W, request: Option<AnsweredRequest>)
+    ensures { IsTold W.notes watch.old request watch.new }
+{
+    match request {
+        Some(request) => watch.note(request),
+        None => {}
+    }
+}
+
+/// How many items a request asks for.
+pub(crate) fn items_asked(request: &Request) -> usize
+    ensures { result ≡ items_asked request.now }
+{
+    match request {
+        Request::Read(message) => message.nodes_to_read.as_items().unwrap_or(&[]).len(),
+        Request::Write(message) => message.nodes_to_write.as_items().unwrap_or(&[]).len(),
+        Request::GetEndpoints(_)
+        | Request::CreateSession(_)
+        | Request::ActivateSession(_)
+        | Request::CloseSession(_) => 0,
+    }
+}
+
+/// Whether a frame gives up a message.
+fn is_abort(frame: &[u8]) -> bool
+    ensures { result ≡ is_abort frame.now }
+{
+    match frame {
+        [_, _, _, flag, ..] => *flag == b'A',
+        _ => false,
+    }
+}
+
+impl AnsweredRequest {
+    ghost use Rattle.std.specs.Prelude.{◌≡◌, ◌<◌, ℕ, List, length};
+    ghost use Rattle.ua_channel.specs.ServerSends.{IsReply};
+    ghost use Rattle.ua_chunk.specs.Cutting.{cut_refusal};
+    ghost use Rattle.ua_chunk.specs.declared.lane.Lane.{Lane};
+    ghost use Rattle.ua_server.specs.Requests.{code_by};
+
+    /// What is told once its answer goes as these octets, which may be an abort.
+    pub(crate) fn sent_as(self, octets: &[u8]) -> AnsweredRequest
+        ensures { (lane : Lane) (body : List ℕ) (number id next : ℕ) → 0 < length body → IsReply lane body number id octets.now next
+            → result ≡ record self { code = code_by (cut_refusal lane body) self.code } }
+    {
+        if is_abort(octets) {
+            AnsweredRequest {
+                kind: self.kind,
+                items: self.items,
+                code: StatusCode::BAD_RESPONSE_TOO_LARGE,
+            }
+        } else {
+            self
+        }
+    }
+}
