@@ -7,7 +7,7 @@ use Rattle.ua_frame.specs.declared.limits.Limits.{Limits}
 use Rattle.ua_channel.specs.Line.{Traffic, WhereTold}
 use Rattle.ua_channel.specs.Moments.{Gives}
 use Rattle.ua_channel.specs.Received.{listed}
-use Rattle.ua_server.specs.Happening.{Event, Given, Noted, ticks_in, noted_in, Leads, Happens, IsTold}
+use Rattle.ua_server.specs.Happening.{Event, Given, Noted, ticks_in, noted_in, Leads, Happens, IsTold, WasTold}
 use Rattle.ua_server.specs.Serving.{moment_of, moments_in, Serves, ServesTelling}
 use Rattle.ua_server.specs.State.{State}
 use Rattle.ua_server.specs.declared.serve_fault.ServeFault.{ServeFault}
@@ -54,6 +54,22 @@ meeting-led {M = M} {W = W} gives notes m m' w w' [] (Some r) g h =
     let both : M → W → M × W = λ x y. (x, y) in
     ((m, w'), (h, refl), ap (λ (x : M). both x w') g)
 meeting-led gives notes m m' w w' (t ∷ ts) o g h = ((g.0, w), (g.1, refl), meeting-led gives notes g.0 m' w w' ts o g.2 h)
+
+-- ---- some requests
+
+leads-then : {S E : Type 0} (step : S → E → S → Type 0) (a b c : S) (es fs : List E) → Leads step a es b → Leads step b fs c → Leads step a (es ++ fs) c
+leads-then {S = S} step a b c [] fs l m = subst (λ (x : S). Leads step x fs c) (sym l) m
+leads-then step a b c (e ∷ es) fs l m = (l.0, l.1, leads-then step l.0 b c es fs l.2 m)
+
+pub told-none : {W : Type 0} (notes : W → AnsweredRequest → W → Type 0) (w : W) → WasTold notes w w
+told-none notes w = ([], refl)
+
+pub told-one : {W : Type 0} (notes : W → AnsweredRequest → W → Type 0) (w v : W) (o : Option AnsweredRequest) → IsTold notes w o v → WasTold notes w v
+told-one notes w v None h = ([], sym h)
+told-one notes w v (Some r) h = (r ∷ [], (v, h, refl))
+
+pub told-more : {W : Type 0} (notes : W → AnsweredRequest → W → Type 0) (w v u : W) → WasTold notes w v → WasTold notes v u → WasTold notes w u
+told-more notes w v u l m = (l.0 ++ m.0, leads-then notes w v u l.0 m.0 l.1 m.1)
 
 -- ---- the moments alone
 

@@ -24,6 +24,10 @@ abbrev pub Leads : {S E : Type 0} → (S → E → S → Type 0) → S → List 
 Leads step before [] after = before ≡ after
 Leads {S = S} step before (e ∷ events) after = (next : S) × step before e next × Leads step next events after
 
+-- some requests were told, one after the other
+abbrev pub WasTold : {W : Type 0} → (W → AnsweredRequest → W → Type 0) → W → W → Type 0
+WasTold notes before after = (requests : List AnsweredRequest) × Leads notes before requests after
+
 -- a request was told, if there is one
 abbrev pub IsTold : {W : Type 0} → (W → AnsweredRequest → W → Type 0) → W → Option AnsweredRequest → W → Type 0
 IsTold notes before None after = after ≡ before

@@ -2,6 +2,7 @@
 
 ghost use Rattle.std.specs.Prelude.{◌≡◌, ◌<◌, ℕ, List, [], IfOk, length};
 ghost use Rattle.ua_channel.specs.Line.{WhereTold};
+ghost use Rattle.ua_server.specs.Happening.{WasTold};
 ghost use Rattle.ua_server.specs.Serving.{Serves, ServesTelling, LineFailed};
 ghost use Rattle.ua_server.specs.ServingParts.{StopsWithin, Wrote, most_at_once, write_failures};
 ghost use Rattle.ua_server.specs.State.{begun};
@@ -59,6 +60,7 @@ pub fn serve_watched<L: Line, M: Moments, W: Watch>(
     watch: &mut W,
 ) -> Result<End, ServeFault>
     ensures serves { WhereTold (ServesTelling limits channel_id M.gives W.notes (begun services.old) (moments.old, watch.old) result services.new (moments.new, watch.new)) (L.traffic line.old) (L.traffic line.new) }
+    ensures told { WasTold W.notes watch.old watch.new }
     ensures failed { LineFailed (L.failures line.old) result (L.failures line.new) }
 {
     services.begin();
@@ -115,7 +117,7 @@ impl Serving {
     ghost use Rattle.ua_frame.specs.declared.frame.Frame.{Frame};
     ghost use Rattle.ua_frame.specs.declared.limits.Limits.{Limits};
     ghost use Rattle.ua_server.specs.Served.{channel_in};
-    ghost use Rattle.ua_server.specs.Happening.{Event, Happens};
+    ghost use Rattle.ua_server.specs.Happening.{Event, Happens, WasTold};
     ghost use Rattle.ua_server.specs.Serving.{moment_of, Moves, ServesTelling, LineFailed};
     ghost use Rattle.ua_server.specs.ServingParts.{Asked, Exchanged, Finishes, Handles, Keeps, Met, Says, Steps, Turns, noted};
     ghost use Rattle.ua_server.specs.Stepping.{Takes};
@@ -173,6 +175,7 @@ impl Serving {
     ) -> Result<Step, StepFault>
         ensures steps { (limits : Limits) (channel : ℕ) (first : State) (read written : List ℕ) (given : List Event) → Keeps self.old limits channel first read written given services.old
             → Met (Happens M.gives W.notes) (moments.old, watch.old) (moments.new, watch.new) (λ events. Steps result self.new limits channel first piece.now read written (given ++ events) services.new) }
+        ensures told { WasTold W.notes watch.old watch.new }
         ensures progress { IfOk result (λ step. Takes piece.now step) }
     {
         let moment = self.moment(moments);
@@ -226,6 +229,7 @@ impl Serving {
         ensures turns { (limits : Limits) (channel : ℕ) (first : State) (read written : List ℕ) (given : List Event) → Keeps self.old limits channel first read written given services.old
             → Exchanged (Happens M.gives W.notes) (moments.old, watch.old) (moments.new, watch.new) [] (L.traffic line.old) (L.traffic line.new)
             (λ more events. Turns result self.new limits channel first piece.now read (written ++ more) (given ++ events) services.new) }
+        ensures told { WasTold W.notes watch.old watch.new }
         ensures progress { IfOk result (λ turn. (turn.0 ≤ length piece.now) × (turn.1 ≡ None → 0 < length piece.now → 0 < turn.0)) }
         ensures failed { LineFailed (L.failures line.old) result (L.failures line.new) }
     {
@@ -251,6 +255,7 @@ impl Serving {
         ensures handles { (limits : Limits) (channel : ℕ) (first : State) (read written : List ℕ) (given : List Event) → Keeps self.old limits channel first read written given services.old
             → Exchanged (Happens M.gives W.notes) (moments.old, watch.old) (moments.new, watch.new) [] (L.traffic line.old) (L.traffic line.new)
             (λ more events. Handles result self.new limits channel first (read ++ piece.now) (written ++ more) (given ++ events) services.new) }
+        ensures told { WasTold W.notes watch.old watch.new }
         ensures failed { LineFailed (L.failures line.old) result (L.failures line.new) }
     {
         let mut taken = 0;
@@ -279,6 +284,7 @@ impl Serving {
         requires { 0 < length buffer.old }
         ensures serves { (limits : Limits) (channel : ℕ) (first : State) → Keeps self.old limits channel first [] [] [] services.old
             → WhereTold (ServesTelling limits channel M.gives W.notes first (moments.old, watch.old) result services.new (moments.new, watch.new)) (L.traffic line.old) (L.traffic line.new) }
+        ensures told { WasTold W.notes watch.old watch.new }
         ensures failed { LineFailed (L.failures line.old) result (L.failures line.new) }
     {
         for _reads in 0..u64::MAX {

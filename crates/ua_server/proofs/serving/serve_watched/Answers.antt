@@ -1,6 +1,7 @@
 use Rattle.std.proofs.Common.{arith, [], ℕ, ◌<◌, List, length, refl, sym, subst}
 use Rattle.ua_server.specs.ServingParts.{Keeps}
 use Rattle.ua_server.specs.State.{State, begun}
+use Rattle.ua_server.proofs.Happened.{told-none}
 use Rattle.ua_server.proofs.Handling.{serves-nothing}
 use Rattle.ua_server.proofs.serving.serve_watched.Goals as goal
 
@@ -24,3 +25,9 @@ returns-clause-serves g c =
 
 pub returns-clause-failed : goal.returns-clause-failed
 returns-clause-failed g c = refl
+
+pub returns-in-Ok-clause-told : goal.returns-in-Ok-clause-told
+returns-in-Ok-clause-told g c = c.run.ensures.told
+
+pub returns-clause-told : goal.returns-clause-told
+returns-clause-told g c = told-none g.W.Watch.notes c.args.watch.now

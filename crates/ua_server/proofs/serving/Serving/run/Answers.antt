@@ -5,6 +5,7 @@ use Rattle.ua_server.specs.Serving.{LineFailed}
 use Rattle.ua_server.specs.ServingParts.{Exchanged, Handles}
 use Rattle.ua_server.specs.declared.step.End.{End}
 use Rattle.ua_server.proofs.Handling.{served-nothing, read-failed, read-ended, read-too-long, served-more, served-end, served-fault}
+use Rattle.ua_server.proofs.Happened.{told-none, told-more}
 use Rattle.ua_server.proofs.serving.Serving.run.Goals as goal
 
 pub loop-reads-init : goal.loop-reads-init
@@ -12,6 +13,7 @@ loop-reads-init g c = record {
   room = c.requires;
   so_far = λ limits channel first k. served-nothing limits channel first g.M.Moments.gives g.W.Watch.notes (c.args.moments.now, c.args.watch.now) (g.L.Line.traffic c.args.line.now) c.args.self.now c.args.services.now k;
   same = refl;
+  told = told-none g.W.Watch.notes c.args.watch.now;
 }
 
 pub returns-in-Err-clause-serves : goal.returns-in-Err-clause-serves
@@ -56,6 +58,7 @@ loop-reads-preserved g c = record {
       (subst (λ (o : Option End). Exchanged (Happens g.M.Moments.gives g.W.Watch.notes) (c.loop-reads.moments, c.loop-reads.watch) (c.handle.new.moments, c.handle.new.watch) [] (g.L.Line.traffic c.read.new.self) (g.L.Line.traffic c.handle.new.line) (λ more ts. Handles (Ok o) c.handle.new.self limits channel first (so.read ++ take c.in-Ok.n c.read.new.buffer) (so.exchanged.written ++ more) (so.exchanged.ticks ++ ts) c.handle.new.services)) c.in-Ok-None.field-0-is
       (c.in-Ok-None.ensures.handles limits channel first so.read so.exchanged.written so.exchanged.ticks so.exchanged.holds));
   same = c.in-Ok-None.ensures.failed ∙ (c.in-Ok.ensures.failed ∙ c.loop-reads.invariant.same);
+  told = told-more g.W.Watch.notes c.args.watch.now c.loop-reads.watch c.handle.new.watch c.loop-reads.invariant.told c.in-Ok-None.ensures.told;
 }
 
 pub returns-clause-serves : goal.returns-clause-serves
@@ -64,3 +67,18 @@ returns-clause-serves g c = λ limits channel first k.
 
 pub returns-clause-failed : goal.returns-clause-failed
 returns-clause-failed g c = c.loop-reads.invariant.same
+
+pub returns-in-Err-clause-told : goal.returns-in-Err-clause-told
+returns-in-Err-clause-told g c = c.loop-reads.invariant.told
+
+pub returns-then-n-eq0-clause-told : goal.returns-then-n-eq0-clause-told
+returns-then-n-eq0-clause-told g c = c.loop-reads.invariant.told
+
+pub returns-in-Ok-Some-clause-told : goal.returns-in-Ok-Some-clause-told
+returns-in-Ok-Some-clause-told g c = told-more g.W.Watch.notes c.args.watch.now c.loop-reads.watch c.handle.new.watch c.loop-reads.invariant.told c.in-Ok-Some.ensures.told
+
+pub returns-in-Err-handle-clause-told : goal.returns-in-Err-handle-clause-told
+returns-in-Err-handle-clause-told g c = told-more g.W.Watch.notes c.args.watch.now c.loop-reads.watch c.handle.new.watch c.loop-reads.invariant.told c.in-Err-handle.ensures.told
+
+pub returns-clause-told : goal.returns-clause-told
+returns-clause-told g c = c.loop-reads.invariant.told

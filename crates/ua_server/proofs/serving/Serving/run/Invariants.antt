@@ -1,5 +1,6 @@
 use Rattle.std.proofs.Common.{◌≡◌, ◌<◌, [], length}
 use Rattle.ua_frame.specs.declared.limits.Limits.{Limits}
+use Rattle.ua_server.specs.Happening.{WasTold}
 use Rattle.ua_server.specs.ServingParts.{Keeps}
 use Rattle.ua_server.specs.State.{State}
 use Rattle.std.proofs.Common.{ℕ}
@@ -12,4 +13,5 @@ invariant-loop-reads g l = record {
   so_far : (limits : Limits) (channel : ℕ) (first : State) → Keeps l.fn.self limits channel first [] [] [] l.fn.services
       → Served limits channel first g.M.Moments.gives g.W.Watch.notes (l.fn.moments, l.fn.watch) (g.L.Line.traffic l.fn.line) l._reads (l.moments, l.watch) (g.L.Line.traffic l.line) l.self l.services;
   same : g.L.Line.failures l.line ≡ g.L.Line.failures l.fn.line;
+  told : WasTold g.W.Watch.notes l.fn.watch l.watch;
 }

@@ -2,6 +2,7 @@ use Rattle.std.proofs.Common.{◌≡◌, ◌++◌, ℤ, List, Ok, sym, subst}
 use Rattle.ua_server.specs.Happening.{Happens}
 use Rattle.ua_server.specs.ServingParts.{Met, Steps}
 use Rattle.ua_server.specs.declared.serving.Serving.{Serving}
+use Rattle.ua_server.proofs.Happened.{told-none, told-one}
 use Rattle.ua_server.proofs.Stepped.{steps-quiet, steps-saying, steps-broken}
 use Rattle.ua_server.proofs.serving.Serving.step.Goals as goal
 
@@ -27,3 +28,12 @@ returns-clause-steps g c = λ limits channel first read written given k.
 
 pub returns-clause-progress : goal.returns-clause-progress
 returns-clause-progress g c = c.in-Ok.ensures.progress
+
+pub returns-in-Err-clause-told : goal.returns-in-Err-clause-told
+returns-in-Err-clause-told g c = told-none g.W.Watch.notes c.args.watch.now
+
+pub returns-then-not-answered-clause-told : goal.returns-then-not-answered-clause-told
+returns-then-not-answered-clause-told g c = told-none g.W.Watch.notes c.args.watch.now
+
+pub returns-clause-told : goal.returns-clause-told
+returns-clause-told g c = told-one g.W.Watch.notes c.args.watch.now c.tell.new.watch c.in-Ok.found.2 c.tell.ensures

@@ -34,3 +34,12 @@ returns-clause-turns g c = λ limits channel first read written given k.
 
 pub returns-clause-failed : goal.returns-clause-failed
 returns-clause-failed g c = c.in-Err-say.ensures.failed
+
+pub returns-in-Err-clause-told : goal.returns-in-Err-clause-told
+returns-in-Err-clause-told g c = c.in-Err.ensures.told
+
+pub returns-in-Ok-say-clause-told : goal.returns-in-Ok-say-clause-told
+returns-in-Ok-say-clause-told g c = c.in-Ok.ensures.told
+
+pub returns-clause-told : goal.returns-clause-told
+returns-clause-told g c = c.in-Ok.ensures.told
