@@ -10,6 +10,7 @@ use Rattle.ua_services.specs.declared.response.Response.{Response}
 use Rattle.ua_services.specs.declared.response.Response.TheVariants.{CreateSession}
 use Rattle.ua_texts.specs.Answers.{read_lines, write_lines}
 use Rattle.ua_texts.specs.Replies.{AreAnswers, AreEndpoints, endpoints_in, fault_in, statuses_in, values_in}
+use Rattle.ua_texts.specs.Styles.{plain, plain_endpoints}
 use Rattle.ua_texts.specs.declared.fault.AnswerFault.{AnswerFault}
 use Rattle.ua_texts.specs.declared.fault.AnswerFault.TheVariants.{Service, Unknown, OutOfMemory}
 use Rattle.ua_c.specs.Requests.{AreNoNodes, AreNodeTexts}
@@ -72,9 +73,9 @@ TokenBy body code (Err status) = (IsNoResponse body status × (code ≡ 0)) ⊎ 
 
 -- the lines of the answers in a response to a Read or a Write of nodes, one each, or the lines of the endpoints in one to GetEndpoints, were added
 abbrev pub AddsFor : List NodeId → Response → List ℕ → List ℕ → Type 0
-AddsFor nodes r old new = AreAnswers (values_in r) (length nodes) (read_lines false nodes) old new
-    ⊎ AreAnswers (statuses_in r) (length nodes) (write_lines false nodes) old new
-    ⊎ AreEndpoints (endpoints_in r) old new
+AddsFor nodes r old new = AreAnswers (values_in r) (length nodes) (read_lines (plain false) nodes) old new
+    ⊎ AreAnswers (statuses_in r) (length nodes) (write_lines (plain false) nodes) old new
+    ⊎ AreEndpoints plain_endpoints (endpoints_in r) old new
 
 -- the same, alone, of the nodes that lines name
 pub record AreLinesFor (nodes : List ℕ) (r : Response) (text : List ℕ) : Type 0 where

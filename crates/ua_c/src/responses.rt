@@ -9,7 +9,9 @@ use crate::texts::put;
 use std::alloc::Global;
 use ua_builtin::{NodeId, Octets};
 use ua_services::{Response, ResponseFault, read_response};
-use ua_texts::{AnswerFault, push_endpoints, push_read_answers, push_write_answers};
+use ua_texts::{
+    AnswerFault, EndpointStyle, LineStyle, push_endpoints, push_read_answers, push_write_answers,
+};
 
 /// The response that octets are, or a status.
 fn response_of(alloc: Global, body: &[u8]) -> Result<Response, u32>
@@ -69,9 +71,9 @@ fn push_lines(
     ensures faults { IfErr result (IsRefusedFor (length nodes.now) response.now) }
 {
     match response {
-        Response::Write(_) => push_write_answers(alloc, out, nodes, response, false),
-        Response::GetEndpoints(_) => push_endpoints(out, response),
-        _ => push_read_answers(alloc, out, nodes, response, false),
+        Response::Write(_) => push_write_answers(alloc, out, nodes, response, LineStyle::plain(false)),
+        Response::GetEndpoints(_) => push_endpoints(alloc, out, response, EndpointStyle::plain()),
+        _ => push_read_answers(alloc, out, nodes, response, LineStyle::plain(false)),
     }
 }
 

@@ -20,6 +20,7 @@ use Rattle.ua_services.specs.declared.response.Response.{Response}
 use Rattle.ua_texts.specs.Answers.{read_line, write_line}
 use Rattle.ua_texts.specs.Names.{named_code}
 use Rattle.ua_texts.specs.Replies.{fault_in, statuses_in, values_in}
+use Rattle.ua_texts.specs.Styles.{plain}
 use Rattle.ua_texts.specs.declared.script.ScriptLine.{ScriptLine}
 use Rattle.ua_texts.specs.declared.script.Step.{Step}
 use Rattle.ua_texts.specs.declared.script.Step.TheVariants.{Read, Write, Renew}
@@ -31,14 +32,14 @@ use Rattle.ua_variant.specs.declared.values.DataValue.{DataValue}
 abbrev pub read_told : Bool → NodeId → Option (List DataValue) → Result (List ℕ) LoopFault
 read_told names node None = Err UnknownResponse
 read_told names node (Some []) = Err UnknownResponse
-read_told names node (Some (value ∷ [])) = Ok (read_line names node value)
+read_told names node (Some (value ∷ [])) = Ok (read_line (plain names) node value)
 read_told names node (Some (value ∷ (other ∷ others))) = Err UnknownResponse
 
 -- the line of the one result of a Write to a node
 abbrev pub write_told : Bool → NodeId → Option (List StatusCode) → Result (List ℕ) LoopFault
 write_told names node None = Err UnknownResponse
 write_told names node (Some []) = Err UnknownResponse
-write_told names node (Some (status ∷ [])) = Ok (write_line names node status)
+write_told names node (Some (status ∷ [])) = Ok (write_line (plain names) node status)
 write_told names node (Some (status ∷ (other ∷ others))) = Err UnknownResponse
 
 -- the code of a ServiceFault, where there is one

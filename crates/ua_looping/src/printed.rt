@@ -15,7 +15,7 @@ use ua_exchange::{Reply, Transcript};
 use ua_server::End;
 use ua_services::Response;
 use ua_texts::{
-    AnswerFault, ScriptLine, Step, push_code_as, push_read_answers, push_write_answers,
+    AnswerFault, LineStyle, ScriptLine, Step, push_code_as, push_read_answers, push_write_answers,
 };
 
 /// The place of the first reply to a line: the requests that begin the session have theirs in front
@@ -57,12 +57,13 @@ fn push_step(
 ) -> Result<(), LoopFault>
     ensures { AddsTold (reply_told names (Some step.now) (Some (reply.Response response.now))) result (string_bytes out.old) (string_bytes out.new) }
 {
+    let style = LineStyle::plain(names);
     match step {
         Step::Read { node, .. } => {
-            Ok(push_read_answers(alloc, out, slice::from_ref(node), response, names)?)
+            Ok(push_read_answers(alloc, out, slice::from_ref(node), response, style)?)
         }
         Step::Write { node, .. } => {
-            Ok(push_write_answers(alloc, out, slice::from_ref(node), response, names)?)
+            Ok(push_write_answers(alloc, out, slice::from_ref(node), response, style)?)
         }
         // Never: a renewal asks no request.
         Step::Renew => Err(LoopFault::UnknownResponse),

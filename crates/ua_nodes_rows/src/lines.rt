@@ -9,7 +9,7 @@ use ua_builtin::{NodeId, Octets, StatusCode};
 use ua_services::{Response, ResponseFault, read_response};
 use ua_structures::EndpointDescription;
 use ua_texts::{
-    AnswerFault, push_code_as, push_endpoint_line, push_endpoints, push_read_answers,
+    AnswerFault, EndpointStyle, LineStyle, push_code_as, push_endpoint_line, push_endpoints, push_read_answers,
     push_read_line, push_write_answers, push_write_line,
 };
 use ua_variant::DataValue;
@@ -26,7 +26,7 @@ pub fn read_line(alloc: Global, words: &str) -> Result<String, Fault> {
 
 fn answer_line(alloc: Global, node: &NodeId, answer: &DataValue) -> Result<String, Fault> {
     let mut out = page(alloc);
-    push_read_line(alloc, &mut out, node, answer, false)?;
+    push_read_line(alloc, &mut out, node, answer, LineStyle::plain(false))?;
     Ok(out)
 }
 
@@ -36,7 +36,7 @@ pub fn write_line(alloc: Global, words: &str) -> Result<String, Fault> {
     let code = code_of(code)?;
     let node = NodeId::parse_text(alloc, node)?;
     let mut out = page(alloc);
-    push_write_line(alloc, &mut out, &node, StatusCode { code }, false)?;
+    push_write_line(alloc, &mut out, &node, StatusCode { code }, LineStyle::plain(false))?;
     quoted(alloc, out.as_str())
 }
 
@@ -58,7 +58,7 @@ pub fn endpoint(alloc: Global, words: &str) -> Result<String, Fault> {
 
 fn endpoint_line(alloc: Global, endpoint: &EndpointDescription) -> Result<String, Fault> {
     let mut out = page(alloc);
-    push_endpoint_line(&mut out, endpoint)?;
+    push_endpoint_line(alloc, &mut out, endpoint, EndpointStyle::plain())?;
     Ok(out)
 }
 
@@ -88,10 +88,11 @@ pub fn response_lines(alloc: Global, kind: &str, words: &str) -> Result<String, 
 fn lines_in(alloc: Global, kind: &str, names: &str, response: &Response) -> Result<String, Fault> {
     let nodes = nodes_of(alloc, names)?;
     let mut out = page(alloc);
+    let style = LineStyle::plain(false);
     let printed = match kind {
-        "read-lines" => push_read_answers(alloc, &mut out, nodes.as_slice(), response, false),
-        "write-lines" => push_write_answers(alloc, &mut out, nodes.as_slice(), response, false),
-        _ => push_endpoints(&mut out, response),
+        "read-lines" => push_read_answers(alloc, &mut out, nodes.as_slice(), response, style),
+        "write-lines" => push_write_answers(alloc, &mut out, nodes.as_slice(), response, style),
+        _ => push_endpoints(alloc, &mut out, response, EndpointStyle::plain()),
     };
     told(alloc, out.as_str(), printed)
 }

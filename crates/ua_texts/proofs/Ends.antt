@@ -11,6 +11,11 @@ then_one (Err e) old a b one new h k = tt
 joined : (old a b one two : List ℕ) → one ≡ old ++ a → two ≡ one ++ b → two ≡ old ++ (a ++ b)
 joined old a b one two h k = k ∙ ap (λ t. t ++ b) h ∙ append_assoc old a b
 
+-- a text that grows by what a call adds
+pub then_text : {E : Type 0} (r : Result (Unit {0}) E) (old a b one new : List ℕ) → one ≡ old ++ a → OnOk r (new ≡ one ++ b) → OnOk r (new ≡ old ++ (a ++ b))
+then_text (Ok x) old a b one new h k = joined old a b one new h k
+then_text (Err e) old a b one new h k = tt
+
 on_ok : {E : Type 0} (r : Result (Unit {0}) E) (new one two : List ℕ) → one ≡ two → OnOk r (new ≡ one) → OnOk r (new ≡ two)
 on_ok (Ok x) new one two e h = h ∙ e
 on_ok (Err x) new one two e h = tt

@@ -1,15 +1,20 @@
 -- The lines of answers, as the program prints them.
-use Rattle.std.specs.Prelude.{ℕ, Bool, List, [], ◌∷◌, ◌++◌, Option, Some, None, codes}
+use Rattle.std.specs.Prelude.{ℕ, Bool, true, false, cond, List, [], ◌∷◌, ◌++◌, Option, Some, None, codes}
 use Rattle.std.specs.Fmt.{signed_decimal}
+use Rattle.std.specs.List.{flat_map}
 use Rattle.ua_builtin.specs.NodeText.{node_text}
+use Rattle.ua_builtin.specs.declared.date_time.DateTime.{DateTime}
 use Rattle.ua_builtin.specs.declared.node_id.NodeId.{NodeId}
 use Rattle.ua_builtin.specs.declared.status_code.StatusCode.{StatusCode}
 use Rattle.ua_structures.specs.declared.discovery.EndpointDescription.{EndpointDescription}
+use Rattle.ua_structures.specs.declared.discovery.UserTokenPolicy.{UserTokenPolicy}
 use Rattle.ua_variant.specs.Data.{VariantData}
 use Rattle.ua_variant.specs.declared.values.DataValue.{DataValue}
 use Rattle.ua_texts.specs.Names.{named_code}
 use Rattle.ua_texts.specs.Shown.{shown_string}
 use Rattle.ua_texts.specs.Values.{variant_text}
+use Rattle.ua_texts.specs.declared.style.EndpointStyle.{EndpointStyle}
+use Rattle.ua_texts.specs.declared.style.LineStyle.{LineStyle}
 
 -- the number of a status; one that is not there is Good, 0 (OPC 10000-6, 5.2.2.17)
 abbrev pub number_of : Option StatusCode → ℕ
@@ -25,17 +30,45 @@ value_part (Some v) = codes " " ++ variant_text v
 abbrev pub status_text : Bool → NodeId → ℕ → List ℕ
 status_text names node code = node_text node ++ (codes " " ++ named_code names code)
 
--- the answer to an item of a Read: NODE CODE TYPE VALUE, or NODE CODE where there is no value; where names are wanted, NAME behind CODE
-unfoldable pub read_line : Bool → NodeId → DataValue → List ℕ
-read_line names node answer = status_text names node (number_of answer.status) ++ (value_part answer.value ++ codes "\n")
+-- a timestamp, by its ticks, or `none`
+abbrev pub ticks_text : Option DateTime → List ℕ
+ticks_text None = codes "none"
+ticks_text (Some moment) = signed_decimal moment.ticks
+
+-- the timestamps of an answer, the source's and the server's
+abbrev pub times_text : DataValue → List ℕ
+times_text answer = codes " source " ++ (ticks_text answer.source_timestamp ++ (codes " server " ++ ticks_text answer.server_timestamp))
+
+-- the timestamps, where they are wanted
+abbrev pub times_part : Bool → DataValue → List ℕ
+times_part times answer = cond times (times_text answer) []
+
+-- the answer to an item of a Read: NODE CODE TYPE VALUE, or NODE CODE where there is no value; where names are wanted, NAME behind CODE;
+-- where timestamps are wanted, `source TICKS server TICKS` at the end
+unfoldable pub read_line : LineStyle → NodeId → DataValue → List ℕ
+read_line style node answer =
+    status_text style.names node (number_of answer.status) ++ (value_part answer.value ++ (times_part style.times answer ++ codes "\n"))
 
 -- the answer to an item of a Write: NODE CODE, where names are wanted NODE CODE NAME
-unfoldable pub write_line : Bool → NodeId → StatusCode → List ℕ
-write_line names node status = status_text names node status.code ++ codes "\n"
+unfoldable pub write_line : LineStyle → NodeId → StatusCode → List ℕ
+write_line style node status = status_text style.names node status.code ++ codes "\n"
 
--- an endpoint: URL MODE POLICY, the mode by its number
-unfoldable pub endpoint_line : EndpointDescription → List ℕ
-endpoint_line e = shown_string e.endpoint_url ++ ((codes " " ++ (signed_decimal e.security_mode ++ codes " ")) ++ (shown_string e.security_policy_uri ++ codes "\n"))
+-- a token policy: `  policy ID TYPE`, the type by its number
+unfoldable pub policy_line : UserTokenPolicy → List ℕ
+policy_line p = codes "  policy " ++ (shown_string p.policy_id ++ ((codes " " ++ signed_decimal p.token_type) ++ codes "\n"))
+
+-- the token policies of an endpoint, each in a line, where they are wanted; none where there is no list
+abbrev pub policies_part : Bool → Option (List UserTokenPolicy) → List ℕ
+policies_part wanted None = []
+policies_part wanted (Some policies) = cond wanted (flat_map policy_line policies) []
+
+-- where a server is, and under which security: URL MODE POLICY, the mode by its number
+unfoldable pub address_line : EndpointDescription → List ℕ
+address_line e = shown_string e.endpoint_url ++ ((codes " " ++ (signed_decimal e.security_mode ++ codes " ")) ++ (shown_string e.security_policy_uri ++ codes "\n"))
+
+-- an endpoint: its address, and where its token policies are wanted, these behind it
+unfoldable pub endpoint_line : EndpointStyle → EndpointDescription → List ℕ
+endpoint_line style e = address_line e ++ policies_part style.policies e.user_identity_tokens
 
 -- ---- several answers
 
@@ -46,9 +79,9 @@ pairs_text f (x ∷ xs) [] = []
 pairs_text f (x ∷ xs) (y ∷ ys) = f x y ++ pairs_text f xs ys
 
 -- the answers to the items of a Read of these nodes
-abbrev pub read_lines : Bool → List NodeId → List DataValue → List ℕ
-read_lines names nodes answers = pairs_text (read_line names) nodes answers
+abbrev pub read_lines : LineStyle → List NodeId → List DataValue → List ℕ
+read_lines style nodes answers = pairs_text (read_line style) nodes answers
 
 -- the answers to the items of a Write to these nodes
-abbrev pub write_lines : Bool → List NodeId → List StatusCode → List ℕ
-write_lines names nodes answers = pairs_text (write_line names) nodes answers
+abbrev pub write_lines : LineStyle → List NodeId → List StatusCode → List ℕ
+write_lines style nodes answers = pairs_text (write_line style) nodes answers

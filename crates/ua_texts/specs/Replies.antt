@@ -9,6 +9,7 @@ use Rattle.ua_variant.specs.declared.values.DataValue.{DataValue}
 use Rattle.ua_texts.specs.Answers.{endpoint_line}
 use Rattle.ua_texts.specs.declared.fault.AnswerFault.{AnswerFault}
 use Rattle.ua_texts.specs.declared.fault.AnswerFault.TheVariants.{Service, Unknown, OutOfMemory}
+use Rattle.ua_texts.specs.declared.style.EndpointStyle.{EndpointStyle}
 
 -- ---- what a response has
 
@@ -54,15 +55,15 @@ Leaves old new Unknown = new ≡ old
 Leaves old new OutOfMemory = Unit {0}
 
 -- the lines of the list, none where it is null
-abbrev pub endpoint_lines : Option (List EndpointDescription) → List ℕ
-endpoint_lines None = []
-endpoint_lines (Some endpoints) = flat_map endpoint_line endpoints
+abbrev pub endpoint_lines : EndpointStyle → Option (List EndpointDescription) → List ℕ
+endpoint_lines style None = []
+endpoint_lines style (Some endpoints) = flat_map (endpoint_line style) endpoints
 
 -- there is a list, and its lines were added
-pub record AreEndpoints (list : Option (Option (List EndpointDescription))) (old new : List ℕ) : Type 0 where
+pub record AreEndpoints (style : EndpointStyle) (list : Option (Option (List EndpointDescription))) (old new : List ℕ) : Type 0 where
   pub each : Option (List EndpointDescription)
   pub given : list ≡ Some each
-  pub added : new ≡ old ++ endpoint_lines each
+  pub added : new ≡ old ++ endpoint_lines style each
 
 -- why no endpoints were printed: the service failed, or it was another one
 abbrev pub NoEndpoints : Response → AnswerFault → Type 0

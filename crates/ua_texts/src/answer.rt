@@ -1,38 +1,42 @@
 //! The lines of answers.
 
 ghost use Rattle.std.specs.Prelude.{◌≡◌, ◌++◌, codes, string_bytes, OnOk};
+ghost use Rattle.std.specs.List.{flat_map};
 ghost use Rattle.ua_builtin.specs.NodeText.{node_text};
-ghost use Rattle.ua_texts.specs.Answers.{endpoint_line, number_of, read_line, status_text, value_part, write_line};
+ghost use Rattle.ua_texts.specs.Answers.{address_line, endpoint_line, number_of, policies_part, policy_line, read_line, status_text, ticks_text, times_part, times_text, value_part, write_line};
 ghost use Rattle.ua_texts.specs.Names.{named_code};
 
 use crate::names::push_code_as;
+use crate::style::{EndpointStyle, LineStyle};
 use crate::text::push_string;
 use crate::value::push_variant;
 use std::alloc::{AllocError, Global};
 use std::fmt::Write;
-use ua_builtin::{NodeId, StatusCode};
-use ua_structures::EndpointDescription;
+use ua_builtin::{DateTime, NodeId, StatusCode};
+use ua_structures::{EndpointDescription, UaArray, UserTokenPolicy};
 use ua_variant::{DataValue, HeldVariant};
 
 /// Adds the answer to an item of a Read: `NODE CODE TYPE VALUE`, or `NODE CODE` where there is no
-/// value. Where names are wanted, the code's name stands behind it.
+/// value. Where names are wanted, the code's name stands behind it; where timestamps are wanted,
+/// `source TICKS server TICKS` stands at the end, with `none` for one that is not there.
 pub fn push_read_line(
     alloc: Global,
     out: &mut String,
     node: &NodeId,
     answer: &DataValue,
-    names: bool,
+    style: LineStyle,
 ) -> Result<(), AllocError>
-    ensures { OnOk result (string_bytes out.new ≡ string_bytes out.old ++ read_line names node.now answer.now) }
+    ensures { OnOk result (string_bytes out.new ≡ string_bytes out.old ++ read_line style node.now answer.now) }
 {
     push_status(
         alloc,
         out,
         node,
         answer.status.unwrap_or(StatusCode::GOOD),
-        names,
+        style.names,
     )?;
     push_value_part(alloc, out, &answer.value)?;
+    push_times_part(out, answer, style.times)?;
     out.push_str("\n")
 }
 
@@ -43,11 +47,11 @@ pub fn push_write_line(
     out: &mut String,
     node: &NodeId,
     status: StatusCode,
-    names: bool,
+    style: LineStyle,
 ) -> Result<(), AllocError>
-    ensures { OnOk result (string_bytes out.new ≡ string_bytes out.old ++ write_line names node.now status) }
+    ensures { OnOk result (string_bytes out.new ≡ string_bytes out.old ++ write_line style node.now status) }
 {
-    push_status(alloc, out, node, status, names)?;
+    push_status(alloc, out, node, status, style.names)?;
     out.push_str("\n")
 }
 
@@ -84,15 +88,91 @@ fn push_value_part(
     }
 }
 
-/// Adds an endpoint: `URL MODE POLICY`, the mode by its number.
+/// Adds the timestamps of an answer, where they are wanted.
+fn push_times_part(out: &mut String, answer: &DataValue, times: bool) -> Result<(), AllocError>
+    ensures { OnOk result (string_bytes out.new ≡ string_bytes out.old ++ times_part times answer.now) }
+{
+    if times {
+        push_times(out, answer)
+    } else {
+        Ok(())
+    }
+}
+
+/// Adds the timestamps of an answer.
+fn push_times(out: &mut String, answer: &DataValue) -> Result<(), AllocError>
+    ensures { OnOk result (string_bytes out.new ≡ string_bytes out.old ++ times_text answer.now) }
+{
+    out.push_str(" source ")?;
+    push_ticks(out, answer.source_timestamp)?;
+    out.push_str(" server ")?;
+    push_ticks(out, answer.server_timestamp)
+}
+
+/// Adds a timestamp by its ticks, or `none`.
+fn push_ticks(out: &mut String, moment: Option<DateTime>) -> Result<(), AllocError>
+    ensures { OnOk result (string_bytes out.new ≡ string_bytes out.old ++ ticks_text moment) }
+{
+    match moment {
+        Some(moment) => write!(out, "{}", moment.ticks),
+        None => out.push_str("none"),
+    }
+}
+
+/// Adds an endpoint: `URL MODE POLICY`, the mode by its number. Where token policies are wanted, each
+/// stands in a line behind it: `  policy ID TYPE`, the type by its number.
 pub fn push_endpoint_line(
+    alloc: Global,
     out: &mut String,
     endpoint: &EndpointDescription,
+    style: EndpointStyle,
 ) -> Result<(), AllocError>
-    ensures { OnOk result (string_bytes out.new ≡ string_bytes out.old ++ endpoint_line endpoint.now) }
+    ensures { OnOk result (string_bytes out.new ≡ string_bytes out.old ++ endpoint_line style endpoint.now) }
+{
+    push_address(out, endpoint)?;
+    push_policies_part(out, &endpoint.user_identity_tokens, style.policies)
+}
+
+/// Adds where a server is, and under which security.
+fn push_address(out: &mut String, endpoint: &EndpointDescription) -> Result<(), AllocError>
+    ensures { OnOk result (string_bytes out.new ≡ string_bytes out.old ++ address_line endpoint.now) }
 {
     push_string(out, &endpoint.endpoint_url)?;
     write!(out, " {} ", endpoint.security_mode)?;
     push_string(out, &endpoint.security_policy_uri)?;
+    out.push_str("\n")
+}
+
+/// Adds the token policies of an endpoint, where they are wanted.
+fn push_policies_part(
+    out: &mut String,
+    policies: &UaArray<UserTokenPolicy>,
+    wanted: bool,
+) -> Result<(), AllocError>
+    ensures { OnOk result (string_bytes out.new ≡ string_bytes out.old ++ policies_part wanted policies.now) }
+{
+    match policies.as_items() {
+        Some(policies) if wanted => push_policies(out, policies),
+        _ => Ok(()),
+    }
+}
+
+/// Adds token policies, each in a line.
+fn push_policies(out: &mut String, policies: &[UserTokenPolicy]) -> Result<(), AllocError>
+    ensures { OnOk result (string_bytes out.new ≡ string_bytes out.old ++ flat_map policy_line policies.now) }
+{
+    for policy in policies {
+        push_policy(out, policy)?;
+    }
+    Ok(())
+}
+
+/// Adds a token policy.
+fn push_policy(out: &mut String, policy: &UserTokenPolicy) -> Result<(), AllocError>
+    ensures { OnOk result (string_bytes out.new ≡ string_bytes out.old ++ policy_line policy.now) }
+{
+    out.push_str("  policy ")?;
+    push_string(out, &policy.policy_id)?;
+    write!(out, " {}", policy.token_type)?;
     out.push_str("\n")
 }

@@ -7,7 +7,7 @@
 //! ```
 //! let steps = parse_script(alloc, "write\tns=1;s=Pump\tInt32\t6\nread\tns=1;s=Pump\n")?;
 //! let mut out = String::new(alloc);
-//! push_read_line(alloc, &mut out, &node, &answer, false)?; // `ns=1;s=Pump 00000000 Int32 6`
+//! push_read_line(alloc, &mut out, &node, &answer, LineStyle::plain(false))?; // `ns=1;s=Pump 00000000 Int32 6`
 //! ```
 #![tactic(auto)]
 
@@ -16,6 +16,7 @@ mod fault;
 mod names;
 mod reply;
 mod script;
+mod style;
 mod text;
 mod value;
 
@@ -24,5 +25,6 @@ pub use fault::{AnswerFault, ScriptFault};
 pub use names::{code_name, push_code_as};
 pub use reply::{push_endpoints, push_read_answers, push_write_answers};
 pub use script::{ScriptLine, Step, parse_script};
+pub use style::{EndpointStyle, LineStyle};
 pub use text::{push_code, push_string};
 pub use value::{push_variant, type_name};

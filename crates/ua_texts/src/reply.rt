@@ -7,22 +7,22 @@ ghost use Rattle.ua_texts.specs.Replies.{AreAnswers, AreEndpoints, Leaves, NoAns
 
 use crate::answer::{push_endpoint_line, push_read_line, push_write_line};
 use crate::fault::AnswerFault;
+use crate::style::{EndpointStyle, LineStyle};
 use std::alloc::{AllocError, Global};
 use ua_builtin::{NodeId, StatusCode};
 use ua_services::Response;
 use ua_structures::EndpointDescription;
 use ua_variant::DataValue;
 
-/// Adds the lines of the answers to a Read of these nodes, in their order, with the names of status
-/// codes where they are wanted.
+/// Adds the lines of the answers to a Read of these nodes, in their order, in this style.
 pub fn push_read_answers(
     alloc: Global,
     out: &mut String,
     nodes: &[NodeId],
     response: &Response,
-    names: bool,
+    style: LineStyle,
 ) -> Result<(), AnswerFault>
-    ensures lines { OnOk result (AreAnswers (values_in response.now) (length nodes.now) (read_lines names nodes.now) (string_bytes out.old) (string_bytes out.new)) }
+    ensures lines { OnOk result (AreAnswers (values_in response.now) (length nodes.now) (read_lines style nodes.now) (string_bytes out.old) (string_bytes out.new)) }
     ensures faults { IfErr result (NoAnswers (values_in response.now) (length nodes.now) response.now) }
     ensures kept { IfErr result (Leaves (string_bytes out.old) (string_bytes out.new)) }
 {
@@ -35,7 +35,7 @@ pub fn push_read_answers(
     };
     match answers {
         Some(answers) if answers.len() == nodes.len() => {
-            Ok(push_read_lines(alloc, out, nodes, answers, names)?)
+            Ok(push_read_lines(alloc, out, nodes, answers, style)?)
         }
         _ => Err(AnswerFault::Unknown),
     }
@@ -46,27 +46,26 @@ fn push_read_lines(
     out: &mut String,
     nodes: &[NodeId],
     answers: &[DataValue],
-    names: bool,
+    style: LineStyle,
 ) -> Result<(), AllocError>
     requires { length answers.now ≡ length nodes.now }
-    ensures { OnOk result (string_bytes out.new ≡ string_bytes out.old ++ read_lines names nodes.now answers.now) }
+    ensures { OnOk result (string_bytes out.new ≡ string_bytes out.old ++ read_lines style nodes.now answers.now) }
 {
     for (index, answer) in answers.iter().enumerate() {
-        push_read_line(alloc, out, &nodes[index], answer, names)?;
+        push_read_line(alloc, out, &nodes[index], answer, style)?;
     }
     Ok(())
 }
 
-/// Adds the lines of the answers to a Write to these nodes, in their order, with the names of status
-/// codes where they are wanted.
+/// Adds the lines of the answers to a Write to these nodes, in their order, in this style.
 pub fn push_write_answers(
     alloc: Global,
     out: &mut String,
     nodes: &[NodeId],
     response: &Response,
-    names: bool,
+    style: LineStyle,
 ) -> Result<(), AnswerFault>
-    ensures lines { OnOk result (AreAnswers (statuses_in response.now) (length nodes.now) (write_lines names nodes.now) (string_bytes out.old) (string_bytes out.new)) }
+    ensures lines { OnOk result (AreAnswers (statuses_in response.now) (length nodes.now) (write_lines style nodes.now) (string_bytes out.old) (string_bytes out.new)) }
     ensures faults { IfErr result (NoAnswers (statuses_in response.now) (length nodes.now) response.now) }
     ensures kept { IfErr result (Leaves (string_bytes out.old) (string_bytes out.new)) }
 {
@@ -79,7 +78,7 @@ pub fn push_write_answers(
     };
     match answers {
         Some(answers) if answers.len() == nodes.len() => {
-            Ok(push_write_lines(alloc, out, nodes, answers, names)?)
+            Ok(push_write_lines(alloc, out, nodes, answers, style)?)
         }
         _ => Err(AnswerFault::Unknown),
     }
@@ -90,27 +89,32 @@ fn push_write_lines(
     out: &mut String,
     nodes: &[NodeId],
     answers: &[StatusCode],
-    names: bool,
+    style: LineStyle,
 ) -> Result<(), AllocError>
     requires { length answers.now ≡ length nodes.now }
-    ensures { OnOk result (string_bytes out.new ≡ string_bytes out.old ++ write_lines names nodes.now answers.now) }
+    ensures { OnOk result (string_bytes out.new ≡ string_bytes out.old ++ write_lines style nodes.now answers.now) }
 {
     for (index, status) in answers.iter().enumerate() {
-        push_write_line(alloc, out, &nodes[index], *status, names)?;
+        push_write_line(alloc, out, &nodes[index], *status, style)?;
     }
     Ok(())
 }
 
 /// Adds the lines of the endpoints of a response to GetEndpoints; none where there is no list.
-pub fn push_endpoints(out: &mut String, response: &Response) -> Result<(), AnswerFault>
-    ensures lines { OnOk result (AreEndpoints (endpoints_in response.now) (string_bytes out.old) (string_bytes out.new)) }
+pub fn push_endpoints(
+    alloc: Global,
+    out: &mut String,
+    response: &Response,
+    style: EndpointStyle,
+) -> Result<(), AnswerFault>
+    ensures lines { OnOk result (AreEndpoints style (endpoints_in response.now) (string_bytes out.old) (string_bytes out.new)) }
     ensures faults { IfErr result (NoEndpoints response.now) }
     ensures kept { IfErr result (Leaves (string_bytes out.old) (string_bytes out.new)) }
 {
     match response {
         Response::GetEndpoints(message) => {
             let endpoints = message.endpoints.as_items().unwrap_or(&[]);
-            Ok(push_endpoint_lines(out, endpoints)?)
+            Ok(push_endpoint_lines(alloc, out, endpoints, style)?)
         }
         Response::ServiceFault(fault) => {
             Err(AnswerFault::Service(fault.response_header.service_result))
@@ -120,13 +124,15 @@ pub fn push_endpoints(out: &mut String, response: &Response) -> Result<(), Answe
 }
 
 fn push_endpoint_lines(
+    alloc: Global,
     out: &mut String,
     endpoints: &[EndpointDescription],
+    style: EndpointStyle,
 ) -> Result<(), AllocError>
-    ensures { OnOk result (string_bytes out.new ≡ string_bytes out.old ++ flat_map endpoint_line endpoints.now) }
+    ensures { OnOk result (string_bytes out.new ≡ string_bytes out.old ++ flat_map (endpoint_line style) endpoints.now) }
 {
     for endpoint in endpoints {
-        push_endpoint_line(out, endpoint)?;
+        push_endpoint_line(alloc, out, endpoint, style)?;
     }
     Ok(())
 }

@@ -4,4 +4,4 @@ use Rattle.ua_texts.proofs.reply.push_read_lines.Given as goal
 
 -- the lines so far were added
 abbrev pub invariant-loop-index : goal.invariant-loop-index
-invariant-loop-index l = string_bytes l.out ≡ string_bytes l.fn.out ++ read_lines l.names (take l.index l.nodes) (take l.index l.answers)
+invariant-loop-index l = string_bytes l.out ≡ string_bytes l.fn.out ++ read_lines l.style (take l.index l.nodes) (take l.index l.answers)

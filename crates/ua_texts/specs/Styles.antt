@@ -1,0 +1,12 @@
+-- How lines are written.
+use Rattle.std.specs.Prelude.{Bool, false}
+use Rattle.ua_texts.specs.declared.style.EndpointStyle.{EndpointStyle}
+use Rattle.ua_texts.specs.declared.style.LineStyle.{LineStyle}
+
+-- lines of fields with a blank between, without timestamps
+abbrev pub plain : Bool → LineStyle
+plain names = record { names = names; times = false; json = false }
+
+-- the same of endpoints, without token policies
+abbrev pub plain_endpoints : EndpointStyle
+plain_endpoints = record { policies = false; json = false }
