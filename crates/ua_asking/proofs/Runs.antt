@@ -8,6 +8,7 @@ use Rattle.ua_client.specs.declared.client.Client.{Client}
 use Rattle.ua_client.specs.declared.reply.Reply.{Reply}
 use Rattle.ua_texts.specs.Answers.{read_lines, write_lines}
 use Rattle.ua_texts.specs.Replies.{endpoint_lines}
+use Rattle.ua_texts.specs.Styles.{plain, plain_endpoints}
 use Rattle.ua_asking.specs.Printed.{AddsAnswers, AddsLines, OfEndpoints, OfRead, OfWrite}
 use Rattle.ua_asking.specs.Question.{PrintsAnswers}
 use Rattle.ua_asking.specs.Replies.{PrintsEndpoints}
@@ -53,7 +54,7 @@ none_prints names fault result had have is same = subst (λ (r : Done). Prints n
 -- ---- of endpoints
 
 endpoints_print : (called : Result Reply AskFault) (result : Done) (had have : List ℕ) → PrintsEndpoints had have called result → Prints false result had have
-endpoints_print (Ok reply) (Ok done) had have h = record { text = endpoint_lines h.each; lines = OfEndpoints h.each; added = h.added }
+endpoints_print (Ok reply) (Ok done) had have h = record { text = endpoint_lines plain_endpoints h.each; lines = OfEndpoints h.each; added = h.added }
 endpoints_print (Ok reply) (Err fault) had have h = inl h.0
 endpoints_print (Err fault) result had have h = none_prints false fault result had have h.1 h.0
 
@@ -67,8 +68,8 @@ endpoints_answer called printed closed result had have prints is = prints_answer
 -- ---- of a question
 
 answers_print : (names : Bool) (question : Question) (called : Result Reply AskFault) (result : Done) (had have : List ℕ) → PrintsAnswers names question had have called result → Prints names result had have
-answers_print names (Read nodes) (Ok reply) (Ok done) had have h = record { text = read_lines names nodes.items h.each; lines = OfRead nodes.items h.each h.many; added = h.added }
-answers_print names (Write node value) (Ok reply) (Ok done) had have h = record { text = write_lines names (node ∷ []) h.each; lines = OfWrite (node ∷ []) h.each h.many; added = h.added }
+answers_print names (Read nodes) (Ok reply) (Ok done) had have h = record { text = read_lines (plain names) nodes.items h.each; lines = OfRead nodes.items h.each h.many; added = h.added }
+answers_print names (Write node value) (Ok reply) (Ok done) had have h = record { text = write_lines (plain names) (node ∷ []) h.each; lines = OfWrite (node ∷ []) h.each h.many; added = h.added }
 answers_print names question (Ok reply) (Err fault) had have h = inl h.0
 answers_print names question (Err fault) result had have h = none_prints names fault result had have h.1 h.0
 

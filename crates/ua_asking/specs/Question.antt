@@ -12,6 +12,7 @@ use Rattle.ua_structures.specs.declared.attribute.ReadValueId.{ReadValueId}
 use Rattle.ua_structures.specs.declared.attribute.WriteValue.{WriteValue}
 use Rattle.ua_texts.specs.Answers.{read_lines, write_lines}
 use Rattle.ua_texts.specs.Replies.{AreAnswers, statuses_in, values_in}
+use Rattle.ua_texts.specs.Styles.{plain}
 use Rattle.ua_variant.specs.View.{variant_of}
 use Rattle.ua_variant.specs.declared.values.DataValue.{DataValue}
 use Rattle.ua_variant.specs.declared.values.Variant.{Variant}
@@ -49,8 +50,8 @@ statuses_of (Aborted code) = None
 
 -- a reply has as many results as a question has items, and their lines were added, with the names of status codes where they are wanted
 abbrev pub AnswersQuestion : Bool → Question → Reply → List ℕ → List ℕ → Type 0
-AnswersQuestion names (Read nodes) reply had have = AreAnswers (values_of reply) (length nodes.items) (read_lines names nodes.items) had have
-AnswersQuestion names (Write node value) reply had have = AreAnswers (statuses_of reply) 1 (write_lines names (node ∷ [])) had have
+AnswersQuestion names (Read nodes) reply had have = AreAnswers (values_of reply) (length nodes.items) (read_lines (plain names) nodes.items) had have
+AnswersQuestion names (Write node value) reply had have = AreAnswers (statuses_of reply) 1 (write_lines (plain names) (node ∷ [])) had have
 
 -- a reply has no such results, or another number of them
 abbrev pub AnswersNothing : Question → Reply → Type 0

@@ -7,6 +7,7 @@ use Rattle.ua_client.specs.declared.reply.Reply.TheVariants.{Response as Respond
 use Rattle.ua_services.specs.declared.response.Response.{Response}
 use Rattle.ua_structures.specs.declared.discovery.EndpointDescription.{EndpointDescription}
 use Rattle.ua_texts.specs.Replies.{AreEndpoints, endpoints_in, fault_in}
+use Rattle.ua_texts.specs.Styles.{plain_endpoints}
 use Rattle.ua_asking.specs.declared.fault.AskFault.{AskFault}
 use Rattle.ua_asking.specs.declared.fault.AskFault.TheVariants.{Service, Connection, NoMemory}
 
@@ -48,6 +49,6 @@ Expects (Err fault) result = result ≡ Err fault
 
 -- the lines of the endpoints in a reply are added, or none, and why not is told
 abbrev pub PrintsEndpoints : List ℕ → List ℕ → Result Reply AskFault → Result (Unit {0}) AskFault → Type 0
-PrintsEndpoints had have (Ok reply) (Ok done) = AreEndpoints (endpoints_of reply) had have
+PrintsEndpoints had have (Ok reply) (Ok done) = AreEndpoints plain_endpoints (endpoints_of reply) had have
 PrintsEndpoints had have (Ok reply) (Err fault) = (have ≡ had) × IsRefusedBy (endpoints_of reply ≡ None) reply fault
 PrintsEndpoints had have (Err fault) result = (have ≡ had) × (result ≡ Err fault)

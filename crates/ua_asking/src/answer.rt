@@ -7,7 +7,7 @@ use crate::fault::AskFault;
 use std::alloc::Global;
 use ua_client::Reply;
 use ua_services::Response;
-use ua_texts::push_endpoints;
+use ua_texts::{EndpointStyle, push_endpoints};
 
 /// The response that a reply is. That the server gave its answer up is a fault.
 pub fn response_of(called: Result<Reply, AskFault>) -> Result<Response, AskFault>
@@ -30,7 +30,7 @@ pub fn print_endpoints(
 {
     let response = response_of(called)?;
     let mut lines = String::new(alloc);
-    let pushed = push_endpoints(&mut lines, &response);
+    let pushed = push_endpoints(alloc, &mut lines, &response, EndpointStyle::plain());
     drop(response);
     pushed?;
     Ok(out.push_str(&lines)?)

@@ -14,7 +14,7 @@ use ua_builtin::{DateTime, NodeId, UaString};
 use ua_client::Reply;
 use ua_requests::{read_item, read_request, write_item, write_request};
 use ua_services::{ReadValueId, Request, Response, WriteValue};
-use ua_texts::{AnswerFault, push_read_answers, push_write_answers};
+use ua_texts::{AnswerFault, LineStyle, push_read_answers, push_write_answers};
 use ua_variant::Variant;
 
 /// What is asked in a session.
@@ -80,10 +80,11 @@ impl Question {
         ensures lines { OnOk result (AnswersQuestion names self.now (Responds response.now) (string_bytes out.old) (string_bytes out.new)) }
         ensures faults { IfErr result (λ fault. IsRefusedBy (AnswersNothing self.now (Responds response.now)) (Responds response.now) (of_answer fault)) }
     {
+        let style = LineStyle::plain(names);
         match self {
-            Question::Read(nodes) => push_read_answers(alloc, out, nodes, response, names),
+            Question::Read(nodes) => push_read_answers(alloc, out, nodes, response, style),
             Question::Write(node, _) => {
-                push_write_answers(alloc, out, slice::from_ref(node), response, names)
+                push_write_answers(alloc, out, slice::from_ref(node), response, style)
             }
         }
     }
