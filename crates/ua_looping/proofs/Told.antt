@@ -1,12 +1,12 @@
 -- What is told of replies, one at a time.
-use Rattle.std.proofs.Common.{◌≡◌, ◌≢◌, ℕ, Bool, zero, suc, ◌+◌, ◌<◌, ◌≤◌, List, [], ◌∷◌, ◌++◌, Option, Some, None, Result, Ok, Err, length, get_or, drop, map, refl, sym, ◌∙◌, ap, subst, inl, inr, arith, append-nil, append_assoc, drop-cons}
-use Rattle.std.specs.List.{slice_get}
+use Rattle.std.proofs.Common.{◌≡◌, ◌≢◌, ℕ, Bool, ◌||◌, zero, suc, ◌+◌, ◌<◌, ◌≤◌, List, [], ◌∷◌, ◌++◌, Option, Some, None, Result, Ok, Err, length, get_or, drop, map, refl, sym, ◌∙◌, ap, subst, inl, inr, arith, append-nil, append_assoc, drop-cons}
+use Rattle.std.specs.List.{list_any, slice_get}
 use Rattle.std.proofs.lemmas.List.{drop_all}
 use Rattle.ua_builtin.specs.declared.node_id.NodeId.{NodeId}
 use Rattle.ua_builtin.specs.declared.status_code.StatusCode.{StatusCode}
 use Rattle.ua_exchange.specs.declared.reply.Reply.{Reply}
 use Rattle.ua_looping.specs.Faults.{of_answer}
-use Rattle.ua_looping.specs.Printed.{AddsAll, AddsTold, asked_behind, asked_by, asked_for, fault_of, read_told, replies_told, reply_told, text_of, unless_failed, write_told}
+use Rattle.ua_looping.specs.Printed.{AddsAll, AddsTold, asked_behind, asked_by, asked_for, fault_of, is_bad_reply, is_bad_told, read_told, replies_told, reply_told, text_of, unless_failed, write_told}
 use Rattle.ua_looping.specs.declared.fault.LoopFault.{LoopFault}
 use Rattle.ua_looping.specs.declared.fault.LoopFault.TheVariants.{UnknownResponse}
 use Rattle.ua_services.specs.declared.response.Response.{Response}
@@ -221,3 +221,9 @@ module _ (names : Bool) (lines : List ScriptLine) (replies : List Reply) (totals
     pub whole-all : (have now : List ℕ) → AddsAll (replies_told names (asked_behind lines) (drop 2 (map Some replies))) (Ok tt) had have → now ≡ have ++ totals
         → AddsAll (replies_told names (asked_for lines) (map Some replies) ++ Ok totals ∷ []) (Ok tt) had now
     whole-all have now all added = behind_both (Ok tt) now (all-append others (Ok totals ∷ []) (Ok tt) had have now all (all-last (Ok totals) (Ok tt) have now (totals, refl, added)))
+
+-- ---- bad codes
+
+pub any_told : (replies : List Reply) → list_any is_bad_reply replies ≡ list_any is_bad_told (map Some replies)
+any_told [] = refl
+any_told (reply ∷ replies) = ap (λ (b : Bool). is_bad_reply reply || b) (any_told replies)

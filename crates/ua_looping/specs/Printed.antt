@@ -1,7 +1,7 @@
 -- What is printed of the replies to a script.
-use Rattle.std.specs.Prelude.{◌≡◌, ◌⊎◌, ℕ, Bool, length, List, [], ◌∷◌, ◌++◌, map, Option, Some, None, Result, Ok, Err, codes}
+use Rattle.std.specs.Prelude.{◌≡◌, ◌⊎◌, ℕ, Bool, false, length, List, [], ◌∷◌, ◌++◌, map, Option, Some, None, Result, Ok, Err, codes}
 use Rattle.std.specs.Fmt.{decimal}
-use Rattle.std.specs.List.{filter_map}
+use Rattle.std.specs.List.{filter_map, list_any}
 use Rattle.ua_builtin.specs.declared.node_id.NodeId.{NodeId}
 use Rattle.ua_builtin.specs.declared.status_code.StatusCode.{StatusCode}
 use Rattle.ua_exchange.specs.Exchanged.{down_octets}
@@ -19,7 +19,7 @@ use Rattle.ua_server.specs.declared.step.End.TheVariants.{Closed, NoClose, Cut, 
 use Rattle.ua_services.specs.declared.response.Response.{Response}
 use Rattle.ua_texts.specs.Answers.{read_line, write_line}
 use Rattle.ua_texts.specs.Names.{named_code}
-use Rattle.ua_texts.specs.Replies.{fault_in, statuses_in, values_in}
+use Rattle.ua_texts.specs.Replies.{fault_in, has_bad, statuses_in, values_in}
 use Rattle.ua_texts.specs.Styles.{plain}
 use Rattle.ua_texts.specs.declared.script.ScriptLine.{ScriptLine}
 use Rattle.ua_texts.specs.declared.script.Step.{Step}
@@ -85,6 +85,22 @@ abbrev pub replies_told : Bool → List (Option Step) → List (Option Reply) �
 replies_told names [] replies = []
 replies_told names (step ∷ steps) [] = reply_told names step None ∷ replies_told names steps []
 replies_told names (step ∷ steps) (reply ∷ replies) = reply_told names step reply ∷ replies_told names steps replies
+
+-- ---- bad codes
+
+-- a reply has a result whose code is bad; one that the server gave up has none
+abbrev pub is_bad_reply : Reply → Bool
+is_bad_reply (Responds response) = has_bad response
+is_bad_reply (Aborted code) = false
+
+-- the same of a reply, if there is one
+abbrev pub is_bad_told : Option Reply → Bool
+is_bad_told None = false
+is_bad_told (Some reply) = is_bad_reply reply
+
+-- any reply to a script that is run over these nodes has a result whose code is bad
+abbrev pub script_has_bad : Nodes → List ScriptLine → Bool
+script_has_bad nodes lines = list_any is_bad_told (turns_replies (begun_over nodes) script_moment (script_turns lines))
 
 -- ---- how a connection ended
 

@@ -1,12 +1,13 @@
 //! A script that is run over nodes.
 
 ghost use Rattle.std.specs.Prelude.{◌≡◌, string_bytes, IfOk, IfErr};
+ghost use Rattle.std.specs.List.{list_any};
 ghost use Rattle.ua_exchange.specs.Accepted.{AreAccepted};
 ghost use Rattle.ua_exchange.specs.Exchanged.{IsRefusedFor, down_octets};
 ghost use Rattle.ua_exchange.specs.Turns.{up_octets};
 ghost use Rattle.ua_looping.specs.Conversed.{Converses};
 ghost use Rattle.ua_looping.specs.Faults.{Stops, place_in};
-ghost use Rattle.ua_looping.specs.Printed.{AreLoopLines, fault_of, script_told, text_of};
+ghost use Rattle.ua_looping.specs.Printed.{AreLoopLines, fault_of, is_bad_reply, script_has_bad, script_told, text_of};
 ghost use Rattle.ua_looping.specs.Script.{script_moment, script_turns as turns_of_script};
 ghost use Rattle.ua_nodes.specs.Sound.{IsSound};
 
@@ -14,9 +15,9 @@ use crate::fault::LoopFault;
 use crate::printed::push_transcript;
 use crate::script::{MOMENT, script_turns};
 use std::alloc::Global;
-use ua_exchange::{PairFault, Transcript, exchange};
+use ua_exchange::{PairFault, Reply, Transcript, exchange};
 use ua_nodes::NodeTable;
-use ua_texts::ScriptLine;
+use ua_texts::{ScriptLine, has_bad_code};
 
 /// How many turns stand in front of those of the lines: they begin the session.
 const OPENING_TURNS: usize = 2;
@@ -33,6 +34,9 @@ pub struct Looped {
     pub text: String,
     /// The first fault among the replies, if there is one.
     pub fault: Option<LoopFault>,
+    /// Whether any reply has a result with a bad code. Where there is no fault, each such result is
+    /// printed.
+    pub has_bad: bool,
 }
 
 /// The place of the turn that is blamed.
@@ -80,6 +84,28 @@ fn converse(
     }
 }
 
+/// Whether a reply has a result with a bad code.
+fn is_bad(reply: &Reply) -> bool
+    ensures { result ≡ is_bad_reply reply.now }
+{
+    match reply {
+        Reply::Response(response) => has_bad_code(response),
+        Reply::Aborted(_) => false,
+    }
+}
+
+/// Whether any of the replies has.
+fn are_bad(replies: &[Reply]) -> bool
+    ensures { result ≡ list_any is_bad_reply replies.now }
+{
+    for reply in replies {
+        if is_bad(reply) {
+            return true;
+        }
+    }
+    false
+}
+
 /// Lets a client ask what the lines of a script ask for of a server over these nodes, within one
 /// session, and gives what went over the line each way and what is printed of the replies. No clause
 /// mentions the cut: all is the same for each one.
@@ -103,6 +129,7 @@ pub fn run_lines(
     ensures text { IfOk result (λ l. string_bytes l.text ≡ text_of (script_told names nodes lines.now)) }
     ensures fault { IfOk result (λ l. l.fault ≡ fault_of (script_told names nodes lines.now)) }
     ensures lines { IfOk result (λ l. AreLoopLines names (string_bytes l.text)) }
+    ensures bad { IfOk result (λ l. l.has_bad ≡ script_has_bad nodes lines.now) }
 {
     let transcript = converse(alloc, nodes, lines, cut)?;
     let mut text = String::new(alloc);
@@ -111,11 +138,13 @@ pub fn run_lines(
         Err(LoopFault::NoMemory) => return Err(LoopFault::NoMemory),
         Err(fault) => Some(fault),
     };
+    let has_bad = are_bad(&transcript.replies);
     let Transcript { up, down, .. } = transcript;
     Ok(Looped {
         up,
         down,
         text,
         fault,
+        has_bad,
     })
 }

@@ -1,6 +1,8 @@
 -- What responses are printed as.
-use Rattle.std.specs.Prelude.{◌≡◌, ◌≢◌, ℕ, List, [], ◌++◌, length, Option, Some, None}
-use Rattle.std.specs.List.{flat_map}
+use Rattle.std.specs.Prelude.{◌≡◌, ◌≢◌, ℕ, Bool, false, List, [], ◌++◌, length, Option, Some, None}
+use Rattle.std.specs.List.{flat_map, list_any}
+use Rattle.std.specs.Option.{unwrap_or}
+use Rattle.ua_builtin.specs.Status.{is_bad, of_code}
 use Rattle.ua_builtin.specs.declared.status_code.StatusCode.{StatusCode}
 use Rattle.ua_services.specs.declared.response.Response.{Response}
 use Rattle.ua_services.specs.declared.response.Response.TheVariants.{GetEndpoints, Read, Write, ServiceFault}
@@ -32,6 +34,23 @@ endpoints_in m = None
 abbrev pub fault_in : Response → Option StatusCode
 fault_in (ServiceFault m) = Some m.response_header.service_result
 fault_in m = None
+
+-- ---- bad codes
+
+-- an answer to an item of a Read has a bad code; one without a code is Good
+abbrev pub is_bad_value : DataValue → Bool
+is_bad_value answer = is_bad (unwrap_or answer.status (of_code 0))
+
+-- any of them passes, where there are some
+abbrev pub any_in : {A : Type 0} → (A → Bool) → Option (List A) → Bool
+any_in test None = false
+any_in test (Some items) = list_any test items
+
+-- any result of a Read or a Write has a bad code
+abbrev pub has_bad : Response → Bool
+has_bad (Read m) = any_in is_bad_value m.results
+has_bad (Write m) = any_in is_bad m.results
+has_bad m = false
 
 -- ---- what is printed
 

@@ -23,7 +23,7 @@ mod value;
 pub use answer::{push_endpoint_line, push_read_line, push_write_line};
 pub use fault::{AnswerFault, ScriptFault};
 pub use names::{code_name, push_code_as};
-pub use reply::{push_endpoints, push_read_answers, push_write_answers};
+pub use reply::{has_bad_code, push_endpoints, push_read_answers, push_write_answers};
 pub use script::{ScriptLine, Step, parse_script};
 pub use style::{EndpointStyle, LineStyle};
 pub use text::{push_code, push_string};

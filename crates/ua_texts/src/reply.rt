@@ -1,9 +1,10 @@
 //! What the responses to requests are printed as.
 
 ghost use Rattle.std.specs.Prelude.{◌≡◌, ◌++◌, length, string_bytes, IfErr, OnOk};
-ghost use Rattle.std.specs.List.{flat_map};
+ghost use Rattle.std.specs.List.{flat_map, list_any};
+ghost use Rattle.ua_builtin.specs.Status.{is_bad};
 ghost use Rattle.ua_texts.specs.Answers.{endpoint_line, read_lines, write_lines};
-ghost use Rattle.ua_texts.specs.Replies.{AreAnswers, AreEndpoints, Leaves, NoAnswers, NoEndpoints, endpoints_in, statuses_in, values_in};
+ghost use Rattle.ua_texts.specs.Replies.{AreAnswers, AreEndpoints, Leaves, NoAnswers, NoEndpoints, endpoints_in, has_bad, is_bad_value, statuses_in, values_in};
 
 use crate::answer::{push_endpoint_line, push_read_line, push_write_line};
 use crate::fault::AnswerFault;
@@ -13,6 +14,40 @@ use ua_builtin::{NodeId, StatusCode};
 use ua_services::Response;
 use ua_structures::EndpointDescription;
 use ua_variant::DataValue;
+
+/// Whether any result of a Read or a Write has a bad code: one whose top bit is set. An answer without
+/// a code is Good, and no other response has results.
+pub fn has_bad_code(response: &Response) -> bool
+    ensures { result ≡ has_bad response.now }
+{
+    match response {
+        Response::Read(message) => has_bad_value(message.results.as_items().unwrap_or(&[])),
+        Response::Write(message) => has_bad_status(message.results.as_items().unwrap_or(&[])),
+        _ => false,
+    }
+}
+
+fn has_bad_value(answers: &[DataValue]) -> bool
+    ensures { result ≡ list_any is_bad_value answers.now }
+{
+    for answer in answers {
+        if answer.status.unwrap_or(StatusCode::GOOD).is_bad() {
+            return true;
+        }
+    }
+    false
+}
+
+fn has_bad_status(statuses: &[StatusCode]) -> bool
+    ensures { result ≡ list_any is_bad statuses.now }
+{
+    for status in statuses {
+        if status.is_bad() {
+            return true;
+        }
+    }
+    false
+}
 
 /// Adds the lines of the answers to a Read of these nodes, in their order, in this style.
 pub fn push_read_answers(

@@ -1,3 +1,7 @@
+use Rattle.std.proofs.Common.{◌∙◌, ap}
+use Rattle.std.specs.List.{list_any}
+use Rattle.ua_looping.specs.Printed.{is_bad_reply, is_bad_told}
+use Rattle.ua_looping.proofs.Told.{any_told}
 use Rattle.ua_looping.proofs.looped.run_lines.Goals as goal
 
 pub returns-clause-up : goal.returns-clause-up
@@ -5,3 +9,6 @@ returns-clause-up c = c.in_ok-transcript.ensures.up_is
 
 pub returns-clause-down : goal.returns-clause-down
 returns-clause-down c = c.in_ok-transcript.ensures.down_is
+
+pub returns-clause-bad : goal.returns-clause-bad
+returns-clause-bad c = c.are_bad.ensures ∙ ap (list_any is_bad_reply) c.deref.ensures.value ∙ any_told _ ∙ ap (list_any is_bad_told) c.in_ok-transcript.ensures.replies_are
