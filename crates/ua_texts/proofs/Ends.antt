@@ -1,7 +1,7 @@
 -- Texts that grow by one part after the other.
 use Rattle.std.specs.Option.{unwrap_or}
 use Rattle.ua_builtin.specs.declared.status_code.StatusCode.{StatusCode}
-use Rattle.ua_texts.specs.Answers.{number_of}
+use Rattle.ua_texts.specs.Names.{number_of}
 use Rattle.std.proofs.Common.{◌≡◌, ℕ, List, ◌++◌, Option, Some, None, Result, Ok, Err, OnOk, is_ok, if◌then◌else◌, refl, ◌∙◌, ap, append_assoc}
 
 pub then_one : {E : Type 0} (r : Result (Unit {0}) E) (old a b one new : List ℕ) → one ≡ old ++ a → new ≡ (if is_ok r then one ++ b else one) → OnOk r (new ≡ old ++ (a ++ b))

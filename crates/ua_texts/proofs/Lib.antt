@@ -4,3 +4,4 @@ mod Ends
 mod Rows
 mod Steps
 mod Scripts
+mod Tokens

@@ -7,6 +7,8 @@ use Rattle.ua_variant.specs.View.{many_of, row, row_list, variant_of}
 use Rattle.ua_variant.specs.declared.values.Variant.{Variant}
 use Rattle.ua_variant.specs.declared.values.Variant.TheVariants.{Many}
 use Rattle.ua_texts.specs.Answers.{pairs_text}
+use Rattle.ua_texts.specs.Json.{array_fields, variant_fields}
+use Rattle.ua_texts.specs.Tokens.{fields_tokens}
 use Rattle.ua_texts.specs.Values.{array_text, parted, item_text, items_text, scalar_text, typed_text}
 
 -- ---- elements
@@ -19,7 +21,7 @@ parted_more (first ∷ texts) text =
     ∙ sym (append_assoc first (flat_map (λ (t : List ℕ). 44 ∷ t) texts) (44 ∷ text))
 
 -- the elements up to a place, and the one there
-take_next : {A : Type 0} (xs : List A) (n : ℕ) (x : A) → slice_get xs n ≡ Some x → take (suc n) xs ≡ take n xs ++ x ∷ []
+pub take_next : {A : Type 0} (xs : List A) (n : ℕ) (x : A) → slice_get xs n ≡ Some x → take (suc n) xs ≡ take n xs ++ x ∷ []
 take_next [] n x e = absurd cc
 take_next (y ∷ ys) zero x e = let same : y ≡ x = cc in ap (λ t. t ∷ []) same
 take_next (y ∷ ys) (suc n) x e = ap (λ t. y ∷ t) (take_next ys n x e)
@@ -53,7 +55,15 @@ array_typed k (Some ss) ds = ap (λ (t : List ScalarData). array_text k (Some t)
 pub typed_of : (value : Variant) (k : ℕ) (items : Option (List ScalarData)) (ds : List ℤ) → value ≡ Many k items ds → typed_text (variant_of value) ≡ array_text k items
 typed_of value k items ds e = ap (λ (v : Variant). typed_text (variant_of v)) e ∙ array_typed k items ds
 
-get_map : {A B : Type 0} (f : A → B) (xs : List A) (n : ℕ) → slice_get (map f xs) n ≡ option_map f (slice_get xs n)
+array_fielded : (k : ℕ) (items : Option (List ScalarData)) (ds : List ℤ) → variant_fields (many_of k items ds) ≡ array_fields k items ds
+array_fielded k None ds = refl
+array_fielded k (Some ss) ds = ap (λ (t : List ScalarData). array_fields k (Some t) ds) (row_list_row ss)
+
+pub fields_of : (value : Variant) (k : ℕ) (items : Option (List ScalarData)) (ds : List ℤ) → value ≡ Many k items ds
+    → fields_tokens (variant_fields (variant_of value)) ≡ fields_tokens (array_fields k items ds)
+fields_of value k items ds e = ap (λ (v : Variant). fields_tokens (variant_fields (variant_of v))) e ∙ ap fields_tokens (array_fielded k items ds)
+
+pub get_map : {A B : Type 0} (f : A → B) (xs : List A) (n : ℕ) → slice_get (map f xs) n ≡ option_map f (slice_get xs n)
 get_map f [] n = refl
 get_map f (x ∷ xs) zero = refl
 get_map f (x ∷ xs) (suc n) = get_map f xs n

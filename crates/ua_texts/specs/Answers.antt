@@ -10,16 +10,12 @@ use Rattle.ua_structures.specs.declared.discovery.EndpointDescription.{EndpointD
 use Rattle.ua_structures.specs.declared.discovery.UserTokenPolicy.{UserTokenPolicy}
 use Rattle.ua_variant.specs.Data.{VariantData}
 use Rattle.ua_variant.specs.declared.values.DataValue.{DataValue}
-use Rattle.ua_texts.specs.Names.{named_code}
+use Rattle.ua_texts.specs.Json.{endpoint_json, json_line, read_json, write_json}
+use Rattle.ua_texts.specs.Names.{named_code, number_of}
 use Rattle.ua_texts.specs.Shown.{shown_string}
 use Rattle.ua_texts.specs.Values.{variant_text}
 use Rattle.ua_texts.specs.declared.style.EndpointStyle.{EndpointStyle}
 use Rattle.ua_texts.specs.declared.style.LineStyle.{LineStyle}
-
--- the number of a status; one that is not there is Good, 0 (OPC 10000-6, 5.2.2.17)
-abbrev pub number_of : Option StatusCode → ℕ
-number_of None = 0
-number_of (Some status) = status.code
 
 -- a value behind a space, where there is one
 abbrev pub value_part : Option VariantData → List ℕ
@@ -45,13 +41,21 @@ times_part times answer = cond times (times_text answer) []
 
 -- the answer to an item of a Read: NODE CODE TYPE VALUE, or NODE CODE where there is no value; where names are wanted, NAME behind CODE;
 -- where timestamps are wanted, `source TICKS server TICKS` at the end
-unfoldable pub read_line : LineStyle → NodeId → DataValue → List ℕ
-read_line style node answer =
+unfoldable pub plain_read : LineStyle → NodeId → DataValue → List ℕ
+plain_read style node answer =
     status_text style.names node (number_of answer.status) ++ (value_part answer.value ++ (times_part style.times answer ++ codes "\n"))
 
+-- the same as an object of JSON, where this is wanted
+unfoldable pub read_line : LineStyle → NodeId → DataValue → List ℕ
+read_line style node answer = cond style.json (json_line (read_json style node answer)) (plain_read style node answer)
+
 -- the answer to an item of a Write: NODE CODE, where names are wanted NODE CODE NAME
+unfoldable pub plain_write : LineStyle → NodeId → StatusCode → List ℕ
+plain_write style node status = status_text style.names node status.code ++ codes "\n"
+
+-- the same as an object of JSON, where this is wanted
 unfoldable pub write_line : LineStyle → NodeId → StatusCode → List ℕ
-write_line style node status = status_text style.names node status.code ++ codes "\n"
+write_line style node status = cond style.json (json_line (write_json style node status)) (plain_write style node status)
 
 -- a token policy: `  policy ID TYPE`, the type by its number
 unfoldable pub policy_line : UserTokenPolicy → List ℕ
@@ -67,8 +71,12 @@ unfoldable pub address_line : EndpointDescription → List ℕ
 address_line e = shown_string e.endpoint_url ++ ((codes " " ++ (signed_decimal e.security_mode ++ codes " ")) ++ (shown_string e.security_policy_uri ++ codes "\n"))
 
 -- an endpoint: its address, and where its token policies are wanted, these behind it
+unfoldable pub plain_endpoint : EndpointStyle → EndpointDescription → List ℕ
+plain_endpoint style e = address_line e ++ policies_part style.policies e.user_identity_tokens
+
+-- the same as an object of JSON, where this is wanted
 unfoldable pub endpoint_line : EndpointStyle → EndpointDescription → List ℕ
-endpoint_line style e = address_line e ++ policies_part style.policies e.user_identity_tokens
+endpoint_line style e = cond style.json (json_line (endpoint_json style e)) (plain_endpoint style e)
 
 -- ---- several answers
 

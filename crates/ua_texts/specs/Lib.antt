@@ -2,6 +2,8 @@ pub mod Shown
 pub mod Names
 pub mod Values
 pub mod Styles
+pub mod Json
+pub mod Tokens
 pub mod Answers
 pub mod Replies
 pub mod StepFault

@@ -1,6 +1,12 @@
 -- The standard's names of status codes.
 use Rattle.std.specs.Prelude.{ℕ, Bool, true, false, cond, nat_eq, List, [], ◌++◌, Option, Some, None, codes}
+use Rattle.ua_builtin.specs.declared.status_code.StatusCode.{StatusCode}
 use Rattle.ua_texts.specs.Shown.{code_text}
+
+-- the number of a status; one that is not there is Good, 0 (OPC 10000-6, 5.2.2.17)
+abbrev pub number_of : Option StatusCode → ℕ
+number_of None = 0
+number_of (Some status) = status.code
 
 -- the name of a code (OPC 10000-6, A.2), of those that are a constant of StatusCode; no other code has one here, also none that differs from
 -- one of these in its lower 16 bits alone

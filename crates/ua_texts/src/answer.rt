@@ -3,10 +3,11 @@
 ghost use Rattle.std.specs.Prelude.{◌≡◌, ◌++◌, codes, string_bytes, OnOk};
 ghost use Rattle.std.specs.List.{flat_map};
 ghost use Rattle.ua_builtin.specs.NodeText.{node_text};
-ghost use Rattle.ua_texts.specs.Answers.{address_line, endpoint_line, number_of, policies_part, policy_line, read_line, status_text, ticks_text, times_part, times_text, value_part, write_line};
-ghost use Rattle.ua_texts.specs.Names.{named_code};
+ghost use Rattle.ua_texts.specs.Answers.{address_line, endpoint_line, plain_endpoint, plain_read, plain_write, policies_part, policy_line, read_line, status_text, ticks_text, times_part, times_text, value_part, write_line};
+ghost use Rattle.ua_texts.specs.Names.{named_code, number_of};
 
 use crate::names::push_code_as;
+use crate::object::{push_endpoint_json, push_read_json, push_write_json};
 use crate::style::{EndpointStyle, LineStyle};
 use crate::text::push_string;
 use crate::value::push_variant;
@@ -18,7 +19,9 @@ use ua_variant::{DataValue, HeldVariant};
 
 /// Adds the answer to an item of a Read: `NODE CODE TYPE VALUE`, or `NODE CODE` where there is no
 /// value. Where names are wanted, the code's name stands behind it; where timestamps are wanted,
-/// `source TICKS server TICKS` stands at the end, with `none` for one that is not there.
+/// `source TICKS server TICKS` stands at the end, with `none` for one that is not there. Where JSON is
+/// wanted, the line is an object of JSON with the same parts.
+#[tactic(auto, unfolding(crate::specs::Answers::read_line))]
 pub fn push_read_line(
     alloc: Global,
     out: &mut String,
@@ -27,6 +30,22 @@ pub fn push_read_line(
     style: LineStyle,
 ) -> Result<(), AllocError>
     ensures { OnOk result (string_bytes out.new ≡ string_bytes out.old ++ read_line style node.now answer.now) }
+{
+    if style.json {
+        push_read_json(alloc, out, node, answer, style)
+    } else {
+        push_plain_read(alloc, out, node, answer, style)
+    }
+}
+
+fn push_plain_read(
+    alloc: Global,
+    out: &mut String,
+    node: &NodeId,
+    answer: &DataValue,
+    style: LineStyle,
+) -> Result<(), AllocError>
+    ensures { OnOk result (string_bytes out.new ≡ string_bytes out.old ++ plain_read style node.now answer.now) }
 {
     push_status(
         alloc,
@@ -41,7 +60,8 @@ pub fn push_read_line(
 }
 
 /// Adds the answer to an item of a Write: `NODE CODE`. Where names are wanted, the code's name stands
-/// behind it.
+/// behind it. Where JSON is wanted, the line is an object of JSON with the same parts.
+#[tactic(auto, unfolding(crate::specs::Answers::write_line))]
 pub fn push_write_line(
     alloc: Global,
     out: &mut String,
@@ -50,6 +70,22 @@ pub fn push_write_line(
     style: LineStyle,
 ) -> Result<(), AllocError>
     ensures { OnOk result (string_bytes out.new ≡ string_bytes out.old ++ write_line style node.now status) }
+{
+    if style.json {
+        push_write_json(alloc, out, node, status, style)
+    } else {
+        push_plain_write(alloc, out, node, status, style)
+    }
+}
+
+fn push_plain_write(
+    alloc: Global,
+    out: &mut String,
+    node: &NodeId,
+    status: StatusCode,
+    style: LineStyle,
+) -> Result<(), AllocError>
+    ensures { OnOk result (string_bytes out.new ≡ string_bytes out.old ++ plain_write style node.now status) }
 {
     push_status(alloc, out, node, status, style.names)?;
     out.push_str("\n")
@@ -120,7 +156,9 @@ fn push_ticks(out: &mut String, moment: Option<DateTime>) -> Result<(), AllocErr
 }
 
 /// Adds an endpoint: `URL MODE POLICY`, the mode by its number. Where token policies are wanted, each
-/// stands in a line behind it: `  policy ID TYPE`, the type by its number.
+/// stands in a line behind it: `  policy ID TYPE`, the type by its number. Where JSON is wanted, the
+/// line is an object of JSON with the same parts.
+#[tactic(auto, unfolding(crate::specs::Answers::endpoint_line))]
 pub fn push_endpoint_line(
     alloc: Global,
     out: &mut String,
@@ -128,6 +166,20 @@ pub fn push_endpoint_line(
     style: EndpointStyle,
 ) -> Result<(), AllocError>
     ensures { OnOk result (string_bytes out.new ≡ string_bytes out.old ++ endpoint_line style endpoint.now) }
+{
+    if style.json {
+        push_endpoint_json(alloc, out, endpoint, style)
+    } else {
+        push_plain_endpoint(out, endpoint, style)
+    }
+}
+
+fn push_plain_endpoint(
+    out: &mut String,
+    endpoint: &EndpointDescription,
+    style: EndpointStyle,
+) -> Result<(), AllocError>
+    ensures { OnOk result (string_bytes out.new ≡ string_bytes out.old ++ plain_endpoint style endpoint.now) }
 {
     push_address(out, endpoint)?;
     push_policies_part(out, &endpoint.user_identity_tokens, style.policies)

@@ -14,6 +14,7 @@
 mod answer;
 mod fault;
 mod names;
+mod object;
 mod reply;
 mod script;
 mod style;

@@ -1,0 +1,90 @@
+-- What is put into a writer of JSON, step by step.
+use Rattle.std.proofs.Common.{◌≡◌, ℕ, suc, ◌+◌, List, [], ◌∷◌, ◌++◌, map, take, slice_get, option_map, Some, Result, Ok, Err, OnOk, codes, refl, sym, ap, ◌∙◌, arith, append-nil, append_assoc}
+use Rattle.std.specs.List.{flat_map}
+use Rattle.std.proofs.lemmas.Grind.{flat_map-append}
+use Rattle.json.specs.Json.{Json}
+use Rattle.json.specs.Print.{print}
+use Rattle.json.specs.Token.{Token}
+use Rattle.json.specs.Token as token
+use Rattle.json.specs.Tree.{items_tokens, json_tokens, members_tokens}
+use Rattle.json.specs.Written.{Writes, Written}
+use Rattle.ua_texts.specs.Json.{Field, array, items_of, json_line, members_of, object}
+use Rattle.ua_texts.specs.Tokens.{Puts, element_tokens, fields_tokens}
+use Rattle.ua_texts.proofs.Rows.{get_map, take_next}
+use Rattle.ua_variant.specs.Data.{ScalarData}
+
+-- ---- objects and arrays
+
+members_are : (fields : List Field) → members_tokens (members_of fields) ≡ fields_tokens fields ++ token.end_object ∷ []
+members_are [] = refl
+members_are (field ∷ fields) =
+    ap (λ (t : List Token). token.key field.0 ∷ t) (ap (λ (t : List Token). json_tokens field.1 ++ t) (members_are fields) ∙ sym (append_assoc (json_tokens field.1) (fields_tokens fields) (token.end_object ∷ [])))
+
+pub object_is : (fields : List Field) → json_tokens (object fields) ≡ token.begin_object ∷ (fields_tokens fields ++ token.end_object ∷ [])
+object_is fields = ap (λ (t : List Token). token.begin_object ∷ t) (members_are fields)
+
+items_are : {A : Type 0} (f : A → Json) (xs : List A) → items_tokens (items_of (map f xs)) ≡ flat_map (λ x. json_tokens (f x)) xs ++ token.end_array ∷ []
+items_are f [] = refl
+items_are f (x ∷ xs) =
+    ap (λ (t : List Token). json_tokens (f x) ++ t) (items_are f xs) ∙ sym (append_assoc (json_tokens (f x)) (flat_map (λ y. json_tokens (f y)) xs) (token.end_array ∷ []))
+
+pub array_is : {A : Type 0} (f : A → Json) (xs : List A) → json_tokens (array (map f xs)) ≡ token.begin_array ∷ (flat_map (λ x. json_tokens (f x)) xs ++ token.end_array ∷ [])
+array_is f xs = ap (λ (t : List Token). token.begin_array ∷ t) (items_are f xs)
+
+pub fields-append : (a b : List Field) → fields_tokens (a ++ b) ≡ fields_tokens a ++ fields_tokens b
+fields-append [] b = refl
+fields-append (field ∷ a) b =
+    ap (λ (t : List Token). token.key field.0 ∷ t) (ap (λ (t : List Token). json_tokens field.1 ++ t) (fields-append a b) ∙ sym (append_assoc (json_tokens field.1) (fields_tokens a) (fields_tokens b)))
+
+-- ---- what was put
+
+-- these tokens were put
+abbrev pub Put : Written → Written → List Token → Type 0
+Put old new tokens = (new.before ≡ old.before) × (new.tokens ≡ old.tokens ++ tokens)
+
+-- nothing was put
+pub put_none : (old : Written) → Put old old []
+put_none old = (refl, sym (append-nil old.tokens))
+
+-- one token was put
+pub put_one : {E : Type 0} {x : Unit {0}} {old new : Written} {t : Token} → Writes {E = E} (Ok x) old new t → Put old new (t ∷ [])
+put_one w = (w.room.0, w.ok)
+
+pub put_then : {a b c : Written} {ts us : List Token} → Put a b ts → Put b c us → Put a c (ts ++ us)
+put_then {a = a} {ts = ts} {us = us} p q = (q.0 ∙ p.0, q.1 ∙ ap (λ (t : List Token). t ++ us) p.1 ∙ append_assoc a.tokens ts us)
+
+-- one token is put at last
+pub one_last : {E : Type 0} {r : Result (Unit {0}) E} {old new : Written} {t : Token} → Writes r old new t → Puts r old new (t ∷ [])
+one_last {r = Ok x} w = (w.room.0, w.ok)
+one_last {r = Err e} w = tt
+
+pub then_last : {E : Type 0} {r : Result (Unit {0}) E} {a b c : Written} {ts us : List Token} → Put a b ts → Puts r b c us → Puts r a c (ts ++ us)
+then_last {r = Ok x} p q = put_then p q
+then_last {r = Err e} p q = tt
+
+-- the same tokens by another name
+pub puts_as : {E : Type 0} {r : Result (Unit {0}) E} {old new : Written} {ts us : List Token} → ts ≡ us → Puts r old new ts → Puts r old new us
+puts_as {r = Ok x} {old = old} is p = (p.0, p.1 ∙ ap (λ (t : List Token). old.tokens ++ t) is)
+puts_as {r = Err e} is p = tt
+
+pub put_as : {old new : Written} {ts us : List Token} → ts ≡ us → Put old new ts → Put old new us
+put_as {old = old} is p = (p.0, p.1 ∙ ap (λ (t : List Token). old.tokens ++ t) is)
+
+pub puts_nil : {E : Type 0} {r : Result (Unit {0}) E} {old new : Written} {ts : List Token} → Puts r old new ts → Puts r old new (ts ++ [])
+puts_nil {ts = ts} p = puts_as (sym (append-nil ts)) p
+
+-- the line of the object of these fields
+pub line_is : {E : Type 0} {r : Result (Unit {0}) E} {old new : List ℕ} {tokens : List Token} (fields : List Field) → tokens ≡ token.begin_object ∷ fields_tokens fields
+    → OnOk r (new ≡ old ++ (print (tokens ++ token.end_object ∷ []) ++ codes "\n")) → OnOk r (new ≡ old ++ json_line (object fields))
+unfolding json_line
+line_is {r = Ok x} {old = old} fields is h =
+    h ∙ ap (λ (t : List Token). old ++ (print t ++ codes "\n")) (ap (λ (t : List Token). t ++ token.end_object ∷ []) is ∙ sym (object_is fields))
+line_is {r = Err e} fields is h = tt
+
+-- the elements up to the next place were put
+pub elements_next : {A : Type 0} (f : A → ScalarData) (xs : List A) (n : ℕ) (s : ScalarData) {old now new : Written} → Some s ≡ option_map f (slice_get xs n)
+    → Put old now (flat_map element_tokens (take n (map f xs))) → Put now new (element_tokens s) → Put old new (flat_map element_tokens (take (n + 1) (map f xs)))
+elements_next f xs n s e p q =
+    let next : n + 1 ≡ suc n = omega arith in
+    let more = ap (flat_map element_tokens) (take_next (map f xs) n s (get_map f xs n ∙ sym e)) ∙ flat_map-append element_tokens (take n (map f xs)) (s ∷ []) ∙ ap (λ (t : List Token). flat_map element_tokens (take n (map f xs)) ++ t) (append-nil (element_tokens s)) in
+    put_as (sym more ∙ ap (λ (m : ℕ). flat_map element_tokens (take m (map f xs))) (sym next)) (put_then p q)

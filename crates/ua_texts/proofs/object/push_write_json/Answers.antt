@@ -1,0 +1,12 @@
+use Rattle.std.proofs.Common.{◌≡◌, ◌∙◌, List, ℕ, ◌∷◌, ◌++◌, ap, refl, sym}
+use Rattle.json.specs.Token.{Token, begin_object}
+use Rattle.ua_texts.specs.Json.{status_fields, write_json}
+use Rattle.ua_texts.specs.Tokens.{fields_tokens}
+use Rattle.ua_texts.proofs.Tokens.{line_is}
+use Rattle.ua_texts.proofs.object.push_write_json.Goals as goal
+
+pub returns : goal.returns
+unfolding write_json
+returns c =
+    let status = status_fields c.args.style.names c.args.node.now c.args.status.code in
+    line_is status (c.in_ok-put_status.ensures.1 ∙ ap (λ (t : List Token). t ++ fields_tokens status) c.in_ok-line.ensures.1) c.end_line.ensures
