@@ -5,14 +5,14 @@ ghost use Rattle.ua_fields.specs.Tree.{line};
 
 use crate::lines::{Lines, Place, push_line, push_start};
 use crate::null::{is_empty, is_null_name, is_null_object, is_null_text};
-use crate::text::{push_base64, push_encoded, push_node, push_pattern};
+use crate::text::{push_encoded_line, push_node};
 use std::alloc::{AllocError, Global};
 use std::fmt::Write;
 use ua_builtin::{
     DateTime, DoubleBits, ExtensionObject, LocalizedText, NodeId, QualifiedName, StatusCode,
     UaBytes, UaString,
 };
-use ua_texts::{push_code_as, push_string, push_variant};
+use ua_texts::{push_base64, push_code_as, push_string, push_variant, push_wide_pattern};
 use ua_variant::{DiagnosticInfo, HeldVariant};
 
 /// A value whose text is shown where it is there.
@@ -178,7 +178,7 @@ impl Lines for DoubleBits {
         place: Place<'_>,
     ) -> Result<(), AllocError> {
         push_start(out, place)?;
-        push_pattern(out, self.bits)?;
+        push_wide_pattern(out, self.bits)?;
         out.push_str("\n")
     }
 }
@@ -278,7 +278,7 @@ impl Lines for QualifiedName {
         out: &mut String,
         place: Place<'_>,
     ) -> Result<(), AllocError> {
-        push_encoded(alloc, out, place, is_null_name(self), self)
+        push_encoded_line(alloc, out, place, is_null_name(self), self)
     }
 }
 
@@ -293,7 +293,7 @@ impl Lines for LocalizedText {
         out: &mut String,
         place: Place<'_>,
     ) -> Result<(), AllocError> {
-        push_encoded(alloc, out, place, is_null_text(self), self)
+        push_encoded_line(alloc, out, place, is_null_text(self), self)
     }
 }
 
@@ -308,7 +308,7 @@ impl Lines for ExtensionObject {
         out: &mut String,
         place: Place<'_>,
     ) -> Result<(), AllocError> {
-        push_encoded(alloc, out, place, is_null_object(self), self)
+        push_encoded_line(alloc, out, place, is_null_object(self), self)
     }
 }
 
@@ -323,6 +323,6 @@ impl Lines for DiagnosticInfo {
         out: &mut String,
         place: Place<'_>,
     ) -> Result<(), AllocError> {
-        push_encoded(alloc, out, place, is_empty(self), self)
+        push_encoded_line(alloc, out, place, is_empty(self), self)
     }
 }

@@ -57,7 +57,7 @@ pub(crate) fn push_pattern(out: &mut String, bits: u32) -> Result<(), AllocError
 }
 
 /// Adds a pattern of 64 bits: `0x` and sixteen hexadecimal digits.
-pub(crate) fn push_wide_pattern(out: &mut String, bits: u64) -> Result<(), AllocError>
+pub fn push_wide_pattern(out: &mut String, bits: u64) -> Result<(), AllocError>
     ensures { OnOk result (string_bytes out.new ≡ string_bytes out.old ++ pattern_text 16 bits) }
 {
     write!(out, "0x{bits:016x}")
@@ -72,7 +72,7 @@ pub(crate) fn push_guid(out: &mut String, guid: &Guid) -> Result<(), AllocError>
 }
 
 /// Adds a ByteString in base64, null as `null`.
-pub(crate) fn push_base64(out: &mut String, octets: &UaBytes) -> Result<(), AllocError>
+pub fn push_base64(out: &mut String, octets: &UaBytes) -> Result<(), AllocError>
     ensures { OnOk result (string_bytes out.new ≡ string_bytes out.old ++ base64_text octets.now) }
 {
     match octets.as_octets() {
@@ -83,7 +83,7 @@ pub(crate) fn push_base64(out: &mut String, octets: &UaBytes) -> Result<(), Allo
 
 /// Adds the octets of a value's canonical encoding, as `0x` and two hexadecimal digits of each, or
 /// `unwritable` where it has none.
-pub(crate) fn push_encoded<T: Wire>(
+pub fn push_encoded<T: Wire>(
     alloc: Global,
     out: &mut String,
     value: &T,
