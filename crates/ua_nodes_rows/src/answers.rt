@@ -2,7 +2,7 @@
 
 use crate::fault::Fault;
 use crate::items::{read, values, write};
-use crate::lines::{endpoint, named_code, read_line, response_lines, write_line};
+use crate::lines::{bad_results, endpoint, named_code, read_line, response_lines, write_line};
 use crate::node_table::{State, insert, load, moment, node, nodes};
 use crate::requests::{ask, url};
 use crate::scripts::script;
@@ -59,6 +59,7 @@ fn text_answer(alloc: Global, kind: &str, words: &str) -> Result<String, Fault> 
         "write-line" => write_line(alloc, words),
         "named" => named_code(alloc, words),
         "endpoint" => endpoint(alloc, words),
+        "bad-results" => bad_results(alloc, words),
         "read-lines" | "write-lines" | "endpoint-lines" => response_lines(alloc, kind, words),
         _ => use_answer(alloc, kind, words),
     }

@@ -2,41 +2,57 @@
 
 use crate::fault::Fault;
 use crate::octets::{octets_of, value_in};
-use crate::shown::{page, quoted};
+use crate::shown::{named, page, quoted};
 use crate::words::{code_of, cut, nodes_of};
 use std::alloc::Global;
 use ua_builtin::{NodeId, Octets, StatusCode};
 use ua_services::{Response, ResponseFault, read_response};
 use ua_structures::EndpointDescription;
 use ua_texts::{
-    AnswerFault, EndpointStyle, LineStyle, push_code_as, push_endpoint_line, push_endpoints, push_read_answers,
-    push_read_line, push_write_answers, push_write_line,
+    AnswerFault, EndpointStyle, LineStyle, has_bad_code, push_code_as, push_endpoint_line,
+    push_endpoints, push_read_answers, push_read_line, push_write_answers, push_write_line,
 };
 use ua_variant::DataValue;
 
-/// The line of the answer to an item of a Read.
+/// The style that a word names.
+fn style_of(word: &str) -> LineStyle {
+    LineStyle {
+        names: word.contains("names"),
+        times: word.contains("times"),
+        json: word.contains("json"),
+    }
+}
+
+/// The line of the answer to an item of a Read, in the style of the first word.
 pub fn read_line(alloc: Global, words: &str) -> Result<String, Fault> {
+    let (style, words) = cut(words)?;
     let (node, words) = cut(words)?;
     let node = NodeId::parse_text(alloc, node)?;
     let answer = value_in::<DataValue>(alloc, words)?;
-    let line = answer_line(alloc, &node, &answer);
+    let line = answer_line(alloc, &node, &answer, style_of(style));
     drop(answer);
     quoted(alloc, line?.as_str())
 }
 
-fn answer_line(alloc: Global, node: &NodeId, answer: &DataValue) -> Result<String, Fault> {
+fn answer_line(
+    alloc: Global,
+    node: &NodeId,
+    answer: &DataValue,
+    style: LineStyle,
+) -> Result<String, Fault> {
     let mut out = page(alloc);
-    push_read_line(alloc, &mut out, node, answer, LineStyle::plain(false))?;
+    push_read_line(alloc, &mut out, node, answer, style)?;
     Ok(out)
 }
 
-/// The line of the answer to an item of a Write.
+/// The line of the answer to an item of a Write, in the style of the first word.
 pub fn write_line(alloc: Global, words: &str) -> Result<String, Fault> {
+    let (style, words) = cut(words)?;
     let (node, code) = cut(words)?;
     let code = code_of(code)?;
     let node = NodeId::parse_text(alloc, node)?;
     let mut out = page(alloc);
-    push_write_line(alloc, &mut out, &node, StatusCode { code }, LineStyle::plain(false))?;
+    push_write_line(alloc, &mut out, &node, StatusCode { code }, style_of(style))?;
     quoted(alloc, out.as_str())
 }
 
@@ -48,18 +64,35 @@ pub fn named_code(alloc: Global, words: &str) -> Result<String, Fault> {
     quoted(alloc, out.as_str())
 }
 
-/// The line of an endpoint.
+/// The lines of an endpoint, in the style of the first word.
 pub fn endpoint(alloc: Global, words: &str) -> Result<String, Fault> {
+    let (style, words) = cut(words)?;
+    let style = EndpointStyle {
+        policies: style.contains("policies"),
+        json: style.contains("json"),
+    };
     let endpoint = value_in::<EndpointDescription>(alloc, words)?;
-    let line = endpoint_line(alloc, &endpoint);
+    let line = endpoint_line(alloc, &endpoint, style);
     drop(endpoint);
     quoted(alloc, line?.as_str())
 }
 
-fn endpoint_line(alloc: Global, endpoint: &EndpointDescription) -> Result<String, Fault> {
+fn endpoint_line(
+    alloc: Global,
+    endpoint: &EndpointDescription,
+    style: EndpointStyle,
+) -> Result<String, Fault> {
     let mut out = page(alloc);
-    push_endpoint_line(alloc, &mut out, endpoint, EndpointStyle::plain())?;
+    push_endpoint_line(alloc, &mut out, endpoint, style)?;
     Ok(out)
+}
+
+/// Whether any result of a response has a bad code.
+pub fn bad_results(alloc: Global, words: &str) -> Result<String, Fault> {
+    let response = response_in(alloc, words)?;
+    let is_bad = has_bad_code(&response);
+    drop(response);
+    named(alloc, if is_bad { "true" } else { "false" })
 }
 
 /// The response whose body is these octets.
