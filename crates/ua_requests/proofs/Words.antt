@@ -1,21 +1,34 @@
 -- Words that the program sends can be written.
-use Rattle.std.specs.Prelude.{◌≡◌, ◌<◌, ◌^◌, ◌++◌, ℕ, zero, suc, nat_lt, length, List, [], ◌∷◌, Bool, true, ◌&&◌, IsTrue, Option, Some, codes}
+use Rattle.std.specs.Prelude.{◌≡◌, ◌<◌, ◌≤◌, ◌^◌, ◌++◌, ℕ, zero, suc, nat_lt, length, List, [], ◌∷◌, Bool, true, false, ◌&&◌, IsErrOf, IsFalse, IsTrue, ◌↔◌, Option, Some, None, Result, Ok, Err, option_map, String, string_bytes, codes}
 use Rattle.std.specs.Fmt.{decimal}
 use Rattle.std.specs.List.{list_all}
 use Rattle.std.specs.Str.{is_utf8, IsAscii, IsUtf8}
-use Rattle.std.proofs.Common.{refl, ap, ◌∙◌, lit<, arith, length-append}
-use Rattle.std.proofs.lemmas.Bool.{ltb-true, lt-ltb}
+use Rattle.std.proofs.Common.{refl, sym, ap, subst, ◌∙◌, lit<, arith, length-append, Global}
+use Rattle.std.proofs.lemmas.Bool.{ltb-true, ltb-false, lt-ltb, le-ltb}
 use Rattle.std.proofs.lemmas.Fmt.{IsAscii-decimal, length-decimal-le}
 use Rattle.std.proofs.lemmas.Str.{is_utf8-from_IsUtf8, IsUtf8-from_ascii, IsUtf8-append}
-use Rattle.ua_builtin.specs.Counted.{text, counted, first_negative}
+use Rattle.ua_builtin.specs.Counted.{text, counted, first_negative, is_text}
 use Rattle.ua_builtin.specs.ExtensionObject.{extension_object}
 use Rattle.ua_builtin.specs.NodeId.{node_id, null_id}
 use Rattle.ua_octets.specs.Number.{number_octets}
+use Rattle.ua_octets.proofs.FrontsRead.{is_utf8_string}
 use Rattle.ua_octets.proofs.Readers.{both_true}
+use Rattle.ua_octets.specs.declared.fault.WriteFault.{WriteFault}
+use Rattle.ua_octets.specs.declared.fault.WriteFault.TheVariants.{NotWritable, OutOfMemory}
 use Rattle.ua_services.specs.Identity.{identity_object}
+use Rattle.ua_services.specs.Message.{standard}
 use Rattle.ua_structures.specs.Field.{string}
 use Rattle.ua_structures.specs.Session.{anonymous_identity_token}
-use Rattle.ua_requests.specs.Requests.{local_url}
+use Rattle.ua_structures.specs.declared.session.AnonymousIdentityToken.{AnonymousIdentityToken}
+use Rattle.ua_requests.specs.Requests.{anonymous_id, anonymous_identity, local_url}
+
+pub and_false : (a b : Bool) → IsFalse b → IsFalse (a && b)
+and_false true b h = h
+and_false false b h = refl
+
+pub first_false : (a b : Bool) → IsFalse a → IsFalse (a && b)
+first_false true b h = absurd cc
+first_false false b h = refl
 
 pub both_are : (a b : Bool) → a ≡ true → b ≡ true → a && b ≡ true
 both_are a b p q = ap (λ (t : Bool). t && b) p ∙ q
@@ -56,21 +69,58 @@ local_url_fits port small =
     (IsUtf8-append front (decimal port) (IsUtf8-from_ascii front (ascii front refl)) (IsUtf8-from_ascii (decimal port) (IsAscii-decimal port (omega arith))))
     (omega arith)
 
-pub anonymous_fits : IsTrue (anonymous_identity_token.encodable (record { policy_id = Some (codes "anonymous") }))
-unfolding anonymous_identity_token
-anonymous_fits = word_fits (codes "anonymous") refl refl
-
-pub identity_fits : IsTrue (extension_object.encodable (identity_object (anonymous_identity_token.canonical (record { policy_id = Some (codes "anonymous") }))))
-unfolding extension_object node_id anonymous_identity_token text counted number_octets
-identity_fits = refl
-
 pub null_id_fits : IsTrue (node_id.encodable null_id)
 unfolding node_id
 null_id_fits = refl
 
-pub named_fits : (name : Option (List ℕ)) → name ≡ Some (codes "anonymous") → IsTrue (anonymous_identity_token.encodable (record { policy_id = name }))
-named_fits name e = ap (λ (t : Option (List ℕ)). (anonymous_identity_token).encodable (record { policy_id = t })) e ∙ anonymous_fits
+-- ---- identities
 
-pub identity_named : (name : Option (List ℕ)) → name ≡ Some (codes "anonymous")
-    → identity_object (anonymous_identity_token.canonical (record { policy_id = name })) ≡ identity_object (anonymous_identity_token.canonical (record { policy_id = Some (codes "anonymous") }))
-identity_named name e = ap (λ (t : Option (List ℕ)). identity_object ((anonymous_identity_token).canonical (record { policy_id = t }))) e
+pub is_text_string : (s : Option (String Global)) → IsTrue (is_text (option_map string_bytes s))
+is_text_string None = refl
+is_text_string (Some s) = is_utf8_string s
+
+pub anonymous_fits : IsTrue (string.encodable anonymous_id)
+anonymous_fits = word_fits (codes "anonymous") refl refl
+
+pub identity_fits : IsTrue (extension_object.encodable (anonymous_identity anonymous_id))
+unfolding extension_object node_id anonymous_identity_token text counted number_octets
+identity_fits = refl
+
+-- what refuses the token of a policy refuses its PolicyId
+pub refused_by : {A B : Type 0} (fault : WriteFault) (policy_id : Option (List ℕ)) (token : AnonymousIdentityToken) → token.policy_id ≡ policy_id
+    → IsErrOf {T = A} (Err fault) NotWritable ↔ IsFalse (anonymous_identity_token.encodable token) → IsErrOf {T = B} (Err fault) NotWritable ↔ IsFalse (string.encodable policy_id)
+unfolding anonymous_identity_token
+refused_by NotWritable policy_id token e h = (λ same. subst (λ (p : Option (List ℕ)). IsFalse (string.encodable p)) e (h.0 refl), λ unfit. refl)
+refused_by OutOfMemory policy_id token e h = (λ same. absurd cc, λ unfit. let same = h.1 (subst (λ (p : Option (List ℕ)). IsFalse (string.encodable p)) (sym e) unfit) in absurd cc)
+
+pub not_refused_by : {A B : Type 0} (x : A) (y : B) (policy_id : Option (List ℕ)) (token : AnonymousIdentityToken) → token.policy_id ≡ policy_id
+    → IsErrOf {E = WriteFault} (Ok x) NotWritable ↔ IsFalse (anonymous_identity_token.encodable token) → IsErrOf {E = WriteFault} (Ok y) NotWritable ↔ IsFalse (string.encodable policy_id)
+unfolding anonymous_identity_token
+not_refused_by x y policy_id token e h = (λ same. absurd cc, λ unfit. let same = h.1 (subst (λ (p : Option (List ℕ)). IsFalse (string.encodable p)) (sym e) unfit) in absurd cc)
+
+-- where the PolicyId fits nothing is refused
+pub not_refused : {A : Type 0} (r : Result A WriteFault) (fault : WriteFault) (policy_id : Option (List ℕ)) → policy_id ≡ anonymous_id
+    → IsErrOf r NotWritable ↔ IsFalse (string.encodable policy_id) → r ≡ Err fault → fault ≡ NotWritable → ⊥
+not_refused r fault policy_id e h failed is_that =
+    let never : false ≡ true = sym (h.0 (failed ∙ ap Err is_that)) ∙ (ap (λ (p : Option (List ℕ)). (string).encodable p) e ∙ anonymous_fits) in
+    absurd cc
+
+pub identity_named : (policy_id : Option (List ℕ)) (token : AnonymousIdentityToken) → token.policy_id ≡ policy_id → identity_object (anonymous_identity_token.canonical token) ≡ anonymous_identity policy_id
+identity_named policy_id token e = ap (λ (p : Option (List ℕ)). anonymous_identity p) e
+
+-- octets that are too many for a count are so with the count before them
+long_before : (v : List ℕ) (n : ℕ) → IsFalse (nat_lt (length v) n) → IsFalse (nat_lt (length (number_octets 4 (length v) ++ v)) n)
+long_before v n unfit =
+    let long : n ≤ length v = ltb-false (length v) n unfit in
+    let whole = length-append (number_octets 4 (length v)) v in
+    le-ltb (length (number_octets 4 (length v) ++ v)) n (omega (arith, long, whole))
+
+text_part : (a b : Bool) → IsTrue a → IsFalse (a && b) → IsFalse b
+text_part true b holds unfit = unfit
+text_part false b holds unfit = absurd cc
+
+-- a text that no String holds is too long for the object that carries it, too
+pub too_long : (policy_id : Option (List ℕ)) → IsTrue (is_text policy_id) → IsFalse (string.encodable policy_id) → IsFalse (extension_object.encodable (anonymous_identity policy_id))
+unfolding extension_object anonymous_identity_token text counted
+too_long None utf8 unfit = absurd cc
+too_long (Some v) utf8 unfit = and_false (node_id.encodable (standard 321)) _ (long_before v first_negative (text_part (is_utf8 v) (nat_lt (length v) first_negative) utf8 unfit))

@@ -3,6 +3,7 @@ use Rattle.std.specs.Prelude.{ℕ, pos, false, List, ◌++◌, Option, Some, Non
 use Rattle.std.specs.Fmt.{decimal}
 use Rattle.ua_builtin.specs.NodeId.{null_id}
 use Rattle.ua_builtin.specs.declared.date_time.DateTime.{DateTime}
+use Rattle.ua_builtin.specs.declared.extension_object.ExtensionObject.{ExtensionObject}
 use Rattle.ua_builtin.specs.declared.node_id.NodeId.{NodeId}
 use Rattle.ua_octets.specs.declared.double_bits.DoubleBits.{DoubleBits}
 use Rattle.ua_services.specs.Identity.{identity_object}
@@ -32,10 +33,21 @@ abbrev pub create_session : Option (List ℕ) → DateTime → ℕ → Request
 create_session url moment handle =
     CreateSession (create_session_of (request_header_of null_id moment handle) (application_of (pos 1) (Some (codes "urn:ua:client")) (Some (codes "ua")) None) url (Some (codes "ua")) session_timeout)
 
+-- the PolicyId of the token policy by which the program asks where it is told of no other
+abbrev pub anonymous_id : Option (List ℕ)
+anonymous_id = Some (codes "anonymous")
+
+-- the identity of a user without a name, by the token policy with this PolicyId (OPC 10000-4, 7.41.3)
+abbrev pub anonymous_identity : Option (List ℕ) → ExtensionObject
+anonymous_identity policy_id = identity_object (anonymous_identity_token.canonical (record { policy_id = policy_id }))
+
+-- ActivateSession by this identity
+abbrev pub activate_session_as : Option (List ℕ) → NodeId → DateTime → ℕ → Request
+activate_session_as policy_id token moment handle = ActivateSession (activate_session_of (request_header_of token moment handle) (anonymous_identity policy_id))
+
 -- ActivateSession by the policy `anonymous`
 abbrev pub activate_session : NodeId → DateTime → ℕ → Request
-activate_session token moment handle =
-    ActivateSession (activate_session_of (request_header_of token moment handle) (identity_object (anonymous_identity_token.canonical (record { policy_id = Some (codes "anonymous") }))))
+activate_session token moment handle = activate_session_as anonymous_id token moment handle
 
 -- CloseSession, which keeps subscriptions
 abbrev pub close_session : NodeId → DateTime → ℕ → Request
@@ -49,9 +61,13 @@ read token moment handle items = Read (read_of (request_header_of token moment h
 abbrev pub write : NodeId → DateTime → ℕ → List WriteValue → Request
 write token moment handle items = Write (write_of (request_header_of token moment handle) items)
 
+-- an attribute of a node, by its id (OPC 10000-6, A.1), a part of it or the whole where the range is null
+abbrev pub attribute_of_node : NodeId → ℕ → Option (List ℕ) → ReadValueId
+attribute_of_node node attribute range = record (value_of_node node) { attribute_id = attribute; index_range = range }
+
 -- a part of the Value of a node, attribute 13, or the whole where the range is null
 abbrev pub part_of_node : NodeId → Option (List ℕ) → ReadValueId
-part_of_node node range = record (value_of_node node) { index_range = range }
+part_of_node node range = attribute_of_node node 13 range
 
 -- a value alone, without status and times
 abbrev pub value_alone : VariantData → DataValue

@@ -10,6 +10,7 @@
 mod request;
 
 pub use request::{
-    activate_session_request, close_session_request, create_session_request, get_endpoints_request,
-    local_url, read_item, read_request, write_item, write_request,
+    activate_session_request, activate_session_request_as, close_session_request,
+    create_session_request, get_endpoints_request, local_url, read_attribute_item, read_item,
+    read_request, write_item, write_request,
 };

@@ -1,16 +1,18 @@
 //! The requests of the program.
 
-ghost use Rattle.std.specs.Prelude.{◌≡◌, ◌<◌, length, string_bytes, IsTrue, IfOk, IfSome, Some};
+ghost use Rattle.std.specs.Prelude.{◌≡◌, ◌<◌, ◌↔◌, length, string_bytes, IsErrOf, IsFalse, IsTrue, IfOk, IfSome, Some};
 ghost use Rattle.std.specs.List.{list_all};
-ghost use Rattle.ua_builtin.specs.Counted.{first_negative};
+ghost use Rattle.ua_builtin.specs.Counted.{first_negative, is_text};
+ghost use Rattle.ua_builtin.specs.ExtensionObject.{extension_object};
 ghost use Rattle.ua_builtin.specs.NodeId.{node_id};
+ghost use Rattle.ua_octets.specs.declared.fault.WriteFault.TheVariants.{NotWritable};
 ghost use Rattle.ua_services.specs.Request.{request};
 ghost use Rattle.ua_structures.specs.Attribute.{read_value_id, write_value};
 ghost use Rattle.ua_structures.specs.Field.{string};
 ghost use Rattle.ua_structures.specs.Plain.{request_header_of, value_for_node};
 ghost use Rattle.ua_variant.specs.Formats.{data_value_format};
 ghost use Rattle.ua_variant.specs.View.{variant_of};
-ghost use Rattle.ua_requests.specs.Requests.{activate_session, close_session, create_session, get_endpoints, local_url as url_of, part_of_node, read, value_alone, write};
+ghost use Rattle.ua_requests.specs.Requests.{activate_session, activate_session_as, anonymous_identity, attribute_of_node, close_session, create_session, get_endpoints, local_url as url_of, part_of_node, read, value_alone, write};
 
 use std::alloc::{AllocError, Global};
 use ua_builtin::{DateTime, DoubleBits, NodeId, UaString, WriteFault};
@@ -25,6 +27,9 @@ use ua_variant::{DataValue, HeldVariant, Variant};
 const SESSION_TIMEOUT: DoubleBits = DoubleBits {
     bits: 0x40FD_4C00_0000_0000,
 };
+
+/// The id of the attribute Value (OPC 10000-6, A.1).
+const VALUE: u32 = 13;
 
 /// The address of a server on this machine.
 #[tactic(auto, unfolding(crate::specs::Requests::local_url))]
@@ -71,8 +76,43 @@ pub fn create_session_request(
     )))
 }
 
-/// A request of ActivateSession, by the identity of a user without a name.
-#[tactic(auto, using(crate::proofs::Asked::activate_session_fits, crate::proofs::Words::anonymous_fits, crate::proofs::Words::identity_fits))]
+/// The identity of a user without a name, by the token policy with this id, which is UTF-8 as any text.
+#[tactic(auto, using(crate::proofs::Words::is_text_string))]
+fn anonymous_token(policy_id: UaString) -> AnonymousIdentityToken
+    ensures named { result.policy_id ≡ policy_id }
+    ensures utf8 { IsTrue (is_text policy_id) }
+{
+    let text = policy_id.into_string();
+    AnonymousIdentityToken {
+        policy_id: UaString::new(text),
+    }
+}
+
+/// A request of ActivateSession, by the identity of a user without a name under the token policy with
+/// this id: `NotWritable` where the id cannot be encoded as a String, and then the request could not be
+/// encoded either.
+pub fn activate_session_request_as(
+    alloc: Global,
+    token: NodeId,
+    policy_id: UaString,
+    moment: DateTime,
+    handle: u32,
+) -> Result<Request, WriteFault>
+    ensures value { IfOk result (λ r. r ≡ activate_session_as policy_id token moment handle) }
+    ensures encodable { IsTrue (node_id.encodable token) → IsTrue (extension_object.encodable (anonymous_identity policy_id)) → IfOk result (λ r. IsTrue (request.encodable r)) }
+    ensures refused { IsErrOf result NotWritable ↔ IsFalse (string.encodable policy_id) }
+    ensures unwritable { IsErrOf result NotWritable → IsFalse (request.encodable (activate_session_as policy_id token moment handle)) }
+{
+    let identity = match write_identity(alloc, &anonymous_token(policy_id)) {
+        Ok(identity) => identity,
+        Err(fault) => return Err(fault),
+    };
+    let header = RequestHeader::new(token, moment, handle);
+    Ok(Request::ActivateSession(ActivateSessionRequest::new(header, identity)))
+}
+
+/// A request of ActivateSession, by the identity of a user without a name under the token policy
+/// `anonymous`.
 pub fn activate_session_request(
     alloc: Global,
     token: NodeId,
@@ -83,13 +123,11 @@ pub fn activate_session_request(
     ensures encodable { IsTrue (node_id.encodable token) → IfOk result (λ r. IsTrue (request.encodable r)) }
 {
     let policy_id = UaString::from_str(alloc, "anonymous")?;
-    let identity = match write_identity(alloc, &AnonymousIdentityToken { policy_id }) {
-        Ok(identity) => identity,
-        Err(WriteFault::OutOfMemory) => return Err(AllocError),
+    match activate_session_request_as(alloc, token, policy_id, moment, handle) {
+        Ok(request) => Ok(request),
+        Err(WriteFault::OutOfMemory) => Err(AllocError),
         Err(WriteFault::NotWritable) => unreachable!(),
-    };
-    let header = RequestHeader::new(token, moment, handle);
-    Ok(Request::ActivateSession(ActivateSessionRequest::new(header, identity)))
+    }
 }
 
 /// A request of CloseSession, which keeps subscriptions.
@@ -136,16 +174,26 @@ pub fn write_request(
     Request::Write(WriteRequest::of_items(header, items))
 }
 
+/// The item of a Read for an attribute of a node, by its id (OPC 10000-6, A.1), or for the part of an
+/// array that an index range names.
+#[tactic(auto, using(crate::proofs::Asked::attribute_fits))]
+pub fn read_attribute_item(node: NodeId, attribute: u32, range: UaString) -> ReadValueId
+    ensures value { result ≡ attribute_of_node node attribute range }
+    ensures encodable { IsTrue (node_id.encodable node) → IsTrue (string.encodable range) → IsTrue (read_value_id.encodable result) }
+{
+    let mut item = ReadValueId::of_value(node);
+    item.attribute_id = attribute;
+    item.index_range = range;
+    item
+}
+
 /// The item of a Read for the Value of a node, or for the part of an array that an index range
 /// names.
-#[tactic(auto, using(crate::proofs::Asked::part_fits))]
 pub fn read_item(node: NodeId, range: UaString) -> ReadValueId
     ensures value { result ≡ part_of_node node range }
     ensures encodable { IsTrue (node_id.encodable node) → IsTrue (string.encodable range) → IsTrue (read_value_id.encodable result) }
 {
-    let mut item = ReadValueId::of_value(node);
-    item.index_range = range;
-    item
+    read_attribute_item(node, VALUE, range)
 }
 
 /// The item of a Write that sets the Value of a node, without status and times.
