@@ -1,21 +1,26 @@
 -- How a session begins: one service, and another behind it.
-use Rattle.std.specs.Prelude.{◌≡◌, ℕ, ◌+◌, ◌≤◌, List, [], ◌∷◌, ◌++◌, length, Option, None, Result, Ok, Err, IfOk, IfErr}
+use Rattle.std.specs.Prelude.{◌≡◌, ℕ, Bool, true, false, nat_le, not, IsFalse, Some, ◌+◌, ◌≤◌, List, [], ◌∷◌, ◌++◌, length, Option, None, Result, Ok, Err, IfOk, IfErr}
 use Rattle.std.proofs.Common.{refl, sym, ◌∙◌, ap, subst, arith, inl, inr}
 use Rattle.std.proofs.lemmas.List.{length-append}
+use Rattle.ua_builtin.specs.Reasons.{first_reason}
 use Rattle.ua_builtin.specs.declared.date_time.DateTime.{DateTime}
 use Rattle.ua_builtin.specs.declared.node_id.NodeId.{NodeId}
+use Rattle.ua_services.specs.Request.{request as message}
 use Rattle.ua_services.specs.Response.{Answers, kind_of}
 use Rattle.ua_services.specs.declared.request.Request.{Request}
 use Rattle.ua_services.specs.declared.request.RequestKind.TheVariants as request_kind
 use Rattle.ua_services.specs.declared.response.Response.{Response}
 use Rattle.ua_services.specs.declared.response.Response.TheVariants as response
+use Rattle.ua_frame.specs.declared.ack.Ack.{Ack}
 use Rattle.ua_channel.specs.Client.{SameClient, url_of}
+use Rattle.ua_channel.specs.ClientAsks.{is_too_large, no_id}
+use Rattle.ua_channel.specs.ClientTable.{of_ack}
 use Rattle.ua_channel.specs.Line.{Traffic}
 use Rattle.ua_client.specs.Calls.{Answered, BreaksAt, CallsGroup, GroupAt}
 use Rattle.ua_client.specs.Hearing.{channel_of, most_reads, StopsAt}
-use Rattle.ua_client.specs.Session.{ActivatesBehind, BeginsSession, CallsOneAt, Does, IsFailure, IsReplied, LacksToken, Replies, ServesAt, activating_at, brings_any, brings_token, creating_at, is_reply, reply_failure, token_in}
+use Rattle.ua_client.specs.Session.{ActivatesBehind, BeginsSessionAs, CallsOneAt, Does, IsFailure, IsReplied, LacksToken, MakesRequest, Replies, ServesAt, activating_at, brings_any, brings_token, creating_at, is_reply, reply_failure, token_in}
 use Rattle.ua_client.specs.Renewing.{IsSettled}
-use Rattle.ua_client.specs.Site.{Site, At}
+use Rattle.ua_client.specs.Site.{Site, At, id_at}
 use Rattle.ua_client.specs.declared.connection.Connection.{Connection}
 use Rattle.ua_client.specs.declared.fault.ClientFault.{ClientFault}
 use Rattle.ua_client.specs.declared.fault.ClientFault.TheVariants as fault
@@ -199,6 +204,44 @@ made-unasked made brings x t reads = record {
   stops = tt;
 }
 
+-- a request that cannot be encoded
+made-unwritable : {A : Type 0} (made : Site → Request) (brings : A → Reply → Type 0) (x : Connection) (t : Option Traffic) (reads : ℕ)
+    → ((s : Site) → At (channel_of x) s → IsFalse (message.encodable (made s)))
+    → Does {A = A} (λ s sent taken. ServesAt (made s) brings s x sent taken (Err fault.NotWritable)) x x t t reads reads (Err fault.NotWritable)
+made-unwritable made brings x t reads unfit = record {
+  sent = [];
+  moves = moves-nothing x x t refl;
+  same = record { limits = refl; url = refl };
+  answers = λ s at settled. (refl, refl, at, first-reason (message.encodable (made s)) fault.NotWritable (reasons-behind (made s) s) (unfit s at));
+  stops = tt;
+}
+  where
+    first-reason : (fits : Bool) (reason : ClientFault) (more : List (ClientFault × Bool)) → IsFalse fits → first_reason ((reason, not fits) ∷ more) ≡ Some reason
+    first-reason true reason more h = absurd cc
+    first-reason false reason more h = refl
+
+    -- the reasons against a request that can be encoded
+    reasons-behind : Request → Site → List (ClientFault × Bool)
+    reasons-behind m s = (fault.Exhausted, nat_le no_id (id_at s)) ∷ (fault.TooLarge, of_ack (λ (a : Ack). is_too_large a (message.canonical m)) s.before.ack) ∷ []
+
+-- a request that was not made
+pub made-not : {A : Type 0} (made : Site → Request) (brings : A → Reply → Type 0) (x : Connection) (t : Option Traffic) (reads : ℕ) (f : ClientFault) → MakesRequest made (channel_of x) (Err f)
+    → Does {A = A} (λ s sent taken. ServesAt (made s) brings s x sent taken (Err f)) x x t t reads reads (Err f)
+made-not made brings x t reads fault.NotWritable h = made-unwritable made brings x t reads h
+made-not made brings x t reads fault.OutOfMemory h = made-unasked made brings x t reads
+made-not made brings x t reads fault.Read h = absurd h
+made-not made brings x t reads fault.Write h = absurd h
+made-not made brings x t reads fault.Ended h = absurd h
+made-not made brings x t reads (fault.Peer code) h = absurd h
+made-not made brings x t reads (fault.Refused code) h = absurd h
+made-not made brings x t reads fault.UnknownResponse h = absurd h
+made-not made brings x t reads (fault.Service code) h = absurd h
+made-not made brings x t reads fault.TooLarge h = absurd h
+made-not made brings x t reads fault.Exhausted h = absurd h
+made-not made brings x t reads fault.Closed h = absurd h
+made-not made brings x t reads fault.TooLong h = absurd h
+made-not made brings x t reads fault.TooManyTokens h = absurd h
+
 -- ---- CreateSession
 
 -- a response to CreateSession by which it did not fail brings a token
@@ -243,10 +286,10 @@ module _ (url : Option (List ℕ)) (moment : DateTime) (request : Request) (old 
 -- ---- both services
 
 -- CreateSession failed
-pub begins-first : (moment : DateTime) (old new : Connection) (before after : Option Traffic) (left : ℕ) (f : ClientFault)
+pub begins-first : (policy_id : Option (List ℕ)) (moment : DateTime) (old new : Connection) (before after : Option Traffic) (left : ℕ) (f : ClientFault)
     → Does {A = NodeId} (λ s sent taken. ServesAt (creating_at (url_of (channel_of old)) moment s) brings_token s new sent taken (Err f)) old new before after most_reads left (Err f)
-    → BeginsSession moment old new before after (Err f)
-begins-first moment old new before after left f d = record {
+    → BeginsSessionAs policy_id moment old new before after (Err f)
+begins-first policy_id moment old new before after left f d = record {
   sent = d.sent;
   moves = d.moves;
   same = d.same;
@@ -254,12 +297,16 @@ begins-first moment old new before after left f d = record {
   stops = stops-as NodeId NodeId most_reads left most_reads d.moves.got new after f d.stops;
 }
 
-module _ (moment : DateTime) (old mid new : Connection) (before between after : Option Traffic) (left less : ℕ) (token : NodeId)
+-- no memory before anything is asked
+pub begins-unasked : (policy_id : Option (List ℕ)) (moment : DateTime) (x : Connection) (t : Option Traffic) → BeginsSessionAs policy_id moment x x t t (Err fault.OutOfMemory)
+begins-unasked policy_id moment x t = begins-first policy_id moment x x t t most_reads fault.OutOfMemory (made-unasked (creating_at (url_of (channel_of x)) moment) brings_token x t most_reads)
+
+module _ (policy_id : Option (List ℕ)) (moment : DateTime) (old mid new : Connection) (before between after : Option Traffic) (left less : ℕ) (token : NodeId)
     (d : Does {A = NodeId} (λ s sent taken. ServesAt (creating_at (url_of (channel_of old)) moment s) brings_token s mid sent taken (Ok token)) old mid before between most_reads left (Ok token)) where
   -- what becomes of ActivateSession
   second : (result : Result (Unit {0}) ClientFault) (P : NodeId → Type 0) → P token
-      → (e : Does {A = Unit {0}} (λ s sent taken. ServesAt (activating_at token moment s) brings_any s new sent taken result) mid new between after left less result)
-      → (s : Site) → At (channel_of old) s → IsSettled s → ActivatesBehind (url_of (channel_of old)) moment s new (d.sent ++ e.sent) (d.moves.taken ++ e.moves.taken) P result
+      → (e : Does {A = Unit {0}} (λ s sent taken. ServesAt (activating_at policy_id token moment s) brings_any s new sent taken result) mid new between after left less result)
+      → (s : Site) → At (channel_of old) s → IsSettled s → ActivatesBehind (url_of (channel_of old)) policy_id moment s new (d.sent ++ e.sent) (d.moves.taken ++ e.moves.taken) P result
   second result P p e s at settled =
       let a = d.answers s at settled in
       record {
@@ -285,8 +332,8 @@ module _ (moment : DateTime) (old mid new : Connection) (before between after : 
   same-then k = record { limits = d.same.limits ∙ k.limits; url = d.same.url ∙ k.url }
 
   -- both are done
-  pub begins-both : Does {A = Unit {0}} (λ s sent taken. ServesAt (activating_at token moment s) brings_any s new sent taken (Ok tt)) mid new between after left less (Ok tt)
-      → BeginsSession moment old new before after (Ok token)
+  pub begins-both : Does {A = Unit {0}} (λ s sent taken. ServesAt (activating_at policy_id token moment s) brings_any s new sent taken (Ok tt)) mid new between after left less (Ok tt)
+      → BeginsSessionAs policy_id moment old new before after (Ok token)
   begins-both e = record {
     sent = d.sent ++ e.sent;
     moves = moves-behind old mid new d.sent e.sent before between after d.moves e.moves;
@@ -296,8 +343,8 @@ module _ (moment : DateTime) (old mid new : Connection) (before between after : 
   }
 
   -- ActivateSession failed
-  pub begins-second : (f : ClientFault) → Does {A = Unit {0}} (λ s sent taken. ServesAt (activating_at token moment s) brings_any s new sent taken (Err f)) mid new between after left less (Err f)
-      → BeginsSession moment old new before after (Err f)
+  pub begins-second : (f : ClientFault) → Does {A = Unit {0}} (λ s sent taken. ServesAt (activating_at policy_id token moment s) brings_any s new sent taken (Err f)) mid new between after left less (Err f)
+      → BeginsSessionAs policy_id moment old new before after (Err f)
   begins-second f e = record {
     sent = d.sent ++ e.sent;
     moves = moves-behind old mid new d.sent e.sent before between after d.moves e.moves;

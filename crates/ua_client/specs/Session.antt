@@ -1,16 +1,17 @@
 -- How a client begins a session: it asks CreateSession, and behind a good response ActivateSession (OPC 10000-4, 5.7.2 and 5.7.3).
-use Rattle.std.specs.Prelude.{◌≡◌, ◌⊎◌, ◌++◌, ◌||◌, cond, ℕ, Bool, true, false, List, [], ◌∷◌, Option, Some, None, Result, Ok, Err}
+use Rattle.std.specs.Prelude.{IsFalse, ◌≡◌, ◌⊎◌, ◌++◌, ◌||◌, cond, ℕ, Bool, true, false, List, [], ◌∷◌, Option, Some, None, Result, Ok, Err}
 use Rattle.ua_builtin.specs.Status.{is_bad}
 use Rattle.ua_builtin.specs.declared.date_time.DateTime.{DateTime}
 use Rattle.ua_builtin.specs.declared.node_id.NodeId.{NodeId}
 use Rattle.ua_builtin.specs.declared.status_code.StatusCode.{StatusCode}
+use Rattle.ua_services.specs.Request.{request}
 use Rattle.ua_services.specs.Response.{header_of, kind_of}
 use Rattle.ua_services.specs.declared.request.Request.{Request}
 use Rattle.ua_services.specs.declared.response.Response.{Response}
 use Rattle.ua_services.specs.declared.response.Response.TheVariants.{CreateSession}
 use Rattle.ua_services.specs.declared.response.ResponseKind.{ResponseKind}
 use Rattle.ua_services.specs.declared.response.ResponseKind.TheVariants as response_kind
-use Rattle.ua_requests.specs.Requests.{create_session, activate_session}
+use Rattle.ua_requests.specs.Requests.{create_session, activate_session_as, anonymous_id}
 use Rattle.ua_channel.specs.Client.{SameClient, url_of}
 use Rattle.ua_channel.specs.Line.{Traffic}
 use Rattle.ua_channel.specs.declared.client.channel.ClientChannel.{ClientChannel}
@@ -30,9 +31,17 @@ use Rattle.ua_client.specs.declared.reply.Reply.TheVariants.{Response as Respond
 abbrev pub creating_at : Option (List ℕ) → DateTime → Site → Request
 creating_at url moment s = create_session url moment (id_at s)
 
--- ActivateSession, asked there at this moment under the token of the session: its RequestHandle is its request id
-abbrev pub activating_at : NodeId → DateTime → Site → Request
-activating_at token moment s = activate_session token moment (id_at s)
+-- ActivateSession, asked there at this moment under the token of the session, by the token policy with this PolicyId: its RequestHandle is
+-- its request id
+abbrev pub activating_at : Option (List ℕ) → NodeId → DateTime → Site → Request
+activating_at policy_id token moment s = activate_session_as policy_id token moment (id_at s)
+
+-- a request that was made is the one to ask where the channel stands; one that was not cannot be encoded, or memory was refused
+abbrev pub MakesRequest : (Site → Request) → ClientChannel → Result Request ClientFault → Type 0
+MakesRequest wanted x (Ok made) = (s : Site) → At x s → made ≡ wanted s
+MakesRequest wanted x (Err fault.NotWritable) = (s : Site) → At x s → IsFalse (request.encodable (wanted s))
+MakesRequest wanted x (Err fault.OutOfMemory) = Unit {0}
+MakesRequest wanted x (Err other) = ⊥
 
 -- ---- what a reply says
 
@@ -128,17 +137,17 @@ pub record BehindCreating (url : Option (List ℕ)) (moment : DateTime) (s : Sit
   pub brought : brings_token token reply
   pub further : P token between sent_then taken_then
 
--- what becomes of ActivateSession behind CreateSession, asked there
-abbrev pub ActivatesBehind : Option (List ℕ) → DateTime → Site → Connection → List ℕ → List ℕ → (NodeId → Type 0) → Result (Unit {0}) ClientFault → Type 0
-ActivatesBehind url moment s new sent taken P result =
-    BehindCreating url moment s sent taken (λ token t sent_then taken_then. P token × ServesAt (activating_at token moment t) brings_any t new sent_then taken_then result)
+-- what becomes of ActivateSession by the token policy with this PolicyId, behind CreateSession, asked there
+abbrev pub ActivatesBehind : Option (List ℕ) → Option (List ℕ) → DateTime → Site → Connection → List ℕ → List ℕ → (NodeId → Type 0) → Result (Unit {0}) ClientFault → Type 0
+ActivatesBehind url policy_id moment s new sent taken P result =
+    BehindCreating url moment s sent taken (λ token t sent_then taken_then. P token × ServesAt (activating_at policy_id token moment t) brings_any t new sent_then taken_then result)
 
 -- what becomes of a session that is begun there: both services are done, and the first brought this token; or one of them was not, by
 -- this fault, and it was the first, or the second behind the first
-abbrev pub BeginsAt : Option (List ℕ) → DateTime → Site → Connection → List ℕ → List ℕ → Result NodeId ClientFault → Type 0
-BeginsAt url moment s new sent taken (Ok token) = ActivatesBehind url moment s new sent taken (λ given. given ≡ token) (Ok tt)
-BeginsAt url moment s new sent taken (Err f) =
-    ServesAt (creating_at url moment s) brings_token s new sent taken (Err f) ⊎ ActivatesBehind url moment s new sent taken (λ given. Unit {0}) (Err f)
+abbrev pub BeginsAt : Option (List ℕ) → Option (List ℕ) → DateTime → Site → Connection → List ℕ → List ℕ → Result NodeId ClientFault → Type 0
+BeginsAt url policy_id moment s new sent taken (Ok token) = ActivatesBehind url policy_id moment s new sent taken (λ given. given ≡ token) (Ok tt)
+BeginsAt url policy_id moment s new sent taken (Err f) =
+    ServesAt (creating_at url moment s) brings_token s new sent taken (Err f) ⊎ ActivatesBehind url policy_id moment s new sent taken (λ given. Unit {0}) (Err f)
 
 -- what was done over a line, by what that is to come to where the client stands and may be called, with so many reads left before and
 -- after
@@ -149,7 +158,11 @@ pub record Does {A : Type 0} (P : Site → List ℕ → List ℕ → Type 0) (ol
   pub answers : (s : Site) → At (channel_of old) s → IsSettled s → P s sent moves.taken
   pub stops : StopsAt reads left moves.got new after result
 
--- a session is begun at this moment over a line
+-- a session is begun at this moment over a line, by the token policy with this PolicyId
+abbrev pub BeginsSessionAs : Option (List ℕ) → DateTime → Connection → Connection → Option Traffic → Option Traffic → Result NodeId ClientFault → Type 0
+BeginsSessionAs policy_id moment old new before after result =
+    Does (λ s sent taken. BeginsAt (url_of (channel_of old)) policy_id moment s new sent taken result) old new before after most_reads most_reads result
+
+-- a session is begun by the token policy `anonymous`
 abbrev pub BeginsSession : DateTime → Connection → Connection → Option Traffic → Option Traffic → Result NodeId ClientFault → Type 0
-BeginsSession moment old new before after result =
-    Does (λ s sent taken. BeginsAt (url_of (channel_of old)) moment s new sent taken result) old new before after most_reads most_reads result
+BeginsSession moment old new before after result = BeginsSessionAs anonymous_id moment old new before after result

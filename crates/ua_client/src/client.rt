@@ -6,7 +6,7 @@ ghost use Rattle.ua_client.specs.Calls.{CallsAll};
 ghost use Rattle.ua_client.specs.Client.{OpensNothing, OpensClient, IsDone, IsReady, IsLeft, Closes, client_channel, connection_of};
 ghost use Rattle.ua_client.specs.Hearing.{failures_behind};
 ghost use Rattle.ua_client.specs.Renewing.{Renews, IsRefusal};
-ghost use Rattle.ua_client.specs.Session.{BeginsSession};
+ghost use Rattle.ua_client.specs.Session.{BeginsSession, BeginsSessionAs};
 ghost use Rattle.ua_client.specs.declared.fault.ClientFault.TheVariants.{Closed};
 
 use crate::connection::Connection;
@@ -18,6 +18,9 @@ use ua_builtin::{DateTime, NodeId, UaString};
 use ua_channel::Line;
 use ua_frame::Limits;
 use ua_services::Request;
+
+/// The PolicyId of the token policy by which a session is begun where no other is given.
+const ANONYMOUS: &str = "anonymous";
 
 /// A client whose channel is open.
 #[derive(Drop)]
@@ -56,15 +59,7 @@ impl Client {
         }
     }
 
-    /// Begins a session of the client `urn:ua:client` at the server, and answers its AuthenticationToken,
-    /// which the requests of the session carry in their headers: asks CreateSession and, behind a good
-    /// response, ActivateSession by the policy `anonymous`, each as [`Client::call`] asks it, with the
-    /// request id as RequestHandle (OPC 10000-4, 5.7.2 and 5.7.3).
-    ///
-    /// It answers `Service` with the code of a ServiceFault, of an answer that the server gave up, or of a
-    /// bad ServiceResult. After `Service`, `TooLarge`, `NotWritable` and `Exhausted` the client may be
-    /// called again: what was asked was answered. A session that was created by then stays at the server.
-    /// After any other fault it is done.
+    /// Begins a session by the token policy `anonymous`, as [`Client::begin_session_as`] does.
     pub fn begin_session<L: Line>(
         &mut self,
         line: &mut L,
@@ -78,7 +73,41 @@ impl Client {
         if self.is_done {
             return Err(ClientFault::Closed);
         }
-        match self.connection.begin_session(self.alloc, line, moment) {
+        match UaString::from_str(self.alloc, ANONYMOUS) {
+            Ok(policy_id) => self.begin_session_as(line, policy_id, moment),
+            Err(_) => {
+                self.is_done = true;
+                Err(ClientFault::OutOfMemory)
+            }
+        }
+    }
+
+    /// Begins a session of the client `urn:ua:client` at the server, and answers its AuthenticationToken,
+    /// which the requests of the session carry in their headers: asks CreateSession and, behind a good
+    /// response, ActivateSession for a user without a name by the token policy with this PolicyId, as the
+    /// server's endpoints name it, each as [`Client::call`] asks it, with the request id as RequestHandle
+    /// (OPC 10000-4, 5.7.2 and 5.7.3).
+    ///
+    /// It answers `Service` with the code of a ServiceFault, of an answer that the server gave up, or of a
+    /// bad ServiceResult. After `Service`, `TooLarge`, `NotWritable` and `Exhausted` the client may be
+    /// called again: what was asked was answered. A session that was created by then stays at the server.
+    /// After any other fault it is done.
+    pub fn begin_session_as<L: Line>(
+        &mut self,
+        line: &mut L,
+        policy_id: UaString,
+        moment: DateTime,
+    ) -> Result<NodeId, ClientFault>
+        ensures begins { IsReady self.old → BeginsSessionAs policy_id moment (connection_of self.old) (connection_of self.new) (L.traffic line.old) (L.traffic line.new) result }
+        ensures left { IsReady self.old → IsLeft result self.new }
+        ensures closed { IsDone self.old → (result ≡ Err Closed) × (self.new ≡ self.old) × (line.new ≡ line.old) }
+        ensures failed { L.failures line.new ≡ failures_behind (L.failures line.old) result }
+    {
+        if self.is_done {
+            return Err(ClientFault::Closed);
+        }
+        let begun = self.connection.begin_session(self.alloc, line, policy_id, moment);
+        match begun {
             Ok(token) => Ok(token),
             Err(fault) => {
                 self.is_done = fault.ends();

@@ -1,7 +1,7 @@
 //! A client of OPC UA Binary over a line, under the security policy None (OPC 10000-4, 5.5 and 5.6;
 //! OPC 10000-6, 6.7 and 7.1).
 //!
-//! Its contracts are those of [`Client::open`], [`Client::begin_session`], [`Client::call_all`],
+//! Its contracts are those of [`Client::open`], [`Client::begin_session_as`], [`Client::call_all`],
 //! [`Client::renew`] and [`Client::close`]: what they write, and from which octets they answer.
 //!
 //! ```

@@ -3,7 +3,7 @@
 ghost use Rattle.std.specs.Prelude.{◌≡◌, None, IfOk, IfErr};
 ghost use Rattle.ua_channel.specs.Client.{url_of};
 ghost use Rattle.ua_client.specs.Hearing.{channel_of, failures_behind};
-ghost use Rattle.ua_client.specs.Session.{BeginsSession, CallsOneAt, Does, IsFailure, LacksToken, ServesAt, activating_at, brings_any, brings_token, creating_at, is_reply, reply_failure, response_failure};
+ghost use Rattle.ua_client.specs.Session.{BeginsSessionAs, CallsOneAt, Does, IsFailure, LacksToken, MakesRequest, ServesAt, activating_at, brings_any, brings_token, creating_at, is_reply, reply_failure, response_failure};
 ghost use Rattle.ua_client.specs.Site.{Site, At};
 
 use crate::connection::Connection;
@@ -11,9 +11,9 @@ use crate::fault::ClientFault;
 use crate::reply::{Reply, only_reply};
 use std::alloc::{AllocError, Global};
 use std::slice;
-use ua_builtin::{DateTime, NodeId, StatusCode};
+use ua_builtin::{DateTime, NodeId, StatusCode, UaString, WriteFault};
 use ua_channel::Line;
-use ua_requests::{activate_session_request, create_session_request};
+use ua_requests::{activate_session_request_as, create_session_request};
 use ua_services::{Request, Response, ResponseKind};
 
 /// Why the service that a response answers failed, if it did.
@@ -115,17 +115,25 @@ impl Connection {
         create_session_request(alloc, url, moment, self.channel.next_id())
     }
 
-    /// The ActivateSession under a token that would be asked next.
+    /// The ActivateSession under a token, by the token policy with an id, that would be asked next.
     fn activating(
         &self,
         alloc: Global,
         token: &NodeId,
+        policy_id: UaString,
         moment: DateTime,
-    ) -> Result<Request, AllocError>
-        ensures { (s : Site) → At (channel_of self.now) s → IfOk result (λ r. r ≡ activating_at token.now moment s) }
+    ) -> Result<Request, ClientFault>
+        ensures { MakesRequest (activating_at policy_id token.now moment) (channel_of self.now) result }
     {
-        let token = token.try_clone()?;
-        activate_session_request(alloc, token, moment, self.channel.next_id())
+        let Ok(token) = token.try_clone() else {
+            return Err(ClientFault::OutOfMemory);
+        };
+        let handle = self.channel.next_id();
+        match activate_session_request_as(alloc, token, policy_id, moment, handle) {
+            Ok(request) => Ok(request),
+            Err(WriteFault::OutOfMemory) => Err(ClientFault::OutOfMemory),
+            Err(WriteFault::NotWritable) => Err(ClientFault::NotWritable),
+        }
     }
 
     /// Asks CreateSession, and answers the token of the session.
@@ -148,20 +156,22 @@ impl Connection {
         }
     }
 
-    /// Asks ActivateSession under the token of a session.
+    /// Asks ActivateSession under the token of a session, by the token policy with an id.
     fn activate_session<L: Line>(
         &mut self,
         alloc: Global,
         line: &mut L,
         reads: &mut u64,
         token: &NodeId,
+        policy_id: UaString,
         moment: DateTime,
     ) -> Result<(), ClientFault>
-        ensures activates { Does (λ s sent taken. ServesAt (activating_at token.now moment s) brings_any s self.new sent taken result) self.old self.new (L.traffic line.old) (L.traffic line.new) reads.old reads.new result }
+        ensures activates { Does (λ s sent taken. ServesAt (activating_at policy_id token.now moment s) brings_any s self.new sent taken result) self.old self.new (L.traffic line.old) (L.traffic line.new) reads.old reads.new result }
         ensures failed { L.failures line.new ≡ failures_behind (L.failures line.old) result }
     {
-        let Ok(request) = self.activating(alloc, token, moment) else {
-            return Err(ClientFault::OutOfMemory);
+        let request = match self.activating(alloc, token, policy_id, moment) {
+            Ok(request) => request,
+            Err(fault) => return Err(fault),
         };
         match self.serve(alloc, line, reads, request, moment) {
             Ok(reply) => {
@@ -172,14 +182,16 @@ impl Connection {
         }
     }
 
-    /// Begins a session: CreateSession, and behind a good response ActivateSession under its token.
+    /// Begins a session: CreateSession, and behind a good response ActivateSession under its token, by
+    /// the token policy with an id.
     pub fn begin_session<L: Line>(
         &mut self,
         alloc: Global,
         line: &mut L,
+        policy_id: UaString,
         moment: DateTime,
     ) -> Result<NodeId, ClientFault>
-        ensures begins { BeginsSession moment self.old self.new (L.traffic line.old) (L.traffic line.new) result }
+        ensures begins { BeginsSessionAs policy_id moment self.old self.new (L.traffic line.old) (L.traffic line.new) result }
         ensures failed { L.failures line.new ≡ failures_behind (L.failures line.old) result }
     {
         let mut reads = u64::MAX;
@@ -187,7 +199,7 @@ impl Connection {
             Ok(token) => token,
             Err(fault) => return Err(fault),
         };
-        match self.activate_session(alloc, line, &mut reads, &token, moment) {
+        match self.activate_session(alloc, line, &mut reads, &token, policy_id, moment) {
             Ok(()) => Ok(token),
             Err(fault) => Err(fault),
         }
