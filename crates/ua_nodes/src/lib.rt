@@ -37,6 +37,7 @@ pub use laws::{
 };
 pub use node::{Access, Node, NodeValue, Variable};
 pub use node_file::{is_read, without_return};
+pub use range::is_range;
 pub use stamps::Stamps;
 pub use table::NodeTable;
 pub use type_name::parse_type;

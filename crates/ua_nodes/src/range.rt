@@ -1,6 +1,6 @@
 //! Index ranges (OPC 10000-4, 7.27).
 
-ghost use Rattle.std.specs.Prelude.{◌≡◌, ◌+◌, ◌-◌};
+ghost use Rattle.std.specs.Prelude.{◌≡◌, ◌+◌, ◌-◌, is_some};
 ghost use Rattle.ua_nodes.specs.Range.{range, single, between, asked_range};
 
 use crate::number::WholeNumber;
@@ -60,4 +60,12 @@ impl IndexRange {
             None
         }
     }
+}
+
+/// Whether a text names an index range, as the items of Read and Write are judged: `n` or `n:m`
+/// (OPC 10000-4, 7.27).
+pub fn is_range(text: &str) -> bool
+    ensures { result ≡ is_some (range text.now) }
+{
+    IndexRange::parse(text).is_some()
 }
