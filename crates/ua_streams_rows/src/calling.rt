@@ -43,6 +43,7 @@ pub fn step(
             Ok(token) => told.node(&token),
             Err(fault) => failed(client, course, fault, moment, told),
         },
+        "begin-as" => begin_as(client, course, row.1, moment, told),
         "call" => call(given, client, course, row.1, told),
         "call-all" => call_all(given, client, course, row.1, told),
         "renew" => match client.renew(&mut course.line, moment) {
@@ -54,6 +55,17 @@ pub fn step(
             Err(fault) => failed(client, course, fault, moment, told),
         },
         _ => told.fail("no row"),
+    }
+}
+
+/// Begins a session by the token policy with this id, and tells its token.
+fn begin_as(client: &mut Client, course: &mut Course, id: &str, moment: DateTime, told: &mut Told) {
+    let Some(id) = text_of(id, told) else {
+        return;
+    };
+    match client.begin_session_as(&mut course.line, id, moment) {
+        Ok(token) => told.node(&token),
+        Err(fault) => failed(client, course, fault, moment, told),
     }
 }
 

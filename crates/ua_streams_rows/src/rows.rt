@@ -119,6 +119,7 @@ impl Rows {
             | "judge"
             | "close"
             | "begin"
+            | "begin-as"
             | "call"
             | "call-all"
             | "last" => self.step(kind, words, told),
