@@ -3,7 +3,8 @@ use Rattle.std.specs.Prelude.{◌⊎◌, ℕ, Bool, List, Option}
 use Rattle.std.specs.Io.KnownBytes.{Appends}
 use Rattle.ua_pair.specs.declared.options.DissectOptions.{DissectOptions}
 use Rattle.ua_pair.specs.Dissected.{AreLines}
-use Rattle.ua_asking.specs.Printed.{AreAnswerLines}
+use Rattle.ua_asking.specs.Printed.{AreAnswerLines, AreEndpointLines}
+use Rattle.ua_texts.specs.Styles.{plain, plain_endpoints}
 use Rattle.ua_commands.specs.Dissects.{HasBegunDissecting}
 use Rattle.ua_commands.specs.Looped.{HasLoopedSome}
 use Rattle.ua_commands.specs.Served.{HasServed}
@@ -28,12 +29,16 @@ pub record HasAdded (Is : List ℕ → Type 0) (old new : Option (List ℕ)) : T
 
 -- such a writer then holds behind them the lines of the answers of a server, with the names of status codes where they are wanted
 abbrev pub HasAnswered : Bool → Option (List ℕ) → Option (List ℕ) → Type 0
-HasAnswered names old new = HasAdded (AreAnswerLines names) old new
+HasAnswered names old new = HasAdded (AreAnswerLines (plain names)) old new
 
--- the same, with or without names
+-- such a writer then holds behind them the lines of the endpoints of a server
+abbrev pub HasListed : Option (List ℕ) → Option (List ℕ) → Type 0
+HasListed old new = HasAdded (AreEndpointLines plain_endpoints) old new
+
+-- the same, with or without names, or the lines of endpoints
 pub record HasAnsweredSome (old new : Option (List ℕ)) : Type 0 where
   pub names : Bool
-  pub answered : HasAnswered names old new
+  pub answered : HasAnswered names old new ⊎ HasListed old new
 
 -- a writer that held the old octets then holds behind them the first lines of `ua serve` on some port
 pub record HasBegunServing (old new : Option (List ℕ)) : Type 0 where

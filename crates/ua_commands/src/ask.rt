@@ -1,7 +1,7 @@
 //! `ua endpoints`, `ua read` and `ua write`: what the server on a port of this machine is asked.
 
-ghost use Rattle.std.specs.Prelude.{◌≡◌, ◌⊎◌, false, OnOk, IfErr};
-ghost use Rattle.ua_commands.specs.Printed.{HasAnswered};
+ghost use Rattle.std.specs.Prelude.{◌≡◌, ◌⊎◌, OnOk, IfErr};
+ghost use Rattle.ua_commands.specs.Printed.{HasAnswered, HasListed};
 ghost use Rattle.ua_commands.specs.declared.output.Stop.TheVariants.{Output};
 
 use crate::arguments::{ReadNodes, WriteNode};
@@ -14,7 +14,12 @@ use std::alloc::Global;
 use std::io::Write;
 use std::net::{Ipv4Addr, Net, TcpStream};
 use std::time::Clock;
-use ua_asking::{Question, ask_over, endpoints_over};
+use ua_asking::{Question, TokenPolicy, ask_over, endpoints_over};
+use ua_builtin::UaString;
+use ua_texts::{EndpointStyle, LineStyle};
+
+/// The id of the attribute Value (OPC 10000-6, A.1).
+const VALUE: u32 = 13;
 
 /// A line to the server on a port of this machine.
 fn connect<'a, R: Net>(rt: &R, port: u16) -> Result<TcpLine<R::Stream>, Fault<'a>> {
@@ -30,8 +35,8 @@ pub fn endpoints<'a, R: Net + Clock + AllocGlobal, O: Write>(
     port: u16,
     out: &mut O,
 ) -> Result<(), Stop<'a>>
-    ensures answered { OnOk result (HasAnswered false (O.contents out.old) (O.contents out.new)) }
-    ensures stopped { IfErr result (λ stop. (stop ≡ Output) ⊎ (out.new ≡ out.old) ⊎ HasAnswered false (O.contents out.old) (O.contents out.new)) }
+    ensures answered { OnOk result (HasListed (O.contents out.old) (O.contents out.new)) }
+    ensures stopped { IfErr result (λ stop. (stop ≡ Output) ⊎ (out.new ≡ out.old) ⊎ HasListed (O.contents out.old) (O.contents out.new)) }
 {
     let mut line = connect(rt, port)?;
     let mut moments = ClockMoments::new(rt);
@@ -41,6 +46,7 @@ pub fn endpoints<'a, R: Net + Clock + AllocGlobal, O: Write>(
         &mut line,
         limits(),
         port,
+        EndpointStyle::plain(),
         &mut moments,
         &mut text,
     );
@@ -61,6 +67,7 @@ fn ask<'a, R: Net + Clock + AllocGlobal, O: Write>(
     ensures answered { OnOk result (HasAnswered names (O.contents out.old) (O.contents out.new)) }
     ensures stopped { IfErr result (λ stop. (stop ≡ Output) ⊎ (out.new ≡ out.old) ⊎ HasAnswered names (O.contents out.old) (O.contents out.new)) }
 {
+    let policy = TokenPolicy::Named(UaString::from_str(rt.alloc(), "anonymous")?);
     let mut line = connect(rt, port)?;
     let mut moments = ClockMoments::new(rt);
     let mut text = String::new(rt.alloc());
@@ -70,13 +77,18 @@ fn ask<'a, R: Net + Clock + AllocGlobal, O: Write>(
         limits(),
         port,
         question,
-        names,
+        &policy,
+        LineStyle::plain(names),
         &mut moments,
         &mut text,
     );
+    drop(policy);
     drop(line);
     say_lines(out, &text)?;
-    Ok(asked?)
+    match asked {
+        Ok(_) => Ok(()),
+        Err(fault) => Err(Stop::from(fault)),
+    }
 }
 
 /// Prints the Values of nodes of the server on a port of this machine.
@@ -88,7 +100,7 @@ pub fn read<'a, R: Net + Clock + AllocGlobal, O: Write>(
     ensures answered { OnOk result (HasAnswered asked.now.names (O.contents out.old) (O.contents out.new)) }
     ensures stopped { IfErr result (λ stop. (stop ≡ Output) ⊎ (out.new ≡ out.old) ⊎ HasAnswered asked.now.names (O.contents out.old) (O.contents out.new)) }
 {
-    let question = Question::parse_read(rt.alloc(), &asked.nodes)?;
+    let question = Question::parse_read(rt.alloc(), &asked.nodes, VALUE, None)?;
     ask(rt, asked.port, &question, asked.names, out)
 }
 

@@ -10,9 +10,11 @@ use std::alloc::Global;
 use std::io::{Read, Write};
 use std::net::Net;
 use std::rt::Files;
-use ua_asking::{AskFault, Question, ask_over, endpoints_over};
+use ua_asking::{AskFault, Question, TokenPolicy, ask_over, endpoints_over};
+use ua_builtin::UaString;
 use ua_channel::{Line, MemoryLine};
 use ua_commands::limits;
+use ua_texts::{EndpointStyle, LineStyle};
 
 /// The port in the server's address.
 const PORT: u16 = 4840;
@@ -65,20 +67,25 @@ fn asked<L: Line>(
 ) -> Result<Result<(), AskFault>, Fault> {
     let mut moments = moments(alloc)?;
     if question == "endpoints" {
-        return Ok(endpoints_over(alloc, line, limits(), PORT, &mut moments, out));
+        let style = EndpointStyle::plain();
+        return Ok(endpoints_over(alloc, line, limits(), PORT, style, &mut moments, out));
     }
     let (words, names) = named(question);
     let question = question_of(alloc, words)?;
-    Ok(ask_over(
+    let policy = TokenPolicy::Named(UaString::from_str(alloc, "anonymous")?);
+    let asked = ask_over(
         alloc,
         line,
         limits(),
         PORT,
         &question,
-        names,
+        &policy,
+        LineStyle::plain(names),
         &mut moments,
         out,
-    ))
+    );
+    drop(policy);
+    Ok(asked.map(|_| ()))
 }
 
 /// The words of a question, and whether the names of status codes are wanted: `--names` behind them.
@@ -93,7 +100,7 @@ fn named(question: &str) -> (&str, bool) {
 fn question_of(alloc: Global, words: &str) -> Result<Question, Fault> {
     let words: Vec<&str> = words.split_whitespace().collect(alloc)?;
     let question = match words.as_slice() {
-        ["read", nodes @ ..] => Question::parse_read(alloc, nodes),
+        ["read", nodes @ ..] => Question::parse_read(alloc, nodes, 13, None),
         ["write", node, kind, value] => Question::parse_write(alloc, node, kind, value),
         _ => return Err(Fault::NoRow),
     };
