@@ -30,4 +30,5 @@ nodes_more text_of texts nodes i d node within all names =
 pub nodes_refused : {A : Type 0} (text_of : A → List ℕ) (texts : List A) (i : ℕ) (d : A) (fault : WordFault) → i < length texts → GivesNode (text_of (get_or texts i d)) (Err fault) → NamesNoNodes text_of texts fault
 nodes_refused text_of texts i d word.BadNode within none = (i, get_or texts i d, within, get_or_default texts i (get_or texts i d) d within, none)
 nodes_refused text_of texts i d word.BadValue within none = none
+nodes_refused text_of texts i d word.BadRange within none = none
 nodes_refused text_of texts i d word.NoMemory within none = tt

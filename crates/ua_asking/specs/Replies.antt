@@ -7,9 +7,9 @@ use Rattle.ua_client.specs.declared.reply.Reply.TheVariants.{Response as Respond
 use Rattle.ua_services.specs.declared.response.Response.{Response}
 use Rattle.ua_structures.specs.declared.discovery.EndpointDescription.{EndpointDescription}
 use Rattle.ua_texts.specs.Replies.{AreEndpoints, endpoints_in, fault_in}
-use Rattle.ua_texts.specs.Styles.{plain_endpoints}
+use Rattle.ua_texts.specs.declared.style.EndpointStyle.{EndpointStyle}
 use Rattle.ua_asking.specs.declared.fault.AskFault.{AskFault}
-use Rattle.ua_asking.specs.declared.fault.AskFault.TheVariants.{Service, Connection, NoMemory}
+use Rattle.ua_asking.specs.declared.fault.AskFault.TheVariants.{Service, Connection, NoMemory, NoPolicy}
 
 -- ---- what a reply has
 
@@ -37,6 +37,7 @@ abbrev pub IsRefusedBy : Type 0 → Reply → AskFault → Type 0
 IsRefusedBy IsUnknown reply (Service code) = failure_in reply ≡ Some code
 IsRefusedBy IsUnknown reply (Connection UnknownResponse) = (failure_in reply ≡ None) × IsUnknown
 IsRefusedBy IsUnknown reply (Connection other) = ⊥
+IsRefusedBy IsUnknown reply NoPolicy = ⊥
 IsRefusedBy IsUnknown reply NoMemory = Unit {0}
 
 -- a reply that only says that the service is done; a fault, and that the service failed, are told
@@ -44,11 +45,12 @@ abbrev pub Expects : Result Reply AskFault → Result (Unit {0}) AskFault → Ty
 Expects (Ok reply) (Ok done) = failure_in reply ≡ None
 Expects (Ok reply) (Err (Service code)) = failure_in reply ≡ Some code
 Expects (Ok reply) (Err (Connection fault)) = ⊥
+Expects (Ok reply) (Err NoPolicy) = ⊥
 Expects (Ok reply) (Err NoMemory) = ⊥
 Expects (Err fault) result = result ≡ Err fault
 
--- the lines of the endpoints in a reply are added, or none, and why not is told
-abbrev pub PrintsEndpoints : List ℕ → List ℕ → Result Reply AskFault → Result (Unit {0}) AskFault → Type 0
-PrintsEndpoints had have (Ok reply) (Ok done) = AreEndpoints plain_endpoints (endpoints_of reply) had have
-PrintsEndpoints had have (Ok reply) (Err fault) = (have ≡ had) × IsRefusedBy (endpoints_of reply ≡ None) reply fault
-PrintsEndpoints had have (Err fault) result = (have ≡ had) × (result ≡ Err fault)
+-- the lines of the endpoints in a reply are added, in this style, or none, and why not is told
+abbrev pub PrintsEndpoints : EndpointStyle → List ℕ → List ℕ → Result Reply AskFault → Result (Unit {0}) AskFault → Type 0
+PrintsEndpoints style had have (Ok reply) (Ok done) = AreEndpoints style (endpoints_of reply) had have
+PrintsEndpoints style had have (Ok reply) (Err fault) = (have ≡ had) × IsRefusedBy (endpoints_of reply ≡ None) reply fault
+PrintsEndpoints style had have (Err fault) result = (have ≡ had) × (result ≡ Err fault)

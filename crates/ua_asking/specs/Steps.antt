@@ -5,7 +5,7 @@ use Rattle.ua_builtin.specs.declared.node_id.NodeId.{NodeId}
 use Rattle.ua_channel.specs.Line.{Traffic}
 use Rattle.ua_client.specs.Calls.{CallsAll}
 use Rattle.ua_client.specs.Client.{Closes, IsDone, IsLeft, IsReady, OpensClient, OpensNothing, client_channel, connection_of}
-use Rattle.ua_client.specs.Session.{BeginsSession}
+use Rattle.ua_client.specs.Session.{BeginsSessionAs}
 use Rattle.ua_client.specs.declared.client.Client.{Client}
 use Rattle.ua_client.specs.declared.fault.ClientFault.{ClientFault}
 use Rattle.ua_client.specs.declared.fault.ClientFault.TheVariants.{Closed}
@@ -24,9 +24,10 @@ abbrev pub told : {A : Type 0} → Result A ClientFault → Result A AskFault
 told (Ok found) = Ok found
 told (Err fault) = Err (of_client fault)
 
--- the first fault of two results, if there is one
-abbrev pub first_of : Result (Unit {0}) AskFault → Result (Unit {0}) AskFault → Result (Unit {0}) AskFault
-first_of (Ok done) second = second
+-- the first fault of two results, or what the first one is where there is none
+abbrev pub first_of : {A : Type 0} → Result A AskFault → Result (Unit {0}) AskFault → Result A AskFault
+first_of (Ok found) (Ok done) = Ok found
+first_of (Ok found) (Err fault) = Err fault
 first_of (Err fault) second = Err fault
 
 -- ---- opening
@@ -57,10 +58,10 @@ Calls request old new before after result =
 abbrev pub Asks : Request → Client → Client → Option Traffic → Option Traffic → Result Reply AskFault → Type 0
 Asks request old new before after result = ((result ≡ Err NoMemory) × (new ≡ old) × (after ≡ before)) ⊎ Calls request old new before after result
 
--- a session is begun
-abbrev pub Begins : DateTime → Client → Client → Option Traffic → Option Traffic → Result NodeId AskFault → Type 0
-Begins moment old new before after result =
-    CallsClient (λ answer. BeginsSession moment (connection_of old) (connection_of new) before after answer) old new before after result
+-- a session is begun by the token policy with this PolicyId
+abbrev pub Begins : Option (List ℕ) → DateTime → Client → Client → Option Traffic → Option Traffic → Result NodeId AskFault → Type 0
+Begins policy_id moment old new before after result =
+    CallsClient (λ answer. BeginsSessionAs policy_id moment (connection_of old) (connection_of new) before after answer) old new before after result
 
 -- ---- closing
 
@@ -74,11 +75,11 @@ pub record ClosesClient (moment : DateTime) (client : Client) (before after : Op
 -- ---- a whole conversation
 
 -- something was asked of a client, of which this holds, and the client was closed behind it; the first fault is told
-pub record Uses {M : Type 0} (gives : M → ℤ → M → Type 0) (last : M) (after : Option Traffic) (Asked : Client → M → Option Traffic → Result (Unit {0}) AskFault → Type 0) (result : Result (Unit {0}) AskFault) : Type 0 where
+pub record Uses {A M : Type 0} (gives : M → ℤ → M → Type 0) (last : M) (after : Option Traffic) (Asked : Client → M → Option Traffic → Result A AskFault → Type 0) (result : Result A AskFault) : Type 0 where
   pub asked : Client
   pub behind : M
   pub answered : Option Traffic
-  pub printed : Result (Unit {0}) AskFault
+  pub printed : Result A AskFault
   pub asks : Asked asked behind answered printed
   pub closed_at : DateTime
   pub given : gives behind closed_at.ticks last
@@ -88,8 +89,8 @@ pub record Uses {M : Type 0} (gives : M → ℤ → M → Type 0) (last : M) (af
 
 -- a client was opened to the server on a port of this machine, asked something, of which this holds, and closed, each step at the next
 -- moment; where none was opened that is told, and no line was added
-pub record Runs {M : Type 0} (gives : M → ℤ → M → Type 0) (limits : Limits) (port : ℕ) (first last : M) (before after : Option Traffic) (had have : List ℕ)
-    (Asked : Client → Client → M → M → Option Traffic → Option Traffic → Result (Unit {0}) AskFault → Type 0) (result : Result (Unit {0}) AskFault) : Type 0 where
+pub record Runs {A M : Type 0} (gives : M → ℤ → M → Type 0) (limits : Limits) (port : ℕ) (first last : M) (before after : Option Traffic) (had have : List ℕ)
+    (Asked : Client → Client → M → M → Option Traffic → Option Traffic → Result A AskFault → Type 0) (result : Result A AskFault) : Type 0 where
   pub opened_at : DateTime
   pub behind : M
   pub given : gives first opened_at.ticks behind

@@ -20,17 +20,18 @@ pub fn response_of(called: Result<Reply, AskFault>) -> Result<Response, AskFault
     }
 }
 
-/// Adds the lines of the endpoints in a reply, all or none.
+/// Adds the lines of the endpoints in a reply, all or none, in this style.
 pub fn print_endpoints(
     alloc: Global,
     out: &mut String,
     called: Result<Reply, AskFault>,
+    style: EndpointStyle,
 ) -> Result<(), AskFault>
-    ensures { PrintsEndpoints (string_bytes out.old) (string_bytes out.new) called result }
+    ensures { PrintsEndpoints style (string_bytes out.old) (string_bytes out.new) called result }
 {
     let response = response_of(called)?;
     let mut lines = String::new(alloc);
-    let pushed = push_endpoints(alloc, &mut lines, &response, EndpointStyle::plain());
+    let pushed = push_endpoints(alloc, &mut lines, &response, style);
     drop(response);
     pushed?;
     Ok(out.push_str(&lines)?)

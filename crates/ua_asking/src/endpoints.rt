@@ -1,10 +1,8 @@
 //! `ua endpoints`: the endpoints of a server.
 
-ghost use Rattle.std.specs.Prelude.{string_bytes, OnOk, Some, false};
-ghost use Rattle.ua_requests.specs.Requests.{get_endpoints, local_url as url_of};
-ghost use Rattle.ua_asking.specs.Endpoints.{AsksEndpoints, RunsEndpoints};
-ghost use Rattle.ua_asking.specs.Printed.{AddsAnswers, AddsLines};
-ghost use Rattle.ua_asking.specs.Steps.{Asks};
+ghost use Rattle.std.specs.Prelude.{string_bytes, OnOk};
+ghost use Rattle.ua_asking.specs.Endpoints.{AsksEndpoints, CallsEndpoints, RunsEndpoints};
+ghost use Rattle.ua_asking.specs.Printed.{AddsEndpoints, AddsOrNone, AreEndpointLines};
 
 use crate::answer::print_endpoints;
 use crate::fault::AskFault;
@@ -15,19 +13,20 @@ use ua_channel::{Line, Moments};
 use ua_client::{Client, Reply};
 use ua_frame::Limits;
 use ua_requests::{get_endpoints_request, local_url};
+use ua_texts::EndpointStyle;
 
 /// The request id of the first call of a client: its OPN has 1.
 const FIRST_CALL: u32 = 2;
 
 /// Calls GetEndpoints.
-fn call_endpoints<L: Line>(
+pub fn call_endpoints<L: Line>(
     alloc: Global,
     line: &mut L,
     client: &mut Client,
     port: u16,
     moment: DateTime,
 ) -> Result<Reply, AskFault>
-    ensures { Asks (get_endpoints (Some (url_of port)) moment 2) client.old client.new (L.traffic line.old) (L.traffic line.new) result }
+    ensures { CallsEndpoints port moment client.old client.new (L.traffic line.old) (L.traffic line.new) result }
 {
     let Ok(url) = local_url(alloc, port) else {
         return Err(AskFault::NoMemory);
@@ -42,17 +41,18 @@ fn ask_endpoints<L: Line, M: Moments>(
     line: &mut L,
     client: &mut Client,
     port: u16,
+    style: EndpointStyle,
     moments: &mut M,
     out: &mut String,
 ) -> Result<(), AskFault>
-    ensures { AsksEndpoints M.gives port moments.old moments.new client.old client.new (L.traffic line.old) (L.traffic line.new) (string_bytes out.old) (string_bytes out.new) result }
+    ensures { AsksEndpoints M.gives port style moments.old moments.new client.old client.new (L.traffic line.old) (L.traffic line.new) (string_bytes out.old) (string_bytes out.new) result }
 {
     let moment = next_moment(moments);
     let called = call_endpoints(alloc, line, client, port, moment);
-    print_endpoints(alloc, out, called)
+    print_endpoints(alloc, out, called, style)
 }
 
-/// Asks the server at the other end of a line for its endpoints, and adds their lines: as the server on
+/// Asks the server at the other end of a line for its endpoints, and adds their lines in this style: as the server on
 /// a port of this machine, whose connection stands at its beginning. A client is opened, calls
 /// GetEndpoints without a session and is closed, also behind a fault after which it may go on; the
 /// first fault is told. Each of these steps has the next moment.
@@ -61,17 +61,18 @@ pub fn endpoints_over<L: Line, M: Moments>(
     line: &mut L,
     limits: Limits,
     port: u16,
+    style: EndpointStyle,
     moments: &mut M,
     out: &mut String,
 ) -> Result<(), AskFault>
-    ensures runs { RunsEndpoints M.gives limits port moments.old moments.new (L.traffic line.old) (L.traffic line.new) (string_bytes out.old) (string_bytes out.new) result }
-    ensures adds { AddsAnswers false (string_bytes out.old) (string_bytes out.new) }
-    ensures answered { OnOk result (AddsLines false (string_bytes out.old) (string_bytes out.new)) }
+    ensures runs { RunsEndpoints M.gives limits port style moments.old moments.new (L.traffic line.old) (L.traffic line.new) (string_bytes out.old) (string_bytes out.new) result }
+    ensures adds { AddsOrNone (AreEndpointLines style) (string_bytes out.old) (string_bytes out.new) }
+    ensures answered { OnOk result (AddsEndpoints style (string_bytes out.old) (string_bytes out.new)) }
 {
     let opened_at = next_moment(moments);
     match open(alloc, line, limits, port, opened_at) {
         Ok(mut client) => {
-            let asked = ask_endpoints(alloc, line, &mut client, port, moments, out);
+            let asked = ask_endpoints(alloc, line, &mut client, port, style, moments, out);
             let closed_at = next_moment(moments);
             let closed = close(line, client, closed_at);
             first_of(asked, closed)

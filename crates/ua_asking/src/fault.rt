@@ -17,6 +17,9 @@ pub enum AskFault {
     /// A connection came to nothing, and why.
     #[error("connection {name}", name = FaultName(*.0))]
     Connection(ClientFault),
+    /// No endpoint without security has a token policy for users without a name.
+    #[error("no anonymous policy")]
+    NoPolicy,
     /// Memory was refused.
     #[error("no memory")]
     NoMemory,
@@ -72,6 +75,9 @@ pub enum WordFault {
     /// A word is no type, or another is no value of it.
     #[error("bad value")]
     BadValue,
+    /// A word names no index range.
+    #[error("bad range")]
+    BadRange,
     /// Memory was refused.
     #[error("no memory")]
     NoMemory,

@@ -6,7 +6,7 @@ ghost use Rattle.ua_asking.specs.Steps.{Begins, Calls, ClosesClient, OpensPort, 
 
 use crate::fault::AskFault;
 use std::alloc::Global;
-use ua_builtin::{DateTime, NodeId};
+use ua_builtin::{DateTime, NodeId, UaString};
 use ua_channel::{Line, Moments};
 use ua_client::{Client, ClientFault, Reply};
 use ua_frame::Limits;
@@ -32,13 +32,16 @@ fn told<A: Drop>(answer: Result<A, ClientFault>) -> Result<A, AskFault>
     }
 }
 
-/// The first of two faults, if there is one.
-pub fn first_of(first: Result<(), AskFault>, second: Result<(), AskFault>) -> Result<(), AskFault>
+/// The first of two faults, or what the first one found where there is none.
+pub fn first_of<A: Drop>(
+    first: Result<A, AskFault>,
+    second: Result<(), AskFault>,
+) -> Result<A, AskFault>
     ensures { result ≡ first_of first second }
 {
-    match first {
-        Ok(()) => second,
-        Err(fault) => Err(fault),
+    match (first, second) {
+        (Ok(found), Ok(())) => Ok(found),
+        (Ok(_), Err(fault)) | (Err(fault), _) => Err(fault),
     }
 }
 
@@ -59,15 +62,16 @@ pub fn open<L: Line>(
     told(Client::open(alloc, line, limits, url, moment))
 }
 
-/// Begins a session.
+/// Begins a session by the token policy with an id.
 pub fn begin<L: Line>(
     line: &mut L,
     client: &mut Client,
+    policy_id: UaString,
     moment: DateTime,
 ) -> Result<NodeId, AskFault>
-    ensures { Begins moment client.old client.new (L.traffic line.old) (L.traffic line.new) result }
+    ensures { Begins policy_id moment client.old client.new (L.traffic line.old) (L.traffic line.new) result }
 {
-    told(client.begin_session(line, moment))
+    told(client.begin_session_as(line, policy_id, moment))
 }
 
 /// Calls a request.

@@ -1,13 +1,13 @@
 //! What is asked by words of a command line.
 
-ghost use Rattle.std.specs.Prelude.{IfOk, IfErr};
-ghost use Rattle.ua_asking.specs.Words.{AreNodes, GivesNode, GivesRead, GivesTyped, GivesWrite, NamesNoNodes};
+ghost use Rattle.std.specs.Prelude.{IfOk, IfErr, option_map};
+ghost use Rattle.ua_asking.specs.Words.{AreNodes, GivesNode, GivesRange, GivesRead, GivesTyped, GivesWrite, NamesNoNodes};
 
 use crate::fault::WordFault;
 use crate::question::Question;
 use std::alloc::Global;
-use ua_builtin::NodeId;
-use ua_nodes::{parse_type, parse_value};
+use ua_builtin::{NodeId, UaString};
+use ua_nodes::{is_range, parse_type, parse_value};
 use ua_variant::Variant;
 
 /// The NodeId that a word names; `BadNode` where it names none.
@@ -40,14 +40,44 @@ fn parse_typed(alloc: Global, kind: &str, text: &str) -> Result<Variant, WordFau
     Ok(parse_value(alloc, kind, array, text)?)
 }
 
+/// The index range that a text names, null where there is no text; `BadRange` where it names none.
+fn parse_range(alloc: Global, text: Option<&str>) -> Result<UaString, WordFault>
+    ensures { GivesRange (option_map (λ t. t.now) text.entry) result }
+{
+    let Some(text) = text else {
+        return Ok(UaString::null());
+    };
+    if !is_range(text) {
+        return Err(WordFault::BadRange);
+    }
+    match UaString::from_str(alloc, text) {
+        Ok(range) => Ok(range),
+        Err(_) => Err(WordFault::NoMemory),
+    }
+}
+
 impl Question {
-    /// What the texts of nodes ask: to read their Values, in their order. `BadNode` where one of them
-    /// names no NodeId.
-    pub fn parse_read(alloc: Global, nodes: &[&str]) -> Result<Question, WordFault>
-        ensures { GivesRead (λ text. text.now) nodes.now result }
+    /// What the texts of nodes ask: to read an attribute of them, by its id (OPC 10000-6, A.1), in their
+    /// order, or the part of it that an index range names. `BadNode` where one of them names no NodeId,
+    /// else `BadRange` where the text of the range names none that `ua_nodes` serves.
+    pub fn parse_read(
+        alloc: Global,
+        nodes: &[&str],
+        attribute: u32,
+        range: Option<&str>,
+    ) -> Result<Question, WordFault>
+        ensures { GivesRead (λ text. text.now) nodes.now attribute (option_map (λ t. t.now) range.entry) result }
     {
-        match parse_node_list(alloc, nodes) {
-            Ok(nodes) => Ok(Question::Read(nodes)),
+        let nodes = match parse_node_list(alloc, nodes) {
+            Ok(nodes) => nodes,
+            Err(fault) => return Err(fault),
+        };
+        match parse_range(alloc, range) {
+            Ok(range) => Ok(Question::Read {
+                nodes,
+                attribute,
+                range,
+            }),
             Err(fault) => Err(fault),
         }
     }

@@ -2,7 +2,7 @@ use Rattle.ua_asking.proofs.Runs.{endpoints_add, endpoints_answer}
 use Rattle.ua_asking.proofs.endpoints.endpoints_over.Goals as goal
 
 pub returns-in-Ok-clause-adds : goal.returns-in-Ok-clause-adds
-returns-in-Ok-clause-adds g c = endpoints_add _ _ _ _ _ _ c.ask_endpoints-asked.ensures.prints c.first_of.ensures
+returns-in-Ok-clause-adds g c = endpoints_add _ _ _ _ _ _ _ c.ask_endpoints-asked.ensures.prints c.first_of.ensures
 
 pub returns-in-Ok-clause-answered : goal.returns-in-Ok-clause-answered
-returns-in-Ok-clause-answered g c = endpoints_answer _ _ _ _ _ _ c.ask_endpoints-asked.ensures.prints c.first_of.ensures
+returns-in-Ok-clause-answered g c = endpoints_answer _ _ _ _ _ _ _ c.ask_endpoints-asked.ensures.prints c.first_of.ensures

@@ -15,6 +15,6 @@ returns g c = record {
   ended_at = c.next_moment-ended_at.result;
   ending_given = c.next_moment-ended_at.ensures;
   ended = c.end_session-ended.result;
-  ends = ends_by _ _ _ _ _ _ _ _ _ c.handle_behind-handle.ensures c.end_session-ended.ensures;
+  ends = ends_by _ _ _ _ _ _ _ _ _ c.handle_behind-behind.ensures c.end_session-ended.ensures;
   result_is = c.first_of.ensures;
 }
