@@ -20,7 +20,10 @@ fn tells_that_no_connection_can_be_taken(rt: HostRuntime) -> Result<(), Fail> {
     let mut out = Vec::new(rt.alloc());
     let stopped = serve_all(&rt, &listener, &mut served, &asked, &mut out);
     drop(served);
-    assert_eq!(rt; stopped, Err(Stop::Fault(Fault::CannotListen)));
+    let Err(Stop::Because(fault, _)) = stopped else {
+        panic!(rt; "a reason");
+    };
+    assert_eq!(rt; fault, Fault::CannotListen);
     assert_eq!(rt; out.as_slice(), b"listening 4840\n".as_slice());
     Ok(())
 }

@@ -116,12 +116,12 @@ fn fails_where_a_writer_fails(rt: HostRuntime) -> Result<(), Fail> {
 #[test]
 fn numbers_that_are_not_given_are_1_and_65535(rt: HostRuntime) {
     let words = ["ua", "serve", "nodes.txt", "007"];
-    let Ok(Some(Task::Serve(asked))) = parse(rt.alloc(), &words) else {
+    let Some(Task::Serve(asked)) = task_of(&rt, &words) else {
         panic!(rt; "a server");
     };
     assert_eq!(rt; (asked.port, asked.connections), (7, 1));
     let words = ["ua", "loop", "nodes.txt", "script.txt"];
-    let Ok(Some(Task::Loop(asked))) = parse(rt.alloc(), &words) else {
+    let Some(Task::Loop(asked)) = task_of(&rt, &words) else {
         panic!(rt; "a script");
     };
     assert_eq!(rt; (asked.cut, asked.tcp), (65535, false));
@@ -156,12 +156,17 @@ fn names_are_wanted_where_the_words_say_so(rt: HostRuntime) {
 /// Whether the words ask for the names of status codes; nothing where they ask for something that has
 /// none, or for nothing.
 fn wants_names(rt: &HostRuntime, words: &[&str]) -> Option<bool> {
-    match parse(rt.alloc(), words) {
-        Ok(Some(Task::Read(asked))) => Some(asked.names),
-        Ok(Some(Task::Write(asked))) => Some(asked.names),
-        Ok(Some(Task::Loop(asked))) => Some(asked.names),
+    match task_of(rt, words)? {
+        Task::Read(asked) => Some(asked.names),
+        Task::Write(asked) => Some(asked.names),
+        Task::Loop(asked) => Some(asked.names),
         _ => None,
     }
+}
+
+/// What the words ask for, if they parse.
+fn task_of<'a>(rt: &HostRuntime, words: &'a [&'a str]) -> Option<Task<'a>> {
+    parse(rt.alloc(), words).ok()?.task.ok()
 }
 
 // What the script prints has 77 octets. The server ends before it takes a connection.

@@ -2,3 +2,4 @@ mod HexParts
 mod Loops
 mod Readings
 mod Serves
+mod Stops

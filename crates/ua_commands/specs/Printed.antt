@@ -1,5 +1,5 @@
 -- What a run leaves on a stream.
-use Rattle.std.specs.Prelude.{◌⊎◌, ℕ, Bool, List, Option}
+use Rattle.std.specs.Prelude.{◌⊎◌, ℕ, Bool, List, Option, codes}
 use Rattle.std.specs.Io.KnownBytes.{Appends}
 use Rattle.ua_pair.specs.declared.options.DissectOptions.{DissectOptions}
 use Rattle.ua_pair.specs.Dissected.{AreLines}
@@ -57,6 +57,10 @@ pub record HasToldSome (old new : Option (List ℕ)) : Type 0 where
 abbrev pub HasBegun : Option (List ℕ) → Option (List ℕ) → Type 0
 HasBegun old new = HasToldSome old new ⊎ HasBegunServing old new ⊎ HasAnsweredSome old new ⊎ HasLoopedSome old new
 
+-- what `ua version` prints: the name, the version, and the kit that it was proved with
+abbrev pub version_line : List ℕ
+version_line = codes "ua 0.1.0 rattle-kit-13f logic dac8208d650f15bf\n"
+
 -- what a run adds that does what its words ask for
 abbrev pub HasPrinted : Option (List ℕ) → Option (List ℕ) → Type 0
-HasPrinted old new = HasDissected old new ⊎ HasBegun old new
+HasPrinted old new = HasDissected old new ⊎ HasBegun old new ⊎ Appends old new version_line

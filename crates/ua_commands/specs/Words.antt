@@ -1,7 +1,7 @@
 -- What the words of the command line ask for.
 use Rattle.std.specs.Prelude.{◌≤◌, ⊤}
 use Rattle.ua_commands.specs.declared.arguments.Task.{Task}
-use Rattle.ua_commands.specs.declared.arguments.Task.TheVariants.{Dissect, Serve, Endpoints, Read, Write, Loop}
+use Rattle.ua_commands.specs.declared.arguments.Task.TheVariants.{Dissect, Serve, Endpoints, Read, Write, Loop, Version}
 
 -- each number among them is at least 1
 abbrev pub CountsFromOne : Task → Type 0
@@ -11,3 +11,4 @@ CountsFromOne (Endpoints port) = 1 ≤ port
 CountsFromOne (Read asked) = 1 ≤ asked.port
 CountsFromOne (Write asked) = 1 ≤ asked.port
 CountsFromOne (Loop asked) = 1 ≤ asked.cut
+CountsFromOne Version = ⊤

@@ -1,6 +1,6 @@
 //! The command line.
 
-ghost use Rattle.std.specs.Prelude.{◌≤◌, IfOk, IfSome};
+ghost use Rattle.std.specs.Prelude.{◌≤◌, IfOk};
 ghost use Rattle.ua_commands.specs.Words.{CountsFromOne};
 
 use crate::commands;
@@ -25,6 +25,35 @@ pub enum Task<'a> {
     Write(WriteNode<'a>),
     /// Run a script over nodes, both ends within this process.
     Loop(Loop<'a>),
+    /// Print the version.
+    Version,
+}
+
+/// A word that is no number of those that its place takes; its text stands behind `ua: ` on standard
+/// error.
+#[derive(Clone, Copy, PartialEq, Eq, Debug, thiserror::Error)]
+pub enum BadNumber<'a> {
+    /// A port, a count or a cut.
+    #[error("a number is not from 1 to 65535")]
+    Number(&'a str),
+}
+
+impl<'a> BadNumber<'a> {
+    /// The word.
+    pub fn word(self) -> &'a str {
+        match self {
+            BadNumber::Number(word) => word,
+        }
+    }
+}
+
+/// What words ask for that parse.
+#[derive(Drop)]
+pub struct Parsed<'a> {
+    /// What is to be done, unless a word is no number.
+    pub task: Result<Task<'a>, BadNumber<'a>>,
+    /// Whether the reasons of faults are told.
+    pub why: bool,
 }
 
 /// The words of `ua dissect`.
@@ -98,123 +127,65 @@ fn side_of(matches: &ArgMatches<'_>) -> Side {
     }
 }
 
-/// The number from 1 to 65535 that a word is.
-fn number_of(matches: &ArgMatches<'_>, name: &str) -> Option<u16>
-    ensures { IfSome result (λ number. 1 ≤ number) }
-{
-    match matches.get_str(name) {
-        Some(word) => parse_number(word),
-        None => None,
-    }
+/// A word that is needed, or has a default.
+fn text_of<'a>(matches: &ArgMatches<'a>, name: &str) -> &'a str {
+    // Never: `clap` refuses words without it.
+    matches.get_str(name).unwrap_or("")
 }
 
-fn dissect_of<'a>(matches: &ArgMatches<'a>) -> Option<Task<'a>>
-    ensures { IfSome result CountsFromOne }
+/// The number from 1 to 65535 that a word is.
+fn number_of<'a>(matches: &ArgMatches<'a>, name: &str) -> Result<u16, BadNumber<'a>>
+    ensures { IfOk result (λ number. 1 ≤ number) }
 {
-    let hex = matches.get_flag("hex");
+    let word = text_of(matches, name);
+    parse_number(word).ok_or(BadNumber::Number(word))
+}
+
+fn dissect_of<'a>(matches: &ArgMatches<'a>) -> Dissect<'a> {
     let options = DissectOptions {
         side: side_of(matches),
         fields: matches.get_flag("fields"),
         names: matches.get_flag("names"),
     };
-    match matches.get_str("FILE") {
-        Some(file) => Some(Task::Dissect(Dissect { file, hex, options })),
-        None => None,
+    Dissect {
+        file: text_of(matches, "FILE"),
+        hex: matches.get_flag("hex"),
+        options,
     }
 }
 
-fn serve_of<'a>(matches: &ArgMatches<'a>) -> Option<Task<'a>>
-    ensures { IfSome result CountsFromOne }
+fn serve_of<'a>(matches: &ArgMatches<'a>) -> Result<Serve<'a>, BadNumber<'a>>
+    ensures { IfOk result (λ asked. (1 ≤ asked.port) × (1 ≤ asked.connections)) }
 {
-    let (Some(nodes), Some(port), Some(connections)) = (
-        matches.get_str("NODES"),
-        number_of(matches, "PORT"),
-        number_of(matches, "connections"),
-    ) else {
-        return None;
-    };
-    Some(Task::Serve(Serve {
-        nodes,
-        port,
-        connections,
-    }))
-}
-
-/// The words of a Write.
-fn written_of<'a>(matches: &ArgMatches<'a>) -> Option<WriteNode<'a>>
-    ensures { IfSome result (λ asked. 1 ≤ asked.port) }
-{
-    let Some(port) = number_of(matches, "PORT") else {
-        return None;
-    };
-    let Some(node) = matches.get_str("NODE") else {
-        return None;
-    };
-    let Some(kind) = matches.get_str("TYPE") else {
-        return None;
-    };
-    let Some(value) = matches.get_str("VALUE") else {
-        return None;
-    };
-    let names = matches.get_flag("names");
-    Some(WriteNode {
-        port,
-        node,
-        kind,
-        value,
-        names,
+    Ok(Serve {
+        nodes: text_of(matches, "NODES"),
+        port: number_of(matches, "PORT")?,
+        connections: number_of(matches, "connections")?,
     })
 }
 
-fn write_of<'a>(matches: &ArgMatches<'a>) -> Option<Task<'a>>
-    ensures { IfSome result CountsFromOne }
+fn write_of<'a>(matches: &ArgMatches<'a>) -> Result<WriteNode<'a>, BadNumber<'a>>
+    ensures { IfOk result (λ asked. 1 ≤ asked.port) }
 {
-    match written_of(matches) {
-        Some(asked) => Some(Task::Write(asked)),
-        None => None,
-    }
-}
-
-fn endpoints_of<'a>(matches: &ArgMatches<'a>) -> Option<Task<'a>>
-    ensures { IfSome result CountsFromOne }
-{
-    match number_of(matches, "PORT") {
-        Some(port) => Some(Task::Endpoints(port)),
-        None => None,
-    }
-}
-
-/// The words of a script.
-fn looped_of<'a>(matches: &ArgMatches<'a>) -> Option<Loop<'a>>
-    ensures { IfSome result (λ asked. 1 ≤ asked.cut) }
-{
-    let Some(nodes) = matches.get_str("NODES") else {
-        return None;
-    };
-    let Some(script) = matches.get_str("SCRIPT") else {
-        return None;
-    };
-    let Some(cut) = number_of(matches, "cut") else {
-        return None;
-    };
-    let tcp = matches.get_flag("tcp");
-    let names = matches.get_flag("names");
-    Some(Loop {
-        nodes,
-        script,
-        cut,
-        tcp,
-        names,
+    Ok(WriteNode {
+        port: number_of(matches, "PORT")?,
+        node: text_of(matches, "NODE"),
+        kind: text_of(matches, "TYPE"),
+        value: text_of(matches, "VALUE"),
+        names: matches.get_flag("names"),
     })
 }
 
-fn loop_of<'a>(matches: &ArgMatches<'a>) -> Option<Task<'a>>
-    ensures { IfSome result CountsFromOne }
+fn loop_of<'a>(matches: &ArgMatches<'a>) -> Result<Loop<'a>, BadNumber<'a>>
+    ensures { IfOk result (λ asked. 1 ≤ asked.cut) }
 {
-    match looped_of(matches) {
-        Some(asked) => Some(Task::Loop(asked)),
-        None => None,
-    }
+    Ok(Loop {
+        nodes: text_of(matches, "NODES"),
+        script: text_of(matches, "SCRIPT"),
+        cut: number_of(matches, "cut")?,
+        tcp: matches.get_flag("tcp"),
+        names: matches.get_flag("names"),
+    })
 }
 
 /// The words for nodes.
@@ -222,17 +193,17 @@ fn nodes_of<'a>(alloc: Global, matches: &ArgMatches<'a>) -> Result<Vec<&'a str>,
     matches.get_strs("NODE").unwrap_or(&[]).to_vec(alloc)
 }
 
-fn read_of<'a>(alloc: Global, matches: &ArgMatches<'a>) -> Result<Option<Task<'a>>, AllocError>
-    ensures { IfOk result (λ task. IfSome task CountsFromOne) }
+fn read_of<'a>(
+    nodes: Vec<&'a str>,
+    matches: &ArgMatches<'a>,
+) -> Result<ReadNodes<'a>, BadNumber<'a>>
+    ensures { IfOk result (λ asked. 1 ≤ asked.port) }
 {
-    let names = matches.get_flag("names");
-    match number_of(matches, "PORT") {
-        Some(port) => match nodes_of(alloc, matches) {
-            Ok(nodes) => Ok(Some(Task::Read(ReadNodes { port, nodes, names }))),
-            Err(error) => Err(error),
-        },
-        None => Ok(None),
-    }
+    Ok(ReadNodes {
+        port: number_of(matches, "PORT")?,
+        nodes,
+        names: matches.get_flag("names"),
+    })
 }
 
 /// The commands, by their names.
@@ -244,53 +215,58 @@ enum Name {
     Read,
     Write,
     Loop,
+    Version,
 }
 
 /// The command of this name.
-fn name_of(command: &str) -> Option<Name> {
+fn name_of(command: &str) -> Name {
     match command {
-        "dissect" => Some(Name::Dissect),
-        "serve" => Some(Name::Serve),
-        "endpoints" => Some(Name::Endpoints),
-        "read" => Some(Name::Read),
-        "write" => Some(Name::Write),
-        "loop" => Some(Name::Loop),
-        _ => None,
+        "dissect" => Name::Dissect,
+        "serve" => Name::Serve,
+        "endpoints" => Name::Endpoints,
+        "read" => Name::Read,
+        "write" => Name::Write,
+        "loop" => Name::Loop,
+        // `clap` takes no other name.
+        _ => Name::Version,
     }
 }
 
-/// What the words of a command ask for.
+/// What the words of a command ask for. Those for nodes stand beside them.
 fn task_of<'a>(
-    alloc: Global,
     command: Name,
+    nodes: Vec<&'a str>,
     matches: &ArgMatches<'a>,
-) -> Result<Option<Task<'a>>, AllocError>
-    ensures { IfOk result (λ task. IfSome task CountsFromOne) }
+) -> Result<Task<'a>, BadNumber<'a>>
+    ensures { IfOk result CountsFromOne }
 {
     match command {
-        Name::Dissect => Ok(dissect_of(matches)),
-        Name::Serve => Ok(serve_of(matches)),
-        Name::Endpoints => Ok(endpoints_of(matches)),
-        Name::Read => read_of(alloc, matches),
-        Name::Write => Ok(write_of(matches)),
-        Name::Loop => Ok(loop_of(matches)),
+        Name::Dissect => Ok(Task::Dissect(dissect_of(matches))),
+        Name::Serve => Ok(Task::Serve(serve_of(matches)?)),
+        Name::Endpoints => Ok(Task::Endpoints(number_of(matches, "PORT")?)),
+        Name::Read => Ok(Task::Read(read_of(nodes, matches)?)),
+        Name::Write => Ok(Task::Write(write_of(matches)?)),
+        Name::Loop => Ok(Task::Loop(loop_of(matches)?)),
+        Name::Version => Ok(Task::Version),
     }
 }
 
 /// What the command among the words asks for.
-fn subcommand_task<'a>(
-    alloc: Global,
-    matches: &ArgMatches<'a>,
-) -> Result<Option<Task<'a>>, AllocError>
-    ensures { IfOk result (λ task. IfSome task CountsFromOne) }
+fn parsed_of<'a>(alloc: Global, matches: &ArgMatches<'a>) -> Result<Parsed<'a>, AllocError>
+    ensures { IfOk result (λ parsed. IfOk parsed.task CountsFromOne) }
 {
     let Some((command, found)) = matches.subcommand() else {
-        return Ok(None);
+        // Never: a command is needed.
+        return Ok(Parsed {
+            task: Ok(Task::Version),
+            why: false,
+        });
     };
-    match name_of(command) {
-        Some(command) => task_of(alloc, command, found),
-        None => Ok(None),
-    }
+    let nodes = nodes_of(alloc, found)?;
+    Ok(Parsed {
+        task: task_of(name_of(command), nodes, found),
+        why: found.get_flag("why"),
+    })
 }
 
 /// What `clap` finds among the words.
@@ -298,13 +274,12 @@ fn matches_of<'a, S: AsStr>(alloc: Global, words: &'a [S]) -> Result<ArgMatches<
     commands::program(alloc)?.try_get_matches_from(words)
 }
 
-/// What the words ask for, of which the first is the program's name; nothing where a number among
-/// them is none from 1 to 65535.
-pub fn parse<'a, S: AsStr>(alloc: Global, words: &'a [S]) -> Result<Option<Task<'a>>, Error>
-    ensures { IfOk result (λ task. IfSome task CountsFromOne) }
+/// What the words ask for, of which the first is the program's name.
+pub fn parse<'a, S: AsStr>(alloc: Global, words: &'a [S]) -> Result<Parsed<'a>, Error>
+    ensures { IfOk result (λ parsed. IfOk parsed.task CountsFromOne) }
 {
     let matches = matches_of(alloc, words)?;
-    let task = subcommand_task(alloc, &matches);
+    let parsed = parsed_of(alloc, &matches);
     drop(matches);
-    Ok(task?)
+    Ok(parsed?)
 }

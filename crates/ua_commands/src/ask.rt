@@ -6,8 +6,8 @@ ghost use Rattle.ua_commands.specs.declared.output.Stop.TheVariants.{Output};
 
 use crate::arguments::{ReadNodes, WriteNode};
 use crate::clock_moments::ClockMoments;
-use crate::fault::Fault;
 use crate::output::{Stop, say_lines};
+use crate::reason::cannot_connect;
 use crate::serve::limits;
 use crate::tcp_line::{TcpLine, without_delay};
 use std::alloc::Global;
@@ -22,10 +22,10 @@ use ua_texts::{EndpointStyle, LineStyle};
 const VALUE: u32 = 13;
 
 /// A line to the server on a port of this machine.
-fn connect<'a, R: Net>(rt: &R, port: u16) -> Result<TcpLine<R::Stream>, Fault<'a>> {
+fn connect<'a, R: Net>(rt: &R, port: u16) -> Result<TcpLine<R::Stream>, Stop<'a>> {
     match TcpStream::connect(rt, (Ipv4Addr::LOCALHOST, port)) {
         Ok(stream) => Ok(TcpLine::new(without_delay(stream))),
-        Err(_) => Err(Fault::CannotConnect),
+        Err(error) => Err(cannot_connect(error)),
     }
 }
 

@@ -104,6 +104,12 @@ const NAMES: Word = Word {
     help: "the standard's name stands behind each status code that has one",
 };
 
+const WHY: Word = Word {
+    name: "why",
+    kind: FLAG,
+    help: "behind a fault stands what is known of its reason",
+};
+
 const DISSECT: &[Word] = &[
     Word {
         name: "FILE",
@@ -130,6 +136,7 @@ const DISSECT: &[Word] = &[
         kind: FLAG,
         help: "each status code has its standard name behind it",
     },
+    WHY,
 ];
 
 const SERVE: &[Word] = &[
@@ -140,7 +147,10 @@ const SERVE: &[Word] = &[
         kind: CONNECTIONS,
         help: "how many connections are served, from 1 to 65535",
     },
+    WHY,
 ];
+
+const ENDPOINTS: &[Word] = &[PORT, WHY];
 
 const READ: &[Word] = &[
     PORT,
@@ -150,6 +160,7 @@ const READ: &[Word] = &[
         help: "a NodeId, as ns=1;s=Pump",
     },
     NAMES,
+    WHY,
 ];
 
 const WRITE: &[Word] = &[
@@ -170,6 +181,7 @@ const WRITE: &[Word] = &[
         help: "a value of the type; one that begins with - stands behind the word --",
     },
     NAMES,
+    WHY,
 ];
 
 const LOOP: &[Word] = &[
@@ -190,6 +202,7 @@ const LOOP: &[Word] = &[
         help: "the same octets go over a connection within this process, too",
     },
     NAMES,
+    WHY,
 ];
 
 /// The commands, in the order of the help.
@@ -207,7 +220,7 @@ const COMMANDS: &[Words] = &[
     Words {
         name: "endpoints",
         help: "prints the endpoints of a server",
-        words: &[PORT],
+        words: ENDPOINTS,
     },
     Words {
         name: "read",
@@ -223,6 +236,11 @@ const COMMANDS: &[Words] = &[
         name: "loop",
         help: "runs a script over nodes, with both ends within this process",
         words: LOOP,
+    },
+    Words {
+        name: "version",
+        help: "prints the version, and the kit that it is proved with",
+        words: &[],
     },
 ];
 

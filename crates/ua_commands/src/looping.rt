@@ -8,9 +8,10 @@ ghost use Rattle.ua_server.specs.declared.step.End.TheVariants.{Closed};
 
 use crate::arguments::Loop;
 use crate::fault::Fault;
-use crate::input::{parse_nodes, read_text};
+use crate::input::{load_nodes, read_text};
 use crate::loop_line::LoopLine;
 use crate::output::{Stop, say_lines};
+use crate::reason::{blame_step, cannot_connect, cannot_listen};
 use crate::serve::{limits, services};
 use crate::tcp_line::without_delay;
 use std::alloc::{AllocError, Global};
@@ -58,19 +59,22 @@ fn outcome<'a>(ended: Result<End, ServeFault>, is_carried: bool) -> Result<(), F
 }
 
 /// The two ends of one connection within this process.
-fn connection<'a, R: Net>(rt: &R) -> Result<(R::Stream, R::Stream), Fault<'a>> {
-    let Ok(listener) = TcpListener::bind(rt, (Ipv4Addr::LOCALHOST, 0)) else {
-        return Err(Fault::CannotListen);
+fn connection<'a, R: Net>(rt: &R) -> Result<(R::Stream, R::Stream), Stop<'a>> {
+    let listener = match TcpListener::bind(rt, (Ipv4Addr::LOCALHOST, 0)) {
+        Ok(listener) => listener,
+        Err(error) => return Err(cannot_listen(error)),
     };
-    let Ok(address) = listener.local_addr() else {
-        return Err(Fault::CannotListen);
+    let address = match listener.local_addr() {
+        Ok(address) => address,
+        Err(error) => return Err(cannot_listen(error)),
     };
-    let Ok(near) = TcpStream::connect(rt, address) else {
-        return Err(Fault::CannotConnect);
+    let near = match TcpStream::connect(rt, address) {
+        Ok(near) => near,
+        Err(error) => return Err(cannot_connect(error)),
     };
     match listener.accept() {
         Ok((far, _)) => Ok((without_delay(near), without_delay(far))),
-        Err(_) => Err(Fault::CannotListen),
+        Err(error) => Err(cannot_listen(error)),
     }
 }
 
@@ -95,10 +99,10 @@ fn carry_over_tcp<'a, R: Net + AllocGlobal>(
     rt: &R,
     nodes: &str,
     looped: &Looped,
-) -> Result<(), Fault<'a>> {
+) -> Result<(), Stop<'a>> {
     let (near, far) = connection(rt)?;
     let mut line = LoopLine::new(near, far, &looped.up, &looped.down);
-    carry_over(rt.alloc(), nodes, &mut line)
+    Ok(carry_over(rt.alloc(), nodes, &mut line)?)
 }
 
 /// Runs the script of a text over nodes, each end taking what the other wrote in pieces of so many
@@ -118,6 +122,23 @@ pub fn run_script(
     run_lines(alloc, nodes, &lines, cut, names)
 }
 
+/// The same, with the field that is to blame for a bad line.
+fn run_text<'a>(
+    alloc: Global,
+    nodes: NodeTable,
+    script: &str,
+    cut: u16,
+    names: bool,
+) -> Result<Looped, Stop<'a>>
+    requires sound { IsSound nodes }
+    ensures ran { IfOk result (λ looped. RunsScript names nodes script.now looped) }
+{
+    match run_script(alloc, nodes, script, cut, names) {
+        Ok(looped) => Ok(looped),
+        Err(fault) => Err(blame_step(alloc, script, fault)),
+    }
+}
+
 /// Runs the script of a file over the nodes of another, and prints the answers to its lines and how
 /// many octets went each way. Where a reply is a fault, the answers in front of it are printed.
 pub fn run_files<'a, R: Files + Net + AllocGlobal, O: Write>(
@@ -129,9 +150,9 @@ pub fn run_files<'a, R: Files + Net + AllocGlobal, O: Write>(
     ensures stopped { IfErr result (λ stop. (stop ≡ Output) ⊎ (out.new ≡ out.old) ⊎ HasLoopedUntil asked.now.names stop (O.contents out.old) (O.contents out.new)) }
 {
     let text = read_text(rt, asked.nodes)?;
-    let nodes = parse_nodes(rt.alloc(), &text)?;
+    let nodes = load_nodes(rt.alloc(), &text)?;
     let script = read_text(rt, asked.script)?;
-    let looped = run_script(rt.alloc(), nodes, &script, asked.cut, asked.names)?;
+    let looped = run_text(rt.alloc(), nodes, &script, asked.cut, asked.names)?;
     if asked.tcp {
         carry_over_tcp(rt, &text, &looped)?;
     }

@@ -5,6 +5,7 @@ ghost use Rattle.std.specs.Io.KnownBytes.{Appends};
 ghost use Rattle.ua_commands.specs.declared.output.Stop.TheVariants.{Output};
 
 use crate::fault::Fault;
+use crate::reason::Reason;
 use std::alloc::AllocError;
 use std::io;
 use std::io::Write;
@@ -12,10 +13,12 @@ use ua_asking::{AskFault, WordFault};
 use ua_looping::LoopFault;
 
 /// Why a command stops.
-#[derive(Clone, Copy, PartialEq, Eq, Debug)]
+#[derive(Drop, Debug)]
 pub enum Stop<'a> {
     /// A fault, which is told.
     Fault(Fault<'a>),
+    /// A fault, which is told, and what more is known of it.
+    Because(Fault<'a>, Reason),
     /// What it prints cannot be written.
     Output,
 }

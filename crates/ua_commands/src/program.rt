@@ -7,16 +7,19 @@ ghost use Rattle.std.specs.declared.io.ErrorKind.TheVariants.{OutOfMemory};
 ghost use Rattle.ua_commands.specs.Printed.{HasBegun, HasDissected, HasPrinted, HasToldSome};
 ghost use Rattle.ua_commands.specs.declared.output.Stop.TheVariants.{Output};
 
-use crate::arguments::{self, Dissect, Task};
+use crate::arguments::{self, BadNumber, Dissect, Parsed, Task};
 use crate::ask::{endpoints, read, write};
 use crate::dissect::dissect_source;
 use crate::fault::Fault;
 use crate::input::open_file;
 use crate::looping::run_files;
-use crate::output::{Stop, write_text};
+use crate::output::{Stop, say, write_text};
+use crate::reason::{Reason, push_reason, push_word};
 use crate::serve::serve_connections;
+use crate::version::version_line;
+use crate::watched::Watched;
 use clap::error::ErrorKind;
-use std::alloc::Global;
+use std::alloc::{AllocError, Global};
 use std::convert::AsStr;
 use std::io;
 use std::io::{Read, Write};
@@ -40,14 +43,18 @@ pub fn run<S: AsStr, R: Files + Net + Clock + AllocGlobal, I: Read, O: Write, E:
     ensures refused { result ≡ 2 → out.new ≡ out.old }
     ensures streams { (out.new ≡ out.old) ⊎ (err.new ≡ err.old) ⊎ HasBegun (O.contents out.old) (O.contents out.new) }
 {
-    let task = match arguments::parse(rt.alloc(), words) {
-        Ok(Some(task)) => task,
-        Ok(None) => return print(err, "ua: a number is not from 1 to 65535\n", 2),
+    let Parsed { task, why } = match arguments::parse(rt.alloc(), words) {
+        Ok(parsed) => parsed,
         Err(error) => return refuse(rt.alloc(), &error, err),
+    };
+    let task = match task {
+        Ok(task) => task,
+        Err(bad) => return tell_number(rt.alloc(), bad, why, err),
     };
     match perform(rt, task, input, out) {
         Ok(()) => 0,
-        Err(Stop::Fault(fault)) => tell(rt.alloc(), &fault, err),
+        Err(Stop::Because(fault, reason)) if why => tell_why(rt.alloc(), &fault, &reason, err),
+        Err(Stop::Fault(fault)) | Err(Stop::Because(fault, _)) => tell(rt.alloc(), &fault, err),
         Err(Stop::Output) => 1,
     }
 }
@@ -69,6 +76,7 @@ fn perform<'a, R: Files + Net + Clock + AllocGlobal, I: Read, O: Write>(
         Task::Read(asked) => read(rt, &asked, out),
         Task::Write(asked) => write(rt, &asked, out),
         Task::Loop(asked) => run_files(rt, &asked, out),
+        Task::Version => say(out, version_line()),
     }
 }
 
@@ -85,6 +93,26 @@ fn refuse<E: Write>(alloc: Global, error: &clap::Error, err: &mut E) -> u8
     }
 }
 
+/// Tells which word is no number, and with `why` the word. The status is 2, or 1 where memory was
+/// refused or `err` fails.
+fn tell_number<E: Write>(alloc: Global, bad: BadNumber<'_>, why: bool, err: &mut E) -> u8
+    ensures { (result ≡ 1) ⊎ (result ≡ 2) }
+{
+    match number_text(alloc, bad, why) {
+        Ok(text) => print(err, text.as_str(), 2),
+        Err(AllocError) => print(err, "ua: no memory\n", 1),
+    }
+}
+
+/// What is told of a word that is no number.
+fn number_text(alloc: Global, bad: BadNumber<'_>, why: bool) -> Result<String, AllocError> {
+    let mut text = format!(in alloc; "ua: {bad}\n")?;
+    if why {
+        push_word(alloc, &mut text, bad.word())?;
+    }
+    Ok(text)
+}
+
 /// Tells a fault. The status is 1.
 fn tell<E: Write>(alloc: Global, fault: &Fault<'_>, err: &mut E) -> u8
     ensures { result ≡ 1 }
@@ -93,6 +121,23 @@ fn tell<E: Write>(alloc: Global, fault: &Fault<'_>, err: &mut E) -> u8
         Ok(text) => print(err, text.as_str(), 1),
         Err(_) => print(err, "ua: no memory\n", 1),
     }
+}
+
+/// Tells a fault, and behind it its reason. The status is 1.
+fn tell_why<E: Write>(alloc: Global, fault: &Fault<'_>, reason: &Reason, err: &mut E) -> u8
+    ensures { result ≡ 1 }
+{
+    match fault_text(alloc, fault, reason) {
+        Ok(text) => print(err, text.as_str(), 1),
+        Err(AllocError) => print(err, "ua: no memory\n", 1),
+    }
+}
+
+/// What is told of a fault and its reason.
+fn fault_text(alloc: Global, fault: &Fault<'_>, reason: &Reason) -> Result<String, AllocError> {
+    let mut text = format!(in alloc; "ua: {fault}\n")?;
+    push_reason(alloc, &mut text, reason)?;
+    Ok(text)
 }
 
 /// Prints the frames and messages of a file, or of the input where it is named `-`.
@@ -106,10 +151,27 @@ fn dissect<'a, R: Files + AllocGlobal, I: Read, O: Write>(
     ensures stopped { IfErr result (λ stop. (stop ≡ Output) ⊎ (out.new ≡ out.old) ⊎ HasToldSome (O.contents out.old) (O.contents out.new)) }
 {
     if asked.file == "-" {
-        return dissect_some(rt.alloc(), asked, input, out);
+        return dissect_watched(rt.alloc(), asked, input, out);
     }
     let mut file = open_file(rt, asked.file)?;
-    dissect_some(rt.alloc(), asked, &mut file, out)
+    dissect_watched(rt.alloc(), asked, &mut file, out)
+}
+
+/// Prints the lines of what a source gives, and says what the system says where it cannot be read.
+fn dissect_watched<'a, I: Read, O: Write>(
+    alloc: Global,
+    asked: &Dissect<'a>,
+    source: &mut I,
+    out: &mut O,
+) -> Result<(), Stop<'a>>
+    ensures dissected { OnOk result (HasDissected (O.contents out.old) (O.contents out.new)) }
+    ensures stopped { IfErr result (λ stop. (stop ≡ Output) ⊎ HasToldSome (O.contents out.old) (O.contents out.new)) }
+{
+    let mut watched = Watched::new(source);
+    match dissect_some(alloc, asked, &mut watched, out) {
+        Err(Stop::Fault(fault)) => Err(watched.blame(fault)),
+        ended => ended,
+    }
 }
 
 /// Prints the lines of what a source gives.

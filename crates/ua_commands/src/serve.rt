@@ -14,6 +14,7 @@ use crate::clock_moments::ClockMoments;
 use crate::fault::Fault;
 use crate::input::{parse_nodes, read_text};
 use crate::output::{Stop, say};
+use crate::reason::{blame_line, cannot_listen};
 use crate::tcp_line::{TcpLine, without_delay};
 use std::alloc::{AllocError, Global};
 use std::io::Write;
@@ -110,8 +111,9 @@ fn serve_next<'a, R: Net + Clock + AllocGlobal, O: Write>(
     ensures served { OnOk result (ServesOne number (O.contents out.old) (O.contents out.new)) }
     ensures stopped { IfErr result (λ stop. (stop ≡ Output) ⊎ (out.new ≡ out.old)) }
 {
-    let Ok((stream, _)) = listener.accept() else {
-        return Err(Stop::Fault(Fault::CannotListen));
+    let stream = match listener.accept() {
+        Ok((stream, _)) => stream,
+        Err(error) => return Err(cannot_listen(error)),
     };
     let mut line = TcpLine::new(without_delay(stream));
     let mut moments = ClockMoments::new(rt);
@@ -127,16 +129,19 @@ fn serve_next<'a, R: Net + Clock + AllocGlobal, O: Write>(
 }
 
 /// The services over the nodes of a file.
-fn load<'a, R: Files + AllocGlobal>(rt: &R, asked: &Serve<'a>) -> Result<Services, Fault<'a>> {
+fn load<'a, R: Files + AllocGlobal>(rt: &R, asked: &Serve<'a>) -> Result<Services, Stop<'a>> {
     let text = read_text(rt, asked.nodes)?;
-    services(rt.alloc(), &text, asked.port)
+    match services(rt.alloc(), &text, asked.port) {
+        Ok(services) => Ok(services),
+        Err(fault) => Err(blame_line(rt.alloc(), &text, fault)),
+    }
 }
 
 /// Takes connections on a port of this machine from now on.
-fn listen<'a, R: Net>(rt: &R, port: u16) -> Result<R::Listener, Fault<'a>> {
+fn listen<'a, R: Net>(rt: &R, port: u16) -> Result<R::Listener, Stop<'a>> {
     match TcpListener::bind(rt, (Ipv4Addr::LOCALHOST, port)) {
         Ok(listener) => Ok(listener),
-        Err(_) => Err(Fault::CannotListen),
+        Err(error) => Err(cannot_listen(error)),
     }
 }
 
