@@ -157,8 +157,8 @@ fn names_are_wanted_where_the_words_say_so(rt: HostRuntime) {
 /// none, or for nothing.
 fn wants_names(rt: &HostRuntime, words: &[&str]) -> Option<bool> {
     match task_of(rt, words)? {
-        Task::Read(asked) => Some(asked.names),
-        Task::Write(asked) => Some(asked.names),
+        Task::Read(asked) => Some(asked.style.names),
+        Task::Write(asked) => Some(asked.style.names),
         Task::Loop(asked) => Some(asked.names),
         _ => None,
     }

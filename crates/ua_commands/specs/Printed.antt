@@ -1,10 +1,11 @@
 -- What a run leaves on a stream.
-use Rattle.std.specs.Prelude.{◌⊎◌, ℕ, Bool, List, Option, codes}
+use Rattle.std.specs.Prelude.{◌⊎◌, ℕ, List, Option, codes}
 use Rattle.std.specs.Io.KnownBytes.{Appends}
 use Rattle.ua_pair.specs.declared.options.DissectOptions.{DissectOptions}
 use Rattle.ua_pair.specs.Dissected.{AreLines}
 use Rattle.ua_asking.specs.Printed.{AreAnswerLines, AreEndpointLines}
-use Rattle.ua_texts.specs.Styles.{plain, plain_endpoints}
+use Rattle.ua_texts.specs.declared.style.EndpointStyle.{EndpointStyle}
+use Rattle.ua_texts.specs.declared.style.LineStyle.{LineStyle}
 use Rattle.ua_commands.specs.Dissects.{HasBegunDissecting}
 use Rattle.ua_commands.specs.Looped.{HasLoopedSome}
 use Rattle.ua_commands.specs.Served.{HasServed}
@@ -27,18 +28,23 @@ pub record HasAdded (Is : List ℕ → Type 0) (old new : Option (List ℕ)) : T
   pub is : Is text
   pub added : Appends old new text
 
--- such a writer then holds behind them the lines of the answers of a server, with the names of status codes where they are wanted
-abbrev pub HasAnswered : Bool → Option (List ℕ) → Option (List ℕ) → Type 0
-HasAnswered names old new = HasAdded (AreAnswerLines (plain names)) old new
+-- such a writer then holds behind them the lines of the answers of a server, in this style
+abbrev pub HasAnswered : LineStyle → Option (List ℕ) → Option (List ℕ) → Type 0
+HasAnswered style old new = HasAdded (AreAnswerLines style) old new
 
--- such a writer then holds behind them the lines of the endpoints of a server
-abbrev pub HasListed : Option (List ℕ) → Option (List ℕ) → Type 0
-HasListed old new = HasAdded (AreEndpointLines plain_endpoints) old new
+-- such a writer then holds behind them the lines of the endpoints of a server, in this style
+abbrev pub HasListed : EndpointStyle → Option (List ℕ) → Option (List ℕ) → Type 0
+HasListed style old new = HasAdded (AreEndpointLines style) old new
 
--- the same, with or without names, or the lines of endpoints
+-- the lines of the answers of a server, in some style
 pub record HasAnsweredSome (old new : Option (List ℕ)) : Type 0 where
-  pub names : Bool
-  pub answered : HasAnswered names old new ⊎ HasListed old new
+  pub style : LineStyle
+  pub answered : HasAnswered style old new
+
+-- the lines of the endpoints of a server, in some style
+pub record HasListedSome (old new : Option (List ℕ)) : Type 0 where
+  pub style : EndpointStyle
+  pub listed : HasListed style old new
 
 -- a writer that held the old octets then holds behind them the first lines of `ua serve` on some port
 pub record HasBegunServing (old new : Option (List ℕ)) : Type 0 where
@@ -53,9 +59,9 @@ pub record HasToldSome (old new : Option (List ℕ)) : Type 0 where
   pub source : Option (List ℕ)
   pub lines : HasBegunDissecting hex options source old new
 
--- what a run may add that then meets a fault: the lines of frames, the first lines of `ua serve`, lines of answers, or those of a script
+-- what a run may add that then meets a fault: the lines of frames, the first lines of `ua serve`, lines of endpoints or of answers, or those of a script
 abbrev pub HasBegun : Option (List ℕ) → Option (List ℕ) → Type 0
-HasBegun old new = HasToldSome old new ⊎ HasBegunServing old new ⊎ HasAnsweredSome old new ⊎ HasLoopedSome old new
+HasBegun old new = HasToldSome old new ⊎ HasBegunServing old new ⊎ HasListedSome old new ⊎ HasAnsweredSome old new ⊎ HasLoopedSome old new
 
 -- what `ua version` prints: the name, the version, and the kit that it was proved with
 abbrev pub version_line : List ℕ

@@ -1,14 +1,15 @@
 //! The command line.
 
 ghost use Rattle.std.specs.Prelude.{◌≤◌, IfOk};
-ghost use Rattle.ua_commands.specs.Words.{CountsFromOne};
+ghost use Rattle.ua_commands.specs.Words.{CountsFromOne, IsAttributeNumber};
 
 use crate::commands;
-use crate::number::parse_number;
+use crate::number::{parse_attribute, parse_number};
 use clap::{ArgMatches, Error};
 use std::alloc::{AllocError, Global};
 use std::convert::AsStr;
 use ua_pair::{DissectOptions, Side};
+use ua_texts::{EndpointStyle, LineStyle};
 
 /// What the words ask for.
 #[derive(Drop)]
@@ -17,9 +18,9 @@ pub enum Task<'a> {
     Dissect(Dissect<'a>),
     /// Serve connections, one after the other.
     Serve(Serve<'a>),
-    /// Print the endpoints of the server on a port of this machine.
-    Endpoints(u16),
-    /// Read the values of nodes.
+    /// Print the endpoints of a server.
+    Endpoints(ListEndpoints),
+    /// Read an attribute of nodes.
     Read(ReadNodes<'a>),
     /// Write the value of a node.
     Write(WriteNode<'a>),
@@ -36,13 +37,16 @@ pub enum BadNumber<'a> {
     /// A port, a count or a cut.
     #[error("a number is not from 1 to 65535")]
     Number(&'a str),
+    /// The number of an attribute.
+    #[error("an attribute is not from 1 to 27")]
+    Attribute(&'a str),
 }
 
 impl<'a> BadNumber<'a> {
     /// The word.
     pub fn word(self) -> &'a str {
         match self {
-            BadNumber::Number(word) => word,
+            BadNumber::Number(word) | BadNumber::Attribute(word) => word,
         }
     }
 }
@@ -78,6 +82,15 @@ pub struct Serve<'a> {
     pub connections: u16,
 }
 
+/// The words of `ua endpoints`.
+#[derive(Clone, Copy)]
+pub struct ListEndpoints {
+    /// A port of this machine.
+    pub port: u16,
+    /// How the endpoints are printed.
+    pub style: EndpointStyle,
+}
+
 /// The words of `ua read`.
 #[derive(Drop)]
 pub struct ReadNodes<'a> {
@@ -85,8 +98,16 @@ pub struct ReadNodes<'a> {
     pub port: u16,
     /// The texts of NodeIds.
     pub nodes: Vec<&'a str>,
-    /// Whether status codes are named.
-    pub names: bool,
+    /// The number of the attribute that is read.
+    pub attribute: u32,
+    /// The text of the index range of all nodes, if there is one.
+    pub range: Option<&'a str>,
+    /// The id of a token policy, or `auto`.
+    pub policy: &'a str,
+    /// How the answers are printed.
+    pub style: LineStyle,
+    /// Whether a bad status code has a status of its own.
+    pub strict: bool,
 }
 
 /// The words of `ua write`.
@@ -100,8 +121,12 @@ pub struct WriteNode<'a> {
     pub kind: &'a str,
     /// The text of a value of that type.
     pub value: &'a str,
-    /// Whether status codes are named.
-    pub names: bool,
+    /// The id of a token policy, or `auto`.
+    pub policy: &'a str,
+    /// How the answer is printed.
+    pub style: LineStyle,
+    /// Whether a bad status code has a status of its own.
+    pub strict: bool,
 }
 
 /// The words of `ua loop`.
@@ -117,6 +142,8 @@ pub struct Loop<'a> {
     pub tcp: bool,
     /// Whether status codes are named.
     pub names: bool,
+    /// Whether a bad status code has a status of its own.
+    pub strict: bool,
 }
 
 fn side_of(matches: &ArgMatches<'_>) -> Side {
@@ -139,6 +166,36 @@ fn number_of<'a>(matches: &ArgMatches<'a>, name: &str) -> Result<u16, BadNumber<
 {
     let word = text_of(matches, name);
     parse_number(word).ok_or(BadNumber::Number(word))
+}
+
+/// The number of an attribute that a word is.
+fn attribute_of<'a>(matches: &ArgMatches<'a>) -> Result<u32, BadNumber<'a>>
+    ensures { IfOk result IsAttributeNumber }
+{
+    let word = text_of(matches, "attribute");
+    parse_attribute(word).ok_or(BadNumber::Attribute(word))
+}
+
+/// How answers are printed. Only `ua read` has timestamps.
+fn style_of(matches: &ArgMatches<'_>) -> LineStyle {
+    LineStyle {
+        names: matches.get_flag("names"),
+        times: matches.get_flag("times"),
+        json: matches.get_flag("json"),
+    }
+}
+
+fn endpoints_of<'a>(matches: &ArgMatches<'a>) -> Result<ListEndpoints, BadNumber<'a>>
+    ensures { IfOk result (λ asked. 1 ≤ asked.port) }
+{
+    let style = EndpointStyle {
+        policies: matches.get_flag("policies"),
+        json: matches.get_flag("json"),
+    };
+    Ok(ListEndpoints {
+        port: number_of(matches, "PORT")?,
+        style,
+    })
 }
 
 fn dissect_of<'a>(matches: &ArgMatches<'a>) -> Dissect<'a> {
@@ -172,7 +229,9 @@ fn write_of<'a>(matches: &ArgMatches<'a>) -> Result<WriteNode<'a>, BadNumber<'a>
         node: text_of(matches, "NODE"),
         kind: text_of(matches, "TYPE"),
         value: text_of(matches, "VALUE"),
-        names: matches.get_flag("names"),
+        policy: text_of(matches, "policy"),
+        style: style_of(matches),
+        strict: matches.get_flag("strict"),
     })
 }
 
@@ -185,6 +244,7 @@ fn loop_of<'a>(matches: &ArgMatches<'a>) -> Result<Loop<'a>, BadNumber<'a>>
         cut: number_of(matches, "cut")?,
         tcp: matches.get_flag("tcp"),
         names: matches.get_flag("names"),
+        strict: matches.get_flag("strict"),
     })
 }
 
@@ -197,12 +257,17 @@ fn read_of<'a>(
     nodes: Vec<&'a str>,
     matches: &ArgMatches<'a>,
 ) -> Result<ReadNodes<'a>, BadNumber<'a>>
-    ensures { IfOk result (λ asked. 1 ≤ asked.port) }
+    ensures port { IfOk result (λ asked. 1 ≤ asked.port) }
+    ensures attribute { IfOk result (λ asked. IsAttributeNumber asked.attribute) }
 {
     Ok(ReadNodes {
         port: number_of(matches, "PORT")?,
         nodes,
-        names: matches.get_flag("names"),
+        attribute: attribute_of(matches)?,
+        range: matches.get_str("range"),
+        policy: text_of(matches, "policy"),
+        style: style_of(matches),
+        strict: matches.get_flag("strict"),
     })
 }
 
@@ -243,7 +308,7 @@ fn task_of<'a>(
     match command {
         Name::Dissect => Ok(Task::Dissect(dissect_of(matches))),
         Name::Serve => Ok(Task::Serve(serve_of(matches)?)),
-        Name::Endpoints => Ok(Task::Endpoints(number_of(matches, "PORT")?)),
+        Name::Endpoints => Ok(Task::Endpoints(endpoints_of(matches)?)),
         Name::Read => Ok(Task::Read(read_of(nodes, matches)?)),
         Name::Write => Ok(Task::Write(write_of(matches)?)),
         Name::Loop => Ok(Task::Loop(loop_of(matches)?)),

@@ -1,25 +1,25 @@
 //! `ua endpoints`, `ua read` and `ua write`: what the server on a port of this machine is asked.
 
-ghost use Rattle.std.specs.Prelude.{◌≡◌, ◌⊎◌, OnOk, IfErr};
+ghost use Rattle.std.specs.Prelude.{◌≡◌, ◌⊎◌, true, false, option_map, OnOk, IfOk, IfErr};
+ghost use Rattle.ua_asking.specs.Words.{GivesRead, GivesWrite};
+ghost use Rattle.ua_asking.specs.declared.verdict.Verdict.TheVariants.{AllGood, SomeBad};
 ghost use Rattle.ua_commands.specs.Printed.{HasAnswered, HasListed};
+ghost use Rattle.ua_commands.specs.Words.{policy_named};
 ghost use Rattle.ua_commands.specs.declared.output.Stop.TheVariants.{Output};
 
-use crate::arguments::{ReadNodes, WriteNode};
+use crate::arguments::{ListEndpoints, ReadNodes, WriteNode};
 use crate::clock_moments::ClockMoments;
 use crate::output::{Stop, say_lines};
 use crate::reason::cannot_connect;
 use crate::serve::limits;
 use crate::tcp_line::{TcpLine, without_delay};
-use std::alloc::Global;
+use std::alloc::{AllocError, Global};
 use std::io::Write;
 use std::net::{Ipv4Addr, Net, TcpStream};
 use std::time::Clock;
-use ua_asking::{Question, TokenPolicy, ask_over, endpoints_over};
+use ua_asking::{Question, TokenPolicy, Verdict, WordFault, ask_over, endpoints_over};
 use ua_builtin::UaString;
-use ua_texts::{EndpointStyle, LineStyle};
-
-/// The id of the attribute Value (OPC 10000-6, A.1).
-const VALUE: u32 = 13;
+use ua_texts::LineStyle;
 
 /// A line to the server on a port of this machine.
 fn connect<'a, R: Net>(rt: &R, port: u16) -> Result<TcpLine<R::Stream>, Stop<'a>> {
@@ -32,76 +32,123 @@ fn connect<'a, R: Net>(rt: &R, port: u16) -> Result<TcpLine<R::Stream>, Stop<'a>
 /// Prints the endpoints of the server on a port of this machine.
 pub fn endpoints<'a, R: Net + Clock + AllocGlobal, O: Write>(
     rt: &R,
-    port: u16,
+    asked: &ListEndpoints,
     out: &mut O,
 ) -> Result<(), Stop<'a>>
-    ensures answered { OnOk result (HasListed (O.contents out.old) (O.contents out.new)) }
-    ensures stopped { IfErr result (λ stop. (stop ≡ Output) ⊎ (out.new ≡ out.old) ⊎ HasListed (O.contents out.old) (O.contents out.new)) }
+    ensures answered { OnOk result (HasListed asked.now.style (O.contents out.old) (O.contents out.new)) }
+    ensures stopped { IfErr result (λ stop. (stop ≡ Output) ⊎ (out.new ≡ out.old) ⊎ HasListed asked.now.style (O.contents out.old) (O.contents out.new)) }
 {
-    let mut line = connect(rt, port)?;
+    let mut line = connect(rt, asked.port)?;
     let mut moments = ClockMoments::new(rt);
     let mut text = String::new(rt.alloc());
-    let asked = endpoints_over(
+    let ended = endpoints_over(
         rt.alloc(),
         &mut line,
         limits(),
-        port,
-        EndpointStyle::plain(),
+        asked.port,
+        asked.style,
         &mut moments,
         &mut text,
     );
     drop(line);
     say_lines(out, &text)?;
-    Ok(asked?)
+    Ok(ended?)
 }
 
-/// Asks the server on a port of this machine a question, and prints the answers, with
-/// the names of status codes where they are wanted.
-fn ask<'a, R: Net + Clock + AllocGlobal, O: Write>(
-    rt: &R,
-    port: u16,
-    question: &Question,
-    names: bool,
-    out: &mut O,
-) -> Result<(), Stop<'a>>
-    ensures answered { OnOk result (HasAnswered names (O.contents out.old) (O.contents out.new)) }
-    ensures stopped { IfErr result (λ stop. (stop ≡ Output) ⊎ (out.new ≡ out.old) ⊎ HasAnswered names (O.contents out.old) (O.contents out.new)) }
+/// The token policy that a word names: with `auto` the one that the server offers, else the one of
+/// this id.
+pub fn policy_of(alloc: Global, word: &str) -> Result<TokenPolicy, AllocError>
+    ensures { IfOk result (λ policy. policy ≡ policy_named word.now) }
 {
-    let policy = TokenPolicy::Named(UaString::from_str(rt.alloc(), "anonymous")?);
-    let mut line = connect(rt, port)?;
-    let mut moments = ClockMoments::new(rt);
-    let mut text = String::new(rt.alloc());
-    let asked = ask_over(
-        rt.alloc(),
-        &mut line,
-        limits(),
-        port,
-        question,
-        &policy,
-        LineStyle::plain(names),
-        &mut moments,
-        &mut text,
-    );
-    drop(policy);
-    drop(line);
-    say_lines(out, &text)?;
-    match asked {
-        Ok(_) => Ok(()),
-        Err(fault) => Err(Stop::from(fault)),
+    match word {
+        "auto" => Ok(TokenPolicy::Auto),
+        _ => Ok(TokenPolicy::Named(UaString::from_str(alloc, word)?)),
     }
 }
 
-/// Prints the Values of nodes of the server on a port of this machine.
+/// What is asked of a server, and how its answers are printed.
+#[derive(Drop)]
+struct Asked {
+    port: u16,
+    question: Question,
+    policy: TokenPolicy,
+    style: LineStyle,
+}
+
+/// Asks the server on a port of this machine a question, and prints the answers.
+fn ask<'a, R: Net + Clock + AllocGlobal, O: Write>(
+    rt: &R,
+    asked: &Asked,
+    out: &mut O,
+) -> Result<Verdict, Stop<'a>>
+    ensures answered { OnOk result (HasAnswered asked.now.style (O.contents out.old) (O.contents out.new)) }
+    ensures stopped { IfErr result (λ stop. (stop ≡ Output) ⊎ (out.new ≡ out.old) ⊎ HasAnswered asked.now.style (O.contents out.old) (O.contents out.new)) }
+{
+    let mut line = connect(rt, asked.port)?;
+    let mut moments = ClockMoments::new(rt);
+    let mut text = String::new(rt.alloc());
+    let ended = ask_over(
+        rt.alloc(),
+        &mut line,
+        limits(),
+        asked.port,
+        &asked.question,
+        &asked.policy,
+        asked.style,
+        &mut moments,
+        &mut text,
+    );
+    drop(line);
+    say_lines(out, &text)?;
+    Ok(ended?)
+}
+
+/// What counts of the codes of answers: bad ones only where `--strict` asks for them.
+fn counted(verdict: Verdict, strict: bool) -> Verdict
+    ensures strict { result ≡ SomeBad → strict ≡ true }
+    ensures same { strict ≡ true → result ≡ verdict }
+    ensures lax { strict ≡ false → result ≡ AllGood }
+{
+    if strict { verdict } else { Verdict::AllGood }
+}
+
+/// What the words of `ua read` ask.
+pub fn read_question(alloc: Global, asked: &ReadNodes<'_>) -> Result<Question, WordFault>
+    ensures { GivesRead (λ text. text.now) asked.now.nodes.items asked.now.attribute (option_map (λ text. text.now) asked.now.range) result }
+{
+    Question::parse_read(alloc, &asked.nodes, asked.attribute, asked.range)
+}
+
+/// What the words of `ua write` ask.
+pub fn write_question(alloc: Global, asked: &WriteNode<'_>) -> Result<Question, WordFault>
+    ensures { GivesWrite asked.now.node.now asked.now.kind.now asked.now.value.now result }
+{
+    Question::parse_write(alloc, asked.node, asked.kind, asked.value)
+}
+
+/// Prints an attribute of nodes of the server on a port of this machine.
 pub fn read<'a, R: Net + Clock + AllocGlobal, O: Write>(
     rt: &R,
     asked: &ReadNodes<'a>,
     out: &mut O,
-) -> Result<(), Stop<'a>>
-    ensures answered { OnOk result (HasAnswered asked.now.names (O.contents out.old) (O.contents out.new)) }
-    ensures stopped { IfErr result (λ stop. (stop ≡ Output) ⊎ (out.new ≡ out.old) ⊎ HasAnswered asked.now.names (O.contents out.old) (O.contents out.new)) }
+) -> Result<Verdict, Stop<'a>>
+    ensures answered { OnOk result (HasAnswered asked.now.style (O.contents out.old) (O.contents out.new)) }
+    ensures strict { IfOk result (λ verdict. verdict ≡ SomeBad → asked.now.strict ≡ true) }
+    ensures stopped { IfErr result (λ stop. (stop ≡ Output) ⊎ (out.new ≡ out.old) ⊎ HasAnswered asked.now.style (O.contents out.old) (O.contents out.new)) }
 {
-    let question = Question::parse_read(rt.alloc(), &asked.nodes, VALUE, None)?;
-    ask(rt, asked.port, &question, asked.names, out)
+    let question = read_question(rt.alloc(), asked)?;
+    let policy = policy_of(rt.alloc(), asked.policy)?;
+    let (port, style) = (asked.port, asked.style);
+    let asking = Asked {
+        port,
+        question,
+        policy,
+        style,
+    };
+    match ask(rt, &asking, out) {
+        Ok(verdict) => Ok(counted(verdict, asked.strict)),
+        Err(stop) => Err(stop),
+    }
 }
 
 /// Sets the Value of a node of the server on a port of this machine, and prints what became of it.
@@ -109,10 +156,22 @@ pub fn write<'a, R: Net + Clock + AllocGlobal, O: Write>(
     rt: &R,
     asked: &WriteNode<'a>,
     out: &mut O,
-) -> Result<(), Stop<'a>>
-    ensures answered { OnOk result (HasAnswered asked.now.names (O.contents out.old) (O.contents out.new)) }
-    ensures stopped { IfErr result (λ stop. (stop ≡ Output) ⊎ (out.new ≡ out.old) ⊎ HasAnswered asked.now.names (O.contents out.old) (O.contents out.new)) }
+) -> Result<Verdict, Stop<'a>>
+    ensures answered { OnOk result (HasAnswered asked.now.style (O.contents out.old) (O.contents out.new)) }
+    ensures strict { IfOk result (λ verdict. verdict ≡ SomeBad → asked.now.strict ≡ true) }
+    ensures stopped { IfErr result (λ stop. (stop ≡ Output) ⊎ (out.new ≡ out.old) ⊎ HasAnswered asked.now.style (O.contents out.old) (O.contents out.new)) }
 {
-    let question = Question::parse_write(rt.alloc(), asked.node, asked.kind, asked.value)?;
-    ask(rt, asked.port, &question, asked.names, out)
+    let question = write_question(rt.alloc(), asked)?;
+    let policy = policy_of(rt.alloc(), asked.policy)?;
+    let (port, style) = (asked.port, asked.style);
+    let asking = Asked {
+        port,
+        question,
+        policy,
+        style,
+    };
+    match ask(rt, &asking, out) {
+        Ok(verdict) => Ok(counted(verdict, asked.strict)),
+        Err(stop) => Err(stop),
+    }
 }

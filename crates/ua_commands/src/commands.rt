@@ -70,6 +70,36 @@ const CUT: Kind = Kind {
     defaults: &["65535"],
 };
 
+/// A text, as `--range 1:2`.
+const TEXT: Kind = Kind {
+    is_needed: false,
+    is_named: true,
+    action: ArgAction::Set,
+    least: 1,
+    most: 1,
+    defaults: &[],
+};
+
+/// Which attribute is read: `--attribute 1`, and the Value where nothing is said.
+const NUMBER_OF_ATTRIBUTE: Kind = Kind {
+    is_needed: false,
+    is_named: true,
+    action: ArgAction::Set,
+    least: 1,
+    most: 1,
+    defaults: &["13"],
+};
+
+/// The id of a token policy: `--policy 0`, and `anonymous` where nothing is said.
+const POLICY_ID: Kind = Kind {
+    is_needed: false,
+    is_named: true,
+    action: ArgAction::Set,
+    least: 1,
+    most: 1,
+    defaults: &["anonymous"],
+};
+
 /// A word of a command: its name, what it is, and its help.
 #[derive(Clone, Copy)]
 struct Word {
@@ -102,6 +132,24 @@ const NAMES: Word = Word {
     name: "names",
     kind: FLAG,
     help: "the standard's name stands behind each status code that has one",
+};
+
+const JSON: Word = Word {
+    name: "json",
+    kind: FLAG,
+    help: "each line is an object of JSON",
+};
+
+const POLICY: Word = Word {
+    name: "policy",
+    kind: POLICY_ID,
+    help: "the id of the server's anonymous token policy, or auto to ask the server for it",
+};
+
+const STRICT: Word = Word {
+    name: "strict",
+    kind: FLAG,
+    help: "the status is 3 where a status code that is printed is bad",
 };
 
 const WHY: Word = Word {
@@ -150,7 +198,16 @@ const SERVE: &[Word] = &[
     WHY,
 ];
 
-const ENDPOINTS: &[Word] = &[PORT, WHY];
+const ENDPOINTS: &[Word] = &[
+    PORT,
+    Word {
+        name: "policies",
+        kind: FLAG,
+        help: "the token policies of each endpoint stand behind it",
+    },
+    JSON,
+    WHY,
+];
 
 const READ: &[Word] = &[
     PORT,
@@ -159,7 +216,25 @@ const READ: &[Word] = &[
         kind: SEVERAL,
         help: "a NodeId, as ns=1;s=Pump",
     },
+    Word {
+        name: "attribute",
+        kind: NUMBER_OF_ATTRIBUTE,
+        help: "the number of the attribute that is read, from 1 to 27",
+    },
+    Word {
+        name: "range",
+        kind: TEXT,
+        help: "the elements of arrays that are read, as 2 or 1:9",
+    },
     NAMES,
+    Word {
+        name: "times",
+        kind: FLAG,
+        help: "the source's and the server's timestamps stand behind each value",
+    },
+    JSON,
+    POLICY,
+    STRICT,
     WHY,
 ];
 
@@ -181,6 +256,9 @@ const WRITE: &[Word] = &[
         help: "a value of the type; one that begins with - stands behind the word --",
     },
     NAMES,
+    JSON,
+    POLICY,
+    STRICT,
     WHY,
 ];
 
@@ -202,6 +280,7 @@ const LOOP: &[Word] = &[
         help: "the same octets go over a connection within this process, too",
     },
     NAMES,
+    STRICT,
     WHY,
 ];
 

@@ -28,7 +28,10 @@ mod tcp_line;
 mod version;
 mod watched;
 
-pub use arguments::{BadNumber, Dissect, Loop, Parsed, ReadNodes, Serve, Task, WriteNode, parse};
+pub use arguments::{
+    BadNumber, Dissect, ListEndpoints, Loop, Parsed, ReadNodes, Serve, Task, WriteNode, parse,
+};
+pub use ask::{policy_of, read_question, write_question};
 pub use clock_moments::ClockMoments;
 pub use fault::Fault;
 pub use loop_line::{LoopLine, MOST_OCTETS};

@@ -3,6 +3,7 @@
 ghost use Rattle.std.specs.Prelude.{◌≡◌, ◌⊎◌, [], true, false, None, Ok, IfOk, OnOk, IfErr};
 ghost use Rattle.ua_commands.specs.Looped.{HasLooped, HasLoopedUntil, RefusesScript, RunsScript};
 ghost use Rattle.ua_commands.specs.declared.output.Stop.TheVariants.{Output};
+ghost use Rattle.ua_asking.specs.declared.verdict.Verdict.TheVariants.{SomeBad};
 ghost use Rattle.ua_nodes.specs.Sound.{IsSound};
 ghost use Rattle.ua_server.specs.declared.step.End.TheVariants.{Closed};
 
@@ -18,7 +19,7 @@ use std::alloc::{AllocError, Global};
 use std::io::{Read, Write};
 use std::net::{Ipv4Addr, Net, OpenListener, TcpListener, TcpStream};
 use std::rt::Files;
-use ua_asking::AskFault;
+use ua_asking::{AskFault, Verdict};
 use ua_channel::ListMoments;
 use ua_client::ClientFault;
 use ua_looping::{LoopFault, Looped, parse_lines, run_lines};
@@ -139,13 +140,27 @@ fn run_text<'a>(
     }
 }
 
+/// What counts of the codes of answers: bad ones only where `--strict` asks for them.
+fn counted(has_bad: bool, strict: bool) -> Verdict
+    ensures strict { result ≡ SomeBad → strict ≡ true }
+    ensures bad { result ≡ SomeBad → has_bad ≡ true }
+    ensures both { has_bad ≡ true → strict ≡ true → result ≡ SomeBad }
+{
+    if has_bad && strict {
+        Verdict::SomeBad
+    } else {
+        Verdict::AllGood
+    }
+}
+
 /// Runs the script of a file over the nodes of another, and prints the answers to its lines and how
 /// many octets went each way. Where a reply is a fault, the answers in front of it are printed.
 pub fn run_files<'a, R: Files + Net + AllocGlobal, O: Write>(
     rt: &R,
     asked: &Loop<'a>,
     out: &mut O,
-) -> Result<(), Stop<'a>>
+) -> Result<Verdict, Stop<'a>>
+    ensures strict { IfOk result (λ verdict. verdict ≡ SomeBad → asked.now.strict ≡ true) }
     ensures looped { OnOk result (HasLooped asked.now.names None (O.contents out.old) (O.contents out.new)) }
     ensures stopped { IfErr result (λ stop. (stop ≡ Output) ⊎ (out.new ≡ out.old) ⊎ HasLoopedUntil asked.now.names stop (O.contents out.old) (O.contents out.new)) }
 {
@@ -158,7 +173,7 @@ pub fn run_files<'a, R: Files + Net + AllocGlobal, O: Write>(
     }
     say_lines(out, &looped.text)?;
     match looped.fault {
-        None => Ok(()),
+        None => Ok(counted(looped.has_bad, asked.strict)),
         Some(fault) => Err(Stop::from(fault)),
     }
 }

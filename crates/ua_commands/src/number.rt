@@ -1,6 +1,10 @@
 //! Numbers among the words.
 
 ghost use Rattle.std.specs.Prelude.{◌≤◌, IfSome};
+ghost use Rattle.ua_commands.specs.Words.{IsAttributeNumber};
+
+/// The number of the last attribute (OPC 10000-6, A.1).
+const LAST_ATTRIBUTE: u16 = 27;
 
 /// The number from 1 to 65535 that decimal digits write.
 pub fn parse_number(text: &str) -> Option<u16>
@@ -13,4 +17,15 @@ pub fn parse_number(text: &str) -> Option<u16>
         Ok(0) | Err(_) => None,
         Ok(number) => Some(number),
     }
+}
+
+/// The number of an attribute that decimal digits write.
+pub fn parse_attribute(text: &str) -> Option<u32>
+    ensures { IfSome result IsAttributeNumber }
+{
+    let number = parse_number(text)?;
+    if number > LAST_ATTRIBUTE {
+        return None;
+    }
+    Some(u32::from(number))
 }

@@ -1,9 +1,11 @@
 //! The program's commands.
 
-ghost use Rattle.std.specs.Prelude.{◌≡◌, ◌≤◌, ◌≢◌, ◌⊎◌, IfErr, OnOk};
+ghost use Rattle.std.specs.Prelude.{◌≡◌, ◌≤◌, ◌≢◌, ◌⊎◌, ◌↔◌, Any, IsTrue, codes, IfErr, IfOk, OnOk};
 ghost use Rattle.std.specs.Io.KnownBytes.{Appends};
 ghost use Rattle.std.specs.IoError.{error_kind};
 ghost use Rattle.std.specs.declared.io.ErrorKind.TheVariants.{OutOfMemory};
+ghost use Rattle.ua_asking.specs.declared.verdict.Verdict.TheVariants.{AllGood, SomeBad};
+ghost use Rattle.ua_commands.specs.Words.{IsStrict};
 ghost use Rattle.ua_commands.specs.Printed.{HasBegun, HasDissected, HasPrinted, HasToldSome};
 ghost use Rattle.ua_commands.specs.declared.output.Stop.TheVariants.{Output};
 
@@ -26,10 +28,12 @@ use std::io::{Read, Write};
 use std::net::Net;
 use std::rt::Files;
 use std::time::Clock;
+use ua_asking::Verdict;
 
 /// Runs the program on its words, of which the first is its name. The input is read only where the
 /// words ask for it. The status is 0 where the command is done, 1 where it met a fault or a writer
-/// failed, 2 where the words don't parse.
+/// failed, 2 where the words don't parse, and 3 where it is done and a status code is bad that it
+/// printed, if `--strict` is among the words.
 pub fn run<S: AsStr, R: Files + Net + Clock + AllocGlobal, I: Read, O: Write, E: Write>(
     rt: &R,
     words: &[S],
@@ -37,9 +41,10 @@ pub fn run<S: AsStr, R: Files + Net + Clock + AllocGlobal, I: Read, O: Write, E:
     out: &mut O,
     err: &mut E,
 ) -> u8
-    ensures status { result ≤ 2 }
-    ensures done { result ≡ 0 → HasPrinted (O.contents out.old) (O.contents out.new) }
-    ensures silent { result ≡ 0 → err.new ≡ err.old }
+    ensures status { result ≤ 3 }
+    ensures strict { result ≡ 3 → Any (λ word. S.text word ≡ codes "--strict") words.now }
+    ensures done { (result ≡ 0) ⊎ (result ≡ 3) → HasPrinted (O.contents out.old) (O.contents out.new) }
+    ensures silent { (result ≡ 0) ⊎ (result ≡ 3) → err.new ≡ err.old }
     ensures refused { result ≡ 2 → out.new ≡ out.old }
     ensures streams { (out.new ≡ out.old) ⊎ (err.new ≡ err.old) ⊎ HasBegun (O.contents out.old) (O.contents out.new) }
 {
@@ -52,11 +57,32 @@ pub fn run<S: AsStr, R: Files + Net + Clock + AllocGlobal, I: Read, O: Write, E:
         Err(bad) => return tell_number(rt.alloc(), bad, why, err),
     };
     match perform(rt, task, input, out) {
-        Ok(()) => 0,
+        Ok(verdict) => status_of(words, verdict),
         Err(Stop::Because(fault, reason)) if why => tell_why(rt.alloc(), &fault, &reason, err),
         Err(Stop::Fault(fault)) | Err(Stop::Because(fault, _)) => tell(rt.alloc(), &fault, err),
         Err(Stop::Output) => 1,
     }
+}
+
+/// The status of a command that is done.
+fn status_of<S: AsStr>(words: &[S], verdict: Verdict) -> u8
+    ensures status { (result ≡ 0) ⊎ (result ≡ 3) }
+    ensures strict { result ≡ 3 → Any (λ word. S.text word ≡ codes "--strict") words.now }
+    ensures good { verdict ≡ AllGood → result ≡ 0 }
+    ensures bad { verdict ≡ SomeBad → (result ≡ 3) ↔ Any (λ word. S.text word ≡ codes "--strict") words.now }
+{
+    match verdict {
+        // That the word is there is known, but by no clause.
+        Verdict::SomeBad if has_word(words, "--strict") => 3,
+        _ => 0,
+    }
+}
+
+/// Whether one of the words is this one.
+fn has_word<S: AsStr>(words: &[S], wanted: &str) -> bool
+    ensures { IsTrue result ↔ Any (λ word. S.text word ≡ wanted.now) words.now }
+{
+    words.iter().any(|word| word.as_str() == wanted)
 }
 
 /// Does what the words ask for.
@@ -65,18 +91,31 @@ fn perform<'a, R: Files + Net + Clock + AllocGlobal, I: Read, O: Write>(
     task: Task<'a>,
     input: &mut I,
     out: &mut O,
-) -> Result<(), Stop<'a>>
+) -> Result<Verdict, Stop<'a>>
     ensures done { OnOk result (HasPrinted (O.contents out.old) (O.contents out.new)) }
+    ensures strict { IfOk result (λ verdict. verdict ≡ SomeBad → IsStrict task) }
     ensures stopped { IfErr result (λ stop. (stop ≡ Output) ⊎ (out.new ≡ out.old) ⊎ HasBegun (O.contents out.old) (O.contents out.new)) }
 {
     match task {
-        Task::Dissect(asked) => dissect(rt, &asked, input, out),
-        Task::Serve(asked) => serve_connections(rt, &asked, out),
-        Task::Endpoints(port) => endpoints(rt, port, out),
         Task::Read(asked) => read(rt, &asked, out),
         Task::Write(asked) => write(rt, &asked, out),
         Task::Loop(asked) => run_files(rt, &asked, out),
-        Task::Version => say(out, version_line()),
+        Task::Dissect(asked) => match dissect(rt, &asked, input, out) {
+            Ok(()) => Ok(Verdict::AllGood),
+            Err(stop) => Err(stop),
+        },
+        Task::Serve(asked) => match serve_connections(rt, &asked, out) {
+            Ok(()) => Ok(Verdict::AllGood),
+            Err(stop) => Err(stop),
+        },
+        Task::Endpoints(asked) => match endpoints(rt, &asked, out) {
+            Ok(()) => Ok(Verdict::AllGood),
+            Err(stop) => Err(stop),
+        },
+        Task::Version => match say(out, version_line()) {
+            Ok(()) => Ok(Verdict::AllGood),
+            Err(stop) => Err(stop),
+        },
     }
 }
 

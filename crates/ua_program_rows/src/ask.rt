@@ -10,11 +10,10 @@ use std::alloc::Global;
 use std::io::{Read, Write};
 use std::net::Net;
 use std::rt::Files;
-use ua_asking::{AskFault, Question, TokenPolicy, ask_over, endpoints_over};
-use ua_builtin::UaString;
+use ua_asking::{AskFault, Question, TokenPolicy, Verdict, WordFault, ask_over, endpoints_over};
 use ua_channel::{Line, MemoryLine};
-use ua_commands::limits;
-use ua_texts::{EndpointStyle, LineStyle};
+use ua_commands::{ListEndpoints, Task, limits, parse, policy_of, read_question, write_question};
+use ua_texts::LineStyle;
 
 /// The port in the server's address.
 const PORT: u16 = 4840;
@@ -47,62 +46,121 @@ pub fn with_octets(alloc: Global, told: &str, octets: &[u8]) -> Result<String, F
     Ok(format!(in alloc; "{told} sent {digits}")?)
 }
 
-/// What is printed of the answers, and what is told.
+/// What is printed of the answers, and how it ended: `done`, with `--strict` `bad` where a code is, or
+/// the fault that is told.
 fn told<L: Line>(alloc: Global, line: &mut L, question: &str) -> Result<String, Fault> {
     let mut out = String::new(alloc);
     let end = asked(alloc, line, question, &mut out)?;
     let out = marked(alloc, out.as_bytes())?;
     match end {
-        Ok(()) => Ok(format!(in alloc; "out \"{out}\" done")?),
+        Ok(end) => Ok(format!(in alloc; "out \"{out}\" {end}")?),
         Err(fault) => Ok(format!(in alloc; "out \"{out}\" fault \"{fault}\"")?),
     }
 }
 
-/// Asks, and gives what came of it.
+/// Asks what the words of a command ask for, without its port, and gives what came of it.
 fn asked<L: Line>(
     alloc: Global,
     line: &mut L,
-    question: &str,
+    words: &str,
     out: &mut String,
-) -> Result<Result<(), AskFault>, Fault> {
-    let mut moments = moments(alloc)?;
-    if question == "endpoints" {
-        let style = EndpointStyle::plain();
-        return Ok(endpoints_over(alloc, line, limits(), PORT, style, &mut moments, out));
+) -> Result<Result<&'static str, AskFault>, Fault> {
+    let (command, rest) = first_word(words);
+    let mut list: Vec<&str> = Vec::new(alloc);
+    for word in ["ua", command, "4840"] {
+        list.push(word)?;
     }
-    let (words, names) = named(question);
-    let question = question_of(alloc, words)?;
-    let policy = TokenPolicy::Named(UaString::from_str(alloc, "anonymous")?);
-    let asked = ask_over(
+    for word in rest.split_whitespace() {
+        list.push(word)?;
+    }
+    match task_of(alloc, &list)? {
+        Task::Endpoints(asked) => endpoints(alloc, line, &asked, out),
+        Task::Read(asked) => {
+            let question = read_question(alloc, &asked);
+            let asking = asking(alloc, question, asked.policy, asked.style, asked.strict)?;
+            answers(alloc, line, &asking, out)
+        }
+        Task::Write(asked) => {
+            let question = write_question(alloc, &asked);
+            let asking = asking(alloc, question, asked.policy, asked.style, asked.strict)?;
+            answers(alloc, line, &asking, out)
+        }
+        _ => Err(Fault::NoRow),
+    }
+}
+
+/// What words ask for.
+fn task_of<'a>(alloc: Global, words: &'a [&'a str]) -> Result<Task<'a>, Fault> {
+    match parse(alloc, words) {
+        Ok(parsed) => parsed.task.map_err(|_| Fault::NoRow),
+        Err(_) => Err(Fault::NoRow),
+    }
+}
+
+fn endpoints<L: Line>(
+    alloc: Global,
+    line: &mut L,
+    asked: &ListEndpoints,
+    out: &mut String,
+) -> Result<Result<&'static str, AskFault>, Fault> {
+    let mut moments = moments(alloc)?;
+    let ended = endpoints_over(
+        alloc,
+        line,
+        limits(),
+        asked.port,
+        asked.style,
+        &mut moments,
+        out,
+    );
+    Ok(ended.map(|()| "done"))
+}
+
+/// A question, and how it is asked.
+#[derive(Drop)]
+struct Asking {
+    question: Question,
+    policy: TokenPolicy,
+    style: LineStyle,
+    strict: bool,
+}
+
+fn asking(
+    alloc: Global,
+    question: Result<Question, WordFault>,
+    policy: &str,
+    style: LineStyle,
+    strict: bool,
+) -> Result<Asking, Fault> {
+    Ok(Asking {
+        question: question.map_err(|_| Fault::NoRow)?,
+        policy: policy_of(alloc, policy)?,
+        style,
+        strict,
+    })
+}
+
+fn answers<L: Line>(
+    alloc: Global,
+    line: &mut L,
+    asking: &Asking,
+    out: &mut String,
+) -> Result<Result<&'static str, AskFault>, Fault> {
+    let mut moments = moments(alloc)?;
+    let ended = ask_over(
         alloc,
         line,
         limits(),
         PORT,
-        &question,
-        &policy,
-        LineStyle::plain(names),
+        &asking.question,
+        &asking.policy,
+        asking.style,
         &mut moments,
         out,
     );
-    drop(policy);
-    Ok(asked.map(|_| ()))
-}
-
-/// The words of a question, and whether the names of status codes are wanted: `--names` behind them.
-fn named(question: &str) -> (&str, bool) {
-    match question.strip_suffix(" --names") {
-        Some(words) => (words, true),
-        None => (question, false),
+    match ended {
+        Ok(Verdict::SomeBad) if asking.strict => Ok(Ok("bad")),
+        Ok(_) => Ok(Ok("done")),
+        Err(fault) => Ok(Err(fault)),
     }
-}
-
-/// The question of these words: `read NODE..` or `write NODE TYPE VALUE`.
-fn question_of(alloc: Global, words: &str) -> Result<Question, Fault> {
-    let words: Vec<&str> = words.split_whitespace().collect(alloc)?;
-    let question = match words.as_slice() {
-        ["read", nodes @ ..] => Question::parse_read(alloc, nodes, 13, None),
-        ["write", node, kind, value] => Question::parse_write(alloc, node, kind, value),
-        _ => return Err(Fault::NoRow),
-    };
-    question.map_err(|_| Fault::NoRow)
 }
