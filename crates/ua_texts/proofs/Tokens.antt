@@ -42,49 +42,55 @@ fields-append (field ∷ a) b =
 abbrev pub Put : Written → Written → List Token → Type 0
 Put old new tokens = (new.before ≡ old.before) × (new.tokens ≡ old.tokens ++ tokens)
 
--- nothing was put
-pub put_none : (old : Written) → Put old old []
-put_none old = (refl, sym (append-nil old.tokens))
-
 -- one token was put
 pub put_one : {E : Type 0} {x : Unit {0}} {old new : Written} {t : Token} → Writes {E = E} (Ok x) old new t → Put old new (t ∷ [])
 put_one w = (w.room.0, w.ok)
 
-pub put_then : {a b c : Written} {ts us : List Token} → Put a b ts → Put b c us → Put a c (ts ++ us)
-put_then {a = a} {ts = ts} {us = us} p q = (q.0 ∙ p.0, q.1 ∙ ap (λ (t : List Token). t ++ us) p.1 ∙ append_assoc a.tokens ts us)
+pub put_then : (a b c : Written) (ts us : List Token) → Put a b ts → Put b c us → Put a c (ts ++ us)
+put_then a b c ts us p q = (q.0 ∙ p.0, q.1 ∙ ap (λ (t : List Token). t ++ us) p.1 ∙ append_assoc a.tokens ts us)
 
 -- one token is put at last
 pub one_last : {E : Type 0} {r : Result (Unit {0}) E} {old new : Written} {t : Token} → Writes r old new t → Puts r old new (t ∷ [])
 one_last {r = Ok x} w = (w.room.0, w.ok)
 one_last {r = Err e} w = tt
 
-pub then_last : {E : Type 0} {r : Result (Unit {0}) E} {a b c : Written} {ts us : List Token} → Put a b ts → Puts r b c us → Puts r a c (ts ++ us)
-then_last {r = Ok x} p q = put_then p q
-then_last {r = Err e} p q = tt
+pub then_last : {E : Type 0} (r : Result (Unit {0}) E) (a b c : Written) (ts us : List Token) → Put a b ts → Puts r b c us → Puts r a c (ts ++ us)
+then_last (Ok x) a b c ts us p q = put_then a b c ts us p q
+then_last (Err e) a b c ts us p q = tt
 
 -- the same tokens by another name
-pub puts_as : {E : Type 0} {r : Result (Unit {0}) E} {old new : Written} {ts us : List Token} → ts ≡ us → Puts r old new ts → Puts r old new us
-puts_as {r = Ok x} {old = old} is p = (p.0, p.1 ∙ ap (λ (t : List Token). old.tokens ++ t) is)
-puts_as {r = Err e} is p = tt
+pub puts_as : {E : Type 0} (r : Result (Unit {0}) E) (old new : Written) (ts us : List Token) → ts ≡ us → Puts r old new ts → Puts r old new us
+puts_as (Ok x) old new ts us is p = (p.0, p.1 ∙ ap (λ (t : List Token). old.tokens ++ t) is)
+puts_as (Err e) old new ts us is p = tt
 
-pub put_as : {old new : Written} {ts us : List Token} → ts ≡ us → Put old new ts → Put old new us
-put_as {old = old} is p = (p.0, p.1 ∙ ap (λ (t : List Token). old.tokens ++ t) is)
+-- the elements of an array were put, its end last
+pub array_put : {E A : Type 0} (r : Result (Unit {0}) E) (a b c d : Written) (f : A → Json) (xs : List A) → Put a b (token.begin_array ∷ []) → Put b c (flat_map (λ x. json_tokens (f x)) xs)
+    → Puts r c d (token.end_array ∷ []) → Puts r a d (json_tokens (array (map f xs)))
+array_put r a b c d f xs first elements last =
+    let ts = flat_map (λ x. json_tokens (f x)) xs in
+    puts_as r a d (token.begin_array ∷ (ts ++ token.end_array ∷ [])) (json_tokens (array (map f xs))) (sym (array_is f xs))
+    (then_last r a b d (token.begin_array ∷ []) (ts ++ token.end_array ∷ []) first (then_last r b c d ts (token.end_array ∷ []) elements last))
 
-pub puts_nil : {E : Type 0} {r : Result (Unit {0}) E} {old new : Written} {ts : List Token} → Puts r old new ts → Puts r old new (ts ++ [])
-puts_nil {ts = ts} p = puts_as (sym (append-nil ts)) p
+-- a member was put, its name first
+pub field_put : {E : Type 0} (r : Result (Unit {0}) E) (a b c : Written) (name : List ℕ) (value : Json) → Put a b (token.key name ∷ []) → Puts r b c (json_tokens value) → Puts r a c (fields_tokens ((name, value) ∷ []))
+field_put r a b c name value first p =
+    let ts = json_tokens value in
+    puts_as r a c (token.key name ∷ ts) (token.key name ∷ (ts ++ [])) (ap (λ (t : List Token). token.key name ∷ t) (sym (append-nil ts))) (then_last r a b c (token.key name ∷ []) ts first p)
 
 -- the line of the object of these fields
-pub line_is : {E : Type 0} {r : Result (Unit {0}) E} {old new : List ℕ} {tokens : List Token} (fields : List Field) → tokens ≡ token.begin_object ∷ fields_tokens fields
+pub line_is : {E : Type 0} (r : Result (Unit {0}) E) (old new : List ℕ) (tokens : List Token) (fields : List Field) → tokens ≡ token.begin_object ∷ fields_tokens fields
     → OnOk r (new ≡ old ++ (print (tokens ++ token.end_object ∷ []) ++ codes "\n")) → OnOk r (new ≡ old ++ json_line (object fields))
 unfolding json_line
-line_is {r = Ok x} {old = old} fields is h =
+line_is (Ok x) old new tokens fields is h =
     h ∙ ap (λ (t : List Token). old ++ (print t ++ codes "\n")) (ap (λ (t : List Token). t ++ token.end_object ∷ []) is ∙ sym (object_is fields))
-line_is {r = Err e} fields is h = tt
+line_is (Err e) old new tokens fields is h = tt
 
 -- the elements up to the next place were put
-pub elements_next : {A : Type 0} (f : A → ScalarData) (xs : List A) (n : ℕ) (s : ScalarData) {old now new : Written} → Some s ≡ option_map f (slice_get xs n)
+pub elements_next : {A : Type 0} (f : A → ScalarData) (xs : List A) (n : ℕ) (s : ScalarData) (old now new : Written) → Some s ≡ option_map f (slice_get xs n)
     → Put old now (flat_map element_tokens (take n (map f xs))) → Put now new (element_tokens s) → Put old new (flat_map element_tokens (take (n + 1) (map f xs)))
-elements_next f xs n s e p q =
+elements_next f xs n s old now new e p q =
     let next : n + 1 ≡ suc n = omega arith in
-    let more = ap (flat_map element_tokens) (take_next (map f xs) n s (get_map f xs n ∙ sym e)) ∙ flat_map-append element_tokens (take n (map f xs)) (s ∷ []) ∙ ap (λ (t : List Token). flat_map element_tokens (take n (map f xs)) ++ t) (append-nil (element_tokens s)) in
-    put_as (sym more ∙ ap (λ (m : ℕ). flat_map element_tokens (take m (map f xs))) (sym next)) (put_then p q)
+    let so_far = flat_map element_tokens (take n (map f xs)) in
+    let more = ap (flat_map element_tokens) (take_next (map f xs) n s (get_map f xs n ∙ sym e)) ∙ flat_map-append element_tokens (take n (map f xs)) (s ∷ []) ∙ ap (λ (t : List Token). so_far ++ t) (append-nil (element_tokens s)) in
+    let put = put_then old now new so_far (element_tokens s) p q in
+    (put.0, put.1 ∙ ap (λ (t : List Token). old.tokens ++ t) (sym more ∙ ap (λ (m : ℕ). flat_map element_tokens (take m (map f xs))) (sym next)))

@@ -1,16 +1,17 @@
 //! Answers as objects of JSON.
 
-ghost use Rattle.std.specs.Prelude.{◌≡◌, ◌++◌, ◌∷◌, [], codes, map, option_map, string_bytes, IfOk, OnOk};
+ghost use Rattle.std.specs.Prelude.{◌≡◌, ◌++◌, ◌∷◌, [], codes, true, map, option_map, string_bytes, IfOk, OnOk};
 ghost use Rattle.std.specs.List.{flat_map};
 ghost use Rattle.base64.specs.Engines.{standard};
 ghost use Rattle.base64.specs.GeneralPurpose.{encode_of};
 ghost use Rattle.json.specs.Token.{begin_object, end_object, key, string};
+ghost use Rattle.json.specs.Json.{boolean};
 ghost use Rattle.json.specs.Print.{print};
 ghost use Rattle.json.specs.Tree.{json_tokens};
 ghost use Rattle.ua_variant.specs.Data.{leaf, null};
 ghost use Rattle.ua_variant.specs.Packed.{packed_leaves};
 ghost use Rattle.ua_variant.specs.View.{elements_of, scalar_of, variant_of};
-ghost use Rattle.ua_texts.specs.Json.{address_fields, array, array_fields, both_fields, dimension_fields, endpoint_json, int64_json, items_json, json_line, name_fields, policies_json, policy_fields, policy_json, read_json, scalar_fields, scalar_json, signed_json, status_fields, text_or_null, time_fields, time_json, uint64_json, unwritable_fields, value_fields, variant_fields, write_json, written_fields};
+ghost use Rattle.ua_texts.specs.Json.{address_fields, array, array_fields, both_fields, dimension_fields, endpoint_json, int64_json, items_json, json_line, name_fields, policies_json, policy_fields, policy_json, read_json, scalar_fields, scalar_json, signed_json, status_fields, text_or_null, time_fields, time_json, uint64_json, value_fields, variant_fields, write_json, written_fields};
 ghost use Rattle.ua_texts.specs.Names.{name_of_code};
 ghost use Rattle.ua_texts.specs.Tokens.{Puts, element_tokens, fields_tokens};
 ghost use Rattle.ua_texts.specs.Values.{scalar_text, type_name as name_of_type};
@@ -191,7 +192,7 @@ fn put_written(alloc: Global, line: &mut Writer, value: &Variant) -> Result<(), 
 }
 
 fn put_unwritable(line: &mut Writer) -> Result<(), AllocError>
-    ensures { Puts result line.old line.new (fields_tokens unwritable_fields) }
+    ensures { Puts result line.old line.new (fields_tokens ((codes "unwritable", boolean true) ∷ [])) }
 {
     line.key("unwritable")?;
     line.boolean(true)
@@ -260,11 +261,7 @@ fn put_array_type(alloc: Global, line: &mut Writer, kind: u8) -> Result<(), Allo
 }
 
 /// Puts the elements of an array, or null.
-fn put_items(
-    alloc: Global,
-    line: &mut Writer,
-    items: &Option<Scalars>,
-) -> Result<(), AllocError>
+fn put_items(alloc: Global, line: &mut Writer, items: &Option<Scalars>) -> Result<(), AllocError>
     ensures { Puts result line.old line.new (json_tokens (items_json items.now)) }
 {
     match items {
@@ -329,6 +326,12 @@ fn put_each_dimension(line: &mut Writer, dims: &[i32]) -> Result<(), AllocError>
     ensures { Puts result line.old line.new (fields_tokens ((codes "dimensions", array (map signed_json dims.now)) ∷ [])) }
 {
     line.key("dimensions")?;
+    put_size_list(line, dims)
+}
+
+fn put_size_list(line: &mut Writer, dims: &[i32]) -> Result<(), AllocError>
+    ensures { Puts result line.old line.new (json_tokens (array (map signed_json dims.now))) }
+{
     line.begin_array()?;
     put_sizes(line, dims)?;
     line.end_array()
@@ -414,11 +417,7 @@ fn put_both(line: &mut Writer, answer: &DataValue) -> Result<(), AllocError>
 }
 
 /// Puts a member that is a timestamp.
-fn put_time_as(
-    line: &mut Writer,
-    name: &str,
-    moment: Option<DateTime>,
-) -> Result<(), AllocError>
+fn put_time_as(line: &mut Writer, name: &str, moment: Option<DateTime>) -> Result<(), AllocError>
     ensures { Puts result line.old line.new (key name.now ∷ json_tokens (time_json moment)) }
 {
     line.key(name)?;
@@ -486,10 +485,7 @@ fn put_policy_field(
 }
 
 /// Puts token policies, or null.
-fn put_policy_list(
-    line: &mut Writer,
-    policies: &UaArray<UserTokenPolicy>,
-) -> Result<(), AllocError>
+fn put_policy_list(line: &mut Writer, policies: &UaArray<UserTokenPolicy>) -> Result<(), AllocError>
     ensures { Puts result line.old line.new (json_tokens (policies_json policies.now)) }
 {
     match policies.as_items() {

@@ -83,11 +83,7 @@ pub fn push_base64(out: &mut String, octets: &UaBytes) -> Result<(), AllocError>
 
 /// Adds the octets of a value's canonical encoding, as `0x` and two hexadecimal digits of each, or
 /// `unwritable` where it has none.
-pub fn push_encoded<T: Wire>(
-    alloc: Global,
-    out: &mut String,
-    value: &T,
-) -> Result<(), AllocError>
+pub fn push_encoded<T: Wire>(alloc: Global, out: &mut String, value: &T) -> Result<(), AllocError>
     ensures { OnOk result (string_bytes out.new ≡ string_bytes out.old ++ written_text (T.format.encodable value.now) (T.format.canonical value.now)) }
 {
     let mut octets = Vec::new(alloc);

@@ -144,7 +144,11 @@ fn push_item(
 
 /// Adds a value of a built-in type.
 #[tactic(auto, unfolding(ua_variant::specs::Formats::data_value_format, ua_variant::specs::Formats::variant_format, ua_parts::specs::Formats::diagnostic_format))]
-pub(crate) fn push_scalar(alloc: Global, out: &mut String, scalar: &Scalar) -> Result<(), AllocError>
+pub(crate) fn push_scalar(
+    alloc: Global,
+    out: &mut String,
+    scalar: &Scalar,
+) -> Result<(), AllocError>
     ensures { OnOk result (string_bytes out.new ≡ string_bytes out.old ++ scalar_text (scalar_of scalar.now)) }
 {
     match scalar {

@@ -1,10 +1,8 @@
-use Rattle.std.proofs.Common.{List, [], ◌∷◌, ◌++◌, codes, sym, ap}
-use Rattle.json.specs.Token.{Token, key}
-use Rattle.ua_texts.specs.Json.{signed_json}
-use Rattle.ua_texts.proofs.Tokens.{array_is, one_last, put_one, puts_as, puts_nil, then_last}
+use Rattle.std.proofs.Common.{codes, map}
+use Rattle.ua_texts.specs.Json.{array, signed_json}
+use Rattle.ua_texts.proofs.Tokens.{field_put, put_one}
 use Rattle.ua_texts.proofs.object.put_each_dimension.Goals as goal
 
 pub returns : goal.returns
 returns c =
-    puts_as (ap (λ (t : List Token). key (codes "dimensions") ∷ (t ++ [])) (sym (array_is signed_json c.args.dims.now)))
-    (puts_nil (then_last (put_one c.in_ok-key.ensures) (then_last (put_one c.in_ok-begin_array.ensures) (then_last c.in_ok-put_sizes.ensures (one_last c.end_array.ensures)))))
+    field_put c.put_size_list.result c.args.line.now c.key.new.self c.put_size_list.new.line (codes "dimensions") (array (map signed_json c.args.dims.now)) (put_one c.in_ok-key.ensures) c.put_size_list.ensures

@@ -1,7 +1,8 @@
-use Rattle.std.proofs.Common.{sym}
 use Rattle.ua_texts.specs.Json.{policy_json}
-use Rattle.ua_texts.proofs.Tokens.{array_is, one_last, put_one, puts_as, then_last}
+use Rattle.ua_texts.proofs.Tokens.{array_put, one_last, put_one}
 use Rattle.ua_texts.proofs.object.put_policy_array.Goals as goal
 
 pub returns : goal.returns
-returns c = puts_as (sym (array_is policy_json c.args.policies.now)) (then_last (put_one c.in_ok-begin_array.ensures) (then_last c.in_ok-put_each_policy.ensures (one_last c.end_array.ensures)))
+returns c =
+    array_put c.end_array.result c.args.line.now c.begin_array.new.self c.put_each_policy.new.line c.end_array.new.self policy_json c.args.policies.now (put_one c.in_ok-begin_array.ensures) c.in_ok-put_each_policy.ensures
+    (one_last c.end_array.ensures)

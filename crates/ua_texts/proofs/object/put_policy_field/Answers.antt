@@ -1,5 +1,7 @@
-use Rattle.ua_texts.proofs.Tokens.{put_one, puts_nil, then_last}
+use Rattle.std.proofs.Common.{codes}
+use Rattle.ua_texts.specs.Json.{policies_json}
+use Rattle.ua_texts.proofs.Tokens.{field_put, put_one}
 use Rattle.ua_texts.proofs.object.put_policy_field.Goals as goal
 
 pub returns : goal.returns
-returns c = then_last (put_one c.in_ok-key.ensures) (puts_nil c.put_policy_list.ensures)
+returns c = field_put c.put_policy_list.result c.args.line.now c.key.new.self c.put_policy_list.new.line (codes "policies") (policies_json c.args.policies.now) (put_one c.in_ok-key.ensures) c.put_policy_list.ensures
