@@ -8,7 +8,7 @@ use Rattle.ua_builtin.specs.declared.status_code.StatusCode.{StatusCode}
 use Rattle.ua_nodes.proofs.Fits.{both_are}
 use Rattle.ua_nodes.specs.Status.{bad_node_id_unknown, bad_attribute_id_invalid, bad_not_writable, bad_write_not_supported, bad_type_mismatch}
 use Rattle.ua_nodes.specs.Table.{Nodes, node_at}
-use Rattle.ua_nodes.specs.Write.{good_or, write_reasons, write_answer, write_answers}
+use Rattle.ua_nodes.specs.Write.{good_or, write_item_reasons, write_answer, write_answers}
 use Rattle.ua_nodes.specs.declared.node.Variable.{Variable}
 use Rattle.ua_structures.specs.declared.attribute.WriteValue.{WriteValue}
 
@@ -23,7 +23,7 @@ where_fits false code rest here more c e = more c e
 no_code : CodeFits None
 no_code c e = absurd cc
 
-reasons_fit : (v : Variable) (item : WriteValue) → CodeFits (first_reason (write_reasons v item))
+reasons_fit : (v : Variable) (item : WriteValue) → CodeFits (first_reason (write_item_reasons v item))
 unfolding status_code
 reasons_fit v item =
     where_fits _ bad_attribute_id_invalid _ refl (
@@ -39,7 +39,7 @@ good_or_fits (Some code) h = h code refl
 answer_fits : (o : Option Variable) (item : WriteValue) → status_code.encodable (write_answer o item) ≡ true
 unfolding status_code
 answer_fits None item = refl
-answer_fits (Some v) item = good_or_fits (first_reason (write_reasons v item)) (reasons_fit v item)
+answer_fits (Some v) item = good_or_fits (first_reason (write_item_reasons v item)) (reasons_fit v item)
 
 pub answers_fit : (nodes : Nodes) (items : List WriteValue) → IsTrue (list_all status_code.encodable (write_answers nodes items))
 answers_fit nodes [] = refl
