@@ -146,7 +146,9 @@ fn ask_in_session<L: Line, M: Moments>(
 {
     let begun_at = next_moment(moments);
     match begin(line, client, policy_id, begun_at) {
-        Ok(token) => ask_under(alloc, line, client, question, style, token, handle, moments, out),
+        Ok(token) => ask_under(
+            alloc, line, client, question, style, token, handle, moments, out,
+        ),
         Err(fault) => Err(fault),
     }
 }
@@ -168,7 +170,9 @@ fn ask_by_policy<L: Line, M: Moments>(
     let found = find_policy(alloc, line, client, port, policy, moments);
     let handle = first_call(policy);
     match found {
-        Ok(id) => ask_in_session(alloc, line, client, question, style, id, handle, moments, out),
+        Ok(id) => ask_in_session(
+            alloc, line, client, question, style, id, handle, moments, out,
+        ),
         Err(fault) => Err(fault),
     }
 }
@@ -199,7 +203,15 @@ pub fn ask_over<L: Line, M: Moments>(
     match open(alloc, line, limits, port, opened_at) {
         Ok(mut client) => {
             let asked = ask_by_policy(
-                alloc, line, &mut client, port, question, policy, style, moments, out,
+                alloc,
+                line,
+                &mut client,
+                port,
+                question,
+                policy,
+                style,
+                moments,
+                out,
             );
             let closed_at = next_moment(moments);
             let closed = close(line, client, closed_at);

@@ -71,7 +71,13 @@ fn push_lines(
     ensures faults { IfErr result (IsRefusedFor (length nodes.now) response.now) }
 {
     match response {
-        Response::Write(_) => push_write_answers(alloc, out, nodes, response, LineStyle::plain(false)),
+        Response::Write(_) => push_write_answers(
+            alloc,
+            out,
+            nodes,
+            response,
+            LineStyle::plain(false),
+        ),
         Response::GetEndpoints(_) => push_endpoints(alloc, out, response, EndpointStyle::plain()),
         _ => push_read_answers(alloc, out, nodes, response, LineStyle::plain(false)),
     }

@@ -106,7 +106,9 @@ impl Client {
         if self.is_done {
             return Err(ClientFault::Closed);
         }
-        let begun = self.connection.begin_session(self.alloc, line, policy_id, moment);
+        let begun = self
+            .connection
+            .begin_session(self.alloc, line, policy_id, moment);
         match begun {
             Ok(token) => Ok(token),
             Err(fault) => {
