@@ -16,7 +16,7 @@ use std::io::{ErrorKind, Read, Write};
 use ua_pair::Dissector;
 
 /// The most octets that are read at once.
-const PIECE: usize = 16384;
+const PIECE: usize = 65536;
 
 /// Adds the lines of what is whole with a piece of a file's content.
 fn push_piece<'a>(
