@@ -71,6 +71,9 @@ pub struct Dissect<'a> {
     pub options: DissectOptions,
 }
 
+/// As many connections as have numbers of their own: a channel's id is its connection's number.
+pub const ALL_CONNECTIONS: u32 = u32::MAX;
+
 /// The words of `ua serve`.
 #[derive(Clone, Copy)]
 pub struct Serve<'a> {
@@ -78,8 +81,8 @@ pub struct Serve<'a> {
     pub nodes: &'a str,
     /// A port of this machine.
     pub port: u16,
-    /// How many connections are served.
-    pub connections: u16,
+    /// How many connections are served; [`ALL_CONNECTIONS`] where no end is set.
+    pub connections: u32,
 }
 
 /// The words of `ua endpoints`.
@@ -185,6 +188,16 @@ fn style_of(matches: &ArgMatches<'_>) -> LineStyle {
     }
 }
 
+/// How many connections are to be served: a number from 1 to 65535, or `all`.
+fn connections_of<'a>(matches: &ArgMatches<'a>) -> Result<u32, BadNumber<'a>>
+    ensures { IfOk result (λ connections. 1 ≤ connections) }
+{
+    if text_of(matches, "connections") == "all" {
+        return Ok(ALL_CONNECTIONS);
+    }
+    Ok(u32::from(number_of(matches, "connections")?))
+}
+
 fn endpoints_of<'a>(matches: &ArgMatches<'a>) -> Result<ListEndpoints, BadNumber<'a>>
     ensures { IfOk result (λ asked. 1 ≤ asked.port) }
 {
@@ -217,7 +230,7 @@ fn serve_of<'a>(matches: &ArgMatches<'a>) -> Result<Serve<'a>, BadNumber<'a>>
     Ok(Serve {
         nodes: text_of(matches, "NODES"),
         port: number_of(matches, "PORT")?,
-        connections: number_of(matches, "connections")?,
+        connections: connections_of(matches)?,
     })
 }
 

@@ -193,7 +193,7 @@ const SERVE: &[Word] = &[
     Word {
         name: "connections",
         kind: CONNECTIONS,
-        help: "how many connections are served, from 1 to 65535",
+        help: "how many connections are served, from 1 to 65535, or all",
     },
     WHY,
 ];

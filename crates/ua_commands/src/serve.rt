@@ -105,7 +105,7 @@ fn serve_next<'a, R: Net + Clock + AllocGlobal, O: Write>(
     rt: &R,
     listener: &R::Listener,
     services: &mut Services,
-    number: u16,
+    number: u32,
     out: &mut O,
 ) -> Result<(), Stop<'a>>
     ensures served { OnOk result (ServesOne number (O.contents out.old) (O.contents out.new)) }
@@ -117,13 +117,7 @@ fn serve_next<'a, R: Net + Clock + AllocGlobal, O: Write>(
     };
     let mut line = TcpLine::new(without_delay(stream));
     let mut moments = ClockMoments::new(rt);
-    let text = serve_line(
-        rt.alloc(),
-        &mut line,
-        services,
-        u32::from(number),
-        &mut moments,
-    )?;
+    let text = serve_line(rt.alloc(), &mut line, services, number, &mut moments)?;
     drop(line);
     say(out, &text)
 }

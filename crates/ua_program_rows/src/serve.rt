@@ -124,7 +124,7 @@ fn served_all<R: Net + Clock + AllocGlobal>(
     listener: &R::Listener,
     count: usize,
 ) -> Result<String, Fault> {
-    let Ok(connections) = u16::try_from(count) else {
+    let Ok(connections) = u32::try_from(count) else {
         return Err(Fault::NoRow);
     };
     let Ok(mut served) = services(rt.alloc(), NODES, PORT) else {
