@@ -1,25 +1,6 @@
 //! The program `ua`: OPC UA Binary on the command line. `main` hands its words and streams to
-//! [`ua_commands::run`], which tests call with writers over memory.
+//! [`ua_commands::run`], which the rows of `ua_program_rows` call with writers over memory.
 #![tactic(auto)]
-
-#[cfg(test)]
-mod client_tests;
-#[cfg(test)]
-mod conversation;
-#[cfg(test)]
-mod fixture;
-#[cfg(test)]
-mod lines_tests;
-#[cfg(test)]
-mod loop_line_tests;
-#[cfg(test)]
-mod names_tests;
-#[cfg(test)]
-mod offline_tests;
-#[cfg(test)]
-mod serve_all_tests;
-#[cfg(test)]
-mod tests;
 
 use std::process::ExitCode;
 use std::{env, io};

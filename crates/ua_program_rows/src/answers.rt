@@ -1,11 +1,18 @@
 //! The answer to each kind of row.
 
 use crate::ask::{ask, ask_tcp};
+use crate::asked::asked;
+use crate::carried::{carry, carry_pieces};
+use crate::client::client;
 use crate::fault::Fault;
 use crate::files::{file, text};
+use crate::lines::{carried, moment, stream};
+use crate::names::{client_fault, end, loop_fault, named_end, outcome};
+use crate::offline::offline_row;
 use crate::run::{pipe_row, run_row, words_row};
 use crate::script::script;
-use crate::serve::{connections, serve, serve_tcp};
+use crate::serve::{connections, serve, serve_none, serve_tcp};
+use crate::writers::{err_row, no_words_row, out_row};
 use std::alloc::AllocError;
 use std::net::Net;
 use std::rt::Files;
@@ -48,6 +55,31 @@ fn answer<R: Files + Net + Clock + AllocGlobal>(
         "serve" => serve(rt, words),
         "serve-tcp" => serve_tcp(rt, words),
         "connections" => connections(rt, words),
+        "serve-none" => serve_none(rt),
+        "client" => client(rt, words),
+        "asked" => asked(rt, taken, words),
+        "out" => out_row(rt, taken, words),
+        "err" => err_row(rt, taken, words),
+        "offline" => offline_row(rt, taken, words),
+        "carry" => carry(rt, words),
+        "carried" => carried(rt, words),
+        _ => text_answer(rt, kind, words),
+    }
+}
+
+/// The answer to a row of texts and numbers.
+fn text_answer<R: AllocGlobal>(rt: &R, kind: &str, words: &str) -> Result<String, Fault> {
+    let alloc = rt.alloc();
+    match kind {
+        "no-words" => no_words_row(rt, words),
+        "carry-pieces" => carry_pieces(alloc, words),
+        "stream" => stream(alloc, words),
+        "moment" => moment(alloc, words),
+        "client-fault" => client_fault(alloc, words),
+        "loop-fault" => loop_fault(alloc, words),
+        "end" => end(alloc, words),
+        "named-end" => named_end(alloc, words),
+        "outcome" => outcome(alloc, words),
         _ => Err(Fault::NoRow),
     }
 }

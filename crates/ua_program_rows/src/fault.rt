@@ -2,6 +2,7 @@
 
 use std::alloc::{AllocError, AllocFailed};
 use std::io;
+use ua_channel::LineFault;
 
 #[derive(Clone, Copy, PartialEq, Eq)]
 pub enum Fault {
@@ -37,6 +38,12 @@ impl<T: Drop> From<AllocFailed<T>> for Fault {
 
 impl From<io::Error> for Fault {
     fn from(_: io::Error) -> Fault {
+        Fault::Failed
+    }
+}
+
+impl From<LineFault> for Fault {
+    fn from(_: LineFault) -> Fault {
         Fault::Failed
     }
 }

@@ -7,14 +7,21 @@
 
 mod answers;
 mod ask;
+mod asked;
+mod carried;
+mod client;
 mod fault;
 mod files;
+mod lines;
+mod names;
 mod octets;
+mod offline;
 mod run;
 mod script;
 mod serve;
 mod tcp;
 mod texts;
+mod writers;
 
 use std::io;
 use std::io::{BufRead, BufReader};

@@ -23,6 +23,15 @@ pub fn run_row<R: Files + Net + Clock + AllocGlobal>(
     taken: u16,
     words: &str,
 ) -> Result<String, Fault> {
+    told_of(rt, taken, words)
+}
+
+/// What is printed of a run of these words, which fault is told, and the status.
+pub fn told_of<R: Files + Net + Clock + AllocGlobal>(
+    rt: &R,
+    taken: u16,
+    words: &str,
+) -> Result<String, Fault> {
     told(rt, &run_words(rt, &words_of(rt, taken, words)?, &[]))
 }
 
@@ -57,7 +66,8 @@ pub fn words_row<R: Files + Net + Clock + AllocGlobal>(
     Ok(format!(in rt.alloc(); "{status} out {out} err {err}")?)
 }
 
-fn presence(octets: &[u8]) -> &'static str {
+/// Whether there are octets, in words.
+pub fn presence(octets: &[u8]) -> &'static str {
     if octets.is_empty() {
         "nothing"
     } else {
@@ -77,7 +87,12 @@ fn run_words<R: Files + Net + Clock + AllocGlobal>(
     Ran { status, out, err }
 }
 
-fn words_of<R: Net + AllocGlobal>(rt: &R, taken: u16, words: &str) -> Result<Vec<String>, Fault> {
+/// The words of a run.
+pub fn words_of<R: Net + AllocGlobal>(
+    rt: &R,
+    taken: u16,
+    words: &str,
+) -> Result<Vec<String>, Fault> {
     let mut list = Vec::new(rt.alloc());
     for word in words.split_whitespace() {
         list.push(word_of(rt, taken, word)?)?;

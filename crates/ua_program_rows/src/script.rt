@@ -25,11 +25,13 @@ pub fn script<R: Files + AllocGlobal>(rt: &R, words: &str) -> Result<String, Fau
     Ok(format!(in rt.alloc(); "up {up} down {down}")?)
 }
 
-fn file_text<R: Files + AllocGlobal>(rt: &R, name: &str) -> Result<String, Fault> {
+/// The text that a file holds.
+pub fn file_text<R: Files + AllocGlobal>(rt: &R, name: &str) -> Result<String, Fault> {
     String::from_utf8(content(rt, name)?).map_err(|_| Fault::NoRow)
 }
 
-fn looped(alloc: Global, nodes: &str, script: &str, cut: u16) -> Result<Looped, Fault> {
+/// What goes each way of a script over nodes, in pieces of so many octets.
+pub fn looped(alloc: Global, nodes: &str, script: &str, cut: u16) -> Result<Looped, Fault> {
     let Ok(nodes) = NodeTable::load(alloc, nodes) else {
         return Err(Fault::NoRow);
     };

@@ -12,7 +12,7 @@ use std::net::{Net, OpenListener, OpenStream, Shutdown, TcpListener, TcpStream};
 use std::rt::Files;
 use std::time::Clock;
 use ua_channel::{Line, ListMoments, MemoryLine};
-use ua_commands::{Serve, serve_all, serve_line, services};
+use ua_commands::{Serve, Stop, serve_all, serve_line, services};
 
 /// 1970-01-01, at which all is said.
 const MOMENT: i64 = 116_444_736_000_000_000;
@@ -106,6 +106,35 @@ pub fn connections<R: Files + Net + Clock + AllocGlobal>(
     Ok(told)
 }
 
+/// `serve-none`: what is printed, and which fault is told, where nobody connects and the listener does
+/// not wait.
+pub fn serve_none<R: Net + Clock + AllocGlobal>(rt: &R) -> Result<String, Fault> {
+    let listener = TcpListener::bind(rt, "127.0.0.1:0")?;
+    listener.set_nonblocking(true)?;
+    let Ok(mut served) = services(rt.alloc(), NODES, PORT) else {
+        return Err(Fault::NoRow);
+    };
+    let mut out = Vec::new(rt.alloc());
+    let stopped = serve_all(rt, &listener, &mut served, &asked(1), &mut out);
+    drop(served);
+    let out = marked(rt.alloc(), &out)?;
+    match stopped {
+        Err(Stop::Because(fault, _)) => Ok(format!(in rt.alloc();
+            "out \"{out}\" fault \"{fault}\""
+        )?),
+        _ => Err(Fault::NoRow),
+    }
+}
+
+/// The words that ask for so many connections.
+fn asked(connections: u32) -> Serve<'static> {
+    Serve {
+        nodes: "nodes.txt",
+        port: PORT,
+        connections,
+    }
+}
+
 /// A connection that has sent octets, and sends no more.
 fn client<R: Files + Net + AllocGlobal>(
     rt: &R,
@@ -130,13 +159,8 @@ fn served_all<R: Net + Clock + AllocGlobal>(
     let Ok(mut served) = services(rt.alloc(), NODES, PORT) else {
         return Err(Fault::NoRow);
     };
-    let asked = Serve {
-        nodes: "nodes.txt",
-        port: PORT,
-        connections,
-    };
     let mut out = Vec::new(rt.alloc());
-    let stopped = serve_all(rt, listener, &mut served, &asked, &mut out);
+    let stopped = serve_all(rt, listener, &mut served, &asked(connections), &mut out);
     drop(served);
     match stopped {
         Ok(()) => marked(rt.alloc(), &out),

@@ -1,14 +1,14 @@
-//! `ua loop` where there is no network: only `--tcp` needs one, behind all other faults.
+//! Runs of the program `ua` without a network.
 
-use crate::fixture::status_of;
+use crate::fault::Fault;
+use crate::run::told_of;
+use crate::texts::first_word;
 use std::alloc::Allocator;
 use std::fs::{Metadata, OpenOptions};
+use std::io;
 use std::net::{Net, SocketAddr};
-use std::process::Abort;
 use std::rt::Files;
-use std::test::Fail;
 use std::time::{Clock, Duration};
-use std::{fs, io};
 
 /// A runtime without its network: nothing can be listened on, or, where something can, nothing takes a
 /// connection.
@@ -103,47 +103,18 @@ impl<R: Files> Files for Offline<'_, R> {
     }
 }
 
-/// Whether a port can be listened on, the script, the words behind it, what is printed, which fault is
-/// told, and the status.
-type Row = (
-    bool,
-    &'static str,
-    &'static [&'static str],
-    &'static str,
-    &'static str,
-    u8,
-);
-
-fn expect_row<R: Files + Net + Clock + AllocGlobal + Abort>(rt: &R, row: Row) -> Result<(), Fail> {
-    let (listens, script, words, want_out, want_err, want_status) = row;
-    fs::write(rt, "script.txt", script)?;
-    let offline = Offline { rt, listens };
-    let mut out = Vec::new(rt.alloc());
-    let mut err = Vec::new(rt.alloc());
-    assert_eq!(rt; status_of(&offline, words, &mut out, &mut err), want_status);
-    assert_eq!(rt; out.as_slice(), want_out.as_bytes());
-    assert_eq!(rt; err.as_slice(), want_err.as_bytes());
-    Ok(())
-}
-
-const MEMORY: &[&str] = &["ua", "loop", "nodes.txt", "script.txt"];
-
-const TCP: &[&str] = &["ua", "loop", "nodes.txt", "script.txt", "--tcp"];
-
-const RENEWALS: &str =
-    "renew\nrenew\nrenew\nrenew\nrenew\nrenew\nrenew\nrenew\nrenew\nrenew\nrenew\nrenew\nrenew\nrenew\nrenew\nrenew\n";
-
-#[test]
-fn a_script_needs_a_network_only_over_tcp(rt: HostRuntime) -> Result<(), Fail> {
-    fs::write(&rt, "nodes.txt", "ns=1;s=Pump\trw\tPump\tInt32\t5\n")?;
-    let rows: [Row; 4] = [
-        (false, "", MEMORY, "up 569 down 637 end Closed\n", "", 0),
-        (false, "", TCP, "", "ua: cannot listen\n", 1),
-        (true, "", TCP, "", "ua: cannot connect\n", 1),
-        (false, RENEWALS, TCP, "", "ua: script line 16\n", 1),
-    ];
-    for row in rows {
-        expect_row(&rt, row)?;
-    }
-    Ok(())
+/// `offline NETWORK WORDS`: as `run`, where nothing can be listened on (`deaf`), or nothing takes a
+/// connection (`alone`).
+pub fn offline_row<R: Files + Net + Clock + AllocGlobal>(
+    rt: &R,
+    taken: u16,
+    words: &str,
+) -> Result<String, Fault> {
+    let (network, words) = first_word(words);
+    let listens = match network {
+        "deaf" => false,
+        "alone" => true,
+        _ => return Err(Fault::NoRow),
+    };
+    told_of(&Offline { rt, listens }, taken, words)
 }

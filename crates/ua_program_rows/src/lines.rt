@@ -1,0 +1,117 @@
+//! Lines over streams and moments of clocks: what no clause says of them.
+
+ghost use Rattle.std.specs.Prelude.{◌≤◌, IfOk};
+
+use crate::fault::Fault;
+use crate::octets::{digits, number_of, octets_of};
+use crate::tcp::pair;
+use std::alloc::{AllocError, Global};
+use std::io;
+use std::io::{Read, Write};
+use std::net::Net;
+use std::rt::Files;
+use std::time::{Clock, Duration};
+use ua_channel::{Line, LineFault, Moments};
+use ua_commands::{ClockMoments, TcpLine};
+
+/// `carried OCTETS`: octets that are written at one end of a connection within this process, and read at
+/// the other one; behind them how many a read gives once the first end has gone.
+pub fn carried<R: Files + Net + AllocGlobal>(rt: &R, words: &str) -> Result<String, Fault> {
+    let octets = octets_of(rt, words)?;
+    let (near, mut far) = pair(rt)?;
+    let mut near = TcpLine::new(near);
+    let wrote = near.write(&octets)?;
+    let mut buffer = [0; 64];
+    let read = far.read(&mut buffer)?;
+    drop(near);
+    let text = digits(rt.alloc(), buffer.get(..read).unwrap_or(&[]))?;
+    let behind = far.read(&mut buffer)?;
+    Ok(format!(in rt.alloc(); "wrote {wrote} read {text} then {behind}")?)
+}
+
+/// A stream that answers each call so: with so many octets, or by a fault.
+#[derive(Drop)]
+struct Answers(Option<usize>);
+
+impl Answers {
+    fn answer(&self, most: usize) -> io::Result<usize>
+        ensures bound { IfOk result (λ n. n ≤ most) }
+    {
+        match self.0 {
+            Some(n) => Ok(n.min(most)),
+            None => Err(io::Error::from(io::ErrorKind::Other)),
+        }
+    }
+}
+
+impl Read for Answers {
+    fn read(&mut self, buffer: &mut [u8]) -> io::Result<usize> {
+        self.answer(buffer.len())
+    }
+}
+
+impl Write for Answers {
+    fn write(&mut self, octets: &[u8]) -> io::Result<usize> {
+        self.answer(octets.len())
+    }
+
+    fn flush(&mut self) -> io::Result<()> {
+        Ok(())
+    }
+}
+
+/// How many octets a call of a line moved, or that it failed.
+fn moved(alloc: Global, called: Result<usize, LineFault>) -> Result<String, AllocError> {
+    match called {
+        Ok(n) => format!(in alloc; "{n}"),
+        Err(LineFault::Failed) => String::from_str(alloc, "failed"),
+    }
+}
+
+/// `stream N`: what a line says whose stream answers each call with so many octets (`-`: by a fault): of
+/// a read of 8 octets, of a write of 4, and of one of none.
+pub fn stream(alloc: Global, words: &str) -> Result<String, Fault> {
+    let mut line = TcpLine::new(Answers(number_of(words).ok()));
+    let mut buffer = [0; 8];
+    let read = moved(alloc, line.read(&mut buffer))?;
+    let written = moved(alloc, line.write(b"Pump"))?;
+    let none = moved(alloc, line.write(b""))?;
+    Ok(format!(in alloc; "read {read} write {written} none {none}")?)
+}
+
+/// A clock that stands at this time, or fails.
+#[derive(Drop)]
+struct Stopped(Option<Duration>);
+
+impl Clock for Stopped {
+    fn monotonic(&self) -> io::Result<Duration> {
+        self.since_1970()
+    }
+
+    fn since_1970(&self) -> io::Result<Duration> {
+        self.0.ok_or(io::Error::from(io::ErrorKind::Other))
+    }
+}
+
+/// `moment SECONDS NANOSECONDS`: the moment at this time since 1970, in ticks; `moment -` where the
+/// clock fails.
+pub fn moment(alloc: Global, words: &str) -> Result<String, Fault> {
+    let time = match words.split_once(' ') {
+        Some((seconds, nanoseconds)) => Some(time_of(seconds, nanoseconds)?),
+        None => None,
+    };
+    let clock = Stopped(time);
+    let moment = ClockMoments::new(&clock).next();
+    Ok(format!(in alloc; "{moment}")?)
+}
+
+fn time_of(seconds: &str, nanoseconds: &str) -> Result<Duration, Fault> {
+    let (Ok(seconds), Ok(nanoseconds)) = (seconds.parse::<u64>(), nanoseconds.parse::<u64>()) else {
+        return Err(Fault::NoRow);
+    };
+    let seconds = Duration::from_secs(seconds);
+    match seconds.checked_add(Duration::from_nanos(nanoseconds)) {
+        Some(time) => Ok(time),
+        None => Err(Fault::NoRow),
+    }
+}
