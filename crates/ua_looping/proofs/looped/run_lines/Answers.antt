@@ -11,4 +11,4 @@ pub returns-clause-down : goal.returns-clause-down
 returns-clause-down c = c.in_ok-transcript.ensures.down_is
 
 pub returns-clause-bad : goal.returns-clause-bad
-returns-clause-bad c = c.are_bad.ensures ∙ ap (list_any is_bad_reply) c.deref.ensures.value ∙ any_told _ ∙ ap (list_any is_bad_told) c.in_ok-transcript.ensures.replies_are
+returns-clause-bad c = c.are_bad-has_bad.ensures ∙ ap (list_any is_bad_reply) c.deref.ensures.value ∙ any_told c.in_ok-transcript.transcript.replies.items ∙ ap (list_any is_bad_told) c.in_ok-transcript.ensures.replies_are
