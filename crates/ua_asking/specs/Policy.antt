@@ -39,6 +39,14 @@ anonymous_id_in (Some endpoint) = option_map (λ (policy : UserTokenPolicy). pol
 unfoldable pub chosen_id : List EndpointDescription → Option (Option (List ℕ))
 chosen_id endpoints = anonymous_id_in (find is_unsecured endpoints)
 
+-- the PolicyId that endpoints give; they give none; or memory ran out
+abbrev pub ChoosesAmong : List EndpointDescription → Result (Option (List ℕ)) AskFault → Type 0
+ChoosesAmong endpoints (Ok id) = chosen_id endpoints ≡ Some id
+ChoosesAmong endpoints (Err NoPolicy) = chosen_id endpoints ≡ None
+ChoosesAmong endpoints (Err NoMemory) = Unit {0}
+ChoosesAmong endpoints (Err (Service code)) = ⊥
+ChoosesAmong endpoints (Err (Connection fault)) = ⊥
+
 -- ---- the choice by a reply
 
 -- by a reply to GetEndpoints: the PolicyId that its list gives; it gives none; or why there is no list; a fault is handed on

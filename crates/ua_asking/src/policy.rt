@@ -1,8 +1,9 @@
 //! By which token policy of a server a session is begun.
 
-ghost use Rattle.std.specs.Prelude.{◌≡◌, Ok, option_map};
+ghost use Rattle.std.specs.Prelude.{◌≡◌, Ok, Some, option_map};
+ghost use Rattle.std.specs.List.{find};
 ghost use Rattle.ua_client.specs.declared.reply.Reply.TheVariants.{Response as Responds};
-ghost use Rattle.ua_asking.specs.Policy.{ChoosesBy, chosen_id, is_anonymous, is_unsecured};
+ghost use Rattle.ua_asking.specs.Policy.{ChoosesAmong, ChoosesBy, anonymous_id_in, chosen_id, is_anonymous, is_unsecured};
 
 use crate::answer::response_of;
 use crate::fault::AskFault;
@@ -45,35 +46,69 @@ fn is_anonymous(policy: &UserTokenPolicy) -> bool
     policy.token_type == ANONYMOUS
 }
 
+/// The first endpoint without security.
+fn find_unsecured(endpoints: &[EndpointDescription]) -> Option<&EndpointDescription>
+    ensures { option_map (λ endpoint. endpoint.now) result ≡ find is_unsecured endpoints.now }
+{
+    endpoints.iter().find(|endpoint| is_unsecured(endpoint))
+}
+
+/// The first anonymous token policy.
+fn find_anonymous(policies: &[UserTokenPolicy]) -> Option<&UserTokenPolicy>
+    ensures { option_map (λ policy. policy.now) result ≡ find is_anonymous policies.now }
+{
+    policies.iter().find(|policy| is_anonymous(policy))
+}
+
+/// The PolicyId of the first anonymous token policy of an endpoint.
+fn anonymous_id_in(endpoint: &EndpointDescription) -> Option<&UaString>
+    ensures { option_map (λ id. id.now) result ≡ anonymous_id_in (Some endpoint.now) }
+{
+    let policies = endpoint.user_identity_tokens.as_items().unwrap_or(&[]);
+    match find_anonymous(policies) {
+        Some(policy) => Some(&policy.policy_id),
+        None => None,
+    }
+}
+
 /// The PolicyId of the first anonymous token policy of the first endpoint with the security policy None
 /// and the mode None, 1; it may be null. `None` where there is no such endpoint, or it has no such policy.
 #[tactic(auto, unfolding(crate::specs::Policy::chosen_id))]
 pub fn chosen_id(endpoints: &[EndpointDescription]) -> Option<&UaString>
     ensures { option_map (λ id. id.now) result ≡ chosen_id endpoints.now }
 {
-    let endpoint = endpoints.iter().find(|endpoint| is_unsecured(endpoint))?;
-    let policies = endpoint.user_identity_tokens.as_items()?;
-    let policy = policies.iter().find(|policy| is_anonymous(policy))?;
-    Some(&policy.policy_id)
+    match find_unsecured(endpoints) {
+        Some(endpoint) => anonymous_id_in(endpoint),
+        None => None,
+    }
 }
 
-/// The PolicyId that the endpoints in a response give.
-fn choose_in(response: &Response) -> Result<UaString, AskFault>
-    ensures { ChoosesBy (Ok (Responds response.now)) result }
+/// The PolicyId that endpoints give.
+fn choose_among(endpoints: &[EndpointDescription]) -> Result<UaString, AskFault>
+    ensures { ChoosesAmong endpoints.now result }
 {
-    let endpoints = match response {
-        Response::GetEndpoints(message) => message.endpoints.as_items().unwrap_or(&[]),
-        Response::ServiceFault(fault) => {
-            return Err(AskFault::Service(fault.response_header.service_result));
-        }
-        _ => return Err(AskFault::Connection(ClientFault::UnknownResponse)),
-    };
     match chosen_id(endpoints) {
         Some(id) => match id.try_clone() {
             Ok(id) => Ok(id),
             Err(_) => Err(AskFault::NoMemory),
         },
         None => Err(AskFault::NoPolicy),
+    }
+}
+
+/// The PolicyId that the endpoints in a response give.
+fn choose_in(response: &Response) -> Result<UaString, AskFault>
+    ensures { ChoosesBy (Ok (Responds response.now)) result }
+{
+    match response {
+        Response::GetEndpoints(message) => {
+            let endpoints = message.endpoints.as_items().unwrap_or(&[]);
+            choose_among(endpoints)
+        }
+        Response::ServiceFault(fault) => {
+            Err(AskFault::Service(fault.response_header.service_result))
+        }
+        _ => Err(AskFault::Connection(ClientFault::UnknownResponse)),
     }
 }
 
