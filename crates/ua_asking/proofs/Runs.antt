@@ -29,6 +29,11 @@ pub ends_by : (token : NodeId) (handle same : ℕ) (moment : DateTime) (old new 
     → EndsSession token handle moment old new before after result → EndsSession token same moment old new before after result
 ends_by token handle same moment old new before after result is ends = subst (λ (h : ℕ). EndsSession token h moment old new before after result) is ends
 
+-- a question is asked in a session whose first call has the same request id
+pub asks_by : {M : Type 0} (gives : M → ℤ → M → Type 0) (style : LineStyle) (question : Question) (policy_id : Option (List ℕ)) (handle same : ℕ) (first last : M) (old new : Client) (before after : Option Traffic) (had have : List ℕ) (result : Result Verdict AskFault) → handle ≡ same
+    → AsksInSession gives style question policy_id handle first last old new before after had have result → AsksInSession gives style question policy_id same first last old new before after had have result
+asks_by gives style question policy_id handle same first last old new before after had have result is asks = subst (λ (h : ℕ). AsksInSession gives style question policy_id h first last old new before after had have result) is asks
+
 -- ---- what is added
 
 -- what was added behind a result: such lines, and behind a fault these or none
