@@ -64,7 +64,7 @@ pub fn push_word(alloc: Global, out: &mut String, word: &str) -> Result<(), Allo
 
 /// A fault with the text that is blamed for it.
 fn blame<'a>(alloc: Global, fault: Fault<'a>, text: &str) -> Stop<'a>
-    ensures { StopsAt fault result }
+    ensures { StopsAt fault.entry result }
 {
     match String::from_str(alloc, text) {
         Ok(text) => Stop::Because(fault, Reason::Text(text)),
@@ -74,7 +74,7 @@ fn blame<'a>(alloc: Global, fault: Fault<'a>, text: &str) -> Stop<'a>
 
 /// A fault of a node file with this text: that of a bad line with the field that its reason is against.
 pub fn blame_line<'a>(alloc: Global, text: &str, fault: Fault<'a>) -> Stop<'a>
-    ensures { StopsAt fault result }
+    ensures { StopsAt fault.entry result }
 {
     let Fault::Line { line, reason } = fault else {
         return Stop::Fault(fault);

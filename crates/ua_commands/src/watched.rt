@@ -27,7 +27,7 @@ impl<I> Watched<I> {
     /// A fault, and what the system said of the last read, where the fault is that the source cannot be
     /// read.
     pub fn blame<'a>(&self, fault: Fault<'a>) -> Stop<'a>
-        ensures { StopsAt fault result }
+        ensures { StopsAt fault.entry result }
     {
         match (fault, self.failed) {
             (Fault::CannotRead(_), Some(error)) => Stop::Because(fault, Reason::System(error)),
