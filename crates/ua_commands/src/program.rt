@@ -93,7 +93,7 @@ fn perform<'a, R: Files + Net + Clock + AllocGlobal, I: Read, O: Write>(
     out: &mut O,
 ) -> Result<Verdict, Stop<'a>>
     ensures done { OnOk result (HasPrinted (O.contents out.old) (O.contents out.new)) }
-    ensures strict { IfOk result (λ verdict. verdict ≡ SomeBad → IsStrict task) }
+    ensures strict { IfOk result (λ verdict. verdict ≡ SomeBad → IsStrict task.entry) }
     ensures stopped { IfErr result (λ stop. (stop ≡ Output) ⊎ (out.new ≡ out.old) ⊎ HasBegun (O.contents out.old) (O.contents out.new)) }
 {
     match task {
