@@ -7,7 +7,8 @@ use Rattle.ua_pair.specs.declared.options.DissectOptions.{DissectOptions}
 use Rattle.ua_pair.specs.Dissecting.{StandsBehind, TellsMore, EndsLines}
 use Rattle.hex.specs.Hex.{decode_of}
 use Rattle.hex.proofs.HexLemmas.{decode_of-ok}
-use Rattle.ua_commands.specs.Printed.{HasDissected, HasToldSome}
+use Rattle.ua_commands.specs.Looped.{HasLoopedUntil}
+use Rattle.ua_commands.specs.Printed.{HasBegun, HasDissected, HasToldSome}
 use Rattle.ua_commands.specs.Digits.{digits_in, HexSoFar, HoldsSoFar, HoldsOctets, HoldsNever, HoldsNone}
 use Rattle.ua_commands.specs.declared.fault.Fault.{Fault}
 use Rattle.ua_commands.specs.declared.fault.Fault.TheVariants.{CannotRead, NoMemory, NotHexadecimal}
@@ -228,3 +229,15 @@ dissected hex options before after old new d = record {
 
 pub told_some : (hex : Bool) (options : DissectOptions) (source old new : Option (List ℕ)) → HasBegunDissecting hex options source old new → HasToldSome old new
 told_some hex options source old new h = record { hex = hex; options = options; source = source; lines = h }
+
+-- a script that stopped has begun
+pub loop_stops : {A B : Type 0} (names : Bool) (why : Stop) (old new : Option (List ℕ)) → A ⊎ (B ⊎ HasLoopedUntil names why old new) → A ⊎ (B ⊎ HasBegun old new)
+loop_stops names why old new (inl a) = inl a
+loop_stops names why old new (inr (inl b)) = inr (inl b)
+loop_stops names why old new (inr (inr h)) = inr (inr (inr (inr (inr (inr (record { names = names; fault = Some h.fault; looped = h.looped }))))))
+
+-- where only the writer failed, nothing is told
+pub told_or_not : {A B C D : Type 0} → A ⊎ (B ⊎ C) → (A → D) → B ⊎ (D ⊎ C)
+told_or_not (inl a) f = inr (inl (f a))
+told_or_not (inr (inl b)) f = inl b
+told_or_not (inr (inr c)) f = inr (inr c)

@@ -58,9 +58,19 @@ pub fn run<S: AsStr, R: Files + Net + Clock + AllocGlobal, I: Read, O: Write, E:
     };
     match perform(rt, task, input, out) {
         Ok(verdict) => status_of(words, verdict),
-        Err(Stop::Because(fault, reason)) if why => tell_why(rt.alloc(), &fault, &reason, err),
-        Err(Stop::Fault(fault)) | Err(Stop::Because(fault, _)) => tell(rt.alloc(), &fault, err),
-        Err(Stop::Output) => 1,
+        Err(stop) => tell_stop(rt.alloc(), &stop, why, err),
+    }
+}
+
+/// Tells why a command stopped, and with `why` the reason that is known of it. The status is 1.
+fn tell_stop<E: Write>(alloc: Global, stop: &Stop<'_>, why: bool, err: &mut E) -> u8
+    ensures status { result ≡ 1 }
+    ensures silent { stop.now ≡ Output → err.new ≡ err.old }
+{
+    match stop {
+        Stop::Because(fault, reason) if why => tell_why(alloc, fault, reason, err),
+        Stop::Fault(fault) | Stop::Because(fault, _) => tell(alloc, fault, err),
+        Stop::Output => 1,
     }
 }
 
