@@ -77,12 +77,12 @@ fn asked<L: Line>(
         Task::Endpoints(asked) => endpoints(alloc, line, &asked, out),
         Task::Read(asked) => {
             let question = read_question(alloc, &asked);
-            let asking = asking(alloc, question, asked.policy, asked.style, asked.strict)?;
+            let asking = asking_of(alloc, question, asked.policy, asked.style, asked.strict)?;
             answers(alloc, line, &asking, out)
         }
         Task::Write(asked) => {
             let question = write_question(alloc, &asked);
-            let asking = asking(alloc, question, asked.policy, asked.style, asked.strict)?;
+            let asking = asking_of(alloc, question, asked.policy, asked.style, asked.strict)?;
             answers(alloc, line, &asking, out)
         }
         _ => Err(Fault::NoRow),
@@ -125,7 +125,7 @@ struct Asking {
     strict: bool,
 }
 
-fn asking(
+fn asking_of(
     alloc: Global,
     question: Result<Question, WordFault>,
     policy: &str,
