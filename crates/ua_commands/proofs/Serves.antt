@@ -1,61 +1,57 @@
 -- The lines of `ua serve`, one connection after the other.
-use Rattle.std.proofs.Common.{◌≡◌, ◌<◌, ◌^◌, ℕ, zero, suc, ◌+◌, List, [], ◌∷◌, ◌++◌, length, Option, Some, None, Result, Ok, Err, IsErrAnd, IfErr, ap, sym, subst, ◌∙◌, append_assoc, length-append, refl, arith}
+use Rattle.std.proofs.Common.{◌≡◌, ◌<◌, ◌^◌, ◌⊎◌, ⊤, inl, inr, ℕ, zero, suc, ◌+◌, Bool, List, [], ◌∷◌, ◌++◌, length, Option, Some, None, Result, Ok, Err, IsErrAnd, IfErr, ap, sym, subst, ◌∙◌, append_assoc, length-append, refl, arith}
 use Rattle.std.proofs.lemmas.List.{append-nil}
+use Rattle.std.proofs.KnownBytes.{Appends-nil, Appends-trans}
 use Rattle.std.specs.Io.KnownBytes.{Appends}
 use Rattle.std.specs.List.{AllByRecursion}
-use Rattle.ua_frame.specs.declared.limits.Limits.{Limits}
 use Rattle.ua_requests.proofs.Words.{local_url_fits, name_fits, server_uri_fits}
 use Rattle.ua_server.specs.Endpoint.{Fits}
-use Rattle.ua_server.specs.declared.serve_fault.ServeFault.{ServeFault}
-use Rattle.ua_server.specs.declared.step.End.{End}
+use Rattle.ua_server.specs.Happening.{Leads}
+use Rattle.ua_server.specs.declared.watch.AnsweredRequest.{AnsweredRequest}
 use Rattle.ua_commands.specs.declared.output.Stop.{Stop}
-use Rattle.ua_commands.specs.Served.{HasServed, HasServedSome, IsOutcome, ServesOne, TellsOf, connection_line, connection_lines, endpoint_on, listening_line}
-
--- what two writes add
-pub appends_then : (old mid new : Option (List ℕ)) (a b : List ℕ) → Appends old mid a → Appends mid new b → Appends old new (a ++ b)
-appends_then None mid new a b p q = tt
-appends_then (Some xs) None new a b p q = absurd p
-appends_then (Some xs) (Some ys) None a b p q = q
-appends_then (Some xs) (Some ys) (Some zs) a b p q = q ∙ ap (λ (t : List ℕ). t ++ b) p ∙ append_assoc xs a b
+use Rattle.ua_commands.specs.declared.serve.Halt.{Halt}
+use Rattle.ua_commands.specs.declared.serve.Halt.TheVariants.{Memory, Output}
+use Rattle.ua_commands.specs.declared.serve.RequestLines.{RequestLines}
+use Rattle.ua_commands.specs.Served.{Connection, HasServed, HasServedSome, HasTold, IsConnection, IsConnectionLine, Prints, PrintsNext, PrintsRequest, ServesOne, connection_line, connection_lines, connection_text, endpoint_on, listening_line, request_line, request_lines}
 
 -- one more of which it holds
 all_then : {X : Type 0} (P : X → Type 0) (xs : List X) (x : X) → AllByRecursion P xs → P x → AllByRecursion P (xs ++ x ∷ [])
 all_then P [] x all is = (is, tt)
 all_then P (y ∷ ys) x all is = (all.0, all_then P ys x all.1 is)
 
--- the line of one connection more stands behind those before
-lines_then : (first number : ℕ) (before : List (List ℕ)) (text : List ℕ) → number ≡ first + length before
-    → connection_lines first (before ++ text ∷ []) ≡ connection_lines first before ++ connection_line number text
-lines_then first number [] text is =
+-- the lines of one connection more stand behind those before
+lines_then : (first number : ℕ) (before : List Connection) (c : Connection) → number ≡ first + length before
+    → connection_lines first (before ++ c ∷ []) ≡ connection_lines first before ++ connection_text number c
+lines_then first number [] c is =
     let same : first ≡ number = omega arith in
-    append-nil (connection_line first text) ∙ ap (λ n. connection_line n text) same
-lines_then first number (outcome ∷ before) text is =
-    ap (λ (t : List ℕ). connection_line first outcome ++ t) (lines_then (suc first) number before text (omega arith))
-    ∙ sym (append_assoc (connection_line first outcome) (connection_lines (suc first) before) (connection_line number text))
+    append-nil (connection_text first c) ∙ ap (λ n. connection_text n c) same
+lines_then first number (d ∷ before) c is =
+    ap (λ (t : List ℕ). connection_text first d ++ t) (lines_then (suc first) number before c (omega arith))
+    ∙ sym (append_assoc (connection_text first d) (connection_lines (suc first) before) (connection_text number c))
 
 -- no connection yet
-pub none_served : (port : ℕ) (old new : Option (List ℕ)) → Appends old new (listening_line port) → HasServed port 0 old new
-none_served port old new added = record {
-  outcomes = [];
+pub none_served : (requests : Bool) (port : ℕ) (old new : Option (List ℕ)) → Appends old new (listening_line port) → HasServed requests port 0 old new
+none_served requests port old new added = record {
+  served = [];
   each = tt;
   count = refl;
   added = subst (λ t. Appends old new t) (sym (append-nil (listening_line port))) added;
 }
 
 -- one connection more
-pub one_served : (port number more count : ℕ) (old mid new : Option (List ℕ)) → HasServed port number old mid → ServesOne more mid new
-    → more ≡ number + 1 → count ≡ number + 1 → HasServed port count old new
-one_served port number more count old mid new all one next counts =
+pub one_served : (requests : Bool) (port number more count : ℕ) (old mid new : Option (List ℕ)) → HasServed requests port number old mid → ServesOne requests more mid new
+    → more ≡ number + 1 → count ≡ number + 1 → HasServed requests port count old new
+one_served requests port number more count old mid new all one next counts =
     let counted = all.count in
-    let behind = lines_then 1 more all.outcomes one.text (omega (arith, counted, next)) in
-    let lines = append_assoc (listening_line port) (connection_lines 1 all.outcomes) (connection_line more one.text)
+    let behind = lines_then 1 more all.served one.connection (omega (arith, counted, next)) in
+    let lines = append_assoc (listening_line port) (connection_lines 1 all.served) (connection_text more one.connection)
     ∙ ap (λ (t : List ℕ). listening_line port ++ t) (sym behind) in
-    let long = length-append all.outcomes (one.text ∷ []) in
+    let long = length-append all.served (one.connection ∷ []) in
     record {
-      outcomes = all.outcomes ++ one.text ∷ [];
-      each = all_then IsOutcome all.outcomes one.text all.each one.is;
+      served = all.served ++ one.connection ∷ [];
+      each = all_then (IsConnection requests) all.served one.connection all.each one.is;
       count = omega (arith, counted, counts, long);
-      added = subst (λ t. Appends old new t) lines (appends_then old mid new _ _ all.added one.added);
+      added = subst (λ t. Appends old new t) lines (Appends-trans old mid new _ _ all.added one.added);
     }
 
 -- an error that is passed on is the same
@@ -64,18 +60,97 @@ stops_at P (Ok x) stop h p = absurd h
 stops_at P (Err e) stop h p = subst P (sym h) p
 
 -- what a stop behind some connections leaves
-pub some_served : (port number connections : ℕ) (old mid new : Option (List ℕ)) → HasServed port number old mid → number < connections → new ≡ mid → HasServedSome port connections old new
-some_served port number connections old mid new all fewer same = record { served = number; fewer = fewer; lines = subst (λ w. HasServed port number old w) (sym same) all }
+pub some_served : (requests : Bool) (port number more connections : ℕ) (old mid new : Option (List ℕ)) → HasServed requests port number old mid → number < connections
+    → more ≡ number + 1 → HasTold requests more mid new → HasServedSome requests port connections old new
+some_served requests port number more connections old mid new all fewer next told = record {
+  served = number;
+  fewer = fewer;
+  between = mid;
+  lines = all;
+  next = subst (λ n. HasTold requests n mid new) next told;
+}
 
 -- what the program says of itself can be written
 pub own_fits : (port : ℕ) → port < 2 ^ 16 → Fits (endpoint_on port)
 own_fits port small = record { url = local_url_fits port small; application_uri = server_uri_fits; name = name_fits }
 
--- the line of a connection that was served, and added to a writer
-pub one_said : (number id : ℕ) (Served : Limits → Result End ServeFault → Type 0) (text shown : List ℕ) (old new : Option (List ℕ)) → id ≡ number
-    → TellsOf id Served text → shown ≡ text → Appends old new shown → ServesOne number old new
-one_said number id Served text shown old new is told same added = record {
-  text = told.text;
-  is = record { outcome = told.outcome; text_is = told.text_is };
-  added = subst (λ w. Appends old new w) (same ∙ told.line_is ∙ ap (λ n. connection_line n told.text) is) added;
+-- the line of a connection that was served, and added to a writer behind the lines of its requests
+pub one_said : (requests : Bool) (number : ℕ) (line shown : List ℕ) (old mid new : Option (List ℕ)) → HasTold requests number old mid → IsConnectionLine number line
+    → shown ≡ line → Appends mid new shown → ServesOne requests number old new
+one_said requests number line shown old mid new told is same added = record {
+  connection = record { told = told.told; outcome = is.text };
+  is = record { is = is.is; wanted = told.wanted };
+  added = Appends-trans old mid new _ _ told.added (subst (λ w. Appends mid new w) (same ∙ is.line_is) added);
 }
+
+-- ---- the lines of requests
+
+-- no line yet
+pub none_told : (requests : Bool) (number : ℕ) (old new : Option (List ℕ)) → new ≡ old → HasTold requests number old new
+none_told requests number old new same = record { told = []; wanted = λ _. refl; added = subst (λ w. Appends old w []) (sym same) (Appends-nil old) }
+
+-- the line of one request in front
+told_first : (number : ℕ) (r : AnsweredRequest) (old mid new : Option (List ℕ)) → Appends old mid (request_line number r) → HasTold true number mid new → HasTold true number old new
+told_first number r old mid new added rest = record {
+  told = r ∷ rest.told;
+  wanted = λ e. absurd (true≢false e);
+  added = Appends-trans old mid new _ _ added rest.added;
+}
+
+-- what the lines of some requests come to
+abbrev pub ComesTo : Option Halt → ℕ → Option (List ℕ) → Option (List ℕ) → Type 0
+ComesTo None number old new = HasTold true number old new
+ComesTo (Some Memory) number old new = HasTold true number old new
+ComesTo (Some Output) number old new = ⊤
+
+comes_first : (h : Option Halt) (number : ℕ) (r : AnsweredRequest) (old mid new : Option (List ℕ)) → Appends old mid (request_line number r) → ComesTo h number mid new → ComesTo h number old new
+comes_first None number r old mid new added rest = told_first number r old mid new added rest
+comes_first (Some Memory) number r old mid new added rest = told_first number r old mid new added rest
+comes_first (Some Output) number r old mid new added rest = tt
+
+module _ {O : Type 0} (contents : O → Option (List ℕ)) where
+  abbrev Goes : RequestLines O → List AnsweredRequest → RequestLines O → Type 0
+  Goes p rs q = Leads (PrintsRequest contents) p rs q
+
+  keeps_writer : (p q : RequestLines O) (rs : List AnsweredRequest) → Goes p rs q → q.out.ghost_name ≡ p.out.ghost_name
+  keeps_writer p q [] led = ap (λ (x : RequestLines O). x.out.ghost_name) (sym led)
+  keeps_writer p q (r ∷ rs) led = keeps_writer led.0 q rs led.2 ∙ led.1.same_writer
+
+  -- once a line could not be printed none more is
+  halted : (h : Halt) (p q : RequestLines O) (rs : List AnsweredRequest) → p.halt ≡ Some h → Goes p rs q → (q.halt ≡ Some h) × (contents q.out.now ≡ contents p.out.now)
+  halted h p q [] is led = (ap (λ (x : RequestLines O). x.halt) (sym led) ∙ is, ap (λ (x : RequestLines O). contents x.out.now) (sym led))
+  halted h p q (r ∷ rs) is led =
+      let mid = led.0 in
+      let kept = subst (λ x. PrintsNext x mid.halt (request_line p.number r) (contents p.out.now) (contents mid.out.now)) is led.1.printed in
+      let rest = halted h mid q rs kept.0 led.2 in
+      (rest.0, rest.1 ∙ kept.1)
+
+  comes : (p q : RequestLines O) (rs : List AnsweredRequest) → p.halt ≡ None → Goes p rs q → ComesTo q.halt p.number (contents p.out.now) (contents q.out.now)
+  comes p q [] is led =
+      let halts : q.halt ≡ None = ap (λ (x : RequestLines O). x.halt) (sym led) ∙ is in
+      let same : contents q.out.now ≡ contents p.out.now = ap (λ (x : RequestLines O). contents x.out.now) (sym led) in
+      subst (λ h. ComesTo h p.number (contents p.out.now) (contents q.out.now)) (sym halts) (none_told true p.number _ _ same)
+  comes p q (r ∷ rs) is led =
+      let mid = led.0 in
+      let printed = subst (λ x. PrintsNext x mid.halt (request_line p.number r) (contents p.out.now) (contents mid.out.now)) is led.1.printed in
+      by mid.halt refl printed
+    where
+      Want : Type 0
+      Want = ComesTo q.halt p.number (contents p.out.now) (contents q.out.now)
+      by : (h : Option Halt) → led.0.halt ≡ h → Prints h (request_line p.number r) (contents p.out.now) (contents led.0.out.now) → Want
+      by None e added =
+          let rest = subst (λ n. ComesTo q.halt n (contents led.0.out.now) (contents q.out.now)) led.1.same_number (comes led.0 q rs e led.2) in
+          comes_first q.halt p.number r _ _ _ added rest
+      by (Some Memory) e same =
+          let end = halted Memory led.0 q rs e led.2 in
+          subst (λ h. ComesTo h p.number (contents p.out.now) (contents q.out.now)) (sym end.0) (none_told true p.number _ _ (end.1 ∙ same))
+      by (Some Output) e _ =
+          let end = halted Output led.0 q rs e led.2 in
+          subst (λ h. ComesTo h p.number (contents p.out.now) (contents q.out.now)) (sym end.0) tt
+
+  -- the lines that were printed, where w is what the lent writer ends as
+  pub lines_told : (p q : RequestLines O) (w : O) → (rs : List AnsweredRequest) × Goes p rs q → p.halt ≡ None → (p.out.ghost_name ≡ q.out.ghost_name → w ≡ q.out.now)
+      → ComesTo q.halt p.number (contents p.out.now) (contents w)
+  lines_told p q w led none back =
+      let same = back (sym (keeps_writer p q led.0 led.1)) in
+      subst (λ x. ComesTo q.halt p.number (contents p.out.now) (contents x)) (sym same) (comes p q led.0 none led.1)

@@ -8,7 +8,7 @@ use Rattle.ua_texts.specs.declared.style.EndpointStyle.{EndpointStyle}
 use Rattle.ua_texts.specs.declared.style.LineStyle.{LineStyle}
 use Rattle.ua_commands.specs.Dissects.{HasBegunDissecting}
 use Rattle.ua_commands.specs.Looped.{HasLoopedSome}
-use Rattle.ua_commands.specs.Served.{HasServed}
+use Rattle.ua_commands.specs.Served.{HasServed, HasServedSome}
 
 -- the text is the lines of some octets of one side
 pub record AreSomeLines (text : List ℕ) : Type 0 where
@@ -46,11 +46,12 @@ pub record HasListedSome (old new : Option (List ℕ)) : Type 0 where
   pub style : EndpointStyle
   pub listed : HasListed style old new
 
--- a writer that held the old octets then holds behind them the first lines of `ua serve` on some port
+-- a writer that held the old octets then holds behind them the lines of `ua serve` on some port: of so many connections, or of fewer
 pub record HasBegunServing (old new : Option (List ℕ)) : Type 0 where
+  pub requests : Bool
   pub port : ℕ
   pub connections : ℕ
-  pub lines : HasServed port connections old new
+  pub lines : HasServed requests port connections old new ⊎ HasServedSome requests port connections old new
 
 -- a writer that held the old octets then holds behind them the lines of the frames of one side that the front of some source holds, without a last line
 pub record HasToldSome (old new : Option (List ℕ)) : Type 0 where

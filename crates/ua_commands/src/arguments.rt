@@ -83,6 +83,8 @@ pub struct Serve<'a> {
     pub port: u16,
     /// How many connections are served; [`ALL_CONNECTIONS`] where no end is set.
     pub connections: u32,
+    /// Whether each request has its line as it is answered.
+    pub requests: bool,
 }
 
 /// The words of `ua endpoints`.
@@ -231,6 +233,7 @@ fn serve_of<'a>(matches: &ArgMatches<'a>) -> Result<Serve<'a>, BadNumber<'a>>
         nodes: text_of(matches, "NODES"),
         port: number_of(matches, "PORT")?,
         connections: connections_of(matches)?,
+        requests: matches.get_flag("requests"),
     })
 }
 

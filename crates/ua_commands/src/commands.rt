@@ -195,6 +195,11 @@ const SERVE: &[Word] = &[
         kind: CONNECTIONS,
         help: "how many connections are served, from 1 to 65535, or all",
     },
+    Word {
+        name: "requests",
+        kind: FLAG,
+        help: "each request has a line as it is answered",
+    },
     WHY,
 ];
 

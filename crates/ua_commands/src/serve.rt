@@ -1,12 +1,12 @@
 //! `ua serve`: serves connections on a port of this machine, one after the other.
 
-ghost use Rattle.std.specs.Prelude.{◌≡◌, ◌⊎◌, IfOk, IfErr, OnOk, string_bytes};
+ghost use Rattle.std.specs.Prelude.{◌≡◌, ◌⊎◌, IfOk, IfErr, OnOk, string_bytes, true};
 ghost use Rattle.std.specs.Io.KnownBytes.{Appends};
 ghost use Rattle.ua_channel.specs.Line.{WhereTold};
 ghost use Rattle.ua_server.specs.Serving.{Serves};
 ghost use Rattle.ua_server.specs.State.{begun};
 ghost use Rattle.ua_commands.specs.Refused.{RefusesNodes};
-ghost use Rattle.ua_commands.specs.Served.{AddsOutcome, AreOwn, BeginsWith, HasServed, HasServedSome, ServesOne, TellsOf, endpoint_on, listening_line};
+ghost use Rattle.ua_commands.specs.Served.{AddsOutcome, AreOwn, BeginsWith, HasServed, HasServedSome, HasTold, IsConnectionLine, Prints, SaysOutcome, ServesOne, TellsOf, endpoint_on, kind_name, listening_line, request_line};
 ghost use Rattle.ua_commands.specs.declared.output.Stop.TheVariants.{Output};
 
 use crate::arguments::Serve;
@@ -25,7 +25,10 @@ use ua_builtin::UaString;
 use ua_channel::{Line, Moments};
 use ua_frame::Limits;
 use ua_requests::local_url;
-use ua_server::{End, Endpoint, ServeFault, Services, serve};
+use ua_server::{
+    AnsweredRequest, End, Endpoint, ServeFault, Services, Watch, serve, serve_watched,
+};
+use ua_services::RequestKind;
 use ua_texts::push_code;
 
 /// The most octets of a message.
@@ -94,10 +97,166 @@ pub fn serve_line<L: Line, M: Moments>(
     ensures { IfOk result (λ text. TellsOf number (λ limits outcome. WhereTold (Serves limits number M.gives (begun services.old) moments.old outcome services.new moments.new) (L.traffic line.old) (L.traffic line.new)) (string_bytes text)) }
 {
     let outcome = serve(alloc, line, services, limits(), number, moments);
+    outcome_line(alloc, number, outcome)
+}
+
+/// The line of text that says what became of a connection.
+fn outcome_line(
+    alloc: Global,
+    number: u32,
+    outcome: Result<End, ServeFault>,
+) -> Result<String, AllocError>
+    ensures { IfOk result (λ text. SaysOutcome number outcome (string_bytes text)) }
+{
     let mut text = format!(in alloc; "connection {number} ")?;
     push_outcome(&mut text, outcome)?;
     text.push_str("\n")?;
     Ok(text)
+}
+
+/// The name of a kind of request; `unknown` where a message is no request of these services.
+fn kind_name(kind: Option<RequestKind>) -> &'static str
+    ensures { result.now ≡ kind_name kind }
+{
+    match kind {
+        Some(RequestKind::GetEndpoints) => "GetEndpointsRequest",
+        Some(RequestKind::CreateSession) => "CreateSessionRequest",
+        Some(RequestKind::ActivateSession) => "ActivateSessionRequest",
+        Some(RequestKind::CloseSession) => "CloseSessionRequest",
+        Some(RequestKind::Read) => "ReadRequest",
+        Some(RequestKind::Write) => "WriteRequest",
+        None => "unknown",
+    }
+}
+
+/// The line of a request that was answered.
+fn request_text(
+    alloc: Global,
+    number: u32,
+    request: AnsweredRequest,
+) -> Result<String, AllocError>
+    ensures { IfOk result (λ text. string_bytes text ≡ request_line number request) }
+{
+    let name = kind_name(request.kind);
+    let items = request.items;
+    let mut text = format!(in alloc; "connection {number} {name} {items} ")?;
+    push_code(&mut text, request.code)?;
+    text.push_str("\n")?;
+    Ok(text)
+}
+
+/// Why no line more of a request is printed.
+#[derive(Clone, Copy, PartialEq, Eq)]
+enum Halt {
+    /// Memory was refused. Nothing was printed of that line.
+    Memory,
+    /// What is printed cannot be written.
+    Output,
+}
+
+/// Prints the line of a request.
+fn say_request<O: Write>(
+    alloc: Global,
+    number: u32,
+    request: AnsweredRequest,
+    out: &mut O,
+) -> Option<Halt>
+    ensures { Prints result (request_line number request) (O.contents out.old) (O.contents out.new) }
+{
+    match request_text(alloc, number, request) {
+        Ok(text) => match say(out, &text) {
+            Ok(()) => None,
+            Err(_) => Some(Halt::Output),
+        },
+        Err(_) => Some(Halt::Memory),
+    }
+}
+
+/// Prints the line of each request of a connection as it is answered, and none more once that failed.
+#[derive(Drop)]
+struct RequestLines<'o, O> {
+    alloc: Global,
+    /// The connection's number.
+    number: u32,
+    out: &'o mut O,
+    /// Why no line more is printed, if so.
+    halt: Option<Halt>,
+}
+
+impl<'o, O: Write> Watch for RequestLines<'o, O> {
+    ghost use Rattle.ua_commands.specs.Served.{PrintsRequest};
+
+    ghost notes = { PrintsRequest O.contents };
+
+    fn note(&mut self, request: AnsweredRequest) {
+        if self.halt.is_none() {
+            self.halt = say_request(self.alloc, self.number, request, self.out);
+        }
+    }
+}
+
+/// Serves the client at the other end of a line, and prints the line of each request as it is
+/// answered. Gives the line of text that says what became of the connection.
+fn serve_telling<'a, L: Line, M: Moments, O: Write>(
+    alloc: Global,
+    line: &mut L,
+    services: &mut Services,
+    number: u32,
+    moments: &mut M,
+    out: &mut O,
+) -> Result<String, Stop<'a>>
+    ensures served { IfOk result (λ text. HasTold true number (O.contents out.old) (O.contents out.new) × IsConnectionLine number (string_bytes text)) }
+    ensures stopped { IfErr result (λ stop. (stop ≡ Output) ⊎ HasTold true number (O.contents out.old) (O.contents out.new)) }
+{
+    let mut lines = RequestLines {
+        alloc,
+        number,
+        out,
+        halt: None,
+    };
+    let outcome = serve_watched(
+        alloc,
+        line,
+        services,
+        limits(),
+        number,
+        moments,
+        &mut lines,
+    );
+    let RequestLines {
+        alloc: _,
+        number: _,
+        out,
+        halt,
+    } = lines;
+    // No effect at run time. The proof reads what the writer holds from this use of it.
+    let _ = &*out;
+    match halt {
+        None => Ok(outcome_line(alloc, number, outcome)?),
+        Some(Halt::Memory) => Err(Stop::Fault(Fault::NoMemory)),
+        Some(Halt::Output) => Err(Stop::Output),
+    }
+}
+
+/// Serves the client at the other end of a line, with the lines of its requests where they are wanted.
+/// Gives the line of text that says what became of the connection.
+fn serve_client<'a, L: Line, M: Moments, O: Write>(
+    alloc: Global,
+    line: &mut L,
+    services: &mut Services,
+    number: u32,
+    requests: bool,
+    moments: &mut M,
+    out: &mut O,
+) -> Result<String, Stop<'a>>
+    ensures served { IfOk result (λ text. HasTold requests number (O.contents out.old) (O.contents out.new) × IsConnectionLine number (string_bytes text)) }
+    ensures stopped { IfErr result (λ stop. (stop ≡ Output) ⊎ HasTold requests number (O.contents out.old) (O.contents out.new)) }
+{
+    if requests {
+        serve_telling(alloc, line, services, number, moments, out)
+    } else {
+        Ok(serve_line(alloc, line, services, number, moments)?)
+    }
 }
 
 /// Waits for the next connection, serves it and says what became of it.
@@ -106,10 +265,11 @@ fn serve_next<'a, R: Net + Clock + AllocGlobal, O: Write>(
     listener: &R::Listener,
     services: &mut Services,
     number: u32,
+    requests: bool,
     out: &mut O,
 ) -> Result<(), Stop<'a>>
-    ensures served { OnOk result (ServesOne number (O.contents out.old) (O.contents out.new)) }
-    ensures stopped { IfErr result (λ stop. (stop ≡ Output) ⊎ (out.new ≡ out.old)) }
+    ensures served { OnOk result (ServesOne requests number (O.contents out.old) (O.contents out.new)) }
+    ensures stopped { IfErr result (λ stop. (stop ≡ Output) ⊎ HasTold requests number (O.contents out.old) (O.contents out.new)) }
 {
     let stream = match listener.accept() {
         Ok((stream, _)) => stream,
@@ -117,7 +277,15 @@ fn serve_next<'a, R: Net + Clock + AllocGlobal, O: Write>(
     };
     let mut line = TcpLine::new(without_delay(stream));
     let mut moments = ClockMoments::new(rt);
-    let text = serve_line(rt.alloc(), &mut line, services, number, &mut moments)?;
+    let text = serve_client(
+        rt.alloc(),
+        &mut line,
+        services,
+        number,
+        requests,
+        &mut moments,
+        out,
+    )?;
     drop(line);
     say(out, &text)
 }
@@ -156,12 +324,12 @@ pub fn serve_all<'a, R: Net + Clock + AllocGlobal, O: Write>(
     asked: &Serve<'a>,
     out: &mut O,
 ) -> Result<(), Stop<'a>>
-    ensures served { OnOk result (HasServed asked.now.port asked.now.connections (O.contents out.old) (O.contents out.new)) }
-    ensures stopped { IfErr result (λ stop. (stop ≡ Output) ⊎ (out.new ≡ out.old) ⊎ HasServedSome asked.now.port asked.now.connections (O.contents out.old) (O.contents out.new)) }
+    ensures served { OnOk result (HasServed asked.now.requests asked.now.port asked.now.connections (O.contents out.old) (O.contents out.new)) }
+    ensures stopped { IfErr result (λ stop. (stop ≡ Output) ⊎ (out.new ≡ out.old) ⊎ HasServedSome asked.now.requests asked.now.port asked.now.connections (O.contents out.old) (O.contents out.new)) }
 {
     say_listening(rt.alloc(), asked.port, out)?;
     for number in 0..asked.connections {
-        serve_next(rt, listener, services, number + 1, out)?;
+        serve_next(rt, listener, services, number + 1, asked.requests, out)?;
     }
     Ok(())
 }
@@ -172,8 +340,8 @@ pub fn serve_connections<'a, R: Files + Net + Clock + AllocGlobal, O: Write>(
     asked: &Serve<'a>,
     out: &mut O,
 ) -> Result<(), Stop<'a>>
-    ensures served { OnOk result (HasServed asked.now.port asked.now.connections (O.contents out.old) (O.contents out.new)) }
-    ensures stopped { IfErr result (λ stop. (stop ≡ Output) ⊎ (out.new ≡ out.old) ⊎ HasServedSome asked.now.port asked.now.connections (O.contents out.old) (O.contents out.new)) }
+    ensures served { OnOk result (HasServed asked.now.requests asked.now.port asked.now.connections (O.contents out.old) (O.contents out.new)) }
+    ensures stopped { IfErr result (λ stop. (stop ≡ Output) ⊎ (out.new ≡ out.old) ⊎ HasServedSome asked.now.requests asked.now.port asked.now.connections (O.contents out.old) (O.contents out.new)) }
 {
     let mut services = load(rt, asked)?;
     let listener = listen(rt, asked.port)?;

@@ -11,7 +11,7 @@ use crate::names::{client_fault, end, loop_fault, named_end, outcome};
 use crate::offline::offline_row;
 use crate::run::{pipe_row, run_row, words_row};
 use crate::script::script;
-use crate::serve::{connections, serve, serve_none, serve_tcp};
+use crate::serve::{connections, request_lines, serve, serve_none, serve_tcp};
 use crate::writers::{err_row, no_words_row, out_row};
 use std::alloc::AllocError;
 use std::net::Net;
@@ -55,6 +55,7 @@ fn answer<R: Files + Net + Clock + AllocGlobal>(
         "serve" => serve(rt, words),
         "serve-tcp" => serve_tcp(rt, words),
         "connections" => connections(rt, words),
+        "request-lines" => request_lines(rt, words),
         "serve-none" => serve_none(rt),
         "client" => client(rt, words),
         "asked" => asked(rt, taken, words),

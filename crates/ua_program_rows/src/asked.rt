@@ -23,9 +23,14 @@ fn told<R: AllocGlobal>(rt: &R, task: &Task<'_>) -> Result<String, Fault> {
             let Serve {
                 port,
                 connections,
+                requests,
                 ..
             } = *asked;
-            Ok(format!(in rt.alloc(); "port {port} connections {connections}")?)
+            let mut told = format!(in rt.alloc(); "port {port} connections {connections}")?;
+            if requests {
+                told.push_str(" requests")?;
+            }
+            Ok(told)
         }
         Task::Loop(asked) => {
             let Loop {

@@ -94,16 +94,25 @@ pub fn connections<R: Files + Net + Clock + AllocGlobal>(
     words: &str,
 ) -> Result<String, Fault> {
     let listener = TcpListener::bind(rt, "127.0.0.1:0")?;
-    let mut clients = Vec::new(rt.alloc());
-    for word in words.split_whitespace() {
-        clients.push(client(rt, &listener, word)?)?;
-    }
-    let text = served_all(rt, &listener, words.split_whitespace().count())?;
+    let mut clients = clients(rt, &listener, words)?;
+    let text = served_all(rt, &listener, clients.len(), false)?;
     let mut told = format!(in rt.alloc(); "\"{text}\"")?;
     for client in &mut clients {
         push_sent(rt.alloc(), client, &mut told)?;
     }
     Ok(told)
+}
+
+/// `request-lines OCTETS..`: the same, of which each request has its line. Says what is printed.
+pub fn request_lines<R: Files + Net + Clock + AllocGlobal>(
+    rt: &R,
+    words: &str,
+) -> Result<String, Fault> {
+    let listener = TcpListener::bind(rt, "127.0.0.1:0")?;
+    let clients = clients(rt, &listener, words)?;
+    let text = served_all(rt, &listener, clients.len(), true)?;
+    drop(clients);
+    Ok(format!(in rt.alloc(); "\"{text}\"")?)
 }
 
 /// `serve-none`: what is printed, and which fault is told, where nobody connects and the listener does
@@ -115,7 +124,7 @@ pub fn serve_none<R: Net + Clock + AllocGlobal>(rt: &R) -> Result<String, Fault>
         return Err(Fault::NoRow);
     };
     let mut out = Vec::new(rt.alloc());
-    let stopped = serve_all(rt, &listener, &mut served, &asked(1), &mut out);
+    let stopped = serve_all(rt, &listener, &mut served, &asked(1, false), &mut out);
     drop(served);
     let out = marked(rt.alloc(), &out)?;
     match stopped {
@@ -126,12 +135,13 @@ pub fn serve_none<R: Net + Clock + AllocGlobal>(rt: &R) -> Result<String, Fault>
     }
 }
 
-/// The words that ask for so many connections.
-fn asked(connections: u32) -> Serve<'static> {
+/// The words that ask for so many connections, with the lines of their requests or without.
+fn asked(connections: u32, requests: bool) -> Serve<'static> {
     Serve {
         nodes: "nodes.txt",
         port: PORT,
         connections,
+        requests,
     }
 }
 
@@ -147,11 +157,25 @@ fn client<R: Files + Net + AllocGlobal>(
     Ok(client)
 }
 
+/// Connections of which each has sent the octets of a word.
+fn clients<R: Files + Net + AllocGlobal>(
+    rt: &R,
+    listener: &R::Listener,
+    words: &str,
+) -> Result<Vec<R::Stream>, Fault> {
+    let mut clients = Vec::new(rt.alloc());
+    for word in words.split_whitespace() {
+        clients.push(client(rt, listener, word)?)?;
+    }
+    Ok(clients)
+}
+
 /// What is printed of so many connections.
 fn served_all<R: Net + Clock + AllocGlobal>(
     rt: &R,
     listener: &R::Listener,
     count: usize,
+    requests: bool,
 ) -> Result<String, Fault> {
     let Ok(connections) = u32::try_from(count) else {
         return Err(Fault::NoRow);
@@ -160,7 +184,8 @@ fn served_all<R: Net + Clock + AllocGlobal>(
         return Err(Fault::NoRow);
     };
     let mut out = Vec::new(rt.alloc());
-    let stopped = serve_all(rt, listener, &mut served, &asked(connections), &mut out);
+    let asked = asked(connections, requests);
+    let stopped = serve_all(rt, listener, &mut served, &asked, &mut out);
     drop(served);
     match stopped {
         Ok(()) => marked(rt.alloc(), &out),

@@ -1,12 +1,12 @@
-use Rattle.std.proofs.Common.{◌≡◌, ◌<◌, ap, inl, inr, arith}
+use Rattle.std.proofs.Common.{◌≡◌, ◌<◌, inl, inr, arith}
 use Rattle.ua_commands.proofs.Serves.{none_served, one_served, some_served, stops_at}
 use Rattle.ua_commands.proofs.serve.serve_all.Goals as goal
 
 pub loop-number-init : goal.loop-number-init
-loop-number-init g c = none_served _ _ _ c.in_ok-say_listening.ensures.said
+loop-number-init g c = none_served _ _ _ _ c.in_ok-say_listening.ensures.said
 
 pub loop-number-preserved : goal.loop-number-preserved
-loop-number-preserved g c = one_served _ _ _ _ _ _ _ c.loop-number.invariant c.in_ok-serve_next.ensures.served (omega arith) (omega arith)
+loop-number-preserved g c = one_served _ _ _ _ _ _ _ _ c.loop-number.invariant c.in_ok-serve_next.ensures.served (omega arith) (omega arith)
 
 pub returns-in_err-serve_next-clause-stopped : goal.returns-in_err-serve_next-clause-stopped
 returns-in_err-serve_next-clause-stopped g c =
@@ -14,5 +14,5 @@ returns-in_err-serve_next-clause-stopped g c =
     stops_at _ _ c.in_err-serve_next.field-0.0 c.from_residual-in_err-serve_next.ensures.1 (
     elim c.in_err-serve_next.ensures.stopped [
       | inl output ↦ inl output
-      | inr same ↦ inr (inr (some_served _ _ _ _ _ _ c.loop-number.invariant fewer (ap g.O.Write.contents same)))
+      | inr told ↦ inr (inr (some_served _ _ _ _ _ _ _ _ c.loop-number.invariant fewer (omega arith) told))
     ])

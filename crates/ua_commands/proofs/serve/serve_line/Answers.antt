@@ -1,15 +1,13 @@
-use Rattle.std.proofs.Common.{rules, append_assoc}
-use Rattle.ua_commands.specs.Served.{connection_line}
+use Rattle.std.proofs.lemmas.Result.{IfOk-weaker}
 use Rattle.ua_commands.proofs.serve.serve_line.Goals as goal
 
 pub returns : goal.returns
-unfolding connection_line
-returns g c = record {
+returns g c = IfOk-weaker c.outcome_line.result _ _ (λ text said. record {
   limits = c.limits.result;
   own = c.limits.ensures;
   outcome = c.serve-outcome.result;
   served = c.serve-outcome.ensures.serves;
-  text = c.in_ok-push_outcome.ensures.text;
-  text_is = c.in_ok-push_outcome.ensures.text_is;
-  line_is = search (rules, append_assoc);
-}
+  text = said.text;
+  text_is = said.text_is;
+  line_is = said.line_is;
+}) c.outcome_line.ensures
