@@ -1,18 +1,22 @@
 -- The lines of `ua serve`, one connection after the other.
-use Rattle.std.proofs.Common.{◌≡◌, ◌<◌, ◌^◌, ◌⊎◌, ⊤, inl, inr, ℕ, zero, suc, ◌+◌, Bool, List, [], ◌∷◌, ◌++◌, length, Option, Some, None, Result, Ok, Err, IsErrAnd, IfErr, ap, sym, subst, ◌∙◌, append_assoc, length-append, refl, arith}
+use Rattle.std.proofs.Common.{◌≡◌, ◌<◌, ◌^◌, ◌⊎◌, inl, inr, ℕ, zero, suc, ◌+◌, Bool, true, List, [], ◌∷◌, ◌++◌, length, Option, Some, None, Result, Ok, Err, IsErrAnd, IfErr, ap, sym, subst, ◌∙◌, append_assoc, length-append, refl, arith}
 use Rattle.std.proofs.lemmas.List.{append-nil}
 use Rattle.std.proofs.KnownBytes.{Appends-nil, Appends-trans}
 use Rattle.std.specs.Io.KnownBytes.{Appends}
+use Rattle.std.specs.Prelude.{⊤}
 use Rattle.std.specs.List.{AllByRecursion}
 use Rattle.ua_requests.proofs.Words.{local_url_fits, name_fits, server_uri_fits}
 use Rattle.ua_server.specs.Endpoint.{Fits}
+use Rattle.ua_frame.specs.declared.limits.Limits.{Limits}
 use Rattle.ua_server.specs.Happening.{Leads}
+use Rattle.ua_server.specs.declared.serve_fault.ServeFault.{ServeFault}
+use Rattle.ua_server.specs.declared.step.End.{End}
 use Rattle.ua_server.specs.declared.watch.AnsweredRequest.{AnsweredRequest}
 use Rattle.ua_commands.specs.declared.output.Stop.{Stop}
 use Rattle.ua_commands.specs.declared.serve.Halt.{Halt}
 use Rattle.ua_commands.specs.declared.serve.Halt.TheVariants.{Memory, Output}
 use Rattle.ua_commands.specs.declared.serve.RequestLines.{RequestLines}
-use Rattle.ua_commands.specs.Served.{Connection, HasServed, HasServedSome, HasTold, IsConnection, IsConnectionLine, Prints, PrintsNext, PrintsRequest, ServesOne, connection_line, connection_lines, connection_text, endpoint_on, listening_line, request_line, request_lines}
+use Rattle.ua_commands.specs.Served.{Connection, HasServed, HasServedSome, HasTold, IsConnection, IsConnectionLine, Prints, PrintsNext, PrintsRequest, SaysOutcome, ServesOne, TellsOf, connection_line, connection_lines, connection_text, endpoint_on, listening_line, request_line, request_lines}
 
 -- one more of which it holds
 all_then : {X : Type 0} (P : X → Type 0) (xs : List X) (x : X) → AllByRecursion P xs → P x → AllByRecursion P (xs ++ x ∷ [])
@@ -59,10 +63,15 @@ pub stops_at : {T : Type 0} (P : Stop → Type 0) (r : Result T Stop) (stop : St
 stops_at P (Ok x) stop h p = absurd h
 stops_at P (Err e) stop h p = subst P (sym h) p
 
+-- what holds at any stop
+pub at_any_stop : {T : Type 0} (P : Stop → Type 0) (r : Result T Stop) → ((stop : Stop) → P stop) → IfErr r P
+at_any_stop P (Ok x) all = tt
+at_any_stop P (Err e) all = all e
+
 -- what a stop behind some connections leaves
 pub some_served : (requests : Bool) (port number more connections : ℕ) (old mid new : Option (List ℕ)) → HasServed requests port number old mid → number < connections
-    → more ≡ number + 1 → HasTold requests more mid new → HasServedSome requests port connections old new
-some_served requests port number more connections old mid new all fewer next told = record {
+    → HasTold requests more mid new → more ≡ number + 1 → HasServedSome requests port connections old new
+some_served requests port number more connections old mid new all fewer told next = record {
   served = number;
   fewer = fewer;
   between = mid;
@@ -83,6 +92,13 @@ one_said requests number line shown old mid new told is same added = record {
   added = Appends-trans old mid new _ _ told.added (subst (λ w. Appends mid new w) (same ∙ is.line_is) added);
 }
 
+-- the line of a connection that was served, and of one that ended so
+pub line_told : (number : ℕ) (Served : Limits → Result End ServeFault → Type 0) (line : List ℕ) → TellsOf number Served line → IsConnectionLine number line
+line_told number Served line told = record { text = told.text; is = record { outcome = told.outcome; text_is = told.text_is }; line_is = told.line_is }
+
+pub line_said : (number : ℕ) (outcome : Result End ServeFault) (line : List ℕ) → SaysOutcome number outcome line → IsConnectionLine number line
+line_said number outcome line said = record { text = said.text; is = record { outcome = outcome; text_is = said.text_is }; line_is = said.line_is }
+
 -- ---- the lines of requests
 
 -- no line yet
@@ -93,7 +109,7 @@ none_told requests number old new same = record { told = []; wanted = λ _. refl
 told_first : (number : ℕ) (r : AnsweredRequest) (old mid new : Option (List ℕ)) → Appends old mid (request_line number r) → HasTold true number mid new → HasTold true number old new
 told_first number r old mid new added rest = record {
   told = r ∷ rest.told;
-  wanted = λ e. absurd (true≢false e);
+  wanted = λ e. cc;
   added = Appends-trans old mid new _ _ added rest.added;
 }
 
@@ -125,6 +141,19 @@ module _ {O : Type 0} (contents : O → Option (List ℕ)) where
       let rest = halted h mid q rs kept.0 led.2 in
       (rest.0, rest.1 ∙ kept.1)
 
+  -- what comes behind the first line, where the rest follows
+  comes_behind : (h : Option Halt) (r : AnsweredRequest) (p mid q : RequestLines O) (rs : List AnsweredRequest) → mid.halt ≡ h → mid.number ≡ p.number
+      → Prints h (request_line p.number r) (contents p.out.now) (contents mid.out.now) → Goes mid rs q
+      → (mid.halt ≡ None → ComesTo q.halt mid.number (contents mid.out.now) (contents q.out.now)) → ComesTo q.halt p.number (contents p.out.now) (contents q.out.now)
+  comes_behind None r p mid q rs is number added led rest =
+      comes_first q.halt p.number r _ _ _ added (subst (λ n. ComesTo q.halt n (contents mid.out.now) (contents q.out.now)) number (rest is))
+  comes_behind (Some Memory) r p mid q rs is number same led rest =
+      let end = halted Memory mid q rs is led in
+      subst (λ h. ComesTo h p.number (contents p.out.now) (contents q.out.now)) (sym end.0) (none_told true p.number _ _ (end.1 ∙ same))
+  comes_behind (Some Output) r p mid q rs is number any led rest =
+      let end = halted Output mid q rs is led in
+      subst (λ h. ComesTo h p.number (contents p.out.now) (contents q.out.now)) (sym end.0) tt
+
   comes : (p q : RequestLines O) (rs : List AnsweredRequest) → p.halt ≡ None → Goes p rs q → ComesTo q.halt p.number (contents p.out.now) (contents q.out.now)
   comes p q [] is led =
       let halts : q.halt ≡ None = ap (λ (x : RequestLines O). x.halt) (sym led) ∙ is in
@@ -133,20 +162,7 @@ module _ {O : Type 0} (contents : O → Option (List ℕ)) where
   comes p q (r ∷ rs) is led =
       let mid = led.0 in
       let printed = subst (λ x. PrintsNext x mid.halt (request_line p.number r) (contents p.out.now) (contents mid.out.now)) is led.1.printed in
-      by mid.halt refl printed
-    where
-      Want : Type 0
-      Want = ComesTo q.halt p.number (contents p.out.now) (contents q.out.now)
-      by : (h : Option Halt) → led.0.halt ≡ h → Prints h (request_line p.number r) (contents p.out.now) (contents led.0.out.now) → Want
-      by None e added =
-          let rest = subst (λ n. ComesTo q.halt n (contents led.0.out.now) (contents q.out.now)) led.1.same_number (comes led.0 q rs e led.2) in
-          comes_first q.halt p.number r _ _ _ added rest
-      by (Some Memory) e same =
-          let end = halted Memory led.0 q rs e led.2 in
-          subst (λ h. ComesTo h p.number (contents p.out.now) (contents q.out.now)) (sym end.0) (none_told true p.number _ _ (end.1 ∙ same))
-      by (Some Output) e _ =
-          let end = halted Output led.0 q rs e led.2 in
-          subst (λ h. ComesTo h p.number (contents p.out.now) (contents q.out.now)) (sym end.0) tt
+      comes_behind mid.halt r p mid q rs refl led.1.same_number printed led.2 (λ none. comes mid q rs none led.2)
 
   -- the lines that were printed, where w is what the lent writer ends as
   pub lines_told : (p q : RequestLines O) (w : O) → (rs : List AnsweredRequest) × Goes p rs q → p.halt ≡ None → (p.out.ghost_name ≡ q.out.ghost_name → w ≡ q.out.now)
@@ -154,3 +170,8 @@ module _ {O : Type 0} (contents : O → Option (List ℕ)) where
   lines_told p q w led none back =
       let same = back (sym (keeps_writer p q led.0 led.1)) in
       subst (λ x. ComesTo q.halt p.number (contents p.out.now) (contents x)) (sym same) (comes p q led.0 none led.1)
+
+-- where the output did not fail
+pub told_by : (h : Option Halt) (number : ℕ) (old new : Option (List ℕ)) → ComesTo h number old new → (h ≡ None) ⊎ (h ≡ Some Memory) → HasTold true number old new
+told_by h number old new comes (inl is) = subst (λ x. ComesTo x number old new) is comes
+told_by h number old new comes (inr is) = subst (λ x. ComesTo x number old new) is comes

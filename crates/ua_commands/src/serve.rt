@@ -189,8 +189,9 @@ impl<'o, O: Write> Watch for RequestLines<'o, O> {
     ghost notes = { PrintsRequest O.contents };
 
     fn note(&mut self, request: AnsweredRequest) {
-        if self.halt.is_none() {
-            self.halt = say_request(self.alloc, self.number, request, self.out);
+        match self.halt {
+            None => self.halt = say_request(self.alloc, self.number, request, self.out),
+            Some(_) => {}
         }
     }
 }

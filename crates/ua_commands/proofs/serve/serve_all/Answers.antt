@@ -14,5 +14,5 @@ returns-in_err-serve_next-clause-stopped g c =
     stops_at _ _ c.in_err-serve_next.field-0.0 c.from_residual-in_err-serve_next.ensures.1 (
     elim c.in_err-serve_next.ensures.stopped [
       | inl output ↦ inl output
-      | inr told ↦ inr (inr (some_served _ _ _ _ _ _ _ _ c.loop-number.invariant fewer (omega arith) told))
+      | inr told ↦ inr (inr (some_served _ _ _ _ _ _ _ _ c.loop-number.invariant fewer told (omega arith)))
     ])
