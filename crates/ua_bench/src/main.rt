@@ -1,12 +1,18 @@
 //! Does one piece of work on a message many times over, so that its instructions can be counted:
-//! `ua_bench WORK FILE TIMES`, where FILE holds the octets of one value.
+//! `ua_bench WORK FILE TIMES [BESIDE]`, where FILE holds the octets of one value, or those that one side
+//! of a connection sends, and BESIDE the nodes of a server or the request of a client.
 //! docs/PERFORMANCE.md says how, and what came of it.
 #![tactic(auto)]
 
+mod bodies;
+mod calls;
 mod fault;
+mod given;
+mod streams;
 mod work;
 
 use crate::fault::Fault;
+use crate::given::Given;
 use crate::work::Work;
 use std::process::ExitCode;
 use std::{env, fs, io};
@@ -33,7 +39,11 @@ fn run(rt: &HostRuntime) -> Result<u64, Fault> {
     let work = Work::named(work.as_str()).ok_or(Fault::Words)?;
     let times = u32::from_str_radix(times.as_str(), 10).map_err(|_| Fault::Words)?;
     let octets = fs::read(rt, file.as_str()).map_err(|_| Fault::File)?;
-    work.repeat(rt.alloc(), octets.as_slice(), times)
+    let beside = match words.get(4) {
+        Some(beside) => fs::read(rt, beside.as_str()).map_err(|_| Fault::File)?,
+        None => Vec::new(rt.alloc()),
+    };
+    work.repeat(rt.alloc(), &Given::new(octets, beside), times)
 }
 
 /// The words of the command line, of which the first is the program's name.

@@ -1,6 +1,10 @@
 //! The pieces of work.
 
+use crate::bodies::{read_requests, read_responses, write_requests, write_responses};
+use crate::calls::{call, call_groups};
 use crate::fault::Fault;
+use crate::given::Given;
+use crate::streams::{answer_messages, dissect_octets, read_frames, take_messages};
 use std::alloc::Global;
 use ua_builtin::{MOST_LEVELS, Octets, Source, Wire};
 use ua_services::{ReadRequest, ReadResponse};
@@ -21,6 +25,22 @@ pub enum Work {
     WriteResponse,
     ReadRequest,
     WriteRequest,
+    /// Reads the body of a response from the parts of a message, as the program does.
+    ReadResponseBody,
+    WriteResponseBody,
+    ReadRequestBody,
+    WriteRequestBody,
+    /// Reads frames.
+    Frames,
+    /// Takes messages at a server's channel.
+    Channel,
+    /// Answers messages.
+    Step,
+    /// Calls a request, one at a time.
+    Call,
+    /// Calls requests in groups of 64.
+    CallAll,
+    Dissect,
 }
 
 impl Work {
@@ -35,12 +55,23 @@ impl Work {
             "write-response" => Some(Work::WriteResponse),
             "read-request" => Some(Work::ReadRequest),
             "write-request" => Some(Work::WriteRequest),
+            "read-response-body" => Some(Work::ReadResponseBody),
+            "write-response-body" => Some(Work::WriteResponseBody),
+            "read-request-body" => Some(Work::ReadRequestBody),
+            "write-request-body" => Some(Work::WriteRequestBody),
+            "frames" => Some(Work::Frames),
+            "channel" => Some(Work::Channel),
+            "step" => Some(Work::Step),
+            "call" => Some(Work::Call),
+            "call-all" => Some(Work::CallAll),
+            "dissect" => Some(Work::Dissect),
             _ => None,
         }
     }
 
-    /// Does the work so many times; how many octets, or values, it went over.
-    pub fn repeat(self, alloc: Global, octets: &[u8], times: u32) -> Result<u64, Fault> {
+    /// Does the work so many times; how many octets, values, messages or answers it went over.
+    pub fn repeat(self, alloc: Global, given: &Given, times: u32) -> Result<u64, Fault> {
+        let octets = given.octets();
         match self {
             Work::Read => read_values::<Variant>(alloc, octets, times),
             Work::Write => write_values::<Variant>(alloc, octets, times),
@@ -50,6 +81,16 @@ impl Work {
             Work::WriteResponse => write_values::<ReadResponse>(alloc, octets, times),
             Work::ReadRequest => read_values::<ReadRequest>(alloc, octets, times),
             Work::WriteRequest => write_values::<ReadRequest>(alloc, octets, times),
+            Work::ReadResponseBody => read_responses(alloc, octets, times),
+            Work::WriteResponseBody => write_responses(alloc, octets, times),
+            Work::ReadRequestBody => read_requests(alloc, octets, times),
+            Work::WriteRequestBody => write_requests(alloc, octets, times),
+            Work::Frames => read_frames(alloc, octets, times),
+            Work::Channel => take_messages(alloc, octets, times),
+            Work::Step => answer_messages(alloc, given, times),
+            Work::Call => call(alloc, given, times),
+            Work::CallAll => call_groups(alloc, given, times),
+            Work::Dissect => dissect_octets(alloc, octets, times),
         }
     }
 }
