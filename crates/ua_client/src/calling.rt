@@ -4,7 +4,7 @@ ghost use Rattle.std.specs.Prelude.{◌≡◌, ◌+◌, ◌<◌, ◌≤◌, leng
 ghost use Rattle.ua_client.specs.Calls.{CallsGroup, CallsAll};
 ghost use Rattle.ua_client.specs.Hearing.{failures_behind};
 
-use crate::collecting::{append_replies, empty_slots};
+use crate::collecting::{append_replies, empty_slots, no_replies};
 use crate::connection::Connection;
 use crate::fault::ClientFault;
 use crate::group::{ask_group, judge_group};
@@ -81,7 +81,7 @@ impl Connection {
         ensures failed { L.failures line.new ≡ failures_behind (L.failures line.old) result }
     {
         let mut reads = u64::MAX;
-        let mut replies = Vec::new(alloc);
+        let mut replies = no_replies(alloc, requests.len());
         let mut start = 0;
         while start < requests.len() {
             let end = group_end(start, requests.len());

@@ -51,6 +51,8 @@ pub fn empty_slots(alloc: Global, requests: &[Request]) -> Result<Vec<Option<Rep
     ensures err { IfErr result (λ fault. fault ≡ OutOfMemory) }
 {
     let mut slots = Vec::new(alloc);
+    // without it memory is taken as it is needed
+    let _has_room = slots.reserve_exact(requests.len()).is_ok();
     match make_slots(&mut slots, requests) {
         Ok(()) => Ok(slots),
         Err(_) => {
@@ -65,6 +67,15 @@ fn is_waiting(slots: &[Option<Reply>]) -> bool
     ensures { result ≡ list_any is_none slots.now }
 {
     slots.iter().any(|slot| slot.is_none())
+}
+
+/// No replies, with room for so many where there is memory for that.
+pub fn no_replies(alloc: Global, count: usize) -> Vec<Reply>
+    ensures { result.items ≡ [] }
+{
+    let mut replies = Vec::new(alloc);
+    let _has_room = replies.reserve_exact(count).is_ok();
+    replies
 }
 
 /// Adds a reply.

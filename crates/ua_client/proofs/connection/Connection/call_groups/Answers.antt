@@ -8,7 +8,7 @@ use Rattle.ua_client.proofs.connection.Connection.call_groups.Goals as goal
 
 pub loop-start-init : goal.loop-start-init
 loop-start-init g c =
-    let none : c.new-replies.result.items ≡ [] = search rules in
+    let none : c.no_replies-replies.result.items ≡ [] = search rules in
     record {
       within = omega arith;
       count = ap length none;
