@@ -4,6 +4,7 @@
 use crate::fault::Fault;
 use crate::given::{Given, MOMENT, limits, text};
 use std::alloc::Global;
+use ua_builtin::Wire;
 use ua_channel::{ServerChannel, ServerEvent};
 use ua_frame::{FrameReader, Gate, Kind};
 use ua_nodes::NodeTable;
@@ -168,10 +169,16 @@ fn services(alloc: Global, nodes: &str) -> Result<Services, Fault> {
     let Ok(nodes) = NodeTable::load(alloc, nodes) else {
         return Err(Fault::Value);
     };
+    let url = text(alloc, "opc.tcp://localhost:4840")?;
+    let application_uri = text(alloc, "urn:ua:server")?;
+    let name = text(alloc, "ua")?;
+    if !url.is_encodable() || !application_uri.is_encodable() || !name.is_encodable() {
+        return Err(Fault::Value);
+    }
     let endpoint = Endpoint {
-        url: text(alloc, "opc.tcp://localhost:4840")?,
-        application_uri: text(alloc, "urn:ua:server")?,
-        name: text(alloc, "ua")?,
+        url,
+        application_uri,
+        name,
         message_limit: 1_048_576,
     };
     Ok(Services::new(nodes, endpoint))
