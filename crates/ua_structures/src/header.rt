@@ -172,13 +172,12 @@ impl Wire for ResponseHeader {
         src: &mut S,
         depth: u32,
     ) -> Result<ResponseHeader, ReadFault> {
-        let (
-            timestamp,
-            (
-                request_handle,
-                (service_result, (service_diagnostics, (string_table, additional_header))),
-            ),
-        ) = Wire::read_value(alloc, src, depth)?;
+        let timestamp = DateTime::read_value(alloc, src, depth)?;
+        let request_handle = u32::read_value(alloc, src, depth)?;
+        let service_result = StatusCode::read_value(alloc, src, depth)?;
+        let service_diagnostics = DiagnosticInfo::read_value(alloc, src, depth)?;
+        let string_table = UaArray::read_value(alloc, src, depth)?;
+        let additional_header = ExtensionObject::read_value(alloc, src, depth)?;
         Ok(ResponseHeader {
             timestamp,
             request_handle,
