@@ -1,3 +1,4 @@
+pub mod Appended
 pub mod Elements
 pub mod Faults
 pub mod FieldsFit

@@ -7,6 +7,7 @@ use Rattle.ua_builtin.specs.declared.date_time.DateTime.{DateTime}
 use Rattle.ua_builtin.specs.declared.status_code.StatusCode.{StatusCode}
 use Rattle.ua_builtin.specs.declared.qualified_name.QualifiedName.{QualifiedName}
 use Rattle.ua_builtin.specs.declared.node_id.NodeId.{NodeId}
+use Rattle.ua_variant.specs.Canonical.{data_value_canonical}
 use Rattle.ua_variant.specs.Data.{DataFields, VariantData, DataValueData, bare, valued}
 use Rattle.ua_structures.specs.declared.attribute.ReadValueId.{ReadValueId}
 use Rattle.ua_nodes.specs.declared.attribute.Attribute.{Attribute}
@@ -16,6 +17,7 @@ use Rattle.ua_nodes.specs.declared.stamps.Stamps.TheVariants.{Source, Server, Bo
 use Rattle.ua_nodes.specs.declared.range.IndexRange.{IndexRange}
 use Rattle.ua_nodes.specs.Attribute.{attribute_of, is_attribute, attribute_value}
 use Rattle.ua_nodes.specs.Range.{asked_range, elements_of, part_of}
+use Rattle.ua_nodes.specs.Table.{Nodes, node_at}
 use Rattle.ua_nodes.specs.Status.{bad_node_id_unknown, bad_attribute_id_invalid, bad_index_range_invalid, bad_index_range_no_data, bad_data_encoding_invalid, bad_not_readable}
 
 -- a text that is neither null nor empty
@@ -119,3 +121,7 @@ read_by None v item stamps moment =
 abbrev pub read_answer : Option Variable → ReadValueId → Stamps → DateTime → DataValueData
 read_answer None item stamps moment = refused bad_node_id_unknown
 read_answer (Some v) item stamps moment = read_by (first_reason (read_item_reasons v item)) v item stamps moment
+
+-- the octets that are written for the answer to an item
+abbrev pub answer_octets : Nodes → Stamps → DateTime → ReadValueId → List ℕ
+answer_octets nodes stamps moment item = data_value_canonical (read_answer (node_at nodes item.node_id) item stamps moment)

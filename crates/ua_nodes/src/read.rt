@@ -1,8 +1,7 @@
 //! Items of Read.
 
 ghost use Rattle.std.specs.Prelude.{◌≡◌, IfOk, IsTrue};
-ghost use Rattle.ua_variant.specs.View.{variant_of, data_value_of};
-ghost use Rattle.ua_variant.specs.Data.{valued};
+ghost use Rattle.ua_variant.specs.View.{variant_of, data_value_of, value_within};
 ghost use Rattle.ua_variant.specs.Encodable.{data_value_encodable};
 ghost use Rattle.ua_nodes.specs.Attribute.{attribute_of, attribute_value};
 ghost use Rattle.ua_nodes.specs.Range.{asked_range};
@@ -63,11 +62,14 @@ impl Variable {
             Err(code) => return Ok(refused(code)),
         };
         let value = HeldVariant::new(self.value_read(alloc, &item.node_id, attribute, range)?);
-        Ok(self.stamped(value, item.attribute_id == VALUE, stamps, moment))
+        Ok(self.stamped(Some(value), item.attribute_id == VALUE, stamps, moment))
     }
 
     /// The attribute and the range that an item for this node asks for, or why the item is refused.
-    fn judge_read(&self, item: &ReadValueId) -> Result<(Attribute, Option<IndexRange>), StatusCode>
+    pub(crate) fn judge_read(
+        &self,
+        item: &ReadValueId,
+    ) -> Result<(Attribute, Option<IndexRange>), StatusCode>
         ensures { result ≡ judged (first_reason (read_item_reasons self.now item.now)) (attribute_of item.now.attribute_id) (asked_range item.now.index_range) }
     {
         let Some(attribute) = Attribute::of_id(item.attribute_id) else {
@@ -142,19 +144,19 @@ impl Variable {
         }
     }
 
-    /// A value with the status and times that go with it.
-    fn stamped(
+    /// A value, or none, with the status and times that go with it.
+    pub(crate) fn stamped(
         &self,
-        value: HeldVariant,
+        value: Option<HeldVariant>,
         is_value: bool,
         stamps: Stamps,
         moment: DateTime,
     ) -> DataValue
-        ensures { data_value_of result ≡ valued value (stamps_of self.now is_value stamps moment) }
+        ensures { data_value_of result ≡ value_within value (stamps_of self.now is_value stamps moment) }
     {
         let gives_source = is_value && stamps.gives_source();
         DataValue {
-            value: Some(value),
+            value,
             status: if is_value { self.status } else { None },
             source_timestamp: if gives_source { self.source_time } else { None },
             source_picoseconds: if gives_source {

@@ -1,32 +1,41 @@
 //! The services Read and Write.
 
-ghost use Rattle.std.specs.Prelude.{◌≡◌, ◌≤◌, IsTrue, IfOk, OnErr, None, option_map, length};
+ghost use Rattle.std.specs.Prelude.{◌≡◌, ◌<◌, ◌≤◌, ◌++◌, IsTrue, IfOk, OnOk, OnErr, None, option_map, length};
 ghost use Rattle.std.specs.List.{list_all};
+ghost use Rattle.ua_builtin.specs.Format.{Extends};
+ghost use Rattle.ua_builtin.specs.NodeId.{node_id};
+ghost use Rattle.ua_builtin.specs.Number.{number_octets};
 ghost use Rattle.ua_builtin.specs.Reasons.{first_reason};
-ghost use Rattle.ua_services.specs.Response.{response};
+ghost use Rattle.ua_services.specs.Message.{standard};
+ghost use Rattle.ua_services.specs.Response.{header_of, response};
 ghost use Rattle.ua_builtin.specs.Status.{status_code};
 ghost use Rattle.ua_nodes.specs.Read.{read_answer};
 ghost use Rattle.ua_nodes.specs.Table.{node_at};
 ghost use Rattle.ua_nodes.specs.Write.{write_answers, after_write};
+ghost use Rattle.ua_structures.specs.Header.{response_header};
 ghost use Rattle.ua_structures.specs.declared.attribute.WriteRequest.{WriteRequest};
 ghost use Rattle.ua_variant.specs.Formats.{data_value_format};
 ghost use Rattle.ua_server.specs.State.{with_nodes};
 ghost use Rattle.ua_server.specs.Answer.{read_items, write_items};
 ghost use Rattle.ua_server.specs.Attributes.{items_of, most_items, value_from, session_reasons, count_reasons, read_reasons, read_answers, values_given, write_reasons, with_written, statuses_given};
 
+use crate::reply::body_of;
 use crate::services::Services;
 use crate::sessions::good_header;
 use std::alloc::{AllocError, Global};
-use ua_builtin::{DateTime, StatusCode};
+use ua_builtin::{DateTime, Identifier, NULL_COUNT, NodeId, StatusCode, Wire};
 use ua_nodes::Stamps;
 use ua_services::{
-    ReadRequest, ReadResponse, ReadValueId, RequestHeader, Response, UaArray, WriteRequest,
-    WriteResponse, WriteValue,
+    ReadRequest, ReadResponse, ReadValueId, RequestHeader, Response, ResponseHeader, UaArray,
+    WriteRequest, WriteResponse, WriteValue, empty_body,
 };
 use ua_variant::DataValue;
 
 /// The most items of a request.
 const MOST_ITEMS: usize = 1000;
+
+/// The number of the encoding of a Read response (OPC 10000-6, A.3).
+const READ_RESPONSE: u32 = 634;
 
 /// The greatest MaxAge, as the pattern of a Double: that of -0.
 const MOST_AGE: u64 = 0x8000_0000_0000_0000;
@@ -43,6 +52,19 @@ fn count_refusal(items: usize) -> Option<StatusCode>
         return Some(StatusCode::BAD_TOO_MANY_OPERATIONS);
     }
     None
+}
+
+/// Adds what a Read response begins with: the NodeId of its encoding, its header, and how many results
+/// it has.
+#[tactic(auto, unfolding(ua_builtin::specs::NodeId::node_id))]
+fn append_front(header: &ResponseHeader, results: u32, out: &mut Vec<u8>) -> Result<(), AllocError>
+    requires { IsTrue (response_header.encodable header.now) }
+    ensures ok { OnOk result (out.new.items ≡ out.old.items ++ (node_id.canonical (standard 634) ++ (response_header.canonical header.now ++ number_octets 4 results))) }
+    ensures err { OnErr result (Extends out.old.items out.new.items) }
+{
+    NodeId::new(0, Identifier::Numeric(READ_RESPONSE)).append(out)?;
+    header.append(out)?;
+    results.append(out)
 }
 
 impl Services {
@@ -129,6 +151,49 @@ impl Services {
         let items = request.nodes_to_read.as_items().unwrap_or(&[]);
         let results = self.read_items(alloc, items, stamps, moment)?;
         Ok(Response::Read(ReadResponse::of_results(good_header(moment, handle), results)))
+    }
+
+    /// The body of the answer to a Read that is not refused: its results are written one by one, each
+    /// Value from where it stands among the nodes.
+    #[tactic(auto, using(crate::proofs::ReadBody::written_whole, crate::proofs::ReadBody::written_some))]
+    fn granted_body(
+        &self,
+        alloc: Global,
+        request: &ReadRequest,
+        moment: DateTime,
+    ) -> Result<Vec<u8>, AllocError>
+        requires few { length (items_of request.now.nodes_to_read) ≤ most_items }
+        ensures body { IfOk result (λ body. body.items ≡ response.canonical (values_given self.now moment request.now)) }
+        ensures some { IfOk result (λ body. 0 < length body.items) }
+    {
+        let stamps = Stamps::of_number(request.timestamps_to_return).unwrap_or(Stamps::Neither);
+        let items = request.nodes_to_read.as_items().unwrap_or(&[]);
+        let header = good_header(moment, request.request_header.request_handle);
+        let mut body = empty_body(alloc);
+        append_front(&header, items.len() as u32, &mut body)?;
+        self.nodes.append_items(alloc, items, stamps, moment, &mut body)?;
+        NULL_COUNT.append(&mut body)?;
+        Ok(body)
+    }
+
+    /// The body of the answer to a Read, and its service result.
+    pub(crate) fn read_body(
+        &self,
+        alloc: Global,
+        request: &ReadRequest,
+        moment: DateTime,
+    ) -> Result<(Vec<u8>, StatusCode), AllocError>
+        ensures body { IfOk result (λ told. told.0.items ≡ response.canonical (read_items self.now moment request.now).1) }
+        ensures some { IfOk result (λ told. 0 < length told.0.items) }
+        ensures code { IfOk result (λ told. told.1 ≡ (header_of (read_items self.now moment request.now).1).service_result) }
+    {
+        if let Some(code) = self.read_refusal(request) {
+            let handle = request.request_header.request_handle;
+            let body = body_of(alloc, self.fault(handle, code, moment))?;
+            return Ok((body, code));
+        }
+        let body = self.granted_body(alloc, request, moment)?;
+        Ok((body, StatusCode::GOOD))
     }
 
     /// Why a Write is refused: for its session, or for how many items it has.

@@ -1,0 +1,58 @@
+-- What is written for an item of a Read, part by part.
+use Rattle.std.proofs.Common.{◌≡◌, ℕ, ◌+◌, ◌≤◌, Bool, true, false, ◌&&◌, leb, nat_eq, Option, Some, None, Result, Ok, is_some, option_map, refl, sym, ap, ◌∙◌, arith}
+use Rattle.std.proofs.lemmas.Bool.{le-leb, leb-true}
+use Rattle.ua_builtin.specs.Flags.{flag_bit}
+use Rattle.ua_builtin.specs.Reasons.{first_reason}
+use Rattle.ua_builtin.specs.declared.date_time.DateTime.{DateTime}
+use Rattle.ua_builtin.specs.declared.status_code.StatusCode.{StatusCode}
+use Rattle.ua_octets.proofs.Readers.{both_true}
+use Rattle.ua_structures.specs.declared.attribute.ReadValueId.{ReadValueId}
+use Rattle.ua_variant.specs.Data.{DataFields, VariantData, DataValueData, bare, valued}
+use Rattle.ua_variant.specs.Encodable.{data_fields_encodable, data_value_encodable, variant_encodable, variant_fits}
+use Rattle.ua_variant.specs.Fields.{data_flags}
+use Rattle.ua_variant.specs.Measure.{variant_depth}
+use Rattle.ua_nodes.specs.Attribute.{attribute_of, attribute_value}
+use Rattle.ua_nodes.specs.Range.{asked_range}
+use Rattle.ua_nodes.specs.Read.{judged, read_item_reasons, stamps_of, value_read, with_stamps, read_by, read_answer}
+use Rattle.ua_nodes.specs.Table.{Nodes, node_at}
+use Rattle.ua_nodes.specs.declared.attribute.Attribute.{Attribute}
+use Rattle.ua_nodes.specs.declared.node.Variable.{Variable}
+use Rattle.ua_nodes.specs.declared.range.IndexRange.{IndexRange}
+use Rattle.ua_nodes.specs.declared.stamps.Stamps.{Stamps}
+use Rattle.ua_nodes.proofs.Fits.{both_are}
+use Rattle.ua_nodes.proofs.Judged.{judged_ok}
+
+-- ---- fields
+
+bit_low : (bit : ℕ) (there : Bool) → flag_bit bit there ≤ bit
+bit_low bit true = omega arith
+bit_low bit false = omega arith
+
+pub flags_low : (f : DataFields) → data_flags f ≤ 62
+unfolding data_flags
+flags_low f =
+    omega (arith, bit_low 2 (is_some f.status), bit_low 4 (is_some f.source_timestamp), bit_low 8 (is_some f.server_timestamp), bit_low 16 (is_some f.source_picoseconds), bit_low 32 (is_some f.server_picoseconds))
+
+pub bare_fits : (f : DataFields) → data_fields_encodable f ≡ true → data_value_encodable (bare f) ≡ true
+bare_fits f h = rw h refl
+
+-- a value and the fields beside it
+pub parts_fit : (v : VariantData) (f : DataFields) → data_value_encodable (valued v f) ≡ true → (data_fields_encodable f ≡ true) × (variant_encodable v ≡ true)
+parts_fit v f h =
+    let a = both_true (leb (1 + variant_depth v) 100) (data_fields_encodable f && variant_fits v) h in
+    let b = both_true (data_fields_encodable f) (variant_fits v) a.1 in
+    let deep = leb-true (1 + variant_depth v) 100 a.0 in
+    (b.0, both_are (leb (variant_depth v) 100) (variant_fits v) (le-leb (variant_depth v) 100 (omega arith)) b.1)
+
+-- ---- whole values
+
+-- an item that is granted, for the Value and without a range
+pub whole_is : (nodes : Nodes) (item : ReadValueId) (v : Variable) (a : Attribute) (stamps : Stamps) (moment : DateTime) → node_at nodes item.node_id ≡ Some v → item.attribute_id ≡ 13
+    → ◌≡◌ {A = Result (Attribute × Option IndexRange) StatusCode} (judged (first_reason (read_item_reasons v item)) (attribute_of item.attribute_id) (asked_range item.index_range)) (Ok (a, None))
+    → read_answer (node_at nodes item.node_id) item stamps moment ≡ valued v.value (stamps_of v true stamps moment)
+whole_is nodes item v a stamps moment there value granted =
+    let free = judged_ok (first_reason (read_item_reasons v item)) (attribute_of item.attribute_id) (asked_range item.index_range) a None (sym granted) in
+    ap (λ (o : Option Variable). read_answer o item stamps moment) there
+    ∙ sym (ap (λ (o : Option StatusCode). read_by o v item stamps moment) free.0)
+    ∙ sym (ap (λ (r : Option IndexRange). with_stamps (option_map (λ b. value_read item.node_id v b r) (attribute_of item.attribute_id)) (stamps_of v (nat_eq item.attribute_id 13) stamps moment)) free.2)
+    ∙ ap (λ (n : ℕ). with_stamps (option_map (λ b. attribute_value item.node_id v b) (attribute_of n)) (stamps_of v (nat_eq n 13) stamps moment)) value

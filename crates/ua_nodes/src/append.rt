@@ -1,0 +1,152 @@
+//! The answers to items of Read, written from where their values stand.
+
+ghost use Rattle.std.specs.Prelude.{◌≡◌, ◌<◌, ◌≤◌, ◌++◌, ◌∷◌, length, true, IfOk, IfSome, IsTrue, OnOk, OnErr};
+ghost use Rattle.std.specs.List.{flat_map};
+ghost use Rattle.ua_builtin.specs.Format.{Extends};
+ghost use Rattle.ua_variant.specs.Canonical.{data_fields_canonical, data_value_canonical, variant_canonical};
+ghost use Rattle.ua_variant.specs.Data.{valued};
+ghost use Rattle.ua_variant.specs.Encodable.{data_fields_encodable, data_value_encodable, variant_encodable};
+ghost use Rattle.ua_variant.specs.Fields.{data_flags};
+ghost use Rattle.ua_variant.specs.View.{variant_of};
+ghost use Rattle.ua_nodes.specs.Read.{answer_octets, read_answer, stamps_of};
+ghost use Rattle.ua_nodes.specs.Sound.{IsSound};
+ghost use Rattle.ua_nodes.specs.Table.{node_at};
+ghost use Rattle.ua_nodes.specs.declared.stamps.Stamps.{Stamps};
+ghost use Rattle.ua_builtin.specs.declared.date_time.DateTime.{DateTime};
+
+use crate::node::Variable;
+use crate::read::VALUE;
+use crate::stamps::Stamps;
+use crate::table::NodeTable;
+use std::alloc::{AllocError, Global};
+use ua_builtin::laws::moment_is_encodable;
+use ua_builtin::{DateTime, Wire};
+use ua_structures::ReadValueId;
+use ua_variant::Variant;
+
+/// The flag of a DataValue that has a value (OPC 10000-6, 5.2.2.17).
+const HAS_VALUE: u8 = 0x01;
+
+impl NodeTable {
+    /// Adds the answers to items of a Read at the end, one behind the other, as they are encoded: those
+    /// that [`read_item`](NodeTable::read_item) makes. The Value of a node is written from where it
+    /// stands; a part of an array and the other attributes are made first, one at a time. An error
+    /// leaves what was there, and perhaps octets behind it.
+    pub fn append_items(
+        &self,
+        alloc: Global,
+        items: &[ReadValueId],
+        stamps: Stamps,
+        moment: DateTime,
+        out: &mut Vec<u8>,
+    ) -> Result<(), AllocError>
+        requires sound { IsSound self.now }
+        ensures ok { OnOk result (out.new.items ≡ out.old.items ++ flat_map (answer_octets self.now stamps moment) items.now) }
+        ensures err { OnErr result (Extends out.old.items out.new.items) }
+    {
+        let mut fields = Vec::new(alloc);
+        for item in items {
+            self.append_item(alloc, item, stamps, moment, &mut fields, out)?;
+        }
+        Ok(())
+    }
+
+    /// Adds the answer to an item at the end. The other vector is for the fields beside a value.
+    #[tactic(auto, unfolding(ua_variant::specs::Formats::data_value_format))]
+    fn append_item(
+        &self,
+        alloc: Global,
+        item: &ReadValueId,
+        stamps: Stamps,
+        moment: DateTime,
+        fields: &mut Vec<u8>,
+        out: &mut Vec<u8>,
+    ) -> Result<(), AllocError>
+        requires sound { IsSound self.now }
+        ensures ok { OnOk result (out.new.items ≡ out.old.items ++ answer_octets self.now stamps moment item.now) }
+        ensures err { OnErr result (Extends out.old.items out.new.items) }
+    {
+        moment_is_encodable(&moment);
+        match self.whole_value(item) {
+            Some(variable) => variable.append_value(stamps, moment, fields, out),
+            None => {
+                let answer = self.read_item(alloc, item, stamps, moment)?;
+                answer.append(out)
+            }
+        }
+    }
+
+    /// The node whose whole Value an item is answered with; none where the item is refused or asks for
+    /// something else.
+    #[tactic(auto, using(crate::proofs::Appended::whole_is))]
+    fn whole_value(&self, item: &ReadValueId) -> Option<&Variable>
+        ensures { IfSome result (λ v. (stamps : Stamps) (moment : DateTime) → read_answer (node_at self.now item.now.node_id) item.now stamps moment ≡ valued v.now.value (stamps_of v.now true stamps moment)) }
+    {
+        if item.attribute_id != VALUE {
+            return None;
+        }
+        let variable = self.get(&item.node_id)?;
+        match variable.judge_read(item) {
+            Ok((_, None)) => Some(variable),
+            _ => None,
+        }
+    }
+}
+
+impl Variable {
+    /// Adds a DataValue of the Value of this node, with its status and times.
+    #[tactic(auto, using(crate::proofs::Appended::parts_fit))]
+    fn append_value(
+        &self,
+        stamps: Stamps,
+        moment: DateTime,
+        fields: &mut Vec<u8>,
+        out: &mut Vec<u8>,
+    ) -> Result<(), AllocError>
+        requires { data_value_encodable (valued self.now.value (stamps_of self.now true stamps moment)) ≡ true }
+        ensures ok { OnOk result (out.new.items ≡ out.old.items ++ data_value_canonical (valued self.now.value (stamps_of self.now true stamps moment))) }
+        ensures err { OnErr result (Extends out.old.items out.new.items) }
+    {
+        let flags = self.put_fields(stamps, moment, fields)?;
+        append_parts(flags + HAS_VALUE, self.value.get(), &fields[1..], out)
+    }
+
+    /// Puts the octets of a DataValue without a value, but with the status and times of the Value of this
+    /// node, in place of what is there. Says the first of them, its flags.
+    #[tactic(auto, using(crate::proofs::Appended::flags_low, crate::proofs::Appended::bare_fits), unfolding(ua_variant::specs::Formats::data_value_format))]
+    fn put_fields(
+        &self,
+        stamps: Stamps,
+        moment: DateTime,
+        octets: &mut Vec<u8>,
+    ) -> Result<u8, AllocError>
+        requires { data_fields_encodable (stamps_of self.now true stamps moment) ≡ true }
+        ensures octets { IfOk result (λ flags. octets.new.items ≡ flags ∷ data_fields_canonical (stamps_of self.now true stamps moment)) }
+        ensures flags { IfOk result (λ flags. flags ≡ data_flags (stamps_of self.now true stamps moment)) }
+        ensures within { IfOk result (λ flags. flags ≤ 62) }
+        ensures some { IfOk result (λ flags. 0 < length octets.new.items) }
+    {
+        octets.clear();
+        let bare = self.stamped(None, true, stamps, moment);
+        bare.append(octets)?;
+        Ok(octets[0])
+    }
+}
+
+/// Adds flags, a value, and behind it octets.
+#[tactic(auto, unfolding(ua_variant::specs::Formats::variant_format))]
+fn append_parts(
+    flags: u8,
+    value: &Variant,
+    fields: &[u8],
+    out: &mut Vec<u8>,
+) -> Result<(), AllocError>
+    requires { variant_encodable (variant_of value.now) ≡ true }
+    ensures ok { OnOk result (out.new.items ≡ out.old.items ++ (flags ∷ (variant_canonical (variant_of value.now) ++ fields.now))) }
+    ensures err { OnErr result (Extends out.old.items out.new.items) }
+{
+    out.push(flags)?;
+    value.append(out)?;
+    out.extend_from_slice(fields)?;
+    Ok(())
+}

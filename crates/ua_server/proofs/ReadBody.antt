@@ -1,0 +1,85 @@
+-- The body of a Read response, part by part.
+use Rattle.std.specs.Prelude.{◌≡◌, ◌<◌, ℕ, suc, List, [], ◌∷◌, ◌++◌, length, map, Some, None}
+use Rattle.std.specs.List.{flat_map}
+use Rattle.std.proofs.Common.{refl, sym, ◌∙◌, ap, append_assoc, arith}
+use Rattle.ua_builtin.specs.Counted.{null_count}
+use Rattle.ua_builtin.specs.NodeId.{node_id}
+use Rattle.ua_builtin.specs.Number.{number_octets}
+use Rattle.ua_builtin.specs.declared.date_time.DateTime.{DateTime}
+use Rattle.ua_nodes.specs.Read.{answer_octets, read_answer}
+use Rattle.ua_nodes.specs.Table.{Nodes, node_at}
+use Rattle.ua_nodes.specs.declared.stamps.Stamps.{Stamps}
+use Rattle.ua_services.proofs.ByKind.{response-canonical}
+use Rattle.ua_services.specs.Message.{standard}
+use Rattle.ua_services.specs.Response.{response}
+use Rattle.ua_services.specs.declared.response.Response.TheVariants.{Read as ReadMessage}
+use Rattle.ua_services.specs.declared.response.ResponseKind.TheVariants.{Read}
+use Rattle.ua_structures.specs.Array.{array}
+use Rattle.ua_structures.specs.Attribute.{read_response}
+use Rattle.ua_structures.specs.Header.{response_header}
+use Rattle.ua_structures.specs.Plain.{values_of}
+use Rattle.ua_structures.specs.declared.attribute.ReadValueId.{ReadValueId}
+use Rattle.ua_structures.specs.declared.header.ResponseHeader.{ResponseHeader}
+use Rattle.ua_variant.specs.Canonical.{data_value_canonical}
+use Rattle.ua_variant.specs.Data.{DataValueData, bare, valued}
+use Rattle.ua_variant.specs.Formats.{data_value_format}
+use Rattle.ua_variant.specs.declared.values.DataValue.{DataValue}
+use Rattle.ua_server.specs.Attributes.{value_from, read_answers}
+
+-- the front of a Read response: the NodeId of its encoding, its header, and how many results it has
+abbrev pub front : ResponseHeader → ℕ → List ℕ
+front header results = node_id.canonical (standard 634) ++ (response_header.canonical header ++ number_octets 4 results)
+
+-- what the array of the results is written as
+array_octets : (values : List DataValue) → (array data_value_format).canonical (Some values) ≡ number_octets 4 (length values) ++ flat_map data_value_format.canonical values
+unfolding array
+array_octets values = refl
+
+no_diagnostics : (header : ResponseHeader) (values : List DataValue)
+    → read_response.canonical (values_of header values) ≡ response_header.canonical header ++ ((array data_value_format).canonical (Some values) ++ number_octets 4 null_count)
+unfolding read_response array
+no_diagnostics header values = refl
+
+-- ---- results
+
+value_octets : (d : DataValueData) → data_value_canonical d ≡ data_value_format.canonical (value_from d)
+unfolding data_value_format
+value_octets (bare f) = refl
+value_octets (valued v f) = refl
+
+results_octets : (nodes : Nodes) (items : List ReadValueId) (stamps : Stamps) (moment : DateTime)
+    → flat_map (answer_octets nodes stamps moment) items ≡ flat_map data_value_format.canonical (read_answers nodes items stamps moment)
+results_octets nodes [] stamps moment = refl
+results_octets nodes (item ∷ items) stamps moment =
+    ap (λ (b : List ℕ). b ++ flat_map (answer_octets nodes stamps moment) items) (value_octets (read_answer (node_at nodes item.node_id) item stamps moment))
+    ∙ ap (λ (b : List ℕ). data_value_format.canonical (value_from (read_answer (node_at nodes item.node_id) item stamps moment)) ++ b) (results_octets nodes items stamps moment)
+
+results_count : (nodes : Nodes) (items : List ReadValueId) (stamps : Stamps) (moment : DateTime) → length items ≡ length (read_answers nodes items stamps moment)
+results_count nodes [] stamps moment = refl
+results_count nodes (item ∷ items) stamps moment = ap suc (results_count nodes items stamps moment)
+
+-- ---- the whole
+
+-- parts that are written one behind the other, and the same in the order in which they nest
+regrouped : (id header count values last : List ℕ) → ((id ++ (header ++ count)) ++ values) ++ last ≡ id ++ (header ++ ((count ++ values) ++ last))
+regrouped id header count values last =
+    append_assoc (id ++ (header ++ count)) values last
+    ∙ append_assoc id (header ++ count) (values ++ last)
+    ∙ ap (λ (b : List ℕ). id ++ b) (append_assoc header count (values ++ last))
+    ∙ ap (λ (b : List ℕ). id ++ (header ++ b)) (sym (append_assoc count values last))
+
+pub written_whole : (header : ResponseHeader) (nodes : Nodes) (items : List ReadValueId) (stamps : Stamps) (moment : DateTime)
+    → (front header (length items) ++ flat_map (answer_octets nodes stamps moment) items) ++ number_octets 4 null_count
+    ≡ response.canonical (ReadMessage (values_of header (read_answers nodes items stamps moment)))
+written_whole header nodes items stamps moment =
+    let values = read_answers nodes items stamps moment in
+    ap (λ (b : List ℕ). (front header (length items) ++ b) ++ number_octets 4 null_count) (results_octets nodes items stamps moment)
+    ∙ ap (λ (n : ℕ). (front header n ++ flat_map data_value_format.canonical values) ++ number_octets 4 null_count) (results_count nodes items stamps moment)
+    ∙ regrouped (node_id.canonical (standard 634)) (response_header.canonical header) (number_octets 4 (length values)) (flat_map data_value_format.canonical values) (number_octets 4 null_count)
+    ∙ ap (λ (b : List ℕ). node_id.canonical (standard 634) ++ (response_header.canonical header ++ (b ++ number_octets 4 null_count))) (sym (array_octets values))
+    ∙ ap (λ (b : List ℕ). node_id.canonical (standard 634) ++ b) (sym (no_diagnostics header values))
+    ∙ sym (response-canonical Read (values_of header values))
+
+pub written_some : (header : ResponseHeader) (results : ℕ) (values last : List ℕ) → 0 < length ((front header results ++ values) ++ last)
+unfolding node_id
+written_some header results values last = omega arith
