@@ -171,7 +171,8 @@ impl Services {
         let header = good_header(moment, request.request_header.request_handle);
         let mut body = empty_body(alloc);
         append_front(&header, items.len() as u32, &mut body)?;
-        self.nodes.append_items(alloc, items, stamps, moment, &mut body)?;
+        self.nodes
+            .append_items(alloc, items, stamps, moment, &mut body)?;
         NULL_COUNT.append(&mut body)?;
         Ok(body)
     }
