@@ -48,3 +48,4 @@ pub mod Opened
 mod Conversing
 mod ServerConversing
 mod ClientConversing
+mod ReplyLimits

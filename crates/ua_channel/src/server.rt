@@ -62,9 +62,10 @@ fn hello_gate() -> Gate
 }
 
 impl ServerChannel {
-    ghost use Rattle.std.specs.Prelude.{◌≡◌, ◌<◌, ◌≤◌, ◌+◌, ◌++◌, ◌^◌, ◌↔◌, [], ℕ, List, length, take, Some, Ok, Err, IfOk, IfSome, MatchOption, MatchResult, OnOk, OnErr, IsErrOf, IsTrue};
+    ghost use Rattle.std.specs.Prelude.{◌≡◌, ◌<◌, ◌≤◌, ◌+◌, ◌++◌, ◌^◌, ◌↔◌, [], ℕ, List, length, take, None, Some, Ok, Err, IfOk, IfSome, MatchOption, MatchResult, OnOk, OnErr, IsErrOf, IsTrue};
     ghost use Rattle.ua_frame.specs.declared.frame.Frame.{Frame};
     ghost use Rattle.ua_frame.specs.Kinds.{lets_in};
+    ghost use Rattle.ua_chunk.specs.Cutting.{most_octets};
     ghost use Rattle.ua_chunk.specs.declared.lane.Lane.{Lane};
     ghost use Rattle.ua_chunk.specs.Open.{open_ids, open_octets};
     ghost use Rattle.ua_channel.specs.Content.{HasShape, content};
@@ -397,6 +398,19 @@ impl ServerChannel {
         match &self.phase {
             Phase::Open(running) => Some(running.lane(self.channel)),
             Phase::Waiting | Phase::Greeted(_) | Phase::Done => None,
+        }
+    }
+
+    /// The most octets that the body of a reply can have to be sent; none where the client sets no
+    /// such limit, and where no channel is open. One with more becomes an abort.
+    pub fn most_octets(&self) -> Option<usize>
+        ensures most { (octets : List ℕ) (frames : List Frame) (rest : List ℕ) → Stands self.now octets frames rest → (IsNotOpen self.now → ⊥)
+            → (lane : Lane) → RepliesGo (limits_of self.now) (channel_of self.now) (received frames) lane → (0 < lane.room) × (result ≡ most_octets lane) }
+        ensures not_open { IsNotOpen self.now → result ≡ None }
+    {
+        match self.lane() {
+            Some(lane) => lane.most_octets(),
+            None => None,
         }
     }
 

@@ -11,6 +11,7 @@ pub mod KeptMessages
 pub mod Layouts
 pub mod Lists
 pub mod Merged
+pub mod MostOctets
 pub mod Numbers
 pub mod Once
 pub mod OneMore

@@ -1,6 +1,6 @@
 -- The chunks of a body (OPC 10000-6, 6.7.2): consecutive pieces of it, each but the last as long as there is room for, under C but the
 -- last under F, numbered on. So 01 02 03 04 05 with room for 2 is C 01 02, C 03 04, F 05.
-use Rattle.std.specs.Prelude.{◌≡◌, ◌≤◌, ◌<◌, ℕ, zero, suc, nat_lt, if◌then◌else◌, length, take, drop, map, Option, Some, None, List, [], ◌∷◌, ◌++◌}
+use Rattle.std.specs.Prelude.{◌≡◌, ◌≤◌, ◌<◌, ◌*◌, ℕ, zero, suc, nat_eq, nat_lt, if◌then◌else◌, length, take, drop, map, Option, Some, None, List, [], ◌∷◌, ◌++◌}
 use Rattle.ua_octets.specs.Format.{Extends}
 use Rattle.ua_octets.specs.Number.{number_octets}
 use Rattle.ua_frame.specs.Frames.{frames_octets}
@@ -79,6 +79,25 @@ cut_refusal lane b = first_reason (
     (TooManyOctets, passes lane.octets (length b))
     ∷ (TooManyChunks, passes lane.chunks (length (pieces lane.room b)))
     ∷ [])
+
+-- the octets of so many pieces of a size, the most that this limit allows, of which 0 is none
+abbrev pub limit_of : ℕ → ℕ → Option ℕ
+limit_of limit size = if nat_eq limit 0 then None else Some (limit * size)
+
+-- the lesser of two limits, where there are both
+abbrev pub least : Option ℕ → Option ℕ → Option ℕ
+least None other = other
+least (Some n) None = Some n
+least (Some n) (Some m) = if nat_lt n m then Some n else Some m
+
+-- the most octets that a body may have: those that the receiver takes, and those for which its chunks have room
+unfoldable pub most_octets : Lane → Option ℕ
+most_octets lane = least (limit_of lane.octets 1) (limit_of lane.chunks lane.room)
+
+-- so many are within a limit, if there is one
+abbrev pub IsAtMost : ℕ → Option ℕ → Type 0
+IsAtMost n None = Unit {0}
+IsAtMost n (Some most) = n ≤ most
 
 -- the fault is this reason, or memory was refused where there is no reason
 abbrev pub IsCutFor : Option CutFault → CutFault → Type 0

@@ -1,5 +1,8 @@
 //! Where the chunks of a message go.
 
+ghost use Rattle.std.specs.Prelude.{◌≡◌};
+ghost use Rattle.ua_chunk.specs.Cutting.{least, limit_of};
+
 /// A direction of a secure channel, with the limits of the messages that go there.
 #[derive(Clone, Copy, PartialEq, Eq, Debug)]
 pub struct Lane {
@@ -13,4 +16,44 @@ pub struct Lane {
     pub octets: u32,
     /// The most chunks of a body, 0 for any number.
     pub chunks: u32,
+}
+
+impl Lane {
+    ghost use Rattle.std.specs.Prelude.{◌≡◌, ◌<◌, ◌↔◌, ℕ, List, None, length};
+    ghost use Rattle.ua_chunk.specs.Cutting.{cut_refusal, most_octets, IsAtMost};
+
+    /// The most octets that a body may have to be cut here; none where there is no such limit. The
+    /// chunks are a limit, too: each of them has room for so many octets.
+    pub fn most_octets(&self) -> Option<usize>
+        ensures most { result ≡ most_octets self.now }
+        // A body is cut exactly where it has at most so many.
+        ensures cut { (body : List ℕ) → 0 < self.now.room → 0 < length body → (cut_refusal self.now body ≡ None) ↔ IsAtMost (length body) result }
+    {
+        let octets = limit_of(self.octets, 1);
+        let chunks = limit_of(self.chunks, self.room);
+        least(octets, chunks)
+    }
+}
+
+/// So many pieces of this size, as octets; none where the limit is 0.
+#[tactic(auto, using(crate::proofs::MostOctets::product_fits))]
+fn limit_of(limit: u32, size: u32) -> Option<usize>
+    ensures { result ≡ limit_of limit size }
+{
+    if limit == 0 {
+        None
+    } else {
+        Some(limit as usize * size as usize)
+    }
+}
+
+/// The lesser of two limits, where there are both; else the one that is there.
+fn least(one: Option<usize>, other: Option<usize>) -> Option<usize>
+    ensures { result ≡ least one other }
+{
+    match (one, other) {
+        (Some(one), Some(other)) => Some(if one < other { one } else { other }),
+        (Some(one), None) => Some(one),
+        (None, other) => other,
+    }
 }

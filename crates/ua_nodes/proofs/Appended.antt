@@ -1,6 +1,7 @@
 -- What is written for an item of a Read, part by part.
-use Rattle.std.proofs.Common.{◌≡◌, ℕ, ◌+◌, ◌≤◌, Bool, true, false, ◌&&◌, leb, nat_eq, Option, Some, None, Result, Ok, is_some, option_map, refl, sym, ap, ◌∙◌, arith}
+use Rattle.std.proofs.Common.{◌≡◌, inr, ℕ, zero, suc, ◌+◌, ◌≤◌, List, [], ◌∷◌, ◌++◌, take, length, length-append, Bool, true, false, ◌&&◌, leb, nat_eq, Option, Some, None, Result, Ok, is_some, option_map, refl, sym, ap, ◌∙◌, arith}
 use Rattle.std.proofs.lemmas.Bool.{le-leb, leb-true}
+use Rattle.std.specs.List.{flat_map}
 use Rattle.ua_builtin.specs.Flags.{flag_bit}
 use Rattle.ua_builtin.specs.Reasons.{first_reason}
 use Rattle.ua_builtin.specs.declared.date_time.DateTime.{DateTime}
@@ -15,6 +16,7 @@ use Rattle.ua_nodes.specs.Attribute.{attribute_of, attribute_value}
 use Rattle.ua_nodes.specs.Range.{asked_range}
 use Rattle.ua_nodes.specs.Read.{judged, read_item_reasons, stamps_of, value_read, with_stamps, read_by, read_answer}
 use Rattle.ua_nodes.specs.Table.{Nodes, node_at}
+use Rattle.ua_nodes.specs.Within.{IsWithin, Passes}
 use Rattle.ua_nodes.specs.declared.attribute.Attribute.{Attribute}
 use Rattle.ua_nodes.specs.declared.node.Variable.{Variable}
 use Rattle.ua_nodes.specs.declared.range.IndexRange.{IndexRange}
@@ -56,3 +58,23 @@ whole_is nodes item v a stamps moment there value granted =
     ∙ sym (ap (λ (o : Option StatusCode). read_by o v item stamps moment) free.0)
     ∙ sym (ap (λ (r : Option IndexRange). with_stamps (option_map (λ b. value_read item.node_id v b r) (attribute_of item.attribute_id)) (stamps_of v (nat_eq item.attribute_id 13) stamps moment)) free.2)
     ∙ ap (λ (n : ℕ). with_stamps (option_map (λ b. attribute_value item.node_id v b) (attribute_of n)) (stamps_of v (nat_eq n 13) stamps moment)) value
+
+-- ---- what is given up
+
+fewer : (f : ReadValueId → List ℕ) (n : ℕ) (items : List ReadValueId) → length (flat_map f (take n items)) ≤ length (flat_map f items)
+fewer f zero items = omega arith
+fewer f (suc n) [] = omega arith
+fewer f (suc n) (item ∷ items) =
+    let rest : length (flat_map f (take n items)) ≤ length (flat_map f items) = fewer f n items in
+    let some : length (f item ++ flat_map f (take n items)) ≡ length (f item) + length (flat_map f (take n items)) = length-append (f item) (flat_map f (take n items)) in
+    let all : length (f item ++ flat_map f items) ≡ length (f item) + length (flat_map f items) = length-append (f item) (flat_map f items) in
+    omega (arith, rest, some, all)
+
+-- what stands there when the limit is passed is no more than the whole
+pub given_up : (most : Option ℕ) (f : ReadValueId → List ℕ) (n : ℕ) (items : List ReadValueId) (old out : List ℕ) → out ≡ old ++ flat_map f (take n items) → Passes most (length out) → IsWithin most (old ++ flat_map f items) out
+given_up most f n items old out is passes =
+    let count : length out ≡ length (old ++ flat_map f (take n items)) = ap length is in
+    let some : length (old ++ flat_map f (take n items)) ≡ length old + length (flat_map f (take n items)) = length-append old (flat_map f (take n items)) in
+    let all : length (old ++ flat_map f items) ≡ length old + length (flat_map f items) = length-append old (flat_map f items) in
+    let rest : length (flat_map f (take n items)) ≤ length (flat_map f items) = fewer f n items in
+    inr (passes, omega (arith, count, some, all, rest))

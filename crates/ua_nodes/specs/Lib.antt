@@ -8,4 +8,5 @@ pub mod Status
 pub mod Table
 pub mod TypeName
 pub mod ValueText
+pub mod Within
 pub mod Write

@@ -1,6 +1,6 @@
 //! The answers to items of Read, written from where their values stand.
 
-ghost use Rattle.std.specs.Prelude.{◌≡◌, ◌<◌, ◌≤◌, ◌++◌, ◌∷◌, length, true, IfOk, IfSome, IsTrue, OnOk, OnErr};
+ghost use Rattle.std.specs.Prelude.{◌≡◌, ◌<◌, ◌≤◌, ◌↔◌, ◌++◌, ◌∷◌, length, true, IfOk, IfSome, IsTrue, OnOk, OnErr};
 ghost use Rattle.std.specs.List.{flat_map};
 ghost use Rattle.ua_builtin.specs.Format.{Extends};
 ghost use Rattle.ua_variant.specs.Canonical.{data_fields_canonical, data_value_canonical, variant_canonical};
@@ -9,6 +9,7 @@ ghost use Rattle.ua_variant.specs.Encodable.{data_fields_encodable, data_value_e
 ghost use Rattle.ua_variant.specs.Fields.{data_flags};
 ghost use Rattle.ua_variant.specs.View.{variant_of};
 ghost use Rattle.ua_nodes.specs.Read.{answer_octets, read_answer, stamps_of};
+ghost use Rattle.ua_nodes.specs.Within.{IsWithin, Passes};
 ghost use Rattle.ua_nodes.specs.Sound.{IsSound};
 ghost use Rattle.ua_nodes.specs.Table.{node_at};
 ghost use Rattle.ua_nodes.specs.declared.stamps.Stamps.{Stamps};
@@ -30,22 +31,28 @@ const HAS_VALUE: u8 = 0x01;
 impl NodeTable {
     /// Adds the answers to items of a Read at the end, one behind the other, as they are encoded: those
     /// that [`read_item`](NodeTable::read_item) makes. The Value of a node is written from where it
-    /// stands; a part of an array and the other attributes are made first, one at a time. An error
-    /// leaves what was there, and perhaps octets behind it.
+    /// stands; a part of an array and the other attributes are made first, one at a time. Where it has
+    /// more octets than `most`, no further answer is added. An error leaves what was there, and perhaps
+    /// octets behind it.
+    #[tactic(auto, using(crate::proofs::Appended::given_up))]
     pub fn append_items(
         &self,
         alloc: Global,
         items: &[ReadValueId],
         stamps: Stamps,
         moment: DateTime,
+        most: Option<usize>,
         out: &mut Vec<u8>,
     ) -> Result<(), AllocError>
         requires sound { IsSound self.now }
-        ensures ok { OnOk result (out.new.items ≡ out.old.items ++ flat_map (answer_octets self.now stamps moment) items.now) }
+        ensures ok { OnOk result (IsWithin most (out.old.items ++ flat_map (answer_octets self.now stamps moment) items.now) out.new.items) }
         ensures err { OnErr result (Extends out.old.items out.new.items) }
     {
         let mut fields = Vec::new(alloc);
         for item in items {
+            if passes(most, out.len()) {
+                return Ok(());
+            }
             self.append_item(alloc, item, stamps, moment, &mut fields, out)?;
         }
         Ok(())
@@ -130,6 +137,16 @@ impl Variable {
         let bare = self.stamped(None, true, stamps, moment);
         bare.append(octets)?;
         Ok(octets[0])
+    }
+}
+
+/// Whether so many octets are more than the most, if there is such a limit.
+fn passes(most: Option<usize>, len: usize) -> bool
+    ensures { IsTrue result ↔ Passes most len }
+{
+    match most {
+        Some(most) => len > most,
+        None => false,
     }
 }
 

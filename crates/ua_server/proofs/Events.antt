@@ -71,7 +71,7 @@ replied-there x octets before id token message g lane body out next goes reply =
 
 -- what is told of a message, by the reply that goes there
 pub noted-there : (x : ServerChannel) (octets : List ℕ) (before : List Told) (id token : ℕ) (message : List ℕ) (g : GoesTelling x octets before (Asked id token message)) (lane : Lane) (s : State) (moment : DateTime) (body out : List ℕ) (next : ℕ) (request sent : AnsweredRequest)
-    → RepliesGo (limits_of x) (channel_of x) (received (g.frames ++ g.frame ∷ [])) lane → body ≡ response.canonical (answered s moment message).1 → request ≡ request_answered None s moment message
+    → RepliesGo (limits_of x) (channel_of x) (received (g.frames ++ g.frame ∷ [])) lane → ((code : StatusCode) → code_by (cut_refusal lane body) code ≡ code_by (cut_refusal lane (response.canonical (answered s moment message).1)) code) → request ≡ request_answered None s moment message
     → sent ≡ with-code request (code_by (cut_refusal lane body) request.code) → sent ≡ request_answered (lane_at (channel_of x) token (agreed_by before)) s moment message
 noted-there x octets before id token message g lane s moment body out next request sent goes is asked as_sent =
     let there = reply_goes x octets before id token message (g.frames ++ g.frame ∷ []) [] lane g g.stands goes in
@@ -80,7 +80,7 @@ noted-there x octets before id token message g lane s moment body out next reque
     let going : Lane → Option Lane = λ l. Some l in
     let agreed : Option Agreement → Option Lane = λ a. lane_at (channel_of x) token a in
     as_sent
-    ∙ (ap (λ (b : List ℕ). with-code request (code_by (cut_refusal lane b) request.code)) is
+    ∙ (ap (λ (code : StatusCode). with-code request code) (is request.code)
     ∙ (ap (λ (q : AnsweredRequest). with-code q (code_by (cut_refusal lane (response.canonical r)) q.code)) asked
     ∙ ap at (ap going there.2 ∙ sym (ap agreed there.1))))
 

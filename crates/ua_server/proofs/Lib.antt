@@ -3,6 +3,7 @@ mod Answered
 mod Identities
 mod Statuses
 mod Replies
+mod GivenUp
 mod ReadBody
 mod Steps
 mod Passing

@@ -1,13 +1,14 @@
 -- The body of a Read response, part by part.
 use Rattle.std.specs.Prelude.{◌≡◌, ◌<◌, ℕ, suc, List, [], ◌∷◌, ◌++◌, length, map, Some, None}
 use Rattle.std.specs.List.{flat_map}
-use Rattle.std.proofs.Common.{refl, sym, ◌∙◌, ap, append_assoc, arith}
+use Rattle.std.proofs.Common.{◌⊎◌, inl, inr, ◌+◌, ◌≤◌, Option, length-append, refl, sym, ◌∙◌, ap, append_assoc, arith}
 use Rattle.ua_builtin.specs.Counted.{null_count}
 use Rattle.ua_builtin.specs.NodeId.{node_id}
 use Rattle.ua_builtin.specs.Number.{number_octets}
 use Rattle.ua_builtin.specs.declared.date_time.DateTime.{DateTime}
 use Rattle.ua_nodes.specs.Read.{answer_octets, read_answer}
 use Rattle.ua_nodes.specs.Table.{Nodes, node_at}
+use Rattle.ua_nodes.specs.Within.{IsWithin}
 use Rattle.ua_nodes.specs.declared.stamps.Stamps.{Stamps}
 use Rattle.ua_services.proofs.ByKind.{response-canonical}
 use Rattle.ua_services.specs.Message.{standard}
@@ -25,6 +26,8 @@ use Rattle.ua_variant.specs.Data.{DataValueData, bare, valued}
 use Rattle.ua_variant.specs.Formats.{data_value_format}
 use Rattle.ua_variant.specs.declared.values.DataValue.{DataValue}
 use Rattle.ua_server.specs.Attributes.{value_from, read_answers}
+use Rattle.ua_server.specs.Reply.{IsBodyWithin}
+use Rattle.ua_server.proofs.GivenUp.{passes_more}
 
 -- the front of a Read response: the NodeId of its encoding, its header, and how many results it has
 abbrev pub front : ResponseHeader → ℕ → List ℕ
@@ -68,7 +71,7 @@ regrouped id header count values last =
     ∙ ap (λ (b : List ℕ). id ++ b) (append_assoc header count (values ++ last))
     ∙ ap (λ (b : List ℕ). id ++ (header ++ b)) (sym (append_assoc count values last))
 
-pub written_whole : (header : ResponseHeader) (nodes : Nodes) (items : List ReadValueId) (stamps : Stamps) (moment : DateTime)
+written_whole : (header : ResponseHeader) (nodes : Nodes) (items : List ReadValueId) (stamps : Stamps) (moment : DateTime)
     → (front header (length items) ++ flat_map (answer_octets nodes stamps moment) items) ++ number_octets 4 null_count
     ≡ response.canonical (ReadMessage (values_of header (read_answers nodes items stamps moment)))
 written_whole header nodes items stamps moment =
@@ -79,6 +82,23 @@ written_whole header nodes items stamps moment =
     ∙ ap (λ (b : List ℕ). node_id.canonical (standard 634) ++ (response_header.canonical header ++ (b ++ number_octets 4 null_count))) (sym (array_octets values))
     ∙ ap (λ (b : List ℕ). node_id.canonical (standard 634) ++ b) (sym (no_diagnostics header values))
     ∙ sym (response-canonical Read (values_of header values))
+
+-- the body that is written, which may have been given up
+pub written_within : (most : Option ℕ) (header : ResponseHeader) (nodes : Nodes) (items : List ReadValueId) (stamps : Stamps) (moment : DateTime) (results body : List ℕ)
+    → IsWithin most (front header (length items) ++ flat_map (answer_octets nodes stamps moment) items) results → body ≡ results ++ number_octets 4 null_count
+    → IsBodyWithin most (response.canonical (ReadMessage (values_of header (read_answers nodes items stamps moment)))) body
+written_within most header nodes items stamps moment results body (inl e) is =
+    inl (is ∙ ap (λ (b : List ℕ). b ++ number_octets 4 null_count) e ∙ written_whole header nodes items stamps moment)
+written_within most header nodes items stamps moment results body (inr p) is =
+    let all = front header (length items) ++ flat_map (answer_octets nodes stamps moment) items in
+    let few : length body ≡ length results + length (number_octets 4 null_count) = ap length is ∙ length-append results (number_octets 4 null_count) in
+    let many : length (response.canonical (ReadMessage (values_of header (read_answers nodes items stamps moment)))) ≡ length all + length (number_octets 4 null_count) =
+        sym (ap length (written_whole header nodes items stamps moment)) ∙ length-append all (number_octets 4 null_count) in
+    let least : length results ≤ length all = p.1 in
+    inr (
+      passes_more most (length results) (length body) (omega (arith, few)) p.0,
+      passes_more most (length results) (length (response.canonical (ReadMessage (values_of header (read_answers nodes items stamps moment))))) (omega (arith, many, least)) p.0,
+    )
 
 pub written_some : (header : ResponseHeader) (results : ℕ) (values last : List ℕ) → 0 < length ((front header results ++ values) ++ last)
 unfolding node_id

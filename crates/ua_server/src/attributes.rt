@@ -17,6 +17,7 @@ ghost use Rattle.ua_structures.specs.declared.attribute.WriteRequest.{WriteReque
 ghost use Rattle.ua_variant.specs.Formats.{data_value_format};
 ghost use Rattle.ua_server.specs.State.{with_nodes};
 ghost use Rattle.ua_server.specs.Answer.{read_items, write_items};
+ghost use Rattle.ua_server.specs.Reply.{IsBodyWithin};
 ghost use Rattle.ua_server.specs.Attributes.{items_of, most_items, value_from, session_reasons, count_reasons, read_reasons, read_answers, values_given, write_reasons, with_written, statuses_given};
 
 use crate::reply::body_of;
@@ -154,16 +155,17 @@ impl Services {
     }
 
     /// The body of the answer to a Read that is not refused: its results are written one by one, each
-    /// Value from where it stands among the nodes.
-    #[tactic(auto, using(crate::proofs::ReadBody::written_whole, crate::proofs::ReadBody::written_some))]
+    /// Value from where it stands among the nodes. With more than `most` octets it is given up.
+    #[tactic(auto, using(crate::proofs::ReadBody::written_within, crate::proofs::ReadBody::written_some))]
     fn granted_body(
         &self,
         alloc: Global,
         request: &ReadRequest,
         moment: DateTime,
+        most: Option<usize>,
     ) -> Result<Vec<u8>, AllocError>
         requires few { length (items_of request.now.nodes_to_read) ≤ most_items }
-        ensures body { IfOk result (λ body. body.items ≡ response.canonical (values_given self.now moment request.now)) }
+        ensures body { IfOk result (λ body. IsBodyWithin most (response.canonical (values_given self.now moment request.now)) body.items) }
         ensures some { IfOk result (λ body. 0 < length body.items) }
     {
         let stamps = Stamps::of_number(request.timestamps_to_return).unwrap_or(Stamps::Neither);
@@ -172,19 +174,21 @@ impl Services {
         let mut body = empty_body(alloc);
         append_front(&header, items.len() as u32, &mut body)?;
         self.nodes
-            .append_items(alloc, items, stamps, moment, &mut body)?;
+            .append_items(alloc, items, stamps, moment, most, &mut body)?;
         NULL_COUNT.append(&mut body)?;
         Ok(body)
     }
 
-    /// The body of the answer to a Read, and its service result.
+    /// The body of the answer to a Read, and its service result. With more than `most` octets the body
+    /// is given up.
     pub(crate) fn read_body(
         &self,
         alloc: Global,
         request: &ReadRequest,
         moment: DateTime,
+        most: Option<usize>,
     ) -> Result<(Vec<u8>, StatusCode), AllocError>
-        ensures body { IfOk result (λ told. told.0.items ≡ response.canonical (read_items self.now moment request.now).1) }
+        ensures body { IfOk result (λ told. IsBodyWithin most (response.canonical (read_items self.now moment request.now).1) told.0.items) }
         ensures some { IfOk result (λ told. 0 < length told.0.items) }
         ensures code { IfOk result (λ told. told.1 ≡ (header_of (read_items self.now moment request.now).1).service_result) }
     {
@@ -193,7 +197,7 @@ impl Services {
             let body = body_of(alloc, self.fault(handle, code, moment))?;
             return Ok((body, code));
         }
-        let body = self.granted_body(alloc, request, moment)?;
+        let body = self.granted_body(alloc, request, moment, most)?;
         Ok((body, StatusCode::GOOD))
     }
 

@@ -4,7 +4,7 @@ ghost use Rattle.std.specs.Prelude.{◌≡◌, ◌<◌, ◌⊎◌, IsTrue, IfOk,
 ghost use Rattle.ua_services.specs.Request.{kind_of};
 ghost use Rattle.ua_services.specs.Response.{header_of, response};
 ghost use Rattle.ua_server.specs.Answer.{answer, fault_of};
-ghost use Rattle.ua_server.specs.Reply.{answered};
+ghost use Rattle.ua_server.specs.Reply.{IsBodyWithin, answered};
 ghost use Rattle.ua_server.specs.Requests.{items_asked, request_answered};
 
 use crate::services::Services;
@@ -18,6 +18,7 @@ impl Services {
     /// or the ServiceFault that says that it is none. The results of a Read are written from where the
     /// values of the nodes stand, so that what it takes beside its own octets does not grow with them.
     /// Where memory is refused the state is as it was, or that which the message leaves.
+    #[tactic(auto, using(crate::proofs::GivenUp::whole_body))]
     pub fn reply<S: Source>(
         &mut self,
         alloc: Global,
@@ -29,27 +30,29 @@ impl Services {
         ensures state { IfOk result (λ body. self.new ≡ (answered self.old moment (S.octets src.old)).0) }
         ensures refused { OnErr result ((self.new ≡ self.old) ⊎ (self.new ≡ (answered self.old moment (S.octets src.old)).0)) }
     {
-        match self.reply_telling(alloc, src, moment) {
+        match self.reply_telling(alloc, src, moment, None) {
             Ok(told) => Ok(told.0),
             Err(error) => Err(error),
         }
     }
 
-    /// What [`reply`](Services::reply) does, with what is told of the message.
+    /// What [`reply`](Services::reply) does, with what is told of the message. The results of a Read are
+    /// given up once the body has more than `most` octets.
     pub(crate) fn reply_telling<S: Source>(
         &mut self,
         alloc: Global,
         src: &mut S,
         moment: DateTime,
+        most: Option<usize>,
     ) -> Result<(Vec<u8>, AnsweredRequest), AllocError>
-        ensures body { IfOk result (λ told. told.0.items ≡ response.canonical (answered self.old moment (S.octets src.old)).1) }
+        ensures body { IfOk result (λ told. IsBodyWithin most (response.canonical (answered self.old moment (S.octets src.old)).1) told.0.items) }
         ensures some { IfOk result (λ told. 0 < length told.0.items) }
         ensures request { IfOk result (λ told. told.1 ≡ request_answered None self.old moment (S.octets src.old)) }
         ensures state { IfOk result (λ told. self.new ≡ (answered self.old moment (S.octets src.old)).0) }
         ensures refused { OnErr result ((self.new ≡ self.old) ⊎ (self.new ≡ (answered self.old moment (S.octets src.old)).0)) }
     {
         match read_request(alloc, src) {
-            Ok(request) => self.body_for(alloc, request, moment),
+            Ok(request) => self.body_for(alloc, request, moment, most),
             Err(RequestFault::Unsupported(handle)) => {
                 self.misread(alloc, handle, StatusCode::BAD_SERVICE_UNSUPPORTED, moment)
             }
@@ -67,8 +70,9 @@ impl Services {
         alloc: Global,
         request: Request,
         moment: DateTime,
+        most: Option<usize>,
     ) -> Result<(Vec<u8>, AnsweredRequest), AllocError>
-        ensures body { IfOk result (λ told. told.0.items ≡ response.canonical (answer self.old moment request).1) }
+        ensures body { IfOk result (λ told. IsBodyWithin most (response.canonical (answer self.old moment request).1) told.0.items) }
         ensures some { IfOk result (λ told. 0 < length told.0.items) }
         ensures request { IfOk result (λ told. told.1 ≡ record { kind = Some (kind_of request); items = items_asked request; code = (header_of (answer self.old moment request).1).service_result }) }
         ensures state { IfOk result (λ told. self.new ≡ (answer self.old moment request).0) }
@@ -78,7 +82,7 @@ impl Services {
         let items = items_asked(&request);
         let (body, code) = match request.into_read() {
             Ok(message) => {
-                let read = self.read_body(alloc, &message, moment);
+                let read = self.read_body(alloc, &message, moment, most);
                 drop(message);
                 read?
             }

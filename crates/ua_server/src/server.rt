@@ -92,7 +92,8 @@ fn reply_to(
     ensures limits { limits_of channel.new ≡ limits_of channel.old }
     ensures channel { channel_of channel.new ≡ channel_of channel.old }
 {
-    let told = services.reply_telling(alloc, &mut message.source(), moment);
+    let most = channel.most_octets();
+    let told = services.reply_telling(alloc, &mut message.source(), moment, most);
     drop(message);
     let (body, request) = match told {
         Ok(told) => told,
