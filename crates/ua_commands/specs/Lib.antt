@@ -1,7 +1,6 @@
 pub mod Digits
 pub mod Dissects
 pub mod Lines
-pub mod Moment
 pub mod Refused
 pub mod Served
 pub mod Words

@@ -1,12 +1,7 @@
--- Lines over connections.
+-- Lines over both ends of a connection.
 use Rattle.std.specs.Prelude.{ℕ}
 use Rattle.ua_commands.specs.declared.loop_line.LoopLine.{LoopLine}
-use Rattle.ua_commands.specs.declared.tcp_line.TcpLine.{TcpLine}
 
--- how many calls of a line over a connection failed so far, from the greatest number on again from 0
-abbrev pub failed_calls : {S : Type 0} → TcpLine S → ℕ
-failed_calls line = line.failures
-
--- the same of a line over both ends of one
+-- how many calls of such a line failed so far, from the greatest number on again from 0
 abbrev pub failed_carries : {S : Type 0} → LoopLine S → ℕ
 failed_carries line = line.failures

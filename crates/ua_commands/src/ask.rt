@@ -8,17 +8,16 @@ ghost use Rattle.ua_commands.specs.Words.{policy_named};
 ghost use Rattle.ua_commands.specs.declared.output.Stop.TheVariants.{Output};
 
 use crate::arguments::{ListEndpoints, ReadNodes, WriteNode};
-use crate::clock_moments::ClockMoments;
 use crate::output::{Stop, say_lines};
 use crate::reason::cannot_connect;
 use crate::serve::limits;
-use crate::tcp_line::{TcpLine, without_delay};
 use std::alloc::{AllocError, Global};
 use std::io::Write;
 use std::net::{Ipv4Addr, Net, TcpStream};
 use std::time::Clock;
 use ua_asking::{Question, TokenPolicy, Verdict, WordFault, ask_over, endpoints_over};
 use ua_builtin::UaString;
+use ua_tcp::{ClockMoments, TcpLine, without_delay};
 use ua_texts::LineStyle;
 
 /// A line to the server on a port of this machine.

@@ -11,7 +11,6 @@
 
 mod arguments;
 mod ask;
-mod clock_moments;
 mod commands;
 mod dissect;
 mod fault;
@@ -24,7 +23,6 @@ mod output;
 mod program;
 mod reason;
 mod serve;
-mod tcp_line;
 mod version;
 mod watched;
 
@@ -32,7 +30,6 @@ pub use arguments::{
     BadNumber, Dissect, ListEndpoints, Loop, Parsed, ReadNodes, Serve, Task, WriteNode, parse,
 };
 pub use ask::{policy_of, read_question, write_question};
-pub use clock_moments::ClockMoments;
 pub use fault::Fault;
 pub use loop_line::{LoopLine, MOST_OCTETS};
 pub use looping::carry_over;
@@ -40,4 +37,3 @@ pub use output::Stop;
 pub use program::{refuse_words, run};
 pub use reason::Reason;
 pub use serve::{limits, push_outcome, serve_all, serve_line, services};
-pub use tcp_line::TcpLine;

@@ -14,7 +14,6 @@ use crate::loop_line::LoopLine;
 use crate::output::{Stop, say_lines};
 use crate::reason::{blame_step, cannot_connect, cannot_listen};
 use crate::serve::{limits, services};
-use crate::tcp_line::without_delay;
 use std::alloc::{AllocError, Global};
 use std::io::{Read, Write};
 use std::net::{Ipv4Addr, Net, OpenListener, TcpListener, TcpStream};
@@ -25,6 +24,7 @@ use ua_client::ClientFault;
 use ua_looping::{LoopFault, Looped, parse_lines, run_lines};
 use ua_nodes::NodeTable;
 use ua_server::{End, ServeFault, serve};
+use ua_tcp::without_delay;
 
 /// The port in the server's address.
 const PORT: u16 = 4840;

@@ -10,12 +10,10 @@ ghost use Rattle.ua_commands.specs.Served.{AddsOutcome, AreOwn, BeginsWith, HasS
 ghost use Rattle.ua_commands.specs.declared.output.Stop.TheVariants.{Output};
 
 use crate::arguments::Serve;
-use crate::clock_moments::ClockMoments;
 use crate::fault::Fault;
 use crate::input::{parse_nodes, read_text};
 use crate::output::{Stop, say};
 use crate::reason::{blame_line, cannot_listen};
-use crate::tcp_line::{TcpLine, without_delay};
 use std::alloc::{AllocError, Global};
 use std::io::Write;
 use std::net::{Ipv4Addr, Net, OpenListener, TcpListener};
@@ -29,6 +27,7 @@ use ua_server::{
     AnsweredRequest, End, Endpoint, ServeFault, Services, Watch, serve, serve_watched,
 };
 use ua_services::RequestKind;
+use ua_tcp::{ClockMoments, TcpLine, without_delay};
 use ua_texts::push_code;
 
 /// The most octets of a message.
@@ -130,11 +129,7 @@ fn kind_name(kind: Option<RequestKind>) -> &'static str
 }
 
 /// The line of a request that was answered.
-fn request_text(
-    alloc: Global,
-    number: u32,
-    request: AnsweredRequest,
-) -> Result<String, AllocError>
+fn request_text(alloc: Global, number: u32, request: AnsweredRequest) -> Result<String, AllocError>
     ensures { IfOk result (λ text. string_bytes text ≡ request_line number request) }
 {
     let name = kind_name(request.kind);
@@ -215,15 +210,7 @@ fn serve_telling<'a, L: Line, M: Moments, O: Write>(
         out,
         halt: None,
     };
-    let outcome = serve_watched(
-        alloc,
-        line,
-        services,
-        limits(),
-        number,
-        moments,
-        &mut lines,
-    );
+    let outcome = serve_watched(alloc, line, services, limits(), number, moments, &mut lines);
     let RequestLines {
         alloc: _,
         number: _,

@@ -6,7 +6,7 @@
 //! let node = NodeId::parse_text(alloc, "ns=1;s=Pump")?;
 //! let item = ReadValueId::of_value(node);
 //! let answer = table.read_item(alloc, &item, Stamps::Both, moment)?; // good or refused
-//! table.append_items(alloc, &items, Stamps::Both, moment, &mut out)?; // the answers, as octets
+//! table.append_items(alloc, &items, Stamps::Both, moment, None, &mut out)?; // the answers, as octets
 //! let mut statuses = Vec::with_capacity(alloc, items.len())?; // room is the caller's
 //! table.write_items(items, moment, &mut statuses); // takes no memory, cannot fail
 //! ```

@@ -12,7 +12,7 @@ use std::net::Net;
 use std::rt::Files;
 use std::time::{Clock, Duration};
 use ua_channel::{Line, LineFault, Moments};
-use ua_commands::{ClockMoments, TcpLine};
+use ua_tcp::{ClockMoments, TcpLine};
 
 /// `carried OCTETS`: octets that are written at one end of a connection within this process, and read at
 /// the other one; behind them how many a read gives once the first end has gone.

@@ -2,7 +2,7 @@
 
 use crate::fault::Fault;
 use std::net::{Net, OpenListener, TcpListener, TcpStream};
-use ua_commands::TcpLine;
+use ua_tcp::TcpLine;
 
 /// A port on which nobody listens.
 pub fn free_port<R: Net>(rt: &R) -> Result<u16, Fault> {

@@ -93,7 +93,7 @@ written_within most header nodes items stamps moment results body (inr p) is =
     let all = front header (length items) ++ flat_map (answer_octets nodes stamps moment) items in
     let few : length body ≡ length results + length (number_octets 4 null_count) = ap length is ∙ length-append results (number_octets 4 null_count) in
     let many : length (response.canonical (ReadMessage (values_of header (read_answers nodes items stamps moment)))) ≡ length all + length (number_octets 4 null_count) =
-        sym (ap length (written_whole header nodes items stamps moment)) ∙ length-append all (number_octets 4 null_count) in
+    sym (ap length (written_whole header nodes items stamps moment)) ∙ length-append all (number_octets 4 null_count) in
     let least : length results ≤ length all = p.1 in
     inr (
       passes_more most (length results) (length body) (omega (arith, few)) p.0,

@@ -21,7 +21,7 @@ returns-in-Ok-reply-clause-sent c = λ octets before token g.
     let within : IsBodyWithin c.most_octets.result whole c.deref.result.now = search rules in (
       telling-on c.args.channel.now c.reply.new.self octets before (Asked c.args.id token (concat c.args.message)) g c.reply.ensures.limits c.reply.ensures.channel (c.in-Ok-reply.ensures.stands octets (g.frames ++ g.frame ∷ []) [] g.stands),
       replied-there c.args.channel.now octets before c.args.id token (concat c.args.message) g sent.0 whole c.in-Ok-reply.out.items (next_of c.reply.new.self) sent.1
-      (same_reply sent.0 c.most_octets.result whole c.deref.result.now (next_of c.args.channel.now) c.args.id c.in-Ok-reply.out.items (next_of c.reply.new.self) limit within sent.2),
+          (same_reply sent.0 c.most_octets.result whole c.deref.result.now (next_of c.args.channel.now) c.args.id c.in-Ok-reply.out.items (next_of c.reply.new.self) limit within sent.2),
     )
 
 pub returns-in-Ok-reply-clause-noted : goal.returns-in-Ok-reply-clause-noted

@@ -2,7 +2,7 @@
 
 ghost use Rattle.std.specs.Prelude.{◌≡◌, ◌+◌, ◌/◌, ◌≤◌, ◌^◌, pos, None, IfSome};
 ghost use Rattle.std.specs.Duration.{as_nanos};
-ghost use Rattle.ua_commands.specs.Moment.{IsFrom1970, ticks_of_1970};
+ghost use Rattle.ua_tcp.specs.Moment.{IsFrom1970, ticks_of_1970};
 
 use std::time::{Clock, Duration};
 use ua_channel::Moments;

@@ -18,7 +18,7 @@ pub struct TcpLine<S> {
 }
 
 impl<S> TcpLine<S> {
-    ghost use Rattle.ua_commands.specs.Lines.{failed_calls};
+    ghost use Rattle.ua_tcp.specs.Lines.{failed_calls};
 
     /// A line over this connection, of which no call failed.
     pub fn new(stream: S) -> TcpLine<S>
