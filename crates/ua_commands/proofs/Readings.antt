@@ -8,6 +8,7 @@ use Rattle.ua_pair.specs.Dissecting.{StandsBehind, TellsMore, EndsLines}
 use Rattle.hex.specs.Hex.{decode_of}
 use Rattle.hex.proofs.HexLemmas.{decode_of-ok}
 use Rattle.ua_commands.specs.Looped.{HasLoopedUntil}
+use Rattle.ua_commands.specs.Served.{HasServedSome}
 use Rattle.ua_commands.specs.Printed.{HasBegun, HasDissected, HasToldSome}
 use Rattle.ua_commands.specs.Digits.{digits_in, HexSoFar, HoldsSoFar, HoldsOctets, HoldsNever, HoldsNone}
 use Rattle.ua_commands.specs.declared.fault.Fault.{Fault}
@@ -235,6 +236,12 @@ pub loop_stops : {A B : Type 0} (names : Bool) (why : Stop) (old new : Option (L
 loop_stops names why old new (inl a) = inl a
 loop_stops names why old new (inr (inl b)) = inr (inl b)
 loop_stops names why old new (inr (inr h)) = inr (inr (inr (inr (inr (inr (record { names = names; fault = Some h.fault; looped = h.looped }))))))
+
+-- serving that stopped has begun
+pub serve_stops : {A B : Type 0} (requests : Bool) (port connections : ℕ) (old new : Option (List ℕ)) → A ⊎ (B ⊎ HasServedSome requests port connections old new) → A ⊎ (B ⊎ HasBegun old new)
+serve_stops requests port connections old new (inl a) = inl a
+serve_stops requests port connections old new (inr (inl b)) = inr (inl b)
+serve_stops requests port connections old new (inr (inr h)) = inr (inr (inr (inl (record { requests = requests; port = port; connections = connections; lines = inr h }))))
 
 -- where only the writer failed, nothing is told
 pub told_or_not : {A B C D : Type 0} → A ⊎ (B ⊎ C) → (A → D) → B ⊎ (D ⊎ C)
