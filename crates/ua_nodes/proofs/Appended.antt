@@ -1,8 +1,9 @@
 -- What is written for an item of a Read, part by part.
-use Rattle.std.proofs.Common.{◌≡◌, inr, ℕ, zero, suc, ◌+◌, ◌≤◌, List, [], ◌∷◌, ◌++◌, take, length, length-append, Bool, true, false, ◌&&◌, leb, nat_eq, Option, Some, None, Result, Ok, is_some, option_map, refl, sym, ap, ◌∙◌, arith}
+use Rattle.std.proofs.Common.{◌≡◌, inr, ℕ, zero, suc, ◌+◌, ◌≤◌, List, [], ◌∷◌, ◌++◌, take, length, length-append, Bool, true, false, ◌&&◌, leb, nat_eq, Option, Some, None, Result, Ok, Err, OnErr, append_assoc, is_some, option_map, refl, sym, ap, ◌∙◌, arith}
 use Rattle.std.proofs.lemmas.Bool.{le-leb, leb-true}
 use Rattle.std.specs.List.{flat_map}
 use Rattle.ua_builtin.specs.Flags.{flag_bit}
+use Rattle.ua_octets.specs.Format.{Extends}
 use Rattle.ua_builtin.specs.Reasons.{first_reason}
 use Rattle.ua_builtin.specs.declared.date_time.DateTime.{DateTime}
 use Rattle.ua_builtin.specs.declared.status_code.StatusCode.{StatusCode}
@@ -78,3 +79,8 @@ given_up most f n items old out is passes =
     let all : length (old ++ flat_map f items) ≡ length old + length (flat_map f items) = length-append old (flat_map f items) in
     let rest : length (flat_map f (take n items)) ≤ length (flat_map f items) = fewer f n items in
     inr (passes, omega (arith, count, some, all, rest))
+
+-- what begins with all that was added so far begins with what was there
+pub extends_behind : {T E : Type 0} (old mid new more : List ℕ) (answer : Result T E) → mid ≡ old ++ more → Extends mid new → OnErr answer (Extends old new)
+extends_behind old mid new more (Ok x) e h = tt
+extends_behind old mid new more (Err x) e h = record { more = more ++ h.more; parts = h.parts ∙ ap (λ t. t ++ h.more) e ∙ append_assoc old more h.more }
