@@ -1,5 +1,5 @@
 -- A reply that was given up is answered as the whole one is: by an abort.
-use Rattle.std.proofs.Common.{◌≡◌, ◌⊎◌, inl, inr, ℕ, ◌<◌, ◌≤◌, List, length, Option, Some, None, refl, sym, ◌∙◌, ap, subst, arith}
+use Rattle.std.proofs.Common.{◌≡◌, inl, inr, ℕ, ◌<◌, ◌≤◌, List, length, Option, Some, None, refl, sym, ◌∙◌, ap, subst, arith}
 use Rattle.ua_builtin.specs.declared.status_code.StatusCode.{StatusCode}
 use Rattle.ua_chunk.proofs.MostOctets.{most_is}
 use Rattle.ua_chunk.specs.Cutting.{cut_refusal, most_octets, IsAtMost}

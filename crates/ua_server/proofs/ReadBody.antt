@@ -1,7 +1,7 @@
 -- The body of a Read response, part by part.
-use Rattle.std.specs.Prelude.{◌≡◌, ◌<◌, ℕ, suc, List, [], ◌∷◌, ◌++◌, length, map, Some, None}
+use Rattle.std.specs.Prelude.{◌≡◌, ◌<◌, ℕ, suc, List, [], ◌∷◌, ◌++◌, length, Some}
 use Rattle.std.specs.List.{flat_map}
-use Rattle.std.proofs.Common.{◌⊎◌, inl, inr, ◌+◌, ◌≤◌, Option, length-append, refl, sym, ◌∙◌, ap, append_assoc, arith}
+use Rattle.std.proofs.Common.{inl, inr, ◌+◌, ◌≤◌, Option, length-append, refl, sym, ◌∙◌, ap, append_assoc, arith}
 use Rattle.ua_builtin.specs.Counted.{null_count}
 use Rattle.ua_builtin.specs.NodeId.{node_id}
 use Rattle.ua_builtin.specs.Number.{number_octets}
@@ -100,6 +100,9 @@ written_within most header nodes items stamps moment results body (inr p) is =
       passes_more most (length results) (length (response.canonical (ReadMessage (values_of header (read_answers nodes items stamps moment))))) (omega (arith, many, least)) p.0,
     )
 
-pub written_some : (header : ResponseHeader) (results : ℕ) (values last : List ℕ) → 0 < length ((front header results ++ values) ++ last)
-unfolding node_id
-written_some header results values last = omega arith
+pub written_some : (results : List ℕ) → 0 < length (results ++ number_octets 4 null_count)
+unfolding number_octets
+written_some results =
+    let count : length (results ++ number_octets 4 null_count) ≡ length results + length (number_octets 4 null_count) = length-append results (number_octets 4 null_count) in
+    let four : length (number_octets 4 null_count) ≡ 4 = refl in
+    omega (arith, count, four)

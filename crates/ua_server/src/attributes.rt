@@ -156,7 +156,6 @@ impl Services {
 
     /// The body of the answer to a Read that is not refused: its results are written one by one, each
     /// Value from where it stands among the nodes. With more than `most` octets it is given up.
-    #[tactic(auto, using(crate::proofs::ReadBody::written_within, crate::proofs::ReadBody::written_some))]
     fn granted_body(
         &self,
         alloc: Global,
