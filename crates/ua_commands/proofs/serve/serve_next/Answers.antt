@@ -8,7 +8,7 @@ returns-in-Err-clause-stopped g c = inr (none_told _ _ _ _ refl)
 
 pub returns-in_err-text-clause-stopped : goal.returns-in_err-text-clause-stopped
 returns-in_err-text-clause-stopped g c =
-    stops_at _ _ c.in_err-text.field-0.0 c.from_residual-in_err-text.ensures.1 c.in_err-text.ensures.stopped
+    stops_at _ _ c.in_err-text.field-0.0 c.from_residual.ensures.1 c.in_err-text.ensures.stopped
 
 pub returns-clause-served : goal.returns-clause-served
 returns-clause-served g c =
