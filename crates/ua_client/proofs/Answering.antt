@@ -20,6 +20,7 @@ use Rattle.ua_client.specs.declared.fault.ClientFault.TheVariants as fault
 use Rattle.ua_client.specs.declared.reply.Reply.{Reply}
 use Rattle.ua_client.specs.declared.reply.Reply.TheVariants.{Response as Responds, Aborted}
 use Rattle.ua_client.proofs.Filling.{eqb-other, is-at, slots-other, slots-set, misanswered-at}
+use Rattle.ua_client.proofs.Fronts.{front-lacking}
 
 -- ---- its place
 
@@ -102,18 +103,18 @@ pub fills_some : (requests : List Request) (first : ℕ) (told : List Told) (t :
 fills_some requests first told t slots n reply h once s = slots-set requests first told t slots n h.0 reply s h.1 once h.2
 
 pub fills_fault : (requests : List Request) (first : ℕ) (told : List Told) (t : Told) (slots : List (Option Reply)) (x : ClientFault) → PlacesReply requests first t (Err x) → IsFirstOf told t
-    → FillsSlots requests first (told ++ t ∷ []) slots (Err x)
-fills_fault requests first told t slots fault.UnknownResponse h once = misanswered-at requests first told t h.0 h.1 h.2 once h.3
-fills_fault requests first told t slots fault.OutOfMemory h once = tt
-fills_fault requests first told t slots fault.Read h once = absurd h
-fills_fault requests first told t slots fault.Write h once = absurd h
-fills_fault requests first told t slots fault.Ended h once = absurd h
-fills_fault requests first told t slots (fault.Peer code) h once = absurd h
-fills_fault requests first told t slots (fault.Refused code) h once = absurd h
-fills_fault requests first told t slots (fault.Service code) h once = absurd h
-fills_fault requests first told t slots fault.TooLarge h once = absurd h
-fills_fault requests first told t slots fault.NotWritable h once = absurd h
-fills_fault requests first told t slots fault.Exhausted h once = absurd h
-fills_fault requests first told t slots fault.Closed h once = absurd h
-fills_fault requests first told t slots fault.TooManyTokens h once = absurd h
-fills_fault requests first told t slots fault.TooLong h once = absurd h
+    → AreSlots requests first told slots → FillsSlots requests first (told ++ t ∷ []) slots (Err x)
+fills_fault requests first told t slots fault.UnknownResponse h once s = (misanswered-at requests first told t h.0 h.1 h.2 once h.3, front-lacking requests first told t slots h.0 h.1 once s h.2 h.3)
+fills_fault requests first told t slots fault.OutOfMemory h once s = tt
+fills_fault requests first told t slots fault.Read h once s = absurd h
+fills_fault requests first told t slots fault.Write h once s = absurd h
+fills_fault requests first told t slots fault.Ended h once s = absurd h
+fills_fault requests first told t slots (fault.Peer code) h once s = absurd h
+fills_fault requests first told t slots (fault.Refused code) h once s = absurd h
+fills_fault requests first told t slots (fault.Service code) h once s = absurd h
+fills_fault requests first told t slots fault.TooLarge h once s = absurd h
+fills_fault requests first told t slots fault.NotWritable h once s = absurd h
+fills_fault requests first told t slots fault.Exhausted h once s = absurd h
+fills_fault requests first told t slots fault.Closed h once s = absurd h
+fills_fault requests first told t slots fault.TooManyTokens h once s = absurd h
+fills_fault requests first told t slots fault.TooLong h once s = absurd h

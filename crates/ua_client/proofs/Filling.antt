@@ -14,12 +14,12 @@ use Rattle.ua_client.specs.declared.reply.Reply.TheVariants.{Response as Respond
 
 -- ---- one thing more that was told
 
-told-other : (id : ℕ) (told : List Told) (t : Told) → is_told_of id t ≡ false → told_of id (told ++ t ∷ []) ≡ told_of id told
+pub told-other : (id : ℕ) (told : List Told) (t : Told) → is_told_of id t ≡ false → told_of id (told ++ t ∷ []) ≡ told_of id told
 told-other id told t other =
     told-more id told t
     ∙ (ap (λ (b : Bool). told_of id told ++ cond b (t ∷ []) []) other ∙ append-nil (told_of id told))
 
-told-own : (id : ℕ) (told : List Told) (t : Told) → is_told_of id t ≡ true → told_of id told ≡ [] → told_of id (told ++ t ∷ []) ≡ t ∷ []
+pub told-own : (id : ℕ) (told : List Told) (t : Told) → is_told_of id t ≡ true → told_of id told ≡ [] → told_of id (told ++ t ∷ []) ≡ t ∷ []
 told-own id told t own none =
     told-more id told t
     ∙ (ap (λ (b : Bool). told_of id told ++ cond b (t ∷ []) []) own ∙ ap (λ (ts : List Told). ts ++ t ∷ []) none)

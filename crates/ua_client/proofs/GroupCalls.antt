@@ -1,6 +1,6 @@
 -- What becomes of groups of calls.
-use Rattle.std.specs.Prelude.{◌≡◌, ℕ, ◌+◌, ◌≤◌, ◌<◌, Bool, true, false, cond, is_none, OnOk, OnErr, List, [], ◌∷◌, ◌++◌, length, Option, Some, None, Result, Ok, Err}
-use Rattle.std.proofs.Common.{refl, sym, ◌∙◌, ap, subst, inl, inr, append-nil, arith, suc, add-zero}
+use Rattle.std.specs.Prelude.{◌≡◌, ℕ, ◌+◌, ◌-◌, ◌≤◌, ◌<◌, Bool, true, false, cond, is_none, OnOk, OnErr, List, [], ◌∷◌, ◌++◌, length, take, Option, Some, None, Result, Ok, Err}
+use Rattle.std.proofs.Common.{refl, sym, ◌∙◌, ap, subst, inl, inr, append-nil, arith, zero, suc, add-zero}
 use Rattle.std.proofs.lemmas.List.{length-append}
 use Rattle.std.specs.List.{list_any}
 use Rattle.ua_builtin.specs.Reasons.{or_else}
@@ -17,19 +17,23 @@ use Rattle.ua_channel.specs.declared.client.fault.AskFault.{AskFault}
 use Rattle.ua_channel.specs.declared.client.fault.AskFault.TheVariants as ask_fault
 use Rattle.ua_channel.specs.declared.client.phase.Phase.{Phase}
 use Rattle.ua_client.specs.Site.{Site, At, id_at, lane_behind}
-use Rattle.ua_client.specs.Calls.{asked_at, sent_at, refusal_at, AreUntold, Collects, CollectsAt, BreaksAt, CallsGroup, IsSentAt, somes, none_for}
+use Rattle.ua_client.specs.Calls.{asked_at, sent_at, refusal_at, AreUntold, Collects, CollectsAt, BreaksAt, IsSentAt, none_for}
 use Rattle.ua_client.specs.Carried.{Carries, WritesFront}
-use Rattle.ua_client.specs.Hearing.{channel_of, untaken_of, Moves, StopsAt, is_line_fault, failures_behind}
+use Rattle.ua_client.specs.Hearing.{channel_of, untaken_of, Moves, StopsAt, is_line_fault}
+use Rattle.ua_client.specs.Kept.{CallsGroup, IsRefusedFor, KeepsAt, named}
 use Rattle.ua_client.specs.Renewing.{IsSettled}
+use Rattle.ua_client.specs.Replies.{front_of}
 use Rattle.ua_client.specs.Told.{told_of}
-use Rattle.ua_client.specs.Sent.{calls_octets, numbers_behind, bodies_of, of_ask, refusal_by, request_refusal, group_refusal, AnswersBy, AsksFrom}
+use Rattle.ua_client.specs.Sent.{calls_octets, numbers_behind, bodies_of, of_ask, refusal_by, request_refusal, group_refusal, AnswersBy, AsksFrom, RefusesBy}
 use Rattle.ua_client.specs.declared.connection.Connection.{Connection}
+use Rattle.ua_client.specs.declared.fault.CallsFault.{CallsFault}
 use Rattle.ua_client.specs.declared.fault.ClientFault.{ClientFault}
 use Rattle.ua_client.specs.declared.fault.ClientFault.TheVariants as fault
 use Rattle.ua_client.specs.declared.reply.Reply.{Reply}
 use Rattle.ua_client.proofs.Carrying.{carried-nothing, carried-then, carried-as, sends-front}
 use Rattle.ua_client.proofs.Hearings.{moves-from, moves-writing}
-use Rattle.ua_client.proofs.Incoming.{all-answered, all-there, collects-none}
+use Rattle.ua_client.proofs.Fronts.{front-all, front-fewer, front-unanswered, front-whole}
+use Rattle.ua_client.proofs.Incoming.{collects-none}
 use Rattle.ua_client.proofs.Judging.{group-judged, is_reason, refused-for}
 use Rattle.ua_client.proofs.Settled.{NonePending}
 
@@ -119,17 +123,36 @@ ToldBehind = (x : ClientChannel) (asks : List Placed) (octets : List ℕ) (told 
 abbrev pub moves-nothing : (x y : Connection) (t : Option Traffic) → untaken_of y ≡ untaken_of x → Moves x y [] t t
 moves-nothing x y t same = moves-writing x y [] t t same (carried-nothing t)
 
+-- ---- which requests are refused
+
+few-taken : (n : ℕ) (ms : List Request) → length (take n ms) ≤ length ms
+few-taken zero ms = omega arith
+few-taken (suc n) [] = omega arith
+few-taken (suc n) (m ∷ ms) = let h = few-taken n ms in omega (arith, h)
+
 -- before anything is asked
-pub group-refused : {A : Type 0} → NonePending → (requests : List Request) → length requests ≤ 64 → (x : Connection) (t : Option Traffic) (reads : ℕ) (f : ClientFault) (replies : List Reply)
-    → AnswersBy {A = Unit {0}} (group_refusal (phase_of (channel_of x)) 0 requests) (Err f) → CallsGroup {A = A} requests x x t t reads reads (Err f) replies replies
-group-refused {A} law requests few x t reads f replies h = record {
+pub group-refused : {A : Type 0} → NonePending → (requests : List Request) → length requests ≤ 64 → (x : Connection) (t : Option Traffic) (reads : ℕ) (c : CallsFault) (replies : List Reply)
+    → AnswersBy {A = Unit {0}} (group_refusal (phase_of (channel_of x)) 0 requests) (Err c.fault) → RefusesBy (phase_of (channel_of x)) requests c.request c.fault
+    → CallsGroup {A = A} requests x x t t reads reads (Err c) replies replies
+group-refused {A} law requests few x t reads c replies h place = record {
   sent = [];
   moves = moves-nothing x x t refl;
   same = record { limits = refl; url = refl };
-  answers = λ s at settled. breaks f h s at (group-judged law (channel_of x) requests few s at settled);
-  stops = stops f h;
+  added = [];
+  have_is = sym (append-nil replies);
+  answers = λ s at settled. (breaks c.fault h s at (group-judged law (channel_of x) requests few s at settled), keeps c.fault c.request h place s at settled);
+  stops = stops c.fault h;
 }
   where
+    refused : (y : ClientFault) (n : ℕ) (s : Site) → At (channel_of x) s → IsSettled s
+        → (group_refusal (phase_of (channel_of x)) 0 (take n requests) ≡ None) × (group_refusal (phase_of (channel_of x)) 0 (take (n + 1) requests) ≡ Some y) → IsRefusedFor requests s y n
+    refused y n s at settled k =
+        let before = few-taken n requests in
+        let with = few-taken (n + 1) requests in (
+          sym (group-judged law (channel_of x) (take n requests) (omega (arith, before, few)) s at settled) ∙ k.0,
+          sym (group-judged law (channel_of x) (take (n + 1) requests) (omega (arith, with, few)) s at settled) ∙ k.1,
+        )
+
     breaks : (y : ClientFault) → AnswersBy {A = Unit {0}} (group_refusal (phase_of (channel_of x)) 0 requests) (Err y) → (s : Site) → At (channel_of x) s
         → group_refusal (phase_of (channel_of x)) 0 requests ≡ refusal_at s requests → BreaksAt requests s x [] [] y
     breaks fault.TooLarge e s at there = (refl, refl, at, sym there ∙ e)
@@ -147,6 +170,23 @@ group-refused {A} law requests few x t reads f replies h = record {
     breaks fault.TooLong e s at there = let no : is_asking_fault fault.TooLong ≡ true = by-group (phase_of (channel_of x)) 0 requests fault.TooLong e in absurd cc
     breaks fault.TooManyTokens e s at there = let no : is_asking_fault fault.TooManyTokens ≡ true = by-group (phase_of (channel_of x)) 0 requests fault.TooManyTokens e in absurd cc
 
+    keeps : (y : ClientFault) (n : ℕ) → AnswersBy {A = Unit {0}} (group_refusal (phase_of (channel_of x)) 0 requests) (Err y) → RefusesBy (phase_of (channel_of x)) requests n y → (s : Site) → At (channel_of x) s → IsSettled s
+        → KeepsAt requests s x [] y n []
+    keeps fault.TooLarge n e k s at settled = (refused fault.TooLarge n s at settled k, refl)
+    keeps fault.NotWritable n e k s at settled = (refused fault.NotWritable n s at settled k, refl)
+    keeps fault.Exhausted n e k s at settled = (refused fault.Exhausted n s at settled k, refl)
+    keeps fault.Closed n e k s at settled = let no : is_reason fault.Closed ≡ true = refused-for s requests fault.Closed (sym (group-judged law (channel_of x) requests few s at settled) ∙ e) in absurd cc
+    keeps fault.OutOfMemory n e k s at settled = (k, inl (refl, refl))
+    keeps fault.Read n e k s at settled = let no : is_asking_fault fault.Read ≡ true = by-group (phase_of (channel_of x)) 0 requests fault.Read e in absurd cc
+    keeps fault.Write n e k s at settled = let no : is_asking_fault fault.Write ≡ true = by-group (phase_of (channel_of x)) 0 requests fault.Write e in absurd cc
+    keeps fault.Ended n e k s at settled = let no : is_asking_fault fault.Ended ≡ true = by-group (phase_of (channel_of x)) 0 requests fault.Ended e in absurd cc
+    keeps (fault.Peer code) n e k s at settled = let no : is_asking_fault (fault.Peer code) ≡ true = by-group (phase_of (channel_of x)) 0 requests (fault.Peer code) e in absurd cc
+    keeps (fault.Refused code) n e k s at settled = let no : is_asking_fault (fault.Refused code) ≡ true = by-group (phase_of (channel_of x)) 0 requests (fault.Refused code) e in absurd cc
+    keeps fault.UnknownResponse n e k s at settled = let no : is_asking_fault fault.UnknownResponse ≡ true = by-group (phase_of (channel_of x)) 0 requests fault.UnknownResponse e in absurd cc
+    keeps (fault.Service code) n e k s at settled = let no : is_asking_fault (fault.Service code) ≡ true = by-group (phase_of (channel_of x)) 0 requests (fault.Service code) e in absurd cc
+    keeps fault.TooLong n e k s at settled = let no : is_asking_fault fault.TooLong ≡ true = by-group (phase_of (channel_of x)) 0 requests fault.TooLong e in absurd cc
+    keeps fault.TooManyTokens n e k s at settled = let no : is_asking_fault fault.TooManyTokens ≡ true = by-group (phase_of (channel_of x)) 0 requests fault.TooManyTokens e in absurd cc
+
     stops : (y : ClientFault) → AnswersBy {A = Unit {0}} (group_refusal (phase_of (channel_of x)) 0 requests) (Err y) → StopsAt {A = A} reads reads [] x t (Err y)
     stops fault.TooLarge e = tt
     stops fault.NotWritable e = tt
@@ -161,7 +201,7 @@ group-refused {A} law requests few x t reads f replies h = record {
     stops fault.UnknownResponse e = tt
     stops (fault.Service code) e = tt
     stops fault.TooLong e = let no : is_asking_fault fault.TooLong ≡ true = by-group (phase_of (channel_of x)) 0 requests fault.TooLong e in absurd cc
-    stops fault.TooManyTokens e = let no : is_asking_fault fault.TooManyTokens ≡ true = by-group (phase_of (channel_of x)) 0 requests fault.TooManyTokens e in absurd cc
+    stops fault.TooManyTokens e = tt
 
 -- a refusal to ask is no fault of the line
 pub refused-failures : (requests : List Request) (phase : Phase) (x : ClientFault) → AnswersBy {A = Unit {0}} (group_refusal phase 0 requests) (Err x) → (n : ℕ) → cond (is_line_fault x) (one_more n) n ≡ n
@@ -180,14 +220,24 @@ refused-failures requests phase fault.TooManyTokens e n = refl
 refused-failures requests phase fault.OutOfMemory e n = refl
 refused-failures requests phase fault.TooLong e n = refl
 
+-- so many more replies are those that are kept
+added-count : (had have kept : List Reply) → have ≡ had ++ kept → length have - length had ≡ length kept
+added-count had have kept e = let n = ap length e in let m = length-append had kept in omega (arith, n, m)
+
+-- a fault of a group names the first of its requests whose reply is not kept
+abbrev pub first_unkept : ClientFault → List Reply → List Reply → CallsFault
+first_unkept f had have = record { request = length have - length had; fault = f }
+
 -- no memory to ask
-pub group-unasked : {A : Type 0} (requests : List Request) (old new : Connection) (t : Option Traffic) (reads : ℕ) (replies : List Reply) (f : ClientFault)
-    → untaken_of new ≡ untaken_of old → SameClient (channel_of old) (channel_of new) → f ≡ fault.OutOfMemory → CallsGroup {A = A} requests old new t t reads reads (Err f) replies replies
-group-unasked {A} requests old new t reads replies f piece same e = subst (λ (x : ClientFault). CallsGroup {A = A} requests old new t t reads reads (Err x) replies replies) (sym e) (record {
+pub group-unasked : {A : Type 0} (requests : List Request) (old new : Connection) (t : Option Traffic) (reads : ℕ) (had have : List Reply) (f : ClientFault)
+    → have ≡ had → untaken_of new ≡ untaken_of old → SameClient (channel_of old) (channel_of new) → f ≡ fault.OutOfMemory → CallsGroup {A = A} requests old new t t reads reads (Err (first_unkept f had have)) had have
+group-unasked {A} requests old new t reads had have f none piece same e = subst (λ (x : ClientFault). CallsGroup {A = A} requests old new t t reads reads (Err (first_unkept x had have)) had have) (sym e) (record {
   sent = [];
   moves = moves-nothing old new t piece;
   same = same;
-  answers = λ s at settled. inl (refl, refl);
+  added = [];
+  have_is = none ∙ sym (append-nil had);
+  answers = λ s at settled. (inl (refl, refl), (added-count had have [] (none ∙ sym (append-nil had)), inl (refl, refl)));
   stops = tt;
 })
 
@@ -240,15 +290,18 @@ module _ (requests : List Request) (old mid : Connection) (first : ℕ) (out : L
     untold-asked law = subst (λ (n : ℕ). AreUntold requests n s.told) (sym first-asked) (untold-from requests (id_at s) s.told (λ n. law (channel_of old) s.asks s.octets s.told n at.goes))
 
   -- a write that failed
-  pub group-unwritten : {A : Type 0} (before after : Option Traffic) (reads : ℕ) (replies : List Reply) → WhereTold (WritesFront out) before after
-      → CallsGroup {A = A} requests old mid before after reads reads (Err fault.Write) replies replies
-  group-unwritten before after reads replies h =
+  pub group-unwritten : {A : Type 0} (before after : Option Traffic) (reads : ℕ) (had have : List Reply) → have ≡ had → WhereTold (WritesFront out) before after
+      → CallsGroup {A = A} requests old mid before after reads reads (Err (first_unkept fault.Write had have)) had have
+  group-unwritten before after reads had have none h =
       let front = sends-front out before after h in
+      let kept : have ≡ had ++ [] = none ∙ sym (append-nil had) in
       record {
         sent = front.0;
         moves = moves-writing old mid front.0 before after q.piece front.2;
         same = q.same;
-        answers = λ s at settled. (q.judged s at settled, record { more = front.1.more; parts = sym (sent-asked s at) ∙ front.1.parts }, refl);
+        added = [];
+        have_is = kept;
+        answers = λ s at settled. ((q.judged s at settled, record { more = front.1.more; parts = sym (sent-asked s at) ∙ front.1.parts }, refl), (added-count had have [] kept, refl));
         stops = tt;
       }
 
@@ -260,32 +313,41 @@ module _ (requests : List Request) (old mid : Connection) (first : ℕ) (out : L
     same-then : SameClient (channel_of mid) (channel_of new) → SameClient (channel_of old) (channel_of new)
     same-then k = record { limits = q.same.limits ∙ k.limits; url = q.same.url ∙ k.url }
 
-    module _ {B : Type 0} (view : B → List (Option Reply)) where
-      collected : (result : Result B ClientFault) (c : Collects view requests first mid new written after reads left result) (s : Site) (at : At (channel_of old) s)
-          → CollectsAt view requests (id_at s) new after result (asked_at s requests) (s.octets ++ c.moves.taken) s.told
+    module _ (slots : List (Option Reply)) (had have : List Reply) (kept : have ≡ had ++ front_of slots) where
+      collected : {A : Type 0} (result : Result A ClientFault) (c : Collects slots requests first mid new written after reads left result) (s : Site) (at : At (channel_of old) s)
+          → CollectsAt slots requests (id_at s) new after result (asked_at s requests) (s.octets ++ c.moves.taken) s.told
       collected result c s at =
-          subst (λ (n : ℕ). CollectsAt view requests n new after result (asked_at s requests) (s.octets ++ c.moves.taken) s.told) (first-asked s at)
+          subst (λ (n : ℕ). CollectsAt slots requests n new after result (asked_at s requests) (s.octets ++ c.moves.taken) s.told) (first-asked s at)
           (c.answers (asked_at s requests) s.octets s.told (goes-asked s at) (untold-asked s at law))
 
       -- a reply that does not come, or is none
-      pub group-broken : {A : Type 0} (f : ClientFault) (replies : List Reply) → Collects view requests first mid new written after reads left (Err f)
-          → CallsGroup {A = A} requests old new before after reads left (Err f) replies replies
-      group-broken {A} f replies c = record {
+      pub group-broken : {A B : Type 0} (f : ClientFault) → Collects {A = B} slots requests first mid new written after reads left (Err f)
+          → CallsGroup {A = A} requests old new before after reads left (Err (first_unkept f had have)) had have
+      group-broken {A} {B} f c = record {
         sent = out;
         moves = written-moves c.moves;
         same = same-then c.keeps.same;
-        answers = λ s at settled. breaks f s (q.judged s at settled, sent-asked s at) (collected (Err f) c s at);
+        added = front_of slots;
+        have_is = kept;
+        answers = λ s at settled.
+            let h = collected (Err f) c s at in (
+              breaks f s (q.judged s at settled, sent-asked s at) h,
+              keeps f s h,
+            );
         stops = stops f c.stops;
       }
         where
-          breaks : (y : ClientFault) (s : Site) → IsSentAt requests s out → CollectsAt view requests (id_at s) new after (Err y) (asked_at s requests) (s.octets ++ c.moves.taken) s.told → BreaksAt requests s new out c.moves.taken y
-          breaks (fault.Peer code) s sent h = (sent, h)
-          breaks (fault.Refused code) s sent h = (sent, h)
-          breaks fault.Ended s sent h = (sent, h)
-          breaks fault.Read s sent h = (sent, h)
-          breaks fault.TooLong s sent h = (sent, h)
-          breaks fault.UnknownResponse s sent h = (sent, h)
-          breaks fault.OutOfMemory s sent h = inr (sent, h)
+          count : length have - length had ≡ length (front_of slots)
+          count = added-count had have (front_of slots) kept
+
+          breaks : (y : ClientFault) (s : Site) → IsSentAt requests s out → CollectsAt {A = B} slots requests (id_at s) new after (Err y) (asked_at s requests) (s.octets ++ c.moves.taken) s.told → BreaksAt requests s new out c.moves.taken y
+          breaks (fault.Peer code) s sent h = (sent, (h.0, h.1, front-unanswered requests (id_at s) (s.told ++ h.0) (front_of slots) h.2))
+          breaks (fault.Refused code) s sent h = (sent, (h.0, h.1, front-unanswered requests (id_at s) (s.told ++ h.0) (front_of slots) h.2))
+          breaks fault.Ended s sent h = (sent, (h.0, h.1, front-unanswered requests (id_at s) (s.told ++ h.0) (front_of slots) h.2))
+          breaks fault.Read s sent h = (sent, (h.0, h.1, front-unanswered requests (id_at s) (s.told ++ h.0) (front_of slots) h.2))
+          breaks fault.TooLong s sent h = (sent, (h.0, h.1, front-unanswered requests (id_at s) (s.told ++ h.0) (front_of slots) h.2))
+          breaks fault.UnknownResponse s sent h = (sent, (h.0, h.1, h.2.0))
+          breaks fault.OutOfMemory s sent h = inr (sent, (h.0, h.1))
           breaks fault.Write s sent h = absurd h
           breaks fault.TooLarge s sent h = absurd h
           breaks fault.NotWritable s sent h = absurd h
@@ -293,6 +355,23 @@ module _ (requests : List Request) (old mid : Connection) (first : ℕ) (out : L
           breaks fault.Closed s sent h = absurd h
           breaks fault.TooManyTokens s sent h = absurd h
           breaks (fault.Service code) s sent h = absurd h
+
+          keeps : (y : ClientFault) (s : Site) → CollectsAt {A = B} slots requests (id_at s) new after (Err y) (asked_at s requests) (s.octets ++ c.moves.taken) s.told
+              → KeepsAt requests s new c.moves.taken y (length have - length had) (front_of slots)
+          keeps (fault.Peer code) s h = (count, h)
+          keeps (fault.Refused code) s h = (count, h)
+          keeps fault.Ended s h = (count, h)
+          keeps fault.Read s h = (count, h)
+          keeps fault.TooLong s h = (count, h)
+          keeps fault.UnknownResponse s h = (count, (h.0, h.1, h.2.1))
+          keeps fault.OutOfMemory s h = (count, inr h)
+          keeps fault.Write s h = absurd h
+          keeps fault.TooLarge s h = absurd h
+          keeps fault.NotWritable s h = absurd h
+          keeps fault.Exhausted s h = absurd h
+          keeps fault.Closed s h = absurd h
+          keeps fault.TooManyTokens s h = absurd h
+          keeps (fault.Service code) s h = absurd h
 
           stops : (y : ClientFault) → StopsAt {A = B} reads left c.moves.got new after (Err y) → StopsAt {A = A} reads left c.moves.got new after (Err y)
           stops (fault.Peer code) h = h
@@ -310,30 +389,20 @@ module _ (requests : List Request) (old mid : Connection) (first : ℕ) (out : L
           stops fault.TooManyTokens h = h
           stops (fault.Service code) h = h
 
-      -- no memory for the replies
-      pub group-unkept : {A : Type 0} (found : B) (had have : List Reply) → Collects view requests first mid new written after reads left (Ok found)
-          → CallsGroup {A = A} requests old new before after reads left (Err fault.OutOfMemory) had have
-      group-unkept found had have c = record {
-        sent = out;
-        moves = written-moves c.moves;
-        same = same-then c.keeps.same;
-        answers = λ s at settled. let h = collected (Ok found) c s at in inr ((q.judged s at settled, sent-asked s at), (h.0.0, inr h.0.1));
-        stops = tt;
-      }
-
       -- all replies came
-      pub group-answered : {A : Type 0} (done : A) (found : B) (had have : List Reply) → Collects view requests first mid new written after reads left (Ok found) → have ≡ had ++ somes (view found)
-          → CallsGroup {A = A} requests old new before after reads left (Ok done) had have
-      group-answered done found had have c kept = record {
+      pub group-answered : {A : Type 0} (done : A) → Collects slots requests first mid new written after reads left (Ok done)
+          → CallsGroup requests old new before after reads left (Ok done) had have
+      group-answered done c = record {
         sent = out;
         moves = written-moves c.moves;
         same = same-then c.keeps.same;
+        added = front_of slots;
+        have_is = kept;
         answers = λ s at settled.
-            let h = collected (Ok found) c s at in (
+            let h = collected (Ok done) c s at in (
               sent-asked s at,
               (
                 record { asks = asked_at s requests; octets = s.octets ++ c.moves.taken; before = received h.0.1.frames; told = s.told ++ h.0.0; number = next_of (channel_of new) },
-                somes (view found),
                 record { goes = h.0.1; before_is = refl; number_is = refl },
                 record {
                   judged = q.judged s at settled;
@@ -343,38 +412,45 @@ module _ (requests : List Request) (old mid : Connection) (first : ℕ) (out : L
                   heard = h.0.0;
                   told = refl;
                   number = c.keeps.next ∙ next-asked s at;
-                  replies_are = all-answered requests (id_at s) (s.told ++ h.0.0) (view found) h.0.2.0 h.0.2.1;
+                  replies_are = front-all requests (id_at s) (s.told ++ h.0.0) slots h.0.2.0 h.0.2.1;
                 },
-                kept,
               ),
             );
         stops = c.stops;
       }
 
-      -- the replies that came are kept, or there is no memory for them
-      pub group-kept : (result : Result (Unit {0}) ClientFault) (found : B) (had have : List Reply) → Collects view requests first mid new written after reads left (Ok found)
-          → OnOk result (have ≡ had ++ somes (view found)) → OnErr result (result ≡ Err fault.OutOfMemory) → CallsGroup requests old new before after reads left result had have
-      group-kept (Ok done) found had have c kept none = group-answered done found had have c kept
-      group-kept (Err f) found had have c kept none =
-          subst (λ (r : Result (Unit {0}) ClientFault). CallsGroup requests old new before after reads left r had have) (sym none) (group-unkept found had have c)
+      -- the replies that came are kept
+      pub group-kept : (result : Result (Unit {0}) ClientFault) → Collects slots requests first mid new written after reads left result
+          → CallsGroup requests old new before after reads left (named (length have - length had) result) had have
+      group-kept (Ok done) c = group-answered done c
+      group-kept (Err f) c = group-broken f c
 
 -- no memory for the slots of the replies
 pub group-unslotted : {A : Type 0} (requests : List Request) (old mid : Connection) (first : ℕ) (out : List ℕ) → IsAsked requests old mid first out → ToldBehind → (before after : Option Traffic) (reads : ℕ)
-    → WhereTold (Carries [] out) before after → (f : ClientFault) (replies : List Reply) → f ≡ fault.OutOfMemory → CallsGroup {A = A} requests old mid before after reads reads (Err f) replies replies
-group-unslotted {A} requests old mid first out q law before after reads w f replies e =
-    subst (λ (x : ClientFault). CallsGroup {A = A} requests old mid before after reads reads (Err x) replies replies) (sym e)
-    (group-broken requests old mid first out q law mid before after after reads reads w (λ (done : Unit {0}). none_for requests) fault.OutOfMemory replies (collects-none (λ (done : Unit {0}). none_for requests) requests first mid after reads))
+    → WhereTold (Carries [] out) before after → (f : ClientFault) (had have : List Reply) → have ≡ had → f ≡ fault.OutOfMemory → CallsGroup {A = A} requests old mid before after reads reads (Err (first_unkept f had have)) had have
+group-unslotted {A} requests old mid first out q law before after reads w f had have none e =
+    subst (λ (x : ClientFault). CallsGroup {A = A} requests old mid before after reads reads (Err (first_unkept x had have)) had have) (sym e)
+    (group-broken requests old mid first out q law mid before after after reads reads w (none_for requests) had have (none ∙ (sym (append-nil had) ∙ ap (λ (rs : List Reply). had ++ rs) (sym (no-front requests))))
+    fault.OutOfMemory (collects-none {A = Unit {0}} requests first mid after reads q.some))
+  where
+    no-front : (ms : List Request) → front_of (none_for ms) ≡ []
+    no-front [] = refl
+    no-front (m ∷ ms) = refl
 
 -- so many replies more
-pub kept-count : (result : Result (Unit {0}) ClientFault) (had have : List Reply) (slots : List (Option Reply)) (n : ℕ) → OnOk result (have ≡ had ++ somes slots) → list_any is_none slots ≡ false → length slots ≡ n
+pub kept-count : (result : Result (Unit {0}) ClientFault) (had have : List Reply) (slots : List (Option Reply)) (n : ℕ) → have ≡ had ++ front_of slots → OnOk result (list_any is_none slots ≡ false) → length slots ≡ n
     → OnOk result (length have ≡ length had + n)
-kept-count (Ok done) had have slots n kept none count = ap length kept ∙ (length-append had (somes slots) ∙ ap (λ (k : ℕ). length had + k) (all-there slots none ∙ count))
+kept-count (Ok done) had have slots n kept none count = ap length kept ∙ (length-append had (front_of slots) ∙ ap (λ (k : ℕ). length had + k) (front-whole slots none ∙ count))
 kept-count (Err f) had have slots n kept none count = tt
 
--- no memory is no fault of the line
-pub kept-failures : (result : Result (Unit {0}) ClientFault) → OnErr result (result ≡ Err fault.OutOfMemory) → (n : ℕ) → failures_behind n result ≡ n
-kept-failures (Ok done) h n = refl
-kept-failures (Err f) h n = ap (λ (r : Result (Unit {0}) ClientFault). failures_behind n r) h
+-- and fewer where one is missing
+pub kept-fewer : (result : Result (Unit {0}) ClientFault) (had have : List Reply) (slots : List (Option Reply)) (n : ℕ) → have ≡ had ++ front_of slots → OnErr result (list_any is_none slots ≡ true) → length slots ≡ n
+    → OnErr result (length have < length had + n)
+kept-fewer (Ok done) had have slots n kept missing count = tt
+kept-fewer (Err f) had have slots n kept missing count = let l = ap length kept in let m = length-append had (front_of slots) in let fewer = front-fewer slots missing in omega (arith, l, m, fewer, count)
+
+pub kept-more : (had have : List Reply) (slots : List (Option Reply)) → have ≡ had ++ front_of slots → length had ≤ length have
+kept-more had have slots kept = let l = ap length kept in let m = length-append had (front_of slots) in omega (arith, l, m)
 
 pub memory-failures : (x : ClientFault) → x ≡ fault.OutOfMemory → (n : ℕ) → cond (is_line_fault x) (one_more n) n ≡ n
 memory-failures x e n = ap (λ (y : ClientFault). cond (is_line_fault y) (one_more n) n) e

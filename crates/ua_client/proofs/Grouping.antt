@@ -8,11 +8,13 @@ use Rattle.ua_services.specs.declared.request.Request.{Request}
 use Rattle.ua_channel.specs.Client.{SameClient}
 use Rattle.ua_channel.specs.Line.{Traffic}
 use Rattle.ua_client.specs.Site.{Site, At}
-use Rattle.ua_client.specs.Calls.{CallsGroup, Rounds, all_of, AreGroups, AnsweredAll, CallsAll}
+use Rattle.ua_client.specs.Calls.{Rounds, all_of, AreGroups, AnsweredAll}
 use Rattle.ua_client.specs.Calls.Rounds.{NoRound, OneRound}
 use Rattle.ua_client.specs.Hearing.{channel_of, most_reads, Moves, StopsAt}
+use Rattle.ua_client.specs.Kept.{CallsGroup, CallsInto}
 use Rattle.ua_client.specs.Renewing.{IsSettled}
 use Rattle.ua_client.specs.declared.connection.Connection.{Connection}
+use Rattle.ua_client.specs.declared.fault.CallsFault.{CallsFault}
 use Rattle.ua_client.specs.declared.fault.ClientFault.{ClientFault}
 use Rattle.ua_client.specs.declared.fault.ClientFault.TheVariants as fault
 use Rattle.ua_client.specs.declared.reply.Reply.{Reply}
@@ -63,35 +65,46 @@ length-between requests start end h k = taken (drop start requests) (end - start
 -- ---- one group more
 
 -- these requests are answered, in groups that are full where there are more
-pub record Called (requests : List Request) (more : Type 0) (old now : Connection) (before at : Option Traffic) (left : ℕ) (replies : List Reply) : Type 0 where
+pub record Called (requests : List Request) (more : Type 0) (old now : Connection) (before at : Option Traffic) (left : ℕ) (had have : List Reply) : Type 0 where
   pub sent : List ℕ
   pub moves : Moves old now sent before at
   pub same : SameClient (channel_of old) (channel_of now)
-  pub answers : (s : Site) → At (channel_of old) s → IsSettled s → (a : AnsweredAll requests s (channel_of now) sent moves.taken replies) × (more → AreFull a.groups)
+  -- these replies are added
+  pub added : List Reply
+  pub have_is : have ≡ had ++ added
+  pub answers : (s : Site) → At (channel_of old) s → IsSettled s → (a : AnsweredAll requests s (channel_of now) sent moves.taken added) × (more → AreFull a.groups)
   pub spent : most_reads ≤ left + length moves.got
 
-pub called-nothing : (more : Type 0) (x : Connection) (t : Option Traffic) → Called [] more x x t t most_reads []
-called-nothing more x t = record {
+pub called-nothing : (more : Type 0) (x : Connection) (t : Option Traffic) (had : List Reply) → Called [] more x x t t most_reads had had
+called-nothing more x t had = record {
   sent = [];
   moves = moves-nothing x x t refl;
   same = record { limits = refl; url = refl };
+  added = [];
+  have_is = sym (append-nil had);
   answers = λ s at settled. (record { groups = []; parts = refl; sized = tt; behind = s; at = at; settled = settled; rounds = NoRound }, λ goes. tt);
   spent = omega arith;
 }
 
-module _ (requests group : List Request) (old now new : Connection) (before at then : Option Traffic) (left less : ℕ) (replies next : List Reply)
-    (some : 0 < length group) (few : length group ≤ 64) (more : Type 0) (goes : more) (c : Called requests more old now before at left replies) where
+module _ (requests group : List Request) (old now new : Connection) (before at then : Option Traffic) (left less : ℕ) (had replies next : List Reply)
+    (some : 0 < length group) (few : length group ≤ 64) (more : Type 0) (goes : more) (c : Called requests more old now before at left had replies) where
   same-then : SameClient (channel_of now) (channel_of new) → SameClient (channel_of old) (channel_of new)
   same-then k = record { limits = c.same.limits ∙ k.limits; url = c.same.url ∙ k.url }
 
   spent-then : (got : List ℕ) → left ≤ less + length got → most_reads ≤ less + length (c.moves.got ++ got)
   spent-then got h = let l = length-append c.moves.got got in let s = c.spent in omega (arith, l, s, h)
 
-  pub called-more : {A : Type 0} (done : A) (later : Type 0) → (later → length group ≡ 64) → CallsGroup {A = A} group now new at then left less (Ok done) replies next → Called (requests ++ group) later old new before then less next
+  -- the replies to all so far
+  added-then : (added : List Reply) → next ≡ replies ++ added → next ≡ had ++ (c.added ++ added)
+  added-then added e = e ∙ (ap (λ (rs : List Reply). rs ++ added) c.have_is ∙ append_assoc had c.added added)
+
+  pub called-more : {A : Type 0} (done : A) (later : Type 0) → (later → length group ≡ 64) → CallsGroup {A = A} group now new at then left less (Ok done) replies next → Called (requests ++ group) later old new before then less had next
   called-more done later full g = record {
     sent = c.sent ++ g.sent;
     moves = moves-behind old now new c.sent g.sent before at then c.moves g.moves;
     same = same-then g.same;
+    added = c.added ++ g.added;
+    have_is = added-then g.added g.have_is;
     answers = λ s h settled.
         let known = c.answers s h settled in
         let a = known.0 in
@@ -101,47 +114,56 @@ module _ (requests group : List Request) (old now new : Connection) (before at t
             parts = ap (λ (ms : List Request). ms ++ group) a.parts ∙ sym (concat-push a.groups group);
             sized = groups-push a.groups group (known.1 goes) some few;
             behind = b.1.0;
-            at = b.1.2;
-            settled = answered-settled group a.behind b.1.0 g.moves.taken b.1.1 a.settled b.1.3;
-            rounds = subst (λ (rs : List Reply). Rounds s (a.groups ++ group ∷ []) b.1.0 (c.sent ++ g.sent) (c.moves.taken ++ g.moves.taken) rs) (sym b.1.4)
-                (subst (λ (o : List ℕ). Rounds s (a.groups ++ group ∷ []) b.1.0 (c.sent ++ o) (c.moves.taken ++ g.moves.taken) (replies ++ b.1.1)) (sym b.0)
-                (OneRound group (channel_of new) a.rounds b.1.2 b.1.3));
+            at = b.1.1;
+            settled = answered-settled group a.behind b.1.0 g.moves.taken g.added a.settled b.1.2;
+            rounds = subst (λ (o : List ℕ). Rounds s (a.groups ++ group ∷ []) b.1.0 (c.sent ++ o) (c.moves.taken ++ g.moves.taken) (c.added ++ g.added)) (sym b.0)
+                (OneRound group (channel_of new) a.rounds b.1.1 b.1.2);
           },
           λ l. full-push a.groups group (known.1 goes) (full l),
         );
     spent = spent-then g.moves.got g.stops;
   }
 
-  pub calls-broken : {A B : Type 0} (view : B → List Reply) (all behind : List Request) (f : ClientFault) → all ≡ requests ++ (group ++ behind) → (0 < length behind → length group ≡ 64) → CallsGroup {A = A} group now new at then left less (Err f) replies next
-      → CallsAll view all old new before then (Err f)
-  calls-broken {A} {B} view all behind f parts full g = record {
+  pub calls-broken : {A B : Type 0} (all behind : List Request) (f d : CallsFault) → all ≡ requests ++ (group ++ behind) → (0 < length behind → length group ≡ 64)
+      → d.request ≡ length requests + f.request → d.fault ≡ f.fault → CallsGroup {A = A} group now new at then left less (Err f) replies next → CallsInto {A = B} all old new before then (Err d) had next
+  calls-broken {A} {B} all behind f d parts full place same_fault g = subst (λ (y : ClientFault). CallsInto {A = B} all old new before then (Err (record { request = d.request; fault = y })) had next) (sym same_fault) (record {
     sent = c.sent ++ g.sent;
     moves = moves-behind old now new c.sent g.sent before at then c.moves g.moves;
     same = same-then g.same;
+    added = c.added ++ g.added;
+    have_is = added-then g.added g.have_is;
     answers = λ s h settled.
         let known = c.answers s h settled in
         let a = known.0 in
+        let b = g.answers a.behind a.at a.settled in
         record {
-          groups = a.groups;
-          group = group;
-          others = behind;
-          parts = parts ∙ ap (λ (ms : List Request). ms ++ (group ++ behind)) a.parts;
-          sized = groups-push a.groups group (known.1 goes) some few;
-          full = full;
-          behind = a.behind;
-          settled = a.settled;
-          sent_before = c.sent;
-          sent_then = g.sent;
-          sent_parts = refl;
-          taken_before = c.moves.taken;
-          taken_then = g.moves.taken;
-          taken_parts = refl;
-          replies = replies;
-          rounds = a.rounds;
-          breaks = g.answers a.behind a.at a.settled;
+          broken = record {
+            groups = a.groups;
+            group = group;
+            others = behind;
+            parts = parts ∙ ap (λ (ms : List Request). ms ++ (group ++ behind)) a.parts;
+            sized = groups-push a.groups group (known.1 goes) some few;
+            full = full;
+            behind = a.behind;
+            settled = a.settled;
+            sent_before = c.sent;
+            sent_then = g.sent;
+            sent_parts = refl;
+            taken_before = c.moves.taken;
+            taken_then = g.moves.taken;
+            taken_parts = refl;
+            replies = c.added;
+            rounds = a.rounds;
+            breaks = b.0;
+          };
+          kept = g.added;
+          place = f.request;
+          keeps = b.1;
+          added_is = refl;
+          request_is = place ∙ ap (λ (ms : List Request). length ms + f.request) a.parts;
         };
-    stops = stops f g.stops;
-  }
+    stops = stops f.fault g.stops;
+  })
     where
       stops : (y : ClientFault) → StopsAt {A = A} left less g.moves.got new then (Err y) → StopsAt {A = B} most_reads most_reads (c.moves.got ++ g.moves.got) new then (Err y)
       stops fault.TooLong h = (h.0, let l = length-append c.moves.got g.moves.got in let s = c.spent in let few = h.1 in omega (arith, l, s, few))
@@ -159,13 +181,15 @@ module _ (requests group : List Request) (old now new : Connection) (before at t
       stops fault.TooManyTokens h = tt
       stops (fault.Service code) h = tt
 
-pub calls-all : {A : Type 0} (view : A → List Reply) (requests done : List Request) (more : Type 0) (old now : Connection) (before at : Option Traffic) (left : ℕ) (found : A)
-    → Called done more old now before at left (view found) → done ≡ requests → CallsAll view requests old now before at (Ok found)
-calls-all view requests done more old now before at left found c e = record {
+pub calls-all : {A : Type 0} (requests done : List Request) (more : Type 0) (old now : Connection) (before at : Option Traffic) (left : ℕ) (had have : List Reply) (found : A)
+    → Called done more old now before at left had have → done ≡ requests → CallsInto requests old now before at (Ok found) had have
+calls-all requests done more old now before at left had have found c e = record {
   sent = c.sent;
   moves = c.moves;
   same = c.same;
-  answers = λ s h settled. subst (λ (ms : List Request). AnsweredAll ms s (channel_of now) c.sent c.moves.taken (view found)) e (c.answers s h settled).0;
+  added = c.added;
+  have_is = c.have_is;
+  answers = λ s h settled. subst (λ (ms : List Request). AnsweredAll ms s (channel_of now) c.sent c.moves.taken c.added) e (c.answers s h settled).0;
   stops = omega arith;
 }
 
@@ -177,9 +201,16 @@ all-taken (r ∷ rs) (suc n) few = ap (λ (ms : List Request). r ∷ ms) (all-ta
 
 -- ---- places
 
-pub called-to : (requests : List Request) (start end : ℕ) (more : Type 0) (old now : Connection) (before at : Option Traffic) (left : ℕ) (replies : List Reply) → start ≤ end
-    → Called (take start requests ++ between requests start end) more old now before at left replies → Called (take end requests) more old now before at left replies
-called-to requests start end more old now before at left replies h c = subst (λ (ms : List Request). Called ms more old now before at left replies) (up-to requests start end h) c
+pub called-to : (requests : List Request) (start end : ℕ) (more : Type 0) (old now : Connection) (before at : Option Traffic) (left : ℕ) (had have : List Reply) → start ≤ end
+    → Called (take start requests ++ between requests start end) more old now before at left had have → Called (take end requests) more old now before at left had have
+called-to requests start end more old now before at left had have h c = subst (λ (ms : List Request). Called ms more old now before at left had have) (up-to requests start end h) c
+
+-- so many requests stand before a place
+pub taken-count : (requests : List Request) (start : ℕ) → start ≤ length requests → length (take start requests) ≡ start
+taken-count [] zero few = refl
+taken-count [] (suc n) few = absurd (omega (arith, few))
+taken-count (r ∷ rs) zero few = refl
+taken-count (r ∷ rs) (suc n) few = ap suc (taken-count rs n (omega (arith, few)))
 
 pub split-at : (requests : List Request) (start end : ℕ) → start ≤ end → requests ≡ take start requests ++ (between requests start end ++ drop end requests)
 split-at requests start end h =

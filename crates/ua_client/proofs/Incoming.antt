@@ -1,5 +1,5 @@
 -- How the replies of a group of calls come in.
-use Rattle.std.specs.Prelude.{◌≡◌, ◌⊎◌, ℕ, ◌+◌, ◌≤◌, ◌<◌, true, false, cond, is_none, List, [], ◌∷◌, ◌++◌, length, take, Option, Some, None, Ok, Err}
+use Rattle.std.specs.Prelude.{◌≡◌, ◌⊎◌, ℕ, ◌+◌, ◌≤◌, ◌<◌, true, false, cond, is_none, List, [], ◌∷◌, ◌++◌, length, take, Option, None, Ok, Err}
 use Rattle.std.proofs.Common.{refl, sym, ◌∙◌, ap, subst, inl, inr, append_assoc, append-nil, arith, zero, suc}
 use Rattle.std.proofs.lemmas.List.{length-append}
 use Rattle.std.specs.List.{list_any}
@@ -12,15 +12,16 @@ use Rattle.ua_channel.specs.Line.{Traffic, one_more}
 use Rattle.ua_channel.specs.declared.client.channel.ClientChannel.{ClientChannel}
 use Rattle.ua_channel.specs.declared.client.event.ClientEvent.{ClientEvent}
 use Rattle.ua_services.specs.declared.request.Request.{Request}
-use Rattle.ua_client.specs.Calls.{AreFrames, AreUntold, Collects, CollectsAt, GoesOn, none_for, somes}
+use Rattle.ua_client.specs.Calls.{AreFrames, AreUntold, Collects, CollectsAt, GoesOn, none_for}
 use Rattle.ua_client.specs.Hearing.{channel_of, Keeps, Moves, Says, Hears, HearsAt, StopsAt, is_line_fault}
-use Rattle.ua_client.specs.Replies.{AreReplies, AreSlots, IsUnanswered, IsMisanswered, FillsSlots, is_reading_fault}
+use Rattle.ua_client.specs.Replies.{AreSlots, IsFront, IsUntold, IsUntoldBefore, LacksAnswer, IsMisanswered, FillsSlots, front_of, is_reading_fault}
 use Rattle.ua_client.specs.Told.{IsFirstOf}
 use Rattle.ua_client.specs.declared.connection.Connection.{Connection}
 use Rattle.ua_client.specs.declared.fault.ClientFault.{ClientFault}
 use Rattle.ua_client.specs.declared.fault.ClientFault.TheVariants as fault
 use Rattle.ua_client.specs.declared.reply.Reply.{Reply}
 use Rattle.ua_client.proofs.Carrying.{carried-nothing}
+use Rattle.ua_client.proofs.Fronts.{front-untold, front-before, front-first, front-unread}
 use Rattle.ua_client.proofs.Hearings.{keeps-all, keeps-then, moves-behind, moves-writing, GoesOnBehind}
 
 -- ---- slots
@@ -28,25 +29,6 @@ use Rattle.ua_client.proofs.Hearings.{keeps-all, keeps-then, moves-behind, moves
 untold-slots : (requests : List Request) (first : ℕ) (told : List Told) → AreUntold requests first told → AreSlots requests first told (none_for requests)
 untold-slots [] first told h = tt
 untold-slots (r ∷ rs) first told h = (h.0, untold-slots rs (first + 1) told h.1)
-
-pub unanswered : (requests : List Request) (first : ℕ) (told : List Told) (slots : List (Option Reply)) → AreSlots requests first told slots → list_any is_none slots ≡ true → IsUnanswered requests first told
-unanswered [] first told [] h e = absurd cc
-unanswered [] first told (slot ∷ slots) h e = absurd h
-unanswered (r ∷ rs) first told [] h e = absurd h
-unanswered (r ∷ rs) first told (None ∷ slots) h e = inl h.0
-unanswered (r ∷ rs) first told (Some reply ∷ slots) h e = inr (unanswered rs (first + 1) told slots h.1 e)
-
-pub all-answered : (requests : List Request) (first : ℕ) (told : List Told) (slots : List (Option Reply)) → AreSlots requests first told slots → list_any is_none slots ≡ false → AreReplies requests first told (somes slots)
-all-answered [] first told [] h e = tt
-all-answered [] first told (slot ∷ slots) h e = absurd h
-all-answered (r ∷ rs) first told [] h e = absurd h
-all-answered (r ∷ rs) first told (None ∷ slots) h e = absurd cc
-all-answered (r ∷ rs) first told (Some reply ∷ slots) h e = (h.0, all-answered rs (first + 1) told slots h.1 e)
-
-pub all-there : (slots : List (Option Reply)) → list_any is_none slots ≡ false → length (somes slots) ≡ length slots
-all-there [] e = refl
-all-there (None ∷ slots) e = absurd cc
-all-there (Some reply ∷ slots) e = ap suc (all-there slots e)
 
 -- one slot more
 pub none-more : (requests : List Request) (n : ℕ) → n < length requests → none_for (take n requests) ++ None ∷ [] ≡ none_for (take (n + 1) requests)
@@ -168,46 +150,48 @@ module _ (requests : List Request) (first : ℕ) (old now new : Connection) (bef
       count = same ∙ w.count;
     }
 
-    misread-by : {A : Type 0} (view : A → List (Option Reply)) (x : ClientFault) (next : List (Option Reply))
+    misread-by : (A : Type 0) (x : ClientFault) (next : List (Option Reply)) → next ≡ slots → list_any is_none slots ≡ true
         → ((m : DateTime) (all : List Told) (t : Told) → Says m e t → IsFirstOf all t → AreSlots requests first all slots → FillsSlots requests first (all ++ t ∷ []) next (Err x))
         → (asks : List Placed) (octets : List ℕ) (told : List Told) → Goes (channel_of old) asks octets told → AreUntold requests first told
-        → CollectsAt view requests first new then (Err x) asks (octets ++ (w.moves.taken ++ h.moves.taken)) told
-    misread-by view fault.UnknownResponse next filled asks octets told g none = behind (IsMisanswered requests first) asks octets told g none (filled moment)
-    misread-by view fault.OutOfMemory next filled asks octets told g none =
-        let on = behind (λ all. Unit {0}) asks octets told g none (λ all t says first s. tt) in
-        (on.0, inr on.1)
-    misread-by view fault.Read next filled asks octets told g none = absurd (behind (λ all. ⊥) asks octets told g none (filled moment)).2
-    misread-by view fault.Write next filled asks octets told g none = absurd (behind (λ all. ⊥) asks octets told g none (filled moment)).2
-    misread-by view fault.Ended next filled asks octets told g none = absurd (behind (λ all. ⊥) asks octets told g none (filled moment)).2
-    misread-by view (fault.Peer code) next filled asks octets told g none = absurd (behind (λ all. ⊥) asks octets told g none (filled moment)).2
-    misread-by view (fault.Refused code) next filled asks octets told g none = absurd (behind (λ all. ⊥) asks octets told g none (filled moment)).2
-    misread-by view (fault.Service code) next filled asks octets told g none = absurd (behind (λ all. ⊥) asks octets told g none (filled moment)).2
-    misread-by view fault.TooLarge next filled asks octets told g none = absurd (behind (λ all. ⊥) asks octets told g none (filled moment)).2
-    misread-by view fault.NotWritable next filled asks octets told g none = absurd (behind (λ all. ⊥) asks octets told g none (filled moment)).2
-    misread-by view fault.Exhausted next filled asks octets told g none = absurd (behind (λ all. ⊥) asks octets told g none (filled moment)).2
-    misread-by view fault.Closed next filled asks octets told g none = absurd (behind (λ all. ⊥) asks octets told g none (filled moment)).2
-    misread-by view fault.TooManyTokens next filled asks octets told g none = absurd (behind (λ all. ⊥) asks octets told g none (filled moment)).2
-    misread-by view fault.TooLong next filled asks octets told g none = absurd (behind (λ all. ⊥) asks octets told g none (filled moment)).2
+        → CollectsAt {A = A} next requests first new then (Err x) asks (octets ++ (w.moves.taken ++ h.moves.taken)) told
+    misread-by A fault.UnknownResponse next same missing filled asks octets told g none =
+        behind (λ all. IsMisanswered requests first all × IsFront LacksAnswer (front_of next) requests first all) asks octets told g none (filled moment)
+    misread-by A fault.OutOfMemory next same missing filled asks octets told g none =
+        let on = behind (IsFront IsUntoldBefore (front_of next) requests first) asks octets told g none
+        (λ all t says first_of s. subst (λ (ss : List (Option Reply)). IsFront IsUntoldBefore (front_of ss) requests first (all ++ t ∷ [])) (sym same) (front-unread requests first all t slots first_of s missing)) in
+        (on.0, inr on.1, on.2)
+    misread-by A fault.Read next same missing filled asks octets told g none = absurd (behind (λ all. ⊥) asks octets told g none (filled moment)).2
+    misread-by A fault.Write next same missing filled asks octets told g none = absurd (behind (λ all. ⊥) asks octets told g none (filled moment)).2
+    misread-by A fault.Ended next same missing filled asks octets told g none = absurd (behind (λ all. ⊥) asks octets told g none (filled moment)).2
+    misread-by A (fault.Peer code) next same missing filled asks octets told g none = absurd (behind (λ all. ⊥) asks octets told g none (filled moment)).2
+    misread-by A (fault.Refused code) next same missing filled asks octets told g none = absurd (behind (λ all. ⊥) asks octets told g none (filled moment)).2
+    misread-by A (fault.Service code) next same missing filled asks octets told g none = absurd (behind (λ all. ⊥) asks octets told g none (filled moment)).2
+    misread-by A fault.TooLarge next same missing filled asks octets told g none = absurd (behind (λ all. ⊥) asks octets told g none (filled moment)).2
+    misread-by A fault.NotWritable next same missing filled asks octets told g none = absurd (behind (λ all. ⊥) asks octets told g none (filled moment)).2
+    misread-by A fault.Exhausted next same missing filled asks octets told g none = absurd (behind (λ all. ⊥) asks octets told g none (filled moment)).2
+    misread-by A fault.Closed next same missing filled asks octets told g none = absurd (behind (λ all. ⊥) asks octets told g none (filled moment)).2
+    misread-by A fault.TooManyTokens next same missing filled asks octets told g none = absurd (behind (λ all. ⊥) asks octets told g none (filled moment)).2
+    misread-by A fault.TooLong next same missing filled asks octets told g none = absurd (behind (λ all. ⊥) asks octets told g none (filled moment)).2
 
   -- a fault of the line or of the channel while replies are missing
-  heard-fault : {A : Type 0} (view : A → List (Option Reply)) (x : ClientFault) (h : Hears now new moment at then left less (Err x)) → list_any is_none slots ≡ true
+  heard-fault : (A : Type 0) (x : ClientFault) (h : Hears now new moment at then left less (Err x)) → list_any is_none slots ≡ true
       → (asks : List Placed) (octets : List ℕ) (told : List Told) → Goes (channel_of old) asks octets told → AreUntold requests first told
-      → CollectsAt view requests first new then (Err x) asks (octets ++ (w.moves.taken ++ h.moves.taken)) told
-  heard-fault view x h missing asks octets told g none = by x (subst (λ (o : List ℕ). HearsAt moment (Err x) (channel_of new) asks o (told ++ on.0)) (append_assoc octets w.moves.taken h.moves.taken) (h.answers asks (octets ++ w.moves.taken) (told ++ on.0) on.1))
+      → CollectsAt {A = A} slots requests first new then (Err x) asks (octets ++ (w.moves.taken ++ h.moves.taken)) told
+  heard-fault A x h missing asks octets told g none = by x (subst (λ (o : List ℕ). HearsAt moment (Err x) (channel_of new) asks o (told ++ on.0)) (append_assoc octets w.moves.taken h.moves.taken) (h.answers asks (octets ++ w.moves.taken) (told ++ on.0) on.1))
     where
       on : GoesOn (channel_of now) asks (octets ++ w.moves.taken) told (λ all. AreSlots requests first all slots)
       on = w.goes asks octets told g none
 
-      some : IsUnanswered requests first (told ++ on.0)
-      some = unanswered requests first (told ++ on.0) slots on.2 missing
+      some : IsFront IsUntold (front_of slots) requests first (told ++ on.0)
+      some = front-untold requests first (told ++ on.0) slots on.2 missing
 
-      by : (y : ClientFault) → HearsAt moment (Err y) (channel_of new) asks (octets ++ (w.moves.taken ++ h.moves.taken)) (told ++ on.0) → CollectsAt view requests first new then (Err y) asks (octets ++ (w.moves.taken ++ h.moves.taken)) told
+      by : (y : ClientFault) → HearsAt moment (Err y) (channel_of new) asks (octets ++ (w.moves.taken ++ h.moves.taken)) (told ++ on.0) → CollectsAt {A = A} slots requests first new then (Err y) asks (octets ++ (w.moves.taken ++ h.moves.taken)) told
       by (fault.Peer code) k = (on.0, k, some)
       by (fault.Refused code) k = (on.0, k, some)
       by fault.Ended k = (on.0, k, some)
       by fault.Read k = (on.0, k, some)
       by fault.TooLong k = (on.0, k, some)
-      by fault.OutOfMemory k = (on.0, inl k)
+      by fault.OutOfMemory k = (on.0, inl k, front-before requests first (told ++ on.0) (front_of slots) some)
       by fault.UnknownResponse k = absurd k
       by fault.Write k = absurd k
       by (fault.Service code) k = absurd k
@@ -233,22 +217,22 @@ module _ (requests : List Request) (first : ℕ) (old now new : Connection) (bef
   stops-behind A fault.TooManyTokens got h = tt
   stops-behind A fault.OutOfMemory got h = tt
 
-  pub collects-heard : {A : Type 0} (view : A → List (Option Reply)) (x : ClientFault) → Hears now new moment at then left less (Err x) → list_any is_none slots ≡ true
-      → Collects view requests first old new before then reads less (Err x)
-  collects-heard {A} view x h missing = record {
+  pub collects-heard : {A : Type 0} (x : ClientFault) → Hears now new moment at then left less (Err x) → list_any is_none slots ≡ true
+      → Collects {A = A} slots requests first old new before then reads less (Err x)
+  collects-heard {A} x h missing = record {
     moves = moves-behind old now new [] [] before at then w.moves h.moves;
     keeps = keeps-then old now new w.keeps h.keeps;
-    answers = heard-fault view x h missing;
+    answers = heard-fault A x h missing;
     stops = stops-behind A x h.moves.got h.stops;
   }
 
-  pub collects-misread : {A : Type 0} (view : A → List (Option Reply)) (e : ClientEvent) (x : ClientFault) (next : List (Option Reply)) → Hears now new moment at then left less (Ok e) → GoesOnBehind → ToldOnce
+  pub collects-misread : {A : Type 0} (e : ClientEvent) (x : ClientFault) (next : List (Option Reply)) → next ≡ slots → list_any is_none slots ≡ true → Hears now new moment at then left less (Ok e) → GoesOnBehind → ToldOnce
       → ((m : DateTime) (all : List Told) (t : Told) → Says m e t → IsFirstOf all t → AreSlots requests first all slots → FillsSlots requests first (all ++ t ∷ []) next (Err x))
-      → is_reading_fault x ≡ true → Collects view requests first old new before then reads less (Err x)
-  collects-misread {A} view e x next h goes_on once filled few = record {
+      → is_reading_fault x ≡ true → Collects {A = A} next requests first old new before then reads less (Err x)
+  collects-misread {A} e x next same missing h goes_on once filled few = record {
     moves = moves-behind old now new [] [] before at then w.moves h.moves;
     keeps = keeps-then old now new w.keeps h.keeps;
-    answers = misread-by e h goes_on once view x next filled;
+    answers = misread-by e h goes_on once A x next same missing filled;
     stops = reading-stops A x (w.moves.got ++ h.moves.got) few;
   }
     where
@@ -268,26 +252,27 @@ module _ (requests : List Request) (first : ℕ) (old now new : Connection) (bef
       reading-stops B fault.Closed got f = tt
       reading-stops B fault.TooManyTokens got f = tt
 
-  pub collects-all : {A : Type 0} (view : A → List (Option Reply)) (found : A) → slots ≡ view found → list_any is_none slots ≡ false → 0 < length requests → Collects view requests first old now before at reads left (Ok found)
-  collects-all view found e none some = record {
+  pub collects-all : {A : Type 0} (found : A) → list_any is_none slots ≡ false → 0 < length requests → Collects slots requests first old now before at reads left (Ok found)
+  collects-all found none some = record {
     moves = w.moves;
     keeps = w.keeps;
     answers = λ asks octets told g n.
         let on = w.goes asks octets told g n in (
-          (on.0, on.1, (subst (λ (ss : List (Option Reply)). AreSlots requests first (told ++ on.0) ss) e on.2, subst (λ (ss : List (Option Reply)). list_any is_none ss ≡ false) e none)),
+          (on.0, on.1, (on.2, none)),
           all-whole requests slots (octets ++ w.moves.taken) some none (w.whole asks octets told g n),
         );
     stops = w.spent;
   }
 
 -- no memory to wait for any reply
-pub collects-none : {A : Type 0} (view : A → List (Option Reply)) (requests : List Request) (first : ℕ) (x : Connection) (t : Option Traffic) (reads : ℕ) → Collects view requests first x x t t reads reads (Err fault.OutOfMemory)
-collects-none view requests first x t reads = record {
+pub collects-none : {A : Type 0} (requests : List Request) (first : ℕ) (x : Connection) (t : Option Traffic) (reads : ℕ) → 0 < length requests → Collects {A = A} (none_for requests) requests first x x t t reads reads (Err fault.OutOfMemory)
+collects-none requests first x t reads some = record {
   moves = moves-writing x x [] t t refl (carried-nothing t);
   keeps = keeps-all x;
   answers = λ asks octets told g n. (
     [],
     inr (subst (λ (o : List ℕ). Goes (channel_of x) asks o (told ++ [])) (sym (append-nil octets)) (subst (λ (h : List Told). Goes (channel_of x) asks octets h) (sym (append-nil told)) g)),
+    subst (IsFront IsUntoldBefore (front_of (none_for requests)) requests first) (sym (append-nil told)) (front-first requests first told some n),
   );
   stops = tt;
 }

@@ -1,6 +1,6 @@
 -- Why a group of calls is not asked, by where the client stands.
-use Rattle.std.specs.Prelude.{◌≡◌, ℕ, ◌+◌, ◌≤◌, ◌<◌, nat_le, Bool, true, false, not, List, [], ◌∷◌, length, Option, Some}
-use Rattle.std.proofs.Common.{refl, sym, ◌∙◌, ap, subst, arith, add-zero}
+use Rattle.std.specs.Prelude.{◌≡◌, ℕ, ◌+◌, ◌≤◌, ◌<◌, nat_le, Bool, true, false, not, ◌++◌, List, [], ◌∷◌, length, take, drop, Option, Some, None, Err}
+use Rattle.std.proofs.Common.{refl, sym, ◌∙◌, ap, subst, get_or, arith, zero, suc, add-zero}
 use Rattle.std.specs.List.{AllByRecursion}
 use Rattle.std.proofs.lemmas.Bool.{lt-leb}
 use Rattle.ua_builtin.proofs.FirstReasons.{first_reason-append}
@@ -21,7 +21,7 @@ use Rattle.ua_channel.specs.declared.client.phase.Phase.TheVariants as phase
 use Rattle.ua_channel.specs.declared.client.talking.Talking.{Talking}
 use Rattle.ua_client.specs.Calls.{refusal_at}
 use Rattle.ua_client.specs.Renewing.{IsSettled}
-use Rattle.ua_client.specs.Sent.{of_ask, refusal_by, request_refusal, group_refusal, request_reasons, group_reasons}
+use Rattle.ua_client.specs.Sent.{of_ask, refusal_by, request_refusal, group_refusal, request_reasons, group_reasons, AnswersBy, RefusesBy, bodies_of, place_by}
 use Rattle.ua_client.specs.Site.{Site, At, id_at}
 use Rattle.ua_client.specs.declared.fault.ClientFault.{ClientFault}
 use Rattle.ua_client.specs.declared.fault.ClientFault.TheVariants as fault
@@ -105,3 +105,89 @@ are-reasons ack id (m ∷ ms) = (refl, (refl, (refl, are-reasons ack (id + 1) ms
 
 pub refused-for : (s : Site) (requests : List Request) (x : ClientFault) → refusal_at s requests ≡ Some x → is_reason x ≡ true
 refused-for s requests x e = among is_reason (group_reasons s.before.ack (id_at s) requests) x (are-reasons s.before.ack (id_at s) requests) e
+
+-- ---- for which request
+
+-- where the first has no reason, the next one counts
+or-behind : (o a b d : Option ClientFault) → or_else o a ≡ None → (a ≡ None → b ≡ d) → or_else o b ≡ d
+or-behind None a b d e h = h e
+or-behind (Some f) a b d e h = absurd cc
+
+-- one request more behind a group that is refused for nothing
+pub group-push : (p : Phase) (more : ℕ) (ms : List Request) (m : Request) → group_refusal p more ms ≡ None → group_refusal p more (ms ++ m ∷ []) ≡ request_refusal p (more + length ms) m
+group-push p more [] m e = or-none (request_refusal p more m) ∙ ap (λ (n : ℕ). request_refusal p n m) (sym (add-zero more))
+  where
+    or-none : (o : Option ClientFault) → or_else o None ≡ o
+    or-none None = refl
+    or-none (Some f) = refl
+group-push p more (r ∷ rs) m e =
+    or-behind (request_refusal p more r) (group_refusal p (more + 1) rs) (group_refusal p (more + 1) (rs ++ m ∷ [])) (request_refusal p (more + suc (length rs)) m) e
+    (λ none. group-push p (more + 1) rs m none ∙ ap (λ (n : ℕ). request_refusal p n m) (on more (length rs)))
+  where
+    on : (a b : ℕ) → (a + 1) + b ≡ a + suc b
+    on a b = omega arith
+
+group-first : (p : Phase) (ms : List Request) (m : Request) → group_refusal p 0 ms ≡ None → group_refusal p 0 (ms ++ m ∷ []) ≡ request_refusal p (length ms) m
+group-first p ms m e = group-push p 0 ms m e ∙ ap (λ (n : ℕ). request_refusal p n m) (none-before (length ms))
+  where
+    none-before : (n : ℕ) → 0 + n ≡ n
+    none-before n = omega arith
+
+-- the requests up to the next place
+pub take-next : (requests : List Request) (n : ℕ) (m d : Request) → n < length requests → m ≡ get_or requests n d → take (n + 1) requests ≡ take n requests ++ m ∷ []
+take-next [] n m d few e = absurd (omega (arith, few))
+take-next (r ∷ rs) zero m d few e = ap (λ (q : Request). q ∷ []) (sym e)
+take-next (r ∷ rs) (suc n) m d few e = sym (ap (λ (k : ℕ). take k (r ∷ rs)) (on n)) ∙ ap (λ (ms : List Request). r ∷ ms) (take-next rs n m d (omega (arith, few)) e)
+  where
+    on : (a : ℕ) → suc (a + 1) ≡ suc a + 1
+    on a = omega arith
+
+-- the requests from this place on
+drop-next : (requests : List Request) (n : ℕ) (m d : Request) → n < length requests → m ≡ get_or requests n d → drop n requests ≡ m ∷ drop (n + 1) requests
+drop-next [] n m d few e = absurd (omega (arith, few))
+drop-next (r ∷ rs) zero m d few e = ap (λ (q : Request). q ∷ rs) (sym e)
+drop-next (r ∷ rs) (suc n) m d few e = drop-next rs n m d (omega (arith, few)) e ∙ ap (λ (k : ℕ). m ∷ drop k (r ∷ rs)) (on n)
+  where
+    on : (a : ℕ) → suc (a + 1) ≡ suc a + 1
+    on a = omega arith
+
+-- the group is judged from the next place on
+pub group-rest : (p : Phase) (requests : List Request) (n : ℕ) (m d : Request) → n < length requests → m ≡ get_or requests n d → request_refusal p n m ≡ None
+    → group_refusal p n (drop n requests) ≡ group_refusal p (n + 1) (drop (n + 1) requests)
+group-rest p requests n m d few e none =
+    ap (λ (ms : List Request). group_refusal p n ms) (drop-next requests n m d few e) ∙ ap (λ (o : Option ClientFault). or_else o (group_refusal p (n + 1) (drop (n + 1) requests))) none
+
+-- one body more
+pub bodies-next : (ms : List Request) (m : Request) → bodies_of (ms ++ m ∷ []) ≡ bodies_of ms ++ request.canonical m ∷ []
+bodies-next [] m = refl
+bodies-next (r ∷ rs) m = ap (λ (bs : List (List ℕ)). request.canonical r ∷ bs) (bodies-next rs m)
+
+pub take-count : (requests : List Request) (n : ℕ) → n ≤ length requests → length (take n requests) ≡ n
+take-count [] zero few = refl
+take-count [] (suc n) few = absurd (omega (arith, few))
+take-count (r ∷ rs) zero few = refl
+take-count (r ∷ rs) (suc n) few = ap suc (take-count rs n (omega (arith, few)))
+
+-- one more is refused for nothing
+pub group-more : (p : Phase) (requests : List Request) (n : ℕ) (m : Request) → take (n + 1) requests ≡ take n requests ++ m ∷ [] → length (take n requests) ≡ n → group_refusal p 0 (take n requests) ≡ None
+    → request_refusal p n m ≡ None → group_refusal p 0 (take (n + 1) requests) ≡ None
+group-more p requests n m is count before e =
+    ap (λ (ms : List Request). group_refusal p 0 ms) is ∙ (group-first p (take n requests) m before ∙ (ap (λ (k : ℕ). request_refusal p k m) count ∙ e))
+
+-- the first that is refused
+pub refuses-at : (p : Phase) (requests : List Request) (n : ℕ) (m : Request) (f : ClientFault) → take (n + 1) requests ≡ take n requests ++ m ∷ [] → length (take n requests) ≡ n → group_refusal p 0 (take n requests) ≡ None
+    → AnswersBy {A = Unit {0}} (request_refusal p n m) (Err f) → RefusesBy p requests (place_by f n) f
+refuses-at p requests n m fault.OutOfMemory is count before e = refl
+refuses-at p requests n m fault.Read is count before e = (before, ap (λ (ms : List Request). group_refusal p 0 ms) is ∙ (group-first p (take n requests) m before ∙ (ap (λ (k : ℕ). request_refusal p k m) count ∙ e)))
+refuses-at p requests n m fault.Write is count before e = (before, ap (λ (ms : List Request). group_refusal p 0 ms) is ∙ (group-first p (take n requests) m before ∙ (ap (λ (k : ℕ). request_refusal p k m) count ∙ e)))
+refuses-at p requests n m fault.Ended is count before e = (before, ap (λ (ms : List Request). group_refusal p 0 ms) is ∙ (group-first p (take n requests) m before ∙ (ap (λ (k : ℕ). request_refusal p k m) count ∙ e)))
+refuses-at p requests n m (fault.Peer code) is count before e = (before, ap (λ (ms : List Request). group_refusal p 0 ms) is ∙ (group-first p (take n requests) m before ∙ (ap (λ (k : ℕ). request_refusal p k m) count ∙ e)))
+refuses-at p requests n m (fault.Refused code) is count before e = (before, ap (λ (ms : List Request). group_refusal p 0 ms) is ∙ (group-first p (take n requests) m before ∙ (ap (λ (k : ℕ). request_refusal p k m) count ∙ e)))
+refuses-at p requests n m fault.UnknownResponse is count before e = (before, ap (λ (ms : List Request). group_refusal p 0 ms) is ∙ (group-first p (take n requests) m before ∙ (ap (λ (k : ℕ). request_refusal p k m) count ∙ e)))
+refuses-at p requests n m (fault.Service code) is count before e = (before, ap (λ (ms : List Request). group_refusal p 0 ms) is ∙ (group-first p (take n requests) m before ∙ (ap (λ (k : ℕ). request_refusal p k m) count ∙ e)))
+refuses-at p requests n m fault.TooLarge is count before e = (before, ap (λ (ms : List Request). group_refusal p 0 ms) is ∙ (group-first p (take n requests) m before ∙ (ap (λ (k : ℕ). request_refusal p k m) count ∙ e)))
+refuses-at p requests n m fault.NotWritable is count before e = (before, ap (λ (ms : List Request). group_refusal p 0 ms) is ∙ (group-first p (take n requests) m before ∙ (ap (λ (k : ℕ). request_refusal p k m) count ∙ e)))
+refuses-at p requests n m fault.Exhausted is count before e = (before, ap (λ (ms : List Request). group_refusal p 0 ms) is ∙ (group-first p (take n requests) m before ∙ (ap (λ (k : ℕ). request_refusal p k m) count ∙ e)))
+refuses-at p requests n m fault.Closed is count before e = (before, ap (λ (ms : List Request). group_refusal p 0 ms) is ∙ (group-first p (take n requests) m before ∙ (ap (λ (k : ℕ). request_refusal p k m) count ∙ e)))
+refuses-at p requests n m fault.TooLong is count before e = (before, ap (λ (ms : List Request). group_refusal p 0 ms) is ∙ (group-first p (take n requests) m before ∙ (ap (λ (k : ℕ). request_refusal p k m) count ∙ e)))
+refuses-at p requests n m fault.TooManyTokens is count before e = (before, ap (λ (ms : List Request). group_refusal p 0 ms) is ∙ (group-first p (take n requests) m before ∙ (ap (λ (k : ℕ). request_refusal p k m) count ∙ e)))

@@ -11,6 +11,7 @@ pub mod Renewings
 pub mod Requests
 pub mod Askings
 pub mod Filling
+pub mod Fronts
 pub mod Answering
 pub mod Incoming
 pub mod Judging

@@ -1,11 +1,13 @@
 -- A call of one request is a call of all of one.
-use Rattle.std.specs.Prelude.{◌≡◌, ℕ, List, [], ◌∷◌, Option, Result, Ok, Err}
-use Rattle.std.proofs.Common.{ap, subst}
+use Rattle.std.specs.Prelude.{◌≡◌, ◌++◌, ℕ, List, [], ◌∷◌, Option, Result, Ok, Err}
+use Rattle.std.proofs.Common.{◌∙◌, sym, ap, subst}
 use Rattle.ua_services.specs.declared.request.Request.{Request}
 use Rattle.ua_channel.specs.Line.{Traffic}
 use Rattle.ua_client.specs.Calls.{AnsweredAll, BrokenAll, CallsAll}
 use Rattle.ua_client.specs.Hearing.{channel_of, most_reads, StopsAt}
+use Rattle.ua_client.specs.Kept.{CallsInto}
 use Rattle.ua_client.specs.declared.connection.Connection.{Connection}
+use Rattle.ua_client.specs.declared.fault.CallsFault.{CallsFault}
 use Rattle.ua_client.specs.declared.fault.ClientFault.{ClientFault}
 use Rattle.ua_client.specs.declared.fault.ClientFault.TheVariants as fault
 use Rattle.ua_client.specs.declared.reply.Reply.{Reply}
@@ -62,3 +64,27 @@ fault-as {A} {B} f g e = ap (λ (x : ClientFault). Err x) (ap fault_in e)
 -- what is found is no fault
 pub found-none : {A : Type 0} {P : Type 0} (found : A) (f : ClientFault) → ◌≡◌ {A = Result A ClientFault} (Ok found) (Err f) → P
 found-none found f e = absurd cc
+
+-- ---- the replies alone
+
+-- where all are answered
+pub all-answered : {A : Type 0} (view : A → List Reply) (requests : List Request) (old new : Connection) (before after : Option Traffic) (done : Unit {0}) (found : A) (had have : List Reply) → had ≡ [] → have ≡ view found
+    → CallsInto requests old new before after (Ok done) had have → CallsAll view requests old new before after (Ok found)
+all-answered view requests old new before after done found had have none same c = record {
+  sent = c.sent;
+  moves = c.moves;
+  same = c.same;
+  answers = λ s at settled. subst (λ (rs : List Reply). AnsweredAll requests s (channel_of new) c.sent c.moves.taken rs) (sym (sym same ∙ (c.have_is ∙ ap (λ (rs : List Reply). rs ++ c.added) none))) (c.answers s at settled);
+  stops = c.stops;
+}
+
+-- where one is not
+pub all-broken : {A : Type 0} (view : A → List Reply) (requests : List Request) (old new : Connection) (before after : Option Traffic) (f : CallsFault) (had have : List Reply)
+    → CallsInto {A = Unit {0}} requests old new before after (Err f) had have → CallsAll view requests old new before after (Err f.fault)
+all-broken {A} view requests old new before after f had have c = record {
+  sent = c.sent;
+  moves = c.moves;
+  same = c.same;
+  answers = λ s at settled. (c.answers s at settled).broken;
+  stops = stops-as (Unit {0}) A most_reads most_reads c.moves.got new after f.fault c.stops;
+}

@@ -16,12 +16,14 @@ use Rattle.ua_channel.specs.Client.{SameClient, url_of}
 use Rattle.ua_channel.specs.ClientAsks.{is_too_large, no_id}
 use Rattle.ua_channel.specs.ClientTable.{of_ack}
 use Rattle.ua_channel.specs.Line.{Traffic}
-use Rattle.ua_client.specs.Calls.{Answered, BreaksAt, CallsGroup, GroupAt}
+use Rattle.ua_client.specs.Calls.{Answered, BreaksAt}
+use Rattle.ua_client.specs.Kept.{CallsGroup, GroupAt}
 use Rattle.ua_client.specs.Hearing.{channel_of, most_reads, StopsAt}
 use Rattle.ua_client.specs.Session.{ActivatesBehind, BeginsSessionAs, CallsOneAt, Does, IsFailure, IsReplied, LacksToken, MakesRequest, Replies, ServesAt, activating_at, brings_any, brings_token, creating_at, is_reply, reply_failure, token_in}
 use Rattle.ua_client.specs.Renewing.{IsSettled}
 use Rattle.ua_client.specs.Site.{Site, At, id_at}
 use Rattle.ua_client.specs.declared.connection.Connection.{Connection}
+use Rattle.ua_client.specs.declared.fault.CallsFault.{CallsFault}
 use Rattle.ua_client.specs.declared.fault.ClientFault.{ClientFault}
 use Rattle.ua_client.specs.declared.fault.ClientFault.TheVariants as fault
 use Rattle.ua_client.specs.declared.reply.Reply.{Reply}
@@ -63,31 +65,31 @@ one-replied request requests old new before after reads left had have reply e no
   sent = g.sent;
   moves = g.moves;
   same = g.same;
-  answers = λ s at settled. replied s settled (subst (λ (ms : List Request). GroupAt {A = Unit {0}} ms s new g.sent g.moves.taken (Ok tt) had have) e (g.answers s at settled));
+  answers = λ s at settled. replied s settled (subst (λ (ms : List Request). GroupAt {A = Unit {0}} ms s new g.sent g.moves.taken (Ok tt) g.added) e (g.answers s at settled));
   stops = g.stops;
 }
   where
-    replied : (s : Site) → IsSettled s → GroupAt {A = Unit {0}} (request ∷ []) s new g.sent g.moves.taken (Ok tt) had have → Replies request s (channel_of new) g.sent g.moves.taken (is_reply reply)
+    replied : (s : Site) → IsSettled s → GroupAt {A = Unit {0}} (request ∷ []) s new g.sent g.moves.taken (Ok tt) g.added → Replies request s (channel_of new) g.sent g.moves.taken (is_reply reply)
     replied s settled a =
-        let alone : a.1.1 ≡ reply ∷ [] = sym (sym one ∙ (a.1.4 ∙ ap (λ (rs : List Reply). rs ++ a.1.1) none)) in
+        let alone : g.added ≡ reply ∷ [] = sym (sym one ∙ (g.have_is ∙ ap (λ (rs : List Reply). rs ++ g.added) none)) in
         record {
           behind = a.1.0;
-          at = a.1.2;
-          settled = answered-settled (request ∷ []) s a.1.0 g.moves.taken a.1.1 settled a.1.3;
+          at = a.1.1;
+          settled = answered-settled (request ∷ []) s a.1.0 g.moves.taken g.added settled a.1.2;
           reply = reply;
-          replied = record { sent_is = a.0; answered = subst (λ (rs : List Reply). Answered (request ∷ []) s a.1.0 g.moves.taken rs) alone a.1.3 };
+          replied = record { sent_is = a.0; answered = subst (λ (rs : List Reply). Answered (request ∷ []) s a.1.0 g.moves.taken rs) alone a.1.2 };
           says = refl;
         }
 
-pub one-broken : (request : Request) (requests : List Request) (old new : Connection) (before after : Option Traffic) (reads left : ℕ) (had have : List Reply) (f : ClientFault)
-    → requests ≡ request ∷ [] → CallsGroup {A = Unit {0}} requests old new before after reads left (Err f) had have
-    → Does {A = Reply} (λ s sent taken. CallsOneAt request s new sent taken (Err f)) old new before after reads left (Err f)
-one-broken request requests old new before after reads left had have f e g = record {
+pub one-broken : (request : Request) (requests : List Request) (old new : Connection) (before after : Option Traffic) (reads left : ℕ) (had have : List Reply) (c : CallsFault)
+    → requests ≡ request ∷ [] → CallsGroup {A = Unit {0}} requests old new before after reads left (Err c) had have
+    → Does {A = Reply} (λ s sent taken. CallsOneAt request s new sent taken (Err c.fault)) old new before after reads left (Err c.fault)
+one-broken request requests old new before after reads left had have c e g = record {
   sent = g.sent;
   moves = g.moves;
   same = g.same;
-  answers = λ s at settled. subst (λ (ms : List Request). BreaksAt ms s new g.sent g.moves.taken f) e (g.answers s at settled);
-  stops = stops-as (Unit {0}) Reply reads left left g.moves.got new after f g.stops;
+  answers = λ s at settled. subst (λ (ms : List Request). BreaksAt ms s new g.sent g.moves.taken c.fault) e (g.answers s at settled).0;
+  stops = stops-as (Unit {0}) Reply reads left left g.moves.got new after c.fault g.stops;
 }
 
 -- ---- a service

@@ -15,7 +15,7 @@ use Rattle.ua_client.specs.Hearing.{channel_of, most_reads, Keeps, Moves, Starve
 use Rattle.ua_client.specs.Renewing.{IsSettled}
 use Rattle.ua_client.specs.Site.{Site, At, id_at, lane_behind}
 use Rattle.ua_client.specs.Told.{told_of}
-use Rattle.ua_client.specs.Replies.{AreReplies, AreSlots, IsMisanswered, IsUnanswered}
+use Rattle.ua_client.specs.Replies.{AreReplies, AreSlots, IsFront, IsUntold, IsUntoldBefore, LacksAnswer, IsMisanswered, IsUnanswered, front_of}
 use Rattle.ua_client.specs.Sent.{calls_octets, numbers_behind, calls_at, bodies_of, group_reasons}
 use Rattle.ua_client.specs.declared.connection.Connection.{Connection}
 use Rattle.ua_client.specs.declared.fault.ClientFault.{ClientFault}
@@ -58,23 +58,18 @@ LacksMemory x asks octets told = Starved x asks octets told ⊎ Goes x asks octe
 abbrev pub AreFrames : List ℕ → Type 0
 AreFrames octets = (frames : List Frame) × (octets ≡ frames_octets frames)
 
--- what became of the replies to calls of these requests, whose request ids are counted from the first
-abbrev pub CollectsAt : {A : Type 0} → (A → List (Option Reply)) → List Request → ℕ → Connection → Option Traffic → Result A ClientFault → List Placed → List ℕ → List Told → Type 0
-CollectsAt view requests first new after (Ok found) asks octets told = GoesOn (channel_of new) asks octets told (λ all. AreSlots requests first all (view found) × (list_any is_none (view found) ≡ false)) × AreFrames octets
-CollectsAt view requests first new after (Err (fault.Peer code)) asks octets told = EndsOn (channel_of new) asks octets told (peers code.code) (IsUnanswered requests first)
-CollectsAt view requests first new after (Err (fault.Refused code)) asks octets told = EndsOn (channel_of new) asks octets told (ours code.code) (IsUnanswered requests first)
-CollectsAt view requests first new after (Err fault.Ended) asks octets told = GoesOn (channel_of new) asks octets told (IsUnanswered requests first)
-CollectsAt view requests first new after (Err fault.Read) asks octets told = GoesOn (channel_of new) asks octets told (IsUnanswered requests first)
-CollectsAt view requests first new after (Err fault.TooLong) asks octets told = GoesOn (channel_of new) asks octets told (IsUnanswered requests first)
-CollectsAt view requests first new after (Err fault.UnknownResponse) asks octets told = GoesOn (channel_of new) asks octets told (IsMisanswered requests first)
-CollectsAt view requests first new after (Err fault.OutOfMemory) asks octets told = (heard : List Told) × LacksMemory (channel_of new) asks octets (told ++ heard)
-CollectsAt view requests first new after (Err other) asks octets told = ⊥
-
--- the replies that there are, in order
-abbrev pub somes : List (Option Reply) → List Reply
-somes [] = []
-somes (None ∷ slots) = somes slots
-somes (Some reply ∷ slots) = reply ∷ somes slots
+-- what became of the replies to calls of these requests, whose request ids are counted from the first: all came, or a front of them
+abbrev pub CollectsAt : {A : Type 0} → List (Option Reply) → List Request → ℕ → Connection → Option Traffic → Result A ClientFault → List Placed → List ℕ → List Told → Type 0
+CollectsAt slots requests first new after (Ok found) asks octets told = GoesOn (channel_of new) asks octets told (λ all. AreSlots requests first all slots × (list_any is_none slots ≡ false)) × AreFrames octets
+CollectsAt slots requests first new after (Err (fault.Peer code)) asks octets told = EndsOn (channel_of new) asks octets told (peers code.code) (IsFront IsUntold (front_of slots) requests first)
+CollectsAt slots requests first new after (Err (fault.Refused code)) asks octets told = EndsOn (channel_of new) asks octets told (ours code.code) (IsFront IsUntold (front_of slots) requests first)
+CollectsAt slots requests first new after (Err fault.Ended) asks octets told = GoesOn (channel_of new) asks octets told (IsFront IsUntold (front_of slots) requests first)
+CollectsAt slots requests first new after (Err fault.Read) asks octets told = GoesOn (channel_of new) asks octets told (IsFront IsUntold (front_of slots) requests first)
+CollectsAt slots requests first new after (Err fault.TooLong) asks octets told = GoesOn (channel_of new) asks octets told (IsFront IsUntold (front_of slots) requests first)
+CollectsAt slots requests first new after (Err fault.UnknownResponse) asks octets told =
+    GoesOn (channel_of new) asks octets told (λ all. IsMisanswered requests first all × IsFront LacksAnswer (front_of slots) requests first all)
+CollectsAt slots requests first new after (Err fault.OutOfMemory) asks octets told = (heard : List Told) × LacksMemory (channel_of new) asks octets (told ++ heard) × IsFront IsUntoldBefore (front_of slots) requests first (told ++ heard)
+CollectsAt slots requests first new after (Err other) asks octets told = ⊥
 
 -- no reply to any of these
 abbrev pub none_for : List Request → List (Option Reply)
@@ -86,11 +81,11 @@ AreUntold [] id told = Unit {0}
 AreUntold (request ∷ requests) id told = (told_of id told ≡ []) × AreUntold requests (id + 1) told
 
 -- the octets up to the last reply that was waited for, or up to a fault
-pub record Collects {A : Type 0} (view : A → List (Option Reply)) (requests : List Request) (first : ℕ) (old new : Connection) (before after : Option Traffic) (reads left : ℕ) (result : Result A ClientFault) : Type 0 where
+pub record Collects {A : Type 0} (slots : List (Option Reply)) (requests : List Request) (first : ℕ) (old new : Connection) (before after : Option Traffic) (reads left : ℕ) (result : Result A ClientFault) : Type 0 where
   pub moves : Moves old new [] before after
   pub keeps : Keeps old new
   pub answers : (asks : List Placed) (octets : List ℕ) (told : List Told) → Goes (channel_of old) asks octets told → AreUntold requests first told
-      → CollectsAt view requests first new after result asks (octets ++ moves.taken) told
+      → CollectsAt slots requests first new after result asks (octets ++ moves.taken) told
   pub stops : StopsAt reads left moves.got new after result
 
 -- ---- a group of calls
@@ -124,20 +119,6 @@ BreaksAt requests s new sent taken fault.TooLarge = (sent ≡ []) × (taken ≡ 
 BreaksAt requests s new sent taken fault.NotWritable = (sent ≡ []) × (taken ≡ []) × At (channel_of new) s × (refusal_at s requests ≡ Some fault.NotWritable)
 BreaksAt requests s new sent taken fault.Exhausted = (sent ≡ []) × (taken ≡ []) × At (channel_of new) s × (refusal_at s requests ≡ Some fault.Exhausted)
 BreaksAt requests s new sent taken other = ⊥
-
--- what becomes of a group of calls that is asked here, with the replies that were there before and those that are there then
-abbrev pub GroupAt : {A : Type 0} → List Request → Site → Connection → List ℕ → List ℕ → Result A ClientFault → List Reply → List Reply → Type 0
-GroupAt requests s new sent taken (Ok done) before after =
-    (sent ≡ sent_at s requests) × ((t : Site) × (replies : List Reply) × At (channel_of new) t × Answered requests s t taken replies × (after ≡ before ++ replies))
-GroupAt requests s new sent taken (Err f) before after = BreaksAt requests s new sent taken f
-
--- a group of calls
-pub record CallsGroup {A : Type 0} (requests : List Request) (old new : Connection) (before after : Option Traffic) (reads left : ℕ) (result : Result A ClientFault) (had have : List Reply) : Type 0 where
-  pub sent : List ℕ
-  pub moves : Moves old new sent before after
-  pub same : SameClient (channel_of old) (channel_of new)
-  pub answers : (s : Site) → At (channel_of old) s → IsSettled s → GroupAt requests s new sent moves.taken result had have
-  pub stops : StopsAt reads left moves.got new after result
 
 -- ---- groups of calls, one behind another
 

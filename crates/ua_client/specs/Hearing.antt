@@ -21,6 +21,7 @@ use Rattle.ua_frame.specs.Frames.{frame_octets}
 use Rattle.ua_frame.specs.Run.{Run, Going, events}
 use Rattle.ua_client.specs.Carried.{Carries, IsAtEnd}
 use Rattle.ua_client.specs.declared.connection.Connection.{Connection}
+use Rattle.ua_client.specs.declared.fault.CallsFault.{CallsFault}
 use Rattle.ua_client.specs.declared.fault.ClientFault.{ClientFault}
 use Rattle.ua_client.specs.declared.fault.ClientFault.TheVariants as fault
 
@@ -51,6 +52,11 @@ is_line_fault other = false
 abbrev pub failures_behind : {A : Type 0} → ℕ → Result A ClientFault → ℕ
 failures_behind before (Ok found) = before
 failures_behind before (Err f) = cond (is_line_fault f) (one_more before) before
+
+-- what became of several calls, without which of them the fault is of
+abbrev pub fault_alone : {A : Type 0} → Result A CallsFault → Result A ClientFault
+fault_alone (Ok found) = Ok found
+fault_alone (Err c) = Err c.fault
 
 -- why a channel failed: the server refused, or this end did
 abbrev pub failure_of : StatusCode → Bool → ClientFault

@@ -10,4 +10,5 @@ pub mod Renewing
 pub mod Sent
 pub mod Replies
 pub mod Calls
+pub mod Kept
 pub mod Session

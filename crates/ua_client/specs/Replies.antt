@@ -1,5 +1,5 @@
 -- The replies to a client's calls: each is what was told under the request id of its call.
-use Rattle.std.specs.Prelude.{◌≡◌, ◌+◌, ◌<◌, ◌⊎◌, ℕ, zero, suc, Bool, true, false, List, [], ◌∷◌, length, Option, Some, None, Result, Ok, Err}
+use Rattle.std.specs.Prelude.{◌≡◌, ◌+◌, ◌<◌, ◌⊎◌, ◌++◌, ℕ, zero, suc, Bool, true, false, List, [], ◌∷◌, length, Option, Some, None, Result, Ok, Err}
 use Rattle.ua_channel.specs.ClientTold.{Told}
 use Rattle.ua_channel.specs.ClientTold.Told.{Answered, GaveUp}
 use Rattle.ua_services.specs.Message.{IsBody}
@@ -84,6 +84,34 @@ AreSlots [] id told (slot ∷ slots) = ⊥
 AreSlots (request ∷ requests) id told [] = ⊥
 AreSlots (request ∷ requests) id told (slot ∷ slots) = IsSlot request id told slot × AreSlots requests (id + 1) told slots
 
+-- the replies before the first that is missing, in order
+abbrev pub front_of : List (Option Reply) → List Reply
+front_of [] = []
+front_of (None ∷ slots) = []
+front_of (Some reply ∷ slots) = reply ∷ front_of slots
+
+-- ---- replies that are kept where one is missing
+
+-- these are the replies to the first of the requests, and of the next one, whose reply is missing, this holds
+abbrev pub IsFront : (Request → ℕ → List Told → Type 0) → List Reply → List Request → ℕ → List Told → Type 0
+IsFront Misses replies [] id told = ⊥
+IsFront Misses [] (request ∷ requests) id told = Misses request id told
+IsFront Misses (reply ∷ replies) (request ∷ requests) id told = IsReply request id told reply × IsFront Misses replies requests (id + 1) told
+
+-- nothing was told of its call
+abbrev pub IsUntold : Request → ℕ → List Told → Type 0
+IsUntold request id told = told_of id told ≡ []
+
+-- nothing was told of its call, or a message that is no answer to it
+abbrev pub LacksAnswer : Request → ℕ → List Told → Type 0
+LacksAnswer request id told = (told_of id told ≡ []) ⊎ ((t : Told) × (told_of id told ≡ t ∷ []) × IsMisanswer (kind_of request) id t)
+
+-- nothing was told of its call but, maybe, the last of all that was told
+abbrev pub IsUntoldBefore : Request → ℕ → List Told → Type 0
+IsUntoldBefore request id told = (told_of id told ≡ []) ⊎ ((before : List Told) × (last : Told) × (told ≡ before ++ last ∷ []) × (told_of id before ≡ []))
+
+-- ---- the place of a reply
+
 -- the request at a place of a list
 abbrev pub IsAt : List Request → ℕ → Request → Type 0
 IsAt [] n request = ⊥
@@ -110,6 +138,6 @@ PlacesReply requests first t (Err other) = ⊥
 -- what became of the replies behind something more that was told
 abbrev pub FillsSlots : List Request → ℕ → List Told → List (Option Reply) → Result (Unit {0}) ClientFault → Type 0
 FillsSlots requests first told slots (Ok done) = AreSlots requests first told slots
-FillsSlots requests first told slots (Err fault.UnknownResponse) = IsMisanswered requests first told
+FillsSlots requests first told slots (Err fault.UnknownResponse) = IsMisanswered requests first told × IsFront LacksAnswer (front_of slots) requests first told
 FillsSlots requests first told slots (Err fault.OutOfMemory) = Unit {0}
 FillsSlots requests first told slots (Err other) = ⊥

@@ -1,5 +1,5 @@
 -- What a client sends: the chunks of its calls, and which of them it does not ask.
-use Rattle.std.specs.Prelude.{◌≡◌, ◌<◌, ◌+◌, ◌++◌, nat_le, not, ℕ, Bool, true, false, List, [], ◌∷◌, map, length, Option, Some, None, Result, Ok, Err}
+use Rattle.std.specs.Prelude.{◌≡◌, ◌<◌, ◌+◌, ◌++◌, nat_le, not, ℕ, Bool, true, false, List, [], ◌∷◌, map, length, take, Option, Some, None, Result, Ok, Err}
 use Rattle.ua_builtin.specs.Reasons.{or_else}
 use Rattle.ua_chunk.specs.Cutting.{chunks_of, chunks_octets, number_after, pieces}
 use Rattle.ua_chunk.specs.declared.lane.Lane.{Lane}
@@ -90,6 +90,17 @@ request_refusal phase more m = refusal_by (request.encodable m) phase more (requ
 abbrev pub group_refusal : Phase → ℕ → List Request → Option ClientFault
 group_refusal phase more [] = None
 group_refusal phase more (m ∷ ms) = or_else (request_refusal phase more m) (group_refusal phase (more + 1) ms)
+
+-- which request of a group is named where the one at this place was judged last: want of memory is that of the whole group
+abbrev pub place_by : ClientFault → ℕ → ℕ
+place_by fault.OutOfMemory place = 0
+place_by other place = place
+
+-- for which request a group is refused in this phase: there is nothing against those before it, and this is the first reason against it;
+-- want of memory names the first
+abbrev pub RefusesBy : Phase → List Request → ℕ → ClientFault → Type 0
+RefusesBy phase requests place fault.OutOfMemory = place ≡ 0
+RefusesBy phase requests place other = (group_refusal phase 0 (take place requests) ≡ None) × (group_refusal phase 0 (take (place + 1) requests) ≡ Some other)
 
 -- what is answered where there may be a reason against it: none, this reason, or memory was refused
 abbrev pub AnswersBy : {A : Type 0} → Option ClientFault → Result A ClientFault → Type 0

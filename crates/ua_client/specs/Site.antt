@@ -1,10 +1,10 @@
 -- Where a client stands.
-use Rattle.std.specs.Prelude.{◌≡◌, ℕ, List, Option, Some, None}
+use Rattle.std.specs.Prelude.{◌≡◌, nat_le, cond, ℕ, List, Option, Some, None}
 use Rattle.ua_chunk.specs.declared.lane.Lane.{Lane}
 use Rattle.ua_frame.specs.declared.ack.Ack.{Ack}
 use Rattle.ua_channel.specs.Asks.{Placed, asked_in, next_id}
 use Rattle.ua_channel.specs.Client.{Goes, next_of}
-use Rattle.ua_channel.specs.ClientAsks.{room_of}
+use Rattle.ua_channel.specs.ClientAsks.{no_id, room_of}
 use Rattle.ua_channel.specs.ClientTokens.{responses, channel_in, held_tokens}
 use Rattle.ua_channel.specs.ClientTold.{Told}
 use Rattle.ua_channel.specs.Received.{Received, latest, received}
@@ -28,6 +28,10 @@ pub record At (x : ClientChannel) (s : Site) : Type 0 where
 -- the request id of the next call
 abbrev pub id_at : Site → ℕ
 id_at s = next_id (asked_in s.asks)
+
+-- the request id under which a call would go out, unless all were used
+abbrev pub usable_id : ℕ → Option ℕ
+usable_id id = cond (nat_le no_id id) None (Some id)
 
 -- where calls go by an ACK, on a channel and under a token
 abbrev pub lane_by : Option Ack → Option ℕ → Option ℕ → Option Lane

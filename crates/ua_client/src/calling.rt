@@ -1,13 +1,15 @@
 //! Groups of calls over a line.
 
-ghost use Rattle.std.specs.Prelude.{◌≡◌, ◌+◌, ◌<◌, ◌≤◌, length, IfOk, OnOk};
-ghost use Rattle.ua_client.specs.Calls.{CallsGroup, CallsAll};
-ghost use Rattle.ua_client.specs.Hearing.{failures_behind};
+ghost use Rattle.std.specs.Prelude.{◌≡◌, ◌+◌, ◌-◌, ◌<◌, ◌≤◌, length, None, IfErr, OnOk, OnErr};
+ghost use Rattle.ua_channel.specs.Client.{phase_of};
+ghost use Rattle.ua_client.specs.Hearing.{channel_of, failures_behind, fault_alone};
+ghost use Rattle.ua_client.specs.Kept.{CallsGroup, CallsInto, named};
+ghost use Rattle.ua_client.specs.Sent.{bodies_of, group_refusal};
 
-use crate::collecting::{append_replies, empty_slots, no_replies};
+use crate::collecting::{append_front, empty_slots, make_room};
 use crate::connection::Connection;
-use crate::fault::ClientFault;
-use crate::group::{ask_group, judge_group};
+use crate::fault::{CallsFault, ClientFault};
+use crate::group::{Body, ask_group, judge_group};
 use crate::laws::{calls_are_told_behind, clients_are_settled};
 use crate::reply::Reply;
 use crate::sending::write_frames;
@@ -34,6 +36,42 @@ fn group_end(start: usize, count: usize) -> usize
 }
 
 impl Connection {
+    /// Asks a group of calls of these bodies, against which there is nothing, writes its frames, and waits
+    /// for its replies. Those that came are added, up to the first that is missing.
+    fn call_bodies<L: Line>(
+        &mut self,
+        alloc: Global,
+        line: &mut L,
+        reads: &mut u64,
+        requests: &[Request],
+        bodies: &[Body],
+        moment: DateTime,
+        replies: &mut Vec<Reply>,
+    ) -> Result<(), ClientFault>
+        requires some { 0 < length requests.now }
+        requires few { length requests.now ≤ 64 }
+        requires bodies { bodies.now ≡ bodies_of requests.now }
+        requires judged { group_refusal (phase_of (channel_of self.old)) 0 requests.now ≡ None }
+        ensures calls { CallsGroup requests.now self.old self.new (L.traffic line.old) (L.traffic line.new) reads.old reads.new (named (length replies.new.items - length replies.old.items) result) replies.old.items replies.new.items }
+        ensures more { length replies.old.items ≤ length replies.new.items }
+        ensures count { OnOk result (length replies.new.items ≡ length replies.old.items + length requests.now) }
+        ensures missing { OnErr result (length replies.new.items < length replies.old.items + length requests.now) }
+        ensures failed { L.failures line.new ≡ failures_behind (L.failures line.old) result }
+    {
+        calls_are_told_behind();
+        clients_are_settled();
+        make_room(replies, requests.len())?;
+        let asked = ask_group(alloc, &mut self.channel, bodies)?;
+        let (first, octets) = asked;
+        let Ok(()) = write_frames(line, &octets) else {
+            return Err(ClientFault::Write);
+        };
+        let mut slots = empty_slots(alloc, requests)?;
+        let waited = self.collect(alloc, line, reads, requests, first, moment, &mut slots);
+        append_front(slots, replies);
+        waited
+    }
+
     /// Judges a group of calls whole, writes its frames, waits for its replies and adds them.
     pub fn call_group<L: Line>(
         &mut self,
@@ -43,28 +81,26 @@ impl Connection {
         requests: &[Request],
         moment: DateTime,
         replies: &mut Vec<Reply>,
-    ) -> Result<(), ClientFault>
+    ) -> Result<(), CallsFault>
         requires some { 0 < length requests.now }
         requires few { length requests.now ≤ 64 }
         ensures calls { CallsGroup requests.now self.old self.new (L.traffic line.old) (L.traffic line.new) reads.old reads.new result replies.old.items replies.new.items }
         ensures count { OnOk result (length replies.new.items ≡ length replies.old.items + length requests.now) }
-        ensures failed { L.failures line.new ≡ failures_behind (L.failures line.old) result }
+        ensures names { IfErr result (λ calls. calls.request < length requests.now) }
+        ensures failed { L.failures line.new ≡ failures_behind (L.failures line.old) (fault_alone result) }
     {
-        calls_are_told_behind();
         clients_are_settled();
-        let bodies = judge_group(alloc, &self.channel, requests)?;
-        let asked = ask_group(alloc, &mut self.channel, &bodies)?;
-        let (first, octets) = asked;
-        let Ok(()) = write_frames(line, &octets) else {
-            return Err(ClientFault::Write);
+        let had = replies.len();
+        let bodies = match judge_group(alloc, &self.channel, requests) {
+            Ok(bodies) => bodies,
+            Err(calls) => return Err(calls),
         };
-        let mut slots = empty_slots(alloc, requests)?;
-        match self.collect(alloc, line, reads, requests, first, moment, &mut slots) {
-            Ok(()) => append_replies(slots, replies),
-            Err(fault) => {
-                drop(slots);
-                Err(fault)
-            }
+        match self.call_bodies(alloc, line, reads, requests, &bodies, moment, replies) {
+            Ok(()) => Ok(()),
+            Err(fault) => Err(CallsFault {
+                request: replies.len() - had,
+                fault,
+            }),
         }
     }
 
@@ -75,20 +111,23 @@ impl Connection {
         line: &mut L,
         requests: &[Request],
         moment: DateTime,
-    ) -> Result<Vec<Reply>, ClientFault>
-        ensures calls { CallsAll (λ replies. replies.items) requests.now self.old self.new (L.traffic line.old) (L.traffic line.new) result }
-        ensures count { IfOk result (λ replies. length replies.items ≡ length requests.now) }
-        ensures failed { L.failures line.new ≡ failures_behind (L.failures line.old) result }
+        replies: &mut Vec<Reply>,
+    ) -> Result<(), CallsFault>
+        ensures calls { CallsInto requests.now self.old self.new (L.traffic line.old) (L.traffic line.new) result replies.old.items replies.new.items }
+        ensures count { OnOk result (length replies.new.items ≡ length replies.old.items + length requests.now) }
+        ensures names { IfErr result (λ calls. calls.request < length requests.now) }
+        ensures failed { L.failures line.new ≡ failures_behind (L.failures line.old) (fault_alone result) }
     {
         let mut reads = u64::MAX;
-        let mut replies = no_replies(alloc, requests.len());
         let mut start = 0;
         while start < requests.len() {
             let end = group_end(start, requests.len());
             let group = &requests[start..end];
-            self.call_group(alloc, line, &mut reads, group, moment, &mut replies)?;
-            start = end;
+            match self.call_group(alloc, line, &mut reads, group, moment, replies) {
+                Ok(()) => start = end,
+                Err(calls) => return Err(calls.behind(start)),
+            }
         }
-        Ok(replies)
+        Ok(())
     }
 }

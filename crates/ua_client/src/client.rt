@@ -1,16 +1,19 @@
 //! A client over a line.
 
-ghost use Rattle.std.specs.Prelude.{◌≡◌, ◌⊎◌, ◌∷◌, [], length, IsTrue, IfOk, Err};
+ghost use Rattle.std.specs.Prelude.{◌≡◌, ◌⊎◌, ◌+◌, ◌<◌, ◌∷◌, [], length, None, IsTrue, IfOk, IfErr, OnOk, Err};
 ghost use Rattle.ua_octets.specs.Counted.{text};
 ghost use Rattle.ua_client.specs.Calls.{CallsAll};
 ghost use Rattle.ua_client.specs.Client.{OpensNothing, OpensClient, IsDone, IsReady, IsLeft, Closes, client_channel, connection_of};
-ghost use Rattle.ua_client.specs.Hearing.{failures_behind};
+ghost use Rattle.ua_client.specs.Hearing.{failures_behind, fault_alone};
+ghost use Rattle.ua_client.specs.Kept.{CallsInto, closed_at};
 ghost use Rattle.ua_client.specs.Renewing.{Renews, IsRefusal};
 ghost use Rattle.ua_client.specs.Session.{BeginsSession, BeginsSessionAs};
+ghost use Rattle.ua_client.specs.Site.{Site, At, id_at, usable_id};
 ghost use Rattle.ua_client.specs.declared.fault.ClientFault.TheVariants.{Closed};
 
+use crate::collecting::no_replies;
 use crate::connection::Connection;
-use crate::fault::ClientFault;
+use crate::fault::{CallsFault, ClientFault};
 use crate::reply::{Reply, only_reply};
 use std::alloc::Global;
 use std::slice;
@@ -21,6 +24,9 @@ use ua_services::Request;
 
 /// The PolicyId of the token policy by which a session is begun where no other is given.
 const ANONYMOUS: &str = "anonymous";
+
+/// The first number that no request id is.
+const NO_ID: u32 = u32::MAX;
 
 /// A client whose channel is open.
 #[derive(Drop)]
@@ -140,6 +146,9 @@ impl Client {
     /// may have fewer: each is judged whole, written and then answered. After `TooLarge`, `NotWritable`
     /// and `Exhausted` the client is as behind the groups before, and nothing of the group was written;
     /// after any other fault it is done.
+    ///
+    /// At a fault the replies that had come are forgotten: [`Client::call_into`] keeps them, and names the
+    /// request that was not answered.
     pub fn call_all<L: Line>(
         &mut self,
         line: &mut L,
@@ -152,19 +161,70 @@ impl Client {
         ensures closed { IsDone self.old → (result ≡ Err Closed) × (self.new ≡ self.old) × (line.new ≡ line.old) }
         ensures failed { L.failures line.new ≡ failures_behind (L.failures line.old) result }
     {
+        let mut replies = no_replies(self.alloc, requests.len());
+        match self.call_into(line, requests, moment, &mut replies) {
+            Ok(()) => Ok(replies),
+            Err(calls) => {
+                drop(replies);
+                Err(calls.fault)
+            }
+        }
+    }
+
+    /// Adds the replies to requests to a vector, in their order, behind what stands there: asks as
+    /// [`Client::call_all`] does, and keeps what was answered where not all is.
+    ///
+    /// At a fault the replies to the groups before are there, and of the group that failed those that had
+    /// come up to the first that is missing: one that came out of order behind a missing one is let go.
+    /// After `TooLarge`, `NotWritable` and `Exhausted` the fault names the first request of its group
+    /// against which there is a reason, after any other fault the first that has no reply in the vector.
+    /// Room for the replies of a group is made before it is asked, so that none is lost that came; where
+    /// there is no memory for that, the group is not asked.
+    pub fn call_into<L: Line>(
+        &mut self,
+        line: &mut L,
+        requests: &[Request],
+        moment: DateTime,
+        replies: &mut Vec<Reply>,
+    ) -> Result<(), CallsFault>
+        ensures calls { IsReady self.old → CallsInto requests.now (connection_of self.old) (connection_of self.new) (L.traffic line.old) (L.traffic line.new) result replies.old.items replies.new.items }
+        ensures count { OnOk result (length replies.new.items ≡ length replies.old.items + length requests.now) }
+        ensures names { IsReady self.old → IfErr result (λ calls. calls.request < length requests.now) }
+        ensures left { IsReady self.old → IsLeft (fault_alone result) self.new }
+        ensures closed { IsDone self.old → (result ≡ Err (closed_at 0)) × (self.new ≡ self.old) × (line.new ≡ line.old) × (replies.new ≡ replies.old) }
+        ensures failed { L.failures line.new ≡ failures_behind (L.failures line.old) (fault_alone result) }
+    {
         if self.is_done {
-            return Err(ClientFault::Closed);
+            return Err(CallsFault {
+                request: 0,
+                fault: ClientFault::Closed,
+            });
         }
         match self
             .connection
-            .call_groups(self.alloc, line, requests, moment)
+            .call_groups(self.alloc, line, requests, moment, replies)
         {
-            Ok(replies) => Ok(replies),
-            Err(fault) => {
-                self.is_done = fault.ends();
-                Err(fault)
+            Ok(()) => Ok(()),
+            Err(calls) => {
+                self.is_done = calls.fault.ends();
+                Err(calls)
             }
         }
+    }
+
+    /// The request id of the next call; none where all were used, or the client is done.
+    pub fn next_id(&self) -> Option<u32>
+        ensures ready { IsReady self.now → (s : Site) → At (client_channel self.now) s → result ≡ usable_id (id_at s) }
+        ensures done { IsDone self.now → result ≡ None }
+    {
+        if self.is_done {
+            return None;
+        }
+        let id = self.connection.channel.next_id();
+        if id == NO_ID {
+            return None;
+        }
+        Some(id)
     }
 
     /// Renews the token of the channel: asks for a further one by the OPN (OPC 10000-4, 5.6.2), and waits

@@ -1,8 +1,10 @@
 //! Waiting for the replies of a group of calls.
 
-ghost use Rattle.std.specs.Prelude.{◌≡◌, ◌<◌, ◌++◌, ◌∷◌, [], length, is_none, false, None, Err, IfOk, IfErr, OnOk, OnErr};
+ghost use Rattle.std.specs.Prelude.{◌≡◌, ◌<◌, ◌≤◌, ◌+◌, ◌++◌, ◌∷◌, [], length, is_none, true, false, None, Err, IfOk, IfErr, OnOk, OnErr};
+ghost use Rattle.std.specs.Vec.{vec_len, vec_capacity};
 ghost use Rattle.std.specs.List.{list_any};
-ghost use Rattle.ua_client.specs.Calls.{Collects, somes, none_for};
+ghost use Rattle.ua_client.specs.Calls.{Collects, none_for};
+ghost use Rattle.ua_client.specs.Replies.{front_of};
 ghost use Rattle.ua_client.specs.Hearing.{failures_behind};
 ghost use Rattle.ua_client.specs.declared.fault.ClientFault.TheVariants.{OutOfMemory};
 
@@ -78,34 +80,43 @@ pub fn no_replies(alloc: Global, count: usize) -> Vec<Reply>
     replies
 }
 
-/// Adds a reply.
-fn add_reply(replies: &mut Vec<Reply>, reply: Reply) -> Result<(), ClientFault>
-    ensures ok { OnOk result (replies.new.items ≡ replies.old.items ++ reply ∷ []) }
-    ensures err { OnErr result (result ≡ Err OutOfMemory) }
+/// Makes room for so many replies more.
+pub fn make_room(replies: &mut Vec<Reply>, count: usize) -> Result<(), ClientFault>
+    ensures same { replies.new.items ≡ replies.old.items }
+    ensures room { OnOk result (vec_len replies.new + count ≤ vec_capacity replies.new) }
+    ensures err { IfErr result (λ fault. fault ≡ OutOfMemory) }
 {
-    match replies.push(reply) {
+    match replies.reserve(count) {
         Ok(()) => Ok(()),
-        Err(failed) => {
-            drop(failed);
-            Err(ClientFault::OutOfMemory)
-        }
+        Err(_) => Err(ClientFault::OutOfMemory),
     }
 }
 
-/// Adds the replies that there are, in order.
-pub fn append_replies(
-    slots: Vec<Option<Reply>>,
-    replies: &mut Vec<Reply>,
-) -> Result<(), ClientFault>
-    ensures ok { OnOk result (replies.new.items ≡ replies.old.items ++ somes slots.items) }
-    ensures err { OnErr result (result ≡ Err OutOfMemory) }
+/// Adds a reply where there is room for it.
+fn add_reply(replies: &mut Vec<Reply>, reply: Reply)
+    requires { vec_len replies.old < vec_capacity replies.old }
+    ensures items { replies.new.items ≡ replies.old.items ++ reply ∷ [] }
+    ensures len { vec_len replies.new ≡ vec_len replies.old + 1 }
+    ensures capacity { vec_capacity replies.old ≤ vec_capacity replies.new }
+{
+    match replies.push(reply) {
+        Ok(()) => {}
+        Err(failed) => drop(failed),
+    }
+}
+
+/// Adds the replies before the first that is missing, in order, where there is room for as many as there
+/// are slots. Those behind it are let go.
+pub fn append_front(slots: Vec<Option<Reply>>, replies: &mut Vec<Reply>)
+    requires { vec_len replies.old + length slots.items ≤ vec_capacity replies.old }
+    ensures { replies.new.items ≡ replies.old.items ++ front_of slots.items }
 {
     for slot in slots {
-        if let Some(reply) = slot {
-            add_reply(replies, reply)?;
+        match slot {
+            Some(reply) => add_reply(replies, reply),
+            None => return,
         }
     }
-    Ok(())
 }
 
 impl Connection {
@@ -122,9 +133,10 @@ impl Connection {
     ) -> Result<(), ClientFault>
         requires some { 0 < length requests.now }
         requires none { slots.old.items ≡ none_for requests.now }
-        ensures collects { Collects (λ done. slots.new.items) requests.now first self.old self.new (L.traffic line.old) (L.traffic line.new) reads.old reads.new result }
+        ensures collects { Collects slots.new.items requests.now first self.old self.new (L.traffic line.old) (L.traffic line.new) reads.old reads.new result }
         ensures count { length slots.new.items ≡ length requests.now }
         ensures whole { OnOk result (list_any is_none slots.new.items ≡ false) }
+        ensures missing { OnErr result (list_any is_none slots.new.items ≡ true) }
         ensures failed { L.failures line.new ≡ failures_behind (L.failures line.old) result }
     {
         client_goes_on();

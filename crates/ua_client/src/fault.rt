@@ -74,6 +74,35 @@ impl ClientFault {
     }
 }
 
+/// Which of several requests was not answered, and why.
+///
+/// After `TooLarge`, `NotWritable` and `Exhausted` it is the first against which there is a reason, after
+/// any other fault the first that has no reply.
+#[derive(Clone, Copy, PartialEq, Eq, Debug, Error)]
+#[error("request {request}: {fault}")]
+pub struct CallsFault {
+    /// The place of the request among all, from 0.
+    pub request: usize,
+    /// Why it was not answered.
+    pub fault: ClientFault,
+}
+
+impl CallsFault {
+    ghost use Rattle.std.specs.Prelude.{◌≡◌, ◌+◌, ◌<◌, ◌^◌};
+
+    /// The same fault, where so many requests stand before those among which it has its place.
+    pub(crate) fn behind(self, before: usize) -> CallsFault
+        requires { before + self.request < 2 ^ 64 }
+        ensures request { result.request ≡ before + self.request }
+        ensures fault { result.fault ≡ self.fault }
+    {
+        CallsFault {
+            request: before + self.request,
+            fault: self.fault,
+        }
+    }
+}
+
 impl From<AllocError> for ClientFault {
     ghost use Rattle.std.specs.Prelude.{◌≡◌};
     ghost use Rattle.ua_client.specs.declared.fault.ClientFault.TheVariants.{OutOfMemory};

@@ -6,10 +6,11 @@ ghost use Rattle.ua_frame.specs.declared.frame.Frame.{Frame};
 ghost use Rattle.ua_services.specs.Request.{request};
 ghost use Rattle.ua_channel.specs.Asks.{Placed};
 ghost use Rattle.ua_channel.specs.Client.{Stands, SameClient, phase_of, ask_refusal};
-ghost use Rattle.ua_client.specs.Sent.{of_ask, AnswersBy, request_refusal, group_refusal, bodies_of, AsksFrom, AsksOr};
+ghost use Rattle.ua_client.specs.Sent.{of_ask, AnswersBy, request_refusal, group_refusal, bodies_of, AsksFrom, AsksOr, RefusesBy, place_by};
+ghost use Rattle.ua_client.specs.Hearing.{fault_alone};
 ghost use Rattle.ua_client.specs.declared.fault.ClientFault.TheVariants.{OutOfMemory};
 
-use crate::fault::ClientFault;
+use crate::fault::{CallsFault, ClientFault};
 use std::alloc::Global;
 use std::marker::Model;
 use ua_builtin::WriteFault;
@@ -103,23 +104,42 @@ fn judge_request(
     }
 }
 
-/// The bodies of a group of requests, where a channel would ask all of them.
+/// The fault of a group in which the request at this place was judged: want of memory is that of the
+/// whole group, and names its first.
+fn fault_at(place: usize, fault: ClientFault) -> CallsFault
+    ensures fault { result.fault ≡ fault }
+    ensures request { result.request ≡ place_by fault place }
+{
+    match fault {
+        ClientFault::OutOfMemory => CallsFault { request: 0, fault },
+        fault => CallsFault {
+            request: place,
+            fault,
+        },
+    }
+}
+
+/// The bodies of a group of requests, where a channel would ask all of them; else the first of them that
+/// it would not ask.
 pub fn judge_group(
     alloc: Global,
     channel: &ClientChannel,
     requests: &[Request],
-) -> Result<Vec<Body>, ClientFault>
-    ensures judged { AnswersBy (group_refusal (phase_of channel.now) 0 requests.now) result }
+) -> Result<Vec<Body>, CallsFault>
+    ensures judged { AnswersBy (group_refusal (phase_of channel.now) 0 requests.now) (fault_alone result) }
+    ensures place { IfErr result (λ calls. RefusesBy (phase_of channel.now) requests.now calls.request calls.fault) }
+    ensures within { IfErr result (λ calls. calls.request < length requests.now) }
     ensures bodies { IfOk result (λ bodies. bodies.items ≡ bodies_of requests.now) }
 {
     let mut bodies = Vec::new(alloc);
     for message in requests {
-        let body = match judge_request(alloc, channel, bodies.len(), message) {
+        let place = bodies.len();
+        let body = match judge_request(alloc, channel, place, message) {
             Ok(body) => body,
-            Err(fault) => return Err(fault),
+            Err(fault) => return Err(fault_at(place, fault)),
         };
         let Ok(()) = bodies.push(body) else {
-            return Err(ClientFault::OutOfMemory);
+            return Err(fault_at(place, ClientFault::OutOfMemory));
         };
     }
     Ok(bodies)

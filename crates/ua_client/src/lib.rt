@@ -2,13 +2,15 @@
 //! OPC 10000-6, 6.7 and 7.1).
 //!
 //! Its contracts are those of [`Client::open`], [`Client::begin_session_as`], [`Client::call_all`],
-//! [`Client::renew`] and [`Client::close`]: what they write, and from which octets they answer.
+//! [`Client::call_into`], [`Client::renew`] and [`Client::close`]: what they write, and from which octets
+//! they answer.
 //!
 //! ```
 //! let mut client = Client::open(alloc, &mut line, limits, url, moment)?;
 //! let token = client.begin_session(&mut line, moment)?; // for the requests' headers
 //! let reply = client.call(&mut line, &request, moment)?;
 //! let replies = client.call_all(&mut line, &requests, moment)?;
+//! client.call_into(&mut line, &requests, moment, &mut kept)?; // keeps what was answered at a fault
 //! client.close(&mut line, moment)?;
 //! ```
 #![tactic(auto)]
@@ -28,5 +30,5 @@ mod sending;
 mod session;
 
 pub use client::Client;
-pub use fault::ClientFault;
+pub use fault::{CallsFault, ClientFault};
 pub use reply::Reply;

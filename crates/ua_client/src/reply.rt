@@ -1,6 +1,6 @@
 //! Replies to requests.
 
-ghost use Rattle.std.specs.Prelude.{◌≡◌, ◌<◌, ◌++◌, ◌∷◌, [], List, length, slice_set, true, Some, IfOk, IfErr, IfSome};
+ghost use Rattle.std.specs.Prelude.{◌≡◌, ◌<◌, ◌++◌, ◌∷◌, [], List, length, slice_set, true, Some, IfOk, IfErr, IfSome, OnErr};
 ghost use Rattle.std.specs.List.{concat};
 ghost use Rattle.ua_channel.specs.ClientTold.{Told};
 ghost use Rattle.ua_channel.specs.ClientTold.Told.{Answered};
@@ -136,6 +136,7 @@ pub fn place_reply(
         → FillsSlots requests.now first (told ++ t ∷ []) slots.new.items result }
     ensures faults { IfErr result (λ fault. is_reading_fault fault ≡ true) }
     ensures count { length slots.new.items ≡ length slots.old.items }
+    ensures err { OnErr result (slots.new.items ≡ slots.old.items) }
 {
     let found = reply_by(alloc, requests, first, &event);
     drop(event);

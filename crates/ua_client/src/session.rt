@@ -80,9 +80,9 @@ impl Connection {
         let group = slice::from_ref(request);
         match self.call_group(alloc, line, reads, group, moment, &mut replies) {
             Ok(()) => Ok(only_reply(replies)),
-            Err(fault) => {
+            Err(calls) => {
                 drop(replies);
-                Err(fault)
+                Err(calls.fault)
             }
         }
     }

@@ -17,4 +17,4 @@ returns-in-Ok-Some-clause-fills c = λ moment told t says once slots.
 
 pub returns-in-Err-clause-fills : goal.returns-in-Err-clause-fills
 returns-in-Err-clause-fills c = λ moment told t says once slots.
-    fills_fault c.args.requests.now c.args.first told t c.args.slots.now.items c.in-Err.fault (c.in-Err.ensures.placed moment t says) once
+    fills_fault c.args.requests.now c.args.first told t c.args.slots.now.items c.in-Err.fault (c.in-Err.ensures.placed moment t says) once slots

@@ -11,4 +11,4 @@ returns-in-Ok-clause-calls g c =
 pub returns-in-Err-clause-calls : goal.returns-in-Err-clause-calls
 returns-in-Err-clause-calls g c =
     one-broken c.args.request.now c.from_ref-group.result.now c.args.self.now c.call_group.new.self (g.L.Line.traffic c.args.line.now) (g.L.Line.traffic c.call_group.new.line) c.args.reads.now c.call_group.new.reads
-    c.new-replies.result.items c.call_group.new.replies.items c.in-Err.fault c.from_ref-group.ensures.value c.in-Err.ensures.calls
+    c.new-replies.result.items c.call_group.new.replies.items c.in-Err.calls c.from_ref-group.ensures.value c.in-Err.ensures.calls

@@ -18,7 +18,7 @@ pub returns-in_err-event-clause-collects : goal.returns-in_err-event-clause-coll
 returns-in_err-event-clause-collects g c =
     let p = err_from_is_err_and c.from_residual.result c.from_residual.ensures.1 in
     rw (p.1, p.2) (collects-heard c.args.requests.now c.args.first c.args.self.now c.loop-alloc.self c.hear.new.self (g.L.Line.traffic c.args.line.now) (g.L.Line.traffic c.loop-alloc.line) (g.L.Line.traffic c.hear.new.line)
-    c.args.reads.now c.loop-alloc.reads c.hear.new.reads c.loop-alloc.slots.items c.args.moment c.loop-alloc.invariant.waits (λ done. c.loop-alloc.slots.items) c.in_err-event.field-0.0 c.in_err-event.ensures.hears (subst (λ (ss : List (Option Reply)). list_any is_none ss ≡ true) c.deref.ensures.value (sym c.is_waiting.ensures ∙ c.loop-alloc-test.true)))
+    c.args.reads.now c.loop-alloc.reads c.hear.new.reads c.loop-alloc.slots.items c.args.moment c.loop-alloc.invariant.waits c.in_err-event.field-0.0 c.in_err-event.ensures.hears (subst (λ (ss : List (Option Reply)). list_any is_none ss ≡ true) c.deref.ensures.value (sym c.is_waiting.ensures ∙ c.loop-alloc-test.true)))
 
 pub returns-in_err-event-clause-failed : goal.returns-in_err-event-clause-failed
 returns-in_err-event-clause-failed g c =
@@ -29,7 +29,8 @@ pub returns-in_err-place_reply-clause-collects : goal.returns-in_err-place_reply
 returns-in_err-place_reply-clause-collects g c =
     let p = err_from_is_err_and c.from_residual-in_err-place_reply.result c.from_residual-in_err-place_reply.ensures.1 in
     rw (p.1, p.2) (collects-misread c.args.requests.now c.args.first c.args.self.now c.loop-alloc.self c.hear.new.self (g.L.Line.traffic c.args.line.now) (g.L.Line.traffic c.loop-alloc.line) (g.L.Line.traffic c.hear.new.line)
-    c.args.reads.now c.loop-alloc.reads c.hear.new.reads c.loop-alloc.slots.items c.args.moment c.loop-alloc.invariant.waits (λ done. c.place_reply.new.slots.items) c.in_ok-event.event c.in_err-place_reply.field-0.0 c.place_reply.new.slots.items
+    c.args.reads.now c.loop-alloc.reads c.hear.new.reads c.loop-alloc.slots.items c.args.moment c.loop-alloc.invariant.waits c.in_ok-event.event c.in_err-place_reply.field-0.0 c.place_reply.new.slots.items c.in_err-place_reply.ensures.err
+    (subst (λ (ss : List (Option Reply)). list_any is_none ss ≡ true) c.deref.ensures.value (sym c.is_waiting.ensures ∙ c.loop-alloc-test.true))
     c.in_ok-event.ensures.hears c.client_goes_on.ensures c.calls_are_told_once.ensures c.in_err-place_reply.ensures.fills c.in_err-place_reply.ensures.faults)
 
 pub returns-in_err-place_reply-clause-failed : goal.returns-in_err-place_reply-clause-failed
@@ -52,4 +53,4 @@ loop-alloc-smaller g c = c.in_ok-event.ensures.hears.less
 pub returns-clause-collects : goal.returns-clause-collects
 returns-clause-collects g c =
     collects-all c.args.requests.now c.args.first c.args.self.now c.loop-alloc.self c.loop-alloc.self (g.L.Line.traffic c.args.line.now) (g.L.Line.traffic c.loop-alloc.line) (g.L.Line.traffic c.loop-alloc.line)
-    c.args.reads.now c.loop-alloc.reads c.loop-alloc.reads c.loop-alloc.slots.items c.args.moment c.loop-alloc.invariant.waits (λ done. c.loop-alloc.slots.items) tt refl (subst (λ (ss : List (Option Reply)). list_any is_none ss ≡ false) c.deref.ensures.value (sym c.is_waiting.ensures ∙ c.loop-alloc-test.false)) c.requires.some
+    c.args.reads.now c.loop-alloc.reads c.loop-alloc.reads c.loop-alloc.slots.items c.args.moment c.loop-alloc.invariant.waits tt (subst (λ (ss : List (Option Reply)). list_any is_none ss ≡ false) c.deref.ensures.value (sym c.is_waiting.ensures ∙ c.loop-alloc-test.false)) c.requires.some

@@ -1,0 +1,96 @@
+use Rattle.std.proofs.Common.{◌++◌, refl, sym, ◌∙◌, ap, subst}
+use Rattle.std.specs.Prelude.{ℕ, List, []}
+use Rattle.std.proofs.lemmas.Result.{err_from_is_err_and}
+use Rattle.ua_channel.specs.Line.{WhereTold}
+use Rattle.ua_client.specs.Carried.{Carries, WritesFront}
+use Rattle.ua_client.specs.Replies.{front_of}
+use Rattle.ua_client.specs.declared.reply.Reply.{Reply}
+use Rattle.ua_client.specs.declared.connection.Connection.{Connection}
+use Rattle.ua_client.proofs.GroupCalls.{IsAsked, none-refused, group-unasked, memory-failures, group-unwritten, group-unslotted, group-kept, kept-count, kept-fewer, kept-more}
+use Rattle.ua_client.proofs.connection.Connection.call_bodies.Goals as goal
+
+pub returns-in_err-make_room-clause-calls : goal.returns-in_err-make_room-clause-calls
+returns-in_err-make_room-clause-calls g c =
+    let p = err_from_is_err_and c.from_residual.result c.from_residual.ensures.1 in
+    rw (p.1, p.2) (group-unasked c.args.requests.now c.args.self.now c.args.self.now (g.L.Line.traffic c.args.line.now) c.args.reads.now c.args.replies.now.items c.make_room.new.replies.items c.in_err-make_room.field-0.0
+    c.in_err-make_room.ensures.same refl (record { limits = refl; url = refl }) c.in_err-make_room.ensures.err)
+
+pub returns-in_err-make_room-clause-failed : goal.returns-in_err-make_room-clause-failed
+returns-in_err-make_room-clause-failed g c =
+    let p = err_from_is_err_and c.from_residual.result c.from_residual.ensures.1 in
+    rw (p.1, p.2) (sym (memory-failures c.in_err-make_room.field-0.0 c.in_err-make_room.ensures.err (g.L.Line.failures c.args.line.now)))
+
+pub returns-in_err-asked-clause-calls : goal.returns-in_err-asked-clause-calls
+returns-in_err-asked-clause-calls g c =
+    let p = err_from_is_err_and c.from_residual-in_err-asked.result c.from_residual-in_err-asked.ensures.1 in
+    rw (p.1, p.2) (group-unasked c.args.requests.now c.args.self.now (record { channel = c.ask_group.new.channel; piece = c.args.self.now.piece }) (g.L.Line.traffic c.args.line.now) c.args.reads.now c.args.replies.now.items c.make_room.new.replies.items c.in_err-asked.field-0.0
+    c.in_ok-make_room.ensures.same refl c.in_err-asked.ensures.same c.in_err-asked.ensures.memory)
+
+pub returns-in_err-asked-clause-failed : goal.returns-in_err-asked-clause-failed
+returns-in_err-asked-clause-failed g c =
+    let p = err_from_is_err_and c.from_residual-in_err-asked.result c.from_residual-in_err-asked.ensures.1 in
+    rw (p.1, p.2) (sym (memory-failures c.in_err-asked.field-0.0 c.in_err-asked.ensures.memory (g.L.Line.failures c.args.line.now)))
+
+pub returns-in_default-clause-calls : goal.returns-in_default-clause-calls
+returns-in_default-clause-calls g c =
+    let mid : Connection = record { channel = c.ask_group.new.channel; piece = c.args.self.now.piece } in
+    let asked : IsAsked c.args.requests.now c.args.self.now mid c.in_ok-asked.asked.0 c.in_ok-asked.asked.1.items = record {
+      bodies = c.args.bodies.now;
+      bodies_are = c.requires.bodies;
+      judged = none-refused c.clients_are_settled.ensures.none_pending c.args.requests.now c.requires.few c.args.self.now.channel c.requires.judged;
+      piece = refl;
+      same = c.in_ok-asked.ensures.same;
+      some = c.requires.some;
+      asks = c.in_ok-asked.ensures.asks;
+    } in
+    group-unwritten c.args.requests.now c.args.self.now mid c.in_ok-asked.asked.0 c.in_ok-asked.asked.1.items asked (g.L.Line.traffic c.args.line.now) (g.L.Line.traffic c.write_frames.new.line) c.args.reads.now c.args.replies.now.items c.make_room.new.replies.items c.in_ok-make_room.ensures.same
+    (subst (λ (o : List ℕ). WhereTold (WritesFront o) (g.L.Line.traffic c.args.line.now) (g.L.Line.traffic c.write_frames.new.line)) c.deref.ensures.value c.in_default.ensures.written)
+
+pub returns-in_err-slots-clause-calls : goal.returns-in_err-slots-clause-calls
+returns-in_err-slots-clause-calls g c =
+    let p = err_from_is_err_and c.from_residual-in_err-slots.result c.from_residual-in_err-slots.ensures.1 in
+    let mid : Connection = record { channel = c.ask_group.new.channel; piece = c.args.self.now.piece } in
+    let asked : IsAsked c.args.requests.now c.args.self.now mid c.in_ok-asked.asked.0 c.in_ok-asked.asked.1.items = record {
+      bodies = c.args.bodies.now;
+      bodies_are = c.requires.bodies;
+      judged = none-refused c.clients_are_settled.ensures.none_pending c.args.requests.now c.requires.few c.args.self.now.channel c.requires.judged;
+      piece = refl;
+      same = c.in_ok-asked.ensures.same;
+      some = c.requires.some;
+      asks = c.in_ok-asked.ensures.asks;
+    } in
+    rw (p.1, p.2) (group-unslotted c.args.requests.now c.args.self.now mid c.in_ok-asked.asked.0 c.in_ok-asked.asked.1.items asked c.calls_are_told_behind.ensures (g.L.Line.traffic c.args.line.now) (g.L.Line.traffic c.write_frames.new.line) c.args.reads.now
+    (subst (λ (o : List ℕ). WhereTold (Carries [] o) (g.L.Line.traffic c.args.line.now) (g.L.Line.traffic c.write_frames.new.line)) c.deref.ensures.value c.in-Ok.ensures.written)
+    c.in_err-slots.field-0.0 c.args.replies.now.items c.make_room.new.replies.items c.in_ok-make_room.ensures.same c.in_err-slots.ensures.err)
+
+pub returns-in_err-slots-clause-failed : goal.returns-in_err-slots-clause-failed
+returns-in_err-slots-clause-failed g c =
+    let p = err_from_is_err_and c.from_residual-in_err-slots.result c.from_residual-in_err-slots.ensures.1 in
+    rw (p.1, p.2) (c.in-Ok.ensures.failed ∙ sym (memory-failures c.in_err-slots.field-0.0 c.in_err-slots.ensures.err (g.L.Line.failures c.args.line.now)))
+
+pub returns-clause-calls : goal.returns-clause-calls
+returns-clause-calls g c =
+    let mid : Connection = record { channel = c.ask_group.new.channel; piece = c.args.self.now.piece } in
+    let asked : IsAsked c.args.requests.now c.args.self.now mid c.in_ok-asked.asked.0 c.in_ok-asked.asked.1.items = record {
+      bodies = c.args.bodies.now;
+      bodies_are = c.requires.bodies;
+      judged = none-refused c.clients_are_settled.ensures.none_pending c.args.requests.now c.requires.few c.args.self.now.channel c.requires.judged;
+      piece = refl;
+      same = c.in_ok-asked.ensures.same;
+      some = c.requires.some;
+      asks = c.in_ok-asked.ensures.asks;
+    } in
+    group-kept c.args.requests.now c.args.self.now mid c.in_ok-asked.asked.0 c.in_ok-asked.asked.1.items asked c.calls_are_told_behind.ensures c.collect-waited.new.self (g.L.Line.traffic c.args.line.now) (g.L.Line.traffic c.write_frames.new.line) (g.L.Line.traffic c.collect-waited.new.line) c.args.reads.now c.collect-waited.new.reads
+    (subst (λ (o : List ℕ). WhereTold (Carries [] o) (g.L.Line.traffic c.args.line.now) (g.L.Line.traffic c.write_frames.new.line)) c.deref.ensures.value c.in-Ok.ensures.written)
+    c.collect-waited.new.slots.items c.args.replies.now.items c.append_front.new.replies.items (c.append_front.ensures ∙ ap (λ (rs : List Reply). rs ++ front_of c.collect-waited.new.slots.items) c.in_ok-make_room.ensures.same) c.collect-waited.result c.collect-waited.ensures.collects
+
+pub returns-clause-more : goal.returns-clause-more
+returns-clause-more g c = kept-more c.args.replies.now.items c.append_front.new.replies.items c.collect-waited.new.slots.items (c.append_front.ensures ∙ ap (λ (rs : List Reply). rs ++ front_of c.collect-waited.new.slots.items) c.in_ok-make_room.ensures.same)
+
+pub returns-clause-count : goal.returns-clause-count
+returns-clause-count g c =
+    kept-count c.collect-waited.result c.args.replies.now.items c.append_front.new.replies.items c.collect-waited.new.slots.items _ (c.append_front.ensures ∙ ap (λ (rs : List Reply). rs ++ front_of c.collect-waited.new.slots.items) c.in_ok-make_room.ensures.same) c.collect-waited.ensures.whole c.collect-waited.ensures.count
+
+pub returns-clause-missing : goal.returns-clause-missing
+returns-clause-missing g c =
+    kept-fewer c.collect-waited.result c.args.replies.now.items c.append_front.new.replies.items c.collect-waited.new.slots.items _ (c.append_front.ensures ∙ ap (λ (rs : List Reply). rs ++ front_of c.collect-waited.new.slots.items) c.in_ok-make_room.ensures.same) c.collect-waited.ensures.missing c.collect-waited.ensures.count
