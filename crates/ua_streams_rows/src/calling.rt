@@ -46,6 +46,8 @@ pub fn step(
         "begin-as" => begin_as(client, course, row.1, moment, told),
         "call" => call(given, client, course, row.1, told),
         "call-all" => call_all(given, client, course, row.1, told),
+        "call-into" => call_into(given, client, course, row.1, told),
+        "next" => tell_next(client, told),
         "renew" => match client.renew(&mut course.line, moment) {
             Ok(()) => told.word("done"),
             Err(fault) => failed(client, course, fault, moment, told),
@@ -87,6 +89,43 @@ fn call_all(given: &Given, client: &mut Client, course: &mut Course, words: &str
     match client.call_all(&mut course.line, requests.as_slice(), given.moment) {
         Ok(replies) => tell_replies(given, replies, told),
         Err(fault) => failed(client, course, fault, given.moment, told),
+    }
+}
+
+/// Calls requests, and tells how many replies are kept, the replies, and where not all were answered
+/// which request the fault names.
+fn call_into(
+    given: &Given,
+    client: &mut Client,
+    course: &mut Course,
+    words: &str,
+    told: &mut Told,
+) {
+    let requests = requests_of::<Request>(given, words, told);
+    let mut replies = Vec::new(told.alloc());
+    let called = client.call_into(
+        &mut course.line,
+        requests.as_slice(),
+        given.moment,
+        &mut replies,
+    );
+    told.word("kept");
+    told.shown(&replies.len());
+    for reply in replies {
+        tell_reply(given, reply, told);
+    }
+    if let Err(calls) = called {
+        told.word("request");
+        told.shown(&calls.request);
+        failed(client, course, calls.fault, given.moment, told);
+    }
+}
+
+/// Tells the request id of the next call.
+fn tell_next(client: &Client, told: &mut Told) {
+    match client.next_id() {
+        Some(id) => told.shown(&id),
+        None => told.word("none"),
     }
 }
 

@@ -122,6 +122,8 @@ impl Rows {
             | "begin-as"
             | "call"
             | "call-all"
+            | "call-into"
+            | "next"
             | "last" => self.step(kind, words, told),
             _ => self.serving.answer(&self.given, kind, words, told),
         }
