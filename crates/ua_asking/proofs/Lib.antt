@@ -1,3 +1,4 @@
 mod Runs
+mod Failing
 mod Choosing
 mod Naming

@@ -3,13 +3,13 @@ use Rattle.std.proofs.Common.{◌≡◌, inl, inr, ℕ, ℤ, List, [], ◌∷◌
 use Rattle.std.specs.Prelude.{MatchResult, OnOk}
 use Rattle.ua_builtin.specs.declared.date_time.DateTime.{DateTime}
 use Rattle.ua_builtin.specs.declared.node_id.NodeId.{NodeId}
-use Rattle.ua_channel.specs.Line.{Traffic}
 use Rattle.ua_client.specs.declared.client.Client.{Client}
 use Rattle.ua_client.specs.declared.reply.Reply.{Reply}
 use Rattle.ua_texts.specs.Answers.{read_lines, write_lines}
 use Rattle.ua_texts.specs.Replies.{endpoint_lines}
 use Rattle.ua_texts.specs.declared.style.EndpointStyle.{EndpointStyle}
 use Rattle.ua_texts.specs.declared.style.LineStyle.{LineStyle}
+use Rattle.ua_asking.specs.Line.{LineState}
 use Rattle.ua_asking.specs.Printed.{AddsEndpoints, AddsLines, AddsOrNone, AreAnswerLines, AreEndpointLines, AddsAnswers, OfEndpoints, OfRead, OfWrite}
 use Rattle.ua_asking.specs.Question.{PrintsAnswers}
 use Rattle.ua_asking.specs.Replies.{PrintsEndpoints}
@@ -25,12 +25,12 @@ abbrev Done : Type 0
 Done = Result (Unit {0}) AskFault
 
 -- the session of a token is ended by a request with the same RequestHandle
-pub ends_by : (token : NodeId) (handle same : ℕ) (moment : DateTime) (old new : Client) (before after : Option Traffic) (result : Done) → handle ≡ same
+pub ends_by : (token : NodeId) (handle same : ℕ) (moment : DateTime) (old new : Client) (before after : LineState) (result : Done) → handle ≡ same
     → EndsSession token handle moment old new before after result → EndsSession token same moment old new before after result
 ends_by token handle same moment old new before after result is ends = subst (λ (h : ℕ). EndsSession token h moment old new before after result) is ends
 
 -- a question is asked in a session whose first call has the same request id
-pub asks_by : {M : Type 0} (gives : M → ℤ → M → Type 0) (style : LineStyle) (question : Question) (policy_id : Option (List ℕ)) (handle same : ℕ) (first last : M) (old new : Client) (before after : Option Traffic) (had have : List ℕ) (result : Result Verdict AskFault) → handle ≡ same
+pub asks_by : {M : Type 0} (gives : M → ℤ → M → Type 0) (style : LineStyle) (question : Question) (policy_id : Option (List ℕ)) (handle same : ℕ) (first last : M) (old new : Client) (before after : LineState) (had have : List ℕ) (result : Result Verdict AskFault) → handle ≡ same
     → AsksInSession gives style question policy_id handle first last old new before after had have result → AsksInSession gives style question policy_id same first last old new before after had have result
 asks_by gives style question policy_id handle same first last old new before after had have result is asks = subst (λ (h : ℕ). AsksInSession gives style question policy_id h first last old new before after had have result) is asks
 
@@ -91,26 +91,26 @@ by_result : {A : Type 0} (r : Result A AskFault) (P : A → Type 0) (Q : AskFaul
 by_result (Ok x) P Q R h p q = p x h
 by_result (Err fault) P Q R h p q = q fault h
 
-session_prints : {M : Type 0} (gives : M → ℤ → M → Type 0) (style : LineStyle) (question : Question) (policy_id : Option (List ℕ)) (handle : ℕ) (first last : M) (old new : Client) (before after : Option Traffic) (had have : List ℕ) (result : Result Verdict AskFault)
+session_prints : {M : Type 0} (gives : M → ℤ → M → Type 0) (style : LineStyle) (question : Question) (policy_id : Option (List ℕ)) (handle : ℕ) (first last : M) (old new : Client) (before after : LineState) (had have : List ℕ) (result : Result Verdict AskFault)
     → AsksInSession gives style question policy_id handle first last old new before after had have result → Prints (AreAnswerLines style) result had have
 session_prints gives style question policy_id handle first last old new before after had have result asks =
     by_result asks.begun _ _ (Prints (AreAnswerLines style) result had have) asks.further
     (λ token under. first_prints (AreAnswerLines style) under.printed under.ended result had have (answers_print style question under.called under.printed had have under.prints) under.result_is)
     (λ fault h. none_prints (AreAnswerLines style) fault result had have h.0 h.4)
 
-policy_prints : {M : Type 0} (gives : M → ℤ → M → Type 0) (port : ℕ) (policy : TokenPolicy) (style : LineStyle) (question : Question) (first last : M) (old new : Client) (before after : Option Traffic) (had have : List ℕ) (result : Result Verdict AskFault)
+policy_prints : {M : Type 0} (gives : M → ℤ → M → Type 0) (port : ℕ) (policy : TokenPolicy) (style : LineStyle) (question : Question) (first last : M) (old new : Client) (before after : LineState) (had have : List ℕ) (result : Result Verdict AskFault)
     → AsksByPolicy gives port policy style question first last old new before after had have result → Prints (AreAnswerLines style) result had have
 policy_prints gives port policy style question first last old new before after had have result asks =
     by_result asks.found _ _ (Prints (AreAnswerLines style) result had have) asks.further
     (λ policy_id within. session_prints gives style question policy_id _ asks.behind last asks.client new asks.once_found after had have result within)
     (λ fault h. none_prints (AreAnswerLines style) fault result had have h.0 h.4)
 
-pub question_adds : {M : Type 0} (gives : M → ℤ → M → Type 0) (port : ℕ) (policy : TokenPolicy) (style : LineStyle) (question : Question) (first last : M) (old new : Client) (before after : Option Traffic) (had have : List ℕ) (printed : Result Verdict AskFault) (closed : Done) (result : Result Verdict AskFault)
+pub question_adds : {M : Type 0} (gives : M → ℤ → M → Type 0) (port : ℕ) (policy : TokenPolicy) (style : LineStyle) (question : Question) (first last : M) (old new : Client) (before after : LineState) (had have : List ℕ) (printed : Result Verdict AskFault) (closed : Done) (result : Result Verdict AskFault)
     → AsksByPolicy gives port policy style question first last old new before after had have printed → result ≡ first_of printed closed → AddsOrNone (AreAnswerLines style) had have
 question_adds gives port policy style question first last old new before after had have printed closed result asks is =
     prints_adds (AreAnswerLines style) result had have (first_prints (AreAnswerLines style) printed closed result had have (policy_prints gives port policy style question first last old new before after had have printed asks) is)
 
-pub question_answers : {M : Type 0} (gives : M → ℤ → M → Type 0) (port : ℕ) (policy : TokenPolicy) (style : LineStyle) (question : Question) (first last : M) (old new : Client) (before after : Option Traffic) (had have : List ℕ) (printed : Result Verdict AskFault) (closed : Done) (result : Result Verdict AskFault)
+pub question_answers : {M : Type 0} (gives : M → ℤ → M → Type 0) (port : ℕ) (policy : TokenPolicy) (style : LineStyle) (question : Question) (first last : M) (old new : Client) (before after : LineState) (had have : List ℕ) (printed : Result Verdict AskFault) (closed : Done) (result : Result Verdict AskFault)
     → AsksByPolicy gives port policy style question first last old new before after had have printed → result ≡ first_of printed closed → OnOk result (AddsAnswers style had have)
 question_answers gives port policy style question first last old new before after had have printed closed result asks is =
     prints_answered (AreAnswerLines style) result had have (first_prints (AreAnswerLines style) printed closed result had have (policy_prints gives port policy style question first last old new before after had have printed asks) is)

@@ -1,8 +1,9 @@
--- The definitions, in the order in which they are best read: how faults are told, what words name, the steps of a conversation, what is
--- made of replies, how a token policy is chosen, the conversations, and what of them a text shows.
+-- The definitions, in the order in which they are best read: how faults are told, what words name, what is said of a line, the steps of a
+-- conversation, what is made of replies, how a token policy is chosen, the conversations, and what of them a text shows.
 pub mod Told
 pub mod FaultText
 pub mod Words
+pub mod Line
 pub mod Steps
 pub mod Replies
 pub mod Policy

@@ -2,13 +2,13 @@
 use Rattle.std.specs.Prelude.{◌≡◌, ◌⊎◌, ◌+◌, ℕ, ℤ, List, Option, Result, Ok, Err, MatchResult}
 use Rattle.ua_builtin.specs.declared.date_time.DateTime.{DateTime}
 use Rattle.ua_builtin.specs.declared.node_id.NodeId.{NodeId}
-use Rattle.ua_channel.specs.Line.{Traffic}
 use Rattle.ua_client.specs.declared.client.Client.{Client}
 use Rattle.ua_client.specs.declared.reply.Reply.{Reply}
 use Rattle.ua_frame.specs.declared.limits.Limits.{Limits}
 use Rattle.ua_requests.specs.Requests.{close_session}
 use Rattle.ua_texts.specs.declared.style.LineStyle.{LineStyle}
 use Rattle.ua_asking.specs.Endpoints.{CallsEndpoints}
+use Rattle.ua_asking.specs.Line.{LineState}
 use Rattle.ua_asking.specs.Policy.{ChoosesBy}
 use Rattle.ua_asking.specs.Question.{PrintsAnswers, request_of}
 use Rattle.ua_asking.specs.Replies.{Expects}
@@ -23,7 +23,7 @@ use Rattle.ua_asking.specs.declared.verdict.Verdict.{Verdict}
 -- ---- the token policy
 
 -- GetEndpoints was asked at the next moment, and a PolicyId chosen by the reply
-pub record AsksPolicy {M : Type 0} (gives : M → ℤ → M → Type 0) (port : ℕ) (first last : M) (old new : Client) (before after : Option Traffic) (result : Result (Option (List ℕ)) AskFault) : Type 0 where
+pub record AsksPolicy {M : Type 0} (gives : M → ℤ → M → Type 0) (port : ℕ) (first last : M) (old new : Client) (before after : LineState) (result : Result (Option (List ℕ)) AskFault) : Type 0 where
   pub moment : DateTime
   pub given : gives first moment.ticks last
   pub called : Result Reply AskFault
@@ -32,7 +32,7 @@ pub record AsksPolicy {M : Type 0} (gives : M → ℤ → M → Type 0) (port : 
 
 -- the PolicyId by which a session is to be begun: the one that is named, unless memory ran out, and nothing was done; or the server was
 -- asked for it
-abbrev pub FindsPolicy : {M : Type 0} → (M → ℤ → M → Type 0) → ℕ → TokenPolicy → M → M → Client → Client → Option Traffic → Option Traffic → Result (Option (List ℕ)) AskFault → Type 0
+abbrev pub FindsPolicy : {M : Type 0} → (M → ℤ → M → Type 0) → ℕ → TokenPolicy → M → M → Client → Client → LineState → LineState → Result (Option (List ℕ)) AskFault → Type 0
 FindsPolicy gives port (Named id) first last old new before after result = ((result ≡ Ok id) ⊎ (result ≡ Err NoMemory)) × (last ≡ first) × (new ≡ old) × (after ≡ before)
 FindsPolicy gives port Auto first last old new before after result = AsksPolicy gives port first last old new before after result
 
@@ -50,20 +50,20 @@ handle_behind handle (Ok reply) = handle + 1
 handle_behind handle (Err fault) = handle
 
 -- the session of a token is ended, by a CloseSession with this RequestHandle
-pub record EndsSession (token : NodeId) (handle : ℕ) (moment : DateTime) (old new : Client) (before after : Option Traffic) (result : Result (Unit {0}) AskFault) : Type 0 where
+pub record EndsSession (token : NodeId) (handle : ℕ) (moment : DateTime) (old new : Client) (before after : LineState) (result : Result (Unit {0}) AskFault) : Type 0 where
   pub called : Result Reply AskFault
   pub calls : Calls (close_session token moment handle) old new before after called
   pub expects : Expects called result
 
 -- a question was asked under the token of a session, with this RequestHandle, the reply printed, and the session ended, also behind a
 -- fault; each RequestHandle is the request id of its call
-pub record AsksUnder {M : Type 0} (gives : M → ℤ → M → Type 0) (style : LineStyle) (question : Question) (token : NodeId) (handle : ℕ) (first last : M) (old new : Client) (before after : Option Traffic) (had have : List ℕ) (result : Result Verdict AskFault) : Type 0 where
+pub record AsksUnder {M : Type 0} (gives : M → ℤ → M → Type 0) (style : LineStyle) (question : Question) (token : NodeId) (handle : ℕ) (first last : M) (old new : Client) (before after : LineState) (had have : List ℕ) (result : Result Verdict AskFault) : Type 0 where
   pub asked_at : DateTime
   pub behind : M
   pub asking_given : gives first asked_at.ticks behind
   pub called : Result Reply AskFault
   pub asked : Client
-  pub answered : Option Traffic
+  pub answered : LineState
   pub asks : Asks (request_of question token asked_at handle) old asked before answered called
   pub printed : Result Verdict AskFault
   pub prints : PrintsAnswers style question had have called printed
@@ -75,30 +75,30 @@ pub record AsksUnder {M : Type 0} (gives : M → ℤ → M → Type 0) (style : 
 
 -- a session was begun by the token policy with this PolicyId, a question asked in it, and the session ended; where none was begun that is
 -- told, and no line was added
-pub record AsksInSession {M : Type 0} (gives : M → ℤ → M → Type 0) (style : LineStyle) (question : Question) (policy_id : Option (List ℕ)) (handle : ℕ) (first last : M) (old new : Client) (before after : Option Traffic) (had have : List ℕ) (result : Result Verdict AskFault) : Type 0 where
+pub record AsksInSession {M : Type 0} (gives : M → ℤ → M → Type 0) (style : LineStyle) (question : Question) (policy_id : Option (List ℕ)) (handle : ℕ) (first last : M) (old new : Client) (before after : LineState) (had have : List ℕ) (result : Result Verdict AskFault) : Type 0 where
   pub begun_at : DateTime
   pub behind : M
   pub given : gives first begun_at.ticks behind
   pub begun : Result NodeId AskFault
   pub client : Client
-  pub once_begun : Option Traffic
+  pub once_begun : LineState
   pub begins : Begins policy_id begun_at old client before once_begun begun
   pub further : MatchResult begun
       (λ token. AsksUnder gives style question token handle behind last client new once_begun after had have result)
       (λ fault. (result ≡ Err fault) × (last ≡ behind) × (new ≡ client) × (after ≡ once_begun) × (have ≡ had))
 
 -- the PolicyId was found, and a question asked in a session that is begun by it; where none was found that is told, and no line was added
-pub record AsksByPolicy {M : Type 0} (gives : M → ℤ → M → Type 0) (port : ℕ) (policy : TokenPolicy) (style : LineStyle) (question : Question) (first last : M) (old new : Client) (before after : Option Traffic) (had have : List ℕ) (result : Result Verdict AskFault) : Type 0 where
+pub record AsksByPolicy {M : Type 0} (gives : M → ℤ → M → Type 0) (port : ℕ) (policy : TokenPolicy) (style : LineStyle) (question : Question) (first last : M) (old new : Client) (before after : LineState) (had have : List ℕ) (result : Result Verdict AskFault) : Type 0 where
   pub found : Result (Option (List ℕ)) AskFault
   pub behind : M
   pub client : Client
-  pub once_found : Option Traffic
+  pub once_found : LineState
   pub finds : FindsPolicy gives port policy first behind old client before once_found found
   pub further : MatchResult found
       (λ policy_id. AsksInSession gives style question policy_id (first_call policy) behind last client new once_found after had have result)
       (λ fault. (result ≡ Err fault) × (last ≡ behind) × (new ≡ client) × (after ≡ once_found) × (have ≡ had))
 
 -- a client was opened, asked a question in a session that is begun by a token policy, and closed
-abbrev pub RunsQuestion : {M : Type 0} → (M → ℤ → M → Type 0) → Limits → ℕ → TokenPolicy → LineStyle → Question → M → M → Option Traffic → Option Traffic → List ℕ → List ℕ → Result Verdict AskFault → Type 0
+abbrev pub RunsQuestion : {M : Type 0} → (M → ℤ → M → Type 0) → Limits → ℕ → TokenPolicy → LineStyle → Question → M → M → LineState → LineState → List ℕ → List ℕ → Result Verdict AskFault → Type 0
 RunsQuestion gives limits port policy style question first last before after had have result =
     Runs gives limits port first last before after had have (λ x y m n s t printed. AsksByPolicy gives port policy style question m n x y s t had have printed) result

@@ -2,7 +2,6 @@
 use Rattle.std.specs.Prelude.{◌≡◌, ◌⊎◌, ℕ, ℤ, List, [], ◌∷◌, Some, Option, Result, Ok, Err, MatchResult}
 use Rattle.ua_builtin.specs.declared.date_time.DateTime.{DateTime}
 use Rattle.ua_builtin.specs.declared.node_id.NodeId.{NodeId}
-use Rattle.ua_channel.specs.Line.{Traffic}
 use Rattle.ua_client.specs.Calls.{CallsAll}
 use Rattle.ua_client.specs.Client.{Closes, IsDone, IsLeft, IsReady, OpensClient, OpensNothing, client_channel, connection_of}
 use Rattle.ua_client.specs.Session.{BeginsSessionAs}
@@ -13,6 +12,7 @@ use Rattle.ua_client.specs.declared.reply.Reply.{Reply}
 use Rattle.ua_frame.specs.declared.limits.Limits.{Limits}
 use Rattle.ua_requests.specs.Requests.{local_url}
 use Rattle.ua_services.specs.declared.request.Request.{Request}
+use Rattle.ua_asking.specs.Line.{FailsBy, LineState}
 use Rattle.ua_asking.specs.Told.{of_client}
 use Rattle.ua_asking.specs.declared.fault.AskFault.{AskFault}
 use Rattle.ua_asking.specs.declared.fault.AskFault.TheVariants.{NoMemory}
@@ -32,53 +32,60 @@ first_of (Err fault) second = Err fault
 
 -- ---- opening
 
+-- an opening of a client to the server on a port of this machine, and what it answers
+pub record OpensAt (limits : Limits) (port : ℕ) (moment : DateTime) (before after : LineState) (result : Result Client AskFault) : Type 0 where
+  pub answer : Result Client ClientFault
+  pub opens : OpensNothing before.traffic after.traffic answer ⊎ OpensClient limits (Some (local_url port)) moment before.traffic after.traffic answer
+  pub fails : FailsBy answer before after
+  pub told_is : result ≡ told answer
+
 -- a client was opened to the server on a port of this machine, or it was not and this is told: memory ran out before anything was done, or
 -- what the client answers
-abbrev pub OpensPort : Limits → ℕ → DateTime → Option Traffic → Option Traffic → Result Client AskFault → Type 0
-OpensPort limits port moment before after result =
-    ((result ≡ Err NoMemory) × (after ≡ before))
-    ⊎ ((answer : Result Client ClientFault) × (OpensNothing before after answer ⊎ OpensClient limits (Some (local_url port)) moment before after answer) × (result ≡ told answer))
+abbrev pub OpensPort : Limits → ℕ → DateTime → LineState → LineState → Result Client AskFault → Type 0
+OpensPort limits port moment before after result = ((result ≡ Err NoMemory) × (after ≡ before)) ⊎ OpensAt limits port moment before after result
 
 -- ---- calls
 
 -- a call of a client: one that may be called does this, and may be called again but for a fault after which it is done; one that is done
 -- answers `Closed` and changes nothing
-pub record CallsClient {A : Type 0} (Does : Result A ClientFault → Type 0) (old new : Client) (before after : Option Traffic) (result : Result A AskFault) : Type 0 where
+pub record CallsClient {A : Type 0} (Does : Result A ClientFault → Type 0) (old new : Client) (before after : LineState) (result : Result A AskFault) : Type 0 where
   pub answer : Result A ClientFault
   pub does : IsReady old → Does answer × IsLeft answer new
   pub stays : IsDone old → (answer ≡ Err Closed) × (new ≡ old) × (after ≡ before)
+  pub fails : FailsBy answer before after
   pub told_is : result ≡ told answer
 
 -- a request is called
-abbrev pub Calls : Request → Client → Client → Option Traffic → Option Traffic → Result Reply AskFault → Type 0
+abbrev pub Calls : Request → Client → Client → LineState → LineState → Result Reply AskFault → Type 0
 Calls request old new before after result =
-    CallsClient (λ answer. CallsAll (λ reply. reply ∷ []) (request ∷ []) (connection_of old) (connection_of new) before after answer) old new before after result
+    CallsClient (λ answer. CallsAll (λ reply. reply ∷ []) (request ∷ []) (connection_of old) (connection_of new) before.traffic after.traffic answer) old new before after result
 
 -- a request is called, or memory ran out before it was made, and nothing was done
-abbrev pub Asks : Request → Client → Client → Option Traffic → Option Traffic → Result Reply AskFault → Type 0
+abbrev pub Asks : Request → Client → Client → LineState → LineState → Result Reply AskFault → Type 0
 Asks request old new before after result = ((result ≡ Err NoMemory) × (new ≡ old) × (after ≡ before)) ⊎ Calls request old new before after result
 
 -- a session is begun by the token policy with this PolicyId
-abbrev pub Begins : Option (List ℕ) → DateTime → Client → Client → Option Traffic → Option Traffic → Result NodeId AskFault → Type 0
+abbrev pub Begins : Option (List ℕ) → DateTime → Client → Client → LineState → LineState → Result NodeId AskFault → Type 0
 Begins policy_id moment old new before after result =
-    CallsClient (λ answer. BeginsSessionAs policy_id moment (connection_of old) (connection_of new) before after answer) old new before after result
+    CallsClient (λ answer. BeginsSessionAs policy_id moment (connection_of old) (connection_of new) before.traffic after.traffic answer) old new before after result
 
 -- ---- closing
 
 -- a client is closed: one that may be called writes its CLO, one that is done answers `Closed` and changes nothing
-pub record ClosesClient (moment : DateTime) (client : Client) (before after : Option Traffic) (result : Result (Unit {0}) AskFault) : Type 0 where
+pub record ClosesClient (moment : DateTime) (client : Client) (before after : LineState) (result : Result (Unit {0}) AskFault) : Type 0 where
   pub answer : Result (Unit {0}) ClientFault
-  pub closes : IsReady client → Closes moment (client_channel client) before after answer
+  pub closes : IsReady client → Closes moment (client_channel client) before.traffic after.traffic answer
   pub stays : IsDone client → (answer ≡ Err Closed) × (after ≡ before)
+  pub fails : FailsBy answer before after
   pub told_is : result ≡ told answer
 
 -- ---- a whole conversation
 
 -- something was asked of a client, of which this holds, and the client was closed behind it; the first fault is told
-pub record Uses {A M : Type 0} (gives : M → ℤ → M → Type 0) (last : M) (after : Option Traffic) (Asked : Client → M → Option Traffic → Result A AskFault → Type 0) (result : Result A AskFault) : Type 0 where
+pub record Uses {A M : Type 0} (gives : M → ℤ → M → Type 0) (last : M) (after : LineState) (Asked : Client → M → LineState → Result A AskFault → Type 0) (result : Result A AskFault) : Type 0 where
   pub asked : Client
   pub behind : M
-  pub answered : Option Traffic
+  pub answered : LineState
   pub printed : Result A AskFault
   pub asks : Asked asked behind answered printed
   pub closed_at : DateTime
@@ -89,13 +96,13 @@ pub record Uses {A M : Type 0} (gives : M → ℤ → M → Type 0) (last : M) (
 
 -- a client was opened to the server on a port of this machine, asked something, of which this holds, and closed, each step at the next
 -- moment; where none was opened that is told, and no line was added
-pub record Runs {A M : Type 0} (gives : M → ℤ → M → Type 0) (limits : Limits) (port : ℕ) (first last : M) (before after : Option Traffic) (had have : List ℕ)
-    (Asked : Client → Client → M → M → Option Traffic → Option Traffic → Result A AskFault → Type 0) (result : Result A AskFault) : Type 0 where
+pub record Runs {A M : Type 0} (gives : M → ℤ → M → Type 0) (limits : Limits) (port : ℕ) (first last : M) (before after : LineState) (had have : List ℕ)
+    (Asked : Client → Client → M → M → LineState → LineState → Result A AskFault → Type 0) (result : Result A AskFault) : Type 0 where
   pub opened_at : DateTime
   pub behind : M
   pub given : gives first opened_at.ticks behind
   pub opened : Result Client AskFault
-  pub once_open : Option Traffic
+  pub once_open : LineState
   pub opens : OpensPort limits port opened_at before once_open opened
   pub further : MatchResult opened
       (λ client. IsReady client × Uses gives last after (λ asked later answered printed. Asked client asked behind later once_open answered printed) result)

@@ -2,6 +2,7 @@
 
 ghost use Rattle.std.specs.Prelude.{string_bytes, OnOk};
 ghost use Rattle.ua_asking.specs.Endpoints.{AsksEndpoints, CallsEndpoints, RunsEndpoints};
+ghost use Rattle.ua_asking.specs.Line.{LineFailed};
 ghost use Rattle.ua_asking.specs.Printed.{AddsEndpoints, AddsOrNone, AreEndpointLines};
 
 use crate::answer::print_endpoints;
@@ -26,7 +27,7 @@ pub fn call_endpoints<L: Line>(
     port: u16,
     moment: DateTime,
 ) -> Result<Reply, AskFault>
-    ensures { CallsEndpoints port moment client.old client.new (L.traffic line.old) (L.traffic line.new) result }
+    ensures { CallsEndpoints port moment client.old client.new (record { traffic = L.traffic line.old; failures = L.failures line.old }) (record { traffic = L.traffic line.new; failures = L.failures line.new }) result }
 {
     let Ok(url) = local_url(alloc, port) else {
         return Err(AskFault::NoMemory);
@@ -45,7 +46,7 @@ fn ask_endpoints<L: Line, M: Moments>(
     moments: &mut M,
     out: &mut String,
 ) -> Result<(), AskFault>
-    ensures { AsksEndpoints M.gives port style moments.old moments.new client.old client.new (L.traffic line.old) (L.traffic line.new) (string_bytes out.old) (string_bytes out.new) result }
+    ensures { AsksEndpoints M.gives port style moments.old moments.new client.old client.new (record { traffic = L.traffic line.old; failures = L.failures line.old }) (record { traffic = L.traffic line.new; failures = L.failures line.new }) (string_bytes out.old) (string_bytes out.new) result }
 {
     let moment = next_moment(moments);
     let called = call_endpoints(alloc, line, client, port, moment);
@@ -65,9 +66,10 @@ pub fn endpoints_over<L: Line, M: Moments>(
     moments: &mut M,
     out: &mut String,
 ) -> Result<(), AskFault>
-    ensures runs { RunsEndpoints M.gives limits port style moments.old moments.new (L.traffic line.old) (L.traffic line.new) (string_bytes out.old) (string_bytes out.new) result }
+    ensures runs { RunsEndpoints M.gives limits port style moments.old moments.new (record { traffic = L.traffic line.old; failures = L.failures line.old }) (record { traffic = L.traffic line.new; failures = L.failures line.new }) (string_bytes out.old) (string_bytes out.new) result }
     ensures adds { AddsOrNone (AreEndpointLines style) (string_bytes out.old) (string_bytes out.new) }
     ensures answered { OnOk result (AddsEndpoints style (string_bytes out.old) (string_bytes out.new)) }
+    ensures failed { LineFailed (L.failures line.old) result (L.failures line.new) }
 {
     let opened_at = next_moment(moments);
     match open(alloc, line, limits, port, opened_at) {

@@ -1,6 +1,7 @@
 //! `ua read` and `ua write`: what is asked in a session of its own.
 
 ghost use Rattle.std.specs.Prelude.{◌≡◌, ◌<◌, ◌^◌, string_bytes, OnOk};
+ghost use Rattle.ua_asking.specs.Line.{LineFailed};
 ghost use Rattle.ua_asking.specs.Printed.{AddsAnswers, AddsOrNone, AreAnswerLines};
 ghost use Rattle.ua_asking.specs.Question.{request_of};
 ghost use Rattle.ua_asking.specs.Session.{AsksByPolicy, AsksInSession, AsksUnder, EndsSession, FindsPolicy, RunsQuestion, first_call, handle_behind};
@@ -30,7 +31,7 @@ fn find_policy<L: Line, M: Moments>(
     policy: &TokenPolicy,
     moments: &mut M,
 ) -> Result<UaString, AskFault>
-    ensures { FindsPolicy M.gives port policy.now moments.old moments.new client.old client.new (L.traffic line.old) (L.traffic line.new) result }
+    ensures { FindsPolicy M.gives port policy.now moments.old moments.new client.old client.new (record { traffic = L.traffic line.old; failures = L.failures line.old }) (record { traffic = L.traffic line.new; failures = L.failures line.new }) result }
 {
     match policy {
         TokenPolicy::Named(id) => match id.try_clone() {
@@ -67,7 +68,7 @@ fn call_question<L: Line>(
     handle: u32,
     moment: DateTime,
 ) -> Result<Reply, AskFault>
-    ensures { Asks (request_of question.now token.now moment handle) client.old client.new (L.traffic line.old) (L.traffic line.new) result }
+    ensures { Asks (request_of question.now token.now moment handle) client.old client.new (record { traffic = L.traffic line.old; failures = L.failures line.old }) (record { traffic = L.traffic line.new; failures = L.failures line.new }) result }
 {
     let Ok(token) = token.try_clone() else {
         return Err(AskFault::NoMemory);
@@ -97,7 +98,7 @@ fn end_session<L: Line>(
     handle: u32,
     moment: DateTime,
 ) -> Result<(), AskFault>
-    ensures { EndsSession token handle moment client.old client.new (L.traffic line.old) (L.traffic line.new) result }
+    ensures { EndsSession token handle moment client.old client.new (record { traffic = L.traffic line.old; failures = L.failures line.old }) (record { traffic = L.traffic line.new; failures = L.failures line.new }) result }
 {
     let request = close_session_request(token, moment, handle);
     let called = call(line, client, request, moment);
@@ -117,7 +118,7 @@ fn ask_under<L: Line, M: Moments>(
     out: &mut String,
 ) -> Result<Verdict, AskFault>
     requires { handle < 2 ^ 31 }
-    ensures { AsksUnder M.gives style question.now token handle moments.old moments.new client.old client.new (L.traffic line.old) (L.traffic line.new) (string_bytes out.old) (string_bytes out.new) result }
+    ensures { AsksUnder M.gives style question.now token handle moments.old moments.new client.old client.new (record { traffic = L.traffic line.old; failures = L.failures line.old }) (record { traffic = L.traffic line.new; failures = L.failures line.new }) (string_bytes out.old) (string_bytes out.new) result }
 {
     let asked_at = next_moment(moments);
     let called = call_question(alloc, line, client, question, &token, handle, asked_at);
@@ -142,7 +143,7 @@ fn ask_in_session<L: Line, M: Moments>(
     out: &mut String,
 ) -> Result<Verdict, AskFault>
     requires { handle < 2 ^ 31 }
-    ensures { AsksInSession M.gives style question.now policy_id handle moments.old moments.new client.old client.new (L.traffic line.old) (L.traffic line.new) (string_bytes out.old) (string_bytes out.new) result }
+    ensures { AsksInSession M.gives style question.now policy_id handle moments.old moments.new client.old client.new (record { traffic = L.traffic line.old; failures = L.failures line.old }) (record { traffic = L.traffic line.new; failures = L.failures line.new }) (string_bytes out.old) (string_bytes out.new) result }
 {
     let begun_at = next_moment(moments);
     match begin(line, client, policy_id, begun_at) {
@@ -165,7 +166,7 @@ fn ask_by_policy<L: Line, M: Moments>(
     moments: &mut M,
     out: &mut String,
 ) -> Result<Verdict, AskFault>
-    ensures { AsksByPolicy M.gives port policy.now style question.now moments.old moments.new client.old client.new (L.traffic line.old) (L.traffic line.new) (string_bytes out.old) (string_bytes out.new) result }
+    ensures { AsksByPolicy M.gives port policy.now style question.now moments.old moments.new client.old client.new (record { traffic = L.traffic line.old; failures = L.failures line.old }) (record { traffic = L.traffic line.new; failures = L.failures line.new }) (string_bytes out.old) (string_bytes out.new) result }
 {
     let found = find_policy(alloc, line, client, port, policy, moments);
     let handle = first_call(policy);
@@ -195,9 +196,10 @@ pub fn ask_over<L: Line, M: Moments>(
     moments: &mut M,
     out: &mut String,
 ) -> Result<Verdict, AskFault>
-    ensures runs { RunsQuestion M.gives limits port policy.now style question.now moments.old moments.new (L.traffic line.old) (L.traffic line.new) (string_bytes out.old) (string_bytes out.new) result }
+    ensures runs { RunsQuestion M.gives limits port policy.now style question.now moments.old moments.new (record { traffic = L.traffic line.old; failures = L.failures line.old }) (record { traffic = L.traffic line.new; failures = L.failures line.new }) (string_bytes out.old) (string_bytes out.new) result }
     ensures adds { AddsOrNone (AreAnswerLines style) (string_bytes out.old) (string_bytes out.new) }
     ensures answered { OnOk result (AddsAnswers style (string_bytes out.old) (string_bytes out.new)) }
+    ensures failed { LineFailed (L.failures line.old) result (L.failures line.new) }
 {
     let opened_at = next_moment(moments);
     match open(alloc, line, limits, port, opened_at) {

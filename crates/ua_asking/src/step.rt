@@ -53,7 +53,7 @@ pub fn open<L: Line>(
     port: u16,
     moment: DateTime,
 ) -> Result<Client, AskFault>
-    ensures opens { OpensPort limits port moment (L.traffic line.old) (L.traffic line.new) result }
+    ensures opens { OpensPort limits port moment (record { traffic = L.traffic line.old; failures = L.failures line.old }) (record { traffic = L.traffic line.new; failures = L.failures line.new }) result }
     ensures ready { IfOk result (λ client. IsReady client) }
 {
     let Ok(url) = local_url(alloc, port) else {
@@ -69,7 +69,7 @@ pub fn begin<L: Line>(
     policy_id: UaString,
     moment: DateTime,
 ) -> Result<NodeId, AskFault>
-    ensures { Begins policy_id moment client.old client.new (L.traffic line.old) (L.traffic line.new) result }
+    ensures { Begins policy_id moment client.old client.new (record { traffic = L.traffic line.old; failures = L.failures line.old }) (record { traffic = L.traffic line.new; failures = L.failures line.new }) result }
 {
     told(client.begin_session_as(line, policy_id, moment))
 }
@@ -81,7 +81,7 @@ pub fn call<L: Line>(
     request: Request,
     moment: DateTime,
 ) -> Result<Reply, AskFault>
-    ensures { Calls request client.old client.new (L.traffic line.old) (L.traffic line.new) result }
+    ensures { Calls request client.old client.new (record { traffic = L.traffic line.old; failures = L.failures line.old }) (record { traffic = L.traffic line.new; failures = L.failures line.new }) result }
 {
     let answer = client.call(line, &request, moment);
     drop(request);
@@ -90,7 +90,7 @@ pub fn call<L: Line>(
 
 /// Closes a client, where it did not fail before.
 pub fn close<L: Line>(line: &mut L, mut client: Client, moment: DateTime) -> Result<(), AskFault>
-    ensures { ClosesClient moment client (L.traffic line.old) (L.traffic line.new) result }
+    ensures { ClosesClient moment client (record { traffic = L.traffic line.old; failures = L.failures line.old }) (record { traffic = L.traffic line.new; failures = L.failures line.new }) result }
 {
     told(client.close(line, moment))
 }

@@ -7,7 +7,7 @@ returns-in-Ok g c = record {
   found = Ok c.in-Ok.id;
   behind = c.find_policy-found.new.moments;
   client = c.find_policy-found.new.client;
-  once_found = g.L.Line.traffic c.find_policy-found.new.line;
+  once_found = record { traffic = g.L.Line.traffic c.find_policy-found.new.line; failures = g.L.Line.failures c.find_policy-found.new.line };
   finds = c.in-Ok.ensures;
   further = asks_by _ _ _ _ _ _ _ _ _ _ _ _ _ _ _ c.first_call-handle.ensures.handle c.ask_in_session.ensures;
 }

@@ -8,7 +8,7 @@ returns g c = record {
   asking_given = c.next_moment-asked_at.ensures;
   called = c.call_question-called.result;
   asked = c.call_question-called.new.client;
-  answered = g.L.Line.traffic c.call_question-called.new.line;
+  answered = record { traffic = g.L.Line.traffic c.call_question-called.new.line; failures = g.L.Line.failures c.call_question-called.new.line };
   asks = c.call_question-called.ensures;
   printed = c.print-printed.result;
   prints = c.print-printed.ensures;
