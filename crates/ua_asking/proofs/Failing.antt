@@ -112,7 +112,8 @@ first_joins : {A : Type 0} (one : Result A AskFault) (two : Result (Unit {0}) As
 first_joins (Ok found) (Ok done) = (λ g h. refl, λ f. f, λ f. f)
 first_joins (Ok found) (Err f) = (λ g h. h, λ x. absurd x, λ x. x)
 first_joins (Err f) (Ok done) = (λ g h. g, λ x. x, λ x. absurd x)
-first_joins (Err f) (Err g) = (λ g h. g, λ x. x, λ x. x)
+first_joins (Err f) (Err NoMemory) = (λ g h. refl, λ x. tt, λ x. tt)
+first_joins (Err f) (Err other) = (λ g h. g, λ x. x, λ x. x)
 
 none_joined : {A B C : Type 0} {n m k : ℕ} (one : Result A AskFault) (two : Result B AskFault) (result : Result C AskFault) → Joins one two result → NoneFails n m one → NoneFails m k two → NoneFails n k result
 none_joined one two result joins first second = record { same = second.same ∙ first.same; untold = joins.0 first.untold second.untold }

@@ -16,6 +16,7 @@ use Rattle.ua_asking.specs.Replies.{PrintsEndpoints}
 use Rattle.ua_asking.specs.Session.{AsksByPolicy, AsksInSession, EndsSession}
 use Rattle.ua_asking.specs.Steps.{first_of}
 use Rattle.ua_asking.specs.declared.fault.AskFault.{AskFault}
+use Rattle.ua_asking.specs.declared.fault.AskFault.TheVariants.{NoMemory}
 use Rattle.ua_asking.specs.declared.policy.TokenPolicy.{TokenPolicy}
 use Rattle.ua_asking.specs.declared.question.Question.{Question}
 use Rattle.ua_asking.specs.declared.question.Question.TheVariants.{Read, Write}
@@ -54,7 +55,9 @@ first_prints : {A : Type 0} (AreLines : List ℕ → Type 0) (printed : Result A
     → result ≡ first_of printed closed → Prints AreLines result had have
 first_prints {A} AreLines (Ok found) (Ok closed) result had have adds is = subst (λ (r : Result A AskFault). Prints AreLines r had have) (sym is) adds
 first_prints {A} AreLines (Ok found) (Err fault) result had have adds is = subst (λ (r : Result A AskFault). Prints AreLines r had have) (sym is) (inr adds)
-first_prints {A} AreLines (Err fault) closed result had have adds is = subst (λ (r : Result A AskFault). Prints AreLines r had have) (sym is) adds
+first_prints {A} AreLines (Err fault) (Ok closed) result had have adds is = subst (λ (r : Result A AskFault). Prints AreLines r had have) (sym is) adds
+first_prints {A} AreLines (Err fault) (Err NoMemory) result had have adds is = subst (λ (r : Result A AskFault). Prints AreLines r had have) (sym is) adds
+first_prints {A} AreLines (Err fault) (Err other) result had have adds is = subst (λ (r : Result A AskFault). Prints AreLines r had have) (sym is) adds
 
 -- none was added
 none_prints : {A : Type 0} (AreLines : List ℕ → Type 0) (fault : AskFault) (result : Result A AskFault) (had have : List ℕ) → result ≡ Err fault → have ≡ had → Prints AreLines result had have

@@ -24,11 +24,13 @@ abbrev pub told : {A : Type 0} → Result A ClientFault → Result A AskFault
 told (Ok found) = Ok found
 told (Err fault) = Err (of_client fault)
 
--- the first fault of two results, or what the first one is where there is none
+-- the first fault of two results, or what the first one is where there is none; that memory ran out is told before any other fault, so that
+-- what was not done for want of it behind a fault is seen
 abbrev pub first_of : {A : Type 0} → Result A AskFault → Result (Unit {0}) AskFault → Result A AskFault
 first_of (Ok found) (Ok done) = Ok found
 first_of (Ok found) (Err fault) = Err fault
-first_of (Err fault) second = Err fault
+first_of (Err fault) (Err NoMemory) = Err NoMemory
+first_of (Err fault) other = Err fault
 
 -- ---- opening
 
@@ -81,7 +83,8 @@ pub record ClosesClient (moment : DateTime) (client : Client) (before after : Li
 
 -- ---- a whole conversation
 
--- something was asked of a client, of which this holds, and the client was closed behind it; the first fault is told
+-- something was asked of a client, of which this holds, and the client was closed behind it, also behind a fault; the first fault is told, or
+-- that memory ran out
 pub record Uses {A M : Type 0} (gives : M → ℤ → M → Type 0) (last : M) (after : LineState) (Asked : Client → M → LineState → Result A AskFault → Type 0) (result : Result A AskFault) : Type 0 where
   pub asked : Client
   pub behind : M

@@ -56,7 +56,7 @@ fn ask_endpoints<L: Line, M: Moments>(
 /// Asks the server at the other end of a line for its endpoints, and adds their lines in this style: as the server on
 /// a port of this machine, whose connection stands at its beginning. A client is opened, calls
 /// GetEndpoints without a session and is closed, also behind a fault after which it may go on; the
-/// first fault is told. Each of these steps has the next moment.
+/// first fault is told, or that memory ran out. Each of these steps has the next moment.
 pub fn endpoints_over<L: Line, M: Moments>(
     alloc: Global,
     line: &mut L,

@@ -181,10 +181,10 @@ fn ask_by_policy<L: Line, M: Moments>(
 /// Asks the server at the other end of a line a question in a session of its own, and adds the lines
 /// of the answers in this style: as the server on a port of this machine, whose connection stands at its
 /// beginning. A client is opened, begins a session by this token policy, asks, ends the session and is
-/// closed, these two also behind a fault after which it may go on; the first fault is told. For
-/// [`TokenPolicy::Auto`] the client calls GetEndpoints before it begins the session; where the endpoints
-/// give no policy that is told as `NoPolicy`, and no session is begun. Each of these steps has the next
-/// moment.
+/// closed, these two also behind a fault after which it may go on; the first fault is told, or that memory
+/// ran out. For [`TokenPolicy::Auto`] the client calls GetEndpoints before it begins the session; where the
+/// endpoints give no policy that is told as `NoPolicy`, and no session is begun. Each of these steps has the
+/// next moment.
 pub fn ask_over<L: Line, M: Moments>(
     alloc: Global,
     line: &mut L,
