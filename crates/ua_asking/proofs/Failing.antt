@@ -1,10 +1,10 @@
 -- How often a line fails in a conversation.
-use Rattle.std.proofs.Common.{◌≡◌, ◌⊎◌, ◌∙◌, inl, inr, ap, refl, sym, subst, ℕ, ℤ, Bool, true, false, cond, List, [], ◌∷◌, Option, Some, Result, Ok, Err}
+use Rattle.std.proofs.Common.{◌≡◌, ◌⊎◌, ◌∙◌, inl, inr, ap, refl, sym, subst, ℕ, ℤ, Bool, true, false, cond, List, Option, Result, Ok, Err}
 use Rattle.std.specs.Prelude.{MatchResult}
 use Rattle.ua_builtin.specs.declared.date_time.DateTime.{DateTime}
 use Rattle.ua_builtin.specs.declared.node_id.NodeId.{NodeId}
 use Rattle.ua_channel.specs.Line.{one_more}
-use Rattle.ua_client.specs.Client.{IsDone, IsLeft, IsReady, ends}
+use Rattle.ua_client.specs.Client.{IsLeft, IsReady, ends}
 use Rattle.ua_client.specs.Hearing.{failures_behind, is_line_fault}
 use Rattle.ua_client.specs.declared.client.Client.{Client}
 use Rattle.ua_client.specs.declared.fault.ClientFault.{ClientFault}
@@ -19,7 +19,7 @@ use Rattle.ua_asking.specs.Line.{LineFailed, LineState}
 use Rattle.ua_asking.specs.Policy.{ChoosesBy}
 use Rattle.ua_asking.specs.Question.{PrintsAnswers}
 use Rattle.ua_asking.specs.Replies.{Expects, IsRefusedBy, PrintsEndpoints}
-use Rattle.ua_asking.specs.Session.{AsksByPolicy, AsksInSession, AsksUnder, EndsSession, FindsPolicy}
+use Rattle.ua_asking.specs.Session.{AsksByPolicy, AsksInSession, AsksUnder, FindsPolicy}
 use Rattle.ua_asking.specs.Steps.{Asks, CallsClient, ClosesClient, OpensPort, first_of, told}
 use Rattle.ua_asking.specs.Told.{of_client}
 use Rattle.ua_asking.specs.declared.fault.AskFault.{AskFault}

@@ -1,5 +1,5 @@
 -- What `ua endpoints` asks a server, and what is printed of it.
-use Rattle.std.specs.Prelude.{ℕ, ℤ, List, Some, Option, Result}
+use Rattle.std.specs.Prelude.{ℕ, ℤ, List, Some, Result}
 use Rattle.ua_builtin.specs.declared.date_time.DateTime.{DateTime}
 use Rattle.ua_client.specs.declared.client.Client.{Client}
 use Rattle.ua_client.specs.declared.reply.Reply.{Reply}

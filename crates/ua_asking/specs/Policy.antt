@@ -1,5 +1,5 @@
 -- By which token policy of a server a session is begun.
-use Rattle.std.specs.Prelude.{◌≡◌, ◌&&◌, ℕ, ℤ, pos, Bool, false, List, [], Option, Some, None, option_map, Result, Ok, Err, codes}
+use Rattle.std.specs.Prelude.{◌≡◌, ◌&&◌, ℕ, pos, Bool, false, List, [], Option, Some, None, option_map, Result, Ok, Err, codes}
 use Rattle.std.specs.Ordering.{int_eq}
 use Rattle.std.specs.List.{find}
 use Rattle.std.specs.Str.{bytes_eq}

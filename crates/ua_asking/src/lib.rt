@@ -1,8 +1,8 @@
 //! What the commands `ua endpoints`, `ua read` and `ua write` ask a server over a line, and the lines
 //! that they add of the answers.
 //!
-//! Its contracts are those of [`endpoints_over`] and [`ask_over`]: what a client does at each step, which
-//! lines are added of the replies, and which fault is told.
+//! Its contracts are those of [`endpoints_over`] and [`ask_over`]: what a client does at each step, how
+//! often its line fails, which lines are added of the replies, and which fault is told.
 //!
 //! ```
 //! let question = Question::parse_read(alloc, &["ns=1;s=Pump"], 13, None)?;
