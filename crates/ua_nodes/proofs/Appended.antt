@@ -1,5 +1,5 @@
 -- What is written for an item of a Read, part by part.
-use Rattle.std.proofs.Common.{◌≡◌, inr, ℕ, zero, suc, ◌+◌, ◌≤◌, List, [], ◌∷◌, ◌++◌, take, length, length-append, Bool, true, false, ◌&&◌, leb, nat_eq, Option, Some, None, Result, Ok, Err, OnErr, append_assoc, is_some, option_map, refl, sym, ap, ◌∙◌, arith}
+use Rattle.std.proofs.Common.{◌≡◌, ◌⊎◌, inl, inr, ℕ, zero, suc, ◌+◌, ◌≤◌, List, [], ◌∷◌, ◌++◌, take, length, length-append, Bool, true, false, ◌&&◌, leb, nat_eq, Option, Some, None, Result, Ok, Err, OnErr, append_assoc, is_some, option_map, refl, sym, ap, ◌∙◌, arith}
 use Rattle.std.proofs.lemmas.Bool.{le-leb, leb-true}
 use Rattle.std.specs.List.{flat_map}
 use Rattle.ua_builtin.specs.Flags.{flag_bit}
@@ -9,7 +9,7 @@ use Rattle.ua_builtin.specs.declared.date_time.DateTime.{DateTime}
 use Rattle.ua_builtin.specs.declared.status_code.StatusCode.{StatusCode}
 use Rattle.ua_octets.proofs.Readers.{both_true}
 use Rattle.ua_structures.specs.declared.attribute.ReadValueId.{ReadValueId}
-use Rattle.ua_variant.specs.Data.{DataFields, VariantData, DataValueData, bare, valued}
+use Rattle.ua_variant.specs.Data.{DataFields, VariantData, bare, valued}
 use Rattle.ua_variant.specs.Encodable.{data_fields_encodable, data_value_encodable, variant_encodable, variant_fits}
 use Rattle.ua_variant.specs.Fields.{data_flags}
 use Rattle.ua_variant.specs.Measure.{variant_depth}
@@ -17,7 +17,7 @@ use Rattle.ua_nodes.specs.Attribute.{attribute_of, attribute_value}
 use Rattle.ua_nodes.specs.Range.{asked_range}
 use Rattle.ua_nodes.specs.Read.{judged, read_item_reasons, stamps_of, value_read, with_stamps, read_by, read_answer}
 use Rattle.ua_nodes.specs.Table.{Nodes, node_at}
-use Rattle.ua_nodes.specs.Within.{IsWithin, Passes}
+use Rattle.ua_nodes.specs.Within.{IsWithin, NonePassBefore, Passes, with_first}
 use Rattle.ua_nodes.specs.declared.attribute.Attribute.{Attribute}
 use Rattle.ua_nodes.specs.declared.node.Variable.{Variable}
 use Rattle.ua_nodes.specs.declared.range.IndexRange.{IndexRange}
@@ -71,14 +71,29 @@ fewer f (suc n) (item ∷ items) =
     let all : length (f item ++ flat_map f items) ≡ length (f item) + length (flat_map f items) = length-append (f item) (flat_map f items) in
     omega (arith, rest, some, all)
 
--- what stands there when the limit is passed is no more than the whole
-pub given_up : (most : Option ℕ) (f : ReadValueId → List ℕ) (n : ℕ) (items : List ReadValueId) (old out : List ℕ) → out ≡ old ++ flat_map f (take n items) → Passes most (length out) → IsWithin most (old ++ flat_map f items) out
-given_up most f n items old out is passes =
-    let count : length out ≡ length (old ++ flat_map f (take n items)) = ap length is in
-    let some : length (old ++ flat_map f (take n items)) ≡ length old + length (flat_map f (take n items)) = length-append old (flat_map f (take n items)) in
-    let all : length (old ++ flat_map f items) ≡ length old + length (flat_map f items) = length-append old (flat_map f items) in
-    let rest : length (flat_map f (take n items)) ≤ length (flat_map f items) = fewer f n items in
-    inr (passes, omega (arith, count, some, all, rest))
+-- where it stands after so many: the limit was not passed before
+pub record SoFar (most : Option ℕ) (f : ReadValueId → List ℕ) (items : List ReadValueId) (old : List ℕ) (n : ℕ) (out : List ℕ) : Type 0 where
+  pub are : out ≡ with_first f items old n
+  pub first : NonePassBefore most f items old n
+
+-- all that is to be added was, or the limit is passed, by no more than the whole
+pub whole_or_past : (most : Option ℕ) (f : ReadValueId → List ℕ) (items : List ReadValueId) (old out : List ℕ) → IsWithin most f items old out
+    → (out ≡ old ++ flat_map f items) ⊎ (Passes most (length out) × (length out ≤ length (old ++ flat_map f items)))
+whole_or_past most f items old out w = elim w.ends [
+  | inl all ↦ inl (w.are ∙ ap (λ (xs : List ReadValueId). old ++ flat_map f xs) (take_all w.count items (omega (arith, all))))
+  | inr passes ↦
+      let count : length out ≡ length (old ++ flat_map f (take w.count items)) = ap length w.are in
+      let some : length (old ++ flat_map f (take w.count items)) ≡ length old + length (flat_map f (take w.count items)) = length-append old (flat_map f (take w.count items)) in
+      let all : length (old ++ flat_map f items) ≡ length old + length (flat_map f items) = length-append old (flat_map f items) in
+      let rest : length (flat_map f (take w.count items)) ≤ length (flat_map f items) = fewer f w.count items in
+      inr (passes, omega (arith, count, some, all, rest))
+]
+  where
+    take_all : (n : ℕ) (xs : List ReadValueId) → length xs ≤ n → take n xs ≡ xs
+    take_all zero [] h = refl
+    take_all zero (x ∷ xs) h = absurd (omega (arith, h))
+    take_all (suc n) [] h = refl
+    take_all (suc n) (x ∷ xs) h = ap (λ (ys : List ReadValueId). x ∷ ys) (take_all n xs (omega (arith, h)))
 
 -- what begins with all that was added so far begins with what was there
 pub extends_behind : {T E : Type 0} (old mid new more : List ℕ) (answer : Result T E) → mid ≡ old ++ more → Extends mid new → OnErr answer (Extends old new)

@@ -1,7 +1,6 @@
 //! The answers to items of Read, written from where their values stand.
 
 ghost use Rattle.std.specs.Prelude.{◌≡◌, ◌<◌, ◌≤◌, ◌↔◌, ◌++◌, ◌∷◌, length, true, IfOk, IfSome, IsTrue, OnOk, OnErr};
-ghost use Rattle.std.specs.List.{flat_map};
 ghost use Rattle.ua_builtin.specs.Format.{Extends};
 ghost use Rattle.ua_variant.specs.Canonical.{data_fields_canonical, data_value_canonical, variant_canonical};
 ghost use Rattle.ua_variant.specs.Data.{valued};
@@ -31,10 +30,9 @@ const HAS_VALUE: u8 = 0x01;
 impl NodeTable {
     /// Adds the answers to items of a Read at the end, one behind the other, as they are encoded: those
     /// that [`read_item`](NodeTable::read_item) makes. The Value of a node is written from where it
-    /// stands; a part of an array and the other attributes are made first, one at a time. Where it has
-    /// more octets than `most`, no further answer is added. An error leaves what was there, and perhaps
-    /// octets behind it.
-    #[tactic(auto, using(crate::proofs::Appended::given_up))]
+    /// stands; a part of an array and the other attributes are made first, one at a time. Once there are
+    /// more octets than `most`, those that stood there among them, no further answer is added. An error
+    /// leaves what was there, and perhaps octets behind it.
     pub fn append_items(
         &self,
         alloc: Global,
@@ -45,7 +43,7 @@ impl NodeTable {
         out: &mut Vec<u8>,
     ) -> Result<(), AllocError>
         requires sound { IsSound self.now }
-        ensures ok { OnOk result (IsWithin most (out.old.items ++ flat_map (answer_octets self.now stamps moment) items.now) out.new.items) }
+        ensures ok { OnOk result (IsWithin most (answer_octets self.now stamps moment) items.now out.old.items out.new.items) }
         ensures err { OnErr result (Extends out.old.items out.new.items) }
     {
         let mut fields = Vec::new(alloc);

@@ -6,7 +6,8 @@ use Rattle.ua_chunk.specs.Cutting.{cut_refusal, most_octets, IsAtMost}
 use Rattle.ua_chunk.specs.declared.fault.CutFault.{CutFault}
 use Rattle.ua_chunk.specs.declared.lane.Lane.{Lane}
 use Rattle.ua_channel.specs.ServerSends.{IsReply, replied_by}
-use Rattle.ua_server.specs.Reply.{IsBodyWithin, Passes}
+use Rattle.ua_nodes.specs.Within.{Passes}
+use Rattle.ua_server.specs.Reply.{IsBodyWithin}
 use Rattle.ua_server.specs.Requests.{code_by}
 
 -- without a limit nothing is given up

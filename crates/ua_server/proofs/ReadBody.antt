@@ -27,6 +27,7 @@ use Rattle.ua_variant.specs.Formats.{data_value_format}
 use Rattle.ua_variant.specs.declared.values.DataValue.{DataValue}
 use Rattle.ua_server.specs.Attributes.{value_from, read_answers}
 use Rattle.ua_server.specs.Reply.{IsBodyWithin}
+use Rattle.ua_nodes.proofs.Appended.{whole_or_past}
 use Rattle.ua_server.proofs.GivenUp.{passes_more}
 
 -- the front of a Read response: the NodeId of its encoding, its header, and how many results it has
@@ -85,20 +86,23 @@ written_whole header nodes items stamps moment =
 
 -- the body that is written, which may have been given up
 pub written_within : (most : Option ℕ) (header : ResponseHeader) (nodes : Nodes) (items : List ReadValueId) (stamps : Stamps) (moment : DateTime) (results body : List ℕ)
-    → IsWithin most (front header (length items) ++ flat_map (answer_octets nodes stamps moment) items) results → body ≡ results ++ number_octets 4 null_count
+    → IsWithin most (answer_octets nodes stamps moment) items (front header (length items)) results → body ≡ results ++ number_octets 4 null_count
     → IsBodyWithin most (response.canonical (ReadMessage (values_of header (read_answers nodes items stamps moment)))) body
-written_within most header nodes items stamps moment results body (inl e) is =
-    inl (is ∙ ap (λ (b : List ℕ). b ++ number_octets 4 null_count) e ∙ written_whole header nodes items stamps moment)
-written_within most header nodes items stamps moment results body (inr p) is =
+written_within most header nodes items stamps moment results body within is =
     let all = front header (length items) ++ flat_map (answer_octets nodes stamps moment) items in
-    let few : length body ≡ length results + length (number_octets 4 null_count) = ap length is ∙ length-append results (number_octets 4 null_count) in
-    let many : length (response.canonical (ReadMessage (values_of header (read_answers nodes items stamps moment)))) ≡ length all + length (number_octets 4 null_count) =
-    sym (ap length (written_whole header nodes items stamps moment)) ∙ length-append all (number_octets 4 null_count) in
-    let least : length results ≤ length all = p.1 in
-    inr (
-      passes_more most (length results) (length body) (omega (arith, few)) p.0,
-      passes_more most (length results) (length (response.canonical (ReadMessage (values_of header (read_answers nodes items stamps moment))))) (omega (arith, many, least)) p.0,
-    )
+    let whole = response.canonical (ReadMessage (values_of header (read_answers nodes items stamps moment))) in
+    elim (whole_or_past most (answer_octets nodes stamps moment) items (front header (length items)) results within) [
+      | inl e ↦ inl (is ∙ ap (λ (b : List ℕ). b ++ number_octets 4 null_count) e ∙ written_whole header nodes items stamps moment)
+      | inr p ↦
+          let few : length body ≡ length results + length (number_octets 4 null_count) = ap length is ∙ length-append results (number_octets 4 null_count) in
+          let many : length whole ≡ length all + length (number_octets 4 null_count) =
+          sym (ap length (written_whole header nodes items stamps moment)) ∙ length-append all (number_octets 4 null_count) in
+          let least : length results ≤ length all = p.1 in
+          inr (
+            passes_more most (length results) (length body) (omega (arith, few)) p.0,
+            passes_more most (length results) (length whole) (omega (arith, many, least)) p.0,
+          )
+    ]
 
 pub written_some : (results : List ℕ) → 0 < length (results ++ number_octets 4 null_count)
 unfolding number_octets

@@ -1,6 +1,7 @@
 -- The reply to a message, whatever its body is (OPC 10000-4, 7.35; OPC 10000-6, 6.7.2).
 use Rattle.std.specs.Prelude.{◌≡◌, ◌<◌, ◌⊎◌, ℕ, length, List, Option, Some, None, Result, Ok, Err}
 use Rattle.ua_builtin.specs.declared.date_time.DateTime.{DateTime}
+use Rattle.ua_nodes.specs.Within.{Passes}
 use Rattle.ua_services.specs.Request.{request_read}
 use Rattle.ua_services.specs.declared.fault.RequestFault.{RequestFault}
 use Rattle.ua_services.specs.declared.fault.RequestFault.TheVariants.{Unsupported, Unreadable, OutOfMemory}
@@ -23,11 +24,6 @@ answered_by (Err fault) s moment = (s, misread_answer fault moment)
 -- the state that a message leaves, and the response to it
 abbrev pub answered : State → DateTime → List ℕ → State × Response
 answered s moment octets = answered_by (request_read octets) s moment
-
--- so many octets are more than the most, if there is such a limit
-abbrev pub Passes : Option ℕ → ℕ → Type 0
-Passes None n = ⊥
-Passes (Some most) n = most < n
 
 -- a body is the whole one, or it was given up: it passes the limit, and so does the whole one
 abbrev pub IsBodyWithin : Option ℕ → List ℕ → List ℕ → Type 0

@@ -1,5 +1,4 @@
 use Rattle.std.proofs.Common.{rules, ◌≡◌, ◌<◌, ℕ, List, ◌++◌, length, sym, subst}
-use Rattle.std.specs.List.{flat_map}
 use Rattle.ua_builtin.specs.Counted.{null_count}
 use Rattle.ua_builtin.specs.Number.{number_octets}
 use Rattle.ua_nodes.specs.Read.{answer_octets}
@@ -20,8 +19,8 @@ returns-clause-body c =
     let items = c.unwrap_or-items.result.now in
     let nodes = c.self.inside.nodes in
     let begun : c.append_front.new.out.items ≡ front header (length items) = search rules in
-    let results : IsWithin c.args.most (front header (length items) ++ flat_map (answer_octets nodes stamps c.args.moment) items) c.append_items.new.out.items =
-    subst (λ (b : List ℕ). IsWithin c.args.most (b ++ flat_map (answer_octets nodes stamps c.args.moment) items) c.append_items.new.out.items) begun c.in_ok-append_items.ensures.ok in
+    let results : IsWithin c.args.most (answer_octets nodes stamps c.args.moment) items (front header (length items)) c.append_items.new.out.items =
+    subst (λ (b : List ℕ). IsWithin c.args.most (answer_octets nodes stamps c.args.moment) items b c.append_items.new.out.items) begun c.in_ok-append_items.ensures.ok in
     let body : c.append.new.out.items ≡ c.append_items.new.out.items ++ number_octets 4 null_count = search rules in
     let given : values_given c.args.self.now c.args.moment c.args.request.now ≡ ReadMessage (values_of header (read_answers nodes items stamps c.args.moment)) = search rules in
     subst (λ (r : Response). IsBodyWithin c.args.most (response.canonical r) c.append.new.out.items) (sym given)
