@@ -1,9 +1,11 @@
 //! Items of a Read.
 
-ghost use Rattle.std.specs.Prelude.{◌≡◌, IfOk};
+ghost use Rattle.std.specs.Prelude.{◌≡◌, IfOk, OnOk};
 ghost use Rattle.ua_variant.specs.View.{data_value_of};
-ghost use Rattle.ua_nodes.specs.Read.{read_answer};
+ghost use Rattle.ua_nodes.specs.Read.{answer_octets, read_answer};
+ghost use Rattle.ua_nodes.specs.Sound.{IsSound};
 ghost use Rattle.ua_nodes.specs.Table.{node_at};
+ghost use Rattle.ua_nodes.specs.Within.{IsWithin};
 
 use std::alloc::{AllocError, Global};
 use ua_builtin::{DateTime, StatusCode, UaString};
@@ -22,4 +24,21 @@ pub fn read_one_item(
     ensures answer { IfOk result (λ d. data_value_of d ≡ read_answer (node_at nodes.now item.now.node_id) item.now stamps moment) }
 {
     nodes.read_item(alloc, item, stamps, moment)
+}
+
+/// Adds the answers to items of a Read at the end, up to the first behind which there are more octets
+/// than the most.
+pub fn append_answers(
+    alloc: Global,
+    nodes: &NodeTable,
+    items: &[ReadValueId],
+    stamps: Stamps,
+    moment: DateTime,
+    most: Option<usize>,
+    out: &mut Vec<u8>,
+) -> Result<(), AllocError>
+    requires sound { IsSound nodes.now }
+    ensures ok { OnOk result (IsWithin most (answer_octets nodes.now stamps moment) items.now out.old.items out.new.items) }
+{
+    nodes.append_items(alloc, items, stamps, moment, most, out)
 }

@@ -10,5 +10,5 @@ mod serving;
 
 pub use answers::{answer_both, reply_to};
 pub use calls::call_each;
-pub use items::read_one_item;
+pub use items::{append_answers, read_one_item};
 pub use serving::serve_begun;
