@@ -72,9 +72,10 @@ impl Wire for ReadValueId {
         src: &mut S,
         depth: u32,
     ) -> Result<ReadValueId, ReadFault> {
-        let (node_id, (attribute_id, (index_range, data_encoding))) = Wire::read_value(
-            alloc, src, depth,
-        )?;
+        let node_id = NodeId::read_value(alloc, src, depth)?;
+        let attribute_id = u32::read_value(alloc, src, depth)?;
+        let index_range = UaString::read_value(alloc, src, depth)?;
+        let data_encoding = QualifiedName::read_value(alloc, src, depth)?;
         Ok(ReadValueId {
             node_id,
             attribute_id,
@@ -111,7 +112,7 @@ pub struct ReadRequest {
 
 impl ReadRequest {
     ghost use Rattle.ua_builtin.specs.Exact.{image_read};
-    ghost use Rattle.ua_builtin.specs.Format.{most_levels, Gives, StaysBehind};
+    ghost use Rattle.ua_builtin.specs.Format.{most_levels, Gives, GivesBy, StaysBehind};
     ghost use Rattle.ua_structures.specs.Attribute.{read_request_fields, read_request_of};
 
     /// A Read of these items, however old their values, with the times of source and server.
@@ -145,6 +146,36 @@ impl ReadRequest {
         Ok(ReadRequest::of_items(request_header, items))
     }
 
+    /// A Read of nothing under an empty header, to read one into. Takes no memory.
+    pub fn empty() -> ReadRequest {
+        ReadRequest {
+            request_header: RequestHeader::empty(),
+            max_age: DoubleBits { bits: 0 },
+            timestamps_to_return: 0,
+            nodes_to_read: UaArray::null(),
+        }
+    }
+
+    /// Reads the fields behind the header, which stays, in the place of these, as
+    /// [`read_behind`](ReadRequest::read_behind) reads them. After a fault the source is to be given up.
+    #[inline(never)]
+    pub fn read_fields<S: Source>(
+        &mut self,
+        alloc: Global,
+        src: &mut S,
+        depth: u32,
+    ) -> Result<(), ReadFault>
+        requires levels { depth ≤ most_levels }
+        ensures exact { GivesBy (λ _. self.new) (image_read (λ fields. read_request_of (self.old.request_header, fields)) (read_request_fields.decode depth)) (S.octets src.old) (S.octets src.new) result }
+        ensures header { self.new.request_header ≡ self.old.request_header }
+        ensures behind { StaysBehind (S.octets src.old) (S.octets src.new) }
+    {
+        self.max_age = DoubleBits::read_value(alloc, src, depth)?;
+        self.timestamps_to_return = i32::read_value(alloc, src, depth)?;
+        self.nodes_to_read = UaArray::read_value(alloc, src, depth)?;
+        Ok(())
+    }
+
     /// Reads the fields behind a header that was read already.
     pub fn read_behind<S: Source>(
         alloc: Global,
@@ -156,7 +187,9 @@ impl ReadRequest {
         ensures exact { Gives (image_read (λ fields. read_request_of (request_header, fields)) (read_request_fields.decode depth)) (S.octets src.old) (S.octets src.new) result }
         ensures behind { StaysBehind (S.octets src.old) (S.octets src.new) }
     {
-        let (max_age, (timestamps_to_return, nodes_to_read)) = Wire::read_value(alloc, src, depth)?;
+        let max_age = DoubleBits::read_value(alloc, src, depth)?;
+        let timestamps_to_return = i32::read_value(alloc, src, depth)?;
+        let nodes_to_read = UaArray::read_value(alloc, src, depth)?;
         Ok(ReadRequest {
             request_header,
             max_age,
@@ -225,6 +258,39 @@ impl ReadResponse {
     }
 }
 
+impl ReadResponse {
+    ghost use Rattle.ua_builtin.specs.Format.{most_levels, GivesBy, StaysBehind};
+
+    /// The values of no items under an empty header, to read one into. Takes no memory.
+    pub fn empty() -> ReadResponse {
+        ReadResponse {
+            response_header: ResponseHeader::empty(),
+            results: UaArray::null(),
+            diagnostic_infos: UaArray::null(),
+        }
+    }
+
+    /// Reads the ReadResponse that the source begins with in the place of this one, as reading a value
+    /// does. After a fault the source is to be given up.
+    #[inline(never)]
+    #[tactic(auto, unfolding(crate::specs::Attribute::read_response))]
+    pub fn read_into<S: Source>(
+        &mut self,
+        alloc: Global,
+        src: &mut S,
+        depth: u32,
+    ) -> Result<(), ReadFault>
+        requires levels { depth ≤ most_levels }
+        ensures exact { GivesBy (λ _. self.new) (read_response.decode depth) (S.octets src.old) (S.octets src.new) result }
+        ensures behind { StaysBehind (S.octets src.old) (S.octets src.new) }
+    {
+        self.response_header.read_into(alloc, src, depth)?;
+        self.results = read_data_values(alloc, src, depth)?;
+        self.diagnostic_infos = UaArray::read_value(alloc, src, depth)?;
+        Ok(())
+    }
+}
+
 impl Wire for ReadResponse {
     ghost use Rattle.ua_structures.specs.Attribute.{read_response};
 
@@ -240,14 +306,14 @@ impl Wire for ReadResponse {
         src: &mut S,
         depth: u32,
     ) -> Result<ReadResponse, ReadFault> {
-        let response_header = Wire::read_value(alloc, src, depth)?;
-        let results = read_data_values(alloc, src, depth)?;
-        let diagnostic_infos = Wire::read_value(alloc, src, depth)?;
-        Ok(ReadResponse {
-            response_header,
-            results,
-            diagnostic_infos,
-        })
+        let mut message = ReadResponse::empty();
+        match message.read_into(alloc, src, depth) {
+            Ok(()) => Ok(message),
+            Err(fault) => {
+                drop(message);
+                Err(fault)
+            }
+        }
     }
 
     #[tactic(auto, unfolding(crate::specs::Attribute::read_response))]

@@ -57,6 +57,41 @@ impl RequestHeader {
     }
 }
 
+impl RequestHeader {
+    ghost use Rattle.std.specs.Prelude.{◌≤◌};
+    ghost use Rattle.ua_builtin.specs.Format.{most_levels, GivesBy, StaysBehind};
+
+    /// A header whose fields are null or 0, to read one into. Takes no memory.
+    pub fn empty() -> RequestHeader {
+        RequestHeader::new(NodeId::null(), DateTime { ticks: 0 }, 0)
+    }
+
+    /// Reads the header that the source begins with in the place of this one, as reading a value does.
+    /// Where a header is handed over by value it is moved at each step. After a fault the source is to
+    /// be given up.
+    #[inline(never)]
+    #[tactic(auto, unfolding(crate::specs::Header::request_header))]
+    pub fn read_into<S: Source>(
+        &mut self,
+        alloc: Global,
+        src: &mut S,
+        depth: u32,
+    ) -> Result<(), ReadFault>
+        requires levels { depth ≤ most_levels }
+        ensures exact { GivesBy (λ _. self.new) (request_header.decode depth) (S.octets src.old) (S.octets src.new) result }
+        ensures behind { StaysBehind (S.octets src.old) (S.octets src.new) }
+    {
+        self.authentication_token = NodeId::read_value(alloc, src, depth)?;
+        self.timestamp = DateTime::read_value(alloc, src, depth)?;
+        self.request_handle = u32::read_value(alloc, src, depth)?;
+        self.return_diagnostics = u32::read_value(alloc, src, depth)?;
+        self.audit_entry_id = UaString::read_value(alloc, src, depth)?;
+        self.timeout_hint = u32::read_value(alloc, src, depth)?;
+        self.additional_header = ExtensionObject::read_value(alloc, src, depth)?;
+        Ok(())
+    }
+}
+
 impl Wire for RequestHeader {
     ghost use Rattle.ua_structures.specs.Header.{request_header};
 
@@ -72,25 +107,14 @@ impl Wire for RequestHeader {
         src: &mut S,
         depth: u32,
     ) -> Result<RequestHeader, ReadFault> {
-        let (
-            authentication_token,
-            (
-                timestamp,
-                (
-                    request_handle,
-                    (return_diagnostics, (audit_entry_id, (timeout_hint, additional_header))),
-                ),
-            ),
-        ) = Wire::read_value(alloc, src, depth)?;
-        Ok(RequestHeader {
-            authentication_token,
-            timestamp,
-            request_handle,
-            return_diagnostics,
-            audit_entry_id,
-            timeout_hint,
-            additional_header,
-        })
+        let mut header = RequestHeader::empty();
+        match header.read_into(alloc, src, depth) {
+            Ok(()) => Ok(header),
+            Err(fault) => {
+                drop(header);
+                Err(fault)
+            }
+        }
     }
 
     #[tactic(auto, unfolding(crate::specs::Header::request_header))]
@@ -157,6 +181,40 @@ impl ResponseHeader {
     }
 }
 
+impl ResponseHeader {
+    ghost use Rattle.std.specs.Prelude.{◌≤◌};
+    ghost use Rattle.ua_builtin.specs.Format.{most_levels, GivesBy, StaysBehind};
+
+    /// A header whose fields are null or 0, to read one into. Takes no memory.
+    pub fn empty() -> ResponseHeader {
+        ResponseHeader::new(DateTime { ticks: 0 }, 0, StatusCode::GOOD)
+    }
+
+    /// Reads the header that the source begins with in the place of this one, as reading a value does.
+    /// Where a header is handed over by value it is moved at each step. After a fault the source is to
+    /// be given up.
+    #[inline(never)]
+    #[tactic(auto, unfolding(crate::specs::Header::response_header))]
+    pub fn read_into<S: Source>(
+        &mut self,
+        alloc: Global,
+        src: &mut S,
+        depth: u32,
+    ) -> Result<(), ReadFault>
+        requires levels { depth ≤ most_levels }
+        ensures exact { GivesBy (λ _. self.new) (response_header.decode depth) (S.octets src.old) (S.octets src.new) result }
+        ensures behind { StaysBehind (S.octets src.old) (S.octets src.new) }
+    {
+        self.timestamp = DateTime::read_value(alloc, src, depth)?;
+        self.request_handle = u32::read_value(alloc, src, depth)?;
+        self.service_result = StatusCode::read_value(alloc, src, depth)?;
+        self.service_diagnostics = DiagnosticInfo::read_value(alloc, src, depth)?;
+        self.string_table = UaArray::read_value(alloc, src, depth)?;
+        self.additional_header = ExtensionObject::read_value(alloc, src, depth)?;
+        Ok(())
+    }
+}
+
 impl Wire for ResponseHeader {
     ghost use Rattle.ua_structures.specs.Header.{response_header};
 
@@ -172,20 +230,14 @@ impl Wire for ResponseHeader {
         src: &mut S,
         depth: u32,
     ) -> Result<ResponseHeader, ReadFault> {
-        let timestamp = DateTime::read_value(alloc, src, depth)?;
-        let request_handle = u32::read_value(alloc, src, depth)?;
-        let service_result = StatusCode::read_value(alloc, src, depth)?;
-        let service_diagnostics = DiagnosticInfo::read_value(alloc, src, depth)?;
-        let string_table = UaArray::read_value(alloc, src, depth)?;
-        let additional_header = ExtensionObject::read_value(alloc, src, depth)?;
-        Ok(ResponseHeader {
-            timestamp,
-            request_handle,
-            service_result,
-            service_diagnostics,
-            string_table,
-            additional_header,
-        })
+        let mut header = ResponseHeader::empty();
+        match header.read_into(alloc, src, depth) {
+            Ok(()) => Ok(header),
+            Err(fault) => {
+                drop(header);
+                Err(fault)
+            }
+        }
     }
 
     #[tactic(auto, unfolding(crate::specs::Header::response_header))]
