@@ -51,6 +51,7 @@ impl Wire for QualifiedName {
         self.namespace.is_encodable() && self.name.is_encodable()
     }
 
+    #[inline(always)]
     #[tactic(auto, unfolding(crate::specs::QualifiedName::qualified_name))]
     fn append(&self, out: &mut Vec<u8>) -> Result<(), AllocError> {
         append_two(&self.namespace, &self.name, out)

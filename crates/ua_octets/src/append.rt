@@ -7,6 +7,7 @@ use crate::wire::Wire;
 use std::alloc::AllocError;
 
 /// Adds the canonical encodings of two fields.
+#[inline(always)]
 pub fn append_two<A: Wire, B: Wire>(
     first: &A,
     second: &B,

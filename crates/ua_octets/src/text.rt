@@ -172,6 +172,7 @@ impl Wire for UaString {
         }
     }
 
+    #[inline(always)]
     #[tactic(auto, using(crate::proofs::FrontsRead::is_utf8_string), unfolding(crate::specs::Counted::text, crate::specs::Counted::counted))]
     fn append(&self, out: &mut Vec<u8>) -> Result<(), AllocError> {
         match &self.text {

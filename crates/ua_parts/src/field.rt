@@ -40,6 +40,7 @@ pub fn field_fits<T: Wire>(field: &Option<T>) -> bool
 }
 
 /// Reads a field where it is announced.
+#[inline(always)]
 pub fn read_field<T: Wire + Drop, S: Source>(
     alloc: Global,
     src: &mut S,
@@ -86,6 +87,7 @@ pub fn append_two<A: Wire, B: Wire>(
 }
 
 /// Adds three fields, where they are there.
+#[inline(always)]
 pub fn append_three<A: Wire, B: Wire, C: Wire>(
     first: &Option<A>,
     second: &Option<B>,
