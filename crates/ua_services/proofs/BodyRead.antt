@@ -5,7 +5,7 @@ use Rattle.std.proofs.Common.{refl, sym, ◌∙◌, ap, subst, arith, inl, inr}
 use Rattle.std.proofs.lemmas.List.{append-nil}
 use Rattle.ua_builtin.specs.Exact.{◌>>=◌, image_read}
 use Rattle.ua_octets.proofs.Readers.{some_is, bind_some}
-use Rattle.ua_builtin.specs.Format.{Format, IsLawful, Within, Gives, most_levels}
+use Rattle.ua_builtin.specs.Format.{Format, IsLawful, Within, Gives, GivesBy, most_levels}
 use Rattle.ua_octets.specs.declared.fault.ReadFault.{ReadFault}
 use Rattle.ua_octets.specs.declared.fault.ReadFault.TheVariants.{NoValue, OutOfMemory}
 use Rattle.ua_services.specs.Message.{IsBody, IsNoBody, if_last, body_of, found_or}
@@ -100,6 +100,11 @@ read_answers f lawful octets (Err OutOfMemory) found none = inr refl
 
 pub image_found : {A B : Type 0} (make : A → B) (read : List ℕ → Option (A × List ℕ)) (old new : List ℕ) (v : A) → read old ≡ Some (v, new) → image_read make read old ≡ Some (make v, new)
 image_found make read old new v h = ap (λ o. o >>= λ x. Some (make x.0, x.1)) h
+
+-- of a value that was read into its place
+pub placed_fails : {A : Type 0} (v : A) (read : List ℕ → Option (A × List ℕ)) (old new : List ℕ) (e : ReadFault) → GivesBy {X = Unit {0}} (λ _. v) read old new (Err e) → Gives read old new (Err e)
+placed_fails v read old new NoValue h = h
+placed_fails v read old new OutOfMemory h = tt
 
 pub image_fails : {A B : Type 0} (make : A → B) (read : List ℕ → Option (A × List ℕ)) (old new : List ℕ) (e : ReadFault) → Gives read old new (Err e) → Gives (image_read make read) old new (Err e)
 image_fails make read old new NoValue h = ap (λ o. o >>= λ x. Some (make x.0, x.1)) h

@@ -9,7 +9,7 @@ use Rattle.ua_builtin.specs.declared.node_id.NodeId.{NodeId}
 use Rattle.ua_octets.specs.declared.fault.ReadFault.{ReadFault}
 use Rattle.ua_octets.specs.declared.fault.ReadFault.TheVariants.{NoValue, OutOfMemory as NoMemory}
 use Rattle.ua_services.specs.Message.{IsBody, IsNoBody, kind_at, if_last, body_of, found_or, id_of}
-use Rattle.ua_services.specs.Response.{response, responses, response_kind, response_read, unread_by, misread_id, misread_kind, AnnouncesNone, Misread}
+use Rattle.ua_services.specs.Response.{response, responses, response_kind, response_read, kind_read, unread_by, misread_id, misread_kind, AnnouncesNone, Misread}
 use Rattle.ua_services.specs.declared.response.Response.{Response}
 use Rattle.ua_services.specs.declared.response.ResponseKind.{ResponseKind}
 use Rattle.ua_services.specs.declared.fault.ResponseFault.{ResponseFault}
@@ -47,22 +47,27 @@ pub unknown : (old rest : List ℕ) (id : NodeId) → node_id.decode old ≡ Som
     → Reads (Err Unknown) (response_read old)
 unknown old rest id found is = inl (sym (read-kind old rest id None found is))
 
-pub kind_fails : (k : ResponseKind) (old rest new : List ℕ) (id : NodeId) (e : ReadFault) → node_id.decode old ≡ Some (id, rest) → response_kind id ≡ Some k → Gives (kind_at responses most_levels (Some k)) rest new (Err e)
-    → Reads (Err (unread_by e)) (response_read old)
-kind_fails k old rest new id NoValue found is h = inl (sym (read-kind old rest id (Some k) found is ∙ ap (λ o. found_or (o >>= λ x. if_last x.0 x.1) Unreadable) h))
-kind_fails k old rest new id NoMemory found is h = inr refl
+pub kind_fails : (k : ResponseKind) (rest new : List ℕ) (e : ReadFault) → Gives (kind_at responses most_levels (Some k)) rest new (Err e)
+    → Reads (Err (unread_by e)) (kind_read k rest)
+kind_fails k rest new NoValue h = inl (sym (ap (λ o. found_or (o >>= λ x. if_last x.0 x.1) Unreadable) h))
+kind_fails k rest new NoMemory h = inr refl
 
-kind_gives : (k : ResponseKind) (old rest new : List ℕ) (id : NodeId) (m : Response) → node_id.decode old ≡ Some (id, rest) → response_kind id ≡ Some k → kind_at responses most_levels (Some k) rest ≡ Some (m, new)
-    → response_read old ≡ found_or (if_last m new) Unreadable
-kind_gives k old rest new id m found is e = read-kind old rest id (Some k) found is ∙ ap (λ o. found_or (o >>= λ x. if_last x.0 x.1) Unreadable) e
+kind_gives : (k : ResponseKind) (rest new : List ℕ) (m : Response) → kind_at responses most_levels (Some k) rest ≡ Some (m, new)
+    → kind_read k rest ≡ found_or (if_last m new) Unreadable
+kind_gives k rest new m e = ap (λ o. found_or (o >>= λ x. if_last x.0 x.1) Unreadable) e
 
-pub kind_left : (k : ResponseKind) (old rest new : List ℕ) (id : NodeId) (m : Response) → node_id.decode old ≡ Some (id, rest) → response_kind id ≡ Some k → kind_at responses most_levels (Some k) rest ≡ Some (m, new) → 0 < length new
-    → Reads (Err Unreadable) (response_read old)
-kind_left k old rest new id m found is e more = inl (sym (kind_gives k old rest new id m found is e ∙ ap (λ o. found_or o Unreadable) (some_left m new more)))
+pub kind_left : (k : ResponseKind) (rest new : List ℕ) (m : Response) → kind_at responses most_levels (Some k) rest ≡ Some (m, new) → 0 < length new
+    → Reads (Err Unreadable) (kind_read k rest)
+kind_left k rest new m e more = inl (sym (kind_gives k rest new m e ∙ ap (λ o. found_or o Unreadable) (some_left m new more)))
 
-pub kind_read : (k : ResponseKind) (old rest new : List ℕ) (id : NodeId) (m : Response) → node_id.decode old ≡ Some (id, rest) → response_kind id ≡ Some k → kind_at responses most_levels (Some k) rest ≡ Some (m, new) → length new ≤ 0
-    → Reads (Ok m) (response_read old)
-kind_read k old rest new id m found is e none = inl (sym (kind_gives k old rest new id m found is e ∙ ap (λ o. found_or o Unreadable) (nothing_left m new none)))
+pub kind_whole : (k : ResponseKind) (rest new : List ℕ) (m : Response) → kind_at responses most_levels (Some k) rest ≡ Some (m, new) → length new ≤ 0
+    → Reads (Ok m) (kind_read k rest)
+kind_whole k rest new m e none = inl (sym (kind_gives k rest new m e ∙ ap (λ o. found_or o Unreadable) (nothing_left m new none)))
+
+pub kind_found : (k : ResponseKind) (old rest : List ℕ) (id : NodeId) (r : Result Response ResponseFault) → node_id.decode old ≡ Some (id, rest) → response_kind id ≡ Some k → Reads r (kind_read k rest)
+    → Reads r (response_read old)
+kind_found k old rest id r found is (inl h) = inl (h ∙ sym (read-kind old rest id (Some k) found is))
+kind_found k old rest id r found is (inr h) = inr h
 
 -- ---- what was read, by the relations
 

@@ -1,6 +1,7 @@
 -- Responses: the kinds by the number of their encoding.
 use Rattle.std.specs.Prelude.{◌≡◌, ℕ, List, cond, nat_eq, Option, Some, None, Result, ◌⊎◌}
-use Rattle.ua_builtin.specs.Format.{Format}
+use Rattle.ua_builtin.specs.Exact.{◌>>=◌}
+use Rattle.ua_builtin.specs.Format.{Format, most_levels}
 use Rattle.ua_builtin.specs.declared.node_id.NodeId.{NodeId}
 use Rattle.ua_structures.specs.Attribute.{read_response, write_response}
 use Rattle.ua_structures.specs.Discovery.{get_endpoints_response}
@@ -16,7 +17,7 @@ use Rattle.ua_structures.specs.declared.header.ResponseHeader.{ResponseHeader}
 use Rattle.ua_structures.specs.declared.header.ServiceFault.{ServiceFault}
 use Rattle.ua_octets.specs.declared.fault.ReadFault.{ReadFault}
 use Rattle.ua_octets.specs.declared.fault.ReadFault.TheVariants.{NoValue}
-use Rattle.ua_services.specs.Message.{Kinds, announced, message_of, IsNoBody, body_of, id_of, found_or}
+use Rattle.ua_services.specs.Message.{Kinds, announced, message_of, IsNoBody, body_of, id_of, found_or, kind_at, if_last}
 use Rattle.ua_services.specs.declared.request.RequestKind.{RequestKind}
 use Rattle.ua_services.specs.declared.response.Response.{Response}
 use Rattle.ua_services.specs.declared.response.Response.TheVariants.{GetEndpoints as GetEndpointsMessage, CreateSession as CreateSessionMessage, ActivateSession as ActivateSessionMessage, CloseSession as CloseSessionMessage, Read as ReadMessage, Write as WriteMessage, ServiceFault as ServiceFaultMessage}
@@ -140,6 +141,10 @@ misread_id (Some id) = misread_kind (response_kind id)
 -- the response whose body the octets are; else the fault that says why they are none
 unfoldable pub response_read : List ℕ → Result Response ResponseFault
 response_read octets = found_or (body_of response octets) (misread_id (id_of octets))
+
+-- the response of this kind that octets are behind its NodeId; else the fault that says that they are none
+abbrev pub kind_read : (k : ResponseKind) → List ℕ → Result Response ResponseFault
+kind_read k octets = found_or (kind_at responses most_levels (Some k) octets >>= λ x. if_last x.0 x.1) Unreadable
 
 -- the fault of a response, where reading it failed
 abbrev pub unread_by : ReadFault → ResponseFault

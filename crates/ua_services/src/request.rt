@@ -222,7 +222,28 @@ fn unsupported<S: Source>(alloc: Global, src: &mut S) -> RequestFault
     }
 }
 
+// Reads a ReadRequest behind its NodeId, and nothing behind it: where it stands, so that it is moved
+// once.
+#[inline(never)]
+fn read_last<S: Source>(alloc: Global, src: &mut S) -> Result<Request, RequestFault>
+    ensures { (result ≡ kind_read RequestKind.Read (S.octets src.old)) ⊎ (result ≡ Err RequestFault.OutOfMemory) }
+{
+    let mut message = ReadRequest::empty();
+    if let Err(fault) = message.request_header.read_into(alloc, src, MOST_LEVELS) {
+        return Err(unreadable(fault, 0));
+    }
+    let handle = message.request_header.request_handle;
+    if let Err(fault) = message.read_fields(alloc, src, MOST_LEVELS) {
+        return Err(unreadable(fault, handle));
+    }
+    if src.left() > 0 {
+        return Err(RequestFault::Unreadable(handle));
+    }
+    Ok(Request::Read(message))
+}
+
 // Reads a request of that kind, and nothing behind it.
+#[inline(never)]
 fn read_announced<S: Source>(
     alloc: Global,
     src: &mut S,
@@ -255,6 +276,7 @@ fn read_body<S: Source>(alloc: Global, src: &mut S) -> Result<Request, RequestFa
         Err(fault) => return Err(unreadable(fault, 0)),
     };
     match announced_kind(&id) {
+        Some(RequestKind::Read) => read_last(alloc, src),
         Some(kind) => read_announced(alloc, src, kind),
         None => Err(unsupported(alloc, src)),
     }

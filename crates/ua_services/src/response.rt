@@ -4,7 +4,7 @@ ghost use Rattle.std.specs.Prelude.{◌≡◌, ◌≤◌, ◌++◌, ◌⊎◌, l
 ghost use Rattle.ua_builtin.specs.Format.{most_levels, Gives, StaysBehind};
 ghost use Rattle.ua_octets.specs.declared.fault.WriteFault.TheVariants.{NotWritable};
 ghost use Rattle.ua_services.specs.Message.{IsBody, kind_at};
-ghost use Rattle.ua_services.specs.Response.{response, responses, response_kind, unread_by, response_read, Misread};
+ghost use Rattle.ua_services.specs.Response.{response, responses, response_kind, unread_by, kind_read, response_read, Misread};
 
 use crate::fault::ResponseFault;
 use crate::message::{append_message, empty_body, standard_number};
@@ -237,17 +237,31 @@ fn unreadable(fault: ReadFault) -> ResponseFault
     }
 }
 
-// Reads a body, as reading on lists does.
-fn read_body<S: Source>(alloc: Global, src: &mut S) -> Result<Response, ResponseFault>
-    ensures { (result ≡ response_read (S.octets src.old)) ⊎ (result ≡ Err ResponseFault.OutOfMemory) }
+// Reads a ReadResponse behind its NodeId, and nothing behind it: where it stands, so that it is moved
+// once.
+#[inline(never)]
+fn read_last<S: Source>(alloc: Global, src: &mut S) -> Result<Response, ResponseFault>
+    ensures { (result ≡ kind_read ResponseKind.Read (S.octets src.old)) ⊎ (result ≡ Err ResponseFault.OutOfMemory) }
 {
-    let id = match NodeId::read_value(alloc, src, MOST_LEVELS) {
-        Ok(id) => id,
-        Err(fault) => return Err(unreadable(fault)),
-    };
-    let Some(kind) = announced_kind(&id) else {
-        return Err(ResponseFault::Unknown);
-    };
+    let mut message = ReadResponse::empty();
+    if let Err(fault) = message.read_into(alloc, src, MOST_LEVELS) {
+        return Err(unreadable(fault));
+    }
+    if src.left() > 0 {
+        return Err(ResponseFault::Unreadable);
+    }
+    Ok(Response::Read(message))
+}
+
+// Reads a response of another kind behind its NodeId, and nothing behind it.
+#[inline(never)]
+fn read_other<S: Source>(
+    alloc: Global,
+    src: &mut S,
+    kind: ResponseKind,
+) -> Result<Response, ResponseFault>
+    ensures { (result ≡ kind_read kind (S.octets src.old)) ⊎ (result ≡ Err ResponseFault.OutOfMemory) }
+{
     let response = match read_kind(alloc, src, MOST_LEVELS, kind) {
         Ok(response) => response,
         Err(fault) => return Err(unreadable(fault)),
@@ -257,6 +271,21 @@ fn read_body<S: Source>(alloc: Global, src: &mut S) -> Result<Response, Response
         return Err(ResponseFault::Unreadable);
     }
     Ok(response)
+}
+
+// Reads a body, as reading on lists does.
+fn read_body<S: Source>(alloc: Global, src: &mut S) -> Result<Response, ResponseFault>
+    ensures { (result ≡ response_read (S.octets src.old)) ⊎ (result ≡ Err ResponseFault.OutOfMemory) }
+{
+    let id = match NodeId::read_value(alloc, src, MOST_LEVELS) {
+        Ok(id) => id,
+        Err(fault) => return Err(unreadable(fault)),
+    };
+    match announced_kind(&id) {
+        Some(ResponseKind::Read) => read_last(alloc, src),
+        Some(kind) => read_other(alloc, src, kind),
+        None => Err(ResponseFault::Unknown),
+    }
 }
 
 /// Reads a body that is one response and nothing behind it, of at most 100 levels. After a fault

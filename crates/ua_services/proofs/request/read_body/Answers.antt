@@ -1,9 +1,16 @@
-use Rattle.std.proofs.Common.{sym}
+use Rattle.std.proofs.Common.{◌≡◌, sym, Some}
+use Rattle.ua_services.specs.Request.{request_kind}
+use Rattle.ua_services.specs.declared.request.RequestKind.TheVariants.{Read}
 use Rattle.ua_services.proofs.RequestRead.{id_fails, not_supported, kind_found}
 use Rattle.ua_services.proofs.request.read_body.Goals as goal
 
 pub returns-in-Err : goal.returns-in-Err
 returns-in-Err g c = rw c.unreadable.ensures (id_fails (g.S.Source.octets c.args.src.now) (g.S.Source.octets c.read_value.new.src) c.in-Err.fault c.in-Err.ensures.exact)
+
+pub returns-in-Some-Read : goal.returns-in-Some-Read
+returns-in-Some-Read g c =
+    let is : request_kind c.in-Ok.id ≡ Some Read = cc in
+    kind_found Read (g.S.Source.octets c.args.src.now) (g.S.Source.octets c.read_value.new.src) c.in-Ok.id c.read_last.result c.in-Ok.ensures.exact is c.read_last.ensures
 
 pub returns-in-Some : goal.returns-in-Some
 returns-in-Some g c = kind_found c.in-Some.kind (g.S.Source.octets c.args.src.now) (g.S.Source.octets c.read_value.new.src) c.in-Ok.id c.read_announced.result c.in-Ok.ensures.exact (sym c.in-Some.ensures) c.read_announced.ensures
