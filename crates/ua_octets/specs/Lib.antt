@@ -7,6 +7,7 @@ pub mod Signed
 pub mod FloatBits
 pub mod DoubleBits
 pub mod Counted
+pub mod Held
 pub mod Same
 pub mod SameLaws
 pub mod Least

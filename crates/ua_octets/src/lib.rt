@@ -31,6 +31,7 @@ pub mod laws;
 mod numbers;
 mod pairs;
 mod parts;
+mod short_text;
 mod signed;
 mod source;
 mod text;

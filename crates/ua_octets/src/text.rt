@@ -1,48 +1,62 @@
 //! String.
 
-use crate::byte_string::UaBytes;
-use crate::counted::{FIRST_NEGATIVE, NULL_COUNT, text_of};
+use crate::counted::{FIRST_NEGATIVE, NULL_COUNT, take_octets, text_of};
 use crate::fault::ReadFault;
+use crate::short_text::{SHORT, ShortText};
 use crate::source::Source;
 use crate::wire::Wire;
 use std::alloc::{AllocError, Global};
+use std::fmt;
 use std::hash::{Hash, Hasher};
 use std::marker::Model;
 
-/// A String: a text, or null, which differs from the empty text (OPC 10000-6, 5.2.2.4).
-#[derive(Debug)]
+/// A String: a text, or null, which differs from the empty text (OPC 10000-6, 5.2.2.4). A text of at most
+/// 30 octets that was read, copied or made by [`UaString::from_str`] stands in the value itself, and takes
+/// no memory.
 pub struct UaString {
-    text: Option<String>,
+    held: Held,
+}
+
+/// Where the text stands.
+#[derive(Drop)]
+enum Held {
+    Null,
+    Short(ShortText),
+    Long(String),
 }
 
 // By hand, not derived: a derived drop is spelled out, field by field, in each function of each crate
 // that lets a value go without a call, and its lifetimes with it; this one is called.
 impl Drop for UaString {
     fn drop(self) {
-        let UaString { text } = self;
-        drop(text);
+        let UaString { held } = self;
+        drop(held);
     }
 }
 
 impl Model for UaString {
-    ghost use Rattle.std.specs.Prelude.{Option, option_map, List, ℕ, string_bytes};
+    ghost use Rattle.std.specs.Prelude.{Option, List, ℕ};
+    ghost use Rattle.ua_octets.specs.Held.{held_text};
 
     ghost Value = { Option (List ℕ) };
 
-    ghost view = { λ s. option_map string_bytes s.text };
+    ghost view = { λ s. held_text s.held };
 }
 
 impl UaString {
-    ghost use Rattle.std.specs.Prelude.{◌≡◌, option_map, is_none, is_some, string_bytes, None, Some, IfOk};
+    ghost use Rattle.std.specs.Prelude.{◌≡◌, option_map, is_some, string_bytes, None, Some, IfOk, IsTrue};
     ghost use Rattle.ua_octets.specs.Counted.{is_text};
-    ghost use Rattle.std.specs.Prelude.{IsTrue};
 
     /// This text, or null for `None`.
     #[inline]
     pub fn new(text: Option<String>) -> UaString
         ensures { result ≡ option_map string_bytes text }
     {
-        UaString { text }
+        let held = match text {
+            Some(text) => Held::Long(text),
+            None => Held::Null,
+        };
+        UaString { held }
     }
 
     /// Null.
@@ -50,25 +64,31 @@ impl UaString {
     pub fn null() -> UaString
         ensures { result ≡ None }
     {
-        UaString { text: None }
+        UaString { held: Held::Null }
     }
 
     /// A text of its own with these octets.
     pub fn from_str(alloc: Global, text: &str) -> Result<UaString, AllocError>
         ensures { IfOk result (λ s. s ≡ Some text.now) }
     {
-        let text = String::from_str(alloc, text)?;
-        Ok(UaString { text: Some(text) })
+        let held = match ShortText::of(text) {
+            Some(text) => Held::Short(text),
+            None => Held::Long(String::from_str(alloc, text)?),
+        };
+        Ok(UaString { held })
     }
 
-    /// The text, or `None` for null.
+    /// The text, or `None` for null. It is UTF-8, whatever it was made of.
     #[inline]
+    #[tactic(auto, using(crate::proofs::FrontsRead::is_utf8_string))]
     pub fn as_str(&self) -> Option<&str>
-        ensures { option_map (λ t. t.now) result ≡ self.now }
+        ensures text { option_map (λ t. t.now) result ≡ self.now }
+        ensures utf8 { IsTrue (is_text self.now) }
     {
-        match &self.text {
-            Some(text) => Some(text.as_str()),
-            None => None,
+        match &self.held {
+            Held::Null => None,
+            Held::Short(text) => Some(text.as_str()),
+            Held::Long(text) => Some(text.as_str()),
         }
     }
 
@@ -77,27 +97,39 @@ impl UaString {
     pub fn is_some(&self) -> bool
         ensures { result ≡ is_some self.now }
     {
-        self.text.is_some()
+        !matches!(self.held, Held::Null)
     }
 
-    /// Hands the text over.
-    #[inline]
-    pub fn into_string(self) -> Option<String>
-        ensures { option_map string_bytes result ≡ self }
+    /// Hands the text over, which takes memory where it stands in the value.
+    pub fn into_string(self, alloc: Global) -> Result<Option<String>, AllocError>
+        ensures { IfOk result (λ text. option_map string_bytes text ≡ self) }
     {
-        let UaString { text } = self;
-        text
+        let UaString { held } = self;
+        match held {
+            Held::Null => Ok(None),
+            Held::Short(text) => Ok(Some(String::from_str(alloc, text.as_str())?)),
+            Held::Long(text) => Ok(Some(text)),
+        }
     }
 
     /// A value of its own, equal to this one.
     pub fn try_clone(&self) -> Result<UaString, AllocError>
         ensures { IfOk result (λ v. v ≡ self.now) }
     {
-        let text = match &self.text {
-            Some(text) => Some(text.clone()?),
-            None => None,
+        let held = match &self.held {
+            Held::Null => Held::Null,
+            Held::Short(text) => Held::Short(text.copy()),
+            Held::Long(text) => Held::Long(text.clone()?),
         };
-        Ok(UaString { text })
+        Ok(UaString { held })
+    }
+}
+
+impl fmt::Debug for UaString {
+    fn fmt<W: fmt::Write>(&self, f: &mut fmt::Formatter<W>) -> fmt::Result {
+        f.debug_struct("UaString")
+            .field("text", &self.as_str())
+            .finish()
     }
 }
 
@@ -112,7 +144,7 @@ impl PartialEq for UaString {
 
     #[tactic(auto, using(crate::proofs::Seen::seen))]
     fn eq(&self, other: &UaString) -> bool {
-        self.text == other.text
+        self.as_str() == other.as_str()
     }
 }
 
@@ -132,7 +164,7 @@ impl Hash for UaString {
 
     #[tactic(auto, using(crate::proofs::Seen::seen))]
     fn hash<H: Hasher>(&self, state: &mut H) {
-        self.text.hash(state);
+        self.as_str().hash(state);
     }
 }
 
@@ -148,34 +180,44 @@ impl Wire for UaString {
     #[tactic(auto, using(crate::proofs::CountedLawful::lawful_text))]
     fn lawful() {}
 
-    #[tactic(auto, unfolding(crate::specs::Counted::text))]
+    #[inline]
+    #[tactic(auto, unfolding(crate::specs::Counted::text, crate::specs::Counted::counted))]
     fn read_value<S: Source>(
         alloc: Global,
         src: &mut S,
         depth: u32,
     ) -> Result<UaString, ReadFault> {
-        let octets = UaBytes::read_value(alloc, src, depth)?.into_octets();
-        let Some(octets) = octets else {
-            return Ok(UaString { text: None });
-        };
+        let count = u32::read_value(alloc, src, depth)?;
+        if count >= FIRST_NEGATIVE {
+            return Ok(UaString::null());
+        }
+        if count as usize <= SHORT {
+            let text = ShortText::read(src, count as usize)?;
+            return Ok(UaString {
+                held: Held::Short(text),
+            });
+        }
+        let octets = take_octets(alloc, src, count as usize)?;
         match text_of(octets) {
-            Some(text) => Ok(UaString { text: Some(text) }),
+            Some(text) => Ok(UaString {
+                held: Held::Long(text),
+            }),
             None => Err(ReadFault::NoValue),
         }
     }
 
-    #[tactic(auto, using(crate::proofs::FrontsRead::is_utf8_string), unfolding(crate::specs::Counted::text, crate::specs::Counted::counted))]
+    #[tactic(auto, unfolding(crate::specs::Counted::text, crate::specs::Counted::counted))]
     fn is_encodable(&self) -> bool {
-        match &self.text {
+        match self.as_str() {
             None => true,
             Some(text) => text.len() < FIRST_NEGATIVE as usize,
         }
     }
 
     #[inline(always)]
-    #[tactic(auto, using(crate::proofs::FrontsRead::is_utf8_string), unfolding(crate::specs::Counted::text, crate::specs::Counted::counted))]
+    #[tactic(auto, unfolding(crate::specs::Counted::text, crate::specs::Counted::counted))]
     fn append(&self, out: &mut Vec<u8>) -> Result<(), AllocError> {
-        match &self.text {
+        match self.as_str() {
             None => NULL_COUNT.append(out)?,
             Some(text) => {
                 (text.len() as u32).append(out)?;

@@ -75,10 +75,6 @@ null_id_fits = refl
 
 -- ---- identities
 
-pub is_text_string : (s : Option (String Global)) → IsTrue (is_text (option_map string_bytes s))
-is_text_string None = refl
-is_text_string (Some s) = is_utf8_string s
-
 pub anonymous_fits : IsTrue (string.encodable anonymous_id)
 anonymous_fits = word_fits (codes "anonymous") refl refl
 
