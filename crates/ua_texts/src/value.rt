@@ -1,7 +1,7 @@
 //! Values as the program prints them.
 
 ghost use Rattle.std.specs.Prelude.{◌≡◌, ◌++◌, map, string_bytes, OnOk};
-ghost use Rattle.ua_variant.specs.Data.{leaf};
+ghost use Rattle.ua_variant.specs.Data.{data_value, leaf, variant};
 ghost use Rattle.ua_variant.specs.Packed.{packed_leaves};
 ghost use Rattle.ua_variant.specs.View.{elements_of, scalar_of, variant_of};
 ghost use Rattle.ua_texts.specs.Values.{array_text, boolean_text, item_text, items_text, scalar_text, type_name as name_of_type, typed_text, variant_text};
@@ -11,7 +11,9 @@ use crate::text::{
 };
 use std::alloc::{AllocError, Global};
 use std::fmt::Write;
-use ua_variant::{Elements, Packed, Scalar, Scalars, Variant};
+use ua_variant::{
+    BoxedDataValue, BoxedVariant, DataValue, Elements, Packed, Scalar, Scalars, Variant,
+};
 
 /// The standard's name of the type of an id (OPC 10000-6, 5.1.2), `Reserved` for any id but those
 /// from 1 to 25.
@@ -174,10 +176,40 @@ pub(crate) fn push_scalar(
         Scalar::QualifiedName(value) => push_encoded(alloc, out, value),
         Scalar::LocalizedText(value) => push_encoded(alloc, out, value.get()),
         Scalar::ExtensionObject(value) => push_encoded(alloc, out, value.get()),
-        Scalar::DataValue(value) => push_encoded(alloc, out, value.get()),
-        Scalar::Variant(value) => push_encoded(alloc, out, value.get()),
+        Scalar::DataValue(value) => push_data_value_octets(alloc, out, value),
+        Scalar::Variant(value) => push_variant_octets(alloc, out, value),
         Scalar::DiagnosticInfo(value) => push_encoded(alloc, out, value.get()),
         Scalar::Reserved(..) => out.push_str("unwritable"),
+    }
+}
+
+/// Adds the octets of a DataValue among Variants.
+#[tactic(auto, unfolding(ua_variant::specs::Formats::data_value_format))]
+fn push_data_value_octets(
+    alloc: Global,
+    out: &mut String,
+    value: &BoxedDataValue,
+) -> Result<(), AllocError>
+    ensures { OnOk result (string_bytes out.new ≡ string_bytes out.old ++ scalar_text (data_value value.now)) }
+{
+    match value.get() {
+        Some(value) => push_encoded(alloc, out, value),
+        None => push_encoded(alloc, out, &DataValue::empty()),
+    }
+}
+
+/// Adds the octets of a Variant among other Variants.
+#[tactic(auto, unfolding(ua_variant::specs::Formats::variant_format))]
+fn push_variant_octets(
+    alloc: Global,
+    out: &mut String,
+    value: &BoxedVariant,
+) -> Result<(), AllocError>
+    ensures { OnOk result (string_bytes out.new ≡ string_bytes out.old ++ scalar_text (variant value.now)) }
+{
+    match value.get() {
+        Some(value) => push_encoded(alloc, out, value),
+        None => push_encoded(alloc, out, &Variant::Null),
     }
 }
 

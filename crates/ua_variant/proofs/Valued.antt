@@ -1,11 +1,13 @@
 -- What the parts of a value know from the whole.
-use Rattle.std.proofs.Common.{◌≡◌, ◌<◌, true, Option, Some, None, subst, ap, arith}
+use Rattle.std.proofs.Common.{◌≡◌, ◌<◌, true, Option, Some, None, [], ◌∷◌, refl, subst, ap, arith}
 use Rattle.ua_octets.proofs.Readers.{both_true}
-use Rattle.ua_variant.specs.Data.{VariantData, DataFields}
+use Rattle.ua_variant.specs.Canonical.{data_fields_canonical, data_value_canonical}
+use Rattle.ua_variant.specs.Data.{VariantData, DataFields, bare}
 use Rattle.ua_variant.specs.declared.values.DataValue.{DataValue}
-use Rattle.ua_variant.specs.View.{value_within, data_fields_of, data_value_of}
+use Rattle.ua_variant.specs.View.{value_within, data_fields_of, data_value_of, no_fields}
 use Rattle.ua_variant.specs.Measure.{variant_count, data_value_count}
 use Rattle.ua_variant.specs.Encodable.{variant_fits, data_value_fits, data_fields_encodable}
+use Rattle.ua_variant.specs.Fields.{data_flags, data_fields}
 
 fits_at : (o : Option VariantData) (f : DataFields) (v : VariantData) → o ≡ Some v → data_value_fits (value_within o f) ≡ true → variant_fits v ≡ true
 fits_at None f v is h = absurd cc
@@ -26,3 +28,13 @@ counts_at (Some w) f v is =
 -- it counts less than the whole
 pub valued_counts : (d : DataValue) (v : VariantData) → d.value ≡ Some v → variant_count v < data_value_count (data_value_of d)
 valued_counts d v is = counts_at d.value (data_fields_of d) v is
+
+-- ---- a DataValue without any field
+
+pub bare_canonical : data_value_canonical (bare no_fields) ≡ 0 ∷ []
+unfolding data_fields_canonical data_flags data_fields
+bare_canonical = refl
+
+pub bare_fits : data_value_fits (bare no_fields) ≡ true
+unfolding data_fields_encodable
+bare_fits = refl

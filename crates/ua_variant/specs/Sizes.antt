@@ -1,17 +1,17 @@
 -- What is directly in a value is smaller than the value.
-use Rattle.std.specs.Prelude.{List, [], ◌∷◌, Option, Some, None, map, length, ◌+◌, ◌*◌, ◌≤◌, max}
-use Rattle.std.proofs.Common.{zero-le, le_refl, le_trans}
+use Rattle.std.specs.Prelude.{List, [], ◌∷◌, Option, Some, None, map, option_map, length, ◌+◌, ◌*◌, ◌≤◌, max}
+use Rattle.std.proofs.Common.{Box, Global, zero-le, le_refl, le_trans}
 use Rattle.std.proofs.Math.Nat.{max-le}
 use Rattle.ua_parts.proofs.Weights.{twice_within, twice_more, twice_before, twice_first, twice_second}
 use denote.Param.Weighed.{most}
 use Rattle.ua_variant.specs.Data.{DataFields, VariantData}
 use Rattle.ua_variant.specs.Measure.{data_fields_count, variant_count, scalar_count, scalars_count, data_value_count}
-use Rattle.ua_variant.specs.View.{row, value_within, data_fields_of, data_value_of, scalar_of, elements_of, variant_of}
+use Rattle.ua_variant.specs.View.{row, value_within, data_fields_of, data_value_of, scalar_of, elements_of, variant_of, or_null, or_bare}
 use Rattle.ua_variant.specs.declared.values.Scalar.{Scalar}
 use Rattle.ua_variant.specs.declared.values.Variant.{Variant}
 use Rattle.ua_variant.specs.declared.values.DataValue.{DataValue}
 use Rattle.ua_variant.specs.declared.values.Elements.{Elements}
-use Rattle.ua_variant.specs.declared.values.BoxedDataValue.TheDeep.{deep-Variant, deep-Scalar, deep-DataValue, deep-Elements}
+use Rattle.ua_variant.specs.declared.values.BoxedDataValue.TheDeep.{deep-Variant, deep-Scalar, deep-DataValue, deep-Elements, deep-BoxedVariant, deep-BoxedDataValue}
 use Rattle.ua_variant.specs.Values.{made_data_value}
 
 data_value_at : (v : Option VariantData) (f : DataFields) → deep-DataValue (made_data_value v f) ≤ 2 * data_value_count (value_within v f)
@@ -21,8 +21,9 @@ data_value_at (Some v) f = max-le (max-le (twice_within (data_fields_count f) (v
 pub data_value_falls : (d : DataValue) → deep-DataValue d ≤ 2 * data_value_count (data_value_of d)
 data_value_falls d = data_value_at d.value (data_fields_of d)
 
-pub boxed_data_value_falls : (d : DataValue) → max (deep-DataValue d) 0 ≤ 2 * data_value_count (data_value_of d)
-boxed_data_value_falls d = max-le (data_value_falls d) zero-le
+pub boxed_data_value_falls : (o : Option (Box DataValue Global)) → deep-BoxedDataValue (record { inner = o }) ≤ 2 * data_value_count (or_bare (option_map (λ b. data_value_of b.value) o))
+boxed_data_value_falls None = zero-le
+boxed_data_value_falls (Some b) = max-le (max-le (data_value_falls b.value) zero-le) zero-le
 
 pub scalar_falls : (s : Scalar) → deep-Scalar s ≤ 2 * scalar_count (scalar_of s) + 1
 scalar_falls (Scalar.Boolean x) = zero-le
@@ -65,3 +66,7 @@ variant_falls Variant.Null = zero-le
 variant_falls (Variant.One s) = max-le (max-le (le_trans (scalar_falls s) (twice_more (scalar_count (scalar_of s)))) zero-le) zero-le
 variant_falls (Variant.Many k None ds) = zero-le
 variant_falls (Variant.Many k (Some ss) ds) = max-le (max-le (max-le (twice_before (length ds) (scalars_count (row ss))) zero-le) zero-le) zero-le
+
+pub boxed_variant_falls : (o : Option (Box Variant Global)) → deep-BoxedVariant (record { inner = o }) ≤ 2 * variant_count (or_null (option_map (λ b. variant_of b.value) o))
+boxed_variant_falls None = zero-le
+boxed_variant_falls (Some b) = max-le (variant_falls b.value) zero-le

@@ -82,3 +82,23 @@ abbrev pub variant_of : Variant → VariantData
 variant_of Variant.Null = null
 variant_of (Variant.One s) = one (scalar_of s)
 variant_of (Variant.Many k ss ds) = many_of k ss ds
+
+-- a Variant among other Variants: null where nothing is kept of it
+abbrev pub or_null : Option VariantData → VariantData
+or_null None = null
+or_null (Some v) = v
+
+-- no field of a DataValue
+abbrev pub no_fields : DataFields
+no_fields = record {
+  status = None;
+  source_timestamp = None;
+  source_picoseconds = None;
+  server_timestamp = None;
+  server_picoseconds = None;
+}
+
+-- a DataValue among Variants: one without any field where nothing is kept of it
+abbrev pub or_bare : Option DataValueData → DataValueData
+or_bare None = bare no_fields
+or_bare (Some d) = d

@@ -140,10 +140,7 @@ fn copy_scalar(alloc: Global, value: &Scalar) -> Result<Scalar, AllocError>
             alloc,
             x.get().try_clone()?,
         )?)),
-        Scalar::DataValue(d) => {
-            let copy = copy_data_value(alloc, d.get())?;
-            Ok(Scalar::DataValue(BoxedDataValue::new(alloc, copy)?))
-        }
+        Scalar::DataValue(d) => Ok(Scalar::DataValue(copy_boxed_data_value(alloc, d)?)),
         Scalar::Variant(v) => Ok(Scalar::Variant(copy_boxed(alloc, v)?)),
         Scalar::DiagnosticInfo(d) => {
             let copy = d.get().try_clone(alloc)?;
@@ -157,7 +154,25 @@ fn copy_scalar(alloc: Global, value: &Scalar) -> Result<Scalar, AllocError>
 fn copy_boxed(alloc: Global, value: &BoxedVariant) -> Result<BoxedVariant, AllocError>
     ensures { IfOk result (λ v. v ≡ value.now) }
 {
-    BoxedVariant::new(alloc, copy_variant(alloc, value.get())?)
+    let copy = match value.get() {
+        None => Variant::Null,
+        Some(value) => copy_variant(alloc, value)?,
+    };
+    BoxedVariant::new(alloc, copy)
+}
+
+#[cycle(copies)]
+fn copy_boxed_data_value(
+    alloc: Global,
+    value: &BoxedDataValue,
+) -> Result<BoxedDataValue, AllocError>
+    ensures { IfOk result (λ d. d ≡ value.now) }
+{
+    let copy = match value.get() {
+        None => DataValue::empty(),
+        Some(value) => copy_data_value(alloc, value)?,
+    };
+    BoxedDataValue::new(alloc, copy)
 }
 
 #[cycle(copies)]

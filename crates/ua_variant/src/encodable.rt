@@ -182,10 +182,14 @@ fn scalar_levels_of(value: &Scalar) -> Option<u32>
 /// How many levels a DataValue among Variants has, if it can be written but for these.
 #[cycle(fits)]
 #[inline(never)]
+#[tactic(auto, using(crate::proofs::Valued::bare_fits))]
 fn boxed_data_value_levels_of(value: &BoxedDataValue) -> Option<u32>
     ensures { result ≡ levels_if (data_value_fits value.now) (data_value_depth value.now) }
 {
-    data_value_levels_of(value.get())
+    match value.get() {
+        None => Some(1),
+        Some(value) => data_value_levels_of(value),
+    }
 }
 
 /// How many levels a Variant among other Variants has, if it can be written but for these.
@@ -194,7 +198,10 @@ fn boxed_data_value_levels_of(value: &BoxedDataValue) -> Option<u32>
 fn boxed_variant_levels_of(value: &BoxedVariant) -> Option<u32>
     ensures { result ≡ levels_if (variant_fits value.now) (variant_depth value.now) }
 {
-    variant_levels_of(value.get())
+    match value.get() {
+        None => Some(1),
+        Some(value) => variant_levels_of(value),
+    }
 }
 
 /// How many levels the deepest element has, if each is of the type id and can be written but for these.

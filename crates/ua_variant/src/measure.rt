@@ -59,8 +59,14 @@ fn scalar_levels(value: &Scalar) -> u32
     ensures { result ≡ min (scalar_depth (scalar_of value.now)) u32.MAX }
 {
     match value {
-        Scalar::DataValue(d) => data_value_levels(d.get()),
-        Scalar::Variant(v) => variant_levels(v.get()),
+        Scalar::DataValue(d) => match d.get() {
+            None => 1,
+            Some(d) => data_value_levels(d),
+        },
+        Scalar::Variant(v) => match v.get() {
+            None => 1,
+            Some(v) => variant_levels(v),
+        },
         Scalar::DiagnosticInfo(d) => d.get().depth(),
         _ => 0,
     }
@@ -118,8 +124,14 @@ fn count_scalar(value: &Scalar) -> u64
     ensures { result ≡ min (scalar_count (scalar_of value.now)) u64.MAX }
 {
     match value {
-        Scalar::DataValue(d) => count_data_value(d.get()),
-        Scalar::Variant(v) => count_variant(v.get()),
+        Scalar::DataValue(d) => match d.get() {
+            None => 1,
+            Some(d) => count_data_value(d),
+        },
+        Scalar::Variant(v) => match v.get() {
+            None => 1,
+            Some(v) => count_variant(v),
+        },
         Scalar::DiagnosticInfo(d) => d.get().count(),
         _ => 1,
     }

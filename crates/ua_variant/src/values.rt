@@ -1,9 +1,9 @@
 //! Values that hold values: Variant and DataValue.
 
-ghost use Rattle.std.specs.Prelude.{◌≡◌, length, map, IfOk, IfSome};
+ghost use Rattle.std.specs.Prelude.{◌≡◌, length, map, option_map, IfOk, IfSome};
 ghost use Rattle.ua_variant.specs.Data.{leaf};
 ghost use Rattle.ua_variant.specs.Packed.{packed_leaves};
-ghost use Rattle.ua_variant.specs.View.{data_value_of, elements_of, scalar_of, variant_of};
+ghost use Rattle.ua_variant.specs.View.{data_value_of, elements_of, or_bare, or_null, scalar_of, variant_of};
 
 use crate::boxed::Boxed;
 use crate::packed::{Pack, Packed};
@@ -100,10 +100,10 @@ pub struct DataValue {
     pub server_picoseconds: Option<u16>,
 }
 
-/// A Variant among other Variants, on the heap.
+/// A Variant among other Variants, on the heap; a null one takes no memory.
 #[cycle(values)]
 pub struct BoxedVariant {
-    inner: Box<Variant>,
+    inner: Option<Box<Variant>>,
 }
 
 impl Drop for BoxedVariant {
@@ -125,15 +125,16 @@ impl Model for BoxedVariant {
 
     ghost coded = { coded_variant (Prim.hlevel (codes, coded_diagnostic (Prim.hlevel codes))) };
 
-    ghost use Rattle.ua_variant.specs.View.{variant_of};
+    ghost use Rattle.std.specs.Prelude.{option_map};
+    ghost use Rattle.ua_variant.specs.View.{variant_of, or_null};
 
-    ghost view = { λ a. variant_of a.inner.value };
+    ghost view = { λ a. or_null (option_map (λ b. variant_of b.value) a.inner) };
 
     ghost size = { λ v. 2 * variant_count v };
 
-    ghost use Rattle.ua_variant.specs.Sizes.{variant_falls};
+    ghost use Rattle.ua_variant.specs.Sizes.{boxed_variant_falls};
 
-    ghost size_decreases = { λ a h. variant_falls a.inner.value };
+    ghost size_decreases = { λ a h. boxed_variant_falls a.inner };
 }
 
 /// A Variant within a DataValue, in its place.
@@ -172,10 +173,10 @@ impl Model for HeldVariant {
     ghost size_decreases = { λ a h. variant_falls a.inner };
 }
 
-/// A DataValue among Variants, on the heap.
+/// A DataValue among Variants, on the heap; one without any field takes no memory.
 #[cycle(values)]
 pub struct BoxedDataValue {
-    inner: Box<DataValue>,
+    inner: Option<Box<DataValue>>,
 }
 
 impl Drop for BoxedDataValue {
@@ -197,15 +198,16 @@ impl Model for BoxedDataValue {
 
     ghost coded = { coded_data_value (Prim.hlevel (codes, coded_diagnostic (Prim.hlevel codes))) };
 
-    ghost use Rattle.ua_variant.specs.View.{data_value_of};
+    ghost use Rattle.std.specs.Prelude.{option_map};
+    ghost use Rattle.ua_variant.specs.View.{data_value_of, or_bare};
 
-    ghost view = { λ a. data_value_of a.inner.value };
+    ghost view = { λ a. or_bare (option_map (λ b. data_value_of b.value) a.inner) };
 
     ghost size = { λ d. 2 * data_value_count d };
 
     ghost use Rattle.ua_variant.specs.Sizes.{boxed_data_value_falls};
 
-    ghost size_decreases = { λ a h. boxed_data_value_falls a.inner.value };
+    ghost size_decreases = { λ a h. boxed_data_value_falls a.inner };
 }
 
 /// The elements of an array, as they are held.
@@ -255,6 +257,40 @@ impl Model for Scalars {
     ghost size_decreases = { λ a h. omega (arith, elements_fall a.elements) };
 }
 
+impl DataValue {
+    ghost use Rattle.std.specs.Prelude.{◌≡◌, ◌↔◌, IsTrue};
+    ghost use Rattle.ua_variant.specs.View.{no_fields};
+    ghost use Rattle.ua_variant.specs.Data.{bare};
+
+    /// One without any field.
+    #[inline]
+    pub fn empty() -> DataValue
+        ensures { data_value_of result ≡ bare no_fields }
+    {
+        DataValue {
+            value: None,
+            status: None,
+            source_timestamp: None,
+            source_picoseconds: None,
+            server_timestamp: None,
+            server_picoseconds: None,
+        }
+    }
+
+    /// Whether no field is there.
+    #[inline]
+    pub fn is_empty(&self) -> bool
+        ensures { IsTrue result ↔ (data_value_of self.now ≡ bare no_fields) }
+    {
+        self.value.is_none()
+            && self.status.is_none()
+            && self.source_timestamp.is_none()
+            && self.source_picoseconds.is_none()
+            && self.server_timestamp.is_none()
+            && self.server_picoseconds.is_none()
+    }
+}
+
 impl Variant {
     ghost use Rattle.std.specs.Prelude.{◌≡◌, ◌≢◌, ℕ, Option, IfOk, IfErr};
     ghost use Rattle.ua_variant.specs.declared.values.Variant.TheVariants.{Many, One};
@@ -288,22 +324,28 @@ impl Variant {
 }
 
 impl BoxedVariant {
-    /// This value, on the heap.
+    /// This value, on the heap, but for a null one.
     #[inline(always)]
     pub fn new(alloc: Global, value: Variant) -> Result<BoxedVariant, AllocError>
         ensures { IfOk result (λ b. b ≡ variant_of value) }
     {
+        if matches!(&value, Variant::Null) {
+            return Ok(BoxedVariant { inner: None });
+        }
         Ok(BoxedVariant {
-            inner: Box::new(alloc, value)?,
+            inner: Some(Box::new(alloc, value)?),
         })
     }
 
-    /// The value.
+    /// The value, or `None` for a null one.
     #[inline]
-    pub fn get(&self) -> &Variant
-        ensures { variant_of result.now ≡ self.now }
+    pub fn get(&self) -> Option<&Variant>
+        ensures { or_null (option_map (λ v. variant_of v.now) result) ≡ self.now }
     {
-        self.inner.as_ref()
+        match &self.inner {
+            Some(value) => Some(value.as_ref()),
+            None => None,
+        }
     }
 
     /// Hands the value over.
@@ -312,7 +354,10 @@ impl BoxedVariant {
         ensures { variant_of result ≡ self }
     {
         let BoxedVariant { inner } = self;
-        Box::into_inner(inner)
+        match inner {
+            Some(value) => Box::into_inner(value),
+            None => Variant::Null,
+        }
     }
 }
 
@@ -344,22 +389,28 @@ impl HeldVariant {
 }
 
 impl BoxedDataValue {
-    /// This value, on the heap.
+    /// This value, on the heap, but for one without any field.
     #[inline]
     pub fn new(alloc: Global, value: DataValue) -> Result<BoxedDataValue, AllocError>
         ensures { IfOk result (λ b. b ≡ data_value_of value) }
     {
+        if value.is_empty() {
+            return Ok(BoxedDataValue { inner: None });
+        }
         Ok(BoxedDataValue {
-            inner: Box::new(alloc, value)?,
+            inner: Some(Box::new(alloc, value)?),
         })
     }
 
-    /// The value.
+    /// The value, or `None` for one without any field.
     #[inline]
-    pub fn get(&self) -> &DataValue
-        ensures { data_value_of result.now ≡ self.now }
+    pub fn get(&self) -> Option<&DataValue>
+        ensures { or_bare (option_map (λ d. data_value_of d.now) result) ≡ self.now }
     {
-        self.inner.as_ref()
+        match &self.inner {
+            Some(value) => Some(value.as_ref()),
+            None => None,
+        }
     }
 
     /// Hands the value over.
@@ -368,7 +419,10 @@ impl BoxedDataValue {
         ensures { data_value_of result ≡ self }
     {
         let BoxedDataValue { inner } = self;
-        Box::into_inner(inner)
+        match inner {
+            Some(value) => Box::into_inner(value),
+            None => DataValue::empty(),
+        }
     }
 }
 

@@ -169,12 +169,19 @@ fn append_scalar(value: &Scalar, out: &mut Vec<u8>) -> Result<(), AllocError>
 /// Adds the canonical encoding of a DataValue among Variants.
 #[cycle(appends)]
 #[inline(never)]
+#[tactic(auto, using(crate::proofs::Valued::bare_canonical))]
 fn append_boxed_data_value(value: &BoxedDataValue, out: &mut Vec<u8>) -> Result<(), AllocError>
     requires { data_value_fits value.now ≡ true }
     ensures ok { OnOk result (out.new.items ≡ out.old.items ++ data_value_canonical value.now) }
     ensures err { OnErr result (Extends out.old.items out.new.items) }
 {
-    append_data_value(value.get(), out)
+    match value.get() {
+        None => {
+            out.push(0)?;
+            Ok(())
+        }
+        Some(value) => append_data_value(value, out),
+    }
 }
 
 /// Adds the canonical encoding of a Variant among other Variants.
@@ -185,7 +192,13 @@ fn append_boxed_variant(value: &BoxedVariant, out: &mut Vec<u8>) -> Result<(), A
     ensures ok { OnOk result (out.new.items ≡ out.old.items ++ variant_canonical value.now) }
     ensures err { OnErr result (Extends out.old.items out.new.items) }
 {
-    append_variant(value.get(), out)
+    match value.get() {
+        None => {
+            out.push(0)?;
+            Ok(())
+        }
+        Some(value) => append_variant(value, out),
+    }
 }
 
 /// Adds the elements, one behind the other.
