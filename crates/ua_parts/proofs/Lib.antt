@@ -9,4 +9,5 @@ pub mod DiagnosticsWritten
 pub mod DiagnosticsLawful
 pub mod Lengths
 pub mod Extents
+pub mod Empty
 mod Written

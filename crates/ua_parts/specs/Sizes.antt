@@ -1,11 +1,11 @@
 -- What is directly in a DiagnosticInfo is smaller than it.
-use Rattle.std.specs.Prelude.{Option, Some, None, ◌+◌, ◌≤◌, max}
+use Rattle.std.specs.Prelude.{Option, Some, None, option_map, ◌+◌, ◌≤◌, max}
 use Rattle.std.proofs.Math.Nat.{add_comm, le_of_eq, max-le}
-use Rattle.std.proofs.Common.{zero-le}
+use Rattle.std.proofs.Common.{Box, Global, zero-le}
 use Rattle.ua_parts.specs.Diagnostic.{DiagnosticFields, DiagnosticData, diagnostic_within, diagnostic_depth}
-use Rattle.ua_parts.specs.View.{diagnostic_fields_of, diagnostic_of, made_diagnostic}
+use Rattle.ua_parts.specs.View.{diagnostic_fields_of, diagnostic_of, made_diagnostic, or_innermost}
 use Rattle.ua_parts.specs.declared.diagnostic_info.DiagnosticInfo.{DiagnosticInfo}
-use Rattle.ua_parts.specs.declared.diagnostic_info.BoxedDiagnostic.TheDeep.{deep-DiagnosticInfo}
+use Rattle.ua_parts.specs.declared.diagnostic_info.BoxedDiagnostic.TheDeep.{deep-DiagnosticInfo, deep-BoxedDiagnostic}
 
 diagnostic_at : (i : Option DiagnosticData) (f : DiagnosticFields) → max (deep-DiagnosticInfo (made_diagnostic i f)) 0 ≤ diagnostic_depth (diagnostic_within i f)
 diagnostic_at None f = zero-le
@@ -13,3 +13,7 @@ diagnostic_at (Some d) f = max-le (max-le (max-le (le_of_eq (add_comm (diagnosti
 
 pub diagnostic_falls : (d : DiagnosticInfo) → max (deep-DiagnosticInfo d) 0 ≤ diagnostic_depth (diagnostic_of d)
 diagnostic_falls d = diagnostic_at d.inner (diagnostic_fields_of d)
+
+pub boxed_diagnostic_falls : (o : Option (Box DiagnosticInfo Global)) → deep-BoxedDiagnostic (record { inner = o }) ≤ diagnostic_depth (or_innermost (option_map (λ b. diagnostic_of b.value) o))
+boxed_diagnostic_falls None = zero-le
+boxed_diagnostic_falls (Some b) = max-le (diagnostic_falls b.value) zero-le

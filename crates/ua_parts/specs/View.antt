@@ -38,3 +38,8 @@ diagnostic_value (around f d) = made_diagnostic (Some d) f
 -- the DiagnosticInfo of the code that says nothing: no field is there
 abbrev pub no_diagnostics : DiagnosticInfo
 no_diagnostics = made_diagnostic None no_fields
+
+-- a DiagnosticInfo within another value: one without any field where nothing is kept of it
+abbrev pub or_innermost : Option DiagnosticData → DiagnosticData
+or_innermost None = innermost no_fields
+or_innermost (Some d) = d

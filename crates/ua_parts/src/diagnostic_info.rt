@@ -1,8 +1,8 @@
 //! DiagnosticInfo as a value: its parts, its levels, and copies of it.
 
-ghost use Rattle.std.specs.Prelude.{◌≡◌, ◌≤◌, min, IfOk};
+ghost use Rattle.std.specs.Prelude.{◌≡◌, ◌≤◌, ◌↔◌, min, option_map, IfOk, IsTrue};
 ghost use Rattle.ua_parts.specs.Diagnostic.{diagnostic_depth, diagnostic_count, diagnostic_fields_count, diagnostic_encodable, diagnostic_fits, diagnostic_fields_encodable};
-ghost use Rattle.ua_parts.specs.View.{diagnostic_of, diagnostic_fields_of, no_diagnostics};
+ghost use Rattle.ua_parts.specs.View.{diagnostic_of, diagnostic_fields_of, no_diagnostics, or_innermost};
 
 use crate::field::{count_of, count_of_text, field_fits};
 use std::alloc::{AllocError, Global};
@@ -26,10 +26,10 @@ pub struct DiagnosticInfo {
     pub inner: Option<BoxedDiagnostic>,
 }
 
-/// A DiagnosticInfo within another.
+/// A DiagnosticInfo within another value, on the heap; one without any field takes no memory.
 #[cycle(diagnostics)]
 pub struct BoxedDiagnostic {
-    inner: Box<DiagnosticInfo>,
+    inner: Option<Box<DiagnosticInfo>>,
 }
 
 // By hand, so that a crate that lets a DiagnosticInfo go calls this, and proves nothing of what lies
@@ -51,34 +51,83 @@ impl Model for BoxedDiagnostic {
 
     ghost coded = { coded_diagnostic (Prim.hlevel codes) };
 
-    ghost use Rattle.ua_parts.specs.View.{diagnostic_of};
+    ghost use Rattle.std.specs.Prelude.{option_map};
+    ghost use Rattle.ua_parts.specs.View.{diagnostic_of, or_innermost};
 
-    ghost view = { λ a. diagnostic_of a.inner.value };
+    ghost view = { λ a. or_innermost (option_map (λ b. diagnostic_of b.value) a.inner) };
 
     ghost size = { diagnostic_depth };
 
-    ghost use Rattle.ua_parts.specs.Sizes.{diagnostic_falls};
+    ghost use Rattle.ua_parts.specs.Sizes.{boxed_diagnostic_falls};
 
-    ghost size_decreases = { λ a h. diagnostic_falls a.inner.value };
+    ghost size_decreases = { λ a h. boxed_diagnostic_falls a.inner };
 }
 
 impl BoxedDiagnostic {
-    /// This value, on the heap.
+    /// This value, on the heap, but for one without any field.
     #[inline]
     pub fn new(alloc: Global, value: DiagnosticInfo) -> Result<BoxedDiagnostic, AllocError>
         ensures { IfOk result (λ b. b ≡ diagnostic_of value) }
     {
+        if value.is_empty() {
+            return Ok(BoxedDiagnostic { inner: None });
+        }
         Ok(BoxedDiagnostic {
-            inner: Box::new(alloc, value)?,
+            inner: Some(Box::new(alloc, value)?),
         })
     }
 
-    /// The value.
+    /// The value, or `None` for one without any field.
     #[inline]
-    pub fn get(&self) -> &DiagnosticInfo
-        ensures { diagnostic_of result.now ≡ self.now }
+    pub fn get(&self) -> Option<&DiagnosticInfo>
+        ensures { or_innermost (option_map (λ d. diagnostic_of d.now) result) ≡ self.now }
     {
-        &self.inner
+        match &self.inner {
+            Some(value) => Some(value.as_ref()),
+            None => None,
+        }
+    }
+
+    /// How many levels the value has, or the greatest number.
+    pub fn depth(&self) -> u32
+        ensures { result ≡ min (diagnostic_depth self.now) u32.MAX }
+    {
+        match self.get() {
+            Some(value) => levels(value),
+            None => 1,
+        }
+    }
+
+    /// How many values are in it, or the greatest number.
+    pub fn count(&self) -> u64
+        ensures { result ≡ min (diagnostic_count self.now) u64.MAX }
+    {
+        match self.get() {
+            Some(value) => count(value),
+            None => 1,
+        }
+    }
+
+    /// Whether the fields can be written, whatever its levels.
+    #[tactic(auto, using(crate::proofs::Empty::empty_fits))]
+    pub fn fits(&self) -> bool
+        ensures { result ≡ diagnostic_fits self.now }
+    {
+        match self.get() {
+            Some(value) => diagnostic_fits_in(value),
+            None => true,
+        }
+    }
+
+    /// A value of its own, equal to this one.
+    pub fn try_clone(&self, alloc: Global) -> Result<BoxedDiagnostic, AllocError>
+        ensures { IfOk result (λ b. b ≡ self.now) }
+    {
+        let copied = match self.get() {
+            Some(value) => copy(alloc, value)?,
+            None => DiagnosticInfo::empty(),
+        };
+        BoxedDiagnostic::new(alloc, copied)
     }
 
     /// Hands the value over.
@@ -87,7 +136,10 @@ impl BoxedDiagnostic {
         ensures { diagnostic_of result ≡ self }
     {
         let BoxedDiagnostic { inner } = self;
-        Box::into_inner(inner)
+        match inner {
+            Some(value) => Box::into_inner(value),
+            None => DiagnosticInfo::empty(),
+        }
     }
 }
 
@@ -106,6 +158,20 @@ impl DiagnosticInfo {
             inner_status_code: None,
             inner: None,
         }
+    }
+
+    /// Whether nothing is said.
+    #[inline]
+    pub fn is_empty(&self) -> bool
+        ensures { IsTrue result ↔ (self.now ≡ no_diagnostics) }
+    {
+        self.symbolic_id.is_none()
+            && self.namespace_uri.is_none()
+            && self.locale.is_none()
+            && self.localized_text.is_none()
+            && !self.additional_info.is_some()
+            && self.inner_status_code.is_none()
+            && self.inner.is_none()
     }
 
     /// How many levels the value has, or the greatest number.
@@ -150,7 +216,10 @@ fn levels(value: &DiagnosticInfo) -> u32
 {
     match &value.inner {
         None => 1,
-        Some(d) => levels(d.get()).saturating_add(1),
+        Some(d) => match d.get() {
+            None => 2,
+            Some(d) => levels(d).saturating_add(1),
+        },
     }
 }
 
@@ -161,7 +230,10 @@ fn count(value: &DiagnosticInfo) -> u64
     let fields = count_fields(value);
     match &value.inner {
         None => fields.saturating_add(1),
-        Some(d) => count(d.get()).saturating_add(fields).saturating_add(1),
+        Some(d) => match d.get() {
+            None => fields.saturating_add(2),
+            Some(d) => count(d).saturating_add(fields).saturating_add(1),
+        },
     }
 }
 
@@ -179,13 +251,17 @@ fn count_fields(value: &DiagnosticInfo) -> u64
 }
 
 /// Whether the fields can be written, at every level.
+#[tactic(auto, using(crate::proofs::Empty::empty_fits))]
 fn diagnostic_fits_in(value: &DiagnosticInfo) -> bool
     ensures { result ≡ diagnostic_fits (diagnostic_of value.now) }
 {
     fields_fit(value)
         && match &value.inner {
             None => true,
-            Some(d) => diagnostic_fits_in(d.get()),
+            Some(d) => match d.get() {
+                None => true,
+                Some(d) => diagnostic_fits_in(d),
+            },
         }
 }
 
@@ -209,7 +285,13 @@ fn copy(alloc: Global, value: &DiagnosticInfo) -> Result<DiagnosticInfo, AllocEr
     let additional_info = value.additional_info.try_clone()?;
     let inner = match &value.inner {
         None => None,
-        Some(inner) => Some(BoxedDiagnostic::new(alloc, copy(alloc, inner.get())?)?),
+        Some(inner) => {
+            let copied = match inner.get() {
+                None => DiagnosticInfo::empty(),
+                Some(inner) => copy(alloc, inner)?,
+            };
+            Some(BoxedDiagnostic::new(alloc, copied)?)
+        }
     };
     Ok(DiagnosticInfo {
         symbolic_id: value.symbolic_id,

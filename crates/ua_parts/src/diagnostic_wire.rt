@@ -7,7 +7,7 @@ ghost use Rattle.ua_builtin.specs.Format.{most_levels, Gives, GivesBy, StaysBehi
 ghost use Rattle.ua_builtin.specs.Signed.{signed};
 ghost use Rattle.ua_builtin.specs.Status.{status_code};
 ghost use Rattle.ua_parts.specs.Parts.{optional_read, optional_fits, optional_canonical};
-ghost use Rattle.ua_parts.specs.Diagnostic.{diagnostic_at, diagnostic_step, diagnostic_flags, diagnostic_fits, diagnostic_fields_encodable, diagnostic_fields_canonical, diagnostic_canonical};
+ghost use Rattle.ua_parts.specs.Diagnostic.{diagnostic_at, diagnostic_step, diagnostic_flags, diagnostic_fits, diagnostic_fields_encodable, diagnostic_fields_canonical, diagnostic_canonical, innermost, no_fields};
 ghost use Rattle.ua_parts.specs.View.{diagnostic_of, diagnostic_fields_of};
 
 use crate::diagnostic_info::{BoxedDiagnostic, DiagnosticInfo};
@@ -191,6 +191,31 @@ pub fn append_diagnostic(value: &DiagnosticInfo, out: &mut Vec<u8>) -> Result<()
     append_fields(value, out)?;
     match &value.inner {
         None => Ok(()),
-        Some(inner) => append_diagnostic(inner.get(), out),
+        Some(inner) => match inner.get() {
+            None => append_empty(out),
+            Some(inner) => append_diagnostic(inner, out),
+        },
     }
+}
+
+/// Adds the canonical encoding of a DiagnosticInfo among other values whose fields can be written.
+pub fn append_boxed_diagnostic(value: &BoxedDiagnostic, out: &mut Vec<u8>) -> Result<(), AllocError>
+    requires { diagnostic_fits value.now ≡ true }
+    ensures ok { OnOk result (out.new.items ≡ out.old.items ++ diagnostic_canonical value.now) }
+    ensures err { OnErr result (Extends out.old.items out.new.items) }
+{
+    match value.get() {
+        None => append_empty(out),
+        Some(value) => append_diagnostic(value, out),
+    }
+}
+
+/// Adds the canonical encoding of a DiagnosticInfo without any field.
+#[tactic(auto, using(crate::proofs::Empty::empty_canonical))]
+fn append_empty(out: &mut Vec<u8>) -> Result<(), AllocError>
+    ensures ok { OnOk result (out.new.items ≡ out.old.items ++ diagnostic_canonical (innermost no_fields)) }
+    ensures err { OnErr result (Extends out.old.items out.new.items) }
+{
+    out.push(0)?;
+    Ok(())
 }

@@ -1,7 +1,7 @@
 //! Values as the program prints them.
 
 ghost use Rattle.std.specs.Prelude.{◌≡◌, ◌++◌, map, string_bytes, OnOk};
-ghost use Rattle.ua_variant.specs.Data.{data_value, leaf, variant};
+ghost use Rattle.ua_variant.specs.Data.{data_value, diagnostic, leaf, variant};
 ghost use Rattle.ua_variant.specs.Packed.{packed_leaves};
 ghost use Rattle.ua_variant.specs.View.{elements_of, scalar_of, variant_of};
 ghost use Rattle.ua_texts.specs.Values.{array_text, boolean_text, item_text, items_text, scalar_text, type_name as name_of_type, typed_text, variant_text};
@@ -12,7 +12,8 @@ use crate::text::{
 use std::alloc::{AllocError, Global};
 use std::fmt::Write;
 use ua_variant::{
-    BoxedDataValue, BoxedVariant, DataValue, Elements, Packed, Scalar, Scalars, Variant,
+    BoxedDataValue, BoxedDiagnostic, BoxedVariant, DataValue, DiagnosticInfo, Elements, Packed,
+    Scalar, Scalars, Variant,
 };
 
 /// The standard's name of the type of an id (OPC 10000-6, 5.1.2), `Reserved` for any id but those
@@ -145,7 +146,6 @@ fn push_item(
 }
 
 /// Adds a value of a built-in type.
-#[tactic(auto, unfolding(ua_variant::specs::Formats::data_value_format, ua_variant::specs::Formats::variant_format, ua_parts::specs::Formats::diagnostic_format))]
 pub(crate) fn push_scalar(
     alloc: Global,
     out: &mut String,
@@ -178,7 +178,7 @@ pub(crate) fn push_scalar(
         Scalar::ExtensionObject(value) => push_encoded(alloc, out, value.get()),
         Scalar::DataValue(value) => push_data_value_octets(alloc, out, value),
         Scalar::Variant(value) => push_variant_octets(alloc, out, value),
-        Scalar::DiagnosticInfo(value) => push_encoded(alloc, out, value.get()),
+        Scalar::DiagnosticInfo(value) => push_diagnostic_octets(alloc, out, value),
         Scalar::Reserved(..) => out.push_str("unwritable"),
     }
 }
@@ -210,6 +210,21 @@ fn push_variant_octets(
     match value.get() {
         Some(value) => push_encoded(alloc, out, value),
         None => push_encoded(alloc, out, &Variant::Null),
+    }
+}
+
+/// Adds the octets of a DiagnosticInfo among Variants.
+#[tactic(auto, unfolding(ua_parts::specs::Formats::diagnostic_format))]
+fn push_diagnostic_octets(
+    alloc: Global,
+    out: &mut String,
+    value: &BoxedDiagnostic,
+) -> Result<(), AllocError>
+    ensures { OnOk result (string_bytes out.new ≡ string_bytes out.old ++ scalar_text (diagnostic value.now)) }
+{
+    match value.get() {
+        Some(value) => push_encoded(alloc, out, value),
+        None => push_encoded(alloc, out, &DiagnosticInfo::empty()),
     }
 }
 

@@ -8,7 +8,6 @@ use crate::values::{
     BoxedDataValue, BoxedVariant, DataValue, Elements, HeldVariant, Scalar, Scalars, Variant,
 };
 use std::alloc::{AllocError, Global};
-use ua_parts::BoxedDiagnostic;
 
 impl Variant {
     /// A value of its own, equal to this one.
@@ -142,10 +141,7 @@ fn copy_scalar(alloc: Global, value: &Scalar) -> Result<Scalar, AllocError>
         )?)),
         Scalar::DataValue(d) => Ok(Scalar::DataValue(copy_boxed_data_value(alloc, d)?)),
         Scalar::Variant(v) => Ok(Scalar::Variant(copy_boxed(alloc, v)?)),
-        Scalar::DiagnosticInfo(d) => {
-            let copy = d.get().try_clone(alloc)?;
-            Ok(Scalar::DiagnosticInfo(BoxedDiagnostic::new(alloc, copy)?))
-        }
+        Scalar::DiagnosticInfo(d) => Ok(Scalar::DiagnosticInfo(d.try_clone(alloc)?)),
         Scalar::Reserved(kind, x) => Ok(Scalar::Reserved(*kind, x.try_clone()?)),
     }
 }

@@ -168,13 +168,7 @@ fn scalar_levels_of(value: &Scalar) -> Option<u32>
         Scalar::ExtensionObject(x) => no_levels_if(x.get().is_encodable()),
         Scalar::DataValue(d) => boxed_data_value_levels_of(d),
         Scalar::Variant(v) => boxed_variant_levels_of(v),
-        Scalar::DiagnosticInfo(d) => {
-            if d.get().fits() {
-                Some(d.get().depth())
-            } else {
-                None
-            }
-        }
+        Scalar::DiagnosticInfo(d) => { if d.fits() { Some(d.depth()) } else { None } }
         Scalar::Reserved(_, _) => None,
     }
 }

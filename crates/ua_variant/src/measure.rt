@@ -67,7 +67,7 @@ fn scalar_levels(value: &Scalar) -> u32
             None => 1,
             Some(v) => variant_levels(v),
         },
-        Scalar::DiagnosticInfo(d) => d.get().depth(),
+        Scalar::DiagnosticInfo(d) => d.depth(),
         _ => 0,
     }
 }
@@ -132,7 +132,7 @@ fn count_scalar(value: &Scalar) -> u64
             None => 1,
             Some(v) => count_variant(v),
         },
-        Scalar::DiagnosticInfo(d) => d.get().count(),
+        Scalar::DiagnosticInfo(d) => d.count(),
         _ => 1,
     }
 }

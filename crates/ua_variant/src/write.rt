@@ -19,7 +19,7 @@ use ua_builtin::Wire;
 use ua_builtin::flags::flag_of;
 use ua_octets::NULL_COUNT;
 use ua_parts::field::{append_three, append_two};
-use ua_parts::{Dimensions, append_diagnostic, append_dims};
+use ua_parts::{Dimensions, append_boxed_diagnostic, append_dims};
 
 /// The flags of the fields that are there, but the value.
 #[tactic(auto, unfolding(crate::specs::Fields::data_flags))]
@@ -161,7 +161,7 @@ fn append_scalar(value: &Scalar, out: &mut Vec<u8>) -> Result<(), AllocError>
         Scalar::ExtensionObject(x) => x.get().append(out),
         Scalar::DataValue(d) => append_boxed_data_value(d, out),
         Scalar::Variant(v) => append_boxed_variant(v, out),
-        Scalar::DiagnosticInfo(d) => append_diagnostic(d.get(), out),
+        Scalar::DiagnosticInfo(d) => append_boxed_diagnostic(d, out),
         Scalar::Reserved(_, _) => Ok(()),
     }
 }
