@@ -11,7 +11,7 @@ ghost use Rattle.ua_client.specs.Hearing.{fault_alone};
 ghost use Rattle.ua_client.specs.declared.fault.ClientFault.TheVariants.{OutOfMemory};
 
 use crate::fault::{CallsFault, ClientFault};
-use std::alloc::Global;
+use std::alloc::{AllocError, Global};
 use std::marker::Model;
 use ua_builtin::WriteFault;
 use ua_channel::{AskFault, ClientChannel};
@@ -145,6 +145,18 @@ pub fn judge_group(
     Ok(bodies)
 }
 
+/// Octets, and behind them others: the others as they stand where there are none before.
+fn joined(front: Vec<u8>, more: Vec<u8>) -> Result<Vec<u8>, AllocError>
+    ensures { IfOk result (λ all. all.items ≡ front.items ++ more.items) }
+{
+    if front.is_empty() {
+        return Ok(more);
+    }
+    let mut all = front;
+    all.extend_from_slice(&more)?;
+    Ok(all)
+}
+
 /// The chunks of a call of each body, in order, and the request id of the first.
 pub fn ask_group(
     alloc: Global,
@@ -163,8 +175,9 @@ pub fn ask_group(
             Ok(asked) => asked,
             Err(_) => return Err(ClientFault::OutOfMemory),
         };
-        let Ok(()) = out.extend_from_slice(&octets) else {
-            return Err(ClientFault::OutOfMemory);
+        out = match joined(out, octets) {
+            Ok(all) => all,
+            Err(_) => return Err(ClientFault::OutOfMemory),
         };
         first = Some(first.unwrap_or(id));
     }

@@ -5,7 +5,7 @@ use Rattle.ua_client.proofs.group.ask_group.Goals as goal
 
 pub loop-body-preserved : goal.loop-body-preserved
 loop-body-preserved c =
-    let whole : c.extend_from_slice.new.self.items ≡ c.loop-body.out.items ++ c.in-Ok.asked.1.items = search rules in
+    let whole : c.in-Ok-joined.all.items ≡ c.loop-body.out.items ++ c.in-Ok.asked.1.items = search rules in
     let first : c.unwrap_or.result ≡ unwrap_or c.loop-body.first c.in-Ok.asked.0 = search rules in
     asked-as _ _ c.args.channel.now c.ask.new.self _ _ _ _
     (asked-more (take c.loop-body.body-index c.args.bodies.now) c.octets.result.now c.args.channel.now c.loop-body.channel c.ask.new.self c.loop-body.out.items c.loop-body.first c.in-Ok.asked.0 c.in-Ok.asked.1.items
