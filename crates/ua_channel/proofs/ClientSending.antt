@@ -1,38 +1,194 @@
--- What a client sends between two messages.
-use Rattle.std.proofs.Common.{◌≡◌, ℕ, List, [], Option, Some, None, length, refl, sym, ◌∙◌, ap, subst}
-use Rattle.std.specs.Prelude.{is_some}
+-- What a client sends when it is asked, and why it sends nothing.
+use Rattle.std.proofs.Common.{◌≡◌, ℕ, ◌+◌, ◌<◌, zero, suc, List, [], ◌∷◌, ◌++◌, Bool, true, false, Option, Some, None, Result, Ok, Err, length, refl, sym, ◌∙◌, ap, subst, arith, append-nil, append_assoc, length-append}
+use Rattle.std.specs.Prelude.{is_none, is_some}
+use Rattle.std.specs.List.{AllByRecursion}
 use Rattle.ua_octets.proofs.Readers.{some_is}
 use Rattle.ua_builtin.specs.Reasons.{first_reason}
 use Rattle.ua_builtin.specs.declared.date_time.DateTime.{DateTime}
 use Rattle.ua_frame.specs.declared.ack.Ack.{Ack}
 use Rattle.ua_frame.specs.declared.frame.Frame.{Frame}
+use Rattle.ua_frame.specs.declared.limits.Limits.{Limits}
 use Rattle.ua_frame.specs.Frames.{frame_octets}
 use Rattle.ua_frame.specs.Run.{Going}
 use Rattle.ua_frame.proofs.Unique.{unique}
 use Rattle.ua_chunk.specs.Cutting.{chunks_octets, chunks_of, number_after, pieces}
 use Rattle.ua_chunk.specs.Sequence.{next_number}
-use Rattle.ua_chunk.specs.declared.lane.Lane.{Lane}
-use Rattle.ua_channel.specs.Asks.{Placed, asked_in, next_id}
-use Rattle.ua_channel.specs.Client.{InPhase, IsCall, IsClosing, IsRenewal, Stands, ask_refusal, close_refusal, limits_of, phase_of, renew_refusal, rules_of}
-use Rattle.ua_channel.specs.ClientAsks.{Talks, ask_reasons, lane_of, renew_reasons, room_of}
+use Rattle.ua_chunk.specs.declared.chunk.Chunk.{Chunk}
+use Rattle.ua_structures.specs.declared.secure_channel.OpenResponse.{OpenResponse}
+use Rattle.ua_channel.specs.Asks.{Asking, Placed, asked_in, next_id, pending_calls, pending_renewals}
+use Rattle.ua_channel.specs.Asks.Asking.{Call}
+use Rattle.ua_channel.specs.Client.{InPhase, IsCall, IsClosing, IsNotOpen, IsRenewal, Stands, ask_refusal, close_refusal, limits_of, phase_of, renew_refusal, rules_of}
+use Rattle.ua_channel.specs.ClientAsks.{Calls, IsCalled, IsClosed, IsRenewed, JudgesBy, Renews, Talks, ask_reasons, call_lane, call_reasons, calls_at, closing_reasons, has_no_channel, is_too_large, reasons_of_call, reasons_of_renewal, renew_reasons, renewing_reasons, room_of}
 use Rattle.ua_channel.specs.ClientReads.{AtClient, ClientReads, lane_from, reasons_here, renew_reasons_here}
 use Rattle.ua_channel.specs.ClientSends.{close_frame, renewal_frame}
-use Rattle.ua_channel.specs.ClientTokens.{channel_in, responses}
+use Rattle.ua_channel.specs.ClientTable.{of_ack}
+use Rattle.ua_channel.specs.ClientTokens.{channel_in, held_tokens, opened_ids, responses}
 use Rattle.ua_channel.specs.ClientTold.{Told}
 use Rattle.ua_channel.specs.Received.{Received, has_some, latest, listed, nothing_received, received}
 use Rattle.ua_channel.specs.declared.client.channel.ClientChannel.{ClientChannel}
+use Rattle.ua_channel.specs.declared.client.fault.AskFault.{AskFault}
+use Rattle.ua_channel.specs.declared.client.fault.AskFault.TheVariants.{NotOpen}
 use Rattle.ua_channel.specs.declared.client.phase.Phase.{Phase}
 use Rattle.ua_channel.specs.declared.client.phase.Phase.TheVariants.{Waiting, Agreed, Open, Done}
 use Rattle.ua_channel.specs.declared.client.talking.Talking.{Talking}
+use Rattle.ua_channel.proofs.Askings.{all-weaken, asked_in-push, pending_calls-call}
+use Rattle.ua_channel.proofs.ClientStands.{talks_at}
 use Rattle.ua_channel.proofs.ClientTalks.{no_responses}
+use Rattle.ua_channel.proofs.Opened.{asks_nothing, closes_nothing, renews_nothing}
 
-no_some : {A : Type 0} (o : Option A) (a : A) → o ≡ None → o ≡ Some a → ⊥
-no_some None a e is = absurd cc
-no_some (Some b) a e is = absurd cc
+-- ---- the first of several reasons
+
+first_set : {A : Type 0} (a : A) (b : Bool) (rs : List (A × Bool)) → b ≡ true → first_reason ((a, b) ∷ rs) ≡ Some a
+first_set a true rs e = refl
+first_set a false rs e = absurd cc
+
+first_skip : {A : Type 0} (a : A) (b : Bool) (rs : List (A × Bool)) → b ≡ false → first_reason ((a, b) ∷ rs) ≡ first_reason rs
+first_skip a true rs e = absurd cc
+first_skip a false rs e = refl
 
 some_listed : (o : Option ℕ) → is_some o ≡ has_some (listed o)
 some_listed None = refl
 some_listed (Some n) = refl
+
+-- ---- by what was received and asked
+
+shut_first : (before : Received) → responses before.openings ≡ [] → has_no_channel before ≡ true
+shut_first before none = ap (λ (rs : List OpenResponse). is_none (channel_in rs)) none
+
+module _ (limits : Limits) (before : Received) (asked : List Asking) where
+  none_waiting : before ≡ nothing_received → has_no_channel before ≡ true
+  none_waiting e = shut_first before (ap (λ (b : Received). responses b.openings) e ∙ no_responses)
+
+  none_agreed : (a : Ack) → before ≡ record nothing_received { ack = Some a } → has_no_channel before ≡ true
+  none_agreed a e = shut_first before (ap (λ (b : Received). responses b.openings) e ∙ no_responses)
+
+  -- what an open channel sends
+  pub call_sent : (p : Phase) (number : ℕ) (body : List ℕ) (id : ℕ) (out : List ℕ) (next : ℕ) → InPhase limits p before asked → IsCall p number body id out next → IsCalled before asked number body id out next
+  call_sent Waiting number body id out next h c = absurd c
+  call_sent (Agreed a) number body id out next h c = absurd c
+  call_sent (Open t) number body id out next h c = record {
+    ack = t.agreed.ack;
+    channel = t.channel;
+    newest = t.newest;
+    is_open = record { ack_is = h.ack_is; channel_is = h.channel_is; newest_is = h.newest_is };
+    id_is = c.id_is ∙ h.next_is;
+    out_is = c.out_is;
+    next_is = c.next_is;
+  }
+  call_sent Done number body id out next h c = absurd c
+
+  pub renewal_sent : (p : Phase) (number : ℕ) (moment : DateTime) (id : ℕ) (out : List ℕ) (next : ℕ) → InPhase limits p before asked → IsRenewal p number moment id out next
+      → IsRenewed before asked number moment id out next
+  renewal_sent Waiting number moment id out next h c = absurd c
+  renewal_sent (Agreed a) number moment id out next h c = absurd c
+  renewal_sent (Open t) number moment id out next h c = record { channel = t.channel; channel_is = h.channel_is; id_is = c.id_is ∙ h.next_is; out_is = c.out_is; next_is = c.next_is }
+  renewal_sent Done number moment id out next h c = absurd c
+
+  pub close_sent : (p : Phase) (number : ℕ) (moment : DateTime) (out : List ℕ) → InPhase limits p before asked → IsClosing p number moment out → IsClosed before asked number moment out
+  close_sent Waiting number moment out h c = absurd c
+  close_sent (Agreed a) number moment out h c = absurd c
+  close_sent (Open t) number moment out h c = record {
+    channel = t.channel;
+    newest = t.newest;
+    channel_is = h.channel_is;
+    newest_is = h.newest_is;
+    out_is = c ∙ ap (λ (n : ℕ). frame_octets (close_frame t.channel t.newest number n moment)) h.next_is;
+  }
+  close_sent Done number moment out h c = absurd c
+
+  -- why nothing is sent
+  call_open : (t : Talking) (more : ℕ) (body : List ℕ) → Talks limits t before asked → ask_refusal (Open t) more body ≡ first_reason (call_reasons before asked more body)
+  call_open t more body h =
+      ap (λ (n : ℕ). first_reason (reasons_of_call (n + more) (t.next + more) (is_too_large t.agreed.ack body))) (ap length h.pending_are)
+      ∙ (ap (λ (n : ℕ). first_reason (reasons_of_call (length (pending_calls before.messages asked) + more) (n + more) (is_too_large t.agreed.ack body))) h.next_is
+      ∙ (ap (λ (b : Bool). first_reason (reasons_of_call (length (pending_calls before.messages asked) + more) (next_id asked + more) b)) (sym (ap (of_ack (λ (a : Ack). is_too_large a body)) h.ack_is))
+      ∙ sym (first_skip NotOpen (has_no_channel before) (reasons_of_call (length (pending_calls before.messages asked) + more) (next_id asked + more) (of_ack (λ (a : Ack). is_too_large a body) before.ack)) (ap is_none h.channel_is))))
+
+  call_shut : (more : ℕ) (body : List ℕ) → has_no_channel before ≡ true → Some NotOpen ≡ first_reason (call_reasons before asked more body)
+  call_shut more body none = sym (first_set NotOpen (has_no_channel before) (reasons_of_call (length (pending_calls before.messages asked) + more) (next_id asked + more) (of_ack (λ (a : Ack). is_too_large a body) before.ack)) none)
+
+  pub call_judged : (p : Phase) (more : ℕ) (body : List ℕ) → InPhase limits p before asked → ask_refusal p more body ≡ first_reason (call_reasons before asked more body)
+  call_judged Waiting more body h = call_shut more body (none_waiting h.0)
+  call_judged (Agreed a) more body h = call_shut more body (none_agreed a.ack h.0)
+  call_judged (Open t) more body h = call_open t more body h
+  call_judged Done more body h = absurd h
+
+  renewal_open : (t : Talking) → Talks limits t before asked → renew_refusal (Open t) ≡ first_reason (renewing_reasons before asked)
+  renewal_open t h =
+      ap (λ (b : Bool). first_reason (reasons_of_renewal b (length t.tokens.items) t.next)) (some_listed t.renewal ∙ ap has_some h.renewal_is)
+      ∙ (ap (λ (n : ℕ). first_reason (reasons_of_renewal (has_some (pending_renewals (opened_ids before.openings) asked)) n t.next)) (ap length h.tokens_are)
+      ∙ (ap (λ (n : ℕ). first_reason (reasons_of_renewal (has_some (pending_renewals (opened_ids before.openings) asked)) (length (held_tokens before)) n)) h.next_is
+      ∙ sym (first_skip NotOpen (has_no_channel before) (reasons_of_renewal (has_some (pending_renewals (opened_ids before.openings) asked)) (length (held_tokens before)) (next_id asked)) (ap is_none h.channel_is))))
+
+  renewal_shut : has_no_channel before ≡ true → Some NotOpen ≡ first_reason (renewing_reasons before asked)
+  renewal_shut none = sym (first_set NotOpen (has_no_channel before) (reasons_of_renewal (has_some (pending_renewals (opened_ids before.openings) asked)) (length (held_tokens before)) (next_id asked)) none)
+
+  pub renewal_judged : (p : Phase) → InPhase limits p before asked → renew_refusal p ≡ first_reason (renewing_reasons before asked)
+  renewal_judged Waiting h = renewal_shut (none_waiting h.0)
+  renewal_judged (Agreed a) h = renewal_shut (none_agreed a.ack h.0)
+  renewal_judged (Open t) h = renewal_open t h
+  renewal_judged Done h = absurd h
+
+  pub close_judged : (p : Phase) → InPhase limits p before asked → close_refusal p ≡ first_reason (closing_reasons before)
+  close_judged Waiting h = sym (first_set NotOpen (has_no_channel before) [] (none_waiting h.0))
+  close_judged (Agreed a) h = sym (first_set NotOpen (has_no_channel before) [] (none_agreed a.ack h.0))
+  close_judged (Open t) h = sym (first_skip NotOpen (has_no_channel before) [] (ap is_none h.channel_is))
+  close_judged Done h = absurd h
+
+  -- the chunks so far are of request ids below the next one
+  sent_below : (p : Phase) → InPhase limits p before asked → AllByRecursion (λ (c : Chunk). c.request < next_id asked) before.messages
+  sent_below Waiting h = subst (λ (b : Received). AllByRecursion (λ (c : Chunk). c.request < next_id asked) b.messages) (sym h.0) tt
+  sent_below (Agreed a) h = subst (λ (b : Received). AllByRecursion (λ (c : Chunk). c.request < next_id asked) b.messages) (sym h.0) tt
+  sent_below (Open t) h = subst (λ (n : ℕ). AllByRecursion (λ (c : Chunk). c.request < n) before.messages) h.next_is h.sent_below
+  sent_below Done h = absurd h
+
+-- ---- with calls more
+
+module _ (place : ℕ) where
+  one_asked : (asks : List Placed) (id : ℕ) → next_id (asked_in (asks ++ (place, Call id) ∷ [])) ≡ next_id (asked_in asks) + 1
+  one_asked asks id = omega (arith, ap length (asked_in-push asks (place, Call id)), length-append (asked_in asks) (Call id ∷ []))
+
+  step_asked : (asks : List Placed) (count : ℕ) → asks ++ calls_at place (next_id (asked_in asks)) (suc count)
+      ≡ (asks ++ (place, Call (next_id (asked_in asks))) ∷ []) ++ calls_at place (next_id (asked_in (asks ++ (place, Call (next_id (asked_in asks))) ∷ []))) count
+  step_asked asks count =
+      sym (append_assoc asks ((place, Call (next_id (asked_in asks))) ∷ []) (calls_at place (next_id (asked_in asks) + 1) count))
+      ∙ ap (λ (n : ℕ). (asks ++ (place, Call (next_id (asked_in asks))) ∷ []) ++ calls_at place n count) (sym (one_asked asks (next_id (asked_in asks))))
+
+  next_later : (count : ℕ) (asks : List Placed) → next_id (asked_in (asks ++ calls_at place (next_id (asked_in asks)) count)) ≡ next_id (asked_in asks) + count
+  next_later zero asks = omega (arith, ap (λ (ps : List Placed). next_id (asked_in ps)) (append-nil asks))
+  next_later (suc count) asks =
+      omega (arith, ap (λ (ps : List Placed). next_id (asked_in ps)) (step_asked asks count), next_later count (asks ++ (place, Call (next_id (asked_in asks))) ∷ []), one_asked asks (next_id (asked_in asks)))
+
+  pending_later : (ms : List Chunk) (count : ℕ) (asks : List Placed) → AllByRecursion (λ (c : Chunk). c.request < next_id (asked_in asks)) ms
+      → length (pending_calls ms (asked_in (asks ++ calls_at place (next_id (asked_in asks)) count))) ≡ length (pending_calls ms (asked_in asks)) + count
+  pending_later ms zero asks below = omega (arith, ap (λ (ps : List Placed). length (pending_calls ms (asked_in ps))) (append-nil asks))
+  pending_later ms (suc count) asks below =
+      let id = next_id (asked_in asks) in
+      let more = asks ++ (place, Call id) ∷ [] in
+      let one : pending_calls ms (asked_in more) ≡ pending_calls ms (asked_in asks) ++ id ∷ [] =
+      ap (pending_calls ms) (asked_in-push asks (place, Call id)) ∙ pending_calls-call ms (asked_in asks) id below in
+      let later : length (pending_calls ms (asked_in (more ++ calls_at place (next_id (asked_in more)) count))) ≡ length (pending_calls ms (asked_in more)) + count =
+      pending_later ms count more
+      (all-weaken (λ (c : Chunk). c.request < next_id (asked_in asks)) (λ (c : Chunk). c.request < next_id (asked_in more)) ms (λ c less. omega (arith, less, one_asked asks id)) below) in
+      omega (arith, ap (λ (ps : List Placed). length (pending_calls ms (asked_in ps))) (step_asked asks count), later, ap length one, length-append (pending_calls ms (asked_in asks)) (id ∷ []))
+
+-- what is judged behind calls more is what was judged of them before
+pub judged_later : (x y : ClientChannel) (asks : List Placed) (octets : List ℕ) (frames : List Frame) (rest : List ℕ) (count : ℕ) (body : List ℕ) → Stands x asks octets frames rest
+    → Stands y (asks ++ calls_at (length octets) (next_id (asked_in asks)) count) octets frames rest → ask_refusal (phase_of x) count body ≡ ask_refusal (phase_of y) 0 body
+judged_later x y asks octets frames rest count body s t =
+    let before = received frames in
+    let later = asks ++ calls_at (length octets) (next_id (asked_in asks)) count in
+    let none = has_no_channel before in
+    let large = of_ack (λ (a : Ack). is_too_large a body) before.ack in
+    let pending : length (pending_calls before.messages (asked_in asks)) + count ≡ length (pending_calls before.messages (asked_in later)) + 0 =
+    omega (arith, pending_later (length octets) before.messages count asks (sent_below (limits_of x) before (asked_in asks) (phase_of x) s.phase_is)) in
+    let next : next_id (asked_in asks) + count ≡ next_id (asked_in later) + 0 = omega (arith, next_later (length octets) count asks) in
+    call_judged (limits_of x) before (asked_in asks) (phase_of x) count body s.phase_is
+    ∙ (ap (λ (n : ℕ). first_reason ((NotOpen, none) ∷ reasons_of_call n (next_id (asked_in asks) + count) large)) pending
+    ∙ (ap (λ (n : ℕ). first_reason ((NotOpen, none) ∷ reasons_of_call (length (pending_calls before.messages (asked_in later)) + 0) n large)) next
+    ∙ sym (call_judged (limits_of y) before (asked_in later) (phase_of y) 0 body t.phase_is)))
+
+-- ---- between two messages
 
 module _ (x : ClientChannel) (asks : List Placed) (octets : List ℕ) (frames : List Frame) (rest : List ℕ) (told : List Told) (at : AtClient) (s : Stands x asks octets frames rest) (r : ClientReads (limits_of x) asks octets told at) where
   before : Received
@@ -42,109 +198,114 @@ module _ (x : ClientChannel) (asks : List Placed) (octets : List ℕ) (frames : 
   unfolding before
   in_phase = subst (λ (fs : List Frame). InPhase (limits_of x) (phase_of x) (received fs) (asked_in asks)) (unique (rules_of x asks) octets frames r.frames rest [] Going Going s.run r.run).frames s.phase_is
 
-  module _ (t : Talking) (talks : Talks (limits_of x) t before (asked_in asks)) where
-    same_channel : t.channel ≡ at.channel
-    unfolding before
-    same_channel = some_is t.channel at.channel (sym talks.channel_is ∙ r.channel_is)
-
-    same_newest : t.newest ≡ at.newest
-    unfolding before
-    same_newest = some_is t.newest at.newest (sym talks.newest_is ∙ (ap latest r.tokens_are ∙ r.newest_is))
-
-    same_ack : t.agreed.ack ≡ at.ack
-    unfolding before
-    same_ack = some_is t.agreed.ack at.ack (sym talks.ack_is ∙ r.ack_is)
-
-    same_lane : lane_of t ≡ lane_from at
-    same_lane = rw (same_channel, same_newest, same_ack) refl
-
-    same_pending : length t.pending.items ≡ length at.pending
-    unfolding before
-    same_pending = ap length (talks.pending_are ∙ r.pending_are)
-
-    same_tokens : length t.tokens.items ≡ length at.tokens
-    unfolding before
-    same_tokens = ap length (talks.tokens_are ∙ r.tokens_are)
-
-    same_renewal : is_some t.renewal ≡ has_some at.renewals
-    unfolding before
-    same_renewal = some_listed t.renewal ∙ ap has_some (talks.renewal_is ∙ r.renewals_are)
-
-    same_reasons : (more : ℕ) (body : List ℕ) → ask_reasons t more body ≡ reasons_here at (asked_in asks) more body
-    same_reasons more body = rw (same_pending, talks.next_is, same_ack) refl
-
-    same_renew_reasons : renew_reasons t ≡ renew_reasons_here at (asked_in asks)
-    same_renew_reasons = rw (same_renewal, same_tokens, talks.next_is) refl
-
-  never_waiting : before ≡ nothing_received → ⊥
+  there : has_no_channel before ≡ false
   unfolding before
-  never_waiting e = no_some (received r.frames).ack at.ack (ap (λ (b : Received). b.ack) e) r.ack_is
+  there = ap is_none r.channel_is
 
-  never_agreed : (a : Ack) → before ≡ record nothing_received { ack = Some a } → ⊥
+  same_channel : (channel : ℕ) → channel_in (responses before.openings) ≡ Some channel → channel ≡ at.channel
   unfolding before
-  never_agreed a e = no_some (channel_in (responses (received r.frames).openings)) at.channel (ap (λ (b : Received). channel_in (responses b.openings)) e ∙ ap channel_in no_responses) r.channel_is
+  same_channel channel is = some_is channel at.channel (sym is ∙ r.channel_is)
 
-  call_by : (p : Phase) (number : ℕ) (body : List ℕ) (id : ℕ) (out : List ℕ) (next : ℕ) → InPhase (limits_of x) p before (asked_in asks) → IsCall p number body id out next
+  same_newest : (newest : ℕ) → latest (held_tokens before) ≡ Some newest → newest ≡ at.newest
+  unfolding before
+  same_newest newest is = some_is newest at.newest (sym is ∙ (ap latest r.tokens_are ∙ r.newest_is))
+
+  same_ack : (a : Ack) → before.ack ≡ Some a → a ≡ at.ack
+  unfolding before
+  same_ack a is = some_is a at.ack (sym is ∙ r.ack_is)
+
+  call_by : (number : ℕ) (body : List ℕ) (id : ℕ) (out : List ℕ) (next : ℕ) → IsCalled before (asked_in asks) number body id out next
       → (id ≡ next_id (asked_in asks)) × (out ≡ chunks_octets (chunks_of (lane_from at) body number id)) × (next ≡ number_after number (pieces (room_of at.ack) body))
-  call_by Waiting number body id out next h c = absurd c
-  call_by (Agreed a) number body id out next h c = absurd c
-  call_by (Open t) number body id out next h c = (
-    c.id_is ∙ h.next_is,
-    c.out_is ∙ ap (λ (l : Lane). chunks_octets (chunks_of l body number id)) (same_lane t h),
-    c.next_is ∙ ap (λ (a : Ack). number_after number (pieces (room_of a) body)) (same_ack t h),
+  call_by number body id out next c = (
+    c.id_is,
+    c.out_is ∙ (ap (λ (a : Ack). chunks_octets (chunks_of (call_lane a c.channel c.newest) body number id)) (same_ack c.ack c.is_open.ack_is)
+        ∙ (ap (λ (n : ℕ). chunks_octets (chunks_of (call_lane at.ack n c.newest) body number id)) (same_channel c.channel c.is_open.channel_is)
+        ∙ ap (λ (n : ℕ). chunks_octets (chunks_of (call_lane at.ack at.channel n) body number id)) (same_newest c.newest c.is_open.newest_is))),
+    c.next_is ∙ ap (λ (a : Ack). number_after number (pieces (room_of a) body)) (same_ack c.ack c.is_open.ack_is),
   )
-  call_by Done number body id out next h c = absurd c
 
   pub sends_call : (number : ℕ) (body : List ℕ) (id : ℕ) (out : List ℕ) (next : ℕ) → IsCall (phase_of x) number body id out next
       → (id ≡ next_id (asked_in asks)) × (out ≡ chunks_octets (chunks_of (lane_from at) body number id)) × (next ≡ number_after number (pieces (room_of at.ack) body))
-  sends_call number body id out next c = call_by (phase_of x) number body id out next in_phase c
+  sends_call number body id out next c = call_by number body id out next (call_sent (limits_of x) before (asked_in asks) (phase_of x) number body id out next in_phase c)
 
-  renewal_by : (p : Phase) (number : ℕ) (moment : DateTime) (id : ℕ) (out : List ℕ) (next : ℕ) → InPhase (limits_of x) p before (asked_in asks) → IsRenewal p number moment id out next
+  renewal_by : (number : ℕ) (moment : DateTime) (id : ℕ) (out : List ℕ) (next : ℕ) → IsRenewed before (asked_in asks) number moment id out next
       → (id ≡ next_id (asked_in asks)) × (out ≡ frame_octets (renewal_frame at.channel number id moment)) × (next ≡ next_number number)
-  renewal_by Waiting number moment id out next h c = absurd c
-  renewal_by (Agreed a) number moment id out next h c = absurd c
-  renewal_by (Open t) number moment id out next h c = (c.id_is ∙ h.next_is, c.out_is ∙ ap (λ (n : ℕ). frame_octets (renewal_frame n number id moment)) (same_channel t h), c.next_is)
-  renewal_by Done number moment id out next h c = absurd c
+  renewal_by number moment id out next c = (c.id_is, c.out_is ∙ ap (λ (n : ℕ). frame_octets (renewal_frame n number id moment)) (same_channel c.channel c.channel_is), c.next_is)
 
   pub sends_renewal : (number : ℕ) (moment : DateTime) (id : ℕ) (out : List ℕ) (next : ℕ) → IsRenewal (phase_of x) number moment id out next
       → (id ≡ next_id (asked_in asks)) × (out ≡ frame_octets (renewal_frame at.channel number id moment)) × (next ≡ next_number number)
-  sends_renewal number moment id out next c = renewal_by (phase_of x) number moment id out next in_phase c
+  sends_renewal number moment id out next c = renewal_by number moment id out next (renewal_sent (limits_of x) before (asked_in asks) (phase_of x) number moment id out next in_phase c)
 
-  closing_by : (p : Phase) (number : ℕ) (moment : DateTime) (out : List ℕ) → InPhase (limits_of x) p before (asked_in asks) → IsClosing p number moment out
-      → out ≡ frame_octets (close_frame at.channel at.newest number (next_id (asked_in asks)) moment)
-  closing_by Waiting number moment out h c = absurd c
-  closing_by (Agreed a) number moment out h c = absurd c
-  closing_by (Open t) number moment out h c =
-      c ∙ (ap (λ (n : ℕ). frame_octets (close_frame n t.newest number t.next moment)) (same_channel t h)
-      ∙ (ap (λ (n : ℕ). frame_octets (close_frame at.channel n number t.next moment)) (same_newest t h) ∙ ap (λ (n : ℕ). frame_octets (close_frame at.channel at.newest number n moment)) h.next_is))
-  closing_by Done number moment out h c = absurd c
+  closing_by : (number : ℕ) (moment : DateTime) (out : List ℕ) → IsClosed before (asked_in asks) number moment out → out ≡ frame_octets (close_frame at.channel at.newest number (next_id (asked_in asks)) moment)
+  closing_by number moment out c =
+      c.out_is
+      ∙ (ap (λ (n : ℕ). frame_octets (close_frame n c.newest number (next_id (asked_in asks)) moment)) (same_channel c.channel c.channel_is)
+      ∙ ap (λ (n : ℕ). frame_octets (close_frame at.channel n number (next_id (asked_in asks)) moment)) (same_newest c.newest c.newest_is))
 
   pub sends_closing : (number : ℕ) (moment : DateTime) (out : List ℕ) → IsClosing (phase_of x) number moment out → out ≡ frame_octets (close_frame at.channel at.newest number (next_id (asked_in asks)) moment)
-  sends_closing number moment out c = closing_by (phase_of x) number moment out in_phase c
+  sends_closing number moment out c = closing_by number moment out (close_sent (limits_of x) before (asked_in asks) (phase_of x) number moment out in_phase c)
 
-  refusal_by : (p : Phase) (more : ℕ) (body : List ℕ) → InPhase (limits_of x) p before (asked_in asks) → ask_refusal p more body ≡ first_reason (reasons_here at (asked_in asks) more body)
-  refusal_by Waiting more body h = absurd (never_waiting h.0)
-  refusal_by (Agreed a) more body h = absurd (never_agreed a.ack h.0)
-  refusal_by (Open t) more body h = ap first_reason (same_reasons t h more body)
-  refusal_by Done more body h = absurd h
+  same_reasons : (more : ℕ) (body : List ℕ) → first_reason (call_reasons before (asked_in asks) more body) ≡ first_reason (reasons_here at (asked_in asks) more body)
+  unfolding before
+  same_reasons more body =
+      first_skip NotOpen (has_no_channel (received r.frames)) (reasons_of_call (length (pending_calls (received r.frames).messages (asked_in asks)) + more) (next_id (asked_in asks) + more) (of_ack (λ (a : Ack). is_too_large a body) (received r.frames).ack)) there
+      ∙ (ap (λ (n : ℕ). first_reason (reasons_of_call (n + more) (next_id (asked_in asks) + more) (of_ack (λ (a : Ack). is_too_large a body) (received r.frames).ack))) (ap length r.pending_are)
+      ∙ ap (λ (b : Bool). first_reason (reasons_of_call (length at.pending + more) (next_id (asked_in asks) + more) b)) (ap (of_ack (λ (a : Ack). is_too_large a body)) r.ack_is))
 
   pub refuses_call : (more : ℕ) (body : List ℕ) → ask_refusal (phase_of x) more body ≡ first_reason (reasons_here at (asked_in asks) more body)
-  refuses_call more body = refusal_by (phase_of x) more body in_phase
+  refuses_call more body = call_judged (limits_of x) before (asked_in asks) (phase_of x) more body in_phase ∙ same_reasons more body
 
-  renew_refusal_by : (p : Phase) → InPhase (limits_of x) p before (asked_in asks) → renew_refusal p ≡ first_reason (renew_reasons_here at (asked_in asks))
-  renew_refusal_by Waiting h = absurd (never_waiting h.0)
-  renew_refusal_by (Agreed a) h = absurd (never_agreed a.ack h.0)
-  renew_refusal_by (Open t) h = ap first_reason (same_renew_reasons t h)
-  renew_refusal_by Done h = absurd h
+  same_renew_reasons : first_reason (renewing_reasons before (asked_in asks)) ≡ first_reason (renew_reasons_here at (asked_in asks))
+  unfolding before
+  same_renew_reasons =
+      first_skip NotOpen (has_no_channel (received r.frames)) (reasons_of_renewal (has_some (pending_renewals (opened_ids (received r.frames).openings) (asked_in asks))) (length (held_tokens (received r.frames))) (next_id (asked_in asks))) there
+      ∙ (ap (λ (ids : List ℕ). first_reason (reasons_of_renewal (has_some ids) (length (held_tokens (received r.frames))) (next_id (asked_in asks)))) r.renewals_are
+      ∙ ap (λ (ns : List ℕ). first_reason (reasons_of_renewal (has_some at.renewals) (length ns) (next_id (asked_in asks)))) r.tokens_are)
 
   pub refuses_renewal : renew_refusal (phase_of x) ≡ first_reason (renew_reasons_here at (asked_in asks))
-  refuses_renewal = renew_refusal_by (phase_of x) in_phase
-
-  close_refusal_by : (p : Phase) → InPhase (limits_of x) p before (asked_in asks) → close_refusal p ≡ None
-  close_refusal_by Waiting h = absurd (never_waiting h.0)
-  close_refusal_by (Agreed a) h = absurd (never_agreed a.ack h.0)
-  close_refusal_by (Open t) h = refl
-  close_refusal_by Done h = absurd h
+  refuses_renewal = renewal_judged (limits_of x) before (asked_in asks) (phase_of x) in_phase ∙ same_renew_reasons
 
   pub closes_here : close_refusal (phase_of x) ≡ None
-  closes_here = close_refusal_by (phase_of x) in_phase
+  closes_here = close_judged (limits_of x) before (asked_in asks) (phase_of x) in_phase ∙ first_skip NotOpen (has_no_channel before) [] there
+
+-- ---- what the calls of a channel answer
+
+none_open : (p : Phase) → ((t : Talking) → p ≡ Open t → ⊥) → IsNotOpen p
+none_open Waiting shut = tt
+none_open (Agreed a) shut = tt
+none_open (Open t) shut = shut t refl
+none_open Done shut = tt
+
+module _ (x : ClientChannel) (asks : List Placed) (octets : List ℕ) (frames : List Frame) (rest : List ℕ) (s : Stands x asks octets frames rest) where
+  -- where no channel is open
+  module _ (shut : (t : Talking) → phase_of x ≡ Open t → ⊥) where
+    pub call_closed : (more : ℕ) (body : List ℕ) → first_reason (call_reasons (received frames) (asked_in asks) more body) ≡ Some NotOpen
+    call_closed more body = sym (call_judged (limits_of x) (received frames) (asked_in asks) (phase_of x) more body s.phase_is) ∙ asks_nothing (phase_of x) more body (none_open (phase_of x) shut)
+
+    pub renewal_closed : first_reason (renewing_reasons (received frames) (asked_in asks)) ≡ Some NotOpen
+    renewal_closed = sym (renewal_judged (limits_of x) (received frames) (asked_in asks) (phase_of x) s.phase_is) ∙ renews_nothing (phase_of x) (none_open (phase_of x) shut)
+
+    pub close_closed : first_reason (closing_reasons (received frames)) ≡ Some NotOpen
+    close_closed = sym (close_judged (limits_of x) (received frames) (asked_in asks) (phase_of x) s.phase_is) ∙ (closes_nothing (phase_of x)).0 (none_open (phase_of x) shut)
+
+  -- where one is
+  module _ (t : Talking) (is : phase_of x ≡ Open t) where
+    at_open : Talks (limits_of x) t (received frames) (asked_in asks)
+    at_open = talks_at x x t t asks octets frames rest is s
+
+    pub call_at : (more : ℕ) (body : List ℕ) → first_reason (ask_reasons t more body) ≡ first_reason (call_reasons (received frames) (asked_in asks) more body)
+    call_at more body = call_judged (limits_of x) (received frames) (asked_in asks) (Open t) more body at_open
+
+    pub called_at : (number : ℕ) (body : List ℕ) (id : ℕ) (out : List ℕ) (next : ℕ) → Calls t number body id out next → IsCalled (received frames) (asked_in asks) number body id out next
+    called_at number body id out next c = call_sent (limits_of x) (received frames) (asked_in asks) (Open t) number body id out next at_open c
+
+    pub renewal_at : first_reason (renew_reasons t) ≡ first_reason (renewing_reasons (received frames) (asked_in asks))
+    renewal_at = renewal_judged (limits_of x) (received frames) (asked_in asks) (Open t) at_open
+
+    pub renewed_at : (number : ℕ) (moment : DateTime) (id : ℕ) (out : List ℕ) (next : ℕ) → Renews t number moment id out next → IsRenewed (received frames) (asked_in asks) number moment id out next
+    renewed_at number moment id out next c = renewal_sent (limits_of x) (received frames) (asked_in asks) (Open t) number moment id out next at_open c
+
+-- what is judged of a length, for another reason that is the same
+pub judges_as : (f g : List ℕ → Option AskFault) (len : ℕ) (r : Result (Unit {0}) AskFault) → ((body : List ℕ) → f body ≡ g body) → JudgesBy f len r → JudgesBy g len r
+judges_as f g len (Ok found) same j = λ body is. sym (same body) ∙ j body is
+judges_as f g len (Err fault) same j = λ body is. sym (same body) ∙ j body is

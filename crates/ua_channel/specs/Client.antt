@@ -11,7 +11,7 @@ use Rattle.ua_frame.specs.Reader.{open_reader}
 use Rattle.ua_frame.specs.Run.{Rules, Run, Going, Stopped, events}
 use Rattle.ua_chunk.specs.Open.{open_octets}
 use Rattle.ua_channel.specs.Asks.{Asking, Placed, asked_in}
-use Rattle.ua_channel.specs.ClientAsks.{Talks, ask_reasons, renew_reasons, Calls, Renews, closing_octets}
+use Rattle.ua_channel.specs.ClientAsks.{Talks, ask_reasons, renew_reasons, Calls, JudgesBy, Renews, closing_octets}
 use Rattle.ua_channel.specs.ClientTable.{client_gate, client_rules, ack_gate, answer_gate, reply_gate}
 use Rattle.ua_channel.specs.ClientTold.{Told, Why}
 use Rattle.ua_channel.specs.Content.{content}
@@ -153,11 +153,6 @@ IsCall (Agreed a) number body id out next = ⊥
 IsCall (Open t) number body id out next = Calls t number body id out next
 IsCall Done number body id out next = ⊥
 
--- what is judged of any body of this length, without memory
-abbrev pub Judges : Phase → ℕ → ℕ → Result (Unit {0}) AskFault → Type 0
-Judges phase more len (Ok found) = (body : List ℕ) → length body ≡ len → ask_refusal phase more body ≡ None
-Judges phase more len (Err fault) = (body : List ℕ) → length body ≡ len → ask_refusal phase more body ≡ Some fault
-
 -- why a renewal is not asked in this phase
 abbrev pub renew_refusal : Phase → Option AskFault
 renew_refusal Waiting = Some NotOpen
@@ -206,7 +201,7 @@ closing_refused x = close_refusal (phase_of x)
 
 -- what it judges of any body of this length, without memory
 abbrev pub JudgesLength : ClientChannel → ℕ → ℕ → Result (Unit {0}) AskFault → Type 0
-JudgesLength x more len result = Judges (phase_of x) more len result
+JudgesLength x more len result = JudgesBy (call_refused x more) len result
 
 -- the octets of its call of this body, with this number first; the request id, and the number that is sent next
 abbrev pub SendsCall : ClientChannel → ℕ → List ℕ → ℕ → List ℕ → ℕ → Type 0

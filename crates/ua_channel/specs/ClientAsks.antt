@@ -1,5 +1,5 @@
--- A client's channel that is open: where it stands, and what it answers when it is asked.
-use Rattle.std.specs.Prelude.{◌≡◌, ℕ, ◌+◌, ◌-◌, ◌<◌, ◌≤◌, nat_le, Bool, ◌||◌, is_some, length, List, [], ◌∷◌, ◌++◌, Option, Some, None, Result, Ok, Err}
+-- What a client sends when it is asked, and why it sends nothing: by what it received and asked, and by what an open channel keeps.
+use Rattle.std.specs.Prelude.{◌≡◌, ℕ, ◌+◌, ◌-◌, ◌<◌, ◌≤◌, zero, suc, nat_le, Bool, ◌||◌, is_none, is_some, length, List, [], ◌∷◌, ◌++◌, Option, Some, None, Result, Ok, Err}
 use Rattle.std.specs.List.{AllByRecursion}
 use Rattle.ua_builtin.specs.Reasons.{first_reason}
 use Rattle.ua_builtin.specs.declared.date_time.DateTime.{DateTime}
@@ -15,15 +15,18 @@ use Rattle.ua_chunk.specs.declared.fault.CutFault.{CutFault}
 use Rattle.ua_chunk.specs.declared.fault.CutFault.TheVariants.{TooManyOctets, TooManyChunks}
 use Rattle.ua_chunk.specs.declared.fault.CutFault.TheVariants as cut_fault
 use Rattle.ua_chunk.specs.declared.lane.Lane.{Lane}
-use Rattle.ua_channel.specs.Asks.{Asking, id_of, next_id, pending_calls, pending_renewals}
+use Rattle.ua_channel.specs.Agreement.{headers_size}
+use Rattle.ua_channel.specs.Asks.{Asking, Placed, id_of, next_id, pending_calls, pending_renewals}
+use Rattle.ua_channel.specs.Asks.Asking.{Call}
 use Rattle.ua_channel.specs.ClientSends.{renewal_frame, close_frame}
+use Rattle.ua_channel.specs.ClientTable.{of_ack}
 use Rattle.ua_channel.specs.ClientTokens.{responses, opened_ids, channel_in, held_tokens}
-use Rattle.ua_channel.specs.Received.{Received, latest, listed}
+use Rattle.ua_channel.specs.Received.{Received, has_some, latest, listed}
 use Rattle.ua_channel.specs.declared.client.fault.AskFault.{AskFault}
 use Rattle.ua_channel.specs.declared.client.fault.AskFault.TheVariants.{NotOpen, TooManyPending, RenewPending, TooManyTokens, Exhausted, RequestTooLarge, OutOfMemory}
 use Rattle.ua_channel.specs.declared.client.talking.Talking.{Talking}
 
--- ---- where an open channel stands
+-- ---- calls
 
 -- the most calls that may be unanswered
 abbrev pub most_pending : ℕ
@@ -36,6 +39,88 @@ most_tokens = 16
 -- the first number that no request id is
 abbrev pub no_id : ℕ
 no_id = 4294967295
+
+-- the octets of a body that a chunk has room for: what the server receives less the headers
+abbrev pub room_of : Ack → ℕ
+room_of a = a.receive_buffer_size - headers_size
+
+-- the server does not take a message of this body: it has too many octets, or too many chunks (OPC 10000-6, 7.1.2.4)
+abbrev pub is_too_large : Ack → List ℕ → Bool
+is_too_large a body = passes a.max_message_size (length body) || passes a.max_chunk_count (length (pieces (room_of a) body))
+
+-- where calls go on this channel: under this token, in frames of the size that the server receives, within the server's limits
+abbrev pub call_lane : Ack → ℕ → ℕ → Lane
+call_lane a channel token = record { channel = channel; token = token; room = room_of a; octets = a.max_message_size; chunks = a.max_chunk_count }
+
+-- why an open channel asks no call where so many are unanswered, this request id is next, and the body is too large or not, in the order
+-- in which it is judged
+abbrev pub reasons_of_call : ℕ → ℕ → Bool → List (AskFault × Bool)
+reasons_of_call pending next large = (TooManyPending, nat_le most_pending pending) ∷ (Exhausted, nat_le no_id next) ∷ (RequestTooLarge, large) ∷ []
+
+-- why it asks no renewal where one is unanswered or not, so many tokens are held, and this request id is next, in the order in which it is
+-- judged
+abbrev pub reasons_of_renewal : Bool → ℕ → ℕ → List (AskFault × Bool)
+reasons_of_renewal pending tokens next = (RenewPending, pending) ∷ (TooManyTokens, nat_le most_tokens tokens) ∷ (Exhausted, nat_le no_id next) ∷ []
+
+-- ---- by what was received and asked, wherever the octets end
+
+-- a channel is open: the server acknowledged this, the first response brought this channel, and this is the newest token
+pub record IsOpenOn (before : Received) (a : Ack) (channel newest : ℕ) : Type 0 where
+  pub ack_is : before.ack ≡ Some a
+  pub channel_is : channel_in (responses before.openings) ≡ Some channel
+  pub newest_is : latest (held_tokens before) ≡ Some newest
+
+-- no channel is open: no good response came yet
+abbrev pub has_no_channel : Received → Bool
+has_no_channel before = is_none (channel_in (responses before.openings))
+
+-- a call of this body, with this number first: the next request id, the chunks of the body, and the number behind them
+pub record IsCalled (before : Received) (asked : List Asking) (number : ℕ) (body : List ℕ) (id : ℕ) (out : List ℕ) (next : ℕ) : Type 0 where
+  pub ack : Ack
+  pub channel : ℕ
+  pub newest : ℕ
+  pub is_open : IsOpenOn before ack channel newest
+  pub id_is : id ≡ next_id asked
+  pub out_is : out ≡ chunks_octets (chunks_of (call_lane ack channel newest) body number id)
+  pub next_is : next ≡ number_after number (pieces (room_of ack) body)
+
+-- a renewal with this number: the next request id, the OPN, and the number behind it
+pub record IsRenewed (before : Received) (asked : List Asking) (number : ℕ) (moment : DateTime) (id : ℕ) (out : List ℕ) (next : ℕ) : Type 0 where
+  pub channel : ℕ
+  pub channel_is : channel_in (responses before.openings) ≡ Some channel
+  pub id_is : id ≡ next_id asked
+  pub out_is : out ≡ frame_octets (renewal_frame channel number id moment)
+  pub next_is : next ≡ next_number number
+
+-- a close with this number: the CLO under the newest token and the next request id
+pub record IsClosed (before : Received) (asked : List Asking) (number : ℕ) (moment : DateTime) (out : List ℕ) : Type 0 where
+  pub channel : ℕ
+  pub newest : ℕ
+  pub channel_is : channel_in (responses before.openings) ≡ Some channel
+  pub newest_is : latest (held_tokens before) ≡ Some newest
+  pub out_is : out ≡ frame_octets (close_frame channel newest number (next_id asked) moment)
+
+-- why a call of this body is not asked after so many more calls, in the order in which it is judged
+abbrev pub call_reasons : Received → List Asking → ℕ → List ℕ → List (AskFault × Bool)
+call_reasons before asked more body =
+    (NotOpen, has_no_channel before)
+    ∷ reasons_of_call (length (pending_calls before.messages asked) + more) (next_id asked + more) (of_ack (λ (a : Ack). is_too_large a body) before.ack)
+
+-- why a renewal is not asked, in the order in which it is judged
+abbrev pub renewing_reasons : Received → List Asking → List (AskFault × Bool)
+renewing_reasons before asked =
+    (NotOpen, has_no_channel before) ∷ reasons_of_renewal (has_some (pending_renewals (opened_ids before.openings) asked)) (length (held_tokens before)) (next_id asked)
+
+-- why a channel is not closed
+abbrev pub closing_reasons : Received → List (AskFault × Bool)
+closing_reasons before = (NotOpen, has_no_channel before) ∷ []
+
+-- so many calls more at a place, under request ids from this one on
+abbrev pub calls_at : ℕ → ℕ → ℕ → List Placed
+calls_at place id zero = []
+calls_at place id (suc count) = (place, Call id) ∷ calls_at place (id + 1) count
+
+-- ---- where an open channel stands
 
 -- an open channel stands where this was received and asked
 pub record Talks (limits : Limits) (t : Talking) (before : Received) (asked : List Asking) : Type 0 where
@@ -55,33 +140,19 @@ pub record Talks (limits : Limits) (t : Talking) (before : Received) (asked : Li
   pub octets : octet_limit t.assembler ≡ limits.max_message_size
   pub chunks : chunk_limit t.assembler ≡ limits.max_chunk_count
 
--- ---- calls
-
--- the octets of a body that a chunk has room for: what the server receives less the headers
-abbrev pub room_of : Ack → ℕ
-room_of a = a.receive_buffer_size - 24
+-- ---- asks of an open channel
 
 -- where calls go: under the newest token, with the limits of the ACK
 abbrev pub lane_of : Talking → Lane
-lane_of t = record {
-  channel = t.channel;
-  token = t.newest;
-  room = room_of t.agreed.ack;
-  octets = t.agreed.ack.max_message_size;
-  chunks = t.agreed.ack.max_chunk_count;
-}
+lane_of t = call_lane t.agreed.ack t.channel t.newest
 
 -- why no call may be asked after so many more calls, whatever its body, in the order in which it is judged
 abbrev pub more_reasons : Talking → ℕ → List (AskFault × Bool)
 more_reasons t more = (TooManyPending, nat_le most_pending (length t.pending.items + more)) ∷ (Exhausted, nat_le no_id (t.next + more)) ∷ []
 
--- the server does not take a message of this body: it has too many octets, or too many chunks (OPC 10000-6, 7.1.2.4)
-abbrev pub is_too_large : Ack → List ℕ → Bool
-is_too_large a body = passes a.max_message_size (length body) || passes a.max_chunk_count (length (pieces (room_of a) body))
-
 -- why a call of this body is refused after so many more calls, in the order in which it is judged
 abbrev pub ask_reasons : Talking → ℕ → List ℕ → List (AskFault × Bool)
-ask_reasons t more body = more_reasons t more ++ (RequestTooLarge, is_too_large t.agreed.ack body) ∷ []
+ask_reasons t more body = reasons_of_call (length t.pending.items + more) (t.next + more) (is_too_large t.agreed.ack body)
 
 -- the octets of a call of this body, its request id, and the number that is sent next
 pub record Calls (t : Talking) (number : ℕ) (body : List ℕ) (id : ℕ) (out : List ℕ) (next : ℕ) : Type 0 where
@@ -91,11 +162,7 @@ pub record Calls (t : Talking) (number : ℕ) (body : List ℕ) (id : ℕ) (out 
 
 -- why a renewal is not asked, in the order in which it is judged
 abbrev pub renew_reasons : Talking → List (AskFault × Bool)
-renew_reasons t =
-    (RenewPending, is_some t.renewal)
-    ∷ (TooManyTokens, nat_le most_tokens (length t.tokens.items))
-    ∷ (Exhausted, nat_le no_id t.next)
-    ∷ []
+renew_reasons t = reasons_of_renewal (is_some t.renewal) (length t.tokens.items) t.next
 
 -- the octets of a renewal, its request id, and the number that is sent next
 pub record Renews (t : Talking) (number : ℕ) (moment : DateTime) (id : ℕ) (out : List ℕ) (next : ℕ) : Type 0 where
@@ -135,11 +202,15 @@ abbrev pub AnswersFor : {A : Type 0} → Option AskFault → Result A AskFault �
 AnswersFor reason (Ok found) = reason ≡ None
 AnswersFor reason (Err fault) = IsFor reason fault
 
+-- what is judged of any body of this length, by why a call of a body may be refused
+abbrev pub JudgesBy : (List ℕ → Option AskFault) → ℕ → Result (Unit {0}) AskFault → Type 0
+JudgesBy refusal len (Ok found) = (body : List ℕ) → length body ≡ len → refusal body ≡ None
+JudgesBy refusal len (Err fault) = (body : List ℕ) → length body ≡ len → refusal body ≡ Some fault
+
 -- what an ask of this body answers
 abbrev pub AnswersCall : {A : Type 0} → Talking → List ℕ → Result A AskFault → Type 0
 AnswersCall t body result = AnswersFor (first_reason (ask_reasons t 0 body)) result
 
 -- what is judged of any body of this length, without memory
 abbrev pub JudgesCall : Talking → ℕ → ℕ → Result (Unit {0}) AskFault → Type 0
-JudgesCall t more len (Ok found) = (body : List ℕ) → length body ≡ len → first_reason (ask_reasons t more body) ≡ None
-JudgesCall t more len (Err fault) = (body : List ℕ) → length body ≡ len → first_reason (ask_reasons t more body) ≡ Some fault
+JudgesCall t more len result = JudgesBy (λ body. first_reason (ask_reasons t more body)) len result

@@ -1,5 +1,5 @@
 -- What a client reads of a server that keeps to the protocol, one message after the other.
-use Rattle.std.specs.Prelude.{◌≡◌, ◌<◌, ◌≤◌, ◌+◌, ◌^◌, ◌==◌, ◌++◌, ◌∷◌, ℕ, List, [], IsTrue, IsFalse, Option, Some, None, Bool, nat_le, not, length, map}
+use Rattle.std.specs.Prelude.{◌≡◌, ◌<◌, ◌≤◌, ◌+◌, ◌^◌, ◌==◌, ◌++◌, ◌∷◌, ℕ, List, [], IsTrue, IsFalse, Option, Some, None, Bool, not, length, map}
 use Rattle.std.specs.List.{AllByRecursion, filter}
 use Rattle.ua_builtin.specs.DateTime.{date_time}
 use Rattle.ua_builtin.specs.Status.{of_code}
@@ -16,14 +16,13 @@ use Rattle.ua_chunk.specs.declared.chunk.Chunk.{Chunk}
 use Rattle.ua_chunk.specs.declared.fault.CutFault.{CutFault}
 use Rattle.ua_chunk.specs.declared.lane.Lane.{Lane}
 use Rattle.ua_channel.specs.Asks.{Asking, Placed, asked_in, id_of, is_in, next_id, pending_calls, pending_renewals}
-use Rattle.ua_channel.specs.ClientAsks.{is_too_large, most_pending, most_tokens, no_id, room_of}
+use Rattle.ua_channel.specs.ClientAsks.{call_lane, is_too_large, reasons_of_call, reasons_of_renewal}
 use Rattle.ua_channel.specs.ClientTable.{client_rules}
 use Rattle.ua_channel.specs.ClientTokens.{channel_in, from_last, held_tokens, opened_ids, responses}
 use Rattle.ua_channel.specs.ClientTold.{Told, Told as told}
 use Rattle.ua_channel.specs.ServerSends.{opened_frame, replied}
 use Rattle.ua_channel.specs.Received.{has_some, latest, nothing_received, received}
 use Rattle.ua_channel.specs.declared.client.fault.AskFault.{AskFault}
-use Rattle.ua_channel.specs.declared.client.fault.AskFault.TheVariants.{Exhausted, RenewPending, RequestTooLarge, TooManyPending, TooManyTokens}
 
 -- ---- where a client is
 
@@ -79,29 +78,15 @@ pub record ClientReads (limits : Limits) (asks : List Placed) (octets : List ℕ
 
 -- where its calls go: on the channel, under the newest token, in frames of the size that the server receives, within the server's limits
 abbrev pub lane_from : AtClient → Lane
-lane_from at = record {
-  channel = at.channel;
-  token = at.newest;
-  room = room_of at.ack;
-  octets = at.ack.max_message_size;
-  chunks = at.ack.max_chunk_count;
-}
+lane_from at = call_lane at.ack at.channel at.newest
 
 -- why a call of this body is not asked after so many more calls, behind so many asks, in the order in which it is judged
 abbrev pub reasons_here : AtClient → List Asking → ℕ → List ℕ → List (AskFault × Bool)
-reasons_here at asked more body =
-    (TooManyPending, nat_le most_pending (length at.pending + more))
-    ∷ (Exhausted, nat_le no_id (next_id asked + more))
-    ∷ (RequestTooLarge, is_too_large at.ack body)
-    ∷ []
+reasons_here at asked more body = reasons_of_call (length at.pending + more) (next_id asked + more) (is_too_large at.ack body)
 
 -- why a renewal is not asked, behind so many asks, in the order in which it is judged
 abbrev pub renew_reasons_here : AtClient → List Asking → List (AskFault × Bool)
-renew_reasons_here at asked =
-    (RenewPending, has_some at.renewals)
-    ∷ (TooManyTokens, nat_le most_tokens (length at.tokens))
-    ∷ (Exhausted, nat_le no_id (next_id asked))
-    ∷ []
+renew_reasons_here at asked = reasons_of_renewal (has_some at.renewals) (length at.tokens) (next_id asked)
 
 -- ---- what a server may send next
 

@@ -2,7 +2,9 @@
 //!
 //! Each function does nothing; its contract is the law.
 
-ghost use Rattle.std.specs.Prelude.{◌≡◌, ◌↔◌, ◌∷◌, ◌++◌, [], ℕ, List, Some, map, false};
+ghost use Rattle.std.specs.Prelude.{◌≡◌, ◌↔◌, ◌∷◌, ◌++◌, [], ℕ, List, Some, length, map, false};
+ghost use Rattle.ua_builtin.specs.Reasons.{first_reason};
+ghost use Rattle.ua_builtin.specs.declared.date_time.DateTime.{DateTime};
 ghost use Rattle.ua_frame.specs.After.{AllAfter};
 ghost use Rattle.ua_frame.specs.Laws.{HasOneReading, HasReadings, StopsAtFirstWrong};
 ghost use Rattle.ua_frame.specs.declared.frame.Frame.{Frame};
@@ -11,8 +13,9 @@ ghost use Rattle.ua_frame.specs.FirstWrong.{FirstWrong};
 ghost use Rattle.ua_frame.specs.Frames.{Frames};
 ghost use Rattle.ua_frame.specs.Run.{Fits, Going, Run, events};
 ghost use Rattle.ua_chunk.specs.Delivered.{delivered};
-ghost use Rattle.ua_channel.specs.Asks.{Placed, asked_in, calls, is_in};
-ghost use Rattle.ua_channel.specs.Client.{call_refused, closing_refused, renewal_refused, Goes, GoesTelling, HasNoChannel, IsDone, Stands};
+ghost use Rattle.ua_channel.specs.Asks.{Placed, asked_in, calls, is_in, next_id};
+ghost use Rattle.ua_channel.specs.Client.{call_refused, closing_refused, renewal_refused, Goes, GoesTelling, HasNoChannel, IsDone, SendsCall, SendsClosing, SendsRenewal, Stands};
+ghost use Rattle.ua_channel.specs.ClientAsks.{call_reasons, calls_at, closing_reasons, renewing_reasons, IsCalled, IsClosed, IsRenewed};
 ghost use Rattle.ua_channel.specs.ClientConversation.{ClientConversation, Continues, IsConversation};
 ghost use Rattle.ua_channel.specs.ClientTable.{client_rules};
 ghost use Rattle.ua_channel.specs.ClientTokens.{responses};
@@ -68,6 +71,38 @@ pub fn client_is_open()
     ensures asks { (x : ClientChannel) (more : ℕ) (body : List ℕ) → HasNoChannel x → call_refused x more body ≡ Some NotOpen }
     ensures renews { (x : ClientChannel) → HasNoChannel x → renewal_refused x ≡ Some NotOpen }
     ensures closes { (x : ClientChannel) → HasNoChannel x ↔ (closing_refused x ≡ Some NotOpen) }
+{}
+
+/// What a client sends when it is asked, by what it received and asked, wherever the octets end, in
+/// the middle of a frame or of a message too: a call goes as chunks on the channel, under the newest
+/// token and the next request id, in frames of the size that the server receives; a renewal and the
+/// CLO likewise.
+pub fn client_sends_asked()
+    ensures call { (x : ClientChannel) (asks : List Placed) (octets : List ℕ) (frames : List Frame) (rest : List ℕ) → Stands x asks octets frames rest →
+        (number : ℕ) (body : List ℕ) (id : ℕ) (out : List ℕ) (next : ℕ) → SendsCall x number body id out next → IsCalled (received frames) (asked_in asks) number body id out next }
+    ensures renewal { (x : ClientChannel) (asks : List Placed) (octets : List ℕ) (frames : List Frame) (rest : List ℕ) → Stands x asks octets frames rest →
+        (number : ℕ) (moment : DateTime) (id : ℕ) (out : List ℕ) (next : ℕ) → SendsRenewal x number moment id out next → IsRenewed (received frames) (asked_in asks) number moment id out next }
+    ensures close { (x : ClientChannel) (asks : List Placed) (octets : List ℕ) (frames : List Frame) (rest : List ℕ) → Stands x asks octets frames rest →
+        (number : ℕ) (moment : DateTime) (out : List ℕ) → SendsClosing x number moment out → IsClosed (received frames) (asked_in asks) number moment out }
+{}
+
+/// Why a client refuses to ask, by what it received and asked, wherever the octets end: that no
+/// channel is open, then too many unanswered calls or tokens, request ids that are used up, and a
+/// body past the server's limits.
+pub fn client_refuses_asked()
+    ensures call { (x : ClientChannel) (asks : List Placed) (octets : List ℕ) (frames : List Frame) (rest : List ℕ) → Stands x asks octets frames rest →
+        (more : ℕ) (body : List ℕ) → call_refused x more body ≡ first_reason (call_reasons (received frames) (asked_in asks) more body) }
+    ensures renewal { (x : ClientChannel) (asks : List Placed) (octets : List ℕ) (frames : List Frame) (rest : List ℕ) → Stands x asks octets frames rest →
+        renewal_refused x ≡ first_reason (renewing_reasons (received frames) (asked_in asks)) }
+    ensures close { (x : ClientChannel) (asks : List Placed) (octets : List ℕ) (frames : List Frame) (rest : List ℕ) → Stands x asks octets frames rest →
+        closing_refused x ≡ first_reason (closing_reasons (received frames)) }
+{}
+
+/// What is judged of a call after so many more calls is what is judged of it once these were asked,
+/// each under the next request id, with nothing received between them.
+pub fn client_judges()
+    ensures { (x y : ClientChannel) (asks : List Placed) (octets : List ℕ) (frames : List Frame) (rest : List ℕ) (count : ℕ) (body : List ℕ) → Stands x asks octets frames rest →
+        Stands y (asks ++ calls_at (length octets) (next_id (asked_in asks)) count) octets frames rest → call_refused x count body ≡ call_refused y 0 body }
 {}
 
 /// The frames that a client takes, one after the other, are just those of a conversation in plain

@@ -136,7 +136,7 @@ impl Line for MemoryLine {
         }
     }
 
-    /// A write that finds no memory fails.
+    /// A write fails where it is told to, and where it finds no memory, as it may at each call.
     fn write(&mut self, octets: &[u8]) -> Result<usize, LineFault>
         ensures within { IfOk result (λ n. n ≤ length octets.now) }
         ensures some { 0 < length octets.now → IfOk result (λ n. 0 < n) }

@@ -2,6 +2,7 @@
 
 ghost use Rattle.std.specs.Prelude.{◌≡◌, ◌≤◌, ◌<◌, ◌++◌, ◌∷◌, [], List, ℕ, length, take, IsTrue, Some, Err, IfOk, IsErrOf, OnOk, OnErr};
 ghost use Rattle.ua_octets.specs.Counted.{text};
+ghost use Rattle.ua_builtin.specs.Reasons.{first_reason};
 ghost use Rattle.ua_frame.specs.Frames.{LetsIn, frame_octets};
 ghost use Rattle.ua_frame.specs.Reader.{open_reader};
 ghost use Rattle.ua_frame.specs.declared.frame.Frame.{Frame};
@@ -9,7 +10,7 @@ ghost use Rattle.ua_channel.specs.Asks.{Asking, Placed, asked_in, next_id};
 ghost use Rattle.ua_channel.specs.Asks.Asking.{Call, Renewal};
 ghost use Rattle.ua_channel.specs.Client.{Stands, Goes, IsDone, InPhase, SameClient, limits_of, url_of, next_of, phase_of, bound_of, bound_behind, held_octets, call_refused, renewal_refused, closing_refused, JudgesLength, SendsCall, SendsRenewal, SendsClosing};
 ghost use Rattle.ua_channel.specs.ClientAnswers.{ClientAnswers, AnswersEvent, ComesInParts, Progress, parts_handed};
-ghost use Rattle.ua_channel.specs.ClientAsks.{Talks, AnswersFor};
+ghost use Rattle.ua_channel.specs.ClientAsks.{call_reasons, closing_reasons, renewing_reasons, Talks, AnswersFor, IsCalled, IsClosed, IsRenewed, JudgesBy};
 ghost use Rattle.ua_channel.specs.ClientParts.{Judged, JudgesWhole, Takes, OpensChannel, StaysOpen, FailsBy, IsFront, Steps, Advances, TellsEvent, greeted, parts_of};
 ghost use Rattle.ua_channel.specs.ClientSends.{hello_frame, hello_to};
 ghost use Rattle.ua_channel.specs.ClientTable.{client_gate, client_reasons, ack_gate, answer_gate, reply_gate};
@@ -119,10 +120,11 @@ impl ClientChannel {
         &self.address.url
     }
 
-    /// The request id of what is asked next.
+    /// The request id of what is asked next; 2 where the channel failed or was closed.
     pub fn next_id(&self) -> u32
-        ensures { (asks : List Placed) (octets : List ℕ) (frames : List Frame) (rest : List ℕ) → Stands self.now asks octets frames rest
+        ensures stands { (asks : List Placed) (octets : List ℕ) (frames : List Frame) (rest : List ℕ) → Stands self.now asks octets frames rest
             → result ≡ next_id (asked_in asks) }
+        ensures done { IsDone self.now → result ≡ 2 }
     {
         match &self.phase {
             Phase::Open(talking) => talking.next,
@@ -137,10 +139,12 @@ impl ClientChannel {
         hello_octets(self.alloc, &self.limits, &self.address.url)
     }
 
-    /// Why a call of a body of so many octets would be refused after so many more calls, but for
-    /// memory. It takes none.
+    /// Why a call of a body of so many octets would be refused after so many more calls, each of
+    /// which succeeds, but for memory. It takes none.
     pub fn judge(&self, before: usize, len: usize) -> Result<(), AskFault>
-        ensures { JudgesLength self.now before len result }
+        ensures judges { JudgesLength self.now before len result }
+        ensures stands { (asks : List Placed) (octets : List ℕ) (frames : List Frame) (rest : List ℕ) → Stands self.now asks octets frames rest
+            → JudgesBy (λ body. first_reason (call_reasons (received frames) (asked_in asks) before body)) len result }
     {
         match &self.phase {
             Phase::Open(talking) => talking.judge(before, len),
@@ -153,6 +157,11 @@ impl ClientChannel {
         requires { 0 < length body.now }
         ensures answers { AnswersFor (call_refused self.old 0 body.now) result }
         ensures sent { IfOk result (λ r. SendsCall self.old (next_of self.old) body.now r.0 r.1.items (next_of self.new)) }
+        // The same by what was received and asked, in the middle of a frame or of a message too.
+        ensures refuses { (asks : List Placed) (octets : List ℕ) (frames : List Frame) (rest : List ℕ) → Stands self.old asks octets frames rest
+            → AnswersFor (first_reason (call_reasons (received frames) (asked_in asks) 0 body.now)) result }
+        ensures calls { (asks : List Placed) (octets : List ℕ) (frames : List Frame) (rest : List ℕ) → Stands self.old asks octets frames rest
+            → IfOk result (λ r. IsCalled (received frames) (asked_in asks) (next_of self.old) body.now r.0 r.1.items (next_of self.new)) }
         ensures stands { (asks : List Placed) (octets : List ℕ) (frames : List Frame) (rest : List ℕ) → Stands self.old asks octets frames rest
             → IfOk result (λ r. Stands self.new (asks ++ (length octets, Call r.0) ∷ []) octets frames rest) }
 
@@ -174,6 +183,11 @@ impl ClientChannel {
     pub fn renew(&mut self, moment: DateTime) -> Result<(u32, Vec<u8>), AskFault>
         ensures answers { AnswersFor (renewal_refused self.old) result }
         ensures sent { IfOk result (λ r. SendsRenewal self.old (next_of self.old) moment r.0 r.1.items (next_of self.new)) }
+        // The same by what was received and asked.
+        ensures refuses { (asks : List Placed) (octets : List ℕ) (frames : List Frame) (rest : List ℕ) → Stands self.old asks octets frames rest
+            → AnswersFor (first_reason (renewing_reasons (received frames) (asked_in asks))) result }
+        ensures renews { (asks : List Placed) (octets : List ℕ) (frames : List Frame) (rest : List ℕ) → Stands self.old asks octets frames rest
+            → IfOk result (λ r. IsRenewed (received frames) (asked_in asks) (next_of self.old) moment r.0 r.1.items (next_of self.new)) }
         ensures stands { (asks : List Placed) (octets : List ℕ) (frames : List Frame) (rest : List ℕ) → Stands self.old asks octets frames rest
             → IfOk result (λ r. Stands self.new (asks ++ (length octets, Renewal r.0) ∷ []) octets frames rest) }
         ensures unchanged { OnErr result (self.new ≡ self.old) }
@@ -190,6 +204,11 @@ impl ClientChannel {
     pub fn close(&mut self, moment: DateTime) -> Result<Vec<u8>, AskFault>
         ensures answers { AnswersFor (closing_refused self.old) result }
         ensures sent { IfOk result (λ out. SendsClosing self.old (next_of self.old) moment out.items) }
+        // The same by what was received and asked.
+        ensures refuses { (asks : List Placed) (octets : List ℕ) (frames : List Frame) (rest : List ℕ) → Stands self.old asks octets frames rest
+            → AnswersFor (first_reason (closing_reasons (received frames))) result }
+        ensures closes { (asks : List Placed) (octets : List ℕ) (frames : List Frame) (rest : List ℕ) → Stands self.old asks octets frames rest
+            → IfOk result (λ out. IsClosed (received frames) (asked_in asks) (next_of self.old) moment out.items) }
         ensures done { OnOk result (IsDone self.new) }
         ensures unchanged { OnErr result (self.new ≡ self.old) }
         ensures same { SameClient self.old self.new }
@@ -203,6 +222,10 @@ impl ClientChannel {
     fn closing(&self, moment: DateTime) -> Result<Vec<u8>, AskFault>
         ensures answers { AnswersFor (closing_refused self.now) result }
         ensures sent { IfOk result (λ out. SendsClosing self.now (next_of self.now) moment out.items) }
+        ensures refuses { (asks : List Placed) (octets : List ℕ) (frames : List Frame) (rest : List ℕ) → Stands self.now asks octets frames rest
+            → AnswersFor (first_reason (closing_reasons (received frames))) result }
+        ensures closes { (asks : List Placed) (octets : List ℕ) (frames : List Frame) (rest : List ℕ) → Stands self.now asks octets frames rest
+            → IfOk result (λ out. IsClosed (received frames) (asked_in asks) (next_of self.now) moment out.items) }
     {
         match &self.phase {
             Phase::Open(talking) => {
