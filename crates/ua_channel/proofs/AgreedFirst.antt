@@ -22,9 +22,9 @@ use Rattle.ua_channel.specs.Content.{sends, closes, opening_of, content_by, cont
 use Rattle.ua_channel.specs.Content.Content.{Greets}
 use Rattle.ua_channel.specs.Received.{Received, received}
 use Rattle.ua_channel.specs.ServerPlaces.{agreed_by}
-use Rattle.ua_channel.specs.ServerRules.{receive_size, opening_gate, running_gate, gate_behind, server_gate}
+use Rattle.ua_channel.specs.ServerRules.{receive_size, opening_gate, running_gate, server_gate_behind, server_gate}
 use Rattle.ua_channel.specs.ServerStands.{limits_of, channel_of, rules_of, GoesTelling}
-use Rattle.ua_channel.specs.ServerTold.{Told, request_of, opened_by, told_item, issued, server_tells}
+use Rattle.ua_channel.specs.ServerTold.{Told, request_of, opened_by, told_under, issued, server_tells}
 use Rattle.ua_channel.specs.ServerTold.Told.{Agreed, Opened, Asked, GaveUp, Closed}
 use Rattle.ua_channel.specs.declared.server.ServerChannel.{ServerChannel}
 use Rattle.ua_channel.proofs.Frames.{hel_only}
@@ -54,10 +54,10 @@ opened_not token (Some numbers) (Some request) a e = let x = same_told (Opened _
 opened_not token (Some numbers) None a e = absurd cc
 opened_not token None request a e = absurd cc
 
-items_not : (token : ℕ) (items : List Item) (a : Agreement) → map (told_item token) items ≡ Agreed a ∷ [] → ⊥
+items_not : (token : ℕ) (items : List Item) (a : Agreement) → map (told_under token) items ≡ Agreed a ∷ [] → ⊥
 items_not token [] a e = absurd cc
-items_not token (Whole id octets ∷ is) a e = let x = same_told (Asked id token octets) (Agreed a) (map (told_item token) is) e in cc
-items_not token (Aborted id code reason ∷ is) a e = let x = same_told (GaveUp id) (Agreed a) (map (told_item token) is) e in cc
+items_not token (Whole id octets ∷ is) a e = let x = same_told (Asked id token octets) (Agreed a) (map (told_under token) is) e in cc
+items_not token (Aborted id code reason ∷ is) a e = let x = same_told (GaveUp id) (Agreed a) (map (told_under token) is) e in cc
 
 sent_not : (limits : Limits) (before : Received) (chunk : Option Chunk) (a : Agreement) → server_tells limits before (sends chunk) ≡ Agreed a ∷ [] → ⊥
 sent_not limits before None a e = absurd cc
@@ -84,7 +84,7 @@ no_hello size false t = absurd cc
 first_frame : (limits : Limits) (before : Received) (f : Frame) (e : Told) → before.hello ≡ None → IsTrue (lets_in (server_gate limits before) f.kind) → server_tells limits before (content f) ≡ e ∷ [] → (a : Agreement) × (e ≡ Agreed a)
 unfolding content
 first_frame limits before f e none place tells =
-    let hel : f.kind ≡ Hel = hel_only f.kind (subst (λ (h : Option Hello). IsTrue (lets_in (gate_behind limits h (issued before)) f.kind)) none place) in
+    let hel : f.kind ≡ Hel = hel_only f.kind (subst (λ (h : Option Hello). IsTrue (lets_in (server_gate_behind limits h (issued before)) f.kind)) none place) in
     greeted limits before (hello_in f.body) e (ap (λ (k : Kind). server_tells limits before (content_by k f)) (sym hel) ∙ tells)
 
 later_frame : (limits : Limits) (before : Received) (f : Frame) (h : Hello) (a : Agreement) → before.hello ≡ Some h → IsTrue (lets_in (server_gate limits before) f.kind) → server_tells limits before (content f) ≡ Agreed a ∷ [] → ⊥
@@ -92,8 +92,8 @@ unfolding content
 later_frame limits before f h a some place tells =
     let hel : f.kind ≡ Hel = agreeing_kind limits before f.kind f a tells in
     no_hello (receive_size limits (Some h)) (issued before == 0)
-    (subst (λ (k : Kind). IsTrue (lets_in (gate_behind limits (Some h) (issued before)) k)) hel
-    (subst (λ (o : Option Hello). IsTrue (lets_in (gate_behind limits o (issued before)) f.kind)) some place))
+    (subst (λ (k : Kind). IsTrue (lets_in (server_gate_behind limits (Some h) (issued before)) k)) hel
+    (subst (λ (o : Option Hello). IsTrue (lets_in (server_gate_behind limits o (issued before)) f.kind)) some place))
 
 -- ---- by what was told
 

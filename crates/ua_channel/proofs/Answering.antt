@@ -16,12 +16,12 @@ use Rattle.ua_channel.specs.declared.server_fault.ChannelFault.{ChannelFault}
 use Rattle.ua_channel.specs.declared.server_fault.ChannelFault.TheVariants as fault
 use Rattle.ua_channel.specs.declared.step_fault.StepFault.{StepFault}
 use Rattle.ua_channel.specs.declared.step_fault.StepFault.TheVariants as step
-use Rattle.ua_channel.specs.ServerAnswers.{Sends, ServerAnswers, AnswersAt, Tells, Nexts, Answered}
-use Rattle.ua_channel.specs.ServerFaults.{of_step}
+use Rattle.ua_channel.specs.ServerAnswers.{Sends, ServerAnswers, AnswersAt}
+use Rattle.ua_channel.specs.inside.ServerSteps.{StandsWith, Nexts, Answered}
+use Rattle.ua_channel.specs.inside.StepFaults.{of_step}
 use Rattle.ua_channel.specs.ServerSends.{opened_frame}
 use Rattle.ua_channel.specs.ServerStands.{channel_of, next_of, rules_of, Goes, GoesTelling, Ended, RefusedAt}
-use Rattle.ua_channel.specs.ServerTold.{Told}
-use Rattle.ua_channel.specs.ServerTold.{Told as told}
+use Rattle.ua_channel.specs.ServerTold.{Told, Told as told}
 use Rattle.ua_channel.specs.declared.numbers.Numbers.{Numbers}
 
 -- a channel goes on telling where the number of its next chunk moves on
@@ -35,12 +35,12 @@ telling_counted x numbers octets before e g = record {
 }
 
 -- what is sent where a token was issued
-pub opened_sends : (x : ServerChannel) (numbers : Numbers) (moment : DateTime) (octets sent : List ℕ) (before : List Told) (e : Event) (id handle token lifetime number : ℕ) → e ≡ inner.Opened id handle token lifetime → Tells e x octets before → number ≡ x.numbers.next → numbers.next ≡ next_number x.numbers.next
+pub opened_sends : (x : ServerChannel) (numbers : Numbers) (moment : DateTime) (octets sent : List ℕ) (before : List Told) (e : Event) (id handle token lifetime number : ℕ) → e ≡ inner.Opened id handle token lifetime → StandsWith e x octets before → number ≡ x.numbers.next → numbers.next ≡ next_number x.numbers.next
     → sent ≡ frame_octets (opened_frame (channel_of x) number id handle token lifetime moment) → Sends (channel_of x) (next_of x) moment sent (record x { numbers = numbers }) octets before
 opened_sends x numbers moment octets sent before e id handle token lifetime number is tells number_is next sent_is = record {
   said = told.Opened id handle token lifetime;
   are_sent = sent_is ∙ ap (λ (n : ℕ). frame_octets (opened_frame (channel_of x) n id handle token lifetime moment)) number_is;
-  goes = telling_counted x numbers octets before (told.Opened id handle token lifetime) (subst (λ (v : Event). Tells v x octets before) is tells);
+  goes = telling_counted x numbers octets before (told.Opened id handle token lifetime) (subst (λ (v : Event). StandsWith v x octets before) is tells);
   counted = next;
 }
 
@@ -58,7 +58,7 @@ counts_of channel number moment piece n (Err fault.Closed) new octets before som
 
 -- an event
 pub answers_event : (channel channel' number number' : ℕ) (moment : DateTime) (piece : List ℕ) (n : ℕ) (e : Event) (answer : Result ServerEvent ChannelFault) (mid new : ServerChannel) (octets : List ℕ) (before : List Told) → channel' ≡ channel → number' ≡ number → Nexts piece n (Ok (Some e)) mid octets before
-    → (Tells e mid (octets ++ take n piece) before → Answered channel' number' moment answer new (octets ++ take n piece) before) → AnswersAt channel number moment piece n answer new octets before
+    → (StandsWith e mid (octets ++ take n piece) before → Answered channel' number' moment answer new (octets ++ take n piece) before) → AnswersAt channel number moment piece n answer new octets before
 answers_event channel channel' number number' moment piece n e answer mid new octets before same again h by =
     counts_of channel number moment piece n answer new octets before h.0 h.1
     (subst (λ (k : ℕ). Answered channel k moment answer new (octets ++ take n piece) before) again

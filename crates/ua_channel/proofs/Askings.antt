@@ -10,7 +10,7 @@ use Rattle.ua_chunk.specs.declared.chunk.Chunk.{Chunk}
 use Rattle.ua_chunk.specs.Gathered.{is_of, ends}
 use Rattle.ua_channel.specs.Asks.{Asking, Placed, id_of, call_in, renewal_in, calls, renewals, asked_before, asked_in, is_in, is_finished, pending_calls, pending_renewals}
 use Rattle.ua_channel.specs.Asks.Asking.{Call, Renewal}
-use Rattle.ua_channel.specs.ClientParts.{left_pending}
+use Rattle.ua_channel.specs.inside.ClientParts.{left_pending}
 
 -- ---- one ask more
 

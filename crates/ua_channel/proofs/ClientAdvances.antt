@@ -3,7 +3,7 @@ use Rattle.std.proofs.Common.{◌≡◌, ℕ, zero, suc, ◌∷◌, ◌<◌, ◌
 use Rattle.std.proofs.lemmas.List.{take_all}
 use Rattle.ua_channel.specs.Asks.{Placed}
 use Rattle.ua_channel.specs.Client.{SameClient, Goes, next_of}
-use Rattle.ua_channel.specs.ClientParts.{Steps, Advances, TellsEvent, parts_of}
+use Rattle.ua_channel.specs.inside.ClientParts.{StepsOnce, Advances, TellsEvent, event_parts}
 use Rattle.ua_builtin.specs.declared.date_time.DateTime.{DateTime}
 use Rattle.ua_channel.specs.ClientAnswers.{ClientAnswers, AnswersEvent, ComesInParts}
 use Rattle.ua_channel.specs.declared.client.event.ClientEvent.{ClientEvent}
@@ -71,29 +71,29 @@ far_all old new piece at h past = λ asks octets told g.
 -- ---- by what a step answered that had this end of the piece
 
 pub far_none : (old mid new : ClientChannel) (piece behind : List ℕ) (at n : ℕ) (o : Option Event) → behind ≡ drop at piece → o ≡ None → SoFar old piece at mid
-    → ((asks : List Placed) (octets : List ℕ) (told : List Told) → Goes mid asks octets told → Steps behind (Ok (n, o)) new asks octets told) → (n ≤ length behind) × (0 < length behind → 0 < n)
+    → ((asks : List Placed) (octets : List ℕ) (told : List Told) → Goes mid asks octets told → StepsOnce behind (Ok (n, o)) new asks octets told) → (n ≤ length behind) × (0 < length behind → 0 < n)
     → SameClient mid new → next_of new ≡ next_of mid → SoFar old piece (at + n) new
 far_none old mid new piece behind at n o end is h steps progress same next =
     far_more old mid new piece at n h (omega (arith, progress.0, ap length end))
-    (λ asks octets told g. subst (λ (b : List ℕ). Goes new asks (octets ++ take n b) told) end (subst (λ (p : Option Event). Steps behind (Ok (n, p)) new asks octets told) is (steps asks octets told g))) same next
+    (λ asks octets told g. subst (λ (b : List ℕ). Goes new asks (octets ++ take n b) told) end (subst (λ (p : Option Event). StepsOnce behind (Ok (n, p)) new asks octets told) is (steps asks octets told g))) same next
 
 pub far_some : (old mid new : ClientChannel) (piece behind : List ℕ) (at n : ℕ) (o : Option Event) (e : Event) → behind ≡ drop at piece → o ≡ Some e → SoFar old piece at mid
-    → ((asks : List Placed) (octets : List ℕ) (told : List Told) → Goes mid asks octets told → Steps behind (Ok (n, o)) new asks octets told)
+    → ((asks : List Placed) (octets : List ℕ) (told : List Told) → Goes mid asks octets told → StepsOnce behind (Ok (n, o)) new asks octets told)
     → (asks : List Placed) (octets : List ℕ) (told : List Told) → Goes old asks octets told → TellsEvent e new asks (octets ++ take (at + n) piece) told
 far_some old mid new piece behind at n o e end is h steps =
     far_tells old mid new piece at n e h
-    (λ asks octets told g. subst (λ (b : List ℕ). TellsEvent e new asks (octets ++ take n b) told) end (subst (λ (p : Option Event). Steps behind (Ok (n, p)) new asks octets told) is (steps asks octets told g)))
+    (λ asks octets told g. subst (λ (b : List ℕ). TellsEvent e new asks (octets ++ take n b) told) end (subst (λ (p : Option Event). StepsOnce behind (Ok (n, p)) new asks octets told) is (steps asks octets told g)))
 
 pub far_parts : (old mid new : ClientChannel) (piece behind : List ℕ) (at n : ℕ) (o : Option Event) (e : Event) → behind ≡ drop at piece → o ≡ Some e → SoFar old piece at mid
-    → ((asks : List Placed) (octets : List ℕ) (told : List Told) → Goes mid asks octets told → ComesInParts (parts_of o) new asks (octets ++ take n behind))
-    → (asks : List Placed) (octets : List ℕ) (told : List Told) → Goes old asks octets told → ComesInParts (parts_of (Some e)) new asks (octets ++ take (at + n) piece)
+    → ((asks : List Placed) (octets : List ℕ) (told : List Told) → Goes mid asks octets told → ComesInParts (event_parts o) new asks (octets ++ take n behind))
+    → (asks : List Placed) (octets : List ℕ) (told : List Told) → Goes old asks octets told → ComesInParts (event_parts (Some e)) new asks (octets ++ take (at + n) piece)
 far_parts old mid new piece behind at n o e end is h parts = λ asks octets told g.
-    subst (λ (z : List ℕ). ComesInParts (parts_of (Some e)) new asks z) (append_assoc octets (take at piece) (take n (drop at piece)) ∙ ap (λ (z : List ℕ). octets ++ z) (take_more at n piece))
-    (subst (λ (b : List ℕ). ComesInParts (parts_of (Some e)) new asks ((octets ++ take at piece) ++ take n b)) end
-    (subst (λ (p : Option Event). ComesInParts (parts_of p) new asks ((octets ++ take at piece) ++ take n behind)) is (parts asks (octets ++ take at piece) told (h.goes asks octets told g))))
+    subst (λ (z : List ℕ). ComesInParts (event_parts (Some e)) new asks z) (append_assoc octets (take at piece) (take n (drop at piece)) ∙ ap (λ (z : List ℕ). octets ++ z) (take_more at n piece))
+    (subst (λ (b : List ℕ). ComesInParts (event_parts (Some e)) new asks ((octets ++ take at piece) ++ take n b)) end
+    (subst (λ (p : Option Event). ComesInParts (event_parts p) new asks ((octets ++ take at piece) ++ take n behind)) is (parts asks (octets ++ take at piece) told (h.goes asks octets told g))))
 
 pub far_err : (old mid new : ClientChannel) (piece behind : List ℕ) (at : ℕ) (fault : ClientTakeFault) → SoFar old piece at mid
-    → ((asks : List Placed) (octets : List ℕ) (told : List Told) → Goes mid asks octets told → Steps behind (Err fault) new asks octets told)
+    → ((asks : List Placed) (octets : List ℕ) (told : List Told) → Goes mid asks octets told → StepsOnce behind (Err fault) new asks octets told)
     → (asks : List Placed) (octets : List ℕ) (told : List Told) → Goes old asks octets told → Advances piece (Err fault) new asks octets told
 far_err old mid new piece behind at OutOfMemory h steps = λ asks octets told g. steps asks (octets ++ take at piece) told (h.goes asks octets told g)
 far_err old mid new piece behind at Closed h steps = λ asks octets told g. steps asks (octets ++ take at piece) told (h.goes asks octets told g)

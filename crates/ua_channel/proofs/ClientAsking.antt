@@ -10,7 +10,8 @@ use Rattle.ua_channel.specs.Asks.{Asking, id_of, next_id}
 use Rattle.ua_channel.specs.Asks.Asking.{Call, Renewal}
 use Rattle.std.specs.Prelude.{is_some}
 use Rattle.ua_builtin.specs.Reasons.{first_reason}
-use Rattle.ua_channel.specs.ClientAsks.{Talks, AsBefore, more_reasons, renew_reasons}
+use Rattle.ua_channel.specs.ClientAsks.{Talks, renew_reasons}
+use Rattle.ua_channel.specs.inside.ClientAsking.{AsBefore, more_reasons}
 use Rattle.ua_channel.specs.declared.client.fault.AskFault.TheVariants.{TooManyPending, Exhausted, RenewPending, TooManyTokens}
 use Rattle.ua_channel.specs.ClientTokens.{opened_ids}
 use Rattle.ua_channel.specs.Received.{Received, listed}

@@ -11,7 +11,7 @@ use Rattle.ua_chunk.specs.declared.delivered.Delivered.{Delivered}
 use Rattle.ua_chunk.specs.declared.fault.AssembleFault.{AssembleFault}
 use Rattle.ua_chunk.specs.declared.fault.AssembleFault.TheVariants.{Sequence, Unreadable, TooManyOpen, MessageTooLarge, TooManyChunks, OutOfMemory, Closed}
 use Rattle.ua_channel.proofs.MessageParts.{ends_in}
-use Rattle.ua_channel.specs.ClientParts.{parts_of, IsStopFor, Judged, why_of, of_chunk_fault, refused_reasons, unasked_reasons, known_reasons, IsAccepted, IsDeliveredWith, IsTakenWith, left_behind}
+use Rattle.ua_channel.specs.inside.ClientParts.{event_parts, IsStopFor, Judged, why_of, stop_of_chunk, refused_reasons, unasked_reasons, known_reasons, IsAccepted, IsDeliveredWith, IsTakenWith, left_behind}
 use Rattle.ua_channel.specs.ClientTokens.{from_last}
 use Rattle.ua_channel.specs.ClientTold.{Why, told_item}
 use Rattle.ua_channel.specs.declared.client.event.Event.{Event}
@@ -36,7 +36,7 @@ judged_behind rs ss P Q r none more h = judged_same ss (rs ++ ss) P Q r (first_b
 pub accepts : (rs : List (AssembleFault × Bool)) → first_reason rs ≡ None → first_reason (map (renamed_reason why_of) rs) ≡ None
 accepts rs none = first_reason-map why_of rs ∙ ap (option_map why_of) none
 
-pub refuses : (rs : List (AssembleFault × Bool)) (fault : AssembleFault) → IsFor (first_reason rs) fault → IsStopFor (map (renamed_reason why_of) rs) (of_chunk_fault fault)
+pub refuses : (rs : List (AssembleFault × Bool)) (fault : AssembleFault) → IsFor (first_reason rs) fault → IsStopFor (map (renamed_reason why_of) rs) (stop_of_chunk fault)
 refuses rs Sequence h = first_reason-map why_of rs ∙ ap (option_map why_of) h
 refuses rs Unreadable h = first_reason-map why_of rs ∙ ap (option_map why_of) h
 refuses rs TooManyOpen h = first_reason-map why_of rs ∙ ap (option_map why_of) h
@@ -65,7 +65,7 @@ module _ (old mid new : Talking) (cs : List Chunk) (c : Chunk) (d : Option Deliv
       limits = subst (λ (a : Assembler). SameLimits old.assembler a) (sym same_assembler) acc.limits;
       tells = ap (map told_item) acc.items_are ∙ h.event_is.tells;
       good = h.event_is.good;
-      parts = ends_in cs c d (parts_of e) h.event_is.parts acc.parts_are;
+      parts = ends_in cs c d (event_parts e) h.event_is.parts acc.parts_are;
     }
 
   pub known_judged : (r : Result (Option Event) Stop) → first_reason (refused_reasons old cs c) ≡ None → Judged (unasked_reasons mid c.request) (IsDeliveredWith mid c.request c.token (ends c) d new) r

@@ -30,9 +30,9 @@ use Rattle.ua_chunk.specs.Refusal.{TakesMessages, message_refusal, reasons, refu
 use Rattle.ua_chunk.specs.Sequence.{may_follow}
 use Rattle.ua_chunk.proofs.Numbers.{apart}
 use Rattle.ua_channel.specs.Asks.{Asking, Placed, asked_before, end_of, is_in, pending_calls}
-use Rattle.ua_channel.specs.ClientConversation.{ClientConversation, Continues, IsConversation, IsClientOrder, IsGoodReply, IsGoodResponse, IsOrderAgreed, IsOrderOpen, MayCarry, largest_taken}
-use Rattle.ua_channel.specs.ClientParts.{why_of}
-use Rattle.ua_channel.specs.ClientTable.{client_gate, client_reasons, client_rules, gate_behind, is_awaited, is_bad, is_other, of_numbers, of_response}
+use Rattle.ua_channel.specs.ClientConversation.{ClientConversation, ClientContinues, IsClientConversation, IsClientOrder, IsGoodReply, IsGoodResponse, IsOrderAgreed, IsClientOrderOpen, MayCarryBack, largest_taken}
+use Rattle.ua_channel.specs.inside.ClientParts.{why_of}
+use Rattle.ua_channel.specs.ClientTable.{client_gate, client_reasons, client_rules, client_gate_behind, is_awaited, is_bad, is_other, of_numbers, of_response}
 use Rattle.ua_channel.specs.ClientTokens.{answer_behind, answer_in, channel_in, held_tokens, opened_ids, responses}
 use Rattle.ua_channel.specs.ClientTold.{Why, ours}
 use Rattle.ua_channel.specs.Content.{Content, Opening, content, content_by, opening_of, sends}
@@ -137,7 +137,7 @@ module _ (limits : Limits) (asked : List Asking) (b : Received) where
 
 -- what a frame that is taken carries
 record Good (limits : Limits) (asked : List Asking) (b : Received) (c : Content) : Type 0 where
-  carries : MayCarry limits b asked c
+  carries : MayCarryBack limits b asked c
   ordered : AreOrdered b.last (numbers_in c)
   message : MessageFits limits b c
 
@@ -171,7 +171,7 @@ accepted limits asked b Nothing g = refl
 order_by : Option Ack → List OpenResponse → List Kind → Type 0
 order_by None rs ks = IsClientOrder ks
 order_by (Some a) [] ks = IsOrderAgreed ks
-order_by (Some a) (r ∷ rs) ks = IsOrderOpen ks
+order_by (Some a) (r ∷ rs) ks = IsClientOrderOpen ks
 
 Order : Received → List Kind → Type 0
 Order b ks = order_by b.ack (responses b.openings) ks
@@ -214,7 +214,7 @@ module _ (limits : Limits) (asked : List Asking) (b : Received) (f : Frame) (ks 
   msg_then (Some c) o rs q r order = from_order (after b (Sends c)) ks o rs q r order
 
   -- a frame that is let in comes in order
-  order_here : (o : Option Ack) (rs : List OpenResponse) (k : Kind) → b.ack ≡ o → responses b.openings ≡ rs → IsPlaced b → IsTrue (lets_in (gate_behind o rs) k) → MayCarry limits b asked (content_by k f) → Order (after b (content_by k f)) ks → order_by o rs (k ∷ ks)
+  order_here : (o : Option Ack) (rs : List OpenResponse) (k : Kind) → b.ack ≡ o → responses b.openings ≡ rs → IsPlaced b → IsTrue (lets_in (client_gate_behind o rs) k) → MayCarryBack limits b asked (content_by k f) → Order (after b (content_by k f)) ks → order_by o rs (k ∷ ks)
   unfolding order_by IsPlaced
   order_here None rs Hel q r placed kind may next = absurd cc
   order_here None rs kind.Ack q r placed kind may next = to_order (after b (Acks (whole_of ack f.body))) ks (Some may.said) [] (said_then may.said may.reads) (placed q) next
@@ -237,7 +237,7 @@ module _ (limits : Limits) (asked : List Asking) (b : Received) (f : Frame) (ks 
 
   -- ---- the other way round
 
-  order_then : (o : Option Ack) (rs : List OpenResponse) (k : Kind) → b.ack ≡ o → responses b.openings ≡ rs → IsPlaced b → MayCarry limits b asked (content_by k f) → order_by o rs (k ∷ ks) → Order (after b (content_by k f)) ks
+  order_then : (o : Option Ack) (rs : List OpenResponse) (k : Kind) → b.ack ≡ o → responses b.openings ≡ rs → IsPlaced b → MayCarryBack limits b asked (content_by k f) → order_by o rs (k ∷ ks) → Order (after b (content_by k f)) ks
   unfolding order_by IsPlaced
   order_then None rs Hel q r placed may order = absurd order
   order_then None rs kind.Ack q r placed may order = from_order (after b (Acks (whole_of ack f.body))) ks (Some may.said) [] (said_then may.said may.reads) (placed q) order
@@ -258,7 +258,7 @@ module _ (limits : Limits) (asked : List Asking) (b : Received) (f : Frame) (ks 
   order_then (Some a) (p ∷ ps) Opn q r placed may order = from_order (after b (Opens (opening_of f.body))) ks (Some a) (p ∷ (ps ++ may.response ∷ [])) q (more_responses (p ∷ ps) may r) order
   order_then (Some a) (p ∷ ps) Clo q r placed may order = absurd order
 
-kind_then : (o : Option Ack) (rs : List OpenResponse) (k : Kind) (ks : List Kind) → order_by o rs (k ∷ ks) → IsTrue (lets_in (gate_behind o rs) k)
+kind_then : (o : Option Ack) (rs : List OpenResponse) (k : Kind) (ks : List Kind) → order_by o rs (k ∷ ks) → IsTrue (lets_in (client_gate_behind o rs) k)
 unfolding order_by
 kind_then None rs Hel ks order = absurd order
 kind_then None rs kind.Ack ks order = refl
@@ -280,7 +280,7 @@ kind_then (Some a) (r ∷ rs) Opn ks order = refl
 kind_then (Some a) (r ∷ rs) Clo ks order = absurd order
 
 -- no CLO is let in
-no_close : (o : Option Ack) (rs : List OpenResponse) → IsTrue (lets_in (gate_behind o rs) Clo) → ⊥
+no_close : (o : Option Ack) (rs : List OpenResponse) → IsTrue (lets_in (client_gate_behind o rs) Clo) → ⊥
 no_close None rs h = absurd cc
 no_close (Some a) [] h = absurd cc
 no_close (Some a) (r ∷ rs) h = absurd cc
@@ -292,11 +292,11 @@ record From (limits : Limits) (asks : List Placed) (start fs : List Frame) : Typ
   order : Order (received start) (map (λ (f : Frame). f.kind) fs)
   framed : AllByRecursion IsFramed fs
   fits : AllFrom (λ before f. frame_size f ≤ largest_taken (received before).ack) start fs
-  carries : AllFrom (λ before f. MayCarry limits (received before) (asked_before (end_of before f) asks) (content f)) start fs
+  carries : AllFrom (λ before f. MayCarryBack limits (received before) (asked_before (end_of before f) asks) (content f)) start fs
   ordered : AreOrdered (received start).last (numbers fs)
   messages_fit : TakesMessages limits.max_message_size limits.max_chunk_count (received start).messages (messages fs)
 
-gate_largest : (o : Option Ack) (rs : List OpenResponse) → (gate_behind o rs).largest ≡ largest_taken o
+gate_largest : (o : Option Ack) (rs : List OpenResponse) → (client_gate_behind o rs).largest ≡ largest_taken o
 gate_largest None rs = refl
 gate_largest (Some a) [] = refl
 gate_largest (Some a) (r ∷ rs) = refl
@@ -314,7 +314,7 @@ chunk_placed : (b : Received) (found : Option Chunk) → (b.ack ≡ None → res
 chunk_placed b None placed none = placed none
 chunk_placed b (Some c) placed none = placed none
 
-opn_some : (o : Option Ack) (rs : List OpenResponse) → IsTrue (lets_in (gate_behind o rs) Opn) → o ≡ None → ⊥
+opn_some : (o : Option Ack) (rs : List OpenResponse) → IsTrue (lets_in (client_gate_behind o rs) Opn) → o ≡ None → ⊥
 opn_some None rs kind e = absurd cc
 opn_some (Some a) rs kind e = absurd cc
 
@@ -331,14 +331,14 @@ module _ (limits : Limits) (asks : List Placed) where
   placed_next : (start : List Frame) (f : Frame) → IsPlaced (received start) → IsTrue (lets_in (client_gate (received start)) f.kind) → IsPlaced (received (start ++ f ∷ []))
   placed_next start f placed kind = subst IsPlaced (sym (received-push start f ∙ ap (after (received start)) (content_kind f))) (placed_more (received start) f f.kind placed kind)
 
-  order_frame : (asked : List Asking) (b : Received) (f : Frame) (ks : List Kind) → IsPlaced b → IsTrue (lets_in (client_gate b) f.kind) → MayCarry limits b asked (content f) → Order (after b (content f)) ks → Order b (f.kind ∷ ks)
+  order_frame : (asked : List Asking) (b : Received) (f : Frame) (ks : List Kind) → IsPlaced b → IsTrue (lets_in (client_gate b) f.kind) → MayCarryBack limits b asked (content f) → Order (after b (content f)) ks → Order b (f.kind ∷ ks)
   order_frame asked b f ks placed kind =
-      subst (λ (c : Content). MayCarry limits b asked c → Order (after b c) ks → Order b (f.kind ∷ ks)) (sym (content_kind f))
+      subst (λ (c : Content). MayCarryBack limits b asked c → Order (after b c) ks → Order b (f.kind ∷ ks)) (sym (content_kind f))
       (λ may next. from_order b (f.kind ∷ ks) b.ack (responses b.openings) refl refl (order_here limits asked b f ks b.ack (responses b.openings) f.kind refl refl placed kind may next))
 
-  frame_then : (asked : List Asking) (b : Received) (f : Frame) (ks : List Kind) → IsPlaced b → MayCarry limits b asked (content f) → Order b (f.kind ∷ ks) → Order (after b (content f)) ks
+  frame_then : (asked : List Asking) (b : Received) (f : Frame) (ks : List Kind) → IsPlaced b → MayCarryBack limits b asked (content f) → Order b (f.kind ∷ ks) → Order (after b (content f)) ks
   frame_then asked b f ks placed =
-      subst (λ (c : Content). MayCarry limits b asked c → Order b (f.kind ∷ ks) → Order (after b c) ks) (sym (content_kind f))
+      subst (λ (c : Content). MayCarryBack limits b asked c → Order b (f.kind ∷ ks) → Order (after b c) ks) (sym (content_kind f))
       (λ may order. order_then limits asked b f ks b.ack (responses b.openings) f.kind refl refl placed may (to_order b (f.kind ∷ ks) b.ack (responses b.openings) refl refl order))
 
   -- frames that are taken behind others are the rest of a conversation
@@ -426,13 +426,13 @@ module _ (limits : Limits) (asks : List Placed) where
 
 -- ---- octets without a wrong frame
 
-pub continues : (limits : Limits) (asks : List Placed) (octets : List ℕ) (frames : List Frame) (rest : List ℕ) → Run (client_rules limits asks) octets frames rest Going ↔ Continues limits asks octets frames rest
+pub continues : (limits : Limits) (asks : List Placed) (octets : List ℕ) (frames : List Frame) (rest : List ℕ) → Run (client_rules limits asks) octets frames rest Going ↔ ClientContinues limits asks octets frames rest
 continues limits asks octets frames rest = (
   λ r. record { whole = r.whole; converses = (converses limits asks frames).0 r.good; partial = r.ends.1 },
   λ c. record { whole = c.whole; good = (converses limits asks frames).1 c.converses; ends = (refl, c.partial) },
 )
 
-converses_by : (limits : Limits) (asks : List Placed) (octets : List ℕ) (frames : List Frame) (rest : List ℕ) (end : End Why) → Run (client_rules limits asks) octets frames rest end → ((why : Why) → end ≡ Stopped why → ⊥) → IsConversation limits asks octets
+converses_by : (limits : Limits) (asks : List Placed) (octets : List ℕ) (frames : List Frame) (rest : List ℕ) (end : End Why) → Run (client_rules limits asks) octets frames rest end → ((why : Why) → end ≡ Stopped why → ⊥) → IsClientConversation limits asks octets
 converses_by limits asks octets frames rest Going run never = record { frames = frames; rest = rest; is = (continues limits asks octets frames rest).0 run }
 converses_by limits asks octets frames rest (Stopped why) run never = absurd (never why refl)
 converses_by limits asks octets frames rest Over run never =
@@ -440,7 +440,7 @@ converses_by limits asks octets frames rest Over run never =
     absurd cc
 
 -- there is no wrong frame exactly where the octets are a conversation
-pub none_wrong : (limits : Limits) (asks : List Placed) (octets : List ℕ) (raws : List (List ℕ)) (rest : List ℕ) → Frames octets raws rest → ((why : Why) → FirstWrong (client_rules limits asks) raws rest why → ⊥) ↔ IsConversation limits asks octets
+pub none_wrong : (limits : Limits) (asks : List Placed) (octets : List ℕ) (raws : List (List ℕ)) (rest : List ℕ) → Frames octets raws rest → ((why : Why) → FirstWrong (client_rules limits asks) raws rest why → ⊥) ↔ IsClientConversation limits asks octets
 none_wrong limits asks octets raws rest framed = (
   λ never.
       let r = reading (client_rules limits asks) octets in

@@ -15,7 +15,8 @@ use Rattle.ua_services.specs.Message.{message}
 use Rattle.ua_structures.specs.SecureChannel.{close_request}
 use Rattle.ua_structures.specs.Plain.{close_request_of}
 use Rattle.ua_builtin.specs.declared.date_time.DateTime.{DateTime}
-use Rattle.ua_channel.specs.ClientSends.{hello_to, hello_frame, close_frame, closing_front}
+use Rattle.ua_channel.specs.ClientSends.{hello_to, hello_frame, close_frame}
+use Rattle.ua_channel.specs.inside.ClientAsking.{closing_front}
 
 -- ---- HEL
 

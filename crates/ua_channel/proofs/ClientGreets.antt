@@ -8,7 +8,7 @@ use Rattle.ua_frame.specs.declared.limits.Limits.{Limits}
 use Rattle.ua_frame.specs.Messages.{ack, error}
 use Rattle.ua_frame.specs.Whole.{whole_of}
 use Rattle.ua_channel.specs.Asks.{Asking}
-use Rattle.ua_channel.specs.ClientParts.{IsStopFor, Judged, error_reasons, ack_reasons, IsAgreed}
+use Rattle.ua_channel.specs.inside.ClientParts.{IsStopFor, Judged, error_reasons, ack_reasons, IsAgreed}
 use Rattle.ua_channel.specs.ClientTable.{client_reasons}
 use Rattle.ua_channel.specs.ClientTold.{Why}
 use Rattle.ua_channel.specs.Content.{Content, content}

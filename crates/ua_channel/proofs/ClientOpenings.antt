@@ -12,7 +12,7 @@ use Rattle.ua_services.specs.declared.open.OpenAnswer.{OpenAnswer}
 use Rattle.ua_services.specs.declared.open.OpenAnswer.TheVariants.{Open, Fault}
 use Rattle.ua_structures.specs.declared.secure_channel.OpenResponse.{OpenResponse}
 use Rattle.ua_channel.specs.Asks.{Asking}
-use Rattle.ua_channel.specs.ClientParts.{of_open_fault, IsStopFor, Judged, JudgesAnswer, IsAnsweredBy, body_reasons, answer_reasons}
+use Rattle.ua_channel.specs.inside.ClientParts.{stop_of_open, IsStopFor, Judged, JudgesAnswer, IsAnsweredBy, body_reasons, answer_reasons}
 use Rattle.ua_channel.specs.ClientTable.{client_reasons}
 use Rattle.ua_channel.specs.ClientTokens.{answer_in}
 use Rattle.ua_channel.specs.ClientTold.{Why, ours}
@@ -62,14 +62,14 @@ module _ (limits : Limits) (before : Received) (asked : List Asking) where
   unfolding opening_of why
   refuses_headers body fault h = refused_found body (policy_header.decode body) fault h
 
-judges_fault : (body : List ℕ) (fault : OpenFault) → open_refusal body ≡ Some fault → JudgesAnswer (opening_of body) (Err (of_open_fault fault))
+judges_fault : (body : List ℕ) (fault : OpenFault) → open_refusal body ≡ Some fault → JudgesAnswer (opening_of body) (Err (stop_of_open fault))
 unfolding open_code
 judges_fault body Unreadable h = λ limits before asked. refuses_headers limits before asked body Unreadable h
 judges_fault body Policy h = λ limits before asked. refuses_headers limits before asked body Policy h
 judges_fault body OutOfMemory h = λ limits before asked. tt
 
 -- what a fault of the headers comes to
-pub judges_headers : (body : List ℕ) (fault : OpenFault) (e : Stop) → open_refusal body ≡ Some fault → e ≡ of_open_fault fault → JudgesAnswer (opening_of body) (Err e)
+pub judges_headers : (body : List ℕ) (fault : OpenFault) (e : Stop) → open_refusal body ≡ Some fault → e ≡ stop_of_open fault → JudgesAnswer (opening_of body) (Err e)
 judges_headers body fault e h is = subst (λ (x : Stop). JudgesAnswer (opening_of body) (Err x)) (sym is) (judges_fault body fault h)
 
 -- ---- what is behind them

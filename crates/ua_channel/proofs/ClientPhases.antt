@@ -6,9 +6,10 @@ use Rattle.ua_frame.specs.declared.limits.Limits.{Limits}
 use Rattle.ua_frame.specs.Frames.{LetsIn}
 use Rattle.ua_frame.specs.Reader.{open_reader}
 use Rattle.ua_channel.specs.Asks.{Asking}
-use Rattle.ua_channel.specs.Client.{InPhase, IsDone, bound_behind, phase_gate}
+use Rattle.ua_channel.specs.Client.{InPhase, IsDone, bound_behind}
+use Rattle.ua_channel.specs.inside.ClientAsking.{client_phase_gate}
 use Rattle.ua_channel.specs.ClientAsks.{Talks}
-use Rattle.ua_channel.specs.ClientParts.{IsStopFor, Judged, JudgesWhole, GoesOn, Takes, OpensChannel, StaysOpen, IsOpenedBy, TakesFrame, greeted, failure_of}
+use Rattle.ua_channel.specs.inside.ClientParts.{IsStopFor, Judged, JudgesWhole, GoesOnBehind, TookFrame, OpensChannel, StaysOpen, IsOpenedBy, TakesFrame, greeted, failure_of}
 use Rattle.ua_channel.specs.ClientTable.{client_gate, client_reasons, gate_agreed, ack_gate, answer_gate, reply_gate}
 use Rattle.ua_channel.specs.ClientTokens.{responses}
 use Rattle.ua_channel.specs.Content.{Content, content}
@@ -29,9 +30,9 @@ use Rattle.ua_channel.proofs.ClientStands.{gate_talking}
 -- ---- an ACK
 
 pub greeting_takes : (limits : Limits) (c : Content) (g : Agreed) (new : ClientChannel) → c ≡ Acks (Some g.ack) → new.phase ≡ AgreedTo g → new.bound ≡ g.ack.send_buffer_size + 4 * limits.max_message_size
-    → Takes limits nothing_received [] c new (Some (event.Agreed g.ack))
+    → TookFrame limits nothing_received [] c new (Some (event.Agreed g.ack))
 greeting_takes limits c g new is phase bound =
-    subst (λ (d : Content). Takes limits nothing_received [] d new (Some (event.Agreed g.ack))) (sym is) (record {
+    subst (λ (d : Content). TookFrame limits nothing_received [] d new (Some (event.Agreed g.ack))) (sym is) (record {
       tells = refl;
       good = tt;
       parts = tt;
@@ -68,45 +69,45 @@ unfolding responses
 no_responses = refl
 
 -- the gate of a phase is that of what was received
-pub gate_in : (limits : Limits) (p : Phase) (before : Received) (asked : List Asking) → InPhase limits p before asked → phase_gate p ≡ client_gate before
+pub gate_in : (limits : Limits) (p : Phase) (before : Received) (asked : List Asking) → InPhase limits p before asked → client_phase_gate p ≡ client_gate before
 gate_in limits Waiting before asked h = sym (ap client_gate h.0)
 gate_in limits (AgreedTo g) before asked h = sym (ap client_gate h.0 ∙ ap (gate_agreed g.ack.send_buffer_size) no_responses)
 gate_in limits (Open t) before asked h = sym (gate_talking limits t before asked h)
 gate_in limits Done before asked h = absurd h
 
-let_in_phase : (limits : Limits) (p : Phase) (before : Received) (asked : List Asking) (f : Frame) → InPhase limits p before asked → LetsIn (client_gate before) f → LetsIn (phase_gate p) f
+let_in_phase : (limits : Limits) (p : Phase) (before : Received) (asked : List Asking) (f : Frame) → InPhase limits p before asked → LetsIn (client_gate before) f → LetsIn (client_phase_gate p) f
 let_in_phase limits p before asked f h l = subst (λ (g : Gate). LetsIn g f) (sym (gate_in limits p before asked h)) l
 
 module _ (limits : Limits) (p : Phase) (before : Received) (asked : List Asking) (f : Frame) (new : ClientChannel) (r : Result (Option Event) Stop) (in_phase : InPhase limits p before asked) (let_in : LetsIn (client_gate before) f) where
-  pub waiting_judged : p ≡ Waiting → (LetsIn ack_gate f → Judged (client_reasons limits nothing_received [] (content f)) (Takes limits nothing_received [] (content f) new) r)
-      → Judged (client_reasons limits before asked (content f)) (Takes limits before asked (content f) new) r
+  pub waiting_judged : p ≡ Waiting → (LetsIn ack_gate f → Judged (client_reasons limits nothing_received [] (content f)) (TookFrame limits nothing_received [] (content f) new) r)
+      → Judged (client_reasons limits before asked (content f)) (TookFrame limits before asked (content f) new) r
   waiting_judged is h =
       let here : InPhase limits Waiting before asked = subst (λ (q : Phase). InPhase limits q before asked) is in_phase in
-      subst (λ (k : List Asking). Judged (client_reasons limits before k (content f)) (Takes limits before k (content f) new) r) (sym here.1)
-      (subst (λ (b : Received). Judged (client_reasons limits b [] (content f)) (Takes limits b [] (content f) new) r) (sym here.0) (h (let_in_phase limits Waiting before asked f here let_in)))
+      subst (λ (k : List Asking). Judged (client_reasons limits before k (content f)) (TookFrame limits before k (content f) new) r) (sym here.1)
+      (subst (λ (b : Received). Judged (client_reasons limits b [] (content f)) (TookFrame limits b [] (content f) new) r) (sym here.0) (h (let_in_phase limits Waiting before asked f here let_in)))
 
   pub agreed_judged : (g : Agreed) → p ≡ AgreedTo g → new.bound ≡ bound_behind limits before.ack → (LetsIn (answer_gate g.ack.send_buffer_size) f → Judged (client_reasons limits (greeted g) [] (content f)) (OpensChannel limits g (content f) new) r)
-      → Judged (client_reasons limits before asked (content f)) (Takes limits before asked (content f) new) r
+      → Judged (client_reasons limits before asked (content f)) (TookFrame limits before asked (content f) new) r
   agreed_judged g is bound h =
       let here : InPhase limits (AgreedTo g) before asked = subst (λ (q : Phase). InPhase limits q before asked) is in_phase in
       let size : new.bound ≡ bound_behind limits (Some g.ack) = bound ∙ ap (λ (b : Received). bound_behind limits b.ack) here.0 in
-      subst (λ (k : List Asking). Judged (client_reasons limits before k (content f)) (Takes limits before k (content f) new) r) (sym here.1)
-      (subst (λ (b : Received). Judged (client_reasons limits b [] (content f)) (Takes limits b [] (content f) new) r) (sym here.0)
-      (judged_same (client_reasons limits (greeted g) [] (content f)) (client_reasons limits (greeted g) [] (content f)) (OpensChannel limits g (content f) new) (Takes limits (greeted g) [] (content f) new) r refl
+      subst (λ (k : List Asking). Judged (client_reasons limits before k (content f)) (TookFrame limits before k (content f) new) r) (sym here.1)
+      (subst (λ (b : Received). Judged (client_reasons limits b [] (content f)) (TookFrame limits b [] (content f) new) r) (sym here.0)
+      (judged_same (client_reasons limits (greeted g) [] (content f)) (client_reasons limits (greeted g) [] (content f)) (OpensChannel limits g (content f) new) (TookFrame limits (greeted g) [] (content f) new) r refl
       (λ e none w. record { tells = w.tells; good = w.good; parts = w.parts; phase_is = w.phase_is; bound_is = size ∙ sym (ap (bound_behind limits) w.ack_is) }) (h (let_in_phase limits (AgreedTo g) before asked f here let_in))))
 
   pub open_judged : (t : Talking) → p ≡ Open t → new.bound ≡ bound_behind limits before.ack
       → (Talks limits t before asked → LetsIn (reply_gate t.agreed.ack.send_buffer_size) f → Judged (client_reasons limits before asked (content f)) (StaysOpen limits before asked (content f) new) r)
-      → Judged (client_reasons limits before asked (content f)) (Takes limits before asked (content f) new) r
+      → Judged (client_reasons limits before asked (content f)) (TookFrame limits before asked (content f) new) r
   open_judged t is bound h =
       let here : InPhase limits (Open t) before asked = subst (λ (q : Phase). InPhase limits q before asked) is in_phase in
-      judged_same (client_reasons limits before asked (content f)) (client_reasons limits before asked (content f)) (StaysOpen limits before asked (content f) new) (Takes limits before asked (content f) new) r refl
+      judged_same (client_reasons limits before asked (content f)) (client_reasons limits before asked (content f)) (StaysOpen limits before asked (content f) new) (TookFrame limits before asked (content f) new) r refl
       (λ e none w. record { tells = w.tells; good = w.good; parts = w.parts; phase_is = w.phase_is; bound_is = bound ∙ sym (ap (bound_behind limits) w.ack_is) }) (h here (let_in_phase limits (Open t) before asked f here let_in))
 
 -- ---- a whole frame
 
 module _ (limits : Limits) (before : Received) (asked : List Asking) (c : Content) (new : ClientChannel) where
-  whole_by : (e : Option Event) → GoesOn limits before asked c new e → JudgesWhole limits before asked c new (Ok e)
+  whole_by : (e : Option Event) → GoesOnBehind limits before asked c new e → JudgesWhole limits before asked c new (Ok e)
   whole_by None h = h
   whole_by (Some (event.Agreed ack)) h = h
   whole_by (Some (event.Opened channel token)) h = h
@@ -115,7 +116,7 @@ module _ (limits : Limits) (before : Received) (asked : List Asking) (c : Conten
   whole_by (Some (event.Renewed token)) h = h
   whole_by (Some (event.Failed code peer)) h = absurd h.takes.good
 
-  pub whole_ok : (mid : ClientChannel) (e : Option Event) → Judged (client_reasons limits before asked c) (Takes limits before asked c mid) (Ok e) → new.phase ≡ mid.phase → new.bound ≡ mid.bound → new.reader ≡ open_reader (phase_gate mid.phase) []
+  pub whole_ok : (mid : ClientChannel) (e : Option Event) → Judged (client_reasons limits before asked c) (TookFrame limits before asked c mid) (Ok e) → new.phase ≡ mid.phase → new.bound ≡ mid.bound → new.reader ≡ open_reader (client_phase_gate mid.phase) []
       → JudgesWhole limits before asked c new (Ok e)
   whole_ok mid e h phase bound reader =
       whole_by e (record {

@@ -61,7 +61,7 @@ use Rattle.ua_channel.specs.Asks.{Asking, Placed, asked_before, asked_in, calls,
 use Rattle.ua_channel.specs.Asks.Asking.{Call, Renewal}
 use Rattle.ua_channel.specs.ClientReads.{AtClient, ClientAgrees, ClientReads, IsAnswered, IsLaneBack, told_reply, with_answer, with_call, with_renewal, with_reply, without_id}
 use Rattle.ua_channel.specs.ClientSends.{hello_to}
-use Rattle.ua_channel.specs.ClientTable.{answer_gate, client_gate, client_reasons, client_rules, gate_agreed, gate_behind, is_awaited, is_outside, reply_gate}
+use Rattle.ua_channel.specs.ClientTable.{answer_gate, client_gate, client_reasons, client_rules, gate_agreed, client_gate_behind, is_awaited, is_outside, reply_gate}
 use Rattle.ua_channel.specs.ClientTokens.{answer_in, channel_in, from_last, held_by, held_tokens, opened_ids, responses, tokens_of}
 use Rattle.ua_channel.specs.ClientTold.{Told, Told as event, client_tells, told_item}
 use Rattle.ua_channel.specs.Content.{Content, Opening, content}
@@ -615,7 +615,7 @@ module _ (limits : Limits) (asks : List Placed) (octets : List ℕ) (told : List
   g_in : LetsIn ((client_rules limits asks).gate r.frames) g
   unfolding g
   g_in =
-      subst (λ (x : Gate). LetsIn x g) (sym (ap (λ (a : Option Ack). gate_behind a (responses (received r.frames).openings)) r.ack_is))
+      subst (λ (x : Gate). LetsIn x g) (sym (ap (λ (a : Option Ack). client_gate_behind a (responses (received r.frames).openings)) r.ack_is))
       (lets_opn at.ack (responses (received r.frames).openings) g refl refl (omega (arith, g_size, r.large)) (omega (arith, g_size)))
 
   later_now : received (r.frames ++ g ∷ []) ≡ after (received r.frames) (Opens p)

@@ -13,8 +13,9 @@ use Rattle.ua_chunk.specs.Open.{open_octets}
 use Rattle.ua_frame.proofs.Streams.{run_nil}
 use Rattle.ua_channel.specs.Asks.{Asking, Placed, asked_in}
 use Rattle.ua_channel.specs.Client.{Stands, InPhase, limits_of, bound_behind, held_octets}
-use Rattle.ua_channel.specs.ClientAsks.{Talks, AsBefore}
-use Rattle.ua_channel.specs.ClientTable.{client_gate, client_rules, gate_behind, gate_agreed, reply_gate, ack_gate}
+use Rattle.ua_channel.specs.ClientAsks.{Talks}
+use Rattle.ua_channel.specs.inside.ClientAsking.{AsBefore}
+use Rattle.ua_channel.specs.ClientTable.{client_gate, client_rules, client_gate_behind, gate_agreed, reply_gate, ack_gate}
 use Rattle.ua_channel.specs.ClientTokens.{responses, channel_in}
 use Rattle.ua_structures.specs.declared.secure_channel.OpenResponse.{OpenResponse}
 use Rattle.ua_channel.specs.Received.{Received, received}
@@ -78,7 +79,7 @@ gate_some size n (r ∷ rs) e = refl
 
 pub gate_talking : (limits : Limits) (t : Talking) (before : Received) (asked : List Asking) → Talks limits t before asked → client_gate before ≡ reply_gate t.agreed.ack.send_buffer_size
 gate_talking limits t before asked h =
-    ap (λ (o : Option Ack). gate_behind o (responses before.openings)) h.ack_is ∙ gate_some t.agreed.ack.send_buffer_size t.channel (responses before.openings) h.channel_is
+    ap (λ (o : Option Ack). client_gate_behind o (responses before.openings)) h.ack_is ∙ gate_some t.agreed.ack.send_buffer_size t.channel (responses before.openings) h.channel_is
 
 pub held_open : (x : ClientChannel) (t : Talking) (asks : List Placed) (octets : List ℕ) (frames : List Frame) (rest : List ℕ) (n m sum : ℕ) → x.phase ≡ Open t → Stands x asks octets frames rest
     → n ≡ length x.reader.held → n < max 8 x.reader.gate.largest → ((cs : List Chunk) → assembling.Stands t.assembler cs → m ≡ open_octets cs)

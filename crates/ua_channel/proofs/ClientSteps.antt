@@ -18,9 +18,9 @@ use Rattle.ua_frame.proofs.Streams.{frames_octets-push, run_part, run_frame, eve
 use Rattle.ua_channel.specs.Asks.{Asking, Placed, asked_before, asked_in, end_of}
 use Rattle.ua_channel.specs.Stops.{StopsAt}
 use Rattle.ua_channel.specs.Client.{SameClient, Stands, Goes, GoesTelling, Ended, IsDone, InPhase, rules_of, limits_of, phase_of, bound_of, bound_behind}
-use Rattle.ua_channel.specs.ClientParts.{JudgesWhole, GoesOn, Stopped as StoppedBy, FailsBy, IsFront, Steps, told_list, parts_of}
+use Rattle.ua_channel.specs.inside.ClientParts.{JudgesWhole, GoesOnBehind, Stopped as StoppedBy, FailsBy, IsFront, StepsOnce, told_by_frame, event_parts}
 use Rattle.ua_channel.specs.ClientAnswers.{ComesInParts}
-use Rattle.ua_channel.specs.MessageParts.{MayEndIn}
+use Rattle.ua_channel.specs.inside.Parts.{MayEndIn}
 use Rattle.ua_channel.specs.ClientTable.{client_gate, client_rules, client_reasons}
 use Rattle.ua_channel.specs.ClientTold.{Told, Told as told, Why, ours}
 use Rattle.ua_channel.specs.Content.{content}
@@ -39,8 +39,8 @@ none_some a e = cc
 
 -- what a step answers that took so many octets, by what came of its frame
 abbrev pub StepsWith : List ℕ → ℕ → Result (Option Event) ClientTakeFault → ClientChannel → List Placed → List ℕ → List Told → Type 0
-StepsWith piece n (Ok e) new asks octets before = Steps piece (Ok (n, e)) new asks octets before
-StepsWith piece n (Err fault) new asks octets before = Steps piece (Err fault) new asks octets before
+StepsWith piece n (Ok e) new asks octets before = StepsOnce piece (Ok (n, e)) new asks octets before
+StepsWith piece n (Err fault) new asks octets before = StepsOnce piece (Err fault) new asks octets before
 
 placed_more : (asks : List Placed) (octets more : List ℕ) → AllByRecursion (λ (a : Placed). a.0 ≤ length octets) asks → AllByRecursion (λ (a : Placed). a.0 ≤ length (octets ++ more)) asks
 placed_more asks octets more placed = all-weaken (λ (a : Placed). a.0 ≤ length octets) (λ (a : Placed). a.0 ≤ length (octets ++ more)) asks (λ a within. omega (arith, within, length-append octets more)) placed
@@ -93,7 +93,7 @@ module _ (x : ClientChannel) (asks : List Placed) (octets : List ℕ) (told_befo
     judged_so : refusal (rules_of x asks) frames f ≡ first_reason (client_reasons (limits_of x) (received frames) (asked_in asks) (content f))
     judged_so = ap (λ (asked : List Asking). first_reason (client_reasons (limits_of x) (received frames) asked (content f))) all_asked
 
-    module _ (e : Option Event) (g : GoesOn (limits_of x) (received frames) (asked_in asks) (content f) y e) where
+    module _ (e : Option Event) (g : GoesOnBehind (limits_of x) (received frames) (asked_in asks) (content f) y e) where
       stands_more : Stands y asks (octets ++ p) (frames ++ f ∷ []) []
       stands_more = record {
         run =
@@ -107,7 +107,7 @@ module _ (x : ClientChannel) (asks : List Placed) (octets : List ℕ) (told_befo
         bound_is = g.takes.bound_is ∙ (ap (λ (b : Received). bound_behind (limits_of x) b.ack) (sym (received-push frames f)) ∙ ap (λ (l : Limits). bound_behind l (received (frames ++ f ∷ [])).ack) (sym limits));
       }
 
-      pub silent_goes : told_list e ≡ [] → Goes y asks (octets ++ p) told_before
+      pub silent_goes : told_by_frame e ≡ [] → Goes y asks (octets ++ p) told_before
       silent_goes none = record {
         frames = frames ++ f ∷ [];
         rest = [];
@@ -115,15 +115,15 @@ module _ (x : ClientChannel) (asks : List Placed) (octets : List ℕ) (told_befo
         told_is = events-push (rules_of x asks) frames f ∙ (ap (λ (t : List Told). events (rules_of x asks) frames ++ t) (g.takes.tells ∙ none) ∙ (append-nil (events (rules_of x asks) frames) ∙ was));
       }
 
-      pub telling_goes : (t : Told) → told_list e ≡ t ∷ [] → GoesTelling y asks (octets ++ p) told_before t
+      pub telling_goes : (t : Told) → told_by_frame e ≡ t ∷ [] → GoesTelling y asks (octets ++ p) told_before t
       telling_goes t one = record { frames = frames; frame = f; stands = stands_more; told_is = was; tells = g.takes.tells ∙ one }
 
       ends_so : (parts : Option (List (List ℕ))) → MayEndIn (received frames).messages (content f) parts → ComesInParts parts y asks (octets ++ p)
       ends_so None ends = tt
       ends_so (Some parts) ends = record { frames = frames; frame = f; stands = stands_more; ends = ends }
 
-      pub telling_parts : ComesInParts (parts_of e) y asks (octets ++ p)
-      telling_parts = ends_so (parts_of e) g.takes.parts
+      pub telling_parts : ComesInParts (event_parts e) y asks (octets ++ p)
+      telling_parts = ends_so (event_parts e) g.takes.parts
 
     wrong_frame : (why : Why) → first_reason (client_reasons (limits_of x) (received frames) (asked_in asks) (content f)) ≡ Some why → WrongFrame (rules_of x asks) frames (rest ++ p) why
     wrong_frame why refused = record { frame = f; more = []; parts = whole ∙ sym (append-nil (frame_octets f)); sized = sized; let_in = let_in; refused = judged_so ∙ refused }
@@ -159,7 +159,7 @@ module _ (x : ClientChannel) (asks : List Placed) (octets : List ℕ) (told_befo
     frame_steps piece n (Err OutOfMemory) is j = j
     frame_steps piece n (Err Closed) is j = j
 
-    pub frame_parts : (piece : List ℕ) (n : ℕ) (r : Result (Option Event) ClientTakeFault) → take n piece ≡ p → JudgesWhole (limits_of x) (received frames) (asked_in asks) (content f) y r → IfOk r (λ e. ComesInParts (parts_of e) y asks (octets ++ take n piece))
+    pub frame_parts : (piece : List ℕ) (n : ℕ) (r : Result (Option Event) ClientTakeFault) → take n piece ≡ p → JudgesWhole (limits_of x) (received frames) (asked_in asks) (content f) y r → IfOk r (λ e. ComesInParts (event_parts e) y asks (octets ++ take n piece))
     frame_parts piece n (Ok None) is j = tt
     frame_parts piece n (Ok (Some (event.Agreed ack))) is j = tt
     frame_parts piece n (Ok (Some (event.Opened channel token))) is j = tt
@@ -217,7 +217,7 @@ pub goes_frame : (x mid y : ClientChannel) (piece front : List ℕ) (n : ℕ) (f
     → ((before : Received) (asked : List Asking) → InPhase (limits_of mid) (phase_of mid) before asked → bound_of mid ≡ bound_behind (limits_of mid) before.ack → mid.reader ≡ open_reader (client_gate before) [] → LetsIn (client_gate before) w
     → JudgesWhole (limits_of mid) before asked (content w) y r)
     → SameClient mid y → (asks : List Placed) (octets : List ℕ) (told_before : List Told) → Goes x asks octets told_before
-    → StepsWith piece n r y asks octets told_before × IfOk r (λ e. ComesInParts (parts_of e) y asks (octets ++ take n piece))
+    → StepsWith piece n r y asks octets told_before × IfOk r (λ e. ComesInParts (event_parts e) y asks (octets ++ take n piece))
 goes_frame x mid y piece front n f w r fr t is frame_is judges same = λ asks octets told_before g.
     let h = g.stands in
     let limits_same : limits_of mid ≡ limits_of x = ap limits_of is in
@@ -238,7 +238,7 @@ goes_frame x mid y piece front n f w r fr t is frame_is judges same = λ asks oc
     )
 
 -- a fault of the reader hands no message out
-pub fault_parts : (y : ClientChannel) (asks : List Placed) (octets : List ℕ) (fault : FrameFault) (e : Option Event) → FailsBy fault (Ok e) → ComesInParts (parts_of e) y asks octets
+pub fault_parts : (y : ClientChannel) (asks : List Placed) (octets : List ℕ) (fault : FrameFault) (e : Option Event) → FailsBy fault (Ok e) → ComesInParts (event_parts e) y asks octets
 fault_parts y asks octets fault None fails = tt
 fault_parts y asks octets fault (Some (event.Agreed ack)) fails = tt
 fault_parts y asks octets fault (Some (event.Opened channel token)) fails = tt

@@ -26,8 +26,8 @@ use Rattle.ua_chunk.proofs.Fresh.{fresh_message}
 use Rattle.ua_chunk.proofs.Lists.{map_push}
 use Rattle.ua_chunk.proofs.Numbers.{apart}
 use Rattle.ua_channel.specs.Asks.{Asking, Placed, asked_before, asked_in, end_of, is_in, pending_calls}
-use Rattle.ua_channel.specs.ClientParts.{why_of}
-use Rattle.ua_channel.specs.ClientTable.{client_gate, client_reasons, client_rules, gate_behind, is_other, reply_gate}
+use Rattle.ua_channel.specs.inside.ClientParts.{why_of}
+use Rattle.ua_channel.specs.ClientTable.{client_gate, client_reasons, client_rules, client_gate_behind, is_other, reply_gate}
 use Rattle.ua_channel.specs.ClientTokens.{channel_in, from_last, held_tokens, responses, tokens_of}
 use Rattle.ua_channel.specs.ClientTold.{Told, client_tells, ours, told_item}
 use Rattle.ua_channel.specs.Content.{Content, content}
@@ -104,7 +104,7 @@ module _ (limits : Limits) (asks : List Placed) (n : ℕ) (a : Ack) (lane : Lane
   let_in c fits = record { kind = refl; flag = chunk_flag c; largest = omega (arith, fits, chunk_size c); least = omega (arith, chunk_size c) }
 
   gate_is : (asked : List Asking) (last : Option ℕ) (us : List Chunk) (b : Received) → IsReady a lane id asked last base us b → client_gate b ≡ reply_gate a.send_buffer_size
-  gate_is asked last us b r = ap (λ (o : Option Ack). gate_behind o (responses b.openings)) r.ack_is ∙ gate_some a.send_buffer_size lane.channel (responses b.openings) r.channel_is
+  gate_is asked last us b r = ap (λ (o : Option Ack). client_gate_behind o (responses b.openings)) r.ack_is ∙ gate_some a.send_buffer_size lane.channel (responses b.openings) r.channel_is
 
   -- one chunk is taken
   pub fits_one : (last : Option ℕ) (us : List Chunk) (c : Chunk) (fs : List Frame) → IsSent a.send_buffer_size lane id c → IsReady a lane id (asked_in asks) last base us (received fs) → n ≤ length (frames_octets fs)

@@ -20,8 +20,8 @@ use Rattle.ua_services.specs.declared.open.OpenAnswer.TheVariants.{Open}
 use Rattle.ua_structures.specs.declared.secure_channel.OpenResponse.{OpenResponse}
 use Rattle.ua_channel.specs.Asks.{Asking, is_in, calls, renewals, pending_calls, pending_renewals}
 use Rattle.ua_channel.specs.ClientAsks.{Talks}
-use Rattle.ua_channel.specs.MessageParts.{MayEndIn}
-use Rattle.ua_channel.specs.ClientParts.{parts_of, why_of, IsStopFor, Judged, IsOpenedBy, TellsRenewal, TakesFrame, IsGood, told_list, IsAnswerOf, IsOpenedWith, IsRenewedWith, IsTakenWith, answer_reasons, first_reasons, renewal_reasons, chunk_reasons, greeted, left_pending}
+use Rattle.ua_channel.specs.inside.Parts.{MayEndIn}
+use Rattle.ua_channel.specs.inside.ClientParts.{event_parts, why_of, IsStopFor, Judged, IsOpenedBy, TellsRenewal, TakesFrame, IsGood, told_by_frame, IsAnswerOf, IsOpenedWith, IsRenewedWith, IsTakenWith, answer_reasons, first_reasons, renewal_reasons, chunk_reasons, greeted, left_pending}
 use Rattle.ua_channel.specs.ClientTable.{client_reasons, is_awaited}
 use Rattle.ua_channel.specs.ClientTokens.{answer_in, response_listed, id_listed, responses, opened_ids, channel_in, tokens_of, from_last, held_by, held_tokens}
 use Rattle.ua_channel.specs.ClientTold.{Told, Told as told, ours, client_tells, told_response}
@@ -279,9 +279,9 @@ module _ (limits : Limits) (t : Talking) (before : Received) (asked : List Askin
       let third = first_tail (ours 0x8087_0000) (is_in a.token t.tokens.items) ((ours 0x8088_0000, not (may_follow (last_number t.assembler) a.sequence)) ∷ (ours 0x8009_0000, not (is_in a.request (listed t.renewal))) ∷ []) second in
       let fourth = first_tail (ours 0x8088_0000) (not (may_follow (last_number t.assembler) a.sequence)) ((ours 0x8009_0000, not (is_in a.request (listed t.renewal))) ∷ []) third in
       record {
-        tells = renewed_tells limits t before asked a h new o w.1 ans ∙ sym (ap told_list w.0);
+        tells = renewed_tells limits t before asked a h new o w.1 ans ∙ sym (ap told_by_frame w.0);
         good = subst IsGood (sym w.0) tt;
-        parts = subst (λ (d : Option Event). MayEndIn before.messages (Opens o) (parts_of d)) (sym w.0) tt;
+        parts = subst (λ (d : Option Event). MayEndIn before.messages (Opens o) (event_parts d)) (sym w.0) tt;
         talks =
             renewed_talks limits t before asked a h new o w.1 ans
             (first_unset (ours 0x8087_0000) (is_in a.token t.tokens.items) ((ours 0x8088_0000, not (may_follow (last_number t.assembler) a.sequence)) ∷ (ours 0x8009_0000, not (is_in a.request (listed t.renewal))) ∷ []) second)

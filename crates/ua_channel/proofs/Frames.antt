@@ -22,9 +22,10 @@ use Rattle.ua_channel.specs.Agreement.{Agreement}
 use Rattle.ua_channel.specs.Content.{Content, opening_of, content}
 use Rattle.ua_channel.specs.Content.Content.{Greets, Opens, Sends, Closes}
 use Rattle.ua_channel.specs.Received.{Received, nothing_received, or_before, after}
-use Rattle.ua_channel.specs.ServerParts.{AgreesTo, JudgesHello, HasGreeted, JudgesFirst, Stays, Judges, JudgesClose}
+use Rattle.ua_channel.specs.inside.ServerParts.{AgreesTo, JudgesHello, JudgesFirst, Judges, JudgesClose}
+use Rattle.ua_channel.specs.ServerStands.{HasGreeted, Stays, InServerPhase, limits_of, channel_of, bound_behind, bound_after, Holds}
+use Rattle.ua_channel.specs.inside.ServerFrames.{phase_gate, GoesOn, JudgesFrame}
 use Rattle.ua_channel.specs.ServerRules.{opening_gate}
-use Rattle.ua_channel.specs.ServerStands.{InPhase, phase_gate, limits_of, channel_of, bound_behind, bound_after, Holds, GoesOn, JudgesFrame}
 use Rattle.ua_channel.specs.ServerTold.{Told as told, server_tells}
 use Rattle.ua_channel.proofs.Carried.{content_hel, content_opn, content_msg, content_clo}
 
@@ -47,8 +48,8 @@ opn_only size Opn h = refl
 opn_only size Clo h = absurd cc
 
 -- what is known in the phase that a channel was found in
-pub was : (x : ServerChannel) (before : Received) (p : Phase) → p ≡ x.phase → Holds x before → InPhase (limits_of x) p before
-was x before p is h = subst (λ (q : Phase). InPhase (limits_of x) q before) (sym is) h.phase_is
+pub was : (x : ServerChannel) (before : Received) (p : Phase) → p ≡ x.phase → Holds x before → InServerPhase (limits_of x) p before
+was x before p is h = subst (λ (q : Phase). InServerPhase (limits_of x) q before) (sym is) h.phase_is
 
 pub placed : (x : ServerChannel) (p : Phase) (k : Kind) → p ≡ x.phase → IsTrue (lets_in (phase_gate x.phase) k) → IsTrue (lets_in (phase_gate p) k)
 placed x p k is h = subst (λ (q : Phase). IsTrue (lets_in (phase_gate q) k)) (sym is) h

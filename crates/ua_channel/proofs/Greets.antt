@@ -12,7 +12,7 @@ use Rattle.ua_frame.specs.Hello.{hello_in}
 use Rattle.ua_channel.specs.Agreement.{Agreement}
 use Rattle.ua_channel.specs.Content.Content.{Greets}
 use Rattle.ua_channel.specs.Received.{Received}
-use Rattle.ua_channel.specs.ServerParts.{AgreesTo}
+use Rattle.ua_channel.specs.inside.ServerParts.{AgreesTo}
 use Rattle.ua_channel.specs.ServerRefusals.{server_reasons}
 
 -- ---- what is agreed to

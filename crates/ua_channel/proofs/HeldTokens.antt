@@ -4,7 +4,7 @@ use Rattle.std.specs.Prelude.{if◌then◌else◌}
 use Rattle.std.proofs.lemmas.Bool.{cases_Bool, eqb-true}
 use Rattle.ua_channel.specs.Asks.{is_in}
 use Rattle.ua_channel.specs.ClientTokens.{from_last, held_by}
-use Rattle.ua_channel.specs.ClientParts.{drops_first}
+use Rattle.ua_channel.specs.inside.ClientParts.{drops_first}
 use Rattle.ua_channel.specs.Received.{latest_behind, latest}
 
 -- ---- dropping the first

@@ -10,19 +10,19 @@ use Rattle.ua_channel.specs.declared.server.Phase.{Phase}
 use Rattle.ua_channel.specs.declared.server.Phase.TheVariants.{Waiting, Greeted, Open, Done}
 use Rattle.ua_channel.specs.declared.server.ServerChannel.{ServerChannel}
 use Rattle.ua_channel.specs.Received.{Received, received}
-use Rattle.ua_channel.specs.ServerRules.{receive_size, opening_gate, running_gate, gate_behind}
-use Rattle.ua_channel.specs.ServerStands.{limits_of, InPhase, bound_after, held_after, Stands}
+use Rattle.ua_channel.specs.ServerRules.{receive_size, opening_gate, running_gate, server_gate_behind}
+use Rattle.ua_channel.specs.ServerStands.{limits_of, InServerPhase, bound_after, held_after, Stands}
 use Rattle.ua_channel.specs.ServerTold.{issued}
 
 largest_by : (b : Bool) (size : ℕ) → (if b then opening_gate size else running_gate size).largest ≡ size
 largest_by true size = refl
 largest_by false size = refl
 
-largest_behind : (limits : Limits) (hello : Option Hello) (count : ℕ) → (gate_behind limits hello count).largest ≡ receive_size limits hello
+largest_behind : (limits : Limits) (hello : Option Hello) (count : ℕ) → (server_gate_behind limits hello count).largest ≡ receive_size limits hello
 largest_behind limits None count = refl
 largest_behind limits (Some h) count = largest_by (count == 0) (receive_size limits (Some h))
 
-sizes : (limits : Limits) (p : Phase) (before : Received) → InPhase limits p before → 8192 ≤ receive_size limits before.hello
+sizes : (limits : Limits) (p : Phase) (before : Received) → InServerPhase limits p before → 8192 ≤ receive_size limits before.hello
 sizes limits Waiting before h = subst (λ (b : Received). 8192 ≤ receive_size limits b.hello) (sym h) (omega arith)
 sizes limits (Greeted a) before h = subst (λ (b : Received). 8192 ≤ receive_size limits b.hello) (sym h.before_is) h.large
 sizes limits (Open r) before h = subst (λ (o : Option Hello). 8192 ≤ receive_size limits o) (sym h.hello_is) h.large

@@ -40,7 +40,6 @@ pub mod ClientTakes
 pub mod ClientReading
 pub mod Following
 pub mod ClientSending
-pub mod AllSent
 pub mod InStep
 mod PairedCalls
 pub mod AgreedFirst

@@ -6,7 +6,7 @@ use Rattle.ua_chunk.specs.declared.delivered.Delivered.TheVariants.{Whole, Abort
 use Rattle.ua_chunk.specs.Gathered.{bodies, gathered}
 use Rattle.ua_chunk.specs.View.{HasParts}
 use Rattle.ua_channel.specs.Content.Content.{Sends}
-use Rattle.ua_channel.specs.MessageParts.{MayEndIn, parts_in}
+use Rattle.ua_channel.specs.inside.Parts.{MayEndIn, parts_in}
 
 delivered_in : (before : List Chunk) (c : Chunk) (d : Option Delivered) → HasParts d (bodies (gathered before c)) → MayEndIn before (Sends c) (parts_in d)
 delivered_in before c None h = tt

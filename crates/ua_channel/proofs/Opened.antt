@@ -27,26 +27,26 @@ use Rattle.ua_channel.proofs.Replies.{asks_by}
 none_issued : (os : List Opening) (issued : ℕ) → length os ≡ issued → 0 < issued → os ≡ [] → ⊥
 none_issued os issued count some none = grind (ap (λ (xs : List Opening). length xs) none, count, some, arith)
 
-in_phase : (limits : Limits) (p : Phase) (before : Received) → server.InPhase limits p before → server.HasNoToken p ↔ (before.openings ≡ [])
+in_phase : (limits : Limits) (p : Phase) (before : Received) → server.InServerPhase limits p before → server.HasNoToken p ↔ (before.openings ≡ [])
 in_phase limits Waiting before h = (λ t. ap (λ (b : Received). b.openings) h, λ e. tt)
 in_phase limits (Greeted a) before h = (λ t. ap (λ (b : Received). b.openings) h.before_is, λ e. tt)
 in_phase limits (Open r) before h = (λ t. absurd t, λ e. none_issued before.openings r.issued h.issued_is h.some e)
 in_phase limits Done before h = absurd h
 
-pub server_open : (x : ServerChannel) (octets : List ℕ) (frames : List Frame) (rest : List ℕ) → server.Stands x octets frames rest → server.IsNotOpen x ↔ ((received frames).openings ≡ [])
+pub server_open : (x : ServerChannel) (octets : List ℕ) (frames : List Frame) (rest : List ℕ) → server.Stands x octets frames rest → server.IsWithoutToken x ↔ ((received frames).openings ≡ [])
 server_open x octets frames rest s = in_phase (server.limits_of x) x.phase (received frames) s.holds.phase_is
 
-pub server_done : (x : ServerChannel) → server.IsDone x → server.IsNotOpen x
+pub server_done : (x : ServerChannel) → server.IsDone x → server.IsWithoutToken x
 server_done x d = subst server.HasNoToken (sym d.phase) tt
 
 -- where nothing was received but a Hello, no token was used
-none_used : (limits : Limits) (p : Phase) (before : Received) (token : ℕ) → server.InPhase limits p before → server.HasNoToken p → before.used ≡ Some token → ⊥
+none_used : (limits : Limits) (p : Phase) (before : Received) (token : ℕ) → server.InServerPhase limits p before → server.HasNoToken p → before.used ≡ Some token → ⊥
 none_used limits Waiting before token h none used = let e = ap (λ (b : Received). b.used) h in absurd cc
 none_used limits (Greeted a) before token h none used = let e = ap (λ (b : Received). b.used) h.before_is in absurd cc
 none_used limits (Open r) before token h none used = none
 none_used limits Done before token h none used = h
 
-pub server_asked : (x : ServerChannel) (octets : List ℕ) (told : List Told) (id token : ℕ) (message : List ℕ) → server.GoesTelling x octets told (Asked id token message) → server.IsNotOpen x → ⊥
+pub server_asked : (x : ServerChannel) (octets : List ℕ) (told : List Told) (id token : ℕ) (message : List ℕ) → server.GoesTelling x octets told (Asked id token message) → server.IsWithoutToken x → ⊥
 server_asked x octets told id token message g none =
     let chunk = asks_by (server.limits_of x) (received g.frames) (content g.frame) id token message g.tells in
     let now : received (g.frames ++ g.frame ∷ []) ≡ after (received g.frames) (Sends chunk.0) = received-push g.frames g.frame ∙ ap (after (received g.frames)) chunk.1 in

@@ -20,8 +20,8 @@ use Rattle.ua_channel.specs.declared.server_opening.Asked.{Asked}
 use Rattle.ua_channel.specs.Content.{Opening, opening_numbered, opening_secured, opening_of}
 use Rattle.ua_channel.specs.Content.Content.{Opens}
 use Rattle.ua_channel.specs.Received.{Received}
-use Rattle.ua_channel.specs.StepFaults.{of_open_fault}
-use Rattle.ua_channel.specs.ServerParts.{IsAskedIn, ReadsAsked, asked_reasons, OpensSo, JudgesOpening}
+use Rattle.ua_channel.specs.inside.StepFaults.{of_open_fault}
+use Rattle.ua_channel.specs.inside.ServerParts.{IsAskedIn, ReadsAsked, asked_reasons, OpensSo, JudgesOpening}
 use Rattle.ua_channel.specs.ServerRefusals.{type_wanted, server_reasons}
 use Rattle.ua_channel.specs.ServerTold.{Told as told, request_of, issued, server_tells}
 

@@ -14,9 +14,10 @@ use Rattle.ua_channel.specs.Agreement.{Agreement}
 use Rattle.ua_channel.specs.Content.{Content}
 use Rattle.ua_channel.specs.Content.Content.{Greets, Acks, Fails, Opens, Sends, Closes, Nothing}
 use Rattle.ua_channel.specs.Received.{Received, after}
-use Rattle.ua_channel.specs.ServerRules.{opening_gate, running_gate, gate_greeted, gate_behind, server_gate}
-use Rattle.ua_channel.specs.ServerStands.{InPhase, phase_gate}
-use Rattle.ua_channel.specs.ServerTold.{Told, request_of, opened_by, told_item, issued, server_tells}
+use Rattle.ua_channel.specs.ServerRules.{opening_gate, running_gate, gate_greeted, server_gate_behind, server_gate}
+use Rattle.ua_channel.specs.ServerStands.{InServerPhase}
+use Rattle.ua_channel.specs.inside.ServerFrames.{phase_gate}
+use Rattle.ua_channel.specs.ServerTold.{Told, request_of, opened_by, told_under, issued, server_tells}
 use Rattle.ua_channel.specs.ServerTold.Told.{Agreed, Opened, Closed}
 
 -- ---- gates
@@ -25,14 +26,14 @@ pub greeted_by : (size count : ℕ) → 0 < count → gate_greeted size count �
 greeted_by size count some = ap (λ (b : Bool). if b then opening_gate size else running_gate size) (ne_eqb count 0 (λ e. omega (arith, e, some)))
 
 -- the gate of a phase is the one for what comes next
-pub gate_is : (limits : Limits) (p : Phase) (before : Received) → InPhase limits p before → phase_gate p ≡ server_gate limits before
+pub gate_is : (limits : Limits) (p : Phase) (before : Received) → InServerPhase limits p before → phase_gate p ≡ server_gate limits before
 gate_is limits Waiting before h = sym (ap (server_gate limits) h)
 gate_is limits (Greeted a) before h =
     ap (λ (x : Agreement). opening_gate x.ack.receive_buffer_size) h.agreement_is ∙ sym (ap (server_gate limits) h.before_is)
 gate_is limits (Open r) before h =
     ap (λ (x : Agreement). running_gate x.ack.receive_buffer_size) h.agreement_is
     ∙ (sym (greeted_by _ (issued before) (subst (λ (n : ℕ). 0 < n) (sym h.issued_is) h.some))
-    ∙ sym (ap (λ (o : Option Hello). gate_behind limits o (issued before)) h.hello_is))
+    ∙ sym (ap (λ (o : Option Hello). server_gate_behind limits o (issued before)) h.hello_is))
 gate_is limits Done before h = absurd h
 
 -- ---- whether a frame was the last
@@ -69,16 +70,16 @@ opened_never token (Some numbers) (Some request) e = let x = one_told (Opened _ 
 opened_never token (Some numbers) None e = absurd cc
 opened_never token None request e = absurd cc
 
-item_never : (token : ℕ) (i : Item) → told_item token i ≡ Closed → ⊥
+item_never : (token : ℕ) (i : Item) → told_under token i ≡ Closed → ⊥
 item_never token (Whole id octets) e = cc
 item_never token (Aborted id code reason) e = cc
 
 head_is : (x y : Told) (xs ys : List Told) → x ∷ xs ≡ y ∷ ys → x ≡ y
 head_is x y xs ys e = cc
 
-items_never : (token : ℕ) (items : List Item) → map (told_item token) items ≡ Closed ∷ [] → ⊥
+items_never : (token : ℕ) (items : List Item) → map (told_under token) items ≡ Closed ∷ [] → ⊥
 items_never token [] e = absurd cc
-items_never token (i ∷ is) e = item_never token i (head_is (told_item token i) Closed (map (told_item token) is) [] e)
+items_never token (i ∷ is) e = item_never token i (head_is (told_under token i) Closed (map (told_under token) is) [] e)
 
 -- a close is the last
 pub closing : (limits : Limits) (before : Received) (c : Content) → server_tells limits before c ≡ Closed ∷ [] → (after before c).closed ≡ true

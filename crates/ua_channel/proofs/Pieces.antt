@@ -7,8 +7,9 @@ use Rattle.ua_channel.specs.declared.server.ServerChannel.{ServerChannel}
 use Rattle.ua_channel.specs.declared.server_event.Event.{Event}
 use Rattle.ua_channel.specs.declared.step_fault.StepFault.{StepFault}
 use Rattle.ua_channel.specs.declared.step_fault.StepFault.TheVariants as step
-use Rattle.ua_channel.specs.ServerAnswers.{Tells, Steps, Progress, Nexts, Took, ComesInParts}
-use Rattle.ua_channel.specs.ServerEvents.{parts_of}
+use Rattle.ua_channel.specs.ServerAnswers.{Progress, AsksInParts}
+use Rattle.ua_channel.specs.inside.ServerSteps.{StandsWith, Steps, Nexts, Took}
+use Rattle.ua_channel.specs.inside.ServerEvents.{parts_of}
 use Rattle.ua_channel.specs.ServerStands.{limits_of, channel_of, Goes, RefusedAt}
 use Rattle.ua_channel.specs.ServerTold.{Told}
 
@@ -54,8 +55,8 @@ module _ (old now next : ServerChannel) (piece : List ℕ) (taken n : ℕ) (answ
         numbers = numbers ∙ t.numbers;
       }
 
-  tells_there : (e : Event) (a b : List ℕ) (told : List Told) → a ≡ b → Tells e next a told → Tells e next b told
-  tells_there e a b told is h = subst (λ (z : List ℕ). Tells e next z told) is h
+  tells_there : (e : Event) (a b : List ℕ) (told : List Told) → a ≡ b → StandsWith e next a told → StandsWith e next b told
+  tells_there e a b told is h = subst (λ (z : List ℕ). StandsWith e next z told) is h
 
   -- a step that tells something
   pub nexts_told : (e : Event) → answer ≡ Ok (Some e) → (octets : List ℕ) (told : List Told) → Goes old octets told → Nexts piece (taken + n) (Ok (Some e)) next octets told
@@ -65,11 +66,11 @@ module _ (old now next : ServerChannel) (piece : List ℕ) (taken n : ℕ) (answ
       (omega (arith, some), omega (arith, p.0, rest_length, room), tells_there e _ _ told (joined octets) (subst (λ (a : Result (Option Event) StepFault). Steps (take (length piece - taken) (drop taken piece)) n a next (octets ++ take taken piece) told) is (step_from octets told g)))
 
   -- a step that hands a message out
-  pub parts_told : ((octets : List ℕ) (told : List Told) → Goes now octets told → IfOk answer (λ e. ComesInParts (parts_of e) next (octets ++ take n (take (length piece - taken) (drop taken piece)))))
-      → (e : Event) → answer ≡ Ok (Some e) → (octets : List ℕ) (told : List Told) → Goes old octets told → ComesInParts (parts_of (Some e)) next (octets ++ take (taken + n) piece)
+  pub parts_told : ((octets : List ℕ) (told : List Told) → Goes now octets told → IfOk answer (λ e. AsksInParts (parts_of e) next (octets ++ take n (take (length piece - taken) (drop taken piece)))))
+      → (e : Event) → answer ≡ Ok (Some e) → (octets : List ℕ) (told : List Told) → Goes old octets told → AsksInParts (parts_of (Some e)) next (octets ++ take (taken + n) piece)
   parts_told parts e is octets told g =
-      subst (λ (z : List ℕ). ComesInParts (parts_of (Some e)) next z) (joined octets)
-      (subst (λ (a : Result (Option Event) StepFault). IfOk a (λ o. ComesInParts (parts_of o) next ((octets ++ take taken piece) ++ take n (take (length piece - taken) (drop taken piece))))) is (parts (octets ++ take taken piece) told (t.goes octets told g)))
+      subst (λ (z : List ℕ). AsksInParts (parts_of (Some e)) next z) (joined octets)
+      (subst (λ (a : Result (Option Event) StepFault). IfOk a (λ o. AsksInParts (parts_of o) next ((octets ++ take taken piece) ++ take n (take (length piece - taken) (drop taken piece))))) is (parts (octets ++ take taken piece) told (t.goes octets told g)))
 
   failed : (fault : StepFault) → n ≤ length (take (length piece - taken) (drop taken piece)) → (octets : List ℕ) (told : List Told) → Steps (take (length piece - taken) (drop taken piece)) n (Err fault) next (octets ++ take taken piece) told → Nexts piece (taken + n) (Err fault) next octets told
   failed (step.Refused code) within octets told h = (omega (arith, within, rest_length, room), subst (λ (z : List ℕ). RefusedAt next z told code.code) (joined octets) h)

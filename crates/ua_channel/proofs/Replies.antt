@@ -22,7 +22,7 @@ use Rattle.ua_channel.specs.ServerRefusals.{last_used}
 use Rattle.ua_channel.specs.ServerRules.{server_rules}
 use Rattle.ua_channel.specs.ServerSends.{RepliesGo}
 use Rattle.ua_channel.specs.ServerStands.{limits_of, channel_of, Stands, GoesTelling}
-use Rattle.ua_channel.specs.ServerTold.{Told, request_of, opened_by, told_item, issued, server_tells}
+use Rattle.ua_channel.specs.ServerTold.{Told, request_of, opened_by, told_under, issued, server_tells}
 use Rattle.ua_channel.specs.ServerTold.Told.{Agreed, Opened, Asked, GaveUp, Closed}
 use Rattle.ua_channel.proofs.OneFrameMore.{received-push, received-nil}
 use Rattle.ua_channel.proofs.ServerReadings.{stands_once}
@@ -38,7 +38,7 @@ opened_none token (Some numbers) (Some request) = refl
 opened_none token (Some numbers) None = refl
 opened_none token None request = refl
 
-items_none : (token : ℕ) (items : List Item) → flat_map agreements_in (map (told_item token) items) ≡ []
+items_none : (token : ℕ) (items : List Item) → flat_map agreements_in (map (told_under token) items) ≡ []
 items_none token [] = refl
 items_none token (Whole id octets ∷ is) = items_none token is
 items_none token (Aborted id code reason ∷ is) = items_none token is
@@ -84,11 +84,11 @@ token_of (Asked id token octets) = token
 token_of (GaveUp id) = 0
 token_of Closed = 0
 
-item_token : (token : ℕ) (items : List Item) (id used : ℕ) (octets : List ℕ) → map (told_item token) items ≡ Asked id used octets ∷ [] → token ≡ used
+item_token : (token : ℕ) (items : List Item) (id used : ℕ) (octets : List ℕ) → map (told_under token) items ≡ Asked id used octets ∷ [] → token ≡ used
 unfolding token_of
 item_token token [] id used octets e = absurd cc
-item_token token (Whole i o ∷ is) id used octets e = ap token_of (told_is (Asked i token o) (Asked id used octets) (map (told_item token) is) e)
-item_token token (Aborted i code reason ∷ is) id used octets e = let x = told_is (GaveUp i) (Asked id used octets) (map (told_item token) is) e in absurd cc
+item_token token (Whole i o ∷ is) id used octets e = ap token_of (told_is (Asked i token o) (Asked id used octets) (map (told_under token) is) e)
+item_token token (Aborted i code reason ∷ is) id used octets e = let x = told_is (GaveUp i) (Asked id used octets) (map (told_under token) is) e in absurd cc
 
 opened_other : (token : ℕ) (numbers : Option (ℕ × ℕ)) (request : Option OpenRequest) (id used : ℕ) (octets : List ℕ) → opened_by token numbers request ≡ Asked id used octets ∷ [] → ⊥
 opened_other token (Some numbers) (Some request) id used octets e = let x = told_is (Opened _ _ _ _) (Asked id used octets) [] e in cc

@@ -11,12 +11,13 @@ use Rattle.ua_channel.specs.Agreement.{Agreement, agreement_of, lane_of}
 use Rattle.ua_channel.specs.Received.{Received, received}
 use Rattle.ua_channel.specs.ServerRefusals.{last_used}
 use Rattle.ua_channel.specs.ServerSends.{RepliesGo}
-use Rattle.ua_channel.specs.ServerStands.{limits_of, channel_of, InPhase, LaneIs, Stands}
+use Rattle.ua_channel.specs.ServerStands.{limits_of, channel_of, InServerPhase, Stands}
+use Rattle.ua_channel.specs.inside.ServerFrames.{LaneIs}
 
 one_hello : (a b : Hello) → ◌≡◌ {A = Option Hello} (Some a) (Some b) → a ≡ b
 one_hello a b e = cc
 
-in_phase : (limits : Limits) (channel : ℕ) (p : Phase) (before : Received) (mine lane : Lane) → InPhase limits p before → LaneIs channel p mine → RepliesGo limits channel before lane → mine ≡ lane
+in_phase : (limits : Limits) (channel : ℕ) (p : Phase) (before : Received) (mine lane : Lane) → InServerPhase limits p before → LaneIs channel p mine → RepliesGo limits channel before lane → mine ≡ lane
 in_phase limits channel Waiting before mine lane s is goes = absurd is
 in_phase limits channel (Greeted a) before mine lane s is goes = absurd is
 in_phase limits channel (Open r) before mine lane s is (h, hello_is, lane_is) =

@@ -26,12 +26,13 @@ use Rattle.ua_channel.specs.Agreement.{Agreement}
 use Rattle.ua_channel.specs.Content.{Content, Opening, opening_of}
 use Rattle.ua_channel.specs.Content.Content.{Opens, Sends, Closes}
 use Rattle.ua_channel.specs.Received.{Received, number_or, after}
-use Rattle.ua_channel.specs.MessageParts.{MayEndIn, parts_in}
-use Rattle.ua_channel.specs.ServerEvents.{told_of, told_list, parts_of}
-use Rattle.ua_channel.specs.StepFaults.{fault_code, of_chunk_fault}
-use Rattle.ua_channel.specs.ServerParts.{HasGreeted, JudgesFirst, JudgesOpening, OpensSo, Judges, Stays, Takes, ids_reasons}
+use Rattle.ua_channel.specs.inside.Parts.{MayEndIn, parts_in}
+use Rattle.ua_channel.specs.inside.ServerEvents.{told_of, told_list, parts_of}
+use Rattle.ua_channel.specs.inside.StepFaults.{fault_code, of_chunk_fault}
+use Rattle.ua_channel.specs.inside.ServerParts.{JudgesFirst, JudgesOpening, OpensSo, Judges, TakesSo, ids_reasons}
+use Rattle.ua_channel.specs.ServerStands.{HasGreeted, Stays}
 use Rattle.ua_channel.specs.ServerRefusals.{last_used, or_first, server_reasons}
-use Rattle.ua_channel.specs.ServerTold.{Told, Told as told, told_item, issued}
+use Rattle.ua_channel.specs.ServerTold.{Told, Told as told, told_under, issued}
 use Rattle.ua_channel.proofs.MessageParts.{ends_in}
 
 -- the code of a fault of the assembler
@@ -87,10 +88,10 @@ module _ (limits : Limits) (r : Running) (before : Received) (channel : ℕ) (c 
 
   -- a chunk that is taken
   pub takes_message : (d : Option Delivered) (e : Option Event) (new : Assembler) → first_reason (ids_reasons c channel r.used r.issued) ≡ None → refusal (octet_limit r.assembler) (chunk_limit r.assembler) (last_number r.assembler) before.messages c ≡ None
-      → given before.messages c ≡ items_of d → HasParts d (bodies (gathered before.messages c)) → told_list e ≡ map (told_item c.token) (items_of d) → parts_of e ≡ parts_in d → assembling.Stands new (before.messages ++ c ∷ []) → last_number new ≡ Some c.sequence → SameLimits r.assembler new
-      → Takes limits channel before (Sends c) e × Stays limits (record r { assembler = new; used = c.token }) (after before (Sends c))
+      → given before.messages c ≡ items_of d → HasParts d (bodies (gathered before.messages c)) → told_list e ≡ map (told_under c.token) (items_of d) → parts_of e ≡ parts_in d → assembling.Stands new (before.messages ++ c ∷ []) → last_number new ≡ Some c.sequence → SameLimits r.assembler new
+      → TakesSo limits channel before (Sends c) e × Stays limits (record r { assembler = new; used = c.token }) (after before (Sends c))
   takes_message d e new ids good items parts event same_parts stands last same = (
-    record { accepted = sends_judged ids ∙ ap (option_map refused_code) good; tells = ap (map (told_item c.token)) items ∙ sym event; parts = ends_in before.messages c d (parts_of e) same_parts parts },
+    record { accepted = sends_judged ids ∙ ap (option_map refused_code) good; tells = ap (map (told_under c.token)) items ∙ sym event; parts = ends_in before.messages c d (parts_of e) same_parts parts },
     record {
       hello = stays.hello;
       hello_is = stays.hello_is;
@@ -171,7 +172,7 @@ module _ (limits : Limits) (r : Running) (before : Received) (channel : ℕ) (bo
   -- a token is issued
   pub takes_renewal : (e : Option Event) (new : Assembler) → IsTrue (may_follow (last_number r.assembler) o.sequence) → eqb r.issued 4294967295 ≡ false → told_list e ≡ told.Opened o.request o.handle (r.issued + 1) o.lifetime ∷ []
       → assembling.Stands new before.messages → last_number new ≡ Some o.sequence → SameLimits r.assembler new
-      → Takes limits channel before (Opens (opening_of body)) e × Stays limits (record r { assembler = new; issued = r.issued + 1 }) (after before (Opens (opening_of body)))
+      → TakesSo limits channel before (Opens (opening_of body)) e × Stays limits (record r { assembler = new; issued = r.issued + 1 }) (after before (Opens (opening_of body)))
   takes_renewal e new follows left event stands last same = (
     record {
       accepted = remain_numbered follows ∙ ap (λ (b : Bool). first_reason ((0x8081_0000, b) ∷ [])) left;
@@ -197,7 +198,7 @@ module _ (limits : Limits) (r : Running) (before : Received) (channel : ℕ) (bo
 -- the first OPN
 pub takes_first : (limits : Limits) (channel : ℕ) (before : Received) (a : Agreement) (body : List ℕ) (o : Opened) (e : Event) (new : Assembler) → HasGreeted limits a before → OpensSo channel 0 body o → told_of e ≡ told.Opened o.request o.handle 1 o.lifetime
     → assembling.Stands new [] → last_number new ≡ Some o.sequence → octet_limit new ≡ limits.max_message_size → chunk_limit new ≡ limits.max_chunk_count
-    → Takes limits channel before (Opens (opening_of body)) (Some e) × Stays limits (record { agreement = a; assembler = new; issued = 1; used = 1 }) (after before (Opens (opening_of body)))
+    → TakesSo limits channel before (Opens (opening_of body)) (Some e) × Stays limits (record { agreement = a; assembler = new; issued = 1; used = 1 }) (after before (Opens (opening_of body)))
 takes_first limits channel before a body o e new g so event stands last octets chunks =
     let none : before.openings ≡ [] = ap (λ (b : Received). b.openings) g.before_is in
     let count : issued before ≡ 0 = ap length none in (

@@ -32,9 +32,9 @@ use Rattle.ua_channel.specs.Content.{Content, Opening, content, content_by, clos
 use Rattle.ua_channel.specs.Content.Content.{Greets, Acks, Fails, Opens, Sends, Closes, Nothing}
 use Rattle.ua_channel.specs.Conversation.{AreOrdered, Continues, HasEnded, IsConversation, IsFramed, IsGoodChunk, IsGoodRequest, IsOrderGreeted, IsOrderOpen, IsServerOrder, MayCarry, ServerConversation}
 use Rattle.ua_channel.specs.Received.{Received, after, messages, number_listed, numbers, numbers_in, or_before, received}
-use Rattle.ua_channel.specs.ServerParts.{ids_reasons}
+use Rattle.ua_channel.specs.inside.ServerParts.{ids_reasons}
 use Rattle.ua_channel.specs.ServerRefusals.{is_taken, last_used, of_header, of_request, server_reasons, type_wanted}
-use Rattle.ua_channel.specs.ServerRules.{gate_behind, opening_gate, receive_size, running_gate, server_gate, server_rules}
+use Rattle.ua_channel.specs.ServerRules.{server_gate_behind, opening_gate, receive_size, running_gate, server_gate, server_rules}
 use Rattle.ua_channel.specs.ServerTold.{issued, request_of}
 use Rattle.ua_channel.proofs.Conversing.{MessageFits, follow_numbers, messages_fit, messages_join, messages_split, no_more, none_first, none_named, none_then, numbers_follow, ordered_join, ordered_split, some_there}
 use Rattle.ua_channel.proofs.Frames.{hel_only, opn_only}
@@ -294,7 +294,7 @@ module _ (limits : Limits) (channel : ℕ) (b : Received) (f : Frame) (cs : List
   first_next n Clo r e may next = absurd cc
 
   -- a frame that is let in comes in order
-  order_here : (o : Option Hello) (n : ℕ) (k : Kind) → b.hello ≡ o → issued b ≡ n → IsPlaced b → IsTrue (lets_in (gate_behind limits o n) k) → MayCarry channel b (content_by k f) → Order (after b (content_by k f)) cs → order_by false o n (content_by k f ∷ cs)
+  order_here : (o : Option Hello) (n : ℕ) (k : Kind) → b.hello ≡ o → issued b ≡ n → IsPlaced b → IsTrue (lets_in (server_gate_behind limits o n) k) → MayCarry channel b (content_by k f) → Order (after b (content_by k f)) cs → order_by false o n (content_by k f ∷ cs)
   unfolding IsPlaced
   order_here None n k q r placed kind may next = first_next n k (placed q) (hel_only k kind) may next
   order_here (Some h) zero k q r placed kind may next = greeted_next h k q r (opn_only (receive_size limits (Some h)) k kind) next
@@ -334,10 +334,10 @@ module _ (limits : Limits) (channel : ℕ) (b : Received) (f : Frame) (cs : List
   order_then (Some h) (suc n) Opn q r placed may order = from_order (after b (Opens (opening_of f.body))) cs false (Some h) (suc (suc n)) goes_on q (one_issued b (opening_of f.body) (suc n) r) order
   order_then (Some h) (suc n) Clo q r placed may order = clo_open h n (chunk_in f) q r order
 
-  let_open : (h : Hello) (n : ℕ) (k : Kind) → IsTrue (lets_in (running_gate (receive_size limits (Some h))) k) → IsTrue (lets_in (gate_behind limits (Some h) (suc n)) k)
+  let_open : (h : Hello) (n : ℕ) (k : Kind) → IsTrue (lets_in (running_gate (receive_size limits (Some h))) k) → IsTrue (lets_in (server_gate_behind limits (Some h) (suc n)) k)
   let_open h n k kind = subst (λ (g : Gate). IsTrue (lets_in g k)) (sym (greeted_by (receive_size limits (Some h)) (suc n) (omega arith))) kind
 
-  kind_then : (o : Option Hello) (n : ℕ) (k : Kind) → order_by false o n (content_by k f ∷ cs) → IsTrue (lets_in (gate_behind limits o n) k)
+  kind_then : (o : Option Hello) (n : ℕ) (k : Kind) → order_by false o n (content_by k f ∷ cs) → IsTrue (lets_in (server_gate_behind limits o n) k)
   unfolding order_by
   kind_then None n Hel order = refl
   kind_then None n kind.Ack order = absurd order
@@ -369,7 +369,7 @@ record From (limits : Limits) (channel : ℕ) (start fs : List Frame) : Type 0 w
   ordered : AreOrdered (received start).last (numbers fs)
   messages_fit : TakesMessages limits.max_message_size limits.max_chunk_count (received start).messages (messages fs)
 
-gate_largest : (limits : Limits) (o : Option Hello) (n : ℕ) → (gate_behind limits o n).largest ≡ receive_size limits o
+gate_largest : (limits : Limits) (o : Option Hello) (n : ℕ) → (server_gate_behind limits o n).largest ≡ receive_size limits o
 gate_largest limits None n = refl
 gate_largest limits (Some h) n = greeted_largest (receive_size limits (Some h)) (eqb n 0)
   where
@@ -394,7 +394,7 @@ close_placed : (b : Received) (found : Option Chunk) → (b.hello ≡ None → i
 close_placed b None placed none = placed none
 close_placed b (Some c) placed none = placed none
 
-placed_more : (limits : Limits) (b : Received) (f : Frame) (k : Kind) (o : Option Hello) → b.hello ≡ o → IsPlaced b → IsTrue (lets_in (gate_behind limits o (issued b)) k) → IsPlaced (after b (content_by k f))
+placed_more : (limits : Limits) (b : Received) (f : Frame) (k : Kind) (o : Option Hello) → b.hello ≡ o → IsPlaced b → IsTrue (lets_in (server_gate_behind limits o (issued b)) k) → IsPlaced (after b (content_by k f))
 unfolding IsPlaced
 placed_more limits b f Hel o q placed kind none = placed (hello_stays b.hello (hello_in f.body) none)
 placed_more limits b f kind.Ack o q placed kind none = placed none

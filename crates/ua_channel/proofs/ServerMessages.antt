@@ -16,13 +16,13 @@ use Rattle.ua_channel.specs.Content.Content.{Greets, Acks, Fails, Opens, Sends, 
 use Rattle.ua_channel.specs.Received.{Received, after, received}
 use Rattle.ua_channel.specs.ServerMessages.{message_in, message_of, messages_in}
 use Rattle.ua_channel.specs.ServerRules.{server_rules}
-use Rattle.ua_channel.specs.ServerTold.{Told, issued, opened_by, request_of, server_tells, told_item}
+use Rattle.ua_channel.specs.ServerTold.{Told, issued, opened_by, request_of, server_tells, told_under}
 use Rattle.ua_channel.proofs.OneFrameMore.{received-push, received-nil}
 
 abbrev Message : Type 0
 Message = ℕ × Option (List ℕ)
 
-items_in : (token : ℕ) (items : List Item) → messages_in (map (told_item token) items) ≡ map message_of items
+items_in : (token : ℕ) (items : List Item) → messages_in (map (told_under token) items) ≡ map message_of items
 items_in token [] = refl
 items_in token (Whole id octets ∷ is) = ap (λ (ms : List Message). (id, Some octets) ∷ ms) (items_in token is)
 items_in token (Aborted id code reason ∷ is) = ap (λ (ms : List Message). (id, None) ∷ ms) (items_in token is)

@@ -56,8 +56,8 @@ use Rattle.ua_channel.specs.Agreement.{agreement_of}
 use Rattle.ua_channel.specs.Received.{Received, after, nothing_received, number_or, received}
 use Rattle.ua_channel.specs.ServerReads.{AtServer, IsBodyFor, IsLaneTo, IsTakenAt, ServerCloses, ServerReads, with_message, with_token}
 use Rattle.ua_channel.specs.ServerRefusals.{is_taken, last_used, or_first, server_reasons, type_wanted}
-use Rattle.ua_channel.specs.ServerRules.{gate_behind, opening_gate, receive_size, running_gate, server_gate, server_rules}
-use Rattle.ua_channel.specs.ServerTold.{Told, Told as event, issued, server_tells, told_item}
+use Rattle.ua_channel.specs.ServerRules.{server_gate_behind, opening_gate, receive_size, running_gate, server_gate, server_rules}
+use Rattle.ua_channel.specs.ServerTold.{Told, Told as event, issued, server_tells, told_under}
 use Rattle.ua_channel.proofs.Askings.{all-weaken}
 use Rattle.ua_channel.proofs.Carried.{content_clo, content_hel, content_opn}
 use Rattle.ua_channel.proofs.OneFrameMore.{received-nil, received-push}
@@ -68,7 +68,7 @@ use Rattle.ua_channel.proofs.ReadOn.{events_on, no_events, run_last, run_on, run
 use Rattle.ua_channel.proofs.ServerTakes.{IsReady, IsSent, fits_chunks, told_chunks}
 use Rattle.ua_channel.proofs.WithChunks.{IsBehind, behind_pieces, cut_ordered, chunks_closed, chunks_hello, chunks_messages, chunks_openings, received_chunks, with_chunks}
 use Rattle.ua_channel.proofs.Written.{IsNumbered, IsOf, after_small, chunks_are, header_sizes, none_header, none_is, opening_body, opening_carried, opening_size}
-use Rattle.ua_channel.specs.ServerParts.{IsAskedIn, OpensSo, asked_reasons}
+use Rattle.ua_channel.specs.inside.ServerParts.{IsAskedIn, OpensSo, asked_reasons}
 use Rattle.ua_channel.specs.declared.server_opening.Asked.{Asked}
 use Rattle.ua_channel.specs.declared.server_opening.Opened.{Opened}
 
@@ -145,7 +145,7 @@ module _ (limits : Limits) (channel : ℕ) (octets : List ℕ) (told : List Told
   unfolding chunks
   tells =
       told_chunks limits channel (receive_size limits (Some at.hello)) lane.token chunks r.frames all_sent
-      ∙ ap (map (told_item lane.token)) (body_delivered lane body at.next id (received r.frames).messages to.some w.some r.none_open)
+      ∙ ap (map (told_under lane.token)) (body_delivered lane body at.next id (received r.frames).messages to.some w.some r.none_open)
 
   -- the chunks of a message are taken, and tell it
   pub reads_message : ServerReads limits channel (octets ++ chunks_octets (chunks_of lane body at.next id)) (told ++ event.Asked id lane.token body ∷ []) (with_message at lane body)
@@ -306,7 +306,7 @@ module _ (limits : Limits) (channel : ℕ) (octets : List ℕ) (told : List Told
 
     opn_in : LetsIn ((server_rules limits channel).gate r.frames) opn
     unfolding opn
-    opn_in = subst (λ (g : Gate). LetsIn g opn) (sym (ap (λ (o : Option Hello). gate_behind limits o (issued (received r.frames))) r.hello_is)) (lets_opn (eqb (issued (received r.frames)) 0) (receive_size limits (Some at.hello)) opn refl refl (omega (arith, opn_size, r.large)) (omega (arith, opn_size)))
+    opn_in = subst (λ (g : Gate). LetsIn g opn) (sym (ap (λ (o : Option Hello). server_gate_behind limits o (issued (received r.frames))) r.hello_is)) (lets_opn (eqb (issued (received r.frames)) 0) (receive_size limits (Some at.hello)) opn refl refl (omega (arith, opn_size, r.large)) (omega (arith, opn_size)))
 
     reads_opn : ServerReads limits channel (octets ++ frame_octets opn) (told ++ event.Opened id 0 (at.issued + 1) 3600000 ∷ []) (with_token at)
     unfolding opn opened
@@ -390,7 +390,7 @@ module _ (limits : Limits) (channel : ℕ) (octets : List ℕ) (told : List Told
   clo_now = received-push r.frames (close_frame channel token at.next id moment) ∙ ap (after (received r.frames)) clo_carried
 
   clo_in : LetsIn ((server_rules limits channel).gate r.frames) (close_frame channel token at.next id moment)
-  clo_in = subst (λ (g : Gate). LetsIn g (close_frame channel token at.next id moment)) (sym (ap (λ (o : Option Hello). gate_behind limits o (issued (received r.frames))) r.hello_is ∙ greeted_by (receive_size limits (Some at.hello)) (issued (received r.frames)) (omega (arith, r.issued_is, taken.issued, taken.not_before, r.some_used))))
+  clo_in = subst (λ (g : Gate). LetsIn g (close_frame channel token at.next id moment)) (sym (ap (λ (o : Option Hello). server_gate_behind limits o (issued (received r.frames))) r.hello_is ∙ greeted_by (receive_size limits (Some at.hello)) (issued (received r.frames)) (omega (arith, r.issued_is, taken.issued, taken.not_before, r.some_used))))
       (record { kind = refl; flag = refl; largest = omega (arith, clo_size, r.large); least = omega (arith, clo_size) })
 
   -- the CLO is taken, and is the last frame

@@ -23,10 +23,10 @@ use Rattle.ua_chunk.proofs.Numbers.{apart}
 use Rattle.ua_channel.specs.Content.{Content, content}
 use Rattle.ua_channel.specs.Content.Content.{Sends}
 use Rattle.ua_channel.specs.Received.{Received, after, received}
-use Rattle.ua_channel.specs.ServerParts.{ids_reasons}
+use Rattle.ua_channel.specs.inside.ServerParts.{ids_reasons}
 use Rattle.ua_channel.specs.ServerRefusals.{is_taken, last_used, server_reasons}
-use Rattle.ua_channel.specs.ServerRules.{gate_behind, receive_size, running_gate, server_gate, server_rules}
-use Rattle.ua_channel.specs.ServerTold.{Told, issued, server_tells, told_item}
+use Rattle.ua_channel.specs.ServerRules.{server_gate_behind, receive_size, running_gate, server_gate, server_rules}
+use Rattle.ua_channel.specs.ServerTold.{Told, issued, server_tells, told_under}
 use Rattle.ua_channel.proofs.Phases.{greeted_by}
 use Rattle.ua_channel.proofs.Runs.{refused_code, judged_sends}
 use Rattle.ua_channel.proofs.WithChunks.{one_more}
@@ -79,7 +79,7 @@ module _ (limits : Limits) (channel token : ℕ) (h : Hello) (base : List Chunk)
       ∙ (first_reason-map refused_code (reasons limits.max_message_size limits.max_chunk_count b.last b.messages c) ∙ ap (option_map refused_code) accepted))
 
   gate_is : (last : Option ℕ) (us : List Chunk) (b : Received) → IsReady h token last base us b → server_gate limits b ≡ running_gate (receive_size limits (Some h))
-  gate_is last us b r = ap (λ (o : Option Hello). gate_behind limits o (issued b)) r.hello_is ∙ greeted_by (receive_size limits (Some h)) (issued b) r.some
+  gate_is last us b r = ap (λ (o : Option Hello). server_gate_behind limits o (issued b)) r.hello_is ∙ greeted_by (receive_size limits (Some h)) (issued b) r.some
 
   let_in : (c : Chunk) → 24 + length c.body ≤ receive_size limits (Some h) → LetsIn (running_gate (receive_size limits (Some h))) (frame_of c)
   let_in c fits = record { kind = refl; flag = chunk_flag c; largest = omega (arith, fits, chunk_size c); least = omega (arith, chunk_size c) }
@@ -108,13 +108,13 @@ module _ (limits : Limits) (channel token : ℕ) (h : Hello) (base : List Chunk)
 
 -- what they tell
 pub told_chunks : (limits : Limits) (channel size token : ℕ) (cs : List Chunk) (fs : List Frame) → AllByRecursion (IsSent size channel token) cs
-    → each_from (server_rules limits channel).tells fs (map frame_of cs) ≡ map (told_item token) (delivered_behind (received fs).messages cs)
+    → each_from (server_rules limits channel).tells fs (map frame_of cs) ≡ map (told_under token) (delivered_behind (received fs).messages cs)
 told_chunks limits channel size token [] fs sent = refl
 told_chunks limits channel size token (c ∷ cs) fs sent =
-    let now : server_tells limits (received fs) (content (frame_of c)) ≡ map (told_item token) (given (received fs).messages c) =
-    ap (server_tells limits (received fs)) (chunk_carried c sent.0.numbers) ∙ ap (λ (k : ℕ). map (told_item k) (given (received fs).messages c)) sent.0.token_is in
+    let now : server_tells limits (received fs) (content (frame_of c)) ≡ map (told_under token) (given (received fs).messages c) =
+    ap (server_tells limits (received fs)) (chunk_carried c sent.0.numbers) ∙ ap (λ (k : ℕ). map (told_under k) (given (received fs).messages c)) sent.0.token_is in
     let later = told_chunks limits channel size token cs (fs ++ frame_of c ∷ []) sent.1 in
     let messages : (received (fs ++ frame_of c ∷ [])).messages ≡ (received fs).messages ++ c ∷ [] = ap (λ (b : Received). b.messages) (one_more fs c sent.0.numbers) in
     ap (λ (ts : List Told). ts ++ each_from (server_rules limits channel).tells (fs ++ frame_of c ∷ []) (map frame_of cs)) now
-    ∙ (ap (λ (ts : List Told). map (told_item token) (given (received fs).messages c) ++ ts) (later ∙ ap (λ (us : List Chunk). map (told_item token) (delivered_behind us cs)) messages)
-    ∙ sym (map_push (told_item token) (given (received fs).messages c) (delivered_behind ((received fs).messages ++ c ∷ []) cs)))
+    ∙ (ap (λ (ts : List Told). map (told_under token) (given (received fs).messages c) ++ ts) (later ∙ ap (λ (us : List Chunk). map (told_under token) (delivered_behind us cs)) messages)
+    ∙ sym (map_push (told_under token) (given (received fs).messages c) (delivered_behind ((received fs).messages ++ c ∷ []) cs)))

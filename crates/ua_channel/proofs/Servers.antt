@@ -25,13 +25,15 @@ use Rattle.ua_channel.specs.declared.step_fault.StepFault.TheVariants.{Refused, 
 use Rattle.ua_channel.specs.declared.step_fault.StepFault.TheVariants as step
 use Rattle.ua_channel.specs.Content.{content}
 use Rattle.ua_channel.specs.Received.{Received, received, after}
-use Rattle.ua_channel.specs.ServerAnswers.{Tells, Steps, ComesInParts}
-use Rattle.ua_channel.specs.ServerEvents.{told_of, parts_of}
-use Rattle.ua_channel.specs.StepFaults.{of_frame_fault}
-use Rattle.ua_channel.specs.ServerParts.{Takes as TakesIt}
+use Rattle.ua_channel.specs.ServerAnswers.{AsksInParts}
+use Rattle.ua_channel.specs.inside.ServerSteps.{StandsWith, Steps}
+use Rattle.ua_channel.specs.inside.ServerEvents.{told_of, parts_of}
+use Rattle.ua_channel.specs.inside.StepFaults.{of_frame_fault}
+use Rattle.ua_channel.specs.inside.ServerParts.{TakesSo as TakesIt}
 use Rattle.ua_channel.specs.ServerRefusals.{server_reasons}
 use Rattle.ua_channel.specs.ServerRules.{server_gate}
-use Rattle.ua_channel.specs.ServerStands.{limits_of, channel_of, rules_of, phase_gate, bound_after, Holds, Stands, IsDone, Goes, GoesTelling, ClosedAt, RefusedAt, GoesOn, JudgesFrame}
+use Rattle.ua_channel.specs.ServerStands.{limits_of, channel_of, rules_of, bound_after, Holds, Stands, IsDone, Goes, GoesTelling, ClosedAt, RefusedAt}
+use Rattle.ua_channel.specs.inside.ServerFrames.{phase_gate, GoesOn, JudgesFrame}
 use Rattle.ua_channel.specs.ServerTold.{Told}
 use Rattle.ua_channel.specs.ServerTold.Told.{Closed}
 use Rattle.ua_channel.proofs.OneFrameMore.{received-push}
@@ -146,14 +148,14 @@ module _ (x : ServerChannel) (octets piece : List ℕ) (n : ℕ) (told : List To
     bound_is = bound ∙ g.stands.holds.bound_is;
   }
 
-  tells_by : (e : Event) → TakesIt (limits_of x) (channel_of x) (received g.frames) (content f) (Some e) → GoesOn (after (received g.frames) (content f)).closed new (after (received g.frames) (content f)) → Tells e new (octets ++ take n piece) told
+  tells_by : (e : Event) → TakesIt (limits_of x) (channel_of x) (received g.frames) (content f) (Some e) → GoesOn (after (received g.frames) (content f)).closed new (after (received g.frames) (content f)) → StandsWith e new (octets ++ take n piece) told
   tells_by (inner.Agreed a) takes on = telling (inner.Agreed a) takes on (λ z. absurd cc)
   tells_by (inner.Opened id handle token lifetime) takes on = telling (inner.Opened id handle token lifetime) takes on (λ z. absurd cc)
   tells_by (inner.Asked id token message) takes on = telling (inner.Asked id token message) takes on (λ z. absurd cc)
   tells_by (inner.Aborted id) takes on = telling (inner.Aborted id) takes on (λ z. absurd cc)
   tells_by inner.Closed takes on = closes takes on
 
-  parts_by : (e : Event) → TakesIt (limits_of x) (channel_of x) (received g.frames) (content f) (Some e) → GoesOn (after (received g.frames) (content f)).closed new (after (received g.frames) (content f)) → ComesInParts (parts_of (Some e)) new (octets ++ take n piece)
+  parts_by : (e : Event) → TakesIt (limits_of x) (channel_of x) (received g.frames) (content f) (Some e) → GoesOn (after (received g.frames) (content f)).closed new (after (received g.frames) (content f)) → AsksInParts (parts_of (Some e)) new (octets ++ take n piece)
   unfolding new
   parts_by (inner.Agreed a) takes on = tt
   parts_by (inner.Opened id handle token lifetime) takes on = tt
@@ -181,7 +183,7 @@ module _ (x : ServerChannel) (octets piece : List ℕ) (n : ℕ) (told : List To
   frame_steps (Err step.Closed) j = j
 
   -- a message comes in its parts
-  pub frame_parts : (answer : Result (Option Event) StepFault) → JudgesFrame (with_parts x r x.phase x.bound) (received g.frames) (content f) answer (with_parts x r p b) → IfOk answer (λ e. ComesInParts (parts_of e) (with_parts x r' p b) (octets ++ take n piece))
+  pub frame_parts : (answer : Result (Option Event) StepFault) → JudgesFrame (with_parts x r x.phase x.bound) (received g.frames) (content f) answer (with_parts x r p b) → IfOk answer (λ e. AsksInParts (parts_of e) (with_parts x r' p b) (octets ++ take n piece))
   unfolding new
   frame_parts (Ok None) j = tt
   frame_parts (Ok (Some e)) j = parts_by e j.0 (on_as j.1)
@@ -193,13 +195,13 @@ with_gate gate r = record r { gate = gate }
 -- one call of the reader that has a frame
 pub step_frame : (x y : ServerChannel) (octets piece : List ℕ) (n : ℕ) (told : List Told) (f : Frame) (r z : Reader) (gate : Gate) (answer : Result (Option Event) StepFault) → Goes x octets told → TakesFrame x.reader piece n f r → y ≡ with_parts x r y.phase y.bound → gate ≡ phase_gate y.phase → z ≡ with_gate gate y.reader
     → ((before : Received) → Holds (with_parts x r x.phase x.bound) before → IsTrue (lets_in (phase_gate x.phase) f.kind) → JudgesFrame (with_parts x r x.phase x.bound) before (content f) answer y)
-    → Steps piece n answer (record y { reader = z }) octets told × IfOk answer (λ e. ComesInParts (parts_of e) (record y { reader = z }) (octets ++ take n piece))
+    → Steps piece n answer (record y { reader = z }) octets told × IfOk answer (λ e. AsksInParts (parts_of e) (record y { reader = z }) (octets ++ take n piece))
 step_frame x y octets piece n told f r z gate answer g t kept gate_at z_is judges =
     let z_at : z ≡ with_gate (phase_gate y.phase) r = z_is ∙ (ap (λ (h : Gate). with_gate h y.reader) gate_at ∙ ap (λ (c : ServerChannel). with_gate (phase_gate y.phase) c.reader) kept) in
     let holds : Holds (with_parts x r x.phase x.bound) (received g.frames) = record { phase_is = g.stands.holds.phase_is; bound_is = g.stands.holds.bound_is } in
     let here : IsTrue (lets_in (phase_gate x.phase) f.kind) = let_in_here x octets piece n told f r z y.phase y.bound g t z_at in
     let judged = subst (λ (c : ServerChannel). JudgesFrame (with_parts x r x.phase x.bound) (received g.frames) (content f) answer c) kept (judges (received g.frames) holds here) in
-    subst (λ (c : ServerChannel). Steps piece n answer (record c { reader = z }) octets told × IfOk answer (λ e. ComesInParts (parts_of e) (record c { reader = z }) (octets ++ take n piece))) (sym kept)
+    subst (λ (c : ServerChannel). Steps piece n answer (record c { reader = z }) octets told × IfOk answer (λ e. AsksInParts (parts_of e) (record c { reader = z }) (octets ++ take n piece))) (sym kept)
     (frame_steps x octets piece n told f r z y.phase y.bound g t z_at answer judged, frame_parts x octets piece n told f r z y.phase y.bound g t z_at answer judged)
 
 -- ---- a header that is refused

@@ -1,18 +1,17 @@
 -- Where a client's channel stands after octets and asks, and what it answers when it is asked.
-use Rattle.std.specs.Prelude.{◌≡◌, ℕ, ◌≤◌, ◌+◌, ◌*◌, length, List, [], ◌∷◌, ◌++◌, Option, Some, None, Result, Ok, Err}
+use Rattle.std.specs.Prelude.{◌≡◌, ℕ, ◌≤◌, ◌+◌, ◌*◌, length, List, [], ◌∷◌, ◌++◌, Option, Some, None, Result}
 use Rattle.std.specs.List.{AllByRecursion}
 use Rattle.ua_builtin.specs.Reasons.{first_reason}
 use Rattle.ua_builtin.specs.declared.date_time.DateTime.{DateTime}
 use Rattle.ua_frame.specs.declared.ack.Ack.{Ack}
 use Rattle.ua_frame.specs.declared.frame.Frame.{Frame}
-use Rattle.ua_frame.specs.declared.gate.Gate.{Gate}
 use Rattle.ua_frame.specs.declared.limits.Limits.{Limits}
 use Rattle.ua_frame.specs.Reader.{open_reader}
 use Rattle.ua_frame.specs.Run.{Rules, Run, Going, Stopped, events}
 use Rattle.ua_chunk.specs.Open.{open_octets}
 use Rattle.ua_channel.specs.Asks.{Asking, Placed, asked_in}
 use Rattle.ua_channel.specs.ClientAsks.{Talks, ask_reasons, renew_reasons, Calls, JudgesBy, Renews, closing_octets}
-use Rattle.ua_channel.specs.ClientTable.{client_gate, client_rules, ack_gate, answer_gate, reply_gate}
+use Rattle.ua_channel.specs.ClientTable.{client_gate, client_rules}
 use Rattle.ua_channel.specs.ClientTold.{Told, Why}
 use Rattle.ua_channel.specs.Content.{content}
 use Rattle.ua_channel.specs.MessageParts.{EndsIn}
@@ -72,13 +71,6 @@ InPhase limits (Agreed a) before asked = (before ≡ record nothing_received { a
 InPhase limits (Open t) before asked = Talks limits t before asked
 InPhase limits Done before asked = ⊥
 
--- the gate of a phase
-abbrev pub phase_gate : Phase → Gate
-phase_gate Waiting = ack_gate
-phase_gate (Agreed a) = answer_gate a.ack.send_buffer_size
-phase_gate (Open t) = reply_gate t.agreed.ack.send_buffer_size
-phase_gate Done = ack_gate
-
 -- ---- after octets and asks
 
 -- the rules of a channel that asked so
@@ -114,7 +106,7 @@ pub record GoesTelling (x : ClientChannel) (asks : List Placed) (octets : List �
   pub tells : (rules_of x asks).tells frames frame ≡ e ∷ []
 
 -- it goes on after these asks and octets, of which the last frame ends a message in these parts
-pub record EndsMessage (x : ClientChannel) (asks : List Placed) (octets : List ℕ) (parts : List (List ℕ)) : Type 0 where
+pub record EndsReply (x : ClientChannel) (asks : List Placed) (octets : List ℕ) (parts : List (List ℕ)) : Type 0 where
   pub frames : List Frame
   pub frame : Frame
   pub stands : Stands x asks octets (frames ++ frame ∷ []) []

@@ -1,7 +1,6 @@
 -- What a client sends when it is asked, and why it sends nothing: by what it received and asked, and by what an open channel keeps.
-use Rattle.std.specs.Prelude.{◌≡◌, ℕ, ◌+◌, ◌-◌, ◌<◌, ◌≤◌, zero, suc, nat_le, Bool, ◌||◌, is_none, is_some, length, List, [], ◌∷◌, ◌++◌, Option, Some, None, Result, Ok, Err}
+use Rattle.std.specs.Prelude.{◌≡◌, ℕ, ◌+◌, ◌-◌, ◌<◌, ◌≤◌, zero, suc, nat_le, Bool, ◌||◌, is_none, is_some, length, List, [], ◌∷◌, Option, Some, None, Result, Ok, Err}
 use Rattle.std.specs.List.{AllByRecursion}
-use Rattle.ua_builtin.specs.Reasons.{first_reason}
 use Rattle.ua_builtin.specs.declared.date_time.DateTime.{DateTime}
 use Rattle.ua_frame.specs.declared.ack.Ack.{Ack}
 use Rattle.ua_frame.specs.declared.limits.Limits.{Limits}
@@ -11,9 +10,6 @@ use Rattle.ua_chunk.specs.Cutting.{pieces, chunks_of, chunks_octets, number_afte
 use Rattle.ua_chunk.specs.Refusal.{passes}
 use Rattle.ua_chunk.specs.Sequence.{next_number}
 use Rattle.ua_chunk.specs.declared.chunk.Chunk.{Chunk}
-use Rattle.ua_chunk.specs.declared.fault.CutFault.{CutFault}
-use Rattle.ua_chunk.specs.declared.fault.CutFault.TheVariants.{TooManyOctets, TooManyChunks}
-use Rattle.ua_chunk.specs.declared.fault.CutFault.TheVariants as cut_fault
 use Rattle.ua_chunk.specs.declared.lane.Lane.{Lane}
 use Rattle.ua_channel.specs.Agreement.{headers_size}
 use Rattle.ua_channel.specs.Asks.{Asking, Placed, id_of, next_id, pending_calls, pending_renewals}
@@ -146,10 +142,6 @@ pub record Talks (limits : Limits) (t : Talking) (before : Received) (asked : Li
 abbrev pub lane_of : Talking → Lane
 lane_of t = call_lane t.agreed.ack t.channel t.newest
 
--- why no call may be asked after so many more calls, whatever its body, in the order in which it is judged
-abbrev pub more_reasons : Talking → ℕ → List (AskFault × Bool)
-more_reasons t more = (TooManyPending, nat_le most_pending (length t.pending.items + more)) ∷ (Exhausted, nat_le no_id (t.next + more)) ∷ []
-
 -- why a call of this body is refused after so many more calls, in the order in which it is judged
 abbrev pub ask_reasons : Talking → ℕ → List ℕ → List (AskFault × Bool)
 ask_reasons t more body = reasons_of_call (length t.pending.items + more) (t.next + more) (is_too_large t.agreed.ack body)
@@ -176,12 +168,6 @@ closing_octets t number moment = frame_octets (close_frame t.channel t.newest nu
 
 -- ---- faults
 
--- what a fault of cutting comes to
-abbrev pub of_cut_fault : CutFault → AskFault
-of_cut_fault TooManyOctets = RequestTooLarge
-of_cut_fault TooManyChunks = RequestTooLarge
-of_cut_fault cut_fault.OutOfMemory = OutOfMemory
-
 -- the fault is this reason, or memory was refused where there is no reason
 abbrev pub IsFor : Option AskFault → AskFault → Type 0
 IsFor reason NotOpen = reason ≡ Some NotOpen
@@ -192,11 +178,6 @@ IsFor reason Exhausted = reason ≡ Some Exhausted
 IsFor reason RequestTooLarge = reason ≡ Some RequestTooLarge
 IsFor reason OutOfMemory = reason ≡ None
 
--- nothing changed, but that room may have been made for pending calls
-pub record AsBefore (old new : Talking) : Type 0 where
-  pub rest : new ≡ record old { pending = new.pending }
-  pub pending : new.pending.items ≡ old.pending.items
-
 -- what is answered, by why it may be refused
 abbrev pub AnswersFor : {A : Type 0} → Option AskFault → Result A AskFault → Type 0
 AnswersFor reason (Ok found) = reason ≡ None
@@ -206,11 +187,3 @@ AnswersFor reason (Err fault) = IsFor reason fault
 abbrev pub JudgesBy : (List ℕ → Option AskFault) → ℕ → Result (Unit {0}) AskFault → Type 0
 JudgesBy refusal len (Ok found) = (body : List ℕ) → length body ≡ len → refusal body ≡ None
 JudgesBy refusal len (Err fault) = (body : List ℕ) → length body ≡ len → refusal body ≡ Some fault
-
--- what an ask of this body answers
-abbrev pub AnswersCall : {A : Type 0} → Talking → List ℕ → Result A AskFault → Type 0
-AnswersCall t body result = AnswersFor (first_reason (ask_reasons t 0 body)) result
-
--- what is judged of any body of this length, without memory
-abbrev pub JudgesCall : Talking → ℕ → ℕ → Result (Unit {0}) AskFault → Type 0
-JudgesCall t more len result = JudgesBy (λ body. first_reason (ask_reasons t more body)) len result

@@ -24,14 +24,14 @@ use Rattle.ua_channel.specs.Received.{Received, messages, numbers, received}
 -- ---- the order
 
 -- behind the first OPN come OPNs and MSGs
-abbrev pub IsOrderOpen : List Kind → Type 0
-IsOrderOpen [] = Unit {0}
-IsOrderOpen (Hel ∷ ks) = ⊥
-IsOrderOpen (kind.Ack ∷ ks) = ⊥
-IsOrderOpen (kind.Err ∷ ks) = ⊥
-IsOrderOpen (Msg ∷ ks) = IsOrderOpen ks
-IsOrderOpen (Opn ∷ ks) = IsOrderOpen ks
-IsOrderOpen (Clo ∷ ks) = ⊥
+abbrev pub IsClientOrderOpen : List Kind → Type 0
+IsClientOrderOpen [] = Unit {0}
+IsClientOrderOpen (Hel ∷ ks) = ⊥
+IsClientOrderOpen (kind.Ack ∷ ks) = ⊥
+IsClientOrderOpen (kind.Err ∷ ks) = ⊥
+IsClientOrderOpen (Msg ∷ ks) = IsClientOrderOpen ks
+IsClientOrderOpen (Opn ∷ ks) = IsClientOrderOpen ks
+IsClientOrderOpen (Clo ∷ ks) = ⊥
 
 -- behind the ACK comes an OPN
 abbrev pub IsOrderAgreed : List Kind → Type 0
@@ -40,7 +40,7 @@ IsOrderAgreed (Hel ∷ ks) = ⊥
 IsOrderAgreed (kind.Ack ∷ ks) = ⊥
 IsOrderAgreed (kind.Err ∷ ks) = ⊥
 IsOrderAgreed (Msg ∷ ks) = ⊥
-IsOrderAgreed (Opn ∷ ks) = IsOrderOpen ks
+IsOrderAgreed (Opn ∷ ks) = IsClientOrderOpen ks
 IsOrderAgreed (Clo ∷ ks) = ⊥
 
 -- an ACK comes first (OPC 10000-6, 7.1.3)
@@ -88,14 +88,14 @@ pub record IsGoodReply (before : Received) (asked : List Asking) (c : Chunk) : T
   pub awaited : IsTrue (is_in c.request (pending_calls before.messages asked))
 
 -- what a frame that comes behind these may carry, where this was asked before it, but for its number and its message
-abbrev pub MayCarry : Limits → Received → List Asking → Content → Type 0
-MayCarry limits before asked (Greets hello) = Unit {0}
-MayCarry limits before asked (Acks ack) = IsGoodAck limits ack
-MayCarry limits before asked (Fails error) = ⊥
-MayCarry limits before asked (Opens o) = IsGoodResponse before asked o
-MayCarry limits before asked (Sends c) = IsGoodReply before asked c
-MayCarry limits before asked (Closes c) = Unit {0}
-MayCarry limits before asked Nothing = Unit {0}
+abbrev pub MayCarryBack : Limits → Received → List Asking → Content → Type 0
+MayCarryBack limits before asked (Greets hello) = Unit {0}
+MayCarryBack limits before asked (Acks ack) = IsGoodAck limits ack
+MayCarryBack limits before asked (Fails error) = ⊥
+MayCarryBack limits before asked (Opens o) = IsGoodResponse before asked o
+MayCarryBack limits before asked (Sends c) = IsGoodReply before asked c
+MayCarryBack limits before asked (Closes c) = Unit {0}
+MayCarryBack limits before asked Nothing = Unit {0}
 
 -- a conversation at a client with these limits that asked so
 pub record ClientConversation (limits : Limits) (asks : List Placed) (frames : List Frame) : Type 0 where
@@ -107,7 +107,7 @@ pub record ClientConversation (limits : Limits) (asks : List Placed) (frames : L
   pub fits : AllAfter (λ before f. frame_size f ≤ largest_taken (received before).ack) frames
   -- the Acknowledge and each response are good, and each chunk has the channel, a token that is held, and the request id of a call that is
   -- unanswered at its place
-  pub carries : AllAfter (λ before f. MayCarry limits (received before) (asked_before (end_of before f) asks) (content f)) frames
+  pub carries : AllAfter (λ before f. MayCarryBack limits (received before) (asked_before (end_of before f) asks) (content f)) frames
   -- all numbers are in order
   pub ordered : AreOrdered None (numbers frames)
   -- the messages are within the limits, at most 4 of them unfinished at a time, and each abort reads
@@ -116,13 +116,13 @@ pub record ClientConversation (limits : Limits) (asks : List Placed) (frames : L
 -- ---- octets without a wrong frame
 
 -- these octets are the frames of a conversation, and behind them less than a frame, with nothing wrong in its header
-pub record Continues (limits : Limits) (asks : List Placed) (octets : List ℕ) (frames : List Frame) (rest : List ℕ) : Type 0 where
+pub record ClientContinues (limits : Limits) (asks : List Placed) (octets : List ℕ) (frames : List Frame) (rest : List ℕ) : Type 0 where
   pub whole : octets ≡ frames_octets frames ++ rest
   pub converses : ClientConversation limits asks frames
   pub partial : IsPartial (client_gate (received frames)) rest
 
 -- these octets are a conversation at a client with these limits that asked so, or the beginning of one
-pub record IsConversation (limits : Limits) (asks : List Placed) (octets : List ℕ) : Type 0 where
+pub record IsClientConversation (limits : Limits) (asks : List Placed) (octets : List ℕ) : Type 0 where
   pub frames : List Frame
   pub rest : List ℕ
-  pub is : Continues limits asks octets frames rest
+  pub is : ClientContinues limits asks octets frames rest

@@ -1,17 +1,15 @@
 -- What a client reads of a server that keeps to the protocol, one message after the other.
-use Rattle.std.specs.Prelude.{◌≡◌, ◌<◌, ◌≤◌, ◌+◌, ◌^◌, ◌==◌, ◌++◌, ◌∷◌, ℕ, List, [], IsTrue, IsFalse, Option, Some, None, Bool, not, length, map}
+use Rattle.std.specs.Prelude.{◌≡◌, ◌<◌, ◌≤◌, ◌+◌, ◌^◌, ◌==◌, ◌++◌, ◌∷◌, ℕ, List, [], IsTrue, Option, Some, None, Bool, not, length}
 use Rattle.std.specs.List.{AllByRecursion, filter}
 use Rattle.ua_builtin.specs.DateTime.{date_time}
 use Rattle.ua_builtin.specs.Status.{of_code}
 use Rattle.ua_builtin.specs.declared.date_time.DateTime.{DateTime}
-use Rattle.ua_frame.specs.Frames.{frame_octets}
 use Rattle.ua_frame.specs.Run.{Going, Run, events}
 use Rattle.ua_frame.specs.declared.ack.Ack.{Ack}
 use Rattle.ua_frame.specs.declared.frame.Frame.{Frame}
 use Rattle.ua_frame.specs.declared.limits.Limits.{Limits}
-use Rattle.ua_chunk.specs.Cutting.{cut_refusal}
 use Rattle.ua_chunk.specs.Open.{open_ids}
-use Rattle.ua_chunk.specs.Sequence.{may_follow, next_number}
+use Rattle.ua_chunk.specs.Sequence.{may_follow}
 use Rattle.ua_chunk.specs.declared.chunk.Chunk.{Chunk}
 use Rattle.ua_chunk.specs.declared.fault.CutFault.{CutFault}
 use Rattle.ua_chunk.specs.declared.lane.Lane.{Lane}
@@ -20,7 +18,6 @@ use Rattle.ua_channel.specs.ClientAsks.{call_lane, is_too_large, reasons_of_call
 use Rattle.ua_channel.specs.ClientTable.{client_rules}
 use Rattle.ua_channel.specs.ClientTokens.{channel_in, from_last, held_tokens, opened_ids, responses}
 use Rattle.ua_channel.specs.ClientTold.{Told, Told as told}
-use Rattle.ua_channel.specs.ServerSends.{opened_frame, replied}
 use Rattle.ua_channel.specs.Received.{has_some, latest, nothing_received, received}
 use Rattle.ua_channel.specs.declared.client.fault.AskFault.{AskFault}
 
@@ -143,49 +140,3 @@ with_reply at token id next = record at { tokens = from_last token at.tokens; pe
 -- behind the answer to the one renewal, which brings this token, with this number next
 abbrev pub with_answer : AtClient → ℕ → ℕ → AtClient
 with_answer at token next = record at { tokens = at.tokens ++ token ∷ []; newest = token; renewals = []; next = next }
-
--- ---- all that a server sends
-
--- what a server sends on an open channel: what stands for the reply of this body to a call, in this lane; or the answer to a renewal,
--- with this RequestHandle, token and lifetime
-pub data Sending : Type 0 where
-  Replies : (lane : Lane) (id : ℕ) (body : List ℕ) → Sending
-  Answers : (id handle token lifetime : ℕ) (moment : DateTime) → Sending
-
--- its octets: the chunks of the body or an abort, or an OPN frame, with the number that is next
-abbrev pub sending_octets : AtClient → Sending → List ℕ
-sending_octets at (Replies lane id body) = (replied lane body at.next id).0
-sending_octets at (Answers id handle token lifetime moment) = frame_octets (opened_frame at.channel at.next id handle token lifetime moment)
-
--- what it tells the client
-abbrev pub told_at : Sending → Told
-told_at (Replies lane id body) = told_reply (cut_refusal lane body) id body
-told_at (Answers id handle token lifetime moment) = told.Renewed token
-
--- where the client then is
-abbrev pub behind : AtClient → Sending → AtClient
-behind at (Replies lane id body) = with_reply at lane.token id (replied lane body at.next id).1
-behind at (Answers id handle token lifetime moment) = with_answer at token (next_number at.next)
-
--- the client takes it there: the reply to a call that is unanswered, in a lane to it; or the answer to the one renewal that is unanswered,
--- with a token that it does not hold
-abbrev pub MaySend : Limits → AtClient → Sending → Type 0
-MaySend limits at (Replies lane id body) = IsLaneBack limits at lane × IsTrue (is_in id at.pending) × (id < 2 ^ 32) × (0 < length body)
-MaySend limits at (Answers id handle token lifetime moment) =
-    IsAnswered at.channel at.next id handle token lifetime moment × (at.renewals ≡ id ∷ []) × IsFalse (is_in token at.tokens)
-
--- the same of all of these, one after the other
-abbrev pub all_octets : AtClient → List Sending → List ℕ
-all_octets at [] = []
-all_octets at (s ∷ ss) = sending_octets at s ++ all_octets (behind at s) ss
-
-abbrev pub all_told : List Sending → List Told
-all_told ss = map told_at ss
-
-abbrev pub behind_all : AtClient → List Sending → AtClient
-behind_all at [] = at
-behind_all at (s ∷ ss) = behind_all (behind at s) ss
-
-abbrev pub MaySendAll : Limits → AtClient → List Sending → Type 0
-MaySendAll limits at [] = Unit {0}
-MaySendAll limits at (s ∷ ss) = MaySend limits at s × MaySendAll limits (behind at s) ss

@@ -1,12 +1,10 @@
 -- What a client sends: the HEL, the OPNs and the CLO, each a whole frame.
-use Rattle.std.specs.Prelude.{ℕ, ◌∷◌, ◌++◌, pos, List, Option}
-use Rattle.ua_octets.specs.Number.{number_octets}
+use Rattle.std.specs.Prelude.{ℕ, ◌++◌, pos, List, Option}
 use Rattle.ua_builtin.specs.declared.date_time.DateTime.{DateTime}
 use Rattle.ua_frame.specs.declared.frame.Frame.{Frame}
 use Rattle.ua_frame.specs.declared.hello.Hello.{Hello}
 use Rattle.ua_frame.specs.declared.kind.Kind.TheVariants.{Hel, Clo}
 use Rattle.ua_frame.specs.declared.limits.Limits.{Limits}
-use Rattle.ua_frame.specs.Kinds.{kind_octets}
 use Rattle.ua_frame.specs.Messages.{hello}
 use Rattle.ua_chunk.specs.Layout.{token_header, sequence_header}
 use Rattle.ua_services.specs.Message.{message}
@@ -53,9 +51,3 @@ close_frame channel token number id moment = record {
   flag = 70;
   body = token_header.canonical (channel, token) ++ (sequence_header.canonical (number, id) ++ (message 452 close_request).canonical (close_request_of moment 0));
 }
-
--- what stands in front of the request of a CLO of 57 octets
-abbrev pub closing_front : ℕ → ℕ → ℕ → ℕ → List ℕ
-closing_front channel token number id =
-    (kind_octets Clo ++ 70 ∷ number_octets 4 57)
-    ++ (token_header.canonical (channel, token) ++ sequence_header.canonical (number, id))

@@ -41,11 +41,11 @@ of_response test (Some (Fault f)) = false
 -- ---- the reasons
 
 -- an ACK, an ERR or the security header of an OPN is unreadable
-abbrev pub is_unreadable : Content → Bool
-is_unreadable (Acks ack) = is_none ack
-is_unreadable (Fails error) = is_none error
-is_unreadable (Opens o) = is_none o.security
-is_unreadable other = false
+abbrev pub is_unreadable_for_client : Content → Bool
+is_unreadable_for_client (Acks ack) = is_none ack
+is_unreadable_for_client (Fails error) = is_none error
+is_unreadable_for_client (Opens o) = is_none o.security
+is_unreadable_for_client other = false
 
 -- a size is below 8192, or above what the Hello of a client with these limits allows: the server receives at most what the client
 -- sends, and sends at most what the client receives (OPC 10000-6, 7.1.2.4)
@@ -94,16 +94,16 @@ is_other None channel = false
 is_other (Some n) channel = not (channel == n)
 
 -- a MSG on another channel, or an OPN that answers for another one
-abbrev pub is_on_other_channel : Received → Content → Bool
-is_on_other_channel before (Opens o) = of_response (λ r. is_other (channel_in (responses before.openings)) r.channel_id) (answer_in o)
-is_on_other_channel before (Sends c) = is_other (channel_in (responses before.openings)) c.channel
-is_on_other_channel before other = false
+abbrev pub is_on_other_channel_for_client : Received → Content → Bool
+is_on_other_channel_for_client before (Opens o) = of_response (λ r. is_other (channel_in (responses before.openings)) r.channel_id) (answer_in o)
+is_on_other_channel_for_client before (Sends c) = is_other (channel_in (responses before.openings)) c.channel
+is_on_other_channel_for_client before other = false
 
 -- a MSG under a token that is not held, or an OPN that brings one which is
-abbrev pub has_other_token : Received → Content → Bool
-has_other_token before (Opens o) = of_response (λ r. is_in r.token_id (held_tokens before)) (answer_in o)
-has_other_token before (Sends c) = not (is_in c.token (held_tokens before))
-has_other_token before other = false
+abbrev pub has_other_token_for_client : Received → Content → Bool
+has_other_token_for_client before (Opens o) = of_response (λ r. is_in r.token_id (held_tokens before)) (answer_in o)
+has_other_token_for_client before (Sends c) = not (is_in c.token (held_tokens before))
+has_other_token_for_client before other = false
 
 -- the request id of an OPN is waited for: the first one answers under 1, a later one the renewal that is unanswered
 abbrev pub is_awaited : List OpenResponse → List ℕ → List Asking → ℕ → Bool
@@ -137,13 +137,13 @@ is_error other = false
 -- BadUnknownResponse; and last that the server refused, with its code
 abbrev pub client_reasons : Limits → Received → List Asking → Content → List (Why × Bool)
 client_reasons limits before asked c =
-    (ours 0x8007_0000, is_unreadable c)
+    (ours 0x8007_0000, is_unreadable_for_client c)
     ∷ (ours 0x8081_0000, has_other_sizes limits c)
     ∷ (ours 0x8055_0000, has_other_policy c)
     ∷ (ours 0x8007_0000, has_no_answer c)
     ∷ (ours (opening_code c), has_bad_answer c)
-    ∷ (ours 0x807F_0000, is_on_other_channel before c)
-    ∷ (ours 0x8087_0000, has_other_token before c)
+    ∷ (ours 0x807F_0000, is_on_other_channel_for_client before c)
+    ∷ (ours 0x8087_0000, has_other_token_for_client before c)
     ∷ (ours 0x8088_0000, breaks_order before c)
     ∷ (ours 0x8007_0000, aborts_unreadably c)
     ∷ (ours 0x8081_0000, opens_too_many before c)
@@ -173,13 +173,13 @@ gate_agreed size [] = answer_gate size
 gate_agreed size (r ∷ rs) = reply_gate size
 
 -- by the ACK and the responses of the OPNs
-abbrev pub gate_behind : Option Ack → List OpenResponse → Gate
-gate_behind None rs = ack_gate
-gate_behind (Some a) rs = gate_agreed a.send_buffer_size rs
+abbrev pub client_gate_behind : Option Ack → List OpenResponse → Gate
+client_gate_behind None rs = ack_gate
+client_gate_behind (Some a) rs = gate_agreed a.send_buffer_size rs
 
 -- an ACK first, then an OPN, then OPN and MSG, and ERR always; behind the ACK of at most what the server sends
 abbrev pub client_gate : Received → Gate
-client_gate before = gate_behind before.ack (responses before.openings)
+client_gate before = client_gate_behind before.ack (responses before.openings)
 
 -- the rules of a client with these limits that asked so
 abbrev pub client_rules : Limits → List Placed → Rules Told Why

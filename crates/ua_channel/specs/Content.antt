@@ -1,5 +1,5 @@
 -- What one frame carries, as far as it reads: a function of the frame.
-use Rattle.std.specs.Prelude.{ℕ, ◌≤◌, List, Option, Some, None, IsTrue}
+use Rattle.std.specs.Prelude.{ℕ, List, Option, Some, None}
 use Rattle.ua_frame.specs.declared.ack.Ack.{Ack}
 use Rattle.ua_frame.specs.declared.error.ErrorFrame.{ErrorFrame}
 use Rattle.ua_frame.specs.declared.frame.Frame.{Frame}
@@ -7,9 +7,7 @@ use Rattle.ua_frame.specs.declared.hello.Hello.{Hello}
 use Rattle.ua_frame.specs.declared.kind.Kind.{Kind}
 use Rattle.ua_frame.specs.declared.kind.Kind.TheVariants.{Hel, Msg, Opn, Clo}
 use Rattle.ua_frame.specs.declared.kind.Kind.TheVariants as kind
-use Rattle.ua_frame.specs.Frames.{frame_size}
 use Rattle.ua_frame.specs.Hello.{hello_in}
-use Rattle.ua_frame.specs.Kinds.{has_flag, least_size}
 use Rattle.ua_frame.specs.Messages.{ack, error}
 use Rattle.ua_frame.specs.Whole.{whole_of}
 use Rattle.ua_chunk.specs.declared.chunk.Chunk.{Chunk}
@@ -40,11 +38,6 @@ unfoldable pub opening_of : List ℕ → Opening
 opening_of body = opening_secured body (policy_header.decode body)
 
 -- ---- any frame
-
--- a frame whose flag and size are those of its kind, as each one has that a reader hands out
-pub record HasShape (f : Frame) : Type 0 where
-  pub flag : IsTrue (has_flag f.kind f.flag)
-  pub least : least_size f.kind ≤ frame_size f
 
 -- what a frame carries: a Hello, an Acknowledge or an Error, if its body is one; an opening; a chunk of a message; the chunk of a
 -- close; or nothing that reads

@@ -4,11 +4,10 @@ pub mod Received
 -- Why either end refuses a frame, and where octets stop at what is refused.
 pub mod Refusals
 pub mod Stops
-pub mod StepFaults
 -- In which parts either end hands out a message.
 pub mod MessageParts
 -- A server: what it agrees to, what frames tell it, which it refuses, and which come next; what it sends; where it stands, and what
--- it answers. Last what its parts make of a frame.
+-- it answers.
 pub mod Agreement
 pub mod ServerTold
 pub mod ServerRefusals
@@ -18,9 +17,6 @@ pub mod ServerPlaces
 pub mod ServerMessages
 pub mod ServerStands
 pub mod ServerAnswers
-pub mod ServerParts
-pub mod ServerEvents
-pub mod ServerFaults
 -- a client: what it asked; its tokens, its table of refusals and its rules; where it stands, what it sends and answers
 pub mod Asks
 pub mod ClientTokens
@@ -30,7 +26,6 @@ pub mod ClientSends
 pub mod ClientAsks
 pub mod Client
 pub mod ClientAnswers
-pub mod ClientParts
 pub mod Paired
 -- What one end reads of what the other writes.
 pub mod ServerReads
@@ -43,3 +38,5 @@ pub mod ClientConversation
 pub mod Line
 pub mod MemoryLine
 pub mod Moments
+-- What the parts of both ends make of asks, frames and pieces: words that no public contract cites.
+pub mod inside

@@ -6,18 +6,13 @@ use Rattle.ua_frame.specs.Frames.{frame_octets}
 use Rattle.ua_frame.specs.Messages.{err_frame}
 use Rattle.ua_frame.specs.Run.{Stopped}
 use Rattle.ua_channel.specs.declared.server.ServerChannel.{ServerChannel}
-use Rattle.ua_channel.specs.declared.server_event.Event.{Event}
-use Rattle.ua_channel.specs.declared.server_event.Event.TheVariants as inner
 use Rattle.ua_channel.specs.declared.server_event.ServerEvent.{ServerEvent}
 use Rattle.ua_channel.specs.declared.server_event.ServerEvent.TheVariants.{NeedMore, Send, Asked, Aborted}
 use Rattle.ua_channel.specs.declared.server_event.ServerEvent.TheVariants as event
 use Rattle.ua_channel.specs.declared.server_fault.ChannelFault.{ChannelFault}
 use Rattle.ua_channel.specs.declared.server_fault.ChannelFault.TheVariants.{Refused, Closed, OutOfMemory}
-use Rattle.ua_channel.specs.declared.step_fault.StepFault.{StepFault}
-use Rattle.ua_channel.specs.declared.step_fault.StepFault.TheVariants as step
-use Rattle.ua_channel.specs.ServerEvents.{told_of}
 use Rattle.ua_channel.specs.ServerSends.{AreSent, counted_by}
-use Rattle.ua_channel.specs.ServerStands.{limits_of, channel_of, next_of, IsDone, Goes, GoesTelling, EndsMessage, Ended, ClosedAt, RefusedAt}
+use Rattle.ua_channel.specs.ServerStands.{next_of, IsDone, Goes, GoesTelling, EndsMessage, Ended, ClosedAt, RefusedAt}
 use Rattle.ua_channel.specs.ServerTold.{Told}
 use Rattle.ua_channel.specs.ServerTold.{Told as told}
 
@@ -44,10 +39,15 @@ Hands channel number moment (Asked id message) new octets before = Asks id messa
 Hands channel number moment (Aborted id) new octets before = GoesTelling new octets before (told.GaveUp id) × (next_of new ≡ number)
 Hands channel number moment event.Closed new octets before = ClosedAt new octets (before ++ told.Closed ∷ [])
 
+-- the parts of the message that is handed out, if one is
+abbrev pub parts_asked : ServerEvent → Option (List (List ℕ))
+parts_asked (Asked id message) = Some message
+parts_asked other = None
+
 -- a message, where one is handed out behind these octets, comes in the parts in which its chunks brought it
-abbrev pub ComesInParts : Option (List (List ℕ)) → ServerChannel → List ℕ → Type 0
-ComesInParts None new octets = Unit {0}
-ComesInParts (Some parts) new octets = EndsMessage new octets parts
+abbrev pub AsksInParts : Option (List (List ℕ)) → ServerChannel → List ℕ → Type 0
+AsksInParts None new octets = Unit {0}
+AsksInParts (Some parts) new octets = EndsMessage new octets parts
 
 -- how many octets of a piece are taken with an event: all where nothing came, else some
 abbrev pub Counts : List ℕ → ℕ → ServerEvent → Type 0
@@ -69,52 +69,7 @@ AnswersAt channel number moment piece n (Err (Refused code err)) new octets befo
 AnswersAt channel number moment piece n (Err OutOfMemory) new octets before = (n ≤ length piece) × IsDone new
 AnswersAt channel number moment piece n (Err Closed) new octets before = ⊥
 
--- ---- inside
-
--- where the channel stands with an event of a frame
-abbrev pub Tells : Event → ServerChannel → List ℕ → List Told → Type 0
-Tells (inner.Agreed a) new octets before = GoesTelling new octets before (told_of (inner.Agreed a))
-Tells (inner.Opened id handle token lifetime) new octets before = GoesTelling new octets before (told_of (inner.Opened id handle token lifetime))
-Tells (inner.Asked id token message) new octets before = GoesTelling new octets before (told_of (inner.Asked id token message))
-Tells (inner.Aborted id) new octets before = GoesTelling new octets before (told_of (inner.Aborted id))
-Tells inner.Closed new octets before = ClosedAt new octets (before ++ told.Closed ∷ [])
-
--- one call of the reader, and what its frame comes to
-abbrev pub Steps : List ℕ → ℕ → Result (Option Event) StepFault → ServerChannel → List ℕ → List Told → Type 0
-Steps piece n (Ok None) new octets before = Goes new (octets ++ take n piece) before
-Steps piece n (Ok (Some e)) new octets before = Tells e new (octets ++ take n piece) before
-Steps piece n (Err (step.Refused code)) new octets before = RefusedAt new (octets ++ take n piece) before code.code
-Steps piece n (Err step.OutOfMemory) new octets before = IsDone new
-Steps piece n (Err step.Closed) new octets before = ⊥
-
 -- what is taken is within the piece, and is something, where no fault comes, unless the piece is empty
 abbrev pub Progress : {A E : Type 0} → List ℕ → ℕ → Result A E → Type 0
 Progress piece n (Ok e) = (n ≤ length piece) × (0 < length piece → 0 < n)
 Progress piece n (Err fault) = n ≤ length piece
-
--- the steps of a piece, up to the first event; with none the whole piece is taken
-abbrev pub Nexts : List ℕ → ℕ → Result (Option Event) StepFault → ServerChannel → List ℕ → List Told → Type 0
-Nexts piece n (Ok None) new octets before = (n ≡ length piece) × Goes new (octets ++ piece) before
-Nexts piece n (Ok (Some e)) new octets before = (0 < n) × (n ≤ length piece) × Tells e new (octets ++ take n piece) before
-Nexts piece n (Err (step.Refused code)) new octets before = (n ≤ length piece) × RefusedAt new (octets ++ take n piece) before code.code
-Nexts piece n (Err step.OutOfMemory) new octets before = (n ≤ length piece) × IsDone new
-Nexts piece n (Err step.Closed) new octets before = ⊥
-
--- so many octets of a piece were taken since it stood there, and nothing was told
-pub record Took (old now : ServerChannel) (piece : List ℕ) (taken : ℕ) : Type 0 where
-  pub within : taken ≤ length piece
-  pub goes : (octets : List ℕ) (before : List Told) → Goes old octets before → Goes now (octets ++ take taken piece) before
-  pub limits : limits_of now ≡ limits_of old
-  pub channel : channel_of now ≡ channel_of old
-  pub numbers : now.numbers ≡ old.numbers
-
--- what is answered to an event of the last frame
-abbrev pub Answered : ℕ → ℕ → DateTime → Result ServerEvent ChannelFault → ServerChannel → List ℕ → List Told → Type 0
-Answered channel number moment (Ok NeedMore) new octets before = ⊥
-Answered channel number moment (Ok (Send sent)) new octets before = Sends channel number moment sent.items new octets before
-Answered channel number moment (Ok (Asked id message)) new octets before = Asks id message new octets before × (next_of new ≡ number)
-Answered channel number moment (Ok (Aborted id)) new octets before = GoesTelling new octets before (told.GaveUp id) × (next_of new ≡ number)
-Answered channel number moment (Ok event.Closed) new octets before = ClosedAt new octets (before ++ told.Closed ∷ [])
-Answered channel number moment (Err OutOfMemory) new octets before = IsDone new
-Answered channel number moment (Err (Refused code err)) new octets before = ⊥
-Answered channel number moment (Err Closed) new octets before = ⊥

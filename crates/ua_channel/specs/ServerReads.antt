@@ -1,23 +1,18 @@
 -- What a server reads of a client that keeps to the protocol, one message after the other.
-use Rattle.std.specs.Prelude.{◌≡◌, ◌<◌, ◌≤◌, ◌+◌, ◌^◌, ◌++◌, ◌∷◌, ℕ, List, [], IsTrue, IsFalse, Some, length}
-use Rattle.ua_builtin.specs.DateTime.{date_time}
-use Rattle.ua_builtin.specs.declared.date_time.DateTime.{DateTime}
-use Rattle.ua_frame.specs.Frames.{frame_octets}
+use Rattle.std.specs.Prelude.{◌≡◌, ◌<◌, ◌≤◌, ◌+◌, ◌^◌, ℕ, List, [], IsTrue, IsFalse, Some, length}
 use Rattle.ua_frame.specs.Run.{Going, Over, Run, events}
 use Rattle.ua_frame.specs.declared.frame.Frame.{Frame}
 use Rattle.ua_frame.specs.declared.hello.Hello.{Hello}
 use Rattle.ua_frame.specs.declared.limits.Limits.{Limits}
-use Rattle.ua_chunk.specs.Cutting.{chunks_octets, chunks_of, number_after, pieces}
+use Rattle.ua_chunk.specs.Cutting.{number_after, pieces}
 use Rattle.ua_chunk.specs.Open.{open_ids}
 use Rattle.ua_chunk.specs.Refusal.{passes}
 use Rattle.ua_chunk.specs.Sequence.{may_follow, next_number}
 use Rattle.ua_chunk.specs.declared.lane.Lane.{Lane}
-use Rattle.ua_channel.specs.ClientSends.{renewal_frame}
 use Rattle.ua_channel.specs.Received.{received}
 use Rattle.ua_channel.specs.ServerRefusals.{last_used}
 use Rattle.ua_channel.specs.ServerRules.{receive_size, server_rules}
 use Rattle.ua_channel.specs.ServerTold.{Told, issued}
-use Rattle.ua_channel.specs.ServerTold.Told.{Asked, Opened}
 
 -- where a server is between two messages of its client
 pub record AtServer : Type 0 where
@@ -86,47 +81,3 @@ with_token at = record at { issued = at.issued + 1; next = next_number at.next }
 -- behind a message of this body
 abbrev pub with_message : AtServer → Lane → List ℕ → AtServer
 with_message at lane body = record at { used = lane.token; next = number_after at.next (pieces lane.room body) }
-
--- ---- all that a client sends
-
--- what a client sends on an open channel: a call of this body in this lane, or a renewal of the token; each under its request id
-pub data Sending : Type 0 where
-  Calls : (lane : Lane) (id : ℕ) (body : List ℕ) → Sending
-  Renews : (id : ℕ) (moment : DateTime) → Sending
-
--- its octets: the chunks of the body, or an OPN frame, with this number first
-abbrev pub sending_octets : ℕ → ℕ → Sending → List ℕ
-sending_octets channel number (Calls lane id body) = chunks_octets (chunks_of lane body number id)
-sending_octets channel number (Renews id moment) = frame_octets (renewal_frame channel number id moment)
-
--- what it tells the server: the whole body, or that a further token is issued
-abbrev pub told_at : AtServer → Sending → Told
-told_at at (Calls lane id body) = Asked id lane.token body
-told_at at (Renews id moment) = Opened id 0 (at.issued + 1) 3600000
-
--- where the server then is
-abbrev pub behind : AtServer → Sending → AtServer
-behind at (Calls lane id body) = with_message at lane body
-behind at (Renews id moment) = with_token at
-
--- the server takes it there: a body within its limits in a lane to it; or it has a token, and one left
-abbrev pub MaySend : Limits → ℕ → AtServer → Sending → Type 0
-MaySend limits channel at (Calls lane id body) = (id < 2 ^ 32) × IsLaneTo limits channel at lane × IsBodyFor limits lane.room body
-MaySend limits channel at (Renews id moment) = (id < 2 ^ 32) × (0 < at.issued) × (at.issued < 4294967295) × IsTrue (date_time.encodable moment)
-
--- the same of all of these, one after the other
-abbrev pub all_octets : ℕ → AtServer → List Sending → List ℕ
-all_octets channel at [] = []
-all_octets channel at (s ∷ ss) = sending_octets channel at.next s ++ all_octets channel (behind at s) ss
-
-abbrev pub all_told : AtServer → List Sending → List Told
-all_told at [] = []
-all_told at (s ∷ ss) = told_at at s ∷ all_told (behind at s) ss
-
-abbrev pub behind_all : AtServer → List Sending → AtServer
-behind_all at [] = at
-behind_all at (s ∷ ss) = behind_all (behind at s) ss
-
-abbrev pub MaySendAll : Limits → ℕ → AtServer → List Sending → Type 0
-MaySendAll limits channel at [] = Unit {0}
-MaySendAll limits channel at (s ∷ ss) = MaySend limits channel at s × MaySendAll limits channel (behind at s) ss

@@ -31,13 +31,13 @@ abbrev pub gate_greeted : ℕ → ℕ → Gate
 gate_greeted size count = if count == 0 then opening_gate size else running_gate size
 
 -- by the Hello, if there was one, and the number of OPNs
-abbrev pub gate_behind : Limits → Option Hello → ℕ → Gate
-gate_behind limits None count = hello_gate
-gate_behind limits (Some h) count = gate_greeted (receive_size limits (Some h)) count
+abbrev pub server_gate_behind : Limits → Option Hello → ℕ → Gate
+server_gate_behind limits None count = hello_gate
+server_gate_behind limits (Some h) count = gate_greeted (receive_size limits (Some h)) count
 
 -- which frames are in place: a HEL first, then an OPN, then OPN, MSG and CLO
 abbrev pub server_gate : Limits → Received → Gate
-server_gate limits before = gate_behind limits before.hello (issued before)
+server_gate limits before = server_gate_behind limits before.hello (issued before)
 
 -- the rules of a server with these limits on this channel; a CLO is the last frame that is looked at
 abbrev pub server_rules : Limits → ℕ → Rules Told ℕ

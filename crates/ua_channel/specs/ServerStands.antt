@@ -1,29 +1,25 @@
 -- Where a server's channel stands after octets.
-use Rattle.std.specs.Prelude.{◌≡◌, ℕ, ◌+◌, ◌*◌, length, Bool, true, false, List, [], ◌∷◌, ◌++◌, Option, Some, None, Result, Ok, Err}
+use Rattle.std.specs.Prelude.{◌≡◌, ℕ, ◌+◌, ◌*◌, length, false, List, [], ◌∷◌, ◌++◌, Option, Some, None, ◌<◌, ◌≤◌}
 use Rattle.ua_frame.specs.declared.frame.Frame.{Frame}
-use Rattle.ua_frame.specs.declared.gate.Gate.{Gate}
 use Rattle.ua_frame.specs.declared.hello.Hello.{Hello}
 use Rattle.ua_frame.specs.declared.limits.Limits.{Limits}
-use Rattle.ua_frame.specs.Hello.{hello_gate}
-use Rattle.ua_frame.specs.Kinds.{closed_gate}
 use Rattle.ua_frame.specs.Reader.{open_reader}
 use Rattle.ua_frame.specs.Run.{Rules, Run, events, End, Going, Stopped, Over}
-use Rattle.ua_chunk.specs.declared.lane.Lane.{Lane}
 use Rattle.ua_chunk.specs.Open.{open_octets}
 use Rattle.ua_channel.specs.declared.server.Phase.{Phase}
 use Rattle.ua_channel.specs.declared.server.Phase.TheVariants.{Waiting, Greeted, Open, Done}
 use Rattle.ua_channel.specs.declared.server.ServerChannel.{ServerChannel}
-use Rattle.ua_channel.specs.declared.server_event.Event.{Event}
-use Rattle.ua_channel.specs.declared.step_fault.StepFault.{StepFault}
-use Rattle.ua_channel.specs.declared.step_fault.StepFault.TheVariants.{Refused, Closed, OutOfMemory}
-use Rattle.ua_channel.specs.Agreement.{lane_of}
-use Rattle.ua_channel.specs.Content.{Content, content}
+use Rattle.ua_channel.specs.Agreement.{Agreement, agreement_of}
+use Rattle.ua_channel.specs.Content.{content}
 use Rattle.ua_channel.specs.MessageParts.{EndsIn}
-use Rattle.ua_channel.specs.Received.{Received, nothing_received, after, received}
-use Rattle.ua_channel.specs.ServerParts.{HasGreeted, Stays, Takes, IsRefused}
-use Rattle.ua_channel.specs.ServerRules.{receive_size, opening_gate, running_gate, server_gate, server_rules}
-use Rattle.ua_channel.specs.ServerTold.{Told}
+use Rattle.ua_channel.specs.Received.{Received, nothing_received, received}
+use Rattle.ua_channel.specs.ServerRules.{receive_size, server_gate, server_rules}
+use Rattle.ua_channel.specs.ServerTold.{Told, issued}
 use Rattle.ua_channel.specs.Stops.{StopsAt}
+use Rattle.ua_chunk.specs.Assembling.{last_number, octet_limit, chunk_limit}
+use Rattle.ua_channel.specs.declared.running.Running.{Running}
+use Rattle.ua_channel.specs.ServerRefusals.{last_used}
+use Rattle.ua_chunk.specs.Assembling as assembling
 
 -- ---- what is held
 
@@ -41,21 +37,36 @@ bound_after limits before = bound_behind limits before.hello
 abbrev pub held_after : Received → List ℕ → ℕ
 held_after before rest = length rest + open_octets before.messages
 
+-- an open channel of a server with these limits stands where this was received
+pub record Stays (limits : Limits) (r : Running) (before : Received) : Type 0 where
+  pub hello : Hello
+  pub hello_is : before.hello ≡ Some hello
+  pub agreement_is : r.agreement ≡ agreement_of limits hello
+  pub large : 8192 ≤ receive_size limits (Some hello)
+  pub issued_is : issued before ≡ r.issued
+  pub some : 0 < r.issued
+  pub used_is : last_used before ≡ r.used
+  pub last_is : before.last ≡ last_number r.assembler
+  pub assembles : assembling.Stands r.assembler before.messages
+  pub octets : octet_limit r.assembler ≡ limits.max_message_size
+  pub chunks : chunk_limit r.assembler ≡ limits.max_chunk_count
+  pub goes_on : before.closed ≡ false
+
+-- a server with these limits agreed to this where this was received, and has no OPN yet
+pub record HasGreeted (limits : Limits) (a : Agreement) (before : Received) : Type 0 where
+  pub hello : Hello
+  pub before_is : before ≡ record nothing_received { hello = Some hello }
+  pub agreement_is : a ≡ agreement_of limits hello
+  pub large : 8192 ≤ receive_size limits (Some hello)
+
 -- ---- phases
 
 -- a phase is that of a server with these limits where this was received
-abbrev pub InPhase : Limits → Phase → Received → Type 0
-InPhase limits Waiting before = before ≡ nothing_received
-InPhase limits (Greeted a) before = HasGreeted limits a before
-InPhase limits (Open r) before = Stays limits r before
-InPhase limits Done before = ⊥
-
--- the gate of a phase
-abbrev pub phase_gate : Phase → Gate
-phase_gate Waiting = hello_gate
-phase_gate (Greeted a) = opening_gate a.ack.receive_buffer_size
-phase_gate (Open r) = running_gate r.agreement.ack.receive_buffer_size
-phase_gate Done = closed_gate 0
+abbrev pub InServerPhase : Limits → Phase → Received → Type 0
+InServerPhase limits Waiting before = before ≡ nothing_received
+InServerPhase limits (Greeted a) before = HasGreeted limits a before
+InServerPhase limits (Open r) before = Stays limits r before
+InServerPhase limits Done before = ⊥
 
 -- in this phase there is no token
 abbrev pub HasNoToken : Phase → Type 0
@@ -63,13 +74,6 @@ HasNoToken Waiting = Unit {0}
 HasNoToken (Greeted a) = Unit {0}
 HasNoToken (Open r) = ⊥
 HasNoToken Done = Unit {0}
-
--- where replies go in this phase, if the channel is open
-abbrev pub LaneIs : ℕ → Phase → Lane → Type 0
-LaneIs channel Waiting lane = ⊥
-LaneIs channel (Greeted a) lane = ⊥
-LaneIs channel (Open r) lane = lane ≡ lane_of channel r.used r.agreement
-LaneIs channel Done lane = ⊥
 
 -- ---- the channel
 
@@ -90,8 +94,8 @@ abbrev pub bound_of : ServerChannel → ℕ
 bound_of x = x.bound
 
 -- no channel is open: there was no OPN yet, or the channel has ended
-abbrev pub IsNotOpen : ServerChannel → Type 0
-IsNotOpen x = HasNoToken x.phase
+abbrev pub IsWithoutToken : ServerChannel → Type 0
+IsWithoutToken x = HasNoToken x.phase
 
 -- the rules of a channel
 abbrev pub rules_of : ServerChannel → Rules Told ℕ
@@ -99,7 +103,7 @@ rules_of x = server_rules (limits_of x) (channel_of x)
 
 -- a channel is where this leaves it that was received
 pub record Holds (x : ServerChannel) (before : Received) : Type 0 where
-  pub phase_is : InPhase (limits_of x) x.phase before
+  pub phase_is : InServerPhase (limits_of x) x.phase before
   pub bound_is : x.bound ≡ bound_after (limits_of x) before
 
 -- a channel is where these octets leave it: these are their frames, and this is the rest, of a frame that is not whole
@@ -161,17 +165,3 @@ pub record RefusedAt (x : ServerChannel) (octets : List ℕ) (told : List Told) 
   pub stops : StopsAt (rules_of x) frames rest code
   pub told_is : events (rules_of x) frames ≡ told
   pub bound_is : x.bound ≡ bound_after (limits_of x) (received frames)
-
--- ---- what a frame makes of it
-
--- where a channel stands behind a frame, by whether that was the last
-abbrev pub GoesOn : Bool → ServerChannel → Received → Type 0
-GoesOn false x before = Holds x before
-GoesOn true x before = (x.phase ≡ Done) × (x.bound ≡ bound_after (limits_of x) before)
-
--- what is made of a frame that carries this, and where the channel then stands
-abbrev pub JudgesFrame : ServerChannel → Received → Content → Result (Option Event) StepFault → ServerChannel → Type 0
-JudgesFrame old before c (Ok e) new = Takes (limits_of old) (channel_of old) before c e × GoesOn (after before c).closed new (after before c)
-JudgesFrame old before c (Err (Refused code)) new = IsRefused (limits_of old) (channel_of old) before c code.code × (new.phase ≡ Done) × (new.bound ≡ old.bound)
-JudgesFrame old before c (Err OutOfMemory) new = new.phase ≡ Done
-JudgesFrame old before c (Err Closed) new = ⊥

@@ -52,9 +52,9 @@ opened_by token numbers request = []
 -- ---- MSG
 
 -- what a chunk under this token delivers, as what it tells
-abbrev pub told_item : ℕ → Item → Told
-told_item token (Whole id octets) = Asked id token octets
-told_item token (Aborted id code reason) = GaveUp id
+abbrev pub told_under : ℕ → Item → Told
+told_under token (Whole id octets) = Asked id token octets
+told_under token (Aborted id code reason) = GaveUp id
 
 -- ---- any frame
 
@@ -62,6 +62,6 @@ told_item token (Aborted id code reason) = GaveUp id
 abbrev pub server_tells : Limits → Received → Content → List Told
 server_tells limits before (Greets (Some h)) = Agreed (agreement_of limits h) ∷ []
 server_tells limits before (Opens o) = opened_by (issued before + 1) o.numbers (request_of o)
-server_tells limits before (Sends c) = map (told_item c.token) (given before.messages c)
+server_tells limits before (Sends c) = map (told_under c.token) (given before.messages c)
 server_tells limits before (Closes c) = Closed ∷ []
 server_tells limits before other = []

@@ -1,17 +1,15 @@
 //! What a server and a client agree to.
 
 ghost use Rattle.std.specs.Prelude.{◌≡◌, ◌<◌, ◌+◌, ◌^◌};
-ghost use Rattle.ua_channel.specs.ServerParts.{JudgesHello};
+ghost use Rattle.ua_channel.specs.inside.ServerParts.{JudgesHello};
 
+use crate::sizes::CHUNK_HEADERS;
 use crate::step_fault::StepFault;
 use std::alloc::Global;
 use std::marker::Model;
 use ua_builtin::{StatusCode, Wire};
 use ua_chunk::Lane;
 use ua_frame::{Ack, Hello, Limits, agree};
-
-/// The octets of a chunk's headers.
-const HEADERS: u32 = 24;
 
 /// What a server and a client agreed to: the ACK, and the client's limits of a message.
 #[derive(Clone, Copy)]
@@ -37,7 +35,6 @@ impl Model for Agreement {
 impl Agreement {
     ghost use Rattle.std.specs.Prelude.{◌≤◌};
     ghost use Rattle.ua_channel.specs.Agreement.{lane_of};
-
     /// The Acknowledge.
     #[inline]
     pub(crate) fn ack(&self) -> Ack
@@ -64,7 +61,7 @@ impl Agreement {
         Lane {
             channel,
             token,
-            room: self.ack.send_buffer_size - HEADERS,
+            room: self.ack.send_buffer_size - CHUNK_HEADERS,
             octets: self.octets,
             chunks: self.chunks,
         }

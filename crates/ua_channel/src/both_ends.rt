@@ -27,8 +27,6 @@ ghost use Rattle.ua_channel.specs.ClientReads.{AtClient, ClientAgrees, ClientRea
 ghost use Rattle.ua_channel.specs.ClientAsks.{is_too_large, room_of};
 ghost use Rattle.ua_channel.specs.InStep.{AreInStep, lane_back};
 ghost use Rattle.ua_channel.specs.Received.{latest};
-ghost use Rattle.ua_channel.specs.ClientReads as replies;
-ghost use Rattle.ua_channel.specs.ServerReads as server;
 ghost use Rattle.ua_channel.specs.ClientSends.{close_frame, first_open, hello_frame, hello_to, renewal_frame};
 ghost use Rattle.ua_channel.specs.Client as client;
 ghost use Rattle.ua_channel.specs.ClientTold.{Told as ClientTold, Told as client_told, Why};
@@ -182,35 +180,6 @@ pub fn client_refuses()
     ensures close { (x : ClientChannel) (asks : List Placed) (octets : List ℕ) (frames : List Frame) (rest : List ℕ) (told : List ClientTold) (at : AtClient) →
         client.Stands x asks octets frames rest → ClientReads (client.limits_of x) asks octets told at →
         client.closing_refused x ≡ None }
-{}
-
-/// A server takes all that a client sends on an open channel, calls and renewals in any order, each
-/// where it may be sent: it is asked each body, whole and once, in that order.
-pub fn server_reads_all()
-    ensures { (limits : Limits) (channel : ℕ) (octets : List ℕ) (told : List Told) (at : AtServer) (ss : List server.Sending) →
-        channel < 2 ^ 32 → ServerReads limits channel octets told at → server.MaySendAll limits channel at ss →
-        ServerReads limits channel (octets ++ server.all_octets channel at ss) (told ++ server.all_told at ss) (server.behind_all at ss) }
-{}
-
-/// A whole connection: the HEL of a client, its OPN, all that it sends then, and its CLO close the
-/// channel of a server, which agreed, issued the first token and was asked each body.
-pub fn server_reads_connection()
-    ensures { (limits : Limits) (channel : ℕ) (client : Limits) (url : Option (List ℕ)) (opened : DateTime) (ss : List server.Sending) (token id : ℕ) (closed : DateTime) →
-        IsTrue (hello.encodable (hello_to client url)) → url_length url ≤ 4095 → IsTrue (date_time.encodable opened) → channel < 2 ^ 32 → id < 2 ^ 32 →
-        server.MaySendAll limits channel (with_token (greeted_at (hello_to client url))) ss →
-        IsTakenAt (server.behind_all (with_token (greeted_at (hello_to client url))) ss) token →
-        ServerCloses limits channel
-        (((frame_octets (hello_frame (hello_to client url)) ++ frame_octets (first_open opened)) ++ server.all_octets channel (with_token (greeted_at (hello_to client url))) ss)
-        ++ frame_octets (close_frame channel token (server.behind_all (with_token (greeted_at (hello_to client url))) ss).next id closed))
-        (((server_told.Agreed (agreement_of limits (hello_to client url)) ∷ server_told.Opened 1 0 1 3600000 ∷ []) ++ server.all_told (with_token (greeted_at (hello_to client url))) ss) ++ server_told.Closed ∷ []) }
-{}
-
-/// A client takes all that a server sends on an open channel, replies and answers to renewals in any
-/// order, each where it may be sent: it is told the reply to each call, or that it was given up.
-pub fn client_reads_all()
-    ensures { (limits : Limits) (asks : List Placed) (octets : List ℕ) (told : List ClientTold) (at : AtClient) (ss : List replies.Sending) →
-        ClientReads limits asks octets told at → replies.MaySendAll limits at ss →
-        ClientReads limits asks (octets ++ replies.all_octets at ss) (told ++ replies.all_told ss) (replies.behind_all at ss) }
 {}
 
 /// Where a server and a client are in step, which they are behind the opening, each sends what the

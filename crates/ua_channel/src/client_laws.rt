@@ -16,7 +16,7 @@ ghost use Rattle.ua_chunk.specs.Delivered.{delivered};
 ghost use Rattle.ua_channel.specs.Asks.{Placed, asked_in, calls, is_in, next_id};
 ghost use Rattle.ua_channel.specs.Client.{call_refused, closing_refused, renewal_refused, Goes, GoesTelling, HasNoChannel, IsDone, SendsCall, SendsClosing, SendsRenewal, Stands};
 ghost use Rattle.ua_channel.specs.ClientAsks.{call_reasons, calls_at, closing_reasons, renewing_reasons, IsCalled, IsClosed, IsRenewed};
-ghost use Rattle.ua_channel.specs.ClientConversation.{ClientConversation, Continues, IsConversation};
+ghost use Rattle.ua_channel.specs.ClientConversation.{ClientConversation, ClientContinues, IsClientConversation};
 ghost use Rattle.ua_channel.specs.ClientTable.{client_rules};
 ghost use Rattle.ua_channel.specs.ClientTokens.{responses};
 ghost use Rattle.ua_channel.specs.ClientTold.{Told, Why, told_item};
@@ -111,7 +111,7 @@ pub fn client_judges()
 pub fn client_converses()
     ensures frames { (limits : Limits) (asks : List Placed) (frames : List Frame) → AllAfter (Fits (client_rules limits asks)) frames ↔ ClientConversation limits asks frames }
     ensures going { (limits : Limits) (asks : List Placed) (octets : List ℕ) (frames : List Frame) (rest : List ℕ) →
-        Run (client_rules limits asks) octets frames rest Going ↔ Continues limits asks octets frames rest }
+        Run (client_rules limits asks) octets frames rest Going ↔ ClientContinues limits asks octets frames rest }
     ensures none_wrong { (limits : Limits) (asks : List Placed) (octets : List ℕ) (raws : List (List ℕ)) (rest : List ℕ) → Frames octets raws rest →
-        ((why : Why) → FirstWrong (client_rules limits asks) raws rest why → ⊥) ↔ IsConversation limits asks octets }
+        ((why : Why) → FirstWrong (client_rules limits asks) raws rest why → ⊥) ↔ IsClientConversation limits asks octets }
 {}

@@ -20,7 +20,7 @@ ghost use Rattle.ua_channel.specs.ServerMessages.{message_of, messages_in};
 ghost use Rattle.ua_channel.specs.ServerPlaces.{agreed_by};
 ghost use Rattle.ua_channel.specs.ServerRules.{server_rules};
 ghost use Rattle.ua_channel.specs.ServerSends.{RepliesGo};
-ghost use Rattle.ua_channel.specs.ServerStands.{channel_of, limits_of, Goes, GoesTelling, IsDone, IsNotOpen, Stands};
+ghost use Rattle.ua_channel.specs.ServerStands.{channel_of, limits_of, Goes, GoesTelling, IsDone, IsWithoutToken, Stands};
 ghost use Rattle.ua_channel.specs.ServerTold.{Told, Told as told};
 ghost use Rattle.ua_channel.specs.declared.server.ServerChannel.{ServerChannel};
 
@@ -67,10 +67,10 @@ pub fn server_agrees_first()
 /// is open.
 pub fn server_is_open()
     ensures stands { (x : ServerChannel) (octets : List ℕ) (frames : List Frame) (rest : List ℕ) →
-        Stands x octets frames rest → IsNotOpen x ↔ ((received frames).openings ≡ []) }
-    ensures done { (x : ServerChannel) → IsDone x → IsNotOpen x }
+        Stands x octets frames rest → IsWithoutToken x ↔ ((received frames).openings ≡ []) }
+    ensures done { (x : ServerChannel) → IsDone x → IsWithoutToken x }
     ensures asked { (x : ServerChannel) (octets : List ℕ) (before : List Told) (id token : ℕ) (message : List ℕ) →
-        GoesTelling x octets before (told.Asked id token message) → IsNotOpen x → ⊥ }
+        GoesTelling x octets before (told.Asked id token message) → IsWithoutToken x → ⊥ }
 {}
 
 /// The messages of which frames tell a server, whole or given up, are those that their chunks

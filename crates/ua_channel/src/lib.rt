@@ -32,6 +32,7 @@ mod server;
 mod server_event;
 mod server_fault;
 mod server_opening;
+mod sizes;
 mod step_fault;
 
 pub use client::{AskFault, ClientChannel, ClientEvent, ClientTakeFault};

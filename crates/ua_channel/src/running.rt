@@ -35,7 +35,8 @@ impl Running {
     ghost use Rattle.ua_channel.specs.Content.{opening_of};
     ghost use Rattle.ua_channel.specs.Content.Content.{Opens, Sends, Closes};
     ghost use Rattle.ua_channel.specs.Received.{Received};
-    ghost use Rattle.ua_channel.specs.ServerParts.{Stays, HasGreeted, JudgesFirst, Judges, JudgesClose, ids_reasons};
+    ghost use Rattle.ua_channel.specs.inside.ServerParts.{JudgesFirst, Judges, JudgesClose, ids_reasons};
+    ghost use Rattle.ua_channel.specs.ServerStands.{Stays, HasGreeted};
 
     /// A channel that the first OPN opens, and what that tells.
     pub(crate) fn open(

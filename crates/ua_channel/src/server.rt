@@ -9,18 +9,13 @@ use crate::running::Running;
 use crate::sending::{Opening, agreed_octets, opened_octets, reply_octets};
 use crate::server_event::{Event, ServerEvent};
 use crate::server_fault::{ChannelFault, ReplyFault};
+use crate::sizes::{LEAST_SIZE, MOST_OPEN};
 use crate::step_fault::StepFault;
 use std::alloc::{AllocError, Global};
 use std::mem;
 use ua_builtin::DateTime;
 use ua_chunk::{Lane, read_chunk};
 use ua_frame::{Frame, FrameReader, Gate, HEADER_LEN, Kind, Limits};
-
-/// The most octets that are held before the ACK: those of the largest HEL.
-const FIRST_BOUND: u32 = 8192;
-
-/// How many messages may be unfinished.
-const MOST_OPEN: usize = 4;
 
 /// How far a connection has come.
 #[derive(Drop)]
@@ -58,7 +53,7 @@ pub struct ServerChannel {
 fn hello_gate() -> Gate
     ensures { result ≡ first_gate }
 {
-    Gate::new(FIRST_BOUND).taking(Kind::Hel)
+    Gate::new(LEAST_SIZE).taking(Kind::Hel)
 }
 
 impl ServerChannel {
@@ -68,14 +63,16 @@ impl ServerChannel {
     ghost use Rattle.ua_chunk.specs.Cutting.{most_octets};
     ghost use Rattle.ua_chunk.specs.declared.lane.Lane.{Lane};
     ghost use Rattle.ua_chunk.specs.Open.{open_ids, open_octets};
-    ghost use Rattle.ua_channel.specs.Content.{HasShape, content};
+    ghost use Rattle.ua_channel.specs.Content.{content};
+    ghost use Rattle.ua_channel.specs.inside.Parts.{HasShape};
     ghost use Rattle.ua_channel.specs.Received.{Received, received};
-    ghost use Rattle.ua_channel.specs.ServerAnswers.{Tells, Steps, Progress, Nexts, Answered, AnswersAt, ServerAnswers, ComesInParts};
-    ghost use Rattle.ua_channel.specs.ServerEvents.{parts_of, parts_handed};
-    ghost use Rattle.ua_channel.specs.ServerParts.{Stays};
+    ghost use Rattle.ua_channel.specs.ServerAnswers.{Progress, AnswersAt, ServerAnswers, AsksInParts, parts_asked};
+    ghost use Rattle.ua_channel.specs.inside.ServerSteps.{StandsWith, Steps, Nexts, Answered};
+    ghost use Rattle.ua_channel.specs.inside.ServerEvents.{parts_of};
+    ghost use Rattle.ua_channel.specs.ServerStands.{Stays, limits_of, channel_of, next_of, bound_of, HasNoToken, IsWithoutToken, Holds, Stands, Goes, IsDone, bound_after, held_after};
+    ghost use Rattle.ua_channel.specs.inside.ServerFrames.{phase_gate, LaneIs, JudgesFrame};
     ghost use Rattle.ua_channel.specs.ServerRules.{receive_size};
     ghost use Rattle.ua_channel.specs.ServerSends.{IsReply, RepliesGo};
-    ghost use Rattle.ua_channel.specs.ServerStands.{limits_of, channel_of, next_of, phase_gate, bound_of, HasNoToken, IsNotOpen, LaneIs, Holds, Stands, Goes, IsDone, JudgesFrame, bound_after, held_after};
     ghost use Rattle.ua_channel.specs.ServerTold.{Told};
     ghost use Rattle.ua_channel.specs.declared.server.Phase.TheVariants as phase;
     ghost use Rattle.ua_channel.specs.declared.server_fault.ChannelFault.TheVariants as fault;
@@ -97,7 +94,7 @@ impl ServerChannel {
             channel,
             reader: FrameReader::new(alloc, hello_gate()),
             numbers: Numbers::new(),
-            bound: FIRST_BOUND as usize,
+            bound: LEAST_SIZE as usize,
             phase: Phase::Waiting,
         }
     }
@@ -197,7 +194,7 @@ impl ServerChannel {
     /// One call of the reader, and what its frame comes to, with the octets that were taken.
     fn step(&mut self, piece: &[u8]) -> (usize, Result<Option<Event>, StepFault>)
         ensures steps { (octets : List ℕ) (told : List Told) → Goes self.old octets told → Steps piece.now result.0 result.1 self.new octets told }
-        ensures parts { (octets : List ℕ) (told : List Told) → Goes self.old octets told → IfOk result.1 (λ e. ComesInParts (parts_of e) self.new (octets ++ take result.0 piece.now)) }
+        ensures parts { (octets : List ℕ) (told : List Told) → Goes self.old octets told → IfOk result.1 (λ e. AsksInParts (parts_of e) self.new (octets ++ take result.0 piece.now)) }
         ensures progress { Progress piece.now result.0 result.1 }
         ensures limits { limits_of self.new ≡ limits_of self.old }
         ensures channel { channel_of self.new ≡ channel_of self.old }
@@ -224,7 +221,7 @@ impl ServerChannel {
     /// and says how many it took.
     fn next_event(&mut self, piece: &[u8]) -> (usize, Result<Option<Event>, StepFault>)
         ensures nexts { (octets : List ℕ) (told : List Told) → Goes self.old octets told → Nexts piece.now result.0 result.1 self.new octets told }
-        ensures parts { (octets : List ℕ) (told : List Told) → Goes self.old octets told → IfOk result.1 (λ e. ComesInParts (parts_of e) self.new (octets ++ take result.0 piece.now)) }
+        ensures parts { (octets : List ℕ) (told : List Told) → Goes self.old octets told → IfOk result.1 (λ e. AsksInParts (parts_of e) self.new (octets ++ take result.0 piece.now)) }
         ensures progress { Progress piece.now result.0 result.1 }
         ensures limits { limits_of self.new ≡ limits_of self.old }
         ensures channel { channel_of self.new ≡ channel_of self.old }
@@ -262,9 +259,9 @@ impl ServerChannel {
 
     /// What is answered at an event of the last frame. The moment is that of an OPN response.
     fn answer(&mut self, event: Event, moment: DateTime) -> Result<ServerEvent, ChannelFault>
-        ensures answers { (octets : List ℕ) (told : List Told) → Tells event self.old octets told
+        ensures answers { (octets : List ℕ) (told : List Told) → StandsWith event self.old octets told
             → Answered (channel_of self.old) (next_of self.old) moment result self.new octets told }
-        ensures parts { (octets : List ℕ) → ComesInParts (parts_of (Some event)) self.old octets → IfOk result (λ e. ComesInParts (parts_handed e) self.new octets) }
+        ensures parts { (octets : List ℕ) → AsksInParts (parts_of (Some event)) self.old octets → IfOk result (λ e. AsksInParts (parts_asked e) self.new octets) }
         ensures limits { limits_of self.new ≡ limits_of self.old }
         ensures channel { channel_of self.new ≡ channel_of self.old }
     {
@@ -314,7 +311,7 @@ impl ServerChannel {
         ensures answers { (octets : List ℕ) (told : List Told) → Goes self.old octets told
             → AnswersAt (channel_of self.old) (next_of self.old) moment piece.now result.0 result.1 self.new octets told }
         ensures parts { (octets : List ℕ) (told : List Told) → Goes self.old octets told
-            → IfOk result.1 (λ e. ComesInParts (parts_handed e) self.new (octets ++ take result.0 piece.now)) }
+            → IfOk result.1 (λ e. AsksInParts (parts_asked e) self.new (octets ++ take result.0 piece.now)) }
         ensures progress { Progress piece.now result.0 result.1 }
         ensures limits { limits_of self.new ≡ limits_of self.old }
         ensures channel { channel_of self.new ≡ channel_of self.old }
@@ -338,7 +335,7 @@ impl ServerChannel {
             → AnswersAt (channel_of self.old) (next_of self.old) moment piece.now result.0 result.1 self.new octets told }
         // A message that is handed out is the bodies of its chunks: nothing is joined.
         ensures parts { (octets : List ℕ) (told : List Told) → Goes self.old octets told
-            → IfOk result.1 (λ e. ComesInParts (parts_handed e) self.new (octets ++ take result.0 piece.now)) }
+            → IfOk result.1 (λ e. AsksInParts (parts_asked e) self.new (octets ++ take result.0 piece.now)) }
         ensures progress { Progress piece.now result.0 result.1 }
         ensures within { result.0 ≤ length piece.now }
         ensures closed { IsDone self.old → (result.0 ≡ 0) × (result.1 ≡ Err fault.Closed) × (self.new ≡ self.old) }
@@ -375,7 +372,7 @@ impl ServerChannel {
             → ServerAnswers (channel_of self.old) (next_of self.old) moment piece.now result self.new octets told }
         // A message that is handed out is the bodies of its chunks: nothing is joined.
         ensures parts { (octets : List ℕ) (told : List Told) → Goes self.old octets told
-            → IfOk result (λ r. ComesInParts (parts_handed r.1) self.new (octets ++ take r.0 piece.now)) }
+            → IfOk result (λ r. AsksInParts (parts_asked r.1) self.new (octets ++ take r.0 piece.now)) }
         ensures closed { IsDone self.old → (result ≡ Err fault.Closed) × (self.new ≡ self.old) }
         // After want of memory, the bound is what it was before the call.
         ensures starved { IsErrOf result fault.OutOfMemory → bound_of self.new ≡ bound_of self.old }
@@ -404,9 +401,9 @@ impl ServerChannel {
     /// The most octets that the body of a reply can have to be sent; none where the client sets no
     /// such limit, and where no channel is open. One with more becomes an abort.
     pub fn most_octets(&self) -> Option<usize>
-        ensures most { (octets : List ℕ) (frames : List Frame) (rest : List ℕ) → Stands self.now octets frames rest → (IsNotOpen self.now → ⊥)
+        ensures most { (octets : List ℕ) (frames : List Frame) (rest : List ℕ) → Stands self.now octets frames rest → (IsWithoutToken self.now → ⊥)
             → (lane : Lane) → RepliesGo (limits_of self.now) (channel_of self.now) (received frames) lane → (0 < lane.room) × (result ≡ most_octets lane) }
-        ensures not_open { IsNotOpen self.now → result ≡ None }
+        ensures not_open { IsWithoutToken self.now → result ≡ None }
     {
         match self.lane() {
             Some(lane) => lane.most_octets(),
@@ -425,7 +422,7 @@ impl ServerChannel {
             → IfOk result (λ out. (lane : Lane) × RepliesGo (limits_of self.old) (channel_of self.old) (received frames) lane
             × IsReply lane body.now (next_of self.old) id out.items (next_of self.new)) }
         // No channel is open before the first OPN, and once the channel ended, and then alone.
-        ensures not_open { IsErrOf result NotOpen ↔ IsNotOpen self.old }
+        ensures not_open { IsErrOf result NotOpen ↔ IsWithoutToken self.old }
         ensures unchanged { IsErrOf result NotOpen → self.new ≡ self.old }
         ensures before { (octets : List ℕ) (frames : List Frame) (rest : List ℕ) → Stands self.old octets frames rest
             → IsErrOf result NotOpen ↔ ((received frames).openings ≡ []) }

@@ -45,13 +45,13 @@ pub enum Event {
 impl Event {
     ghost use Rattle.std.specs.Prelude.{map};
     ghost use Rattle.ua_chunk.specs.View.{items_of};
-    ghost use Rattle.ua_channel.specs.MessageParts.{parts_in};
-    ghost use Rattle.ua_channel.specs.ServerTold.{told_item};
-    ghost use Rattle.ua_channel.specs.ServerEvents.{told_list, parts_of};
+    ghost use Rattle.ua_channel.specs.inside.Parts.{parts_in};
+    ghost use Rattle.ua_channel.specs.ServerTold.{told_under};
+    ghost use Rattle.ua_channel.specs.inside.ServerEvents.{told_list, parts_of};
 
     /// What a chunk under this token delivers, as an event.
     pub(crate) fn of_delivered(token: u32, delivered: Option<Delivered>) -> Option<Event>
-        ensures tells { told_list result ≡ map (told_item token) (items_of delivered) }
+        ensures tells { told_list result ≡ map (told_under token) (items_of delivered) }
         ensures parts { parts_of result ≡ parts_in delivered }
     {
         match delivered {

@@ -36,7 +36,7 @@ pub enum ReplyFault {
 }
 
 impl ChannelFault {
-    ghost use Rattle.ua_channel.specs.ServerFaults.{of_step};
+    ghost use Rattle.ua_channel.specs.inside.StepFaults.{of_step};
 
     /// What a fault of a step comes to.
     pub(crate) fn of_step(fault: StepFault) -> ChannelFault

@@ -2,7 +2,7 @@
 
 ghost use Rattle.std.specs.Prelude.{◌≡◌, option_map};
 ghost use Rattle.ua_builtin.specs.Reasons.{first_reason};
-ghost use Rattle.ua_channel.specs.ServerParts.{AsksFor, ReadsAsked, asked_reasons, JudgesOpening};
+ghost use Rattle.ua_channel.specs.inside.ServerParts.{AsksFor, ReadsAsked, asked_reasons, JudgesOpening};
 ghost use Rattle.ua_channel.specs.ServerTold.{lifetime_for};
 
 use crate::server_event::Event;
@@ -44,7 +44,7 @@ pub struct Opened {
 }
 
 impl Opened {
-    ghost use Rattle.ua_channel.specs.ServerEvents.{told_of};
+    ghost use Rattle.ua_channel.specs.inside.ServerEvents.{told_of};
     ghost use Rattle.ua_channel.specs.ServerTold.{Told as told};
 
     /// The event of this opening, with the token that it has issued.

@@ -16,7 +16,7 @@ pub enum StepFault {
 }
 
 impl StepFault {
-    ghost use Rattle.ua_channel.specs.StepFaults.{of_frame_fault, of_open_fault, of_chunk_fault};
+    ghost use Rattle.ua_channel.specs.inside.StepFaults.{of_frame_fault, of_open_fault, of_chunk_fault};
 
     /// What a fault of the frame reader comes to.
     pub(crate) fn of_frame(fault: FrameFault) -> StepFault

@@ -11,11 +11,12 @@ ghost use Rattle.ua_channel.specs.Asks.Asking.{Call, Renewal};
 ghost use Rattle.ua_channel.specs.Client.{Stands, Goes, IsDone, InPhase, SameClient, limits_of, url_of, next_of, phase_of, bound_of, bound_behind, held_octets, call_refused, renewal_refused, closing_refused, JudgesLength, SendsCall, SendsRenewal, SendsClosing};
 ghost use Rattle.ua_channel.specs.ClientAnswers.{ClientAnswers, AnswersEvent, ComesInParts, Progress, parts_handed};
 ghost use Rattle.ua_channel.specs.ClientAsks.{call_reasons, closing_reasons, renewing_reasons, Talks, AnswersFor, IsCalled, IsClosed, IsRenewed, JudgesBy};
-ghost use Rattle.ua_channel.specs.ClientParts.{Judged, JudgesWhole, Takes, OpensChannel, StaysOpen, FailsBy, IsFront, Steps, Advances, TellsEvent, greeted, parts_of};
+ghost use Rattle.ua_channel.specs.inside.ClientParts.{Judged, JudgesWhole, TookFrame, OpensChannel, StaysOpen, FailsBy, IsFront, StepsOnce, Advances, TellsEvent, greeted, event_parts};
 ghost use Rattle.ua_channel.specs.ClientSends.{hello_frame, hello_to};
 ghost use Rattle.ua_channel.specs.ClientTable.{client_gate, client_reasons, ack_gate, answer_gate, reply_gate};
 ghost use Rattle.ua_channel.specs.ClientTold.{Told};
-ghost use Rattle.ua_channel.specs.Content.{HasShape, content};
+ghost use Rattle.ua_channel.specs.Content.{content};
+ghost use Rattle.ua_channel.specs.inside.Parts.{HasShape};
 ghost use Rattle.ua_channel.specs.Received.{Received, nothing_received, received};
 ghost use Rattle.ua_channel.specs.declared.client.fault.AskFault.TheVariants.{NotOpen};
 ghost use Rattle.ua_channel.specs.declared.client.fault.ClientTakeFault.TheVariants.{Closed, OutOfMemory};
@@ -29,19 +30,11 @@ use crate::client::octets::{close_octets, hello_octets, open_octets};
 use crate::client::phase::Phase;
 use crate::client::talking::Talking;
 use crate::numbers::Numbers;
+use crate::sizes::{FIRST_ID, LEAST_SIZE, MOST_OPEN};
 use std::alloc::{AllocError, Global};
 use std::mem;
 use ua_builtin::{DateTime, UaString};
 use ua_frame::{Frame, FrameFault, FrameReader, Gate, HEADER_LEN, Kind, Limits};
-
-/// The most octets of a frame before sizes are agreed to.
-const FIRST_SIZE: u32 = 8192;
-
-/// The most messages that may be unfinished.
-const MOST_OPEN: usize = 4;
-
-/// The request id of what is asked first: the OPN takes 1.
-const FIRST_ID: u32 = 2;
 
 /// The client's end of a connection and its secure channel (OPC 10000-6, 6.7 and 7.1), with no IO:
 /// octets that came go in, octets to be sent come out.
@@ -68,7 +61,7 @@ impl ClientChannel {
         ensures url { url_of result ≡ url }
         ensures next { next_of result ≡ 2 }
     {
-        let gate = Gate::new(FIRST_SIZE).taking(Kind::Ack).taking(Kind::Err);
+        let gate = Gate::new(LEAST_SIZE).taking(Kind::Ack).taking(Kind::Err);
         let mut numbers = Numbers::new();
         numbers.step(); // The OPN takes the first one.
         ClientChannel {
@@ -78,7 +71,7 @@ impl ClientChannel {
             reader: FrameReader::new(alloc, gate),
             phase: Phase::Waiting,
             numbers,
-            bound: FIRST_SIZE as usize,
+            bound: LEAST_SIZE as usize,
         }
     }
 
@@ -260,7 +253,7 @@ impl ClientChannel {
     /// Takes the frame behind a HEL.
     fn on_greeting(&mut self, frame: Frame) -> Result<Option<Event>, Stop>
         ensures judges { LetsIn ack_gate frame → Judged (client_reasons (limits_of self.old) nothing_received [] (content frame))
-            (Takes (limits_of self.old) nothing_received [] (content frame) self.new) result }
+            (TookFrame (limits_of self.old) nothing_received [] (content frame) self.new) result }
         ensures kept { self.new ≡ record self.old { phase = phase_of self.new; bound = bound_of self.new } }
         ensures failed { OnErr result (self.new ≡ self.old) }
     {
@@ -315,7 +308,7 @@ impl ClientChannel {
         requires { HasShape frame }
         ensures judges { (before : Received) (asked : List Asking) → InPhase (limits_of self.old) (phase_of self.old) before asked
             → bound_of self.old ≡ bound_behind (limits_of self.old) before.ack → LetsIn (client_gate before) frame
-            → Judged (client_reasons (limits_of self.old) before asked (content frame)) (Takes (limits_of self.old) before asked (content frame) self.new) result }
+            → Judged (client_reasons (limits_of self.old) before asked (content frame)) (TookFrame (limits_of self.old) before asked (content frame) self.new) result }
         ensures kept { self.new ≡ record self.old { phase = phase_of self.new; bound = bound_of self.new } }
         ensures failed { OnErr result (bound_of self.new ≡ bound_of self.old) }
     {
@@ -378,9 +371,9 @@ impl ClientChannel {
 
     /// One call of the reader, and what its frame comes to.
     fn step(&mut self, piece: &[u8]) -> Result<(usize, Option<Event>), ClientTakeFault>
-        ensures steps { (asks : List Placed) (octets : List ℕ) (told : List Told) → Goes self.old asks octets told → Steps piece.now result self.new asks octets told }
+        ensures steps { (asks : List Placed) (octets : List ℕ) (told : List Told) → Goes self.old asks octets told → StepsOnce piece.now result self.new asks octets told }
         ensures parts { (asks : List Placed) (octets : List ℕ) (told : List Told) → Goes self.old asks octets told
-            → IfOk result (λ r. ComesInParts (parts_of r.1) self.new asks (octets ++ take r.0 piece.now)) }
+            → IfOk result (λ r. ComesInParts (event_parts r.1) self.new asks (octets ++ take r.0 piece.now)) }
         ensures progress { Progress piece.now result }
         ensures same { SameClient self.old self.new }
         ensures next { next_of self.new ≡ next_of self.old }
@@ -405,7 +398,7 @@ impl ClientChannel {
     fn advance(&mut self, piece: &[u8]) -> Result<(usize, Option<Event>), ClientTakeFault>
         ensures advances { (asks : List Placed) (octets : List ℕ) (told : List Told) → Goes self.old asks octets told → Advances piece.now result self.new asks octets told }
         ensures parts { (asks : List Placed) (octets : List ℕ) (told : List Told) → Goes self.old asks octets told
-            → IfOk result (λ r. ComesInParts (parts_of r.1) self.new asks (octets ++ take r.0 piece.now)) }
+            → IfOk result (λ r. ComesInParts (event_parts r.1) self.new asks (octets ++ take r.0 piece.now)) }
         ensures progress { Progress piece.now result }
         ensures closed { IsDone self.old → (result ≡ Err Closed) × (self.new ≡ self.old) }
         ensures same { SameClient self.old self.new }
@@ -429,7 +422,7 @@ impl ClientChannel {
     fn answer(&mut self, event: Event, moment: DateTime) -> Result<ClientEvent, ClientTakeFault>
         ensures answers { (asks : List Placed) (octets : List ℕ) (told : List Told) → TellsEvent event self.old asks octets told
             → AnswersEvent moment result self.new asks octets told }
-        ensures parts { (asks : List Placed) (octets : List ℕ) → ComesInParts (parts_of (Some event)) self.old asks octets
+        ensures parts { (asks : List Placed) (octets : List ℕ) → ComesInParts (event_parts (Some event)) self.old asks octets
             → IfOk result (λ e. ComesInParts (parts_handed e) self.new asks octets) }
         ensures same { SameClient self.old self.new }
         ensures next { next_of self.new ≡ next_of self.old }

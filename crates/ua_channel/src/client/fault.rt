@@ -46,7 +46,7 @@ pub enum AskFault {
 
 impl AskFault {
     ghost use Rattle.std.specs.Prelude.{◌≡◌};
-    ghost use Rattle.ua_channel.specs.ClientAsks.{of_cut_fault};
+    ghost use Rattle.ua_channel.specs.inside.ClientAsking.{of_cut_fault};
 
     /// What a fault of cutting comes to.
     pub(crate) fn of_cut(fault: CutFault) -> AskFault
@@ -89,7 +89,7 @@ pub enum Stop {
 
 impl Stop {
     ghost use Rattle.std.specs.Prelude.{◌≡◌};
-    ghost use Rattle.ua_channel.specs.ClientParts.{stop_of, of_chunk_fault, of_open_fault, failure_of};
+    ghost use Rattle.ua_channel.specs.inside.ClientParts.{stop_of, stop_of_chunk, stop_of_open, failure_of};
 
     /// What stops a channel where a frame is not taken.
     pub(crate) fn of_step(fault: StepFault) -> Stop
@@ -104,7 +104,7 @@ impl Stop {
 
     /// What a fault of an assembler comes to.
     pub(crate) fn of_chunk(fault: AssembleFault) -> Stop
-        ensures { result ≡ of_chunk_fault fault }
+        ensures { result ≡ stop_of_chunk fault }
     {
         Stop::of_step(StepFault::of_chunk(fault, StatusCode::BAD_RESPONSE_TOO_LARGE))
     }
@@ -123,7 +123,7 @@ impl Stop {
 
     /// What a fault of an OPN frame comes to.
     pub(crate) fn of_open(fault: OpenFault) -> Stop
-        ensures { result ≡ of_open_fault fault }
+        ensures { result ≡ stop_of_open fault }
     {
         Stop::of_step(StepFault::of_open(fault))
     }

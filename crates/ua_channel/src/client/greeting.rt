@@ -4,7 +4,7 @@ ghost use Rattle.std.specs.Prelude.{◌≡◌, ◌≤◌, [], Some, IfOk, IsFals
 ghost use Rattle.ua_frame.specs.Frames.{LetsIn};
 ghost use Rattle.ua_frame.specs.Messages.{ack, error};
 ghost use Rattle.ua_frame.specs.Whole.{whole_of};
-ghost use Rattle.ua_channel.specs.ClientParts.{Judged, IsStopFor, error_reasons, ack_reasons, IsAgreed};
+ghost use Rattle.ua_channel.specs.inside.ClientParts.{Judged, IsStopFor, error_reasons, ack_reasons, IsAgreed};
 ghost use Rattle.ua_channel.specs.ClientTable.{ack_gate, client_reasons, is_outside};
 ghost use Rattle.ua_channel.specs.Content.{content};
 ghost use Rattle.ua_channel.specs.Content.Content.{Acks};
@@ -12,12 +12,10 @@ ghost use Rattle.ua_channel.specs.Received.{nothing_received};
 
 use crate::client::agreed::Agreed;
 use crate::client::fault::Stop;
+use crate::sizes::LEAST_SIZE;
 use std::alloc::{AllocError, Global};
 use ua_builtin::{StatusCode, Wire};
 use ua_frame::{Ack, ErrorFrame, Frame, Kind, Limits};
-
-/// The least size of a buffer, in octets.
-const LEAST_BUFFER_SIZE: u32 = 8192;
 
 /// The Acknowledge that the body of an ACK is, if it is one.
 fn read_ack(alloc: Global, body: &[u8]) -> Result<Option<Ack>, AllocError>
@@ -49,8 +47,8 @@ fn is_outside(limits: &Limits, ack: &Ack) -> bool
     ensures value { result ≡ is_outside limits.now ack.now }
     ensures sizes { IsFalse result → (8192 ≤ ack.now.receive_buffer_size) × (8192 ≤ ack.now.send_buffer_size) }
 {
-    ack.receive_buffer_size < LEAST_BUFFER_SIZE
-        || ack.send_buffer_size < LEAST_BUFFER_SIZE
+    ack.receive_buffer_size < LEAST_SIZE
+        || ack.send_buffer_size < LEAST_SIZE
         || limits.send_buffer_size < ack.receive_buffer_size
         || limits.receive_buffer_size < ack.send_buffer_size
 }

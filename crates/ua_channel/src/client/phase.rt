@@ -4,10 +4,8 @@ ghost use Rattle.std.specs.Prelude.{◌≡◌};
 
 use crate::client::agreed::Agreed;
 use crate::client::talking::Talking;
+use crate::sizes::LEAST_SIZE;
 use ua_frame::{Gate, Kind};
-
-/// The most octets of a frame before sizes are agreed to.
-const FIRST_SIZE: u32 = 8192;
 
 /// The phases of a client's channel, in order.
 #[derive(Drop)]
@@ -23,15 +21,15 @@ pub enum Phase {
 }
 
 impl Phase {
-    ghost use Rattle.ua_channel.specs.Client.{phase_gate};
+    ghost use Rattle.ua_channel.specs.inside.ClientAsking.{client_phase_gate};
 
     /// Which frames come next.
     pub fn gate(&self) -> Gate
-        ensures { result ≡ phase_gate self.now }
+        ensures { result ≡ client_phase_gate self.now }
     {
         match self {
             Phase::Waiting | Phase::Done => {
-                Gate::new(FIRST_SIZE).taking(Kind::Ack).taking(Kind::Err)
+                Gate::new(LEAST_SIZE).taking(Kind::Ack).taking(Kind::Err)
             }
             Phase::Agreed(agreed) => Gate::new(agreed.ack.send_buffer_size)
                 .taking(Kind::Opn)

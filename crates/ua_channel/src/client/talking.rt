@@ -10,11 +10,13 @@ ghost use Rattle.ua_chunk.specs.Cutting.{pieces};
 ghost use Rattle.ua_chunk.specs.Refusal.{passes};
 ghost use Rattle.ua_channel.specs.Asks.{Asking};
 ghost use Rattle.ua_channel.specs.Asks.Asking.{Call, Renewal};
-ghost use Rattle.ua_channel.specs.ClientAsks.{Talks, lane_of, more_reasons, renew_reasons, is_too_large, Calls, Renews, AnswersCall, JudgesCall, AnswersFor, AsBefore};
-ghost use Rattle.ua_channel.specs.ClientParts.{Judged, greeted, first_reasons, IsOpenedWith, IsOpenedBy, renewal_reasons, IsRenewedWith, TellsRenewal, token_reasons, chunk_reasons, refused_reasons, unasked_reasons, known_reasons, any_event, drops_first, left_behind, IsAccepted, IsDeliveredWith, IsTakenWith, TakesFrame, DeliversEvent};
+ghost use Rattle.ua_channel.specs.ClientAsks.{Talks, lane_of, renew_reasons, is_too_large, Calls, Renews, AnswersFor};
+ghost use Rattle.ua_channel.specs.inside.ClientAsking.{more_reasons, AnswersCall, JudgesCall, AsBefore};
+ghost use Rattle.ua_channel.specs.inside.ClientParts.{Judged, greeted, first_reasons, IsOpenedWith, IsOpenedBy, renewal_reasons, IsRenewedWith, TellsRenewal, token_reasons, chunk_reasons, refused_reasons, unasked_reasons, known_reasons, any_event, drops_first, left_behind, IsAccepted, IsDeliveredWith, IsTakenWith, TakesFrame, DeliversEvent};
 ghost use Rattle.ua_channel.specs.ClientTable.{client_reasons, answer_gate, reply_gate};
 ghost use Rattle.ua_channel.specs.ClientTokens.{from_last};
-ghost use Rattle.ua_channel.specs.Content.{HasShape, content};
+ghost use Rattle.ua_channel.specs.Content.{content};
+ghost use Rattle.ua_channel.specs.inside.Parts.{HasShape};
 ghost use Rattle.ua_channel.specs.Received.{Received};
 
 use crate::client::agreed::Agreed;
@@ -24,6 +26,7 @@ use crate::client::fault::{AskFault, Stop};
 use crate::client::greeting::stop_of_error;
 use crate::client::octets::renewal_octets;
 use crate::numbers::Numbers;
+use crate::sizes::{CHUNK_HEADERS, FIRST_ID, OPENING_ID};
 use std::alloc::Global;
 use ua_builtin::{DateTime, StatusCode};
 use ua_chunk::{Assembler, Chunk, Delivered, Lane, cut, read_chunk};
@@ -37,9 +40,6 @@ const MOST_TOKENS: usize = 16;
 
 /// The first number that no request id is.
 const NO_ID: usize = 4_294_967_295;
-
-/// The octets of a chunk in front of its body.
-const CHUNK_HEADERS: u32 = 24;
 
 /// What a client keeps of an open channel.
 #[derive(Drop)]
@@ -114,7 +114,7 @@ impl Talking {
     ) -> Result<Talking, Stop>
         ensures { Judged (first_reasons answer) (IsOpenedWith limits.now agreed answer) result }
     {
-        if answer.request != 1 {
+        if answer.request != OPENING_ID {
             return Err(Stop::Refused(StatusCode::BAD_UNKNOWN_RESPONSE));
         }
         let mut tokens = Vec::new(alloc);
@@ -128,7 +128,7 @@ impl Talking {
             newest: answer.token,
             pending: Vec::new(alloc),
             renewal: None,
-            next: 2,
+            next: FIRST_ID,
             assembler: Assembler::new(
                 alloc,
                 limits.max_message_size,

@@ -1,6 +1,6 @@
 use Rattle.std.proofs.Common.{sym, subst, List, ℕ, Err}
 use Rattle.std.proofs.lemmas.Result.{err_from_is_err_and}
-use Rattle.ua_channel.specs.ServerParts.{ReadsAsked}
+use Rattle.ua_channel.specs.inside.ServerParts.{ReadsAsked}
 use Rattle.ua_channel.proofs.Openings.{judges_headers, has_headers, judges_body, refuses_asked, opens}
 use Rattle.ua_channel.proofs.server_opening.judge_opening.Goals as goal
 

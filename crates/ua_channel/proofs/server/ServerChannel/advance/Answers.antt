@@ -3,8 +3,7 @@ use Rattle.std.proofs.Common.{◌++◌, take, Result, Err, sym, subst}
 use Rattle.ua_channel.specs.declared.server.ServerChannel.{ServerChannel}
 use Rattle.ua_channel.specs.declared.server_event.ServerEvent.{ServerEvent}
 use Rattle.ua_channel.specs.declared.server_fault.ChannelFault.{ChannelFault}
-use Rattle.ua_channel.specs.ServerAnswers.{AnswersAt, ComesInParts}
-use Rattle.ua_channel.specs.ServerEvents.{parts_handed}
+use Rattle.ua_channel.specs.ServerAnswers.{AnswersAt, AsksInParts, parts_asked}
 use Rattle.ua_channel.specs.ServerStands.{channel_of, next_of}
 use Rattle.ua_channel.proofs.Answering.{starved_with}
 use Rattle.ua_channel.proofs.server.ServerChannel.advance.Goals.{in-OutOfMemory, in_default}
@@ -16,7 +15,7 @@ returns-in-Ok-clause-answers c = λ octets told g.
 
 pub returns-in-Ok-clause-parts : goal.returns-in-Ok-clause-parts
 returns-in-Ok-clause-parts c = λ octets told g.
-    subst (λ (a : Result ServerEvent ChannelFault). IfOk a (λ e. ComesInParts (parts_handed e) c.go_on-n.new.self (octets ++ take c.go_on-n.result.0 c.args.piece.now))) c.in-Ok.is (c.go_on-n.ensures.parts octets told g)
+    subst (λ (a : Result ServerEvent ChannelFault). IfOk a (λ e. AsksInParts (parts_asked e) c.go_on-n.new.self (octets ++ take c.go_on-n.result.0 c.args.piece.now))) c.in-Ok.is (c.go_on-n.ensures.parts octets told g)
 
 pub returns-after-fault-clause-answers : goal.returns-after-fault-clause-answers
 returns-after-fault-clause-answers c = λ octets told g.

@@ -3,8 +3,9 @@ use Rattle.std.proofs.Common.{◌≡◌, Result, Ok, Option, Some, None, ◌++�
 use Rattle.ua_channel.specs.declared.numbers.Numbers.{Numbers}
 use Rattle.ua_channel.specs.declared.server_event.Event.{Event}
 use Rattle.ua_channel.specs.declared.step_fault.StepFault.{StepFault}
-use Rattle.ua_channel.specs.ServerAnswers.{ComesInParts, Nexts}
-use Rattle.ua_channel.specs.ServerEvents.{parts_of}
+use Rattle.ua_channel.specs.ServerAnswers.{AsksInParts}
+use Rattle.ua_channel.specs.inside.ServerSteps.{Nexts}
+use Rattle.ua_channel.specs.inside.ServerEvents.{parts_of}
 use Rattle.ua_channel.specs.ServerStands.{channel_of, next_of}
 use Rattle.ua_channel.proofs.Answering.{answers_nothing, answers_event, answers_fault}
 use Rattle.ua_channel.proofs.server.ServerChannel.go_on.Goals as goal
@@ -28,7 +29,7 @@ pub returns-in-Ok-Some-clause-parts : goal.returns-in-Ok-Some-clause-parts
 returns-in-Ok-Some-clause-parts c = λ octets told g.
     let is : ◌≡◌ {A = Result (Option Event) StepFault} c.next_event-n.result.1 (Ok (Some c.in-Ok-Some.event)) = rw c.in-Ok-Some.field-0-is at c.in-Ok-Some.is in
     c.answer.ensures.parts (octets ++ take c.next_event-n.result.0 c.args.piece.now)
-    (subst (λ (o : Result (Option Event) StepFault). IfOk o (λ e. ComesInParts (parts_of e) c.next_event-n.new.self (octets ++ take c.next_event-n.result.0 c.args.piece.now))) is (c.next_event-n.ensures.parts octets told g))
+    (subst (λ (o : Result (Option Event) StepFault). IfOk o (λ e. AsksInParts (parts_of e) c.next_event-n.new.self (octets ++ take c.next_event-n.result.0 c.args.piece.now))) is (c.next_event-n.ensures.parts octets told g))
 
 pub returns-in-Err-clause-answers : goal.returns-in-Err-clause-answers
 returns-in-Err-clause-answers c = λ octets told g.

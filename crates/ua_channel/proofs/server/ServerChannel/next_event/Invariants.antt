@@ -1,5 +1,5 @@
 use Rattle.std.proofs.Common.{length, ◌-◌}
-use Rattle.ua_channel.specs.ServerAnswers.{Took}
+use Rattle.ua_channel.specs.inside.ServerSteps.{Took}
 use Rattle.ua_channel.proofs.server.ServerChannel.next_event.Given as goal
 
 abbrev pub invariant-loop-taken : goal.invariant-loop-taken

@@ -1,6 +1,6 @@
 use Rattle.std.proofs.Common.{ℕ, ◌+◌, ◌*◌, List, Err, refl, ap, subst}
 use Rattle.std.proofs.lemmas.Result.{err_from_is_err_and}
-use Rattle.ua_channel.specs.ServerParts.{JudgesHello, AgreesTo}
+use Rattle.ua_channel.specs.inside.ServerParts.{JudgesHello, AgreesTo}
 use Rattle.ua_channel.proofs.Frames.{hel_only, opn_only, was, placed, hello_fault, first_fault, hel_taken, first_taken}
 use Rattle.ua_channel.proofs.server.ServerChannel.on_frame.Goals as goal
 

@@ -2,8 +2,7 @@ use Rattle.std.specs.Prelude.{IfOk}
 use Rattle.std.proofs.Common.{◌++◌, take, Result, subst}
 use Rattle.ua_channel.specs.declared.server_event.ServerEvent.{ServerEvent}
 use Rattle.ua_channel.specs.declared.server_fault.ChannelFault.{ChannelFault}
-use Rattle.ua_channel.specs.ServerAnswers.{AnswersAt, ComesInParts}
-use Rattle.ua_channel.specs.ServerEvents.{parts_handed}
+use Rattle.ua_channel.specs.ServerAnswers.{AnswersAt, AsksInParts, parts_asked}
 use Rattle.ua_channel.specs.ServerStands.{channel_of, next_of}
 use Rattle.ua_channel.proofs.Answering.{taken_fault}
 use Rattle.ua_channel.proofs.server.ServerChannel.take.Goals as goal
@@ -19,4 +18,4 @@ returns-in-Err-clause-answers c = λ octets told g.
 
 pub returns-in-Ok-clause-parts : goal.returns-in-Ok-clause-parts
 returns-in-Ok-clause-parts c = λ octets told g.
-    subst (λ (a : Result ServerEvent ChannelFault). IfOk a (λ e. ComesInParts (parts_handed e) c.advance-n.new.self (octets ++ take c.advance-n.result.0 c.args.piece.now))) c.in-Ok.is (c.advance-n.ensures.parts octets told g)
+    subst (λ (a : Result ServerEvent ChannelFault). IfOk a (λ e. AsksInParts (parts_asked e) c.advance-n.new.self (octets ++ take c.advance-n.result.0 c.args.piece.now))) c.in-Ok.is (c.advance-n.ensures.parts octets told g)

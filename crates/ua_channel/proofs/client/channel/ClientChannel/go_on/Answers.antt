@@ -1,6 +1,6 @@
 use Rattle.std.proofs.Common.{◌++◌, take, Option, subst}
 use Rattle.ua_channel.specs.ClientAnswers.{ComesInParts}
-use Rattle.ua_channel.specs.ClientParts.{parts_of}
+use Rattle.ua_channel.specs.inside.ClientParts.{event_parts}
 use Rattle.ua_channel.specs.declared.client.event.Event.{Event}
 use Rattle.ua_channel.proofs.ClientAdvances.{take_ok, take_err, event_told, nothing_told}
 use Rattle.ua_channel.proofs.client.channel.ClientChannel.go_on.Goals as goal
@@ -21,4 +21,4 @@ returns-in-Err-answer-clause-answers c = λ asks octets told g.
 pub returns-in-Ok-answer-clause-parts : goal.returns-in-Ok-answer-clause-parts
 returns-in-Ok-answer-clause-parts c = λ asks octets told g.
     c.in-Ok-answer.ensures.parts asks (octets ++ take c.in-Ok.n c.args.piece.now)
-    (subst (λ (o : Option Event). ComesInParts (parts_of o) c.advance.new.self asks (octets ++ take c.in-Ok.n c.args.piece.now)) c.in-Some.is (c.in-Ok.ensures.parts asks octets told g))
+    (subst (λ (o : Option Event). ComesInParts (event_parts o) c.advance.new.self asks (octets ++ take c.in-Ok.n c.args.piece.now)) c.in-Some.is (c.in-Ok.ensures.parts asks octets told g))

@@ -1,7 +1,7 @@
 use Rattle.std.proofs.Common.{refl, sym, subst}
 use Rattle.ua_chunk.specs.Assembling.{octet_limit, chunk_limit, last_number}
 use Rattle.ua_chunk.specs.Refusal.{reasons}
-use Rattle.ua_channel.specs.ClientParts.{IsStopFor, refused_reasons}
+use Rattle.ua_channel.specs.inside.ClientParts.{IsStopFor, refused_reasons}
 use Rattle.ua_channel.specs.declared.client.fault.Stop.{Stop}
 use Rattle.ua_channel.proofs.ClientChunks.{accepts, refuses}
 use Rattle.ua_channel.proofs.client.talking.Talking.accept.Goals as goal

@@ -1,4 +1,4 @@
-use Rattle.ua_channel.specs.ClientParts.{IsTakenWith, token_reasons, known_reasons}
+use Rattle.ua_channel.specs.inside.ClientParts.{IsTakenWith, token_reasons, known_reasons}
 use Rattle.ua_channel.proofs.ClientChunks.{judged_behind, stops_among}
 use Rattle.ua_channel.proofs.client.talking.Talking.on_chunk.Goals as goal
 

@@ -1,5 +1,5 @@
 use Rattle.std.proofs.Common.{[]}
-use Rattle.ua_channel.specs.ClientParts.{greeted}
+use Rattle.ua_channel.specs.inside.ClientParts.{greeted}
 use Rattle.ua_channel.proofs.ClientTalks.{first_judged, stopped_opn}
 use Rattle.ua_channel.proofs.ClientGreets.{stopped_err}
 use Rattle.ua_channel.proofs.client.talking.Talking.on_first.Goals as goal

@@ -1,5 +1,5 @@
 use Rattle.std.proofs.Common.{Bool, not, subst}
-use Rattle.ua_channel.specs.ClientParts.{Judged, IsDeliveredWith, refused_reasons, unasked_reasons}
+use Rattle.ua_channel.specs.inside.ClientParts.{Judged, IsDeliveredWith, refused_reasons, unasked_reasons}
 use Rattle.ua_channel.proofs.ClientChunks.{known_judged, stops_among}
 use Rattle.ua_channel.proofs.client.talking.Talking.on_known.Goals as goal
 

@@ -1,5 +1,5 @@
 -- What the parts of a server make of one frame.
-use Rattle.std.specs.Prelude.{◌≡◌, ℕ, ◌<◌, ◌≤◌, ◌+◌, ◌==◌, pos, nat_lt, nat_le, Bool, false, ◌&&◌, not, List, [], ◌∷◌, Option, Some, None, Result, Ok, Err}
+use Rattle.std.specs.Prelude.{◌≡◌, ℕ, ◌≤◌, ◌+◌, ◌==◌, pos, nat_lt, nat_le, Bool, ◌&&◌, not, List, [], ◌∷◌, Option, Some, None, Result, Ok, Err}
 use Rattle.std.proofs.Common.{int_eq}
 use Rattle.ua_builtin.specs.Reasons.{first_reason}
 use Rattle.ua_frame.specs.declared.hello.Hello.{Hello}
@@ -8,8 +8,6 @@ use Rattle.ua_frame.specs.Hello.{hello_in}
 use Rattle.ua_services.specs.Message.{message, body_of}
 use Rattle.ua_structures.specs.SecureChannel.{open_request}
 use Rattle.ua_structures.specs.declared.secure_channel.OpenRequest.{OpenRequest}
-use Rattle.ua_chunk.specs.Assembling.{last_number, octet_limit, chunk_limit}
-use Rattle.ua_chunk.specs.Assembling as assembling
 use Rattle.ua_chunk.specs.declared.chunk.Chunk.{Chunk}
 use Rattle.ua_chunk.specs.Sequence.{may_follow}
 use Rattle.ua_channel.specs.declared.running.Running.{Running}
@@ -21,13 +19,13 @@ use Rattle.ua_channel.specs.declared.server_opening.Opened.{Opened}
 use Rattle.ua_channel.specs.Agreement.{Agreement, agreement_of}
 use Rattle.ua_channel.specs.Content.{Content, opening_of}
 use Rattle.ua_channel.specs.Content.Content.{Greets, Opens}
-use Rattle.ua_channel.specs.MessageParts.{MayEndIn}
-use Rattle.ua_channel.specs.Received.{Received, nothing_received, after}
-use Rattle.ua_channel.specs.ServerEvents.{told_list, parts_of}
-use Rattle.ua_channel.specs.ServerRefusals.{last_used, type_wanted, server_reasons}
+use Rattle.ua_channel.specs.inside.Parts.{MayEndIn}
+use Rattle.ua_channel.specs.Received.{Received, after}
+use Rattle.ua_channel.specs.inside.ServerEvents.{told_list, parts_of}
+use Rattle.ua_channel.specs.ServerRefusals.{type_wanted, server_reasons}
 use Rattle.ua_channel.specs.ServerRules.{receive_size}
-use Rattle.ua_channel.specs.ServerTold.{issued, lifetime_for, server_tells}
-use Rattle.ua_channel.specs.ServerTold.{Told as told}
+use Rattle.ua_channel.specs.ServerStands.{Stays}
+use Rattle.ua_channel.specs.ServerTold.{issued, lifetime_for, server_tells, Told as told}
 
 -- ---- HEL
 
@@ -93,23 +91,8 @@ JudgesOpening channel count body (Err Closed) = ⊥
 
 -- ---- an open channel
 
--- an open channel of a server with these limits stands where this was received
-pub record Stays (limits : Limits) (r : Running) (before : Received) : Type 0 where
-  pub hello : Hello
-  pub hello_is : before.hello ≡ Some hello
-  pub agreement_is : r.agreement ≡ agreement_of limits hello
-  pub large : 8192 ≤ receive_size limits (Some hello)
-  pub issued_is : issued before ≡ r.issued
-  pub some : 0 < r.issued
-  pub used_is : last_used before ≡ r.used
-  pub last_is : before.last ≡ last_number r.assembler
-  pub assembles : assembling.Stands r.assembler before.messages
-  pub octets : octet_limit r.assembler ≡ limits.max_message_size
-  pub chunks : chunk_limit r.assembler ≡ limits.max_chunk_count
-  pub goes_on : before.closed ≡ false
-
 -- a frame that carries this is taken after what was received, and tells this, a message in its parts
-pub record Takes (limits : Limits) (channel : ℕ) (before : Received) (c : Content) (e : Option Event) : Type 0 where
+pub record TakesSo (limits : Limits) (channel : ℕ) (before : Received) (c : Content) (e : Option Event) : Type 0 where
   pub accepted : first_reason (server_reasons limits channel before c) ≡ None
   pub tells : server_tells limits before c ≡ told_list e
   pub parts : MayEndIn before.messages c (parts_of e)
@@ -120,7 +103,7 @@ IsRefused limits channel before c code = first_reason (server_reasons limits cha
 
 -- what an open channel makes of a frame that carries this, and where it then stands
 abbrev pub Judges : Limits → ℕ → Received → Content → Result (Option Event) StepFault → Running → Type 0
-Judges limits channel before c (Ok e) r = Takes limits channel before c e × Stays limits r (after before c)
+Judges limits channel before c (Ok e) r = TakesSo limits channel before c e × Stays limits r (after before c)
 Judges limits channel before c (Err (Refused code)) r = IsRefused limits channel before c code.code
 Judges limits channel before c (Err OutOfMemory) r = Unit {0}
 Judges limits channel before c (Err Closed) r = ⊥
@@ -138,16 +121,9 @@ ids_reasons c channel used count = (0x807F_0000, not (c.channel == channel)) ∷
 
 -- ---- before the channel is open
 
--- a server with these limits agreed to this where this was received, and has no OPN yet
-pub record HasGreeted (limits : Limits) (a : Agreement) (before : Received) : Type 0 where
-  pub hello : Hello
-  pub before_is : before ≡ record nothing_received { hello = Some hello }
-  pub agreement_is : a ≡ agreement_of limits hello
-  pub large : 8192 ≤ receive_size limits (Some hello)
-
 -- what is made of the first OPN
 abbrev pub JudgesFirst : Limits → ℕ → Received → Content → Result (Running × Event) StepFault → Type 0
-JudgesFirst limits channel before c (Ok (r, e)) = Takes limits channel before c (Some e) × Stays limits r (after before c)
+JudgesFirst limits channel before c (Ok (r, e)) = TakesSo limits channel before c (Some e) × Stays limits r (after before c)
 JudgesFirst limits channel before c (Err (Refused code)) = IsRefused limits channel before c code.code
 JudgesFirst limits channel before c (Err OutOfMemory) = Unit {0}
 JudgesFirst limits channel before c (Err Closed) = ⊥

@@ -1,4 +1,4 @@
--- What the parts of a client make of a frame.
+-- What the parts of a client make of a frame, and of a piece.
 use Rattle.std.specs.Prelude.{◌≡◌, ℕ, ◌≤◌, ◌<◌, ◌==◌, Bool, true, false, ◌||◌, if◌then◌else◌, not, map, nat_le, is_none, length, take, List, [], ◌∷◌, ◌++◌, Option, Some, None, Result, Ok, Err}
 use Rattle.std.specs.List.{concat, filter}
 use Rattle.ua_builtin.specs.Reasons.{first_reason, renamed_reason}
@@ -29,21 +29,21 @@ use Rattle.ua_channel.specs.ClientTokens.{answer_in, responses, opened_ids, chan
 use Rattle.ua_channel.specs.ClientTold.{Told, Told as told, Why, ours, peers, client_tells, told_item}
 use Rattle.ua_channel.specs.Content.{Opening, Content}
 use Rattle.ua_channel.specs.Content.Content.{Opens, Sends}
-use Rattle.ua_channel.specs.MessageParts.{MayEndIn, parts_in}
+use Rattle.ua_channel.specs.inside.Parts.{MayEndIn, parts_in}
 use Rattle.ua_channel.specs.Received.{Received, after, nothing_received, listed}
-use Rattle.ua_channel.specs.StepFaults as step_faults
 use Rattle.ua_channel.specs.declared.step_fault.StepFault.{StepFault}
-use Rattle.ua_channel.specs.declared.step_fault.StepFault.TheVariants as step
 use Rattle.ua_channel.specs.declared.client.agreed.Agreed.{Agreed}
 use Rattle.ua_channel.specs.declared.client.answer.Answer.{Answer}
 use Rattle.ua_channel.specs.declared.client.channel.ClientChannel.{ClientChannel}
 use Rattle.ua_channel.specs.declared.client.event.Event.{Event}
-use Rattle.ua_channel.specs.declared.client.event.Event.TheVariants as event
 use Rattle.ua_channel.specs.declared.client.fault.ClientTakeFault.{ClientTakeFault}
-use Rattle.ua_channel.specs.declared.client.fault.ClientTakeFault.TheVariants as take_fault
 use Rattle.ua_channel.specs.declared.client.talking.Talking.{Talking}
 use Rattle.ua_channel.specs.declared.client.fault.Stop.{Stop}
 use Rattle.ua_channel.specs.declared.client.fault.Stop.TheVariants.{Refused, Peer, OutOfMemory, Closed}
+use Rattle.ua_channel.specs.inside.StepFaults as step_faults
+use Rattle.ua_channel.specs.declared.step_fault.StepFault.TheVariants as step
+use Rattle.ua_channel.specs.declared.client.event.Event.TheVariants as event
+use Rattle.ua_channel.specs.declared.client.fault.ClientTakeFault.TheVariants as take_fault
 
 -- ---- faults
 
@@ -54,12 +54,12 @@ stop_of step.OutOfMemory = OutOfMemory
 stop_of step.Closed = Closed
 
 -- what a fault of an assembler comes to: a message that is too large is refused with Bad_ResponseTooLarge
-abbrev pub of_chunk_fault : AssembleFault → Stop
-of_chunk_fault fault = stop_of (step_faults.of_chunk_fault 0x80B9_0000 fault)
+abbrev pub stop_of_chunk : AssembleFault → Stop
+stop_of_chunk fault = stop_of (step_faults.of_chunk_fault 0x80B9_0000 fault)
 
 -- what a fault of an OPN frame comes to
-abbrev pub of_open_fault : OpenFault → Stop
-of_open_fault fault = stop_of (step_faults.of_open_fault fault)
+abbrev pub stop_of_open : OpenFault → Stop
+stop_of_open fault = stop_of (step_faults.of_open_fault fault)
 
 -- a channel stops for the first of these reasons, or for want of memory
 abbrev pub IsStopFor : List (Why × Bool) → Stop → Type 0
@@ -142,19 +142,19 @@ told_by (event.Renewed token) = told.Renewed token ∷ []
 told_by (event.Failed code peer) = []
 
 -- what is told, if something is
-abbrev pub told_list : Option Event → List Told
-told_list None = []
-told_list (Some e) = told_by e
+abbrev pub told_by_frame : Option Event → List Told
+told_by_frame None = []
+told_by_frame (Some e) = told_by e
 
 -- the parts of the message of an event, if it has one
-abbrev pub parts_of : Option Event → Option (List (List ℕ))
-parts_of None = None
-parts_of (Some (event.Agreed ack)) = None
-parts_of (Some (event.Opened channel token)) = None
-parts_of (Some (event.Answered id message)) = Some message
-parts_of (Some (event.Aborted id code)) = None
-parts_of (Some (event.Renewed token)) = None
-parts_of (Some (event.Failed code peer)) = None
+abbrev pub event_parts : Option Event → Option (List (List ℕ))
+event_parts None = None
+event_parts (Some (event.Agreed ack)) = None
+event_parts (Some (event.Opened channel token)) = None
+event_parts (Some (event.Answered id message)) = Some message
+event_parts (Some (event.Aborted id code)) = None
+event_parts (Some (event.Renewed token)) = None
+event_parts (Some (event.Failed code peer)) = None
 
 -- it is no failure
 abbrev pub IsGood : Option Event → Type 0
@@ -265,9 +265,9 @@ pub record IsAccepted (old : Talking) (cs : List Chunk) (c : Chunk) (new : Talki
 
 -- an event is what was delivered, in the same parts
 pub record DeliversEvent (d : Option Delivered) (e : Option Event) : Type 0 where
-  pub tells : map told_item (items_of d) ≡ told_list e
+  pub tells : map told_item (items_of d) ≡ told_by_frame e
   pub good : IsGood e
-  pub parts : parts_of e ≡ parts_in d
+  pub parts : event_parts e ≡ parts_in d
 
 -- what is kept of a channel with what a chunk of this request and token delivered, which it ended or not
 pub record IsDeliveredWith (old : Talking) (request token : ℕ) (ending : Bool) (d : Option Delivered) (new : Talking) (e : Option Event) : Type 0 where
@@ -284,9 +284,9 @@ pub record IsTakenWith (old : Talking) (cs : List Chunk) (c : Chunk) (new : Talk
   pub stands : Stands new.assembler (cs ++ c ∷ [])
   pub last_is : last_number new.assembler ≡ Some c.sequence
   pub limits : SameLimits old.assembler new.assembler
-  pub tells : map told_item (given cs c) ≡ told_list e
+  pub tells : map told_item (given cs c) ≡ told_by_frame e
   pub good : IsGood e
-  pub parts : MayEndIn cs (Sends c) (parts_of e)
+  pub parts : MayEndIn cs (Sends c) (event_parts e)
 
 -- whatever comes of it
 abbrev pub any_event : Unit {0} → Type 0
@@ -296,33 +296,33 @@ any_event e = Unit {0}
 
 -- an open channel took a frame that carries this, and tells this
 pub record TakesFrame (limits : Limits) (before : Received) (asked : List Asking) (c : Content) (new : Talking) (e : Option Event) : Type 0 where
-  pub tells : client_tells before c ≡ told_list e
+  pub tells : client_tells before c ≡ told_by_frame e
   pub good : IsGood e
-  pub parts : MayEndIn before.messages c (parts_of e)
+  pub parts : MayEndIn before.messages c (event_parts e)
   pub talks : Talks limits new (after before c) asked
   pub ack_is : (after before c).ack ≡ before.ack
 
 -- a frame that carries this was taken, and tells this; where the channel then is
-pub record Takes (limits : Limits) (before : Received) (asked : List Asking) (c : Content) (new : ClientChannel) (e : Option Event) : Type 0 where
-  pub tells : client_tells before c ≡ told_list e
+pub record TookFrame (limits : Limits) (before : Received) (asked : List Asking) (c : Content) (new : ClientChannel) (e : Option Event) : Type 0 where
+  pub tells : client_tells before c ≡ told_by_frame e
   pub good : IsGood e
-  pub parts : MayEndIn before.messages c (parts_of e)
+  pub parts : MayEndIn before.messages c (event_parts e)
   pub phase_is : InPhase limits (phase_of new) (after before c) asked
   pub bound_is : bound_of new ≡ bound_behind limits (after before c).ack
 
 -- a frame that carries this opened the channel, and tells it
 pub record OpensChannel (limits : Limits) (agreed : Agreed) (c : Content) (new : ClientChannel) (e : Option Event) : Type 0 where
-  pub tells : client_tells (greeted agreed) c ≡ told_list e
+  pub tells : client_tells (greeted agreed) c ≡ told_by_frame e
   pub good : IsGood e
-  pub parts : MayEndIn [] c (parts_of e)
+  pub parts : MayEndIn [] c (event_parts e)
   pub phase_is : InPhase limits (phase_of new) (after (greeted agreed) c) []
   pub ack_is : (after (greeted agreed) c).ack ≡ Some agreed.ack
 
 -- a frame that carries this was taken by an open channel, and tells this
 pub record StaysOpen (limits : Limits) (before : Received) (asked : List Asking) (c : Content) (new : ClientChannel) (e : Option Event) : Type 0 where
-  pub tells : client_tells before c ≡ told_list e
+  pub tells : client_tells before c ≡ told_by_frame e
   pub good : IsGood e
-  pub parts : MayEndIn before.messages c (parts_of e)
+  pub parts : MayEndIn before.messages c (event_parts e)
   pub phase_is : InPhase limits (phase_of new) (after before c) asked
   pub ack_is : (after before c).ack ≡ before.ack
 
@@ -340,19 +340,19 @@ pub record Stopped (limits : Limits) (before : Received) (asked : List Asking) (
   pub bound_is : bound_of new ≡ bound_behind limits before.ack
 
 -- the channel goes on behind a frame that carries this, whose event this is
-pub record GoesOn (limits : Limits) (before : Received) (asked : List Asking) (c : Content) (new : ClientChannel) (e : Option Event) : Type 0 where
+pub record GoesOnBehind (limits : Limits) (before : Received) (asked : List Asking) (c : Content) (new : ClientChannel) (e : Option Event) : Type 0 where
   pub accepted : first_reason (client_reasons limits before asked c) ≡ None
-  pub takes : Takes limits before asked c new e
+  pub takes : TookFrame limits before asked c new e
   pub reader_is : new.reader ≡ open_reader (client_gate (after before c)) []
 
 -- what a whole frame that carries this comes to
 abbrev pub JudgesWhole : Limits → Received → List Asking → Content → ClientChannel → Result (Option Event) ClientTakeFault → Type 0
-JudgesWhole limits before asked c new (Ok None) = GoesOn limits before asked c new None
-JudgesWhole limits before asked c new (Ok (Some (event.Agreed ack))) = GoesOn limits before asked c new (Some (event.Agreed ack))
-JudgesWhole limits before asked c new (Ok (Some (event.Opened channel token))) = GoesOn limits before asked c new (Some (event.Opened channel token))
-JudgesWhole limits before asked c new (Ok (Some (event.Answered id message))) = GoesOn limits before asked c new (Some (event.Answered id message))
-JudgesWhole limits before asked c new (Ok (Some (event.Aborted id code))) = GoesOn limits before asked c new (Some (event.Aborted id code))
-JudgesWhole limits before asked c new (Ok (Some (event.Renewed token))) = GoesOn limits before asked c new (Some (event.Renewed token))
+JudgesWhole limits before asked c new (Ok None) = GoesOnBehind limits before asked c new None
+JudgesWhole limits before asked c new (Ok (Some (event.Agreed ack))) = GoesOnBehind limits before asked c new (Some (event.Agreed ack))
+JudgesWhole limits before asked c new (Ok (Some (event.Opened channel token))) = GoesOnBehind limits before asked c new (Some (event.Opened channel token))
+JudgesWhole limits before asked c new (Ok (Some (event.Answered id message))) = GoesOnBehind limits before asked c new (Some (event.Answered id message))
+JudgesWhole limits before asked c new (Ok (Some (event.Aborted id code))) = GoesOnBehind limits before asked c new (Some (event.Aborted id code))
+JudgesWhole limits before asked c new (Ok (Some (event.Renewed token))) = GoesOnBehind limits before asked c new (Some (event.Renewed token))
 JudgesWhole limits before asked c new (Ok (Some (event.Failed code peer))) = Stopped limits before asked c new (record { code = code.code; peer = peer })
 JudgesWhole limits before asked c new (Err take_fault.OutOfMemory) = IsDone new
 JudgesWhole limits before asked c new (Err take_fault.Closed) = ⊥
@@ -388,11 +388,11 @@ TellsEvent (event.Renewed token) new asks octets before = GoesTelling new asks o
 TellsEvent (event.Failed code peer) new asks octets before = Ended new asks octets before (record { code = code.code; peer = peer })
 
 -- what one step answers
-abbrev pub Steps : List ℕ → Result (ℕ × Option Event) ClientTakeFault → ClientChannel → List Placed → List ℕ → List Told → Type 0
-Steps piece (Ok (n, None)) new asks octets before = Goes new asks (octets ++ take n piece) before
-Steps piece (Ok (n, Some e)) new asks octets before = TellsEvent e new asks (octets ++ take n piece) before
-Steps piece (Err take_fault.OutOfMemory) new asks octets before = IsDone new
-Steps piece (Err take_fault.Closed) new asks octets before = ⊥
+abbrev pub StepsOnce : List ℕ → Result (ℕ × Option Event) ClientTakeFault → ClientChannel → List Placed → List ℕ → List Told → Type 0
+StepsOnce piece (Ok (n, None)) new asks octets before = Goes new asks (octets ++ take n piece) before
+StepsOnce piece (Ok (n, Some e)) new asks octets before = TellsEvent e new asks (octets ++ take n piece) before
+StepsOnce piece (Err take_fault.OutOfMemory) new asks octets before = IsDone new
+StepsOnce piece (Err take_fault.Closed) new asks octets before = ⊥
 
 -- what the steps up to an event answer: the event, or the whole piece was taken
 abbrev pub Advances : List ℕ → Result (ℕ × Option Event) ClientTakeFault → ClientChannel → List Placed → List ℕ → List Told → Type 0

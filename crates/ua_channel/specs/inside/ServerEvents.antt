@@ -2,10 +2,8 @@
 use Rattle.std.specs.Prelude.{ℕ, List, [], ◌∷◌, Option, Some, None}
 use Rattle.std.specs.List.{concat}
 use Rattle.ua_channel.specs.declared.server_event.Event.{Event}
-use Rattle.ua_channel.specs.declared.server_event.Event.TheVariants as event
-use Rattle.ua_channel.specs.declared.server_event.ServerEvent.{ServerEvent}
-use Rattle.ua_channel.specs.declared.server_event.ServerEvent.TheVariants as handed
 use Rattle.ua_channel.specs.ServerTold.{Told, Agreed, Opened, Asked, GaveUp, Closed}
+use Rattle.ua_channel.specs.declared.server_event.Event.TheVariants as event
 
 -- an event as what a frame tells: the octets of a message are its parts, joined
 abbrev pub told_of : Event → Told
@@ -28,8 +26,3 @@ parts_of (Some (event.Opened request handle token lifetime)) = None
 parts_of (Some (event.Asked request token message)) = Some message
 parts_of (Some (event.Aborted request)) = None
 parts_of (Some event.Closed) = None
-
--- the parts of the message that is handed out, if one is
-abbrev pub parts_handed : ServerEvent → Option (List (List ℕ))
-parts_handed (handed.Asked id message) = Some message
-parts_handed other = None

@@ -2,13 +2,17 @@
 use Rattle.std.specs.Prelude.{ℕ}
 use Rattle.ua_builtin.specs.Status.{of_code}
 use Rattle.ua_frame.specs.declared.fault.FrameFault.{FrameFault}
-use Rattle.ua_frame.specs.declared.fault.FrameFault.TheVariants as frame_fault
 use Rattle.ua_chunk.specs.declared.fault.AssembleFault.{AssembleFault}
-use Rattle.ua_chunk.specs.declared.fault.AssembleFault.TheVariants as chunk_fault
 use Rattle.ua_chunk.specs.declared.fault.OpenFault.{OpenFault}
-use Rattle.ua_chunk.specs.declared.fault.OpenFault.TheVariants as open_fault
 use Rattle.ua_channel.specs.declared.step_fault.StepFault.{StepFault}
 use Rattle.ua_channel.specs.declared.step_fault.StepFault.TheVariants.{Refused, Closed, OutOfMemory}
+use Rattle.ua_frame.specs.Frames.{frame_octets}
+use Rattle.ua_frame.specs.Messages.{err_frame}
+use Rattle.ua_channel.specs.declared.server_fault.ChannelFault.{ChannelFault}
+use Rattle.ua_frame.specs.declared.fault.FrameFault.TheVariants as frame_fault
+use Rattle.ua_chunk.specs.declared.fault.AssembleFault.TheVariants as chunk_fault
+use Rattle.ua_chunk.specs.declared.fault.OpenFault.TheVariants as open_fault
+use Rattle.ua_channel.specs.declared.server_fault.ChannelFault.TheVariants as channel_fault
 
 -- of the frame reader: Bad_TcpMessageTypeInvalid, Bad_TcpMessageTooLarge, Bad_DecodingError
 abbrev pub of_frame_fault : FrameFault → StepFault
@@ -41,3 +45,9 @@ abbrev pub of_chunk_fault : ℕ → AssembleFault → StepFault
 of_chunk_fault large chunk_fault.OutOfMemory = OutOfMemory
 of_chunk_fault large chunk_fault.Closed = Closed
 of_chunk_fault large fault = Refused (of_code (fault_code large fault))
+
+-- of a step, for the caller: with the ERR frame that says the code
+abbrev pub of_step : StepFault → ChannelFault
+of_step (Refused code) = channel_fault.Refused code (frame_octets (err_frame code))
+of_step Closed = channel_fault.Closed
+of_step OutOfMemory = channel_fault.OutOfMemory

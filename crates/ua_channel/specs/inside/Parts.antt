@@ -1,0 +1,26 @@
+-- What the parts of either end take, and hand out.
+use Rattle.std.specs.Prelude.{ℕ, ◌≤◌, List, Option, Some, None, IsTrue}
+use Rattle.ua_frame.specs.declared.frame.Frame.{Frame}
+use Rattle.ua_frame.specs.Frames.{frame_size}
+use Rattle.ua_frame.specs.Kinds.{has_flag, least_size}
+use Rattle.ua_chunk.specs.declared.chunk.Chunk.{Chunk}
+use Rattle.ua_channel.specs.Content.{Content}
+use Rattle.ua_chunk.specs.declared.delivered.Delivered.{Delivered}
+use Rattle.ua_chunk.specs.declared.delivered.Delivered.TheVariants.{Whole, Aborted}
+use Rattle.ua_channel.specs.MessageParts.{EndsIn}
+
+-- a frame whose flag and size are those of its kind, as each one has that a reader hands out
+pub record HasShape (f : Frame) : Type 0 where
+  pub flag : IsTrue (has_flag f.kind f.flag)
+  pub least : least_size f.kind ≤ frame_size f
+
+-- a frame that carries this, behind these chunks, ends a message in these parts, where one is handed out
+abbrev pub MayEndIn : List Chunk → Content → Option (List (List ℕ)) → Type 0
+MayEndIn before c None = Unit {0}
+MayEndIn before c (Some parts) = EndsIn before c parts
+
+-- the parts of what an assembler hands out, if it is a whole message
+abbrev pub parts_in : Option Delivered → Option (List (List ℕ))
+parts_in None = None
+parts_in (Some (Whole id message)) = Some message
+parts_in (Some (Aborted id code reason)) = None
