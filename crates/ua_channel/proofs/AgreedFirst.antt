@@ -36,7 +36,7 @@ last_from : {A : Type 0} (P : List A → A → Type 0) (start xs : List A) (y : 
 last_from {A = A} P start [] y h = subst (λ (s : List A). P s y) (sym (append-nil start)) h.0
 last_from {A = A} P start (x ∷ xs) y h = subst (λ (s : List A). P s y) (append_assoc start (x ∷ []) xs) (last_from P (start ++ x ∷ []) xs y h.1)
 
-last_of : {A : Type 0} (P : List A → A → Type 0) (xs : List A) (y : A) → AllAfter P (xs ++ y ∷ []) → P xs y
+pub last_of : {A : Type 0} (P : List A → A → Type 0) (xs : List A) (y : A) → AllAfter P (xs ++ y ∷ []) → P xs y
 unfolding AllAfter
 last_of P xs y h = last_from P [] xs y h
 

@@ -71,7 +71,7 @@ answers_nothing channel number moment piece n new octets before h same =
 
 answers_step : (channel number : ℕ) (moment : DateTime) (piece : List ℕ) (n : ℕ) (s : StepFault) (new : ServerChannel) (octets : List ℕ) (before : List Told) → Nexts piece n (Err s) new octets before → AnswersAt channel number moment piece n (Err (of_step s)) new octets before
 answers_step channel number moment piece n (step.Refused code) new octets before h = (h.0, h.1, refl)
-answers_step channel number moment piece n step.OutOfMemory new octets before h = h
+answers_step channel number moment piece n step.OutOfMemory new octets before h = (h.0, h.1.done)
 answers_step channel number moment piece n step.Closed new octets before h = h
 
 -- a fault

@@ -43,6 +43,7 @@ pub mod ClientSending
 pub mod InStep
 mod PairedCalls
 pub mod AgreedFirst
+mod Starving
 pub mod Opened
 mod Conversing
 mod ServerConversing

@@ -10,7 +10,7 @@ use Rattle.ua_channel.specs.declared.step_fault.StepFault.TheVariants as step
 use Rattle.ua_channel.specs.ServerAnswers.{Progress, AsksInParts}
 use Rattle.ua_channel.specs.inside.ServerSteps.{StandsWith, Steps, Nexts, Took}
 use Rattle.ua_channel.specs.inside.ServerEvents.{parts_of}
-use Rattle.ua_channel.specs.ServerStands.{limits_of, channel_of, Goes, RefusedAt}
+use Rattle.ua_channel.specs.ServerStands.{limits_of, channel_of, Goes, RefusedAt, StarvedAt}
 use Rattle.ua_channel.specs.ServerTold.{Told}
 
 pub took_nothing : (x : ServerChannel) (piece : List ℕ) → Took x x piece 0
@@ -74,7 +74,7 @@ module _ (old now next : ServerChannel) (piece : List ℕ) (taken n : ℕ) (answ
 
   failed : (fault : StepFault) → n ≤ length (take (length piece - taken) (drop taken piece)) → (octets : List ℕ) (told : List Told) → Steps (take (length piece - taken) (drop taken piece)) n (Err fault) next (octets ++ take taken piece) told → Nexts piece (taken + n) (Err fault) next octets told
   failed (step.Refused code) within octets told h = (omega (arith, within, rest_length, room), subst (λ (z : List ℕ). RefusedAt next z told code.code) (joined octets) h)
-  failed step.OutOfMemory within octets told h = (omega (arith, within, rest_length, room), h)
+  failed step.OutOfMemory within octets told h = (omega (arith, within, rest_length, room), subst (λ (z : List ℕ). StarvedAt next z told) (joined octets) h)
   failed step.Closed within octets told h = h
 
   -- a step that fails

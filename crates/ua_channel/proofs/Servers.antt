@@ -9,11 +9,11 @@ use Rattle.ua_frame.specs.declared.frame.Frame.{Frame}
 use Rattle.ua_frame.specs.declared.fault.FrameFault.{FrameFault}
 use Rattle.ua_frame.specs.declared.fault.FrameFault.TheVariants as frame_fault
 use Rattle.ua_frame.specs.declared.gate.Gate.{Gate}
-use Rattle.ua_frame.specs.Frames.{frame_octets, header_fault, header_code}
+use Rattle.ua_frame.specs.Frames.{frame_octets, frames_octets, header_fault, header_code, size_of}
 use Rattle.ua_frame.specs.Kinds.{lets_in}
 use Rattle.ua_frame.specs.Reader.{Reader, open_reader, TakesAll, TakesFrame, Refuses, Starves, Takes}
 use Rattle.ua_frame.specs.Run.{Run, events, End, Going, Over, EndsIn}
-use Rattle.ua_frame.proofs.Fronts.{fault_front}
+use Rattle.ua_frame.proofs.Fronts.{fault_front, fault-from_let_in, length-frame_octets, size_front, size_of-frame}
 use Rattle.ua_frame.proofs.Streams.{run_frame, run_part, run_header, run_refused, events-push}
 use Rattle.ua_channel.specs.declared.server.Phase.{Phase}
 use Rattle.ua_channel.specs.declared.server.Phase.TheVariants.{Done}
@@ -32,7 +32,7 @@ use Rattle.ua_channel.specs.inside.StepFaults.{of_frame_fault}
 use Rattle.ua_channel.specs.inside.ServerParts.{TakesSo as TakesIt}
 use Rattle.ua_channel.specs.ServerRefusals.{server_reasons}
 use Rattle.ua_channel.specs.ServerRules.{server_gate}
-use Rattle.ua_channel.specs.ServerStands.{limits_of, channel_of, rules_of, bound_after, Holds, Stands, IsDone, Goes, GoesTelling, ClosedAt, RefusedAt}
+use Rattle.ua_channel.specs.ServerStands.{limits_of, channel_of, rules_of, bound_after, Holds, Stands, Goes, GoesTelling, ClosedAt, RefusedAt, StarvedAt}
 use Rattle.ua_channel.specs.inside.ServerFrames.{phase_gate, GoesOn, JudgesFrame}
 use Rattle.ua_channel.specs.ServerTold.{Told}
 use Rattle.ua_channel.specs.ServerTold.Told.{Closed}
@@ -148,6 +148,23 @@ module _ (x : ServerChannel) (octets piece : List ℕ) (n : ℕ) (told : List To
     bound_is = bound ∙ g.stands.holds.bound_is;
   }
 
+  -- a frame for which memory is refused
+  starves : p ≡ Done → StarvedAt new (octets ++ take n piece) told
+  unfolding new
+  starves done = record {
+    done = record { phase = done; empty = empty_now };
+    frames = g.frames;
+    rest = g.rest ++ take n piece;
+    whole = ap (λ (z : List ℕ). z ++ take n piece) g.stands.run.whole ∙ append_assoc (frames_octets g.frames) g.rest (take n piece);
+    good = g.stands.run.good;
+    told_is = g.told_is;
+    header = omega (arith, ap length at.octets, length-frame_octets f);
+    sound =
+        ap (header_fault (server_gate (limits_of x) (received g.frames))) at.octets
+        ∙ fault-from_let_in (server_gate (limits_of x) (received g.frames)) f at.sized at.let_in;
+    within = inr (omega (arith, ap length at.octets, length-frame_octets f, ap size_of at.octets, size_of-frame f at.sized));
+  }
+
   tells_by : (e : Event) → TakesIt (limits_of x) (channel_of x) (received g.frames) (content f) (Some e) → GoesOn (after (received g.frames) (content f)).closed new (after (received g.frames) (content f)) → StandsWith e new (octets ++ take n piece) told
   tells_by (inner.Agreed a) takes on = telling (inner.Agreed a) takes on (λ z. absurd cc)
   tells_by (inner.Opened id handle token lifetime) takes on = telling (inner.Opened id handle token lifetime) takes on (λ z. absurd cc)
@@ -179,7 +196,7 @@ module _ (x : ServerChannel) (octets piece : List ℕ) (n : ℕ) (told : List To
   frame_steps (Ok None) j = silent j.0 (on_as j.1)
   frame_steps (Ok (Some e)) j = tells_by e j.0 (on_as j.1)
   frame_steps (Err (Refused code)) j = refused code.code j.0 j.1 j.2
-  frame_steps (Err OutOfMemory) j = record { phase = j; empty = empty_now }
+  frame_steps (Err OutOfMemory) j = starves j
   frame_steps (Err step.Closed) j = j
 
   -- a message comes in its parts
@@ -237,8 +254,35 @@ module _ (x : ServerChannel) (octets piece : List ℕ) (told : List Told) (r : R
         bound_is = g.stands.holds.bound_is;
       }
 
-  starved : Starves x.reader piece r → IsDone (with_parts x r Done x.bound)
-  starved s = record { phase = refl; empty = ap (λ (o : Reader). o.held) s.new_is }
+  front_within : (length g.rest < 8) ⊎ (8 ≤ length g.rest) → 8 ≤ length g.rest + length piece → length (take n piece) ≡ n
+      → (length (g.rest ++ take n piece) ≡ 8) ⊎ (length (g.rest ++ take n piece) ≤ size_of (g.rest ++ take n piece))
+  front_within (inl few) whole taken = inl (omega (arith, length-append g.rest (take n piece), taken, n_is, ap length held_is, whole, few))
+  front_within (inr past) whole taken =
+      inr (elim g.stands.run.ends.1 [
+        | inl few ↦ omega (arith, few, past)
+        | inr part ↦ omega (arith, length-append g.rest (take n piece), taken, n_is, ap length held_is, past, size_front g.rest (take n piece) past, part.1)
+      ])
+
+  starved : Starves x.reader piece r → StarvedAt (with_parts x r Done x.bound) (octets ++ take n piece) told
+  starved s =
+      let gate = server_gate (limits_of x) (received g.frames) in
+      let at : Starves (open_reader gate g.rest) piece r = subst (λ (o : Reader). Starves o piece r) g.stands.reader_is s in
+      let held : length x.reader.held ≡ length g.rest = ap length held_is in
+      let whole : 8 ≤ length g.rest + length piece = omega (arith, at.header, length-append g.rest piece) in
+      let taken : length (take n piece) ≡ n = length-take-le n piece (omega (arith, n_is)) in
+      let header : 8 ≤ length (g.rest ++ take n piece) = omega (arith, length-append g.rest (take n piece), taken, n_is, held, whole) in
+      let parts : (g.rest ++ take n piece) ++ drop n piece ≡ g.rest ++ piece = append_assoc g.rest (take n piece) (drop n piece) ∙ ap (λ (z : List ℕ). g.rest ++ z) (take-append-drop n piece) in
+      record {
+        done = record { phase = refl; empty = ap (λ (o : Reader). o.held) s.new_is };
+        frames = g.frames;
+        rest = g.rest ++ take n piece;
+        whole = ap (λ (z : List ℕ). z ++ take n piece) g.stands.run.whole ∙ append_assoc (frames_octets g.frames) g.rest (take n piece);
+        good = g.stands.run.good;
+        told_is = g.told_is;
+        header = header;
+        sound = sym (fault_front gate (g.rest ++ take n piece) (drop n piece) header) ∙ (ap (header_fault gate) parts ∙ at.good);
+        within = front_within (cases_lt (length g.rest) 8) whole taken;
+      }
 
   never_closed : (x.reader.failed ≡ true) × (r ≡ x.reader) → ⊥
   never_closed h = let goes : true ≡ false = sym h.0 ∙ ap (λ (o : Reader). o.failed) g.stands.reader_is in cc

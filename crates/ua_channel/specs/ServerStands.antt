@@ -1,10 +1,12 @@
 -- Where a server's channel stands after octets.
-use Rattle.std.specs.Prelude.{◌≡◌, ℕ, ◌+◌, ◌*◌, length, false, List, [], ◌∷◌, ◌++◌, Option, Some, None, ◌<◌, ◌≤◌}
+use Rattle.std.specs.Prelude.{◌≡◌, ◌⊎◌, ℕ, ◌+◌, ◌*◌, length, false, List, [], ◌∷◌, ◌++◌, Option, Some, None, ◌<◌, ◌≤◌}
 use Rattle.ua_frame.specs.declared.frame.Frame.{Frame}
 use Rattle.ua_frame.specs.declared.hello.Hello.{Hello}
 use Rattle.ua_frame.specs.declared.limits.Limits.{Limits}
 use Rattle.ua_frame.specs.Reader.{open_reader}
-use Rattle.ua_frame.specs.Run.{Rules, Run, events, End, Going, Stopped, Over}
+use Rattle.ua_frame.specs.After.{AllAfter}
+use Rattle.ua_frame.specs.Frames.{frames_octets, header_fault, size_of}
+use Rattle.ua_frame.specs.Run.{Rules, Run, Fits, events, End, Going, Stopped, Over}
 use Rattle.ua_chunk.specs.Open.{open_octets}
 use Rattle.ua_channel.specs.declared.server.Phase.{Phase}
 use Rattle.ua_channel.specs.declared.server.Phase.TheVariants.{Waiting, Greeted, Open, Done}
@@ -155,6 +157,19 @@ pub record ClosedAt (x : ServerChannel) (octets : List ℕ) (told : List Told) :
   pub run : Run (rules_of x) octets frames [] Over
   pub told_is : events (rules_of x) frames ≡ told
   pub bound_is : x.bound ≡ bound_after (limits_of x) (received frames)
+
+-- memory was refused where these octets end, behind the good frames that told this: of the next frame they have a header with nothing wrong,
+-- up to its eighth octet, or more of the frame, at most all of it
+pub record StarvedAt (x : ServerChannel) (octets : List ℕ) (told : List Told) : Type 0 where
+  pub done : IsDone x
+  pub frames : List Frame
+  pub rest : List ℕ
+  pub whole : octets ≡ frames_octets frames ++ rest
+  pub good : AllAfter (Fits (rules_of x)) frames
+  pub told_is : events (rules_of x) frames ≡ told
+  pub header : 8 ≤ length rest
+  pub sound : header_fault (server_gate (limits_of x) (received frames)) rest ≡ None
+  pub within : (length rest ≡ 8) ⊎ (length rest ≤ size_of rest)
 
 -- it refused with this code what stands behind the good frames of these octets: a header at its eighth octet, or a frame at its last
 pub record RefusedAt (x : ServerChannel) (octets : List ℕ) (told : List Told) (code : ℕ) : Type 0 where

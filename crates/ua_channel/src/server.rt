@@ -69,7 +69,7 @@ impl ServerChannel {
     ghost use Rattle.ua_channel.specs.ServerAnswers.{Progress, AnswersAt, ServerAnswers, AsksInParts, parts_asked};
     ghost use Rattle.ua_channel.specs.inside.ServerSteps.{StandsWith, Steps, Nexts, Answered};
     ghost use Rattle.ua_channel.specs.inside.ServerEvents.{parts_of};
-    ghost use Rattle.ua_channel.specs.ServerStands.{Stays, limits_of, channel_of, next_of, bound_of, HasNoToken, IsWithoutToken, Holds, Stands, Goes, IsDone, bound_after, held_after};
+    ghost use Rattle.ua_channel.specs.ServerStands.{StarvedAt, Stays, limits_of, channel_of, next_of, bound_of, HasNoToken, IsWithoutToken, Holds, Stands, Goes, IsDone, bound_after, held_after};
     ghost use Rattle.ua_channel.specs.inside.ServerFrames.{phase_gate, LaneIs, JudgesFrame};
     ghost use Rattle.ua_channel.specs.ServerRules.{receive_size};
     ghost use Rattle.ua_channel.specs.ServerSends.{IsReply, RepliesGo};
@@ -77,7 +77,8 @@ impl ServerChannel {
     ghost use Rattle.ua_channel.specs.declared.server.Phase.TheVariants as phase;
     ghost use Rattle.ua_channel.specs.declared.server_fault.ChannelFault.TheVariants as fault;
     ghost use Rattle.ua_channel.specs.declared.server_fault.ReplyFault.TheVariants.{NotOpen, OutOfMemory};
-    ghost use Rattle.ua_channel.specs.declared.server_event.ServerEvent.TheVariants as event;
+    ghost use Rattle.ua_channel.specs.declared.server_event.Event.TheVariants as inner;
+    ghost use Rattle.ua_channel.specs.declared.server_event.ServerEvent.TheVariants as handed;
 
     /// Waits for the HEL of a client, on behalf of a server with these limits, whose channel will
     /// have this id.
@@ -242,7 +243,7 @@ impl ServerChannel {
 
     /// Makes octets that are to be sent an event. Without them the channel fails.
     fn send(&mut self, octets: Result<Vec<u8>, AllocError>) -> Result<ServerEvent, ChannelFault>
-        ensures sent { MatchResult octets (λ out. result ≡ Ok (event.Send out)) (λ _. result ≡ Err fault.OutOfMemory) }
+        ensures sent { MatchResult octets (λ out. result ≡ Ok (handed.Send out)) (λ _. result ≡ Err fault.OutOfMemory) }
         ensures good { OnOk result (self.new ≡ self.old) }
         ensures done { OnErr result (IsDone self.new) }
         ensures limits { limits_of self.new ≡ limits_of self.old }
@@ -259,6 +260,7 @@ impl ServerChannel {
 
     /// What is answered at an event of the last frame. The moment is that of an OPN response.
     fn answer(&mut self, event: Event, moment: DateTime) -> Result<ServerEvent, ChannelFault>
+        ensures closes { event ≡ inner.Closed → result ≡ Ok handed.Closed }
         ensures answers { (octets : List ℕ) (told : List Told) → StandsWith event self.old octets told
             → Answered (channel_of self.old) (next_of self.old) moment result self.new octets told }
         ensures parts { (octets : List ℕ) → AsksInParts (parts_of (Some event)) self.old octets → IfOk result (λ e. AsksInParts (parts_asked e) self.new octets) }
@@ -313,6 +315,8 @@ impl ServerChannel {
         ensures parts { (octets : List ℕ) (told : List Told) → Goes self.old octets told
             → IfOk result.1 (λ e. AsksInParts (parts_asked e) self.new (octets ++ take result.0 piece.now)) }
         ensures progress { Progress piece.now result.0 result.1 }
+        ensures starves { (octets : List ℕ) (told : List Told) → Goes self.old octets told → IsErrOf result.1 fault.OutOfMemory
+            → StarvedAt self.new (octets ++ take result.0 piece.now) told }
         ensures limits { limits_of self.new ≡ limits_of self.old }
         ensures channel { channel_of self.new ≡ channel_of self.old }
     {
@@ -339,6 +343,9 @@ impl ServerChannel {
         ensures progress { Progress piece.now result.0 result.1 }
         ensures within { result.0 ≤ length piece.now }
         ensures closed { IsDone self.old → (result.0 ≡ 0) × (result.1 ≡ Err fault.Closed) × (self.new ≡ self.old) }
+        // Where memory is refused, what was taken ends at the eighth octet of a good header, or within its frame.
+        ensures starves { (octets : List ℕ) (told : List Told) → Goes self.old octets told → IsErrOf result.1 fault.OutOfMemory
+            → StarvedAt self.new (octets ++ take result.0 piece.now) told }
         // After want of memory, the bound is what it was before the call.
         ensures starved { IsErrOf result.1 fault.OutOfMemory → bound_of self.new ≡ bound_of self.old }
         ensures limits { limits_of self.new ≡ limits_of self.old }

@@ -9,7 +9,7 @@ use Rattle.ua_channel.specs.declared.server_fault.ChannelFault.{ChannelFault}
 use Rattle.ua_channel.specs.declared.server_fault.ChannelFault.TheVariants.{Refused, Closed, OutOfMemory}
 use Rattle.ua_channel.specs.declared.step_fault.StepFault.{StepFault}
 use Rattle.ua_channel.specs.inside.ServerEvents.{told_of}
-use Rattle.ua_channel.specs.ServerStands.{limits_of, channel_of, next_of, IsDone, Goes, GoesTelling, ClosedAt, RefusedAt}
+use Rattle.ua_channel.specs.ServerStands.{limits_of, channel_of, next_of, IsDone, Goes, GoesTelling, ClosedAt, RefusedAt, StarvedAt}
 use Rattle.ua_channel.specs.ServerTold.{Told, Told as told}
 use Rattle.ua_channel.specs.ServerAnswers.{Sends, Asks}
 use Rattle.ua_channel.specs.declared.server_event.Event.TheVariants as inner
@@ -29,7 +29,7 @@ abbrev pub Steps : List ℕ → ℕ → Result (Option Event) StepFault → Serv
 Steps piece n (Ok None) new octets before = Goes new (octets ++ take n piece) before
 Steps piece n (Ok (Some e)) new octets before = StandsWith e new (octets ++ take n piece) before
 Steps piece n (Err (step.Refused code)) new octets before = RefusedAt new (octets ++ take n piece) before code.code
-Steps piece n (Err step.OutOfMemory) new octets before = IsDone new
+Steps piece n (Err step.OutOfMemory) new octets before = StarvedAt new (octets ++ take n piece) before
 Steps piece n (Err step.Closed) new octets before = ⊥
 
 -- the steps of a piece, up to the first event; with none the whole piece is taken
@@ -37,7 +37,7 @@ abbrev pub Nexts : List ℕ → ℕ → Result (Option Event) StepFault → Serv
 Nexts piece n (Ok None) new octets before = (n ≡ length piece) × Goes new (octets ++ piece) before
 Nexts piece n (Ok (Some e)) new octets before = (0 < n) × (n ≤ length piece) × StandsWith e new (octets ++ take n piece) before
 Nexts piece n (Err (step.Refused code)) new octets before = (n ≤ length piece) × RefusedAt new (octets ++ take n piece) before code.code
-Nexts piece n (Err step.OutOfMemory) new octets before = (n ≤ length piece) × IsDone new
+Nexts piece n (Err step.OutOfMemory) new octets before = (n ≤ length piece) × StarvedAt new (octets ++ take n piece) before
 Nexts piece n (Err step.Closed) new octets before = ⊥
 
 -- so many octets of a piece were taken since it stood there, and nothing was told

@@ -1,11 +1,12 @@
 use Rattle.std.specs.Prelude.{IfOk}
-use Rattle.std.proofs.Common.{◌++◌, take, Result, Err, sym, subst}
+use Rattle.std.proofs.Common.{◌++◌, ◌∙◌, take, Result, Err, sym, subst}
 use Rattle.ua_channel.specs.declared.server.ServerChannel.{ServerChannel}
 use Rattle.ua_channel.specs.declared.server_event.ServerEvent.{ServerEvent}
 use Rattle.ua_channel.specs.declared.server_fault.ChannelFault.{ChannelFault}
 use Rattle.ua_channel.specs.ServerAnswers.{AnswersAt, AsksInParts, parts_asked}
-use Rattle.ua_channel.specs.ServerStands.{channel_of, next_of}
+use Rattle.ua_channel.specs.ServerStands.{StarvedAt, channel_of, next_of}
 use Rattle.ua_channel.proofs.Answering.{starved_with}
+use Rattle.ua_channel.proofs.Starving.{starved_bound}
 use Rattle.ua_channel.proofs.server.ServerChannel.advance.Goals.{in-OutOfMemory, in_default}
 use Rattle.ua_channel.proofs.server.ServerChannel.advance.Goals as goal
 
@@ -26,4 +27,12 @@ returns-after-fault-clause-answers c = λ octets told g.
           starved_with (channel_of c.args.self.now) (next_of c.args.self.now) c.args.moment c.args.piece.now c.go_on-n.result.0 c.args.self.now.bound c.in-Err.fault c.go_on-n.new.self c.match-fault.self octets told w.in-OutOfMemory.is w.self-is failed
       | in_default w ↦
           subst (λ (y : ServerChannel). AnswersAt (channel_of c.args.self.now) (next_of c.args.self.now) c.args.moment c.args.piece.now c.go_on-n.result.0 (Err c.in-Err.fault) y octets told) (sym w.self-is) failed
+    ]
+
+pub returns-after-fault-clause-starves : goal.returns-after-fault-clause-starves
+returns-after-fault-clause-starves c = λ octets told g failed.
+    let starved : StarvedAt c.go_on-n.new.self (octets ++ take c.go_on-n.result.0 c.args.piece.now) told = c.go_on-n.ensures.starves octets told g (c.in-Err.is ∙ failed) in
+    elim c.match-fault.branch [
+      | in-OutOfMemory w ↦ starved_bound c.go_on-n.new.self c.match-fault.self c.args.self.now.bound (octets ++ take c.go_on-n.result.0 c.args.piece.now) told w.self-is starved
+      | in_default w ↦ subst (λ (y : ServerChannel). StarvedAt y (octets ++ take c.go_on-n.result.0 c.args.piece.now) told) (sym w.self-is) starved
     ]
