@@ -1,0 +1,42 @@
+-- Values that are read and written twice.
+use Rattle.std.specs.Prelude.{◌≡◌, ℕ, ◌≤◌, List, ◌++◌, Result, Ok, Err, IfOk, OnOk, IsErrOf}
+use Rattle.std.proofs.Common.{refl, sym, ◌∙◌, ap}
+use Rattle.std.proofs.lemmas.List.{append_cancel_left}
+use Rattle.ua_octets.specs.Exact.{Begins}
+use Rattle.ua_octets.specs.Format.{Format}
+use Rattle.ua_octets.specs.Laws.{EncodesOnce}
+use Rattle.ua_octets.specs.declared.fault.ReadFault.{ReadFault}
+use Rattle.ua_octets.specs.declared.fault.ReadFault.TheVariants.{NoValue, OutOfMemory}
+use Rattle.ua_pinned.specs.Pinned.{AnswerAlike, HadMemory}
+
+-- what Wire::read says of an answer
+pub record IsRead {A : Type 0} (f : Format A) (levels : ℕ) (old new : List ℕ) (answer : Result A ReadFault) : Type 0 where
+  pub found : IfOk answer (λ v. Begins f.encodes old v new)
+  pub within : IfOk answer (λ v. f.depth v ≤ levels)
+  pub none : IsErrOf answer NoValue → (v : A) (front rest : List ℕ) → old ≡ front ++ rest → f.depth v ≤ levels → ¬ (f.encodes v front)
+
+-- fronts of the same octets that encode values are one, and so are the values and the rests
+same_front : {A : Type 0} (f : Format A) → EncodesOnce f.encodes → (old other : List ℕ) → old ≡ other → (v w : A) (x y : List ℕ) → Begins f.encodes old v x → Begins f.encodes other w y → (v ≡ w) × (x ≡ y)
+same_front f once old other same v w x y b c =
+    let one = once v w b.front c.front x y b.encoded c.encoded (sym b.parts ∙ same ∙ c.parts) in
+    (one.0, append_cancel_left c.front x y (ap (λ (t : List ℕ). t ++ x) (sym one.1) ∙ sym b.parts ∙ same ∙ c.parts))
+
+-- a value is found by one reader, and none by the other: that can't be
+apart : {A : Type 0} (f : Format A) (levels : ℕ) (old other x y : List ℕ) → old ≡ other → (v : A) → IsRead f levels old x (Ok v) → IsRead f levels other y (Err NoValue) → ⊥
+apart f levels old other x y same v a b = b.none refl v a.found.front x (sym same ∙ a.found.parts) a.within a.found.encoded
+
+pub read_alike : {A : Type 0} (f : Format A) → EncodesOnce f.encodes → (levels : ℕ) (old other x y : List ℕ) → old ≡ other → (a b : Result A ReadFault)
+    → IsRead f levels old x a → IsRead f levels other y b → AnswerAlike OutOfMemory a b
+read_alike f once levels old other x y same (Ok v) (Ok w) a b had = ap Ok (same_front f once old other same v w x y a.found b.found).0
+read_alike f once levels old other x y same (Ok v) (Err NoValue) a b had = absurd (apart f levels old other x y same v a b)
+read_alike f once levels old other x y same (Err NoValue) (Ok w) a b had = absurd (apart f levels other old y x (sym same) w b a)
+read_alike f once levels old other x y same (Err NoValue) (Err NoValue) a b had = refl
+read_alike f once levels old other x y same (Err OutOfMemory) b p q had = absurd (had.first refl)
+read_alike f once levels old other x y same (Ok v) (Err OutOfMemory) p q had = absurd (had.second refl)
+read_alike f once levels old other x y same (Err NoValue) (Err OutOfMemory) p q had = absurd (had.second refl)
+
+pub left_alike : {A : Type 0} (f : Format A) → EncodesOnce f.encodes → (levels : ℕ) (old other x y : List ℕ) → old ≡ other → (a b : Result A ReadFault)
+    → IsRead f levels old x a → IsRead f levels other y b → OnOk a (OnOk b (x ≡ y))
+left_alike f once levels old other x y same (Ok v) (Ok w) a b = (same_front f once old other same v w x y a.found b.found).1
+left_alike f once levels old other x y same (Ok v) (Err e) a b = tt
+left_alike f once levels old other x y same (Err e) b p q = tt
