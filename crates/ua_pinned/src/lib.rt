@@ -3,4 +3,4 @@
 
 mod values;
 
-pub use values::read_twice;
+pub use values::{append_twice, read_twice, read_whole_twice, write_twice};

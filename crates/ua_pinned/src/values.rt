@@ -1,17 +1,17 @@
 //! Values that are read and written twice.
 
-ghost use Rattle.std.specs.Prelude.{◌≡◌, ◌≤◌, OnOk};
+ghost use Rattle.std.specs.Prelude.{◌≡◌, ◌≤◌, OnOk, IfOk, IsTrue};
 ghost use Rattle.ua_octets.specs.Format.{most_levels};
 ghost use Rattle.ua_octets.specs.declared.fault.ReadFault.TheVariants.{OutOfMemory as no_reading_memory};
 ghost use Rattle.ua_octets.specs.declared.fault.WriteFault.TheVariants.{OutOfMemory as no_writing_memory};
-ghost use Rattle.ua_pinned.specs.Pinned.{AnswerAlike, HadMemory};
+ghost use Rattle.ua_pinned.specs.Pinned.{AnswerAlike, AreOneWithin, HadMemory};
 
 use std::alloc::{AllocError, Global};
 use ua_octets::laws::encodes_once;
 use ua_octets::{ReadFault, Source, Wire, WriteFault};
 
-/// Reads a value from two sources of the same octets: both answers are the same, and where it is a
-/// value both sources are left with the same octets.
+/// Reads a value from two sources of the same octets: the answers are one, and where it is a value
+/// both sources are left with the same octets.
 pub fn read_twice<T: Wire, S: Source, R: Source>(
     alloc: Global,
     one: &mut S,
@@ -26,5 +26,51 @@ pub fn read_twice<T: Wire, S: Source, R: Source>(
     encodes_once::<T>();
     let first = T::read(alloc, one, depth);
     let second = T::read(alloc, two, depth);
+    (first, second)
+}
+
+/// Reads the value that the same octets encode, with nothing behind it: the answers are one, but for
+/// a value of more levels than are read, which a contract lets be found or not.
+pub fn read_whole_twice<T: Wire + Drop>(
+    alloc: Global,
+    one: &[u8],
+    two: &[u8],
+) -> (Result<Option<T>, AllocError>, Result<Option<T>, AllocError>)
+    requires same { one.now ≡ two.now }
+    ensures answers { IfOk result.0 (λ v. IfOk result.1 (λ w. AreOneWithin T.format v w)) }
+{
+    encodes_once::<T>();
+    let first = T::read_whole(alloc, one);
+    let second = T::read_whole(alloc, two);
+    (first, second)
+}
+
+/// Writes a value behind the same octets: the answers are one, and so are the octets.
+pub fn write_twice<T: Wire>(
+    value: &T,
+    one: &mut Vec<u8>,
+    two: &mut Vec<u8>,
+) -> (Result<(), WriteFault>, Result<(), WriteFault>)
+    requires same { one.old.items ≡ two.old.items }
+    ensures answers { AnswerAlike no_writing_memory result.0 result.1 }
+    ensures octets { HadMemory no_writing_memory result.0 result.1 → one.new.items ≡ two.new.items }
+{
+    let first = value.write(one);
+    let second = value.write(two);
+    (first, second)
+}
+
+/// Adds a value that can be written behind the same octets: where both add it, the octets are one.
+pub fn append_twice<T: Wire>(
+    value: &T,
+    one: &mut Vec<u8>,
+    two: &mut Vec<u8>,
+) -> (Result<(), AllocError>, Result<(), AllocError>)
+    requires encodable { IsTrue (T.format.encodable value.now) }
+    requires same { one.old.items ≡ two.old.items }
+    ensures octets { OnOk result.0 (OnOk result.1 (one.new.items ≡ two.new.items)) }
+{
+    let first = value.append(one);
+    let second = value.append(two);
     (first, second)
 }
