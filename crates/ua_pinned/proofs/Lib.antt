@@ -1,1 +1,2 @@
 pub mod ValuesAlike
+pub mod FramesAlike
