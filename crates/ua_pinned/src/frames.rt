@@ -8,7 +8,7 @@ use ua_frame::{Frame, FrameFault, FrameReader};
 
 /// Hands the same octets to two readers that hold the same: the answers are one, with as many octets
 /// taken, and the readers hold the same behind them.
-pub fn take_twice(
+pub fn take_frame_twice(
     one: &mut FrameReader,
     two: &mut FrameReader,
     piece: &[u8],

@@ -1,8 +1,14 @@
 //! Calls that have one answer.
 #![tactic(auto)]
 
+mod assembling;
+mod chunks;
+mod cutting;
 mod frames;
 mod values;
 
-pub use frames::take_twice;
+pub use assembling::{accept_twice, held_twice, step_twice};
+pub use chunks::{read_chunk_twice, read_open_twice};
+pub use cutting::cut_twice;
+pub use frames::take_frame_twice;
 pub use values::{append_twice, read_twice, read_whole_twice, write_twice};

@@ -1,5 +1,5 @@
 use Rattle.ua_pinned.proofs.FramesAlike.{taken_alike}
-use Rattle.ua_pinned.proofs.frames.take_twice.Goals as goal
+use Rattle.ua_pinned.proofs.frames.take_frame_twice.Goals as goal
 
 pub returns-clause-answers : goal.returns-clause-answers
 returns-clause-answers c = λ had. (taken_alike _ _ _ _ c.requires.same _ _ _ c.take-first.ensures.takes c.take-second.ensures.takes had).0
