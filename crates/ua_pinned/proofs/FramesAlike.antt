@@ -46,11 +46,11 @@ begins held piece n f e =
 not_failed : (old : Reader) → old.failed ≡ false → old.failed ≡ true → ⊥
 not_failed old f t = let c : false ≡ true = sym f ∙ t in cc
 
-good_not_wrong : (o : Option FrameFault) (fault : FrameFault) → o ≡ None → o ≡ Some fault → ⊥
+pub good_not_wrong : (o : Option FrameFault) (fault : FrameFault) → o ≡ None → o ≡ Some fault → ⊥
 good_not_wrong o fault n s = let c : ◌≡◌ {A = Option FrameFault} None (Some fault) = sym n ∙ s in cc
 
 -- octets that begin with a frame which is let in are no part of one
-no_part : (gate : Gate) (octets more : List ℕ) (f : Frame) → octets ≡ frame_octets f ++ more → IsSized f → IsPartial gate octets → ⊥
+pub no_part : (gate : Gate) (octets more : List ℕ) (f : Frame) → octets ≡ frame_octets f ++ more → IsSized f → IsPartial gate octets → ⊥
 no_part gate octets more f e sized (inl short) = omega (arith, ap length e, frame_more_length f more)
 no_part gate octets more f e sized (inr part) = omega (arith, part.1, ap length e, ap size_of e, frame_more_length f more, size_of-frame_more f more sized)
 

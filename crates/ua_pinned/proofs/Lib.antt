@@ -1,2 +1,3 @@
 pub mod ValuesAlike
 pub mod FramesAlike
+pub mod StreamsAlike
