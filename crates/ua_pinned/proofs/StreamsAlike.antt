@@ -43,6 +43,15 @@ split [] (b ∷ vs) x y xs ys e = Later vs (same_list b x vs vs (sym (same_head 
 split (a ∷ us) [] x y xs ys e = Sooner us (same_list a y us us (same_head a y ((us ++ x ∷ []) ++ xs) ys e) refl)
 split (a ∷ us) (b ∷ vs) x y xs ys e = more_split a b us vs x y xs ys (same_head a b _ _ e) (split us vs x y xs ys (same_tail a b _ _ e))
 
+by_place : {A : Type 0} (us vs : List A) (x y : A) → Splits us vs x y [] [] → us ++ x ∷ [] ≡ vs ++ y ∷ [] → (us ≡ vs) × (x ≡ y)
+by_place us vs x y (Here p q) e = (p, q)
+by_place us vs x y (Later m p) e = absurd (omega (arith, ap length e, ap length p, length-append us (x ∷ []), length-append vs (y ∷ []), length-append (us ++ x ∷ []) m))
+by_place us vs x y (Sooner m p) e = absurd (omega (arith, ap length e, ap length p, length-append us (x ∷ []), length-append vs (y ∷ []), length-append (vs ++ y ∷ []) m))
+
+-- lists with one item more are the same where their fronts and that item are
+pub pushed : {A : Type 0} (us vs : List A) (x y : A) → us ++ x ∷ [] ≡ vs ++ y ∷ [] → (us ≡ vs) × (x ≡ y)
+pushed us vs x y e = by_place us vs x y (split us vs x y [] [] (append-nil (us ++ x ∷ []) ∙ (e ∙ sym (append-nil (vs ++ y ∷ [])))) ) e
+
 longer : {A : Type 0} (told : List A) (e : A) (more : List A) → (told ++ e ∷ []) ++ more ≡ told → ⊥
 longer told e more p = omega (arith, ap length p, length-append (told ++ e ∷ []) more, length-append told (e ∷ []))
 

@@ -1,5 +1,5 @@
 -- What it is for two answers to be one, want of memory aside.
-use Rattle.std.specs.Prelude.{◌≡◌, ◌<◌, Option, Some, None, Result, IfOk, IsErrOf}
+use Rattle.std.specs.Prelude.{◌≡◌, ◌<◌, Option, Some, None, Result, Ok, Err, IfOk, IsErrOf}
 use Rattle.ua_octets.specs.Format.{Format, most_levels}
 
 -- neither answer is this fault, by which a call tells that memory was refused
@@ -10,6 +10,13 @@ pub record HadMemory {A B E : Type 0} (starved : E) (one : Result A E) (two : Re
 -- where memory was had both times, the two answers are the same
 abbrev pub AnswerAlike : {A E : Type 0} → E → Result A E → Result A E → Type 0
 AnswerAlike starved one two = HadMemory starved one two → one ≡ two
+
+-- two answers are the same as far as a view shows: of octets their list, and not where it lies
+abbrev pub SameBy : {A B E : Type 0} → (A → B) → Result A E → Result A E → Type 0
+SameBy view (Ok v) (Ok w) = view v ≡ view w
+SameBy view (Ok v) (Err fault) = ⊥
+SameBy view (Err fault) (Ok w) = ⊥
+SameBy view (Err fault) (Err other) = fault ≡ other
 
 -- of calls whose one fault is want of memory: where both come to something, it is the same
 abbrev pub ComeToOne : {A E : Type 0} → Result A E → Result A E → Type 0
