@@ -282,3 +282,70 @@ module _ {E X : Type 0} (R : Rules E X) (octets piece : List ℕ) (told : List E
       let same = unique R (octets ++ piece) _ _ _ _ (Stopped why) (Stopped other) a.run b.run in
       let behind = same_behind w.frames v.frames w.rest v.rest (drop n piece) (drop m piece) why other same.frames same.rests w.stops v.stops in
       (omega (arith, behind, w.within, v.within, length-drop n piece, length-drop m piece), one_wrong why other a b)
+
+-- ---- where what was told before is not known to be the same
+
+-- of two frames that tell something, behind lists of what was told: they are one; or what was told before one has what the other tells
+pub data Meets {E : Type 0} (before other : List E) (n m : ℕ) (e d : E) : Type 0 where
+  AsOne : n ≡ m → before ≡ other → e ≡ d → Meets before other n m e d
+  Within : (more : List E) → other ≡ (before ++ e ∷ []) ++ more → Meets before other n m e d
+  Around : (more : List E) → before ≡ (other ++ d ∷ []) ++ more → Meets before other n m e d
+
+module _ {E X : Type 0} (R : Rules E X) (octets piece : List ℕ) (before other : List E) where
+  pub quiet_tells : (n m : ℕ) (e : E) → Quiet R octets piece other n → Tells R octets piece before m e → (more : List E) × (other ≡ (before ++ e ∷ []) ++ more)
+  quiet_tells n m e q t =
+      let w = whole_tells R octets piece before m e q.frames q.rest Going t q.run in
+      (w.0, sym q.told_is ∙ w.1)
+
+  pub wrong_tells : (why : X) (m : ℕ) (e : E) → Wrong R octets piece other why → Tells R octets piece before m e → (more : List E) × (other ≡ (before ++ e ∷ []) ++ more)
+  wrong_tells why m e q t =
+      let w = whole_tells R octets piece before m e q.frames q.rest (Stopped why) t q.run in
+      (w.0, sym q.told_is ∙ w.1)
+
+  pub lasts_tells : (n m : ℕ) (d e : E) → Lasts R octets piece other n d → Tells R octets piece before m e → (more : List E) × (other ++ d ∷ [] ≡ (before ++ e ∷ []) ++ more)
+  lasts_tells n m d e l t =
+      let w = whole_tells R octets piece before m e l.frames ([] ++ drop n piece) Over t (lasts_whole R octets piece other n d l) in
+      (w.0, sym l.told_is ∙ w.1)
+
+  meets_by : (n m : ℕ) (e d : E) (xs ys : List Frame) (t : Tells R octets piece before n e) (u : Tells R octets piece other m d) → Splits t.frames u.frames t.frame u.frame xs ys → Meets before other n m e d
+  meets_by n m e d xs ys t u (Here p q) =
+      AsOne (same_front octets piece n m t.within u.within (t.run.whole ∙ (ap (λ (z : List Frame). frames_octets z ++ []) (ap (λ (z : List Frame). z ++ t.frame ∷ []) p ∙ ap (λ (h : Frame). u.frames ++ h ∷ []) q) ∙ sym u.run.whole)))
+      (sym t.told_is ∙ (ap (events R) p ∙ u.told_is))
+      (same_events R octets piece before e d t.frames u.frames t.frame u.frame p q t.tells u.tells)
+  meets_by n m e d xs ys t u (Later more p) = Within (each_from R.tells (t.frames ++ t.frame ∷ []) more) (sym u.told_is ∙ tells_more R t.frames more u.frames t.frame before e p t.told_is t.tells)
+  meets_by n m e d xs ys t u (Sooner more p) = Around (each_from R.tells (u.frames ++ u.frame ∷ []) more) (sym t.told_is ∙ tells_more R u.frames more t.frames u.frame other d p u.told_is u.tells)
+
+  pub tells_tells : (n m : ℕ) (e d : E) → Tells R octets piece before n e → Tells R octets piece other m d → Meets before other n m e d
+  tells_tells n m e d t u =
+      let whole = reading R (octets ++ piece) in
+      let a = begins R (octets ++ take n piece) (drop n piece) (octets ++ piece) (t.frames ++ t.frame ∷ []) whole.frames [] whole.rest Going whole.end (parts R octets piece before n) t.run whole.run in
+      let b = begins R (octets ++ take m piece) (drop m piece) (octets ++ piece) (u.frames ++ u.frame ∷ []) whole.frames [] whole.rest Going whole.end (parts R octets piece before m) u.run whole.run in
+      meets_by n m e d a.0 b.0 t u (split t.frames u.frames t.frame u.frame a.0 b.0 (sym a.1 ∙ b.1))
+
+  pub quiet_quiet : (n m : ℕ) → Quiet R octets piece before n → Quiet R octets piece other m → (n ≡ m) × (before ≡ other)
+  quiet_quiet n m q r = (q.all ∙ sym r.all, sym q.told_is ∙ (ap (events R) (unique R (octets ++ piece) _ _ _ _ Going Going q.run r.run).frames ∙ r.told_is))
+
+  pub quiet_lasts : (n m : ℕ) (e : E) → Quiet R octets piece before n → Lasts R octets piece other m e → ⊥
+  quiet_lasts n m e q l = let same = (unique R (octets ++ piece) _ _ _ _ Going Over q.run (lasts_whole R octets piece other m e l)).ends in cc
+
+  pub quiet_wrong : (n : ℕ) (why : X) → Quiet R octets piece before n → Wrong R octets piece other why → ⊥
+  quiet_wrong n why q w = let same = (unique R (octets ++ piece) _ _ _ _ Going (Stopped why) q.run w.run).ends in cc
+
+  pub lasts_wrong : (n : ℕ) (e : E) (why : X) → Lasts R octets piece before n e → Wrong R octets piece other why → ⊥
+  lasts_wrong n e why l w = let same = (unique R (octets ++ piece) _ _ _ _ Over (Stopped why) (lasts_whole R octets piece before n e l) w.run).ends in cc
+
+  pub lasts_lasts : (n m : ℕ) (e d : E) → Lasts R octets piece before n e → Lasts R octets piece other m d → (n ≡ m) × (before ≡ other) × (e ≡ d)
+  lasts_lasts n m e d l k =
+      let same = unique R (octets ++ piece) _ _ _ _ Over Over (lasts_whole R octets piece before n e l) (lasts_whole R octets piece other m d k) in
+      let told = pushed before other e d (sym l.told_is ∙ (ap (events R) same.frames ∙ k.told_is)) in
+      (same_rest piece n m l.within k.within same.rests, told.0, told.1)
+
+  pub wrong_wrong : (n m : ℕ) (why reason : X) → WrongAt R octets piece before n why → WrongAt R octets piece other m reason → (n ≡ m) × (before ≡ other) × (why ≡ reason)
+  unfolding wrong_at
+  wrong_wrong n m why reason w v =
+      let a = wrong_at R octets piece before n why w in
+      let b = wrong_at R octets piece other m reason v in
+      let same = unique R (octets ++ piece) _ _ _ _ (Stopped why) (Stopped reason) a.run b.run in
+      let behind = same_behind R octets piece before w.frames v.frames w.rest v.rest (drop n piece) (drop m piece) why reason same.frames same.rests w.stops v.stops in
+      let reasons = same.ends in
+      (omega (arith, behind, w.within, v.within, length-drop n piece, length-drop m piece), sym w.told_is ∙ (ap (events R) same.frames ∙ v.told_is), cc)

@@ -58,3 +58,31 @@ pub wholes_alike : {A E : Type 0} (f : Format A) → EncodesOnce f.encodes → (
 wholes_alike f once octets others same (Ok v) (Ok w) p q = whole_alike f once octets others same v w p q
 wholes_alike f once octets others same (Ok v) (Err e) p q = tt
 wholes_alike f once octets others same (Err e) b p q = tt
+
+-- ---- arrays
+
+-- what is read, by a view of what was returned
+abbrev seen : {X A : Type 0} → (X → A) → Result X ReadFault → Result A ReadFault
+seen view (Ok x) = Ok (view x)
+seen view (Err e) = Err e
+
+-- what read_array says of an answer, of which a view is an array
+pub record IsReadBy {X A : Type 0} (view : X → A) (f : Format A) (levels : ℕ) (old new : List ℕ) (answer : Result X ReadFault) : Type 0 where
+  pub found : IfOk answer (λ x. Begins f.encodes old (view x) new)
+  pub within : IfOk answer (λ x. f.depth (view x) ≤ levels)
+  pub none : IsErrOf answer NoValue → (v : A) (front rest : List ℕ) → old ≡ front ++ rest → f.depth v ≤ levels → ¬ (f.encodes v front)
+
+same_fault : {A : Type 0} (e d : ReadFault) → ◌≡◌ {A = Result A ReadFault} (Err e) (Err d) → e ≡ d
+same_fault e d same = cc
+
+by_view : {X A : Type 0} (view : X → A) (f : Format A) (levels : ℕ) (old new : List ℕ) (answer : Result X ReadFault) → IsReadBy view f levels old new answer → IsRead f levels old new (seen view answer)
+by_view view f levels old new (Ok x) r = record { found = r.found; within = r.within; none = λ e. absurd cc }
+by_view view f levels old new (Err e) r = record { found = tt; within = tt; none = λ same. r.none (ap (λ (z : ReadFault). Err z) (same_fault e NoValue same)) }
+
+left_seen : {X A : Type 0} (view : X → A) (a b : Result X ReadFault) (P : Type 0) → OnOk (seen view a) (OnOk (seen view b) P) → OnOk a (OnOk b P)
+left_seen view (Ok v) (Ok w) P h = h
+left_seen view (Ok v) (Err e) P h = tt
+left_seen view (Err e) b P h = tt
+
+pub left_alike_by : {X A : Type 0} (view : X → A) (f : Format A) → EncodesOnce f.encodes → (levels : ℕ) (old other x y : List ℕ) → old ≡ other → (a b : Result X ReadFault) → IsReadBy view f levels old x a → IsReadBy view f levels other y b → OnOk a (OnOk b (x ≡ y))
+left_alike_by view f once levels old other x y same a b p q = left_seen view a b (x ≡ y) (left_alike f once levels old other x y same (seen view a) (seen view b) (by_view view f levels old x a p) (by_view view f levels other y b q))

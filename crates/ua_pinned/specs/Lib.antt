@@ -1,2 +1,4 @@
 pub mod Pinned
 pub mod Alike
+pub mod Servers
+pub mod Clients

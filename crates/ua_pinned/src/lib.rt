@@ -1,16 +1,27 @@
 //! Calls that have one answer.
 #![tactic(auto)]
 
+mod arrays;
 mod assembling;
+mod bodies;
 mod chunks;
+mod clients;
 mod cutting;
 mod frames;
+mod servers;
 mod texts;
 mod values;
 
+pub use arrays::read_array_twice;
 pub use assembling::{accept_twice, held_twice, step_twice};
+pub use bodies::{
+    read_open_request_twice, read_open_response_twice, read_request_twice, read_response_twice,
+    request_body_twice, response_body_twice,
+};
 pub use chunks::{read_chunk_twice, read_open_twice};
+pub use clients::{client_ask_twice, client_renew_twice, client_take_twice};
 pub use cutting::cut_twice;
 pub use frames::take_frame_twice;
+pub use servers::{server_reply_twice, server_take_twice, server_tells_twice};
 pub use texts::{parse_text_twice, to_text_twice};
 pub use values::{append_twice, read_twice, read_whole_twice, write_twice};

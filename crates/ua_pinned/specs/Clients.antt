@@ -1,0 +1,71 @@
+-- What it is for two clients' channels to stand alike, and for what they answer to be the same.
+use Rattle.std.specs.Prelude.{◌≡◌, ℕ, List, [], ◌∷◌, ◌++◌, length, take, Result, Ok, Err}
+use Rattle.ua_channel.specs.Asks.{Asking, Placed}
+use Rattle.ua_channel.specs.Client.{Goes, IsDone, bound_of, limits_of, next_of}
+use Rattle.ua_channel.specs.ClientTold.{Told}
+use Rattle.ua_channel.specs.declared.client.channel.ClientChannel.{ClientChannel}
+use Rattle.ua_channel.specs.declared.client.event.ClientEvent.{ClientEvent}
+use Rattle.ua_channel.specs.declared.client.event.ClientEvent.TheVariants.{NeedMore, Send, Open, Answered, Aborted, Failed, Renewed}
+use Rattle.ua_channel.specs.declared.client.fault.ClientTakeFault.{ClientTakeFault}
+
+-- ---- where they stand
+
+-- two channels of the same limits go on after these asks and octets, which told both this, and the next chunk that either sends has the
+-- same number
+pub record ClientsAlike (one two : ClientChannel) (asks : List Placed) (octets : List ℕ) (told : List Told) : Type 0 where
+  pub first : Goes one asks octets told
+  pub second : Goes two asks octets told
+  pub limits : limits_of one ≡ limits_of two
+  pub next : next_of one ≡ next_of two
+
+-- both have failed or were closed, and hold nothing
+pub record ClientsDone (one two : ClientChannel) : Type 0 where
+  pub first : IsDone one
+  pub second : IsDone two
+  pub bound : bound_of one ≡ bound_of two
+
+-- ---- what they answer
+
+-- two events are the same: of octets that are sent their list counts, and not where it lies
+abbrev pub SameClientEvent : ClientEvent → ClientEvent → Type 0
+SameClientEvent NeedMore NeedMore = Unit {0}
+SameClientEvent (Send out) (Send other) = out.items ≡ other.items
+SameClientEvent Open Open = Unit {0}
+SameClientEvent (Answered id message) (Answered other text) = (id ≡ other) × (message ≡ text)
+SameClientEvent (Aborted id code) (Aborted other why) = (id ≡ other) × (code ≡ why)
+SameClientEvent (Failed code peer) (Failed other theirs) = (code ≡ other) × (peer ≡ theirs)
+SameClientEvent (Renewed token) (Renewed other) = token ≡ other
+SameClientEvent event other = ⊥
+
+-- two answers are the same, and took as many octets
+abbrev pub SameClientAnswer : Result (ℕ × ClientEvent) ClientTakeFault → Result (ℕ × ClientEvent) ClientTakeFault → Type 0
+SameClientAnswer (Ok (n, event)) (Ok (m, other)) = (n ≡ m) × SameClientEvent event other
+SameClientAnswer (Ok (n, event)) (Err fault) = ⊥
+SameClientAnswer (Err fault) (Ok (n, event)) = ⊥
+SameClientAnswer (Err fault) (Err other) = fault ≡ other
+
+-- ---- where an answer leaves them
+
+-- behind a failure both have ended; behind another event they stand alike, with what was told behind what was told before
+abbrev pub LeavesClients : ClientEvent → ClientChannel → ClientChannel → List Placed → List ℕ → List Told → Type 0
+LeavesClients (Failed code peer) one two asks octets told = ClientsDone one two
+LeavesClients event one two asks octets told = (later : List Told) × ClientsAlike one two asks octets (told ++ later)
+
+-- where an answer to a piece leaves them
+abbrev pub LeftClients : Result (ℕ × ClientEvent) ClientTakeFault → ClientChannel → ClientChannel → List Placed → List ℕ → List Told → List ℕ → Type 0
+LeftClients (Ok (n, event)) one two asks octets told piece = LeavesClients event one two asks (octets ++ take n piece) told
+LeftClients (Err fault) one two asks octets told piece = ClientsDone one two
+
+-- ---- what they ask
+
+-- two answers to an ask are the same: the request id, and the octets that a view shows
+abbrev pub SameAsked : {V E : Type 0} → (V → List ℕ) → Result (ℕ × V) E → Result (ℕ × V) E → Type 0
+SameAsked items (Ok (id, out)) (Ok (other, also)) = (id ≡ other) × (items out ≡ items also)
+SameAsked items (Ok (id, out)) (Err fault) = ⊥
+SameAsked items (Err fault) (Ok (id, out)) = ⊥
+SameAsked items (Err fault) (Err other) = fault ≡ other
+
+-- where an ask leaves them: with it behind what was asked before, or as they stood
+abbrev pub AsksAlike : {V E : Type 0} → (ℕ → Asking) → Result (ℕ × V) E → ClientChannel → ClientChannel → List Placed → List ℕ → List Told → Type 0
+AsksAlike asking (Ok (id, out)) one two asks octets told = ClientsAlike one two (asks ++ (length octets, asking id) ∷ []) octets told
+AsksAlike asking (Err fault) one two asks octets told = ClientsAlike one two asks octets told

@@ -1,0 +1,78 @@
+//! Octets that come twice to a client's channel, and what it asks twice.
+
+ghost use Rattle.std.specs.Prelude.{◌≡◌, ◌<◌, ℕ, List, length};
+ghost use Rattle.ua_channel.specs.Asks.{Placed};
+ghost use Rattle.ua_channel.specs.Asks.Asking.{Call, Renewal};
+ghost use Rattle.ua_channel.specs.ClientTold.{Told};
+ghost use Rattle.ua_channel.specs.declared.client.fault.AskFault.TheVariants.{OutOfMemory as no_asking_memory};
+ghost use Rattle.ua_channel.specs.declared.client.fault.ClientTakeFault.TheVariants.{OutOfMemory};
+ghost use Rattle.ua_pinned.specs.Clients.{AsksAlike, ClientsAlike, LeftClients, SameAsked, SameClientAnswer};
+ghost use Rattle.ua_pinned.specs.Pinned.{HadMemory, SameBy};
+
+use ua_builtin::DateTime;
+use ua_channel::client_laws::client_is_open;
+use ua_channel::{AskFault, ClientChannel, ClientEvent, ClientTakeFault};
+
+/// Hands the same octets to two channels that stand alike: the answers are one, with as many octets
+/// taken, and the channels stand alike behind them, or have both ended.
+pub fn client_take_twice(
+    one: &mut ClientChannel,
+    two: &mut ClientChannel,
+    piece: &[u8],
+    moment: DateTime,
+) -> (
+    Result<(usize, ClientEvent), ClientTakeFault>,
+    Result<(usize, ClientEvent), ClientTakeFault>,
+)
+    ensures answers { (asks : List Placed) (octets : List ℕ) (told : List Told) → ClientsAlike one.old two.old asks octets told
+        → HadMemory OutOfMemory result.0 result.1 → SameClientAnswer result.0 result.1 }
+    ensures left { (asks : List Placed) (octets : List ℕ) (told : List Told) → ClientsAlike one.old two.old asks octets told
+        → HadMemory OutOfMemory result.0 result.1 → LeftClients result.0 one.new two.new asks octets told piece.now }
+{
+    let first = one.take(piece, moment);
+    let second = two.take(piece, moment);
+    (first, second)
+}
+
+/// Asks the same call of two channels that stand alike: the answers are one, and the channels stand
+/// alike behind it.
+pub fn client_ask_twice(
+    one: &mut ClientChannel,
+    two: &mut ClientChannel,
+    body: &[u8],
+) -> (
+    Result<(u32, Vec<u8>), AskFault>,
+    Result<(u32, Vec<u8>), AskFault>,
+)
+    requires body { 0 < length body.now }
+    ensures answers { (asks : List Placed) (octets : List ℕ) (told : List Told) → ClientsAlike one.old two.old asks octets told
+        → HadMemory no_asking_memory result.0 result.1 → SameAsked (λ out. out.items) result.0 result.1 }
+    ensures left { (asks : List Placed) (octets : List ℕ) (told : List Told) → ClientsAlike one.old two.old asks octets told
+        → HadMemory no_asking_memory result.0 result.1 → AsksAlike Call result.0 one.new two.new asks octets told }
+{
+    client_is_open();
+    let first = one.ask(body);
+    let second = two.ask(body);
+    (first, second)
+}
+
+/// Asks a further token of two channels that stand alike: the answers are one, and the channels stand
+/// alike behind it.
+pub fn client_renew_twice(
+    one: &mut ClientChannel,
+    two: &mut ClientChannel,
+    moment: DateTime,
+) -> (
+    Result<(u32, Vec<u8>), AskFault>,
+    Result<(u32, Vec<u8>), AskFault>,
+)
+    ensures answers { (asks : List Placed) (octets : List ℕ) (told : List Told) → ClientsAlike one.old two.old asks octets told
+        → HadMemory no_asking_memory result.0 result.1 → SameAsked (λ out. out.items) result.0 result.1 }
+    ensures left { (asks : List Placed) (octets : List ℕ) (told : List Told) → ClientsAlike one.old two.old asks octets told
+        → HadMemory no_asking_memory result.0 result.1 → AsksAlike Renewal result.0 one.new two.new asks octets told }
+{
+    client_is_open();
+    let first = one.renew(moment);
+    let second = two.renew(moment);
+    (first, second)
+}
