@@ -1,6 +1,7 @@
 -- What a client's channel asks twice.
 use Rattle.std.specs.Prelude.{◌≡◌, ◌↔◌, ℕ, List, [], ◌∷◌, ◌++◌, length, Bool, ◌||◌, is_some, nat_le, ◌+◌, Option, Some, None, Result, Ok, Err, IfOk, OnOk, OnErr, IsErrOf}
-use Rattle.std.proofs.Common.{refl, sym, ◌∙◌, ap, subst}
+use Rattle.std.proofs.Common.{refl, sym, ◌∙◌, ap, subst, replicate}
+use Rattle.std.proofs.lemmas.List.{length-replicate}
 use Rattle.ua_builtin.specs.Reasons.{first_reason}
 use Rattle.ua_builtin.specs.declared.date_time.DateTime.{DateTime}
 use Rattle.ua_frame.specs.Frames.{frame_octets}
@@ -13,7 +14,7 @@ use Rattle.ua_chunk.specs.Cutting.{pieces, chunks_of, chunks_octets, number_afte
 use Rattle.ua_chunk.specs.Sequence.{next_number}
 use Rattle.ua_chunk.specs.declared.lane.Lane.{Lane}
 use Rattle.ua_channel.specs.Asks.{Asking, Placed, asked_in}
-use Rattle.ua_channel.specs.Client.{limits_of, next_of, phase_of, rules_of, InPhase, IsNotOpen, Goes, Stands, SameClient, ask_refusal, renew_refusal, close_refusal, IsCall, IsRenewal, IsClosing, Judges}
+use Rattle.ua_channel.specs.Client.{limits_of, next_of, bound_of, bound_behind, IsDone, phase_of, rules_of, InPhase, IsNotOpen, Goes, Stands, SameClient, ask_refusal, renew_refusal, close_refusal, IsCall, IsRenewal, IsClosing, Judges}
 use Rattle.ua_channel.specs.ClientAsks.{Talks, Calls, Renews, AnswersFor, IsFor, lane_of, room_of, ask_reasons, renew_reasons, more_reasons, is_too_large, closing_octets, most_pending, most_tokens, no_id}
 use Rattle.ua_channel.specs.ClientSends.{renewal_frame, close_frame}
 use Rattle.ua_channel.specs.ClientTable.{client_rules}
@@ -25,7 +26,7 @@ use Rattle.ua_channel.specs.declared.client.fault.AskFault.TheVariants.{NotOpen,
 use Rattle.ua_channel.specs.declared.client.phase.Phase.{Phase}
 use Rattle.ua_channel.specs.declared.client.phase.Phase.TheVariants.{Waiting, Agreed, Open, Done}
 use Rattle.ua_channel.specs.declared.client.talking.Talking.{Talking}
-use Rattle.ua_pinned.specs.Clients.{ClientsAlike, SameAsked, AsksAlike}
+use Rattle.ua_pinned.specs.Clients.{ClientsAlike, SameAsked, AsksAlike, ClosesAlike}
 use Rattle.ua_pinned.specs.Pinned.{HadMemory, SameBy}
 
 -- ---- where two channels stand that stand alike
@@ -282,3 +283,40 @@ pub nexts_alike : {V : Type 0} (items : V → List ℕ) (X Y : ℕ → List ℕ 
 nexts_alike items X Y n m once (Ok (id, v)) (Ok (other, w)) x y = (once id other (items v) (items w) x y).nexts
 nexts_alike items X Y n m once (Ok v) (Err e) x y = tt
 nexts_alike items X Y n m once (Err e) b x y = tt
+
+-- a channel that is unchanged stands as before
+pub unchanged_kept : {A : Type 0} (x new : ClientChannel) (asks : List Placed) (octets : List ℕ) (frames : List Frame) (rest : List ℕ) (a : Result A AskFault) → OnErr a (new ≡ x) → Stands x asks octets frames rest → OnErr a (Stands new asks octets frames rest)
+unchanged_kept x new asks octets frames rest (Ok v) e s = tt
+unchanged_kept x new asks octets frames rest (Err fault) e s = subst (λ (z : ClientChannel). Stands z asks octets frames rest) (sym e) s
+
+pub unchanged_next : {A : Type 0} (x new : ClientChannel) (a : Result A AskFault) → OnErr a (new ≡ x) → OnErr a (next_of new ≡ next_of x)
+unchanged_next x new (Ok v) e = tt
+unchanged_next x new (Err fault) e = ap next_of e
+
+-- ---- closes
+
+-- what a channel says of where it stands behind a close
+pub record IsClosed {A : Type 0} (x new : ClientChannel) (a : Result A AskFault) : Type 0 where
+  pub done : OnOk a (IsDone new)
+  pub unchanged : OnErr a (new ≡ x)
+  pub bound : bound_of new ≡ bound_of x
+
+same_bound : (x y : ClientChannel) (asks : List Placed) (octets : List ℕ) (told : List Told) (s : ClientsAlike x y asks octets told) → bound_of x ≡ bound_of y
+same_bound x y asks octets told s =
+    s.first.stands.bound_is ∙ (ap (λ (l : Limits). bound_behind l (received s.first.frames).ack) s.limits ∙ (ap (λ (t : List Frame). bound_behind (limits_of y) (received t).ack) (same_frames x y asks octets told s) ∙ sym s.second.stands.bound_is))
+
+pub closed_alike : {V : Type 0} (items : V → List ℕ) (x y new other : ClientChannel) (asks : List Placed) (octets : List ℕ) (told : List Told) (s : ClientsAlike x y asks octets told) (a b : Result V AskFault)
+    → IsClosed x new a → IsClosed y other b → SameBy items a b → ClosesAlike a new other asks octets told
+closed_alike items x y new other asks octets told s (Ok v) (Ok w) p q same = record { first = p.done; second = q.done; bound = p.bound ∙ (same_bound x y asks octets told s ∙ sym q.bound) }
+closed_alike items x y new other asks octets told s (Ok v) (Err e) p q same = absurd same
+closed_alike items x y new other asks octets told s (Err e) (Ok w) p q same = absurd same
+closed_alike items x y new other asks octets told s (Err e) (Err d) p q same =
+    subst (λ (z : ClientChannel). ClientsAlike z other asks octets told) (sym p.unchanged) (subst (λ (z : ClientChannel). ClientsAlike x z asks octets told) (sym q.unchanged) s)
+
+-- ---- judgements
+
+pub judged_alike : (p q : Phase) (more len : ℕ) (a b : Result (Unit {0}) AskFault) → ((body : List ℕ) → ask_refusal p more body ≡ ask_refusal q more body) → Judges p more len a → Judges q more len b → a ≡ b
+judged_alike p q more len (Ok v) (Ok w) same h k = refl
+judged_alike p q more len (Ok v) (Err f) same h k = absurd (some_not_none _ _ f (same (replicate len 0)) (h (replicate len 0) (length-replicate len 0)) (k (replicate len 0) (length-replicate len 0)))
+judged_alike p q more len (Err f) (Ok w) same h k = absurd (some_not_none _ _ f (sym (same (replicate len 0))) (k (replicate len 0) (length-replicate len 0)) (h (replicate len 0) (length-replicate len 0)))
+judged_alike p q more len (Err f) (Err g) same h k = ap Err (one_fault _ _ f g (same (replicate len 0)) (h (replicate len 0) (length-replicate len 0)) (k (replicate len 0) (length-replicate len 0)))

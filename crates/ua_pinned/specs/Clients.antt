@@ -69,3 +69,8 @@ SameAsked items (Err fault) (Err other) = fault ≡ other
 abbrev pub AsksAlike : {V E : Type 0} → (ℕ → Asking) → Result (ℕ × V) E → ClientChannel → ClientChannel → List Placed → List ℕ → List Told → Type 0
 AsksAlike asking (Ok (id, out)) one two asks octets told = ClientsAlike one two (asks ++ (length octets, asking id) ∷ []) octets told
 AsksAlike asking (Err fault) one two asks octets told = ClientsAlike one two asks octets told
+
+-- where a close leaves them: both are closed, or they stand as they stood
+abbrev pub ClosesAlike : {V E : Type 0} → Result V E → ClientChannel → ClientChannel → List Placed → List ℕ → List Told → Type 0
+ClosesAlike (Ok out) one two asks octets told = ClientsDone one two
+ClosesAlike (Err fault) one two asks octets told = ClientsAlike one two asks octets told

@@ -6,7 +6,7 @@ ghost use Rattle.ua_channel.specs.Asks.Asking.{Call, Renewal};
 ghost use Rattle.ua_channel.specs.ClientTold.{Told};
 ghost use Rattle.ua_channel.specs.declared.client.fault.AskFault.TheVariants.{OutOfMemory as no_asking_memory};
 ghost use Rattle.ua_channel.specs.declared.client.fault.ClientTakeFault.TheVariants.{OutOfMemory};
-ghost use Rattle.ua_pinned.specs.Clients.{AsksAlike, ClientsAlike, LeftClients, SameAsked, SameClientAnswer};
+ghost use Rattle.ua_pinned.specs.Clients.{AsksAlike, ClientsAlike, ClosesAlike, LeftClients, SameAsked, SameClientAnswer};
 ghost use Rattle.ua_pinned.specs.Pinned.{HadMemory, SameBy};
 
 use ua_builtin::DateTime;
@@ -74,5 +74,54 @@ pub fn client_renew_twice(
     client_is_open();
     let first = one.renew(moment);
     let second = two.renew(moment);
+    (first, second)
+}
+
+/// Closes two channels that stand alike: the answers are one, and both are closed, or stand as they
+/// stood.
+pub fn client_close_twice(
+    one: &mut ClientChannel,
+    two: &mut ClientChannel,
+    moment: DateTime,
+) -> (Result<Vec<u8>, AskFault>, Result<Vec<u8>, AskFault>)
+    ensures answers { (asks : List Placed) (octets : List ℕ) (told : List Told) → ClientsAlike one.old two.old asks octets told
+        → HadMemory no_asking_memory result.0 result.1 → SameBy (λ out. out.items) result.0 result.1 }
+    ensures left { (asks : List Placed) (octets : List ℕ) (told : List Told) → ClientsAlike one.old two.old asks octets told
+        → HadMemory no_asking_memory result.0 result.1 → ClosesAlike result.0 one.new two.new asks octets told }
+{
+    client_is_open();
+    let first = one.close(moment);
+    let second = two.close(moment);
+    (first, second)
+}
+
+/// Judges a body of the same length at two channels that stand alike: the answers are one.
+pub fn client_judge_twice(
+    one: &ClientChannel,
+    two: &ClientChannel,
+    before: usize,
+    len: usize,
+) -> (Result<(), AskFault>, Result<(), AskFault>)
+    ensures answers { (asks : List Placed) (octets : List ℕ) (told : List Told) → ClientsAlike one.now two.now asks octets told
+        → result.0 ≡ result.1 }
+{
+    client_is_open();
+    let first = one.judge(before, len);
+    let second = two.judge(before, len);
+    (first, second)
+}
+
+/// What two channels tell of themselves that stand alike: how many octets they hold, the most that
+/// they may hold, and the request id of what is asked next.
+pub fn client_tells_twice(
+    one: &ClientChannel,
+    two: &ClientChannel,
+) -> ((usize, usize, u32), (usize, usize, u32))
+    ensures held { (asks : List Placed) (octets : List ℕ) (told : List Told) → ClientsAlike one.now two.now asks octets told → result.0.0 ≡ result.1.0 }
+    ensures bound { (asks : List Placed) (octets : List ℕ) (told : List Told) → ClientsAlike one.now two.now asks octets told → result.0.1 ≡ result.1.1 }
+    ensures next { (asks : List Placed) (octets : List ℕ) (told : List Told) → ClientsAlike one.now two.now asks octets told → result.0.2 ≡ result.1.2 }
+{
+    let first = (one.held(), one.bound(), one.next_id());
+    let second = (two.held(), two.bound(), two.next_id());
     (first, second)
 }

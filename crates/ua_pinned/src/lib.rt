@@ -19,7 +19,10 @@ pub use bodies::{
     request_body_twice, response_body_twice,
 };
 pub use chunks::{read_chunk_twice, read_open_twice};
-pub use clients::{client_ask_twice, client_renew_twice, client_take_twice};
+pub use clients::{
+    client_ask_twice, client_close_twice, client_judge_twice, client_renew_twice, client_take_twice,
+    client_tells_twice,
+};
 pub use cutting::cut_twice;
 pub use frames::take_frame_twice;
 pub use servers::{server_reply_twice, server_take_twice, server_tells_twice};
