@@ -5,3 +5,4 @@ pub mod ServersAlike
 pub mod RepliesAlike
 pub mod ClientsAlike
 pub mod AsksAlike
+pub mod AdvancesAlike

@@ -42,6 +42,18 @@ SameServerAnswer (Ok (n, event)) (Err fault) = ⊥
 SameServerAnswer (Err fault) (Ok (n, event)) = ⊥
 SameServerAnswer (Err fault) (Err other) = fault ≡ other
 
+-- the same of what is answered alone
+abbrev pub SameServerOutcome : Result ServerEvent ChannelFault → Result ServerEvent ChannelFault → Type 0
+SameServerOutcome (Ok event) (Ok other) = SameServerEvent event other
+SameServerOutcome (Ok event) (Err fault) = ⊥
+SameServerOutcome (Err fault) (Ok event) = ⊥
+SameServerOutcome (Err fault) (Err other) = fault ≡ other
+
+-- an event with how many octets were taken
+abbrev pub counted_with : ℕ → Result ServerEvent ChannelFault → Result (ℕ × ServerEvent) ChannelFault
+counted_with n (Ok event) = Ok (n, event)
+counted_with n (Err fault) = Err fault
+
 -- ---- where an answer leaves them
 
 -- behind a close both have ended; behind another event they stand alike, with what was told behind what was told before

@@ -5,7 +5,7 @@ ghost use Rattle.ua_channel.specs.ServerTold.{Told};
 ghost use Rattle.ua_channel.specs.declared.server_fault.ChannelFault.TheVariants.{OutOfMemory};
 ghost use Rattle.ua_channel.specs.declared.server_fault.ReplyFault.TheVariants.{OutOfMemory as no_reply_memory};
 ghost use Rattle.ua_pinned.specs.Pinned.{HadMemory, SameBy};
-ghost use Rattle.ua_pinned.specs.Servers.{LeftServers, SameServerAnswer, ServersAlike};
+ghost use Rattle.ua_pinned.specs.Servers.{LeftServers, SameServerAnswer, SameServerOutcome, ServersAlike, counted_with};
 
 use ua_builtin::DateTime;
 use ua_channel::{ChannelFault, ReplyFault, ServerChannel, ServerEvent};
@@ -28,6 +28,29 @@ pub fn server_take_twice(
 {
     let first = one.take(piece, moment);
     let second = two.take(piece, moment);
+    (first, second)
+}
+
+/// The same of [`advance`](ServerChannel::advance), which says at a refusal too how many octets were
+/// taken.
+pub fn server_advance_twice(
+    one: &mut ServerChannel,
+    two: &mut ServerChannel,
+    piece: &[u8],
+    moment: DateTime,
+) -> (
+    (usize, Result<ServerEvent, ChannelFault>),
+    (usize, Result<ServerEvent, ChannelFault>),
+)
+    ensures taken { (octets : List ℕ) (told : List Told) → ServersAlike one.old two.old octets told
+        → HadMemory OutOfMemory result.0.1 result.1.1 → result.0.0 ≡ result.1.0 }
+    ensures answers { (octets : List ℕ) (told : List Told) → ServersAlike one.old two.old octets told
+        → HadMemory OutOfMemory result.0.1 result.1.1 → SameServerOutcome result.0.1 result.1.1 }
+    ensures left { (octets : List ℕ) (told : List Told) → ServersAlike one.old two.old octets told
+        → HadMemory OutOfMemory result.0.1 result.1.1 → LeftServers (counted_with result.0.0 result.0.1) one.new two.new octets told piece.now }
+{
+    let first = one.advance(piece, moment);
+    let second = two.advance(piece, moment);
     (first, second)
 }
 
