@@ -6,3 +6,4 @@ pub mod RepliesAlike
 pub mod ClientsAlike
 pub mod AsksAlike
 pub mod AdvancesAlike
+pub mod NodesAlike

@@ -8,6 +8,7 @@ mod chunks;
 mod clients;
 mod cutting;
 mod frames;
+mod nodes;
 mod servers;
 mod texts;
 mod values;
@@ -25,6 +26,9 @@ pub use clients::{
 };
 pub use cutting::cut_twice;
 pub use frames::take_frame_twice;
+pub use nodes::{
+    append_items_twice, insert_twice, load_twice, read_item_twice, write_items_twice,
+};
 pub use servers::{server_advance_twice, server_reply_twice, server_take_twice, server_tells_twice};
 pub use texts::{parse_text_twice, to_text_twice};
 pub use values::{append_twice, read_twice, read_whole_twice, write_twice};
