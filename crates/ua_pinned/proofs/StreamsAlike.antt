@@ -50,7 +50,7 @@ by_place us vs x y (Sooner m p) e = absurd (omega (arith, ap length e, ap length
 
 -- lists with one item more are the same where their fronts and that item are
 pub pushed : {A : Type 0} (us vs : List A) (x y : A) → us ++ x ∷ [] ≡ vs ++ y ∷ [] → (us ≡ vs) × (x ≡ y)
-pushed us vs x y e = by_place us vs x y (split us vs x y [] [] (append-nil (us ++ x ∷ []) ∙ (e ∙ sym (append-nil (vs ++ y ∷ [])))) ) e
+pushed us vs x y e = by_place us vs x y (split us vs x y [] [] (append-nil (us ++ x ∷ []) ∙ (e ∙ sym (append-nil (vs ++ y ∷ []))))) e
 
 longer : {A : Type 0} (told : List A) (e : A) (more : List A) → (told ++ e ∷ []) ++ more ≡ told → ⊥
 longer told e more p = omega (arith, ap length p, length-append (told ++ e ∷ []) more, length-append told (e ∷ []))

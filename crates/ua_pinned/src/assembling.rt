@@ -51,5 +51,8 @@ pub fn held_twice(one: &Assembler, two: &Assembler) -> ((usize, usize), (usize, 
     ensures held { (cs : List Chunk) → StandAlike one.now two.now cs → result.0.0 ≡ result.1.0 }
     ensures count { (cs : List Chunk) → StandAlike one.now two.now cs → result.0.1 ≡ result.1.1 }
 {
-    ((one.held(), one.open_count()), (two.held(), two.open_count()))
+    (
+        (one.held(), one.open_count()),
+        (two.held(), two.open_count()),
+    )
 }

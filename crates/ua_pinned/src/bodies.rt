@@ -68,10 +68,7 @@ pub fn read_open_response_twice<S: Source, R: Source>(
     alloc: Global,
     one: &mut S,
     two: &mut R,
-) -> (
-    Result<OpenAnswer, ReadFault>,
-    Result<OpenAnswer, ReadFault>,
-)
+) -> (Result<OpenAnswer, ReadFault>, Result<OpenAnswer, ReadFault>)
     requires same { S.octets one.old ≡ R.octets two.old }
     ensures answers { AnswerAlike no_reading_memory result.0 result.1 }
 {

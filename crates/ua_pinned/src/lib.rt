@@ -1,6 +1,7 @@
 //! Calls that have one answer.
 #![tactic(auto)]
 
+mod answers;
 mod arrays;
 mod assembling;
 mod bodies;
@@ -13,6 +14,7 @@ mod servers;
 mod texts;
 mod values;
 
+pub use answers::{answer_twice, reply_twice};
 pub use arrays::read_array_twice;
 pub use assembling::{accept_twice, held_twice, step_twice};
 pub use bodies::{
@@ -21,14 +23,14 @@ pub use bodies::{
 };
 pub use chunks::{read_chunk_twice, read_open_twice};
 pub use clients::{
-    client_ask_twice, client_close_twice, client_judge_twice, client_renew_twice, client_take_twice,
-    client_tells_twice,
+    client_ask_twice, client_close_twice, client_judge_twice, client_renew_twice,
+    client_take_twice, client_tells_twice,
 };
 pub use cutting::cut_twice;
 pub use frames::take_frame_twice;
-pub use nodes::{
-    append_items_twice, insert_twice, load_twice, read_item_twice, write_items_twice,
+pub use nodes::{append_items_twice, insert_twice, load_twice, read_item_twice, write_items_twice};
+pub use servers::{
+    server_advance_twice, server_reply_twice, server_take_twice, server_tells_twice,
 };
-pub use servers::{server_advance_twice, server_reply_twice, server_take_twice, server_tells_twice};
 pub use texts::{parse_text_twice, to_text_twice};
 pub use values::{append_twice, read_twice, read_whole_twice, write_twice};
