@@ -1,8 +1,7 @@
 -- Octets that come twice to a server's channel, which says at a refusal too how many it took.
-use Rattle.std.specs.Prelude.{◌≡◌, ℕ, ◌≤◌, List, [], ◌∷◌, ◌++◌, length, take, drop, Result, Ok, Err, IfOk, IsErrOf}
+use Rattle.std.specs.Prelude.{◌≡◌, ℕ, ◌≤◌, List, ◌++◌, length, take, drop, Result, Ok, Err, IfOk, IsErrOf}
 use Rattle.std.proofs.Common.{refl, sym, ◌∙◌, ap, subst, append_assoc, take-append-drop}
 use Rattle.ua_builtin.specs.declared.date_time.DateTime.{DateTime}
-use Rattle.ua_builtin.specs.declared.status_code.StatusCode.{StatusCode}
 use Rattle.ua_frame.specs.Run.{Rules, Run, events, Stopped}
 use Rattle.ua_frame.specs.declared.limits.Limits.{Limits}
 use Rattle.ua_frame.proofs.Ends.{ends_stay}
@@ -17,7 +16,7 @@ use Rattle.ua_channel.specs.declared.server_event.ServerEvent.{ServerEvent}
 use Rattle.ua_channel.specs.declared.server_fault.ChannelFault.{ChannelFault}
 use Rattle.ua_channel.specs.declared.server_fault.ChannelFault.TheVariants.{Refused, Closed, OutOfMemory}
 use Rattle.ua_pinned.specs.Pinned.{HadMemory}
-use Rattle.ua_pinned.specs.Servers.{ServersAlike, SameServerAnswer, SameServerOutcome, LeftServers, counted_with}
+use Rattle.ua_pinned.specs.Servers.{ServersAlike, SameServerAnswer, SameServerOutcome, counted_with}
 use Rattle.ua_pinned.proofs.ServersAlike.{Answer, Both, IsTaken, alike}
 use Rattle.ua_pinned.proofs.StreamsAlike.{WrongAt, one_wrong_at}
 

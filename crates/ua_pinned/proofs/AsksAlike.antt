@@ -1,11 +1,11 @@
 -- What a client's channel asks twice.
-use Rattle.std.specs.Prelude.{◌≡◌, ◌↔◌, ℕ, List, [], ◌∷◌, ◌++◌, length, Bool, ◌||◌, is_some, nat_le, ◌+◌, Option, Some, None, Result, Ok, Err, IfOk, OnOk, OnErr, IsErrOf}
+use Rattle.std.specs.Prelude.{◌≡◌, ◌↔◌, ℕ, List, [], ◌∷◌, ◌++◌, length, is_some, nat_le, ◌+◌, Option, Some, None, Result, Ok, Err, IfOk, OnOk, OnErr, IsErrOf}
 use Rattle.std.proofs.Common.{refl, sym, ◌∙◌, ap, subst, replicate}
 use Rattle.std.proofs.lemmas.List.{length-replicate}
 use Rattle.ua_builtin.specs.Reasons.{first_reason}
 use Rattle.ua_builtin.specs.declared.date_time.DateTime.{DateTime}
 use Rattle.ua_frame.specs.Frames.{frame_octets}
-use Rattle.ua_frame.specs.Run.{Rules, Run, events, Going}
+use Rattle.ua_frame.specs.Run.{Rules, Run, Going}
 use Rattle.ua_frame.specs.declared.ack.Ack.{Ack}
 use Rattle.ua_frame.specs.declared.frame.Frame.{Frame}
 use Rattle.ua_frame.specs.declared.limits.Limits.{Limits}
@@ -15,7 +15,7 @@ use Rattle.ua_chunk.specs.Sequence.{next_number}
 use Rattle.ua_chunk.specs.declared.lane.Lane.{Lane}
 use Rattle.ua_channel.specs.Asks.{Asking, Placed, asked_in}
 use Rattle.ua_channel.specs.Client.{limits_of, next_of, bound_of, bound_behind, IsDone, phase_of, rules_of, InPhase, IsNotOpen, Goes, Stands, SameClient, ask_refusal, renew_refusal, close_refusal, IsCall, IsRenewal, IsClosing, Judges}
-use Rattle.ua_channel.specs.ClientAsks.{Talks, Calls, Renews, AnswersFor, IsFor, lane_of, room_of, ask_reasons, renew_reasons, more_reasons, is_too_large, closing_octets, most_pending, most_tokens, no_id}
+use Rattle.ua_channel.specs.ClientAsks.{Talks, Calls, Renews, AnswersFor, IsFor, lane_of, room_of, ask_reasons, renew_reasons, is_too_large, closing_octets, most_pending, most_tokens, no_id}
 use Rattle.ua_channel.specs.ClientSends.{renewal_frame, close_frame}
 use Rattle.ua_channel.specs.ClientTable.{client_rules}
 use Rattle.ua_channel.specs.ClientTold.{Told, Why}

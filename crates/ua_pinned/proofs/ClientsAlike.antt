@@ -1,5 +1,5 @@
 -- Octets that come twice to a client's channel.
-use Rattle.std.specs.Prelude.{◌≡◌, ℕ, ◌≤◌, ◌<◌, List, [], ◌∷◌, ◌++◌, length, take, Bool, Result, Ok, Err, IfOk, IsErrOf}
+use Rattle.std.specs.Prelude.{◌≡◌, ℕ, ◌≤◌, List, [], ◌∷◌, ◌++◌, length, take, Bool, Result, Ok, Err, IfOk, IsErrOf}
 use Rattle.std.specs.List.{concat}
 use Rattle.std.proofs.Common.{refl, sym, ◌∙◌, ap, subst, arith, append-nil}
 use Rattle.ua_builtin.specs.declared.date_time.DateTime.{DateTime}
@@ -13,7 +13,7 @@ use Rattle.ua_frame.specs.declared.frame.Frame.{Frame}
 use Rattle.ua_frame.specs.declared.limits.Limits.{Limits}
 use Rattle.ua_frame.proofs.Unique.{unique}
 use Rattle.ua_channel.specs.Asks.{Placed}
-use Rattle.ua_channel.specs.Client.{SameClient, limits_of, next_of, bound_of, bound_behind, rules_of, IsDone, Goes, GoesTelling, EndsMessage, Ended}
+use Rattle.ua_channel.specs.Client.{SameClient, limits_of, next_of, bound_of, bound_behind, rules_of, Goes, GoesTelling, EndsMessage, Ended}
 use Rattle.ua_channel.specs.ClientAnswers.{ClientAnswers, ComesInParts, Progress, parts_handed}
 use Rattle.ua_channel.specs.ClientSends.{first_open}
 use Rattle.ua_channel.specs.ClientTable.{client_rules}
@@ -27,7 +27,7 @@ use Rattle.ua_channel.specs.declared.client.event.ClientEvent.TheVariants.{NeedM
 use Rattle.ua_channel.specs.declared.client.fault.ClientTakeFault.{ClientTakeFault}
 use Rattle.ua_channel.specs.declared.client.fault.ClientTakeFault.TheVariants.{Closed, OutOfMemory}
 use Rattle.ua_channel.proofs.ClientReadings.{goes_behind}
-use Rattle.ua_pinned.specs.Clients.{ClientsAlike, ClientsDone, SameClientEvent, SameClientAnswer, LeavesClients, LeftClients}
+use Rattle.ua_pinned.specs.Clients.{ClientsAlike, SameClientEvent, SameClientAnswer, LeavesClients, LeftClients}
 use Rattle.ua_pinned.specs.Pinned.{HadMemory}
 use Rattle.ua_pinned.proofs.ServersAlike.{same_chunk, same_code, whole_taken}
 use Rattle.ua_pinned.proofs.StreamsAlike.{Quiet, Tells, WrongAt, quiet_not_tells, quiet_not_wrong, wrong_not_tells, wrong_at, one_tells, one_wrong_at, pushed}

@@ -1,16 +1,16 @@
 -- Frames that are read twice.
-use Rattle.std.specs.Prelude.{◌≡◌, ℕ, ◌≤◌, ◌<◌, List, [], ◌++◌, length, take, drop, Bool, true, false, Option, Some, None, Result, Ok, Err, IsErrOf}
-use Rattle.std.proofs.Common.{refl, sym, ◌∙◌, ap, subst, arith, inl, inr, append_assoc, length-append, length-drop}
+use Rattle.std.specs.Prelude.{◌≡◌, ℕ, ◌≤◌, List, ◌++◌, length, take, drop, true, false, Option, Some, None, Result, Ok, Err, IsErrOf}
+use Rattle.std.proofs.Common.{refl, sym, ◌∙◌, ap, subst, arith, inl, inr, append_assoc, length-drop}
 use Rattle.std.proofs.lemmas.List.{take-append-drop}
 use Rattle.ua_frame.specs.declared.fault.FrameFault.{FrameFault}
 use Rattle.ua_frame.specs.declared.fault.FrameFault.TheVariants.{UnknownType, OutOfPlace, TooLarge, TooSmall, OutOfMemory, Closed}
 use Rattle.ua_frame.specs.declared.frame.Frame.{Frame}
 use Rattle.ua_frame.specs.declared.gate.Gate.{Gate}
-use Rattle.ua_frame.specs.Frames.{frame_octets, IsSized, LetsIn, header_fault, IsPartial, size_of, frame_size}
-use Rattle.ua_frame.specs.Reader.{Reader, Takes, TakesAll, TakesFrame, Refuses, open_reader, failed_reader}
+use Rattle.ua_frame.specs.Frames.{frame_octets, IsSized, LetsIn, header_fault, IsPartial, size_of}
+use Rattle.ua_frame.specs.Reader.{Reader, Takes, TakesAll, TakesFrame, Refuses}
 use Rattle.ua_frame.proofs.Unique.{one_frame, frame_more_fault, frame_more_length}
 use Rattle.ua_frame.proofs.Fronts.{size_of-frame_more}
-use Rattle.ua_pinned.specs.Pinned.{AnswerAlike, HadMemory}
+use Rattle.ua_pinned.specs.Pinned.{HadMemory}
 
 abbrev pub Answer : Type 0
 Answer = Result (ℕ × Option Frame) FrameFault

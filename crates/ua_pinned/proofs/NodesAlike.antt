@@ -1,7 +1,7 @@
 -- Answers of nodes that are added twice.
-use Rattle.std.specs.Prelude.{◌≡◌, ℕ, zero, suc, ◌≤◌, ◌<◌, ◌⊎◌, List, [], ◌∷◌, ◌++◌, length, Option, Some, None, Result, Ok, Err, OnOk}
+use Rattle.std.specs.Prelude.{◌≡◌, ℕ, zero, suc, ◌<◌, ◌⊎◌, List, length, Option, Result, Ok, Err, OnOk}
 use Rattle.std.proofs.Common.{refl, sym, ◌∙◌, ap, subst, arith, inl, inr}
-use Rattle.ua_nodes.specs.Within.{IsWithin, Passes, NonePassBefore, with_first}
+use Rattle.ua_nodes.specs.Within.{IsWithin, Passes, with_first}
 
 -- so many are added, or fewer
 data Order (n m : ℕ) : Type 0 where

@@ -1,5 +1,5 @@
 -- Octets that come twice to a server's channel.
-use Rattle.std.specs.Prelude.{◌≡◌, ℕ, ◌≤◌, ◌<◌, List, [], ◌∷◌, ◌++◌, length, take, Result, Ok, Err, IfOk, IsErrOf}
+use Rattle.std.specs.Prelude.{◌≡◌, ℕ, ◌≤◌, List, [], ◌∷◌, ◌++◌, length, take, Result, Ok, Err, IfOk, IsErrOf}
 use Rattle.std.specs.List.{concat}
 use Rattle.std.proofs.Common.{refl, sym, ◌∙◌, ap, subst, append-nil}
 use Rattle.ua_chunk.specs.Gathered.{bodies, gathered}
@@ -13,15 +13,14 @@ use Rattle.ua_frame.specs.Run.{Rules, Run, events, Going, Stopped, Over}
 use Rattle.ua_frame.specs.declared.frame.Frame.{Frame}
 use Rattle.ua_frame.specs.declared.limits.Limits.{Limits}
 use Rattle.ua_frame.proofs.Unique.{unique}
-use Rattle.ua_channel.specs.Content.{Content, content}
+use Rattle.ua_channel.specs.Content.{content}
 use Rattle.ua_channel.specs.Content.Content.{Sends}
-use Rattle.ua_channel.specs.MessageParts.{EndsIn}
 use Rattle.ua_channel.specs.Received.{received}
-use Rattle.ua_channel.specs.ServerAnswers.{ServerAnswers, ComesInParts, Counts}
+use Rattle.ua_channel.specs.ServerAnswers.{ServerAnswers, ComesInParts}
 use Rattle.ua_channel.specs.ServerEvents.{parts_handed}
 use Rattle.ua_channel.specs.ServerRules.{server_rules}
 use Rattle.ua_channel.specs.ServerSends.{AreSent, counted_by}
-use Rattle.ua_channel.specs.ServerStands.{limits_of, channel_of, next_of, bound_of, bound_after, rules_of, IsDone, Goes, GoesTelling, EndsMessage, Ended, ClosedAt}
+use Rattle.ua_channel.specs.ServerStands.{limits_of, channel_of, next_of, bound_of, bound_after, rules_of, Goes, GoesTelling, EndsMessage, Ended, ClosedAt}
 use Rattle.ua_channel.specs.ServerTold.{Told, Agreed, Opened}
 use Rattle.ua_channel.specs.ServerTold.{Told as told}
 use Rattle.ua_channel.specs.declared.server.ServerChannel.{ServerChannel}
@@ -32,8 +31,8 @@ use Rattle.ua_channel.specs.declared.server_fault.ChannelFault.{ChannelFault}
 use Rattle.ua_channel.specs.declared.server_fault.ChannelFault.TheVariants.{Refused, Closed, OutOfMemory}
 use Rattle.ua_channel.proofs.ServerReadings.{goes_behind}
 use Rattle.ua_pinned.specs.Pinned.{HadMemory}
-use Rattle.ua_pinned.specs.Servers.{ServersAlike, ServersDone, SameServerEvent, SameServerAnswer, LeavesServers, LeftServers}
-use Rattle.ua_pinned.proofs.StreamsAlike.{Quiet, Tells, Lasts, Wrong, quiet_not_tells, quiet_not_lasts, quiet_not_wrong, wrong_not_tells, wrong_not_lasts, tells_as_last, one_tells, one_last, one_wrong, IsOne, pushed}
+use Rattle.ua_pinned.specs.Servers.{ServersAlike, SameServerEvent, SameServerAnswer, LeavesServers, LeftServers}
+use Rattle.ua_pinned.proofs.StreamsAlike.{Quiet, Tells, Lasts, Wrong, quiet_not_tells, quiet_not_lasts, quiet_not_wrong, wrong_not_tells, wrong_not_lasts, tells_as_last, one_tells, one_last, one_wrong, pushed}
 
 abbrev pub Answer : Type 0
 Answer = Result (ℕ × ServerEvent) ChannelFault

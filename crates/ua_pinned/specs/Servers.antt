@@ -1,5 +1,5 @@
 -- What it is for two servers' channels to stand alike, and for what they answer to be the same.
-use Rattle.std.specs.Prelude.{◌≡◌, ℕ, List, [], ◌∷◌, ◌++◌, take, Result, Ok, Err}
+use Rattle.std.specs.Prelude.{◌≡◌, ℕ, List, ◌++◌, take, Result, Ok, Err}
 use Rattle.ua_channel.specs.ServerStands.{Goes, IsDone, bound_of, channel_of, limits_of, next_of}
 use Rattle.ua_channel.specs.ServerTold.{Told}
 use Rattle.ua_channel.specs.declared.server.ServerChannel.{ServerChannel}

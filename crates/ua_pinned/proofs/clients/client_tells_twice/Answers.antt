@@ -1,4 +1,4 @@
-use Rattle.std.proofs.Common.{sym, ◌∙◌, ap, List, ℕ}
+use Rattle.std.proofs.Common.{sym, ◌∙◌, ap, List}
 use Rattle.ua_frame.specs.declared.frame.Frame.{Frame}
 use Rattle.ua_frame.specs.declared.limits.Limits.{Limits}
 use Rattle.ua_channel.specs.Client.{limits_of, bound_behind, held_octets}

@@ -1,7 +1,5 @@
 use Rattle.std.specs.Prelude.{List, ℕ}
 use Rattle.ua_channel.specs.ServerTold.{Told}
-use Rattle.ua_channel.specs.declared.server_fault.ChannelFault.TheVariants.{OutOfMemory}
-use Rattle.ua_pinned.specs.Pinned.{HadMemory}
 use Rattle.ua_pinned.specs.Servers.{ServersAlike}
 use Rattle.ua_pinned.proofs.AdvancesAlike.{IsAdvanced, advanced_alike, same_outcome, same_taken}
 use Rattle.ua_pinned.proofs.servers.server_advance_twice.Goals as goal

@@ -1,9 +1,7 @@
 use Rattle.std.specs.Prelude.{List, ℕ}
 use Rattle.ua_channel.specs.ServerTold.{Told}
-use Rattle.ua_channel.specs.declared.server_fault.ReplyFault.TheVariants.{OutOfMemory}
-use Rattle.ua_pinned.specs.Pinned.{HadMemory}
 use Rattle.ua_pinned.specs.Servers.{ServersAlike}
-use Rattle.ua_pinned.proofs.RepliesAlike.{IsAnswered, IsLeft, replies_alike, left_alike}
+use Rattle.ua_pinned.proofs.RepliesAlike.{IsAnswered, replies_alike, left_alike}
 use Rattle.ua_pinned.proofs.servers.server_reply_twice.Goals as goal
 
 first : (c : goal.After-reply-second) (octets : List ℕ) (told : List Told) (s : ServersAlike c.args.one.now c.args.two.now octets told) → IsAnswered (λ out. out.items) c.args.one.now c.reply-first.new.self s.first.frames c.args.body.now c.args.id c.reply-first.result
