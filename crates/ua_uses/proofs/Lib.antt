@@ -1,2 +1,3 @@
 mod Passed
 mod Pieces
+mod Talks

@@ -1,13 +1,15 @@
 //! Uses of the stack, as its callers write them, each with a contract of its own: a value through
-//! octets and back, the frames of a piece of a stream, a value of a node file, the body of a request.
+//! octets and back, the frames of a piece of a stream, a value of a node file, the body of a request, a conversation over a line.
 #![tactic(auto)]
 
 mod requests;
 mod stream;
 mod tables;
+mod talk;
 mod values;
 
 pub use requests::take_request;
 pub use stream::take_frames;
 pub use tables::{TableFault, value_in_file};
+pub use talk::write_and_read;
 pub use values::{PassFault, through_octets};
