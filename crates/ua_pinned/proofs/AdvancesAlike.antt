@@ -5,8 +5,8 @@ use Rattle.ua_builtin.specs.declared.date_time.DateTime.{DateTime}
 use Rattle.ua_frame.specs.Run.{Rules, Run, events, Stopped}
 use Rattle.ua_frame.specs.declared.limits.Limits.{Limits}
 use Rattle.ua_frame.proofs.Ends.{ends_stay}
-use Rattle.ua_channel.specs.ServerAnswers.{AnswersAt, ServerAnswers, ComesInParts}
-use Rattle.ua_channel.specs.ServerEvents.{parts_handed}
+use Rattle.ua_channel.specs.ServerAnswers.{AnswersAt, ServerAnswers, AsksInParts}
+use Rattle.ua_channel.specs.ServerAnswers.{parts_asked}
 use Rattle.ua_channel.specs.ServerRules.{server_rules}
 use Rattle.ua_channel.specs.ServerStands.{limits_of, channel_of, next_of, rules_of, Ended, RefusedAt}
 use Rattle.ua_channel.specs.ServerTold.{Told}
@@ -43,14 +43,14 @@ as_answers channel number moment piece n (Err (Refused code err)) x octets befor
 as_answers channel number moment piece n (Err OutOfMemory) x octets before h = h.1
 as_answers channel number moment piece n (Err Closed) x octets before h = absurd h
 
-as_parts : (n : ℕ) (a : Outcome) (x : ServerChannel) (octets piece : List ℕ) → IfOk a (λ e. ComesInParts (parts_handed e) x (octets ++ take n piece)) → IfOk (counted_with n a) (λ r. ComesInParts (parts_handed r.1) x (octets ++ take r.0 piece))
+as_parts : (n : ℕ) (a : Outcome) (x : ServerChannel) (octets piece : List ℕ) → IfOk a (λ e. AsksInParts (parts_asked e) x (octets ++ take n piece)) → IfOk (counted_with n a) (λ r. AsksInParts (parts_asked r.1) x (octets ++ take r.0 piece))
 as_parts n (Ok e) x octets piece h = h
 as_parts n (Err fault) x octets piece h = tt
 
 -- what a channel says of a piece, with how many octets it took
 pub record IsAdvanced (old new : ServerChannel) (moment : DateTime) (piece octets : List ℕ) (before : List Told) (n : ℕ) (a : Outcome) : Type 0 where
   pub answers : AnswersAt (channel_of old) (next_of old) moment piece n a new octets before
-  pub parts : IfOk a (λ e. ComesInParts (parts_handed e) new (octets ++ take n piece))
+  pub parts : IfOk a (λ e. AsksInParts (parts_asked e) new (octets ++ take n piece))
   pub limits : limits_of new ≡ limits_of old
   pub channel : channel_of new ≡ channel_of old
 

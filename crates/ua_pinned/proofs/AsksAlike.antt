@@ -14,8 +14,8 @@ use Rattle.ua_chunk.specs.Cutting.{pieces, chunks_of, chunks_octets, number_afte
 use Rattle.ua_chunk.specs.Sequence.{next_number}
 use Rattle.ua_chunk.specs.declared.lane.Lane.{Lane}
 use Rattle.ua_channel.specs.Asks.{Asking, Placed, asked_in}
-use Rattle.ua_channel.specs.Client.{limits_of, next_of, bound_of, bound_behind, IsDone, phase_of, rules_of, InPhase, IsNotOpen, Goes, Stands, SameClient, ask_refusal, renew_refusal, close_refusal, IsCall, IsRenewal, IsClosing, Judges}
-use Rattle.ua_channel.specs.ClientAsks.{Talks, Calls, Renews, AnswersFor, IsFor, lane_of, room_of, ask_reasons, renew_reasons, is_too_large, closing_octets, most_pending, most_tokens, no_id}
+use Rattle.ua_channel.specs.Client.{limits_of, next_of, bound_of, bound_behind, IsDone, phase_of, rules_of, InPhase, IsNotOpen, Goes, Stands, SameClient, ask_refusal, renew_refusal, close_refusal, IsCall, IsRenewal, IsClosing}
+use Rattle.ua_channel.specs.ClientAsks.{Talks, Calls, Renews, AnswersFor, IsFor, lane_of, room_of, ask_reasons, renew_reasons, is_too_large, closing_octets, most_pending, most_tokens, no_id, JudgesBy}
 use Rattle.ua_channel.specs.ClientSends.{renewal_frame, close_frame}
 use Rattle.ua_channel.specs.ClientTable.{client_rules}
 use Rattle.ua_channel.specs.ClientTold.{Told, Why}
@@ -315,7 +315,7 @@ closed_alike items x y new other asks octets told s (Err e) (Err d) p q same =
 
 -- ---- judgements
 
-pub judged_alike : (p q : Phase) (more len : ℕ) (a b : Result (Unit {0}) AskFault) → ((body : List ℕ) → ask_refusal p more body ≡ ask_refusal q more body) → Judges p more len a → Judges q more len b → a ≡ b
+pub judged_alike : (p q : Phase) (more len : ℕ) (a b : Result (Unit {0}) AskFault) → ((body : List ℕ) → ask_refusal p more body ≡ ask_refusal q more body) → JudgesBy (ask_refusal p more) len a → JudgesBy (ask_refusal q more) len b → a ≡ b
 judged_alike p q more len (Ok v) (Ok w) same h k = refl
 judged_alike p q more len (Ok v) (Err f) same h k = absurd (some_not_none _ _ f (same (replicate len 0)) (h (replicate len 0) (length-replicate len 0)) (k (replicate len 0) (length-replicate len 0)))
 judged_alike p q more len (Err f) (Ok w) same h k = absurd (some_not_none _ _ f (sym (same (replicate len 0))) (k (replicate len 0) (length-replicate len 0)) (h (replicate len 0) (length-replicate len 0)))

@@ -13,7 +13,7 @@ use Rattle.ua_frame.specs.declared.frame.Frame.{Frame}
 use Rattle.ua_frame.specs.declared.limits.Limits.{Limits}
 use Rattle.ua_frame.proofs.Unique.{unique}
 use Rattle.ua_channel.specs.Asks.{Placed}
-use Rattle.ua_channel.specs.Client.{SameClient, limits_of, next_of, bound_of, bound_behind, rules_of, Goes, GoesTelling, EndsMessage, Ended}
+use Rattle.ua_channel.specs.Client.{SameClient, limits_of, next_of, bound_of, bound_behind, rules_of, Goes, GoesTelling, EndsReply, Ended}
 use Rattle.ua_channel.specs.ClientAnswers.{ClientAnswers, ComesInParts, Progress, parts_handed}
 use Rattle.ua_channel.specs.ClientSends.{first_open}
 use Rattle.ua_channel.specs.ClientTable.{client_rules}
@@ -48,7 +48,7 @@ abbrev Says : DateTime → ClientChannel → List Placed → List ℕ → Told �
 Says moment x asks octets e NeedMore = ⊥
 Says moment x asks octets e (Send out) = (ack : Ack) × (e ≡ told.Agreed ack) × (out.items ≡ frame_octets (first_open moment))
 Says moment x asks octets e Open = (channel : ℕ) × (token : ℕ) × (e ≡ told.Opened channel token)
-Says moment x asks octets e (Answered id message) = (e ≡ told.Answered id (concat message)) × EndsMessage x asks octets message
+Says moment x asks octets e (Answered id message) = (e ≡ told.Answered id (concat message)) × EndsReply x asks octets message
 Says moment x asks octets e (Aborted id code) = e ≡ told.GaveUp id code
 Says moment x asks octets e (Failed code peer) = ⊥
 Says moment x asks octets e (Renewed token) = e ≡ told.Renewed token
@@ -131,7 +131,7 @@ same_renewed : (e : Told) (token other : ℕ) → e ≡ told.Renewed token → e
 same_renewed e token other p q = let same : told.Renewed token ≡ told.Renewed other = sym p ∙ q in cc
 
 -- a message comes in the same parts
-parts_once : (x y : ClientChannel) (asks : List Placed) (octets others : List ℕ) (message text : List (List ℕ)) → rules_of x asks ≡ rules_of y asks → octets ≡ others → EndsMessage x asks octets message → EndsMessage y asks others text → message ≡ text
+parts_once : (x y : ClientChannel) (asks : List Placed) (octets others : List ℕ) (message text : List (List ℕ)) → rules_of x asks ≡ rules_of y asks → octets ≡ others → EndsReply x asks octets message → EndsReply y asks others text → message ≡ text
 parts_once x y asks octets others message text same e a b =
     let run = subst (λ (S : Rules Told Why). Run S octets (a.frames ++ a.frame ∷ []) [] Going) same a.stands.run in
     let run' = subst (λ (t : List ℕ). Run (rules_of y asks) t (b.frames ++ b.frame ∷ []) [] Going) (sym e) b.stands.run in

@@ -7,3 +7,4 @@ pub mod ClientsAlike
 pub mod AsksAlike
 pub mod AdvancesAlike
 pub mod NodesAlike
+pub mod StepsAlike

@@ -16,8 +16,8 @@ use Rattle.ua_frame.proofs.Unique.{unique}
 use Rattle.ua_channel.specs.Content.{content}
 use Rattle.ua_channel.specs.Content.Content.{Sends}
 use Rattle.ua_channel.specs.Received.{received}
-use Rattle.ua_channel.specs.ServerAnswers.{ServerAnswers, ComesInParts}
-use Rattle.ua_channel.specs.ServerEvents.{parts_handed}
+use Rattle.ua_channel.specs.ServerAnswers.{ServerAnswers, AsksInParts}
+use Rattle.ua_channel.specs.ServerAnswers.{parts_asked}
 use Rattle.ua_channel.specs.ServerRules.{server_rules}
 use Rattle.ua_channel.specs.ServerSends.{AreSent, counted_by}
 use Rattle.ua_channel.specs.ServerStands.{limits_of, channel_of, next_of, bound_of, bound_after, rules_of, Goes, GoesTelling, EndsMessage, Ended, ClosedAt}
@@ -60,7 +60,7 @@ data Heard (channel number : ℕ) (moment : DateTime) (piece octets : List ℕ) 
 
 -- the parts of the message that is handed out, if one is
 abbrev pub IfOkParts : Answer → ServerChannel → List ℕ → List ℕ → Type 0
-IfOkParts (Ok (n, e)) x octets piece = ComesInParts (parts_handed e) x (octets ++ take n piece)
+IfOkParts (Ok (n, e)) x octets piece = AsksInParts (parts_asked e) x (octets ++ take n piece)
 IfOkParts (Err fault) x octets piece = Unit {0}
 
 pub whole_taken : (octets piece : List ℕ) (n : ℕ) → n ≡ length piece → octets ++ take n piece ≡ octets ++ piece
@@ -280,14 +280,14 @@ module _ (channel number : ℕ) (moment : DateTime) (piece octets : List ℕ) (b
       → HadMemory OutOfMemory a b → Both a b x y octets piece before
   taken_twice a b h parts k others had = both a b (heard channel number moment piece octets before a x h parts had.first) (heard channel number moment piece octets before b y k others had.second)
 
-if_ok_parts : (a : Answer) (x : ServerChannel) (octets piece : List ℕ) → IfOk a (λ r. ComesInParts (parts_handed r.1) x (octets ++ take r.0 piece)) → IfOkParts a x octets piece
+if_ok_parts : (a : Answer) (x : ServerChannel) (octets piece : List ℕ) → IfOk a (λ r. AsksInParts (parts_asked r.1) x (octets ++ take r.0 piece)) → IfOkParts a x octets piece
 if_ok_parts (Ok (n, e)) x octets piece h = h
 if_ok_parts (Err fault) x octets piece h = tt
 
 -- what a channel says of a piece, and of the limits and the id behind it
 pub record IsTaken (old new : ServerChannel) (moment : DateTime) (piece octets : List ℕ) (before : List Told) (a : Answer) : Type 0 where
   pub answers : ServerAnswers (channel_of old) (next_of old) moment piece a new octets before
-  pub parts : IfOk a (λ r. ComesInParts (parts_handed r.1) new (octets ++ take r.0 piece))
+  pub parts : IfOk a (λ r. AsksInParts (parts_asked r.1) new (octets ++ take r.0 piece))
   pub limits : limits_of new ≡ limits_of old
   pub channel : channel_of new ≡ channel_of old
 

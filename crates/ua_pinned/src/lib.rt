@@ -11,6 +11,7 @@ mod cutting;
 mod frames;
 mod nodes;
 mod servers;
+mod steps;
 mod texts;
 mod values;
 
@@ -32,5 +33,6 @@ pub use nodes::{append_items_twice, insert_twice, load_twice, read_item_twice, w
 pub use servers::{
     server_advance_twice, server_reply_twice, server_take_twice, server_tells_twice,
 };
+pub use steps::step_server_twice;
 pub use texts::{parse_text_twice, to_text_twice};
 pub use values::{append_twice, read_twice, read_whole_twice, write_twice};

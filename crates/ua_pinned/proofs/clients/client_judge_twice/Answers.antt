@@ -12,4 +12,4 @@ phases : (c : goal.After-judge-second) (asks : List Placed) (octets : List ℕ) 
 phases c asks octets told s = alike_phases (λ frames. responses (received frames).openings ≡ []) _ _ asks octets told s (λ z frames rest stands. c.client_is_open.ensures.stands z asks octets frames rest stands)
 
 pub returns : goal.returns
-returns c = record { answers = λ asks octets told s. judged_alike (phase_of c.args.one.now) (phase_of c.args.two.now) c.args.before c.args.len _ _ (λ body. same_call_refusal _ _ c.args.before body (phases c asks octets told s)) c.judge-first.ensures c.judge-second.ensures }
+returns c = record { answers = λ asks octets told s. judged_alike (phase_of c.args.one.now) (phase_of c.args.two.now) c.args.before c.args.len _ _ (λ body. same_call_refusal _ _ c.args.before body (phases c asks octets told s)) c.judge-first.ensures.judges c.judge-second.ensures.judges }

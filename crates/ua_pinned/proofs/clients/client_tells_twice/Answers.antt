@@ -20,4 +20,4 @@ returns-clause-bound c = λ asks octets told s.
 
 pub returns-clause-next : goal.returns-clause-next
 returns-clause-next c = λ asks octets told s.
-    c.next_id.ensures asks octets s.first.frames s.first.rest s.first.stands ∙ sym (c.next_id-2.ensures asks octets s.second.frames s.second.rest s.second.stands)
+    c.next_id.ensures.stands asks octets s.first.frames s.first.rest s.first.stands ∙ sym (c.next_id-2.ensures.stands asks octets s.second.frames s.second.rest s.second.stands)
