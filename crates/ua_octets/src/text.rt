@@ -119,7 +119,10 @@ impl UaString {
         let held = match &self.held {
             Held::Null => Held::Null,
             Held::Short(text) => Held::Short(text.copy()),
-            Held::Long(text) => Held::Long(text.clone()?),
+            Held::Long(text) => match ShortText::of(text.as_str()) {
+                Some(text) => Held::Short(text),
+                None => Held::Long(text.clone()?),
+            },
         };
         Ok(UaString { held })
     }
