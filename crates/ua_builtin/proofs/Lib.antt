@@ -8,3 +8,4 @@ pub mod ExpandedNodeIdLawful
 pub mod ExtensionObjectLawful
 pub mod Texts
 pub mod NamesOnce
+mod NullObject

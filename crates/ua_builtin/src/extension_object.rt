@@ -1,9 +1,12 @@
 //! ExtensionObject.
 
-use crate::node_id::NodeId;
+use crate::node_id::{Identifier, NodeId};
 use crate::xml_element::XmlElement;
 use std::alloc::{AllocError, Global};
 use ua_octets::{ReadFault, Source, UaBytes, Wire, append_two};
+
+/// The encoding of the object that holds nothing: the NodeId of two octets, and no body.
+const NULL_OBJECT: [u8; 3] = [0x00, 0x00, 0x00];
 
 /// The body of an [`ExtensionObject`]. A ByteString or an XmlElement that is null is a body, and
 /// differs from none.
@@ -38,7 +41,7 @@ impl ExtensionBody {
 }
 
 impl ExtensionObject {
-    ghost use Rattle.std.specs.Prelude.{◌≡◌, IfOk};
+    ghost use Rattle.std.specs.Prelude.{◌≡◌, ◌↔◌, IsTrue, IfOk};
     ghost use Rattle.ua_builtin.specs.ExtensionObject.{null_object};
 
     /// The object that holds nothing: the null NodeId, and no body (OPC 10000-6, 5.2.2.15). Takes no
@@ -51,6 +54,16 @@ impl ExtensionObject {
             type_id: NodeId::null(),
             body: ExtensionBody::Absent,
         }
+    }
+
+    /// Whether the object holds nothing.
+    #[inline]
+    fn is_null(&self) -> bool
+        ensures { IsTrue result ↔ (self.now ≡ null_object) }
+    {
+        self.type_id.namespace == 0
+            && matches!(self.type_id.identifier, Identifier::Numeric(0))
+            && matches!(self.body, ExtensionBody::Absent)
     }
 
     /// A value of its own, equal to this one.
@@ -121,6 +134,11 @@ impl Wire for ExtensionObject {
 
     #[tactic(auto, unfolding(crate::specs::ExtensionObject::extension_object))]
     fn append(&self, out: &mut Vec<u8>) -> Result<(), AllocError> {
+        if self.is_null() {
+            // nearly always: what headers add is nothing
+            out.extend_from_slice(&NULL_OBJECT)?;
+            return Ok(());
+        }
         self.type_id.append(out)?;
         self.body.append_kind(out)
     }

@@ -11,3 +11,4 @@ pub mod FrontsRead
 mod PartsRead
 pub mod ReadAnswers
 pub mod Seen
+mod ShortWritten

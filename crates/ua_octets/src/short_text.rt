@@ -1,20 +1,26 @@
 //! Short texts, which stand in their own value.
 
-ghost use Rattle.std.specs.Prelude.{◌≡◌, ◌<◌, ◌≤◌, length, true, IfSome, IsErrOf};
+ghost use Rattle.std.specs.Prelude.{◌≡◌, ◌<◌, ◌≤◌, ◌++◌, length, true, IfSome, IsErrOf, OnOk, OnErr};
 ghost use Rattle.std.specs.Str.{is_utf8};
 ghost use Rattle.ua_octets.specs.Counted.{octets_at};
 ghost use Rattle.ua_octets.specs.Exact.{such_read};
-ghost use Rattle.ua_octets.specs.Format.{Gives, StaysBehind};
+ghost use Rattle.ua_octets.specs.Format.{Gives, StaysBehind, Extends};
+ghost use Rattle.ua_octets.specs.Number.{number_octets};
 ghost use Rattle.ua_octets.specs.declared.fault.ReadFault.TheVariants.{NoValue};
 
 use crate::counted::fill_octets;
 use crate::fault::ReadFault;
 use crate::source::Source;
+use byteorder::{ByteOrder, LittleEndian};
+use std::alloc::AllocError;
 use std::marker::Model;
 
 /// The most octets of a short text. With its length and the mark that it is short, it takes the room in
 /// which a longer text, which stands elsewhere, is named.
 pub(crate) const SHORT: usize = 30;
+
+/// The octets of a count.
+const COUNT: usize = 4;
 
 /// A text of at most 30 octets.
 #[derive(Drop)]
@@ -89,5 +95,17 @@ impl ShortText {
             len: self.len,
             octets: self.octets,
         }
+    }
+    /// Adds its octets behind their count, by one copy.
+    #[inline]
+    pub(crate) fn append(&self, out: &mut Vec<u8>) -> Result<(), AllocError>
+        ensures ok { OnOk result (out.new.items ≡ out.old.items ++ (number_octets 4 (length self.now) ++ self.now)) }
+        ensures err { OnErr result (Extends out.old.items out.new.items) }
+    {
+        let mut octets = [0; COUNT + SHORT];
+        LittleEndian::write_u32(&mut octets[..COUNT], u32::from(self.len));
+        octets[COUNT..].copy_from_slice(&self.octets);
+        out.extend_from_slice(&octets[..COUNT + self.len as usize])?;
+        Ok(())
     }
 }

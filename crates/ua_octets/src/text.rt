@@ -220,9 +220,10 @@ impl Wire for UaString {
     #[inline(always)]
     #[tactic(auto, unfolding(crate::specs::Counted::text, crate::specs::Counted::counted))]
     fn append(&self, out: &mut Vec<u8>) -> Result<(), AllocError> {
-        match self.as_str() {
-            None => NULL_COUNT.append(out)?,
-            Some(text) => {
+        match &self.held {
+            Held::Null => NULL_COUNT.append(out)?,
+            Held::Short(text) => text.append(out)?,
+            Held::Long(text) => {
                 (text.len() as u32).append(out)?;
                 out.extend_from_slice(text.as_bytes())?;
             }
