@@ -3,7 +3,7 @@ use Rattle.std.specs.Prelude.{◌≡◌, ◌⊎◌, ◌≤◌, ◌<◌, ℕ, Lis
 use Rattle.std.specs.Str.{IsUtf8}
 use Rattle.ua_nodes.specs.TypeName.{type_denoted}
 use Rattle.ua_nodes.specs.ValueText.{value_denoted}
-use Rattle.ua_octets.specs.Format.{IsWhole}
+use Rattle.ua_octets.specs.Format.{IsWhole, Within, most_levels}
 use Rattle.ua_pair.specs.Dissected.{AreLines, plain}
 use Rattle.ua_pair.specs.declared.side.Side.{Side}
 use Rattle.ua_pair.specs.declared.side.Side.TheVariants.{Client, Server}
@@ -98,10 +98,10 @@ abbrev pub EncodesTo : List ℕ → List ℕ → List ℕ → List ℕ → ℕ �
 EncodesTo kind text before after needed status =
     PutsValue kind text before after needed status ⊎ (IsKept before after needed × (HasNoValue kind text status ⊎ CannotEncode kind text status))
 
--- the type and the text of a value that octets encode
+-- the type and the text of the value of at most 100 levels that octets encode
 pub record IsTextOf (octets text : List ℕ) : Type 0 where
   pub value : Variant
-  pub encodes : variant_format.encodes value octets
+  pub encodes : Within variant_format.encodes variant_format.depth most_levels value octets
   pub is : text ≡ variant_text (variant_of value)
 
 -- octets encode no value of at most 100 levels

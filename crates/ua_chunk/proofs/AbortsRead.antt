@@ -18,7 +18,7 @@ use Rattle.ua_chunk.specs.Abort.{abort_body, abort_of, is_readable_abort}
 pub read_is : (b : List ℕ) (read : Option (StatusCode × Option (List ℕ))) → IsWhole (pair (flat status_code) (flat text)) b read → read ≡ abort_of b
 unfolding abort_body
 read_is b None h = sym (whole_read abort_body sound_abort_body b None h)
-read_is b (Some a) h = sym (whole_read abort_body sound_abort_body b (Some a) h)
+read_is b (Some a) h = sym (whole_read abort_body sound_abort_body b (Some a) (h.0, omega arith))
 
 -- ---- found without memory
 

@@ -36,7 +36,7 @@ no_value f sound octets h (Some v) e = absurd (h v (omega arith) (encodes_whole 
 -- what was read as the whole of the octets is so by the definition
 pub whole_read : {A : Type 0} (f : Flat A) → IsSound f → (octets : List ℕ) (read : Option A) → IsWhole (flat f) octets read → whole_of f octets ≡ read
 whole_read f sound octets None h = no_value f sound octets h (whole_of f octets) refl
-whole_read f sound octets (Some v) h = whole_encodes f sound octets v h
+whole_read f sound octets (Some v) h = whole_encodes f sound octets v h.0
 
 -- ---- of any format
 

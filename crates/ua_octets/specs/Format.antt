@@ -86,9 +86,9 @@ pub record Behind (old new : List ℕ) : Type 0 where
 abbrev pub StaysBehind : List ℕ → List ℕ → Type 0
 StaysBehind old new = (start : List ℕ) → Behind start old → Behind start new
 
--- these octets encode the value, or, where there is none, no value that may be read
+-- these octets encode the value, which may be read; or, where there is none, no value that may be read
 abbrev pub IsWhole : {A : Type 0} → Format A → List ℕ → Option A → Type 0
-IsWhole f octets (Some v) = f.encodes v octets
+IsWhole f octets (Some v) = Within f.encodes f.depth most_levels v octets
 IsWhole {A = A} f octets None = (v : A) → f.depth v ≤ most_levels → ¬ (f.encodes v octets)
 
 -- new begins with old

@@ -3,11 +3,11 @@ use Rattle.std.specs.Prelude.{◌≡◌, ℕ, ◌≤◌, ◌<◌, List, [], ◌+
 use Rattle.std.proofs.Common.{refl, sym, ◌∙◌, ap, subst, arith}
 use Rattle.std.proofs.lemmas.List.{append_cancel_left}
 use Rattle.ua_octets.specs.Exact.{Begins}
-use Rattle.ua_octets.specs.Format.{Format, IsWhole, most_levels}
+use Rattle.ua_octets.specs.Format.{Format, IsWhole}
 use Rattle.ua_octets.specs.Laws.{EncodesOnce}
 use Rattle.ua_octets.specs.declared.fault.ReadFault.{ReadFault}
 use Rattle.ua_octets.specs.declared.fault.ReadFault.TheVariants.{NoValue, OutOfMemory}
-use Rattle.ua_pinned.specs.Pinned.{AnswerAlike, AreOneWithin}
+use Rattle.ua_pinned.specs.Pinned.{AnswerAlike, ComeToOne}
 
 -- what Wire::read says of an answer
 pub record IsRead {A : Type 0} (f : Format A) (levels : ℕ) (old new : List ℕ) (answer : Result A ReadFault) : Type 0 where
@@ -43,18 +43,15 @@ left_alike f once levels old other x y same (Err e) b p q = tt
 
 -- ---- the whole of some octets
 
-deep : (n m : ℕ) → ¬ (n ≤ m) → m < n
-deep n m h = omega (arith, h)
-
 pub whole_alike : {A : Type 0} (f : Format A) → EncodesOnce f.encodes → (octets others : List ℕ) → octets ≡ others → (v w : Option A)
-    → IsWhole f octets v → IsWhole f others w → AreOneWithin f v w
-whole_alike f once octets others same (Some v) (Some w) a b = (once v w octets others [] [] a b (ap (λ (t : List ℕ). t ++ []) same)).0
-whole_alike f once octets others same (Some v) None a b = deep (f.depth v) most_levels (λ le. b v le (subst (λ (t : List ℕ). f.encodes v t) same a))
-whole_alike f once octets others same None (Some w) a b = deep (f.depth w) most_levels (λ le. a w le (subst (λ (t : List ℕ). f.encodes w t) (sym same) b))
-whole_alike f once octets others same None None a b = tt
+    → IsWhole f octets v → IsWhole f others w → v ≡ w
+whole_alike f once octets others same (Some v) (Some w) a b = ap Some (once v w octets others [] [] a.0 b.0 (ap (λ (t : List ℕ). t ++ []) same)).0
+whole_alike f once octets others same (Some v) None a b = absurd (b v a.1 (subst (λ (t : List ℕ). f.encodes v t) same a.0))
+whole_alike f once octets others same None (Some w) a b = absurd (a w b.1 (subst (λ (t : List ℕ). f.encodes w t) (sym same) b.0))
+whole_alike f once octets others same None None a b = refl
 
 pub wholes_alike : {A E : Type 0} (f : Format A) → EncodesOnce f.encodes → (octets others : List ℕ) → octets ≡ others → (a b : Result (Option A) E)
-    → IfOk a (IsWhole f octets) → IfOk b (IsWhole f others) → IfOk a (λ v. IfOk b (λ w. AreOneWithin f v w))
+    → IfOk a (IsWhole f octets) → IfOk b (IsWhole f others) → ComeToOne a b
 wholes_alike f once octets others same (Ok v) (Ok w) p q = whole_alike f once octets others same v w p q
 wholes_alike f once octets others same (Ok v) (Err e) p q = tt
 wholes_alike f once octets others same (Err e) b p q = tt

@@ -1,6 +1,5 @@
 -- What it is for two answers to be one, want of memory aside.
-use Rattle.std.specs.Prelude.{◌≡◌, ◌<◌, Option, Some, None, Result, Ok, Err, IfOk, IsErrOf}
-use Rattle.ua_octets.specs.Format.{Format, most_levels}
+use Rattle.std.specs.Prelude.{◌≡◌, Result, Ok, Err, IfOk, IsErrOf}
 
 -- neither answer is this fault, by which a call tells that memory was refused
 pub record HadMemory {A B E : Type 0} (starved : E) (one : Result A E) (two : Result B E) : Type 0 where
@@ -21,10 +20,3 @@ SameBy view (Err fault) (Err other) = fault ≡ other
 -- of calls whose one fault is want of memory: where both come to something, it is the same
 abbrev pub ComeToOne : {A E : Type 0} → Result A E → Result A E → Type 0
 ComeToOne one two = IfOk one (λ v. IfOk two (λ w. v ≡ w))
-
--- two values are the same, and one without the other has more levels than are read
-abbrev pub AreOneWithin : {A : Type 0} → Format A → Option A → Option A → Type 0
-AreOneWithin f (Some v) (Some w) = v ≡ w
-AreOneWithin f (Some v) None = most_levels < f.depth v
-AreOneWithin f None (Some w) = most_levels < f.depth w
-AreOneWithin f None None = Unit {0}

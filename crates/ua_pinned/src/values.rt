@@ -1,10 +1,10 @@
 //! Values that are read and written twice.
 
-ghost use Rattle.std.specs.Prelude.{◌≡◌, ◌≤◌, OnOk, IfOk, IsTrue};
+ghost use Rattle.std.specs.Prelude.{◌≡◌, ◌≤◌, OnOk, IsTrue};
 ghost use Rattle.ua_octets.specs.Format.{most_levels};
 ghost use Rattle.ua_octets.specs.declared.fault.ReadFault.TheVariants.{OutOfMemory as no_reading_memory};
 ghost use Rattle.ua_octets.specs.declared.fault.WriteFault.TheVariants.{OutOfMemory as no_writing_memory};
-ghost use Rattle.ua_pinned.specs.Pinned.{AnswerAlike, AreOneWithin, HadMemory};
+ghost use Rattle.ua_pinned.specs.Pinned.{AnswerAlike, ComeToOne, HadMemory};
 
 use std::alloc::{AllocError, Global};
 use ua_octets::laws::encodes_once;
@@ -29,15 +29,15 @@ pub fn read_twice<T: Wire, S: Source, R: Source>(
     (first, second)
 }
 
-/// Reads the value that the same octets encode, with nothing behind it: the answers are one, but for
-/// a value of more levels than are read, which a contract lets be found or not.
+/// Reads the value that the same octets encode, with nothing behind it: the answers are one, and so the
+/// value, or that there is none.
 pub fn read_whole_twice<T: Wire + Drop>(
     alloc: Global,
     one: &[u8],
     two: &[u8],
 ) -> (Result<Option<T>, AllocError>, Result<Option<T>, AllocError>)
     requires same { one.now ≡ two.now }
-    ensures answers { IfOk result.0 (λ v. IfOk result.1 (λ w. AreOneWithin T.format v w)) }
+    ensures answers { ComeToOne result.0 result.1 }
 {
     encodes_once::<T>();
     let first = T::read_whole(alloc, one);
