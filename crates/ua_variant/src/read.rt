@@ -19,7 +19,8 @@ use crate::leaf::{read_as, read_boxed_as};
 use crate::least::least_octets;
 use crate::masks;
 use crate::records::{
-    MOST_RESERVED, read_boxed_diagnostic, read_diagnostic_row, read_records, read_reserved,
+    MOST_RESERVED, make_room, read_boxed_diagnostic, read_diagnostic_row, read_records,
+    read_reserved,
 };
 use crate::values::{
     BoxedDataValue, BoxedVariant, DataValue, HeldVariant, Scalar, Scalars, Variant,
@@ -260,7 +261,7 @@ fn read_data_value_row<S: Source>(
 {
     let mut items = Vec::with_capacity(alloc, (count as usize).min(MOST_RESERVED))?;
     for _ in 0..count {
-        items.reserve(1)?;
+        make_room(&mut items, count)?;
         let item = read_boxed_data_value(alloc, src, depth)?;
         items.push_reserved(item);
     }
@@ -281,7 +282,7 @@ fn read_variant_row<S: Source>(
 {
     let mut items = Vec::with_capacity(alloc, (count as usize).min(MOST_RESERVED))?;
     for _ in 0..count {
-        items.reserve(1)?;
+        make_room(&mut items, count)?;
         let item = read_boxed_variant(alloc, src, depth)?;
         items.push_reserved(item);
     }

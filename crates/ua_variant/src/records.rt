@@ -1,6 +1,7 @@
 //! Reads arrays of texts, octets, ids and objects as scalars, one loop for each type.
 
-ghost use Rattle.std.specs.Prelude.{◌≡◌, ◌≤◌, map, false};
+ghost use Rattle.std.specs.Prelude.{◌≡◌, ◌≤◌, ◌<◌, map, false, OnOk};
+ghost use Rattle.std.specs.Vec.{vec_len, vec_capacity};
 ghost use Rattle.ua_builtin.specs.Exact.{image_read};
 ghost use Rattle.ua_builtin.specs.Format.{most_levels, GivesBy, StaysBehind};
 ghost use Rattle.ua_variant.specs.Blocks.{leaf_row_at};
@@ -11,7 +12,7 @@ ghost use Rattle.ua_variant.specs.View.{row, scalar_of};
 
 use crate::leaf::{BoxedLeaf, HeldLeaf, read_as, read_boxed_as};
 use crate::values::{Scalar, Scalars};
-use std::alloc::Global;
+use std::alloc::{AllocError, Global};
 use ua_builtin::{
     DateTime, ExpandedNodeId, ExtensionObject, Guid, LocalizedText, NodeId, QualifiedName,
     ReadFault, Source, StatusCode, UaBytes, UaString, Wire, XmlElement,
@@ -22,6 +23,36 @@ use ua_parts::{BoxedDiagnostic, read_diagnostic};
 /// nested arrays with false counts ask for room of so many elements a level, and for no more than a
 /// multiple of the octets that were read.
 pub const MOST_RESERVED: usize = 64;
+
+/// Up to so many elements a vector that is full grows to twice its elements.
+const MOST_DOUBLED: usize = 4096;
+
+/// Makes room for the next of `count` elements. A vector that is full grows by as many elements as it has,
+/// a large one by an eighth of them, and by no more than are still to come.
+#[inline]
+pub fn make_room(items: &mut Vec<Scalar>, count: u32) -> Result<(), AllocError>
+    ensures items { items.new.items ≡ items.old.items }
+    ensures len { vec_len items.new ≡ vec_len items.old }
+    ensures room { OnOk result (vec_len items.new < vec_capacity items.new) }
+{
+    if items.len() == items.capacity() {
+        grow(items, count as usize)?;
+    }
+    Ok(())
+}
+
+/// Makes room for more of `count` elements in a vector that is full.
+#[inline(never)]
+fn grow(items: &mut Vec<Scalar>, count: usize) -> Result<(), AllocError>
+    ensures items { items.new.items ≡ items.old.items }
+    ensures len { vec_len items.new ≡ vec_len items.old }
+    ensures room { OnOk result (vec_len items.new < vec_capacity items.new) }
+{
+    let len = items.len();
+    let step = if len > MOST_DOUBLED { len / 8 } else { len };
+    items.reserve_exact(step.min(count.saturating_sub(len)).max(1))?;
+    Ok(())
+}
 
 /// Reads so many scalars of a type id from String's to ExtensionObject's, or of a reserved one.
 pub fn read_records<S: Source>(
@@ -63,7 +94,7 @@ fn read_held_row<T: HeldLeaf, S: Source>(
 {
     let mut items = Vec::with_capacity(alloc, (count as usize).min(MOST_RESERVED))?;
     for _ in 0..count {
-        items.reserve(1)?;
+        make_room(&mut items, count)?;
         let item = read_as::<T, S>(alloc, src)?;
         items.push_reserved(item);
     }
@@ -81,7 +112,7 @@ fn read_boxed_row<T: BoxedLeaf, S: Source>(
 {
     let mut items = Vec::with_capacity(alloc, (count as usize).min(MOST_RESERVED))?;
     for _ in 0..count {
-        items.reserve(1)?;
+        make_room(&mut items, count)?;
         let item = read_boxed_as::<T, S>(alloc, src)?;
         items.push_reserved(item);
     }
@@ -102,7 +133,7 @@ fn read_reserved_row<S: Source>(
 {
     let mut items = Vec::with_capacity(alloc, (count as usize).min(MOST_RESERVED))?;
     for _ in 0..count {
-        items.reserve(1)?;
+        make_room(&mut items, count)?;
         let item = read_reserved(alloc, src, kind)?;
         items.push_reserved(item);
     }
@@ -134,7 +165,7 @@ pub fn read_diagnostic_row<S: Source>(
 {
     let mut items = Vec::with_capacity(alloc, (count as usize).min(MOST_RESERVED))?;
     for _ in 0..count {
-        items.reserve(1)?;
+        make_room(&mut items, count)?;
         let item = read_boxed_diagnostic(alloc, src, depth)?;
         items.push_reserved(item);
     }

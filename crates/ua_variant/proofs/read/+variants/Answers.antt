@@ -62,7 +62,7 @@ read_data_value_row-returns-in_err-item-clause-exact g t c =
 
 pub read_data_value_row-loop-preserved : goal.read_data_value_row-loop-preserved
 read_data_value_row-loop-preserved g t c = record {
-  so_far = row_so_far (scalars_at c.args.depth 23) c.loop.items.items c.in_ok-item.item c.args.count c.loop.counter (g.S.Source.octets c.args.src.now) (g.S.Source.octets c.loop.src) (g.S.Source.octets c.read_boxed_data_value.new.src) (omega arith) (c.push_reserved.ensures.items ∙ ap (λ (xs : List Scalar). xs ++ c.in_ok-item.item ∷ []) c.reserve.ensures.items) c.in_ok-item.ensures.exact c.loop.invariant.so_far;
+  so_far = row_so_far (scalars_at c.args.depth 23) c.loop.items.items c.in_ok-item.item c.args.count c.loop.counter (g.S.Source.octets c.args.src.now) (g.S.Source.octets c.loop.src) (g.S.Source.octets c.read_boxed_data_value.new.src) (omega arith) (c.push_reserved.ensures.items ∙ ap (λ (xs : List Scalar). xs ++ c.in_ok-item.item ∷ []) c.make_room.ensures.items) c.in_ok-item.ensures.exact c.loop.invariant.so_far;
   behind = λ start h. c.in_ok-item.ensures.behind start (c.loop.invariant.behind start h);
 }
 
@@ -77,7 +77,7 @@ read_variant_row-returns-in_err-item-clause-exact g t c =
 
 pub read_variant_row-loop-preserved : goal.read_variant_row-loop-preserved
 read_variant_row-loop-preserved g t c = record {
-  so_far = row_so_far (scalars_at c.args.depth 24) c.loop.items.items c.in_ok-item.item c.args.count c.loop.counter (g.S.Source.octets c.args.src.now) (g.S.Source.octets c.loop.src) (g.S.Source.octets c.read_boxed_variant.new.src) (omega arith) (c.push_reserved.ensures.items ∙ ap (λ (xs : List Scalar). xs ++ c.in_ok-item.item ∷ []) c.reserve.ensures.items) c.in_ok-item.ensures.exact c.loop.invariant.so_far;
+  so_far = row_so_far (scalars_at c.args.depth 24) c.loop.items.items c.in_ok-item.item c.args.count c.loop.counter (g.S.Source.octets c.args.src.now) (g.S.Source.octets c.loop.src) (g.S.Source.octets c.read_boxed_variant.new.src) (omega arith) (c.push_reserved.ensures.items ∙ ap (λ (xs : List Scalar). xs ++ c.in_ok-item.item ∷ []) c.make_room.ensures.items) c.in_ok-item.ensures.exact c.loop.invariant.so_far;
   behind = λ start h. c.in_ok-item.ensures.behind start (c.loop.invariant.behind start h);
 }
 

@@ -15,7 +15,7 @@ returns-in_err-item-clause-exact g c =
 
 pub loop-preserved : goal.loop-preserved
 loop-preserved g c = record {
-  so_far = row_so_far (scalars_at c.args.depth 25) c.loop.items.items c.in_ok-item.item c.args.count c.loop.counter (g.S.Source.octets c.args.src.now) (g.S.Source.octets c.loop.src) (g.S.Source.octets c.read_boxed_diagnostic.new.src) (omega arith) (c.push_reserved.ensures.items ∙ ap (λ (xs : List Scalar). xs ++ c.in_ok-item.item ∷ []) c.reserve.ensures.items) c.in_ok-item.ensures.exact c.loop.invariant.so_far;
+  so_far = row_so_far (scalars_at c.args.depth 25) c.loop.items.items c.in_ok-item.item c.args.count c.loop.counter (g.S.Source.octets c.args.src.now) (g.S.Source.octets c.loop.src) (g.S.Source.octets c.read_boxed_diagnostic.new.src) (omega arith) (c.push_reserved.ensures.items ∙ ap (λ (xs : List Scalar). xs ++ c.in_ok-item.item ∷ []) c.make_room.ensures.items) c.in_ok-item.ensures.exact c.loop.invariant.so_far;
   behind = λ start h. c.in_ok-item.ensures.behind start (c.loop.invariant.behind start h);
 }
 
