@@ -1,7 +1,7 @@
 //! DateTime.
 
 use std::alloc::{AllocError, Global};
-use ua_octets::{ReadFault, Source, Wire};
+use ua_octets::{ReadFault, Skip, Source, Wire};
 
 /// A moment, in units of 100 nanoseconds since 1601-01-01 00:00 UTC: every number is kept
 /// (OPC 10000-6, 5.2.2.5).
@@ -46,3 +46,5 @@ impl Wire for DateTime {
         Ok(())
     }
 }
+
+impl Skip for DateTime {}

@@ -3,7 +3,7 @@
 use crate::node_id::{Identifier, NodeId};
 use crate::xml_element::XmlElement;
 use std::alloc::{AllocError, Global};
-use ua_octets::{ReadFault, Source, UaBytes, Wire, append_two};
+use ua_octets::{ReadFault, Skip, Source, UaBytes, Wire, append_two};
 
 /// The encoding of the object that holds nothing: the NodeId of two octets, and no body.
 const NULL_OBJECT: [u8; 3] = [0x00, 0x00, 0x00];
@@ -141,5 +141,18 @@ impl Wire for ExtensionObject {
         }
         self.type_id.append(out)?;
         self.body.append_kind(out)
+    }
+}
+
+impl Skip for ExtensionObject {
+    #[tactic(auto, unfolding(crate::specs::ExtensionObject::extension_object))]
+    fn skip_value<S: Source>(alloc: Global, src: &mut S, depth: u32) -> Result<(), ReadFault> {
+        NodeId::skip_value(alloc, src, depth)?;
+        match u8::read_value(alloc, src, depth)? {
+            0 => Ok(()),
+            1 => UaBytes::skip_value(alloc, src, depth),
+            2 => XmlElement::skip_value(alloc, src, depth),
+            _ => Err(ReadFault::NoValue),
+        }
     }
 }

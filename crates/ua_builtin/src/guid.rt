@@ -1,7 +1,7 @@
 //! Guid.
 
 use std::alloc::{AllocError, Global};
-use ua_octets::{ReadFault, Source, Wire, fill_octets};
+use ua_octets::{ReadFault, Skip, Source, Wire, fill_octets};
 use uuid::Uuid;
 
 /// A Guid, which the crate `uuid` reads and prints: its first three fields are encoded with the
@@ -47,3 +47,5 @@ impl Wire for Guid {
         Ok(())
     }
 }
+
+impl Skip for Guid {}

@@ -40,7 +40,7 @@ pub use node_id::{Identifier, NodeId};
 pub use qualified_name::QualifiedName;
 pub use status_code::StatusCode;
 pub use ua_octets::{
-    DoubleBits, FIRST_NEGATIVE, FloatBits, MOST_LEVELS, NULL_COUNT, Octets, Parts, ReadFault,
+    DoubleBits, FIRST_NEGATIVE, FloatBits, MOST_LEVELS, NULL_COUNT, Octets, Parts, ReadFault, Skip,
     Source, UaBytes, UaString, Wire, WriteFault,
 };
 pub use xml_element::XmlElement;

@@ -7,7 +7,7 @@ ghost use Rattle.ua_builtin.specs.declared.node_id.Identifier.TheVariants.{Numer
 
 use crate::guid::Guid;
 use std::alloc::{AllocError, Global};
-use ua_octets::{ReadFault, Source, UaBytes, UaString, Wire, append_two};
+use ua_octets::{ReadFault, Skip, Source, UaBytes, UaString, Wire, append_two};
 
 const TWO_OCTET: u8 = 0x00;
 
@@ -56,6 +56,7 @@ impl Identifier {
 
 impl NodeId {
     ghost use Rattle.std.specs.Prelude.{◌≡◌, ◌≤◌, ◌++◌, IsTrue, IfOk, OnOk, OnErr};
+    ghost use Rattle.ua_octets.specs.Exact.{skipped};
     ghost use Rattle.ua_octets.specs.Format.{most_levels, Gives, StaysBehind, Extends};
     ghost use Rattle.ua_builtin.specs.NodeId.{node, null_id, in_form, form_of};
 
@@ -121,6 +122,28 @@ impl NodeId {
                 let (namespace, octets) = Wire::read_value(alloc, src, depth)?;
                 Ok(NodeId::new(namespace, Identifier::Opaque(octets)))
             }
+            _ => Err(ReadFault::NoValue),
+        }
+    }
+
+    /// Passes over what stands behind the form octet.
+    pub(crate) fn skip_form<S: Source>(
+        alloc: Global,
+        src: &mut S,
+        depth: u32,
+        form: u8,
+    ) -> Result<(), ReadFault>
+        requires levels { depth ≤ most_levels }
+        ensures exact { Gives (skipped (in_form form).decode) (S.octets src.old) (S.octets src.new) result }
+        ensures behind { StaysBehind (S.octets src.old) (S.octets src.new) }
+    {
+        match form {
+            TWO_OCTET => u8::skip_value(alloc, src, depth),
+            FOUR_OCTET => <(u8, u16)>::skip_value(alloc, src, depth),
+            NUMERIC => <(u16, u32)>::skip_value(alloc, src, depth),
+            STRING => <(u16, UaString)>::skip_value(alloc, src, depth),
+            GUID => <(u16, Guid)>::skip_value(alloc, src, depth),
+            OPAQUE => <(u16, UaBytes)>::skip_value(alloc, src, depth),
             _ => Err(ReadFault::NoValue),
         }
     }
@@ -215,5 +238,13 @@ impl Wire for NodeId {
     fn append(&self, out: &mut Vec<u8>) -> Result<(), AllocError> {
         self.form().append(out)?;
         self.append_form(out)
+    }
+}
+
+impl Skip for NodeId {
+    #[tactic(auto, unfolding(crate::specs::NodeId::node_id))]
+    fn skip_value<S: Source>(alloc: Global, src: &mut S, depth: u32) -> Result<(), ReadFault> {
+        let form = u8::read_value(alloc, src, depth)?;
+        NodeId::skip_form(alloc, src, depth, form)
     }
 }

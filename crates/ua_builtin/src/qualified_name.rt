@@ -1,7 +1,7 @@
 //! QualifiedName.
 
 use std::alloc::{AllocError, Global};
-use ua_octets::{ReadFault, Source, UaString, Wire, append_two};
+use ua_octets::{ReadFault, Skip, Source, UaString, Wire, append_two};
 
 /// A name within a namespace, which is an index into the server's table of namespaces
 /// (OPC 10000-6, 5.2.2.13).
@@ -55,5 +55,14 @@ impl Wire for QualifiedName {
     #[tactic(auto, unfolding(crate::specs::QualifiedName::qualified_name))]
     fn append(&self, out: &mut Vec<u8>) -> Result<(), AllocError> {
         append_two(&self.namespace, &self.name, out)
+    }
+}
+
+impl Skip for QualifiedName {
+    #[inline]
+    #[tactic(auto, unfolding(crate::specs::QualifiedName::qualified_name))]
+    fn skip_value<S: Source>(alloc: Global, src: &mut S, depth: u32) -> Result<(), ReadFault> {
+        u16::skip_value(alloc, src, depth)?;
+        UaString::skip_value(alloc, src, depth)
     }
 }

@@ -1,7 +1,7 @@
 //! XmlElement.
 
 use std::alloc::{AllocError, Global};
-use ua_octets::{ReadFault, Source, UaBytes, Wire};
+use ua_octets::{ReadFault, Skip, Source, UaBytes, Wire};
 
 /// An XML element as octets, which are never looked at, or null (OPC 10000-6, 5.2.2.8).
 #[derive(PartialEq, Eq, Debug, Drop)]
@@ -56,3 +56,5 @@ impl Wire for XmlElement {
         Ok(())
     }
 }
+
+impl Skip for XmlElement {}

@@ -77,6 +77,10 @@ pub record Image {A B : Type 0} (make : A → B) (encodes : A → List ℕ → T
 abbrev pub image_read : {A B : Type 0} → (A → B) → (List ℕ → Option (A × List ℕ)) → List ℕ → Option (B × List ℕ)
 image_read make read octets = read octets >>= λ x. Some (make x.0, x.1)
 
+-- finds what stands behind a value, and nothing of the value
+abbrev pub skipped : {A : Type 0} → (List ℕ → Option (A × List ℕ)) → List ℕ → Option (Unit {0} × List ℕ)
+skipped read = image_read (λ v. tt) read
+
 -- ---- those values alone that pass a test
 
 -- the value passes the test, and the octets encode it

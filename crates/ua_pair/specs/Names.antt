@@ -4,11 +4,10 @@ use Rattle.ua_structures.specs.SecureChannel.{open_request}
 use Rattle.ua_structures.specs.declared.secure_channel.OpenRequest.{OpenRequest}
 use Rattle.ua_services.specs.Message.{message, body_of}
 use Rattle.ua_services.specs.Open.{answer_read}
-use Rattle.ua_services.specs.Request.{request_read, kind_of as request_kind_of}
+use Rattle.ua_services.specs.Request.{request_read, kind_alone}
 use Rattle.ua_services.specs.Response.{response_read, kind_of as response_kind_of}
 use Rattle.ua_services.specs.declared.open.OpenAnswer.{OpenAnswer}
 use Rattle.ua_services.specs.declared.open.OpenAnswer.TheVariants.{Open, Fault}
-use Rattle.ua_services.specs.declared.request.Request.{Request}
 use Rattle.ua_services.specs.declared.request.RequestKind.{RequestKind}
 use Rattle.ua_services.specs.declared.request.RequestKind.TheVariants as request
 use Rattle.ua_services.specs.declared.response.Response.{Response}
@@ -45,15 +44,15 @@ request_kind_name request.Read = codes "ReadRequest"
 request_kind_name request.Write = codes "WriteRequest"
 
 -- the name of what was read as a request: its kind, or why there is none
-abbrev pub request_name_of : Result Request RequestFault → List ℕ
-request_name_of (Ok m) = request_kind_name (request_kind_of m)
+abbrev pub request_name_of : Result RequestKind RequestFault → List ℕ
+request_name_of (Ok kind) = request_kind_name kind
 request_name_of (Err (request_fault.Unsupported handle)) = codes "unsupported"
 request_name_of (Err (request_fault.Unreadable handle)) = codes "unreadable"
 request_name_of (Err request_fault.OutOfMemory) = []
 
 -- the name of a message that a client sent
 abbrev pub request_name : List ℕ → List ℕ
-request_name octets = request_name_of (request_read octets)
+request_name octets = request_name_of (kind_alone (request_read octets))
 
 -- ---- responses
 

@@ -11,7 +11,7 @@ use ua_builtin::{Octets, ReadFault, Source};
 use ua_chunk::Message;
 use ua_services::{
     OpenAnswer, RequestFault, RequestKind, ResponseFault, ResponseKind, read_open_request,
-    read_open_response, read_request, read_response,
+    read_open_response, read_response, skip_request,
 };
 
 /// The name of a body that its kind does not encode.
@@ -51,12 +51,8 @@ fn response_kind_name(kind: ResponseKind) -> &'static str
 fn request_name<S: Source>(alloc: Global, src: &mut S) -> Result<&'static str, AllocError>
     ensures { IfOk result (λ name. name.now ≡ name_of_request (S.octets src.old)) }
 {
-    match read_request(alloc, src) {
-        Ok(request) => {
-            let kind = request.kind();
-            drop(request);
-            Ok(request_kind_name(kind))
-        }
+    match skip_request(alloc, src) {
+        Ok(kind) => Ok(request_kind_name(kind)),
         Err(RequestFault::Unsupported(_)) => Ok(UNSUPPORTED),
         Err(RequestFault::Unreadable(_)) => Ok(UNREADABLE),
         Err(RequestFault::OutOfMemory) => Err(AllocError),

@@ -10,8 +10,9 @@ ghost use Rattle.ua_services.specs.declared.fault.ResponseFault.TheVariants.{Out
 use std::alloc::Global;
 use ua_builtin::{ReadFault, Source, WriteFault};
 use ua_services::{
-    OpenAnswer, OpenRequest, Request, RequestFault, Response, ResponseFault, read_open_request,
-    read_open_response, read_request, read_response, request_body, response_body,
+    OpenAnswer, OpenRequest, Request, RequestFault, RequestKind, Response, ResponseFault,
+    read_open_request, read_open_response, read_request, read_response, request_body,
+    response_body, skip_request,
 };
 
 /// Reads a request from two sources of the same octets: the answers are one.
@@ -25,6 +26,23 @@ pub fn read_request_twice<S: Source, R: Source>(
 {
     let first = read_request(alloc, one);
     let second = read_request(alloc, two);
+    (first, second)
+}
+
+/// Passes over a request of two sources of the same octets: the answers are one.
+pub fn skip_request_twice<S: Source, R: Source>(
+    alloc: Global,
+    one: &mut S,
+    two: &mut R,
+) -> (
+    Result<RequestKind, RequestFault>,
+    Result<RequestKind, RequestFault>,
+)
+    requires same { S.octets one.old ≡ R.octets two.old }
+    ensures answers { AnswerAlike no_request_memory result.0 result.1 }
+{
+    let first = skip_request(alloc, one);
+    let second = skip_request(alloc, two);
     (first, second)
 }
 

@@ -20,7 +20,7 @@ pub use arrays::read_array_twice;
 pub use assembling::{accept_twice, held_twice, step_twice};
 pub use bodies::{
     read_open_request_twice, read_open_response_twice, read_request_twice, read_response_twice,
-    request_body_twice, response_body_twice,
+    request_body_twice, response_body_twice, skip_request_twice,
 };
 pub use chunks::{read_chunk_twice, read_open_twice};
 pub use clients::{

@@ -8,3 +8,4 @@ pub mod MessageRead
 pub mod RequestRead
 pub mod ResponseRead
 pub mod Lengths
+mod RequestSkipped

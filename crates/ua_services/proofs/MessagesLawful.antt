@@ -1,10 +1,9 @@
 -- Messages of several kinds are lawful.
-use Rattle.std.specs.Prelude.{◌≡◌, ℕ, ◌≤◌, List, ◌++◌, ◌&&◌, cond, nat_eq, IsTrue, length, Option, Some, None}
+use Rattle.std.specs.Prelude.{◌≡◌, ℕ, ◌≤◌, List, ◌++◌, cond, IsTrue, length, Option, Some, None}
 use Rattle.std.proofs.Common.{refl, sym, ◌∙◌, ap, subst, arith, eq-eqb, length-append}
 use Rattle.ua_builtin.specs.Exact.{Exact, Follows, Image}
-use Rattle.ua_builtin.specs.Format.{Format, IsLawful, Within, TakesSome, most_levels}
+use Rattle.ua_builtin.specs.Format.{Format, IsLawful, Within, most_levels}
 use Rattle.ua_builtin.specs.NodeId.{node_id}
-use Rattle.ua_builtin.specs.declared.node_id.NodeId.{NodeId}
 use Rattle.ua_octets.proofs.Readers.{both_true, exact_never, exact_bind, exact_image, exact_same}
 use Rattle.ua_octets.proofs.Lawfulness.{bind_starts}
 use Rattle.ua_builtin.proofs.NodeIdLawful.{sound_node_id, lawful_node_id}

@@ -1,6 +1,6 @@
 -- A request whose header is read first, against the reader on lists.
-use Rattle.std.specs.Prelude.{◌≡◌, ℕ, ◌<◌, ◌≤◌, List, [], ◌∷◌, length, Option, Some, None, Result, Ok, Err, IfOk, IfErr, ◌⊎◌, ◌↔◌}
-use Rattle.std.proofs.Common.{refl, sym, ◌∙◌, ap, subst, arith, inl, inr}
+use Rattle.std.specs.Prelude.{◌≡◌, ℕ, ◌<◌, ◌≤◌, List, length, Option, Some, None, Result, Ok, Err, IfOk, IfErr, ◌⊎◌, ◌↔◌}
+use Rattle.std.proofs.Common.{refl, sym, ◌∙◌, ap, subst, inl, inr}
 use Rattle.ua_builtin.specs.Exact.{◌>>=◌}
 use Rattle.ua_octets.proofs.Readers.{some_is}
 use Rattle.ua_builtin.specs.Format.{Gives, most_levels}
@@ -101,7 +101,7 @@ read-by old = refl
 abbrev read_kind : List ℕ → Option RequestKind → Result Request RequestFault
 read_kind rest o = found_or (kind_at requests most_levels o rest >>= λ x. if_last x.0 x.1) (misread_kind (handle_behind rest) o)
 
-read-kind : (old rest : List ℕ) (id : NodeId) (o : Option RequestKind) → node_id.decode old ≡ Some (id, rest) → request_kind id ≡ o → request_read old ≡ read_kind rest o
+pub read-kind : (old rest : List ℕ) (id : NodeId) (o : Option RequestKind) → node_id.decode old ≡ Some (id, rest) → request_kind id ≡ o → request_read old ≡ read_kind rest o
 read-kind old rest id o found is = read-by old ∙ ap read_by found ∙ ap (read_kind rest) is
 
 pub id_fails : (old new : List ℕ) (e : ReadFault) → Gives node_id.decode old new (Err e)

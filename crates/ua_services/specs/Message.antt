@@ -1,5 +1,5 @@
 -- Messages: the NodeId of an encoding, and behind it the structure that it announces.
-use Rattle.std.specs.Prelude.{◌≡◌, ℕ, List, [], ◌∷◌, ◌++◌, Bool, ◌&&◌, cond, nat_eq, Option, Some, None, Result, Ok, Err}
+use Rattle.std.specs.Prelude.{ℕ, List, [], ◌∷◌, ◌++◌, Bool, ◌&&◌, cond, nat_eq, Option, Some, None, Result, Ok, Err}
 use Rattle.ua_builtin.specs.Exact.{◌>>=◌, Follows, then_read, Image, image_read}
 use Rattle.ua_builtin.specs.Format.{Format, Within, most_levels}
 use Rattle.ua_builtin.specs.NodeId.{node_id}

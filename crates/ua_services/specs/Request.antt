@@ -121,6 +121,11 @@ misread_id handle (Some id) = misread_kind handle (request_kind id)
 unfoldable pub request_read : List ℕ → Result Request RequestFault
 request_read octets = found_or (body_of request octets) (misread_id (handle_of octets) (id_of octets))
 
+-- of what was read, the kind of the request alone, or the fault
+abbrev pub kind_alone : Result Request RequestFault → Result RequestKind RequestFault
+kind_alone (Ok m) = Ok (kind_of m)
+kind_alone (Err fault) = Err fault
+
 -- ---- why octets are no request
 
 -- they begin with a NodeId that announces none

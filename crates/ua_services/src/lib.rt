@@ -32,7 +32,7 @@ pub use open::{
     OpenAnswer, read_open_request, read_open_response, write_close_request, write_open_request,
     write_open_response,
 };
-pub use request::{Request, RequestKind, read_request, request_body, write_request};
+pub use request::{Request, RequestKind, read_request, request_body, skip_request, write_request};
 pub use response::{Response, ResponseKind, read_response, response_body, write_response};
 pub use ua_structures::{
     ActivateSessionRequest, ActivateSessionResponse, AnonymousIdentityToken,

@@ -4,7 +4,7 @@ ghost use Rattle.std.specs.Prelude.{◌≡◌, ◌≤◌, ◌++◌, ◌⊎◌, l
 ghost use Rattle.ua_builtin.specs.Format.{most_levels, Gives, StaysBehind};
 ghost use Rattle.ua_octets.specs.declared.fault.WriteFault.TheVariants.{NotWritable};
 ghost use Rattle.ua_services.specs.Message.{IsBody, handle_behind};
-ghost use Rattle.ua_services.specs.Request.{request, request_kind, behind_header, unread_with, kind_read, request_read, Misread};
+ghost use Rattle.ua_services.specs.Request.{request, request_kind, behind_header, unread_with, kind_read, kind_alone, request_read, Misread};
 
 use crate::fault::RequestFault;
 use crate::message::{append_message, empty_body, standard_number};
@@ -292,6 +292,54 @@ pub fn read_request<S: Source>(alloc: Global, src: &mut S) -> Result<Request, Re
     ensures refused { IfErr result (λ fault. Misread (S.octets src.old) fault) }
 {
     read_body(alloc, src)
+}
+
+// Passes over a ReadRequest behind its NodeId, and nothing behind it.
+fn skip_last<S: Source>(alloc: Global, src: &mut S) -> Result<RequestKind, RequestFault>
+    ensures { (result ≡ kind_alone (kind_read RequestKind.Read (S.octets src.old))) ⊎ (result ≡ Err RequestFault.OutOfMemory) }
+{
+    let handle = match RequestHeader::skip_for_handle(alloc, src, MOST_LEVELS) {
+        Ok(handle) => handle,
+        Err(fault) => return Err(unreadable(fault, 0)),
+    };
+    if let Err(fault) = ReadRequest::skip_fields(alloc, src, MOST_LEVELS) {
+        return Err(unreadable(fault, handle));
+    }
+    if src.left() > 0 {
+        return Err(RequestFault::Unreadable(handle));
+    }
+    Ok(RequestKind::Read)
+}
+
+// Reads a request of that kind, and nothing behind it, and lets it go.
+fn skip_announced<S: Source>(
+    alloc: Global,
+    src: &mut S,
+    kind: RequestKind,
+) -> Result<RequestKind, RequestFault>
+    ensures { (result ≡ kind_alone (kind_read kind (S.octets src.old))) ⊎ (result ≡ Err RequestFault.OutOfMemory) }
+{
+    let request = read_announced(alloc, src, kind)?;
+    let found = request.kind();
+    drop(request);
+    Ok(found)
+}
+
+/// The kind of the request that a body is, which [`read_request`] would read: of a Read no item is
+/// made, so that it takes no memory but for texts of more than 30 octets, one at a time. After a fault
+/// the source is to be given up.
+pub fn skip_request<S: Source>(alloc: Global, src: &mut S) -> Result<RequestKind, RequestFault>
+    ensures kind { (result ≡ kind_alone (request_read (S.octets src.old))) ⊎ (result ≡ Err RequestFault.OutOfMemory) }
+{
+    let id = match NodeId::read_value(alloc, src, MOST_LEVELS) {
+        Ok(id) => id,
+        Err(fault) => return Err(unreadable(fault, 0)),
+    };
+    match announced_kind(&id) {
+        Some(RequestKind::Read) => skip_last(alloc, src),
+        Some(kind) => skip_announced(alloc, src, kind),
+        None => Err(unsupported(alloc, src)),
+    }
 }
 
 /// Adds the canonical body of a request at the end. An error leaves what was there.

@@ -2,6 +2,7 @@ pub mod PlainFits
 pub mod ArrayRead
 pub mod ArrayLawful
 pub mod ItemsRead
+mod ItemsSkipped
 pub mod HeaderLawful
 pub mod AttributeLawful
 pub mod DiscoveryLawful

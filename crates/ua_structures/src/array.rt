@@ -3,14 +3,14 @@
 ghost use Rattle.std.specs.Prelude.{◌≡◌, ◌≤◌, ◌+◌, ◌++◌, List, ℕ, length, IsTrue, OnOk, OnErr, IfOk, IsErrOf, option_map};
 ghost use Rattle.std.specs.List.{flat_map, list_all};
 ghost use Rattle.ua_builtin.specs.Counted.{IsOverlong};
-ghost use Rattle.ua_builtin.specs.Exact.{Begins};
-ghost use Rattle.ua_builtin.specs.Format.{most_levels, GivesBy, Behind, StaysBehind, Extends};
+ghost use Rattle.ua_builtin.specs.Exact.{Begins, skipped};
+ghost use Rattle.ua_builtin.specs.Format.{most_levels, Gives, GivesBy, Behind, StaysBehind, Extends};
 ghost use Rattle.ua_octets.specs.declared.fault.ReadFault.TheVariants.{NoValue};
 ghost use Rattle.ua_structures.specs.Array.{array, items_at};
 
 use std::alloc::{AllocError, Global};
 use std::marker::Model;
-use ua_builtin::{FIRST_NEGATIVE, NULL_COUNT, ReadFault, Source, Wire};
+use ua_builtin::{FIRST_NEGATIVE, NULL_COUNT, ReadFault, Skip, Source, Wire};
 
 /// An array of values, or null, which differs from no values (OPC 10000-6, 5.2.5).
 pub struct UaArray<T> {
@@ -92,6 +92,23 @@ fn read_items<T: Wire + Drop, S: Source>(
     Ok(items)
 }
 
+// Passes over that many values, and keeps none.
+fn skip_items<T: Skip, S: Source>(
+    alloc: Global,
+    src: &mut S,
+    depth: u32,
+    count: u32,
+) -> Result<(), ReadFault>
+    requires levels { depth ≤ most_levels }
+    ensures exact { Gives (skipped (items_at (T.format.decode depth) count)) (S.octets src.old) (S.octets src.new) result }
+    ensures behind { StaysBehind (S.octets src.old) (S.octets src.new) }
+{
+    for _ in 0..count {
+        T::skip_value(alloc, src, depth)?;
+    }
+    Ok(())
+}
+
 // Whether each value can be encoded.
 fn are_encodable<T: Wire>(items: &[T]) -> bool
     ensures { result ≡ list_all T.format.encodable items.now }
@@ -166,6 +183,22 @@ impl<T: Wire + Drop> Wire for UaArray<T> {
             }
         }
         Ok(())
+    }
+}
+
+impl<T: Skip> Skip for UaArray<T> {
+    #[tactic(auto, unfolding(crate::specs::Array::array))]
+    fn skip_value<S: Source>(alloc: Global, src: &mut S, depth: u32) -> Result<(), ReadFault> {
+        T::lawful();
+        let count = u32::read_value(alloc, src, depth)?;
+        if count >= FIRST_NEGATIVE {
+            return Ok(());
+        }
+        // No encoding is empty: each value needs an octet at least.
+        if src.left() < count as usize {
+            return Err(ReadFault::NoValue);
+        }
+        skip_items::<T, S>(alloc, src, depth, count)
     }
 }
 

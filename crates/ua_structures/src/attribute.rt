@@ -15,7 +15,7 @@ use crate::data_values::read_data_values;
 use crate::header::{RequestHeader, ResponseHeader};
 use std::alloc::{AllocError, Global};
 use ua_builtin::{
-    DoubleBits, NodeId, QualifiedName, ReadFault, Source, StatusCode, UaString, Wire,
+    DoubleBits, NodeId, QualifiedName, ReadFault, Skip, Source, StatusCode, UaString, Wire,
 };
 use ua_octets::{append_three, append_two};
 use ua_variant::{DataValue, DiagnosticInfo};
@@ -99,6 +99,16 @@ impl Wire for ReadValueId {
     }
 }
 
+impl Skip for ReadValueId {
+    #[tactic(auto, unfolding(crate::specs::Attribute::read_value_id))]
+    fn skip_value<S: Source>(alloc: Global, src: &mut S, depth: u32) -> Result<(), ReadFault> {
+        NodeId::skip_value(alloc, src, depth)?;
+        u32::skip_value(alloc, src, depth)?;
+        UaString::skip_value(alloc, src, depth)?;
+        QualifiedName::skip_value(alloc, src, depth)
+    }
+}
+
 /// Read: asks for attributes of nodes (OPC 10000-4, 5.11.2).
 #[derive(Drop)]
 pub struct ReadRequest {
@@ -111,7 +121,7 @@ pub struct ReadRequest {
 }
 
 impl ReadRequest {
-    ghost use Rattle.ua_builtin.specs.Exact.{image_read};
+    ghost use Rattle.ua_builtin.specs.Exact.{image_read, skipped};
     ghost use Rattle.ua_builtin.specs.Format.{most_levels, Gives, GivesBy, StaysBehind};
     ghost use Rattle.ua_structures.specs.Attribute.{read_request_fields, read_request_of};
 
@@ -174,6 +184,18 @@ impl ReadRequest {
         self.timestamps_to_return = i32::read_value(alloc, src, depth)?;
         self.nodes_to_read = UaArray::read_value(alloc, src, depth)?;
         Ok(())
+    }
+
+    /// Passes over the fields behind a header that was read already, and keeps none. After a fault the
+    /// source is to be given up.
+    pub fn skip_fields<S: Source>(alloc: Global, src: &mut S, depth: u32) -> Result<(), ReadFault>
+        requires levels { depth ≤ most_levels }
+        ensures exact { Gives (skipped (read_request_fields.decode depth)) (S.octets src.old) (S.octets src.new) result }
+        ensures behind { StaysBehind (S.octets src.old) (S.octets src.new) }
+    {
+        DoubleBits::skip_value(alloc, src, depth)?;
+        i32::skip_value(alloc, src, depth)?;
+        UaArray::<ReadValueId>::skip_value(alloc, src, depth)
     }
 
     /// Reads the fields behind a header that was read already.

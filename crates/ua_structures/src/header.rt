@@ -9,7 +9,7 @@ use crate::array::UaArray;
 use std::alloc::{AllocError, Global};
 use ua_builtin::laws::{moment_is_encodable, status_is_encodable};
 use ua_builtin::{
-    DateTime, ExtensionObject, NodeId, ReadFault, Source, StatusCode, UaString, Wire,
+    DateTime, ExtensionObject, NodeId, ReadFault, Skip, Source, StatusCode, UaString, Wire,
 };
 use ua_octets::{append_three, append_two};
 use ua_variant::DiagnosticInfo;
@@ -59,7 +59,8 @@ impl RequestHeader {
 
 impl RequestHeader {
     ghost use Rattle.std.specs.Prelude.{◌≤◌};
-    ghost use Rattle.ua_builtin.specs.Format.{most_levels, GivesBy, StaysBehind};
+    ghost use Rattle.ua_builtin.specs.Exact.{image_read};
+    ghost use Rattle.ua_builtin.specs.Format.{most_levels, Gives, GivesBy, StaysBehind};
 
     /// A header whose fields are null or 0, to read one into. Takes no memory.
     pub fn empty() -> RequestHeader {
@@ -89,6 +90,28 @@ impl RequestHeader {
         self.timeout_hint = u32::read_value(alloc, src, depth)?;
         self.additional_header = ExtensionObject::read_value(alloc, src, depth)?;
         Ok(())
+    }
+
+    /// Passes over the header that the source begins with, and answers its RequestHandle. After a fault
+    /// the source is to be given up.
+    #[tactic(auto, unfolding(crate::specs::Header::request_header))]
+    pub fn skip_for_handle<S: Source>(
+        alloc: Global,
+        src: &mut S,
+        depth: u32,
+    ) -> Result<u32, ReadFault>
+        requires levels { depth ≤ most_levels }
+        ensures exact { Gives (image_read (λ header. header.request_handle) (request_header.decode depth)) (S.octets src.old) (S.octets src.new) result }
+        ensures behind { StaysBehind (S.octets src.old) (S.octets src.new) }
+    {
+        NodeId::skip_value(alloc, src, depth)?;
+        DateTime::skip_value(alloc, src, depth)?;
+        let request_handle = u32::read_value(alloc, src, depth)?;
+        u32::skip_value(alloc, src, depth)?;
+        UaString::skip_value(alloc, src, depth)?;
+        u32::skip_value(alloc, src, depth)?;
+        ExtensionObject::skip_value(alloc, src, depth)?;
+        Ok(request_handle)
     }
 }
 
