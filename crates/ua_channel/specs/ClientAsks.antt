@@ -32,7 +32,7 @@ most_pending = 64
 abbrev pub most_tokens : ℕ
 most_tokens = 16
 
--- the first number that no request id is
+-- the first number that is the request id of no call and of no renewal; the CLO may have it
 abbrev pub no_id : ℕ
 no_id = 4294967295
 

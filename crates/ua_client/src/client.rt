@@ -25,7 +25,7 @@ use ua_services::Request;
 /// The PolicyId of the token policy by which a session is begun where no other is given.
 const ANONYMOUS: &str = "anonymous";
 
-/// The first number that no request id is.
+/// The first number that is the request id of no call and of no renewal; the CLO may have it.
 const NO_ID: u32 = u32::MAX;
 
 /// A client whose channel is open.

@@ -38,7 +38,7 @@ const MOST_PENDING: usize = 64;
 /// The most tokens that are held where a further one is asked for.
 const MOST_TOKENS: usize = 16;
 
-/// The first number that no request id is.
+/// The first number that is the request id of no call and of no renewal; the CLO may have it.
 const NO_ID: usize = 4_294_967_295;
 
 /// What a client keeps of an open channel.
