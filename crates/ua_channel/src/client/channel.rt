@@ -113,7 +113,7 @@ impl ClientChannel {
         &self.address.url
     }
 
-    /// The request id of what is asked next; 2 where the channel failed or was closed.
+    /// The request id of what is asked next, or of the CLO; 2 where the channel failed or was closed.
     pub fn next_id(&self) -> u32
         ensures stands { (asks : List Placed) (octets : List ℕ) (frames : List Frame) (rest : List ℕ) → Stands self.now asks octets frames rest
             → result ≡ next_id (asked_in asks) }
