@@ -1,5 +1,5 @@
 -- The data that a DiagnosticInfo of the code stands for, and the one that stands for data.
-use Rattle.std.specs.Prelude.{Option, Some, None}
+use Rattle.std.specs.Prelude.{◌≡◌, Option, Some, None}
 use Rattle.ua_parts.specs.Diagnostic.{DiagnosticFields, no_fields, DiagnosticData, innermost, around, diagnostic_within}
 use Rattle.ua_parts.specs.declared.diagnostic_info.DiagnosticInfo.{DiagnosticInfo}
 
@@ -43,3 +43,8 @@ no_diagnostics = made_diagnostic None no_fields
 abbrev pub or_innermost : Option DiagnosticData → DiagnosticData
 or_innermost None = innermost no_fields
 or_innermost (Some d) = d
+
+-- what is kept of a DiagnosticInfo within another value has a field
+abbrev pub KeepsFields : Option DiagnosticData → Type 0
+KeepsFields None = Unit {0}
+KeepsFields (Some d) = d ≡ innermost no_fields → ⊥

@@ -1,7 +1,7 @@
 //! DiagnosticInfo as a value: its parts, its levels, and copies of it.
 
-ghost use Rattle.std.specs.Prelude.{◌≡◌, ◌≤◌, ◌↔◌, min, option_map, IfOk, IsTrue};
-ghost use Rattle.ua_parts.specs.Diagnostic.{diagnostic_depth, diagnostic_count, diagnostic_fields_count, diagnostic_encodable, diagnostic_fits, diagnostic_fields_encodable};
+ghost use Rattle.std.specs.Prelude.{◌≡◌, ◌≤◌, ◌↔◌, None, min, option_map, IfOk, IsTrue};
+ghost use Rattle.ua_parts.specs.Diagnostic.{innermost, no_fields, diagnostic_depth, diagnostic_count, diagnostic_fields_count, diagnostic_encodable, diagnostic_fits, diagnostic_fields_encodable};
 ghost use Rattle.ua_parts.specs.View.{diagnostic_of, diagnostic_fields_of, no_diagnostics, or_innermost};
 
 use crate::field::{count_of, count_of_text, field_fits};
@@ -52,9 +52,11 @@ impl Model for BoxedDiagnostic {
     ghost coded = { coded_diagnostic (Prim.hlevel codes) };
 
     ghost use Rattle.std.specs.Prelude.{option_map};
-    ghost use Rattle.ua_parts.specs.View.{diagnostic_of, or_innermost};
+    ghost use Rattle.ua_parts.specs.View.{diagnostic_of, or_innermost, KeepsFields};
 
     ghost view = { λ a. or_innermost (option_map (λ b. diagnostic_of b.value) a.inner) };
+
+    ghost invariant = { λ a. KeepsFields (option_map (λ b. diagnostic_of b.value) a.inner) };
 
     ghost size = { diagnostic_depth };
 
@@ -80,7 +82,8 @@ impl BoxedDiagnostic {
     /// The value, or `None` for one without any field.
     #[inline]
     pub fn get(&self) -> Option<&DiagnosticInfo>
-        ensures { or_innermost (option_map (λ d. diagnostic_of d.now) result) ≡ self.now }
+        ensures value { or_innermost (option_map (λ d. diagnostic_of d.now) result) ≡ self.now }
+        ensures none { result ≡ None ↔ (self.now ≡ innermost no_fields) }
     {
         match &self.inner {
             Some(value) => Some(value.as_ref()),

@@ -1,6 +1,6 @@
 -- The data that the values of the code stand for, and the values that stand for data.
 pub use Rattle.ua_parts.specs.View.{diagnostic_fields_of, diagnostic_of}
-use Rattle.std.specs.Prelude.{ℕ, List, [], ◌∷◌, map, Option, Some, None}
+use Rattle.std.specs.Prelude.{◌≡◌, ℕ, List, [], ◌∷◌, map, Option, Some, None}
 use lib.IntN.{ℤ}
 use Rattle.ua_variant.specs.Data.{boolean, sbyte, byte, int16, uint16, int32, uint32, int64, uint64, float, double, string, date_time, guid, byte_string, xml_element, node_id, expanded_node_id, status_code, qualified_name, localized_text, extension_object, reserved, DataFields, VariantData, null, one, absent, many, ScalarData, leaf, data_value, variant, diagnostic, ScalarsData, no_scalars, scalar, DataValueData, bare, valued}
 use Rattle.ua_variant.specs.declared.values.Scalar.{Scalar}
@@ -88,6 +88,11 @@ abbrev pub or_null : Option VariantData → VariantData
 or_null None = null
 or_null (Some v) = v
 
+-- what is kept of a Variant among other Variants is not null
+abbrev pub KeepsValue : Option VariantData → Type 0
+KeepsValue None = Unit {0}
+KeepsValue (Some v) = v ≡ null → ⊥
+
 -- no field of a DataValue
 abbrev pub no_fields : DataFields
 no_fields = record {
@@ -102,3 +107,8 @@ no_fields = record {
 abbrev pub or_bare : Option DataValueData → DataValueData
 or_bare None = bare no_fields
 or_bare (Some d) = d
+
+-- what is kept of a DataValue among Variants has a field
+abbrev pub KeepsFields : Option DataValueData → Type 0
+KeepsFields None = Unit {0}
+KeepsFields (Some d) = d ≡ bare no_fields → ⊥

@@ -1,9 +1,9 @@
 //! Values that hold values: Variant and DataValue.
 
-ghost use Rattle.std.specs.Prelude.{◌≡◌, length, map, option_map, IfOk, IfSome};
-ghost use Rattle.ua_variant.specs.Data.{leaf};
+ghost use Rattle.std.specs.Prelude.{◌≡◌, ◌↔◌, None, length, map, option_map, IfOk, IfSome};
+ghost use Rattle.ua_variant.specs.Data.{bare, leaf, null};
 ghost use Rattle.ua_variant.specs.Packed.{packed_leaves};
-ghost use Rattle.ua_variant.specs.View.{data_value_of, elements_of, or_bare, or_null, scalar_of, variant_of};
+ghost use Rattle.ua_variant.specs.View.{data_value_of, elements_of, no_fields, or_bare, or_null, scalar_of, variant_of};
 
 use crate::boxed::Boxed;
 use crate::packed::{Pack, Packed};
@@ -126,9 +126,11 @@ impl Model for BoxedVariant {
     ghost coded = { coded_variant (Prim.hlevel (codes, coded_diagnostic (Prim.hlevel codes))) };
 
     ghost use Rattle.std.specs.Prelude.{option_map};
-    ghost use Rattle.ua_variant.specs.View.{variant_of, or_null};
+    ghost use Rattle.ua_variant.specs.View.{variant_of, or_null, KeepsValue};
 
     ghost view = { λ a. or_null (option_map (λ b. variant_of b.value) a.inner) };
+
+    ghost invariant = { λ a. KeepsValue (option_map (λ b. variant_of b.value) a.inner) };
 
     ghost size = { λ v. 2 * variant_count v };
 
@@ -199,9 +201,11 @@ impl Model for BoxedDataValue {
     ghost coded = { coded_data_value (Prim.hlevel (codes, coded_diagnostic (Prim.hlevel codes))) };
 
     ghost use Rattle.std.specs.Prelude.{option_map};
-    ghost use Rattle.ua_variant.specs.View.{data_value_of, or_bare};
+    ghost use Rattle.ua_variant.specs.View.{data_value_of, or_bare, KeepsFields};
 
     ghost view = { λ a. or_bare (option_map (λ b. data_value_of b.value) a.inner) };
+
+    ghost invariant = { λ a. KeepsFields (option_map (λ b. data_value_of b.value) a.inner) };
 
     ghost size = { λ d. 2 * data_value_count d };
 
@@ -340,7 +344,8 @@ impl BoxedVariant {
     /// The value, or `None` for a null one.
     #[inline]
     pub fn get(&self) -> Option<&Variant>
-        ensures { or_null (option_map (λ v. variant_of v.now) result) ≡ self.now }
+        ensures value { or_null (option_map (λ v. variant_of v.now) result) ≡ self.now }
+        ensures none { result ≡ None ↔ (self.now ≡ null) }
     {
         match &self.inner {
             Some(value) => Some(value.as_ref()),
@@ -405,7 +410,8 @@ impl BoxedDataValue {
     /// The value, or `None` for one without any field.
     #[inline]
     pub fn get(&self) -> Option<&DataValue>
-        ensures { or_bare (option_map (λ d. data_value_of d.now) result) ≡ self.now }
+        ensures value { or_bare (option_map (λ d. data_value_of d.now) result) ≡ self.now }
+        ensures none { result ≡ None ↔ (self.now ≡ bare no_fields) }
     {
         match &self.inner {
             Some(value) => Some(value.as_ref()),
