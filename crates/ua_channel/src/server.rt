@@ -381,6 +381,9 @@ impl ServerChannel {
         ensures parts { (octets : List ℕ) (told : List Told) → Goes self.old octets told
             → IfOk result (λ r. AsksInParts (parts_asked r.1) self.new (octets ++ take r.0 piece.now)) }
         ensures closed { IsDone self.old → (result ≡ Err fault.Closed) × (self.new ≡ self.old) }
+        // Where memory is refused, it is within a frame whose header is there and good.
+        ensures starves { (octets : List ℕ) (told : List Told) → Goes self.old octets told → IsErrOf result fault.OutOfMemory
+            → (n : ℕ) × (n ≤ length piece.now) × StarvedAt self.new (octets ++ take n piece.now) told }
         // After want of memory, the bound is what it was before the call.
         ensures starved { IsErrOf result fault.OutOfMemory → bound_of self.new ≡ bound_of self.old }
         ensures limits { limits_of self.new ≡ limits_of self.old }

@@ -1,7 +1,8 @@
 use Rattle.std.specs.Prelude.{IfOk}
-use Rattle.std.proofs.Common.{◌++◌, take, Result, subst}
+use Rattle.std.proofs.Common.{◌≡◌, ◌++◌, ◌∙◌, ap, take, Result, Err, subst}
 use Rattle.ua_channel.specs.declared.server_event.ServerEvent.{ServerEvent}
 use Rattle.ua_channel.specs.declared.server_fault.ChannelFault.{ChannelFault}
+use Rattle.ua_channel.specs.declared.server_fault.ChannelFault.TheVariants as fault
 use Rattle.ua_channel.specs.ServerAnswers.{AnswersAt, AsksInParts, parts_asked}
 use Rattle.ua_channel.specs.ServerStands.{channel_of, next_of}
 use Rattle.ua_channel.proofs.Answering.{taken_fault}
@@ -19,3 +20,8 @@ returns-in-Err-clause-answers c = λ octets told g.
 pub returns-in-Ok-clause-parts : goal.returns-in-Ok-clause-parts
 returns-in-Ok-clause-parts c = λ octets told g.
     subst (λ (a : Result ServerEvent ChannelFault). IfOk a (λ e. AsksInParts (parts_asked e) c.advance-n.new.self (octets ++ take c.advance-n.result.0 c.args.piece.now))) c.in-Ok.is (c.advance-n.ensures.parts octets told g)
+
+pub returns-in-Err-clause-starves : goal.returns-in-Err-clause-starves
+returns-in-Err-clause-starves c = λ octets told g failed.
+    let is : c.in-Err.fault ≡ fault.OutOfMemory = cc in
+    (c.advance-n.result.0, c.advance-n.ensures.within, c.advance-n.ensures.starves octets told g (c.in-Err.is ∙ ap Err is))
