@@ -1,6 +1,6 @@
 //! Values that octets encode.
 
-ghost use Rattle.std.specs.Prelude.{◌≡◌, ◌≤◌, ◌+◌, ◌++◌, ℕ, List, length, IsTrue, IsFalse, OnOk, OnErr, IfOk, IfErr, IsErrOf, ◌↔◌};
+ghost use Rattle.std.specs.Prelude.{◌≡◌, ◌≤◌, ◌+◌, ◌++◌, ℕ, List, length, IsTrue, IsFalse, OnOk, OnErr, IfOk, IfErr, IsOk, IsErrOf, ◌↔◌};
 ghost use Rattle.ua_octets.specs.Exact.{Begins};
 ghost use Rattle.ua_octets.specs.Format.{Format, IsLawful, most_levels, Gives, Behind, StaysBehind, Extends, IsWhole};
 ghost use Rattle.ua_octets.specs.declared.fault.ReadFault.TheVariants.{NoValue};
@@ -72,7 +72,9 @@ pub trait Wire: Sized {
     final fn read_whole(alloc: Global, octets: &[u8]) -> Result<Option<Self>, AllocError>
     where
         Self: Drop,
-        ensures { IfOk result (λ read. IsWhole format octets.now read) }
+        ensures read { IfOk result (λ read. IsWhole format octets.now read) }
+        ensures long { overlong octets.now → IsOk result }
+        ensures memory { memoryless → IsOk result }
     {
         Self::lawful();
         let mut src = Octets::new(octets);

@@ -6,4 +6,4 @@ use Rattle.ua_frame.proofs.Wholes.{whole_read}
 use Rattle.ua_channel.proofs.client.greeting.read_ack.Goals as goal
 
 pub returns : goal.returns
-returns c = IfOk-weaker c.read_whole.result _ _ (λ read whole. sym (whole_read ack sound_ack c.args.body.now read whole)) c.read_whole.ensures
+returns c = IfOk-weaker c.read_whole.result _ _ (λ read whole. sym (whole_read ack sound_ack c.args.body.now read whole)) c.read_whole.ensures.read
