@@ -7,7 +7,7 @@ use crate::fields::{counted, front, handed_octets, handed_text, node, skips, tex
 use crate::lists::list;
 use crate::onto::onto;
 use crate::parts::{single_parts, two_parts};
-use crate::requests::{made_write, request};
+use crate::requests::{made_read, made_write, request};
 use crate::responses::response;
 use crate::trees::{boxed, mixed, numbers, picoseconds, reserved, shaped, tree_text};
 use crate::values::{number, value};
@@ -124,6 +124,7 @@ fn message_answer(alloc: Global, kind: &str, words: &str) -> Result<String, Faul
         "open-answer" => open_answer(alloc, words),
         "close-request" => close_request(alloc, words),
         "identity" => identity(alloc, words),
+        "made-read" => made_read(alloc, words),
         "made-write" => made_write(alloc, words),
         "list" => list(alloc, words),
         "parts" => two_parts(alloc, words),

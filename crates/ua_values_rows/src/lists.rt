@@ -6,8 +6,9 @@ use crate::shown::written;
 use std::alloc::Global;
 use ua_builtin::{Octets, Source, StatusCode, UaBytes, UaString, Wire};
 use ua_services::{
-    EndpointDescription, ReadValueId, SignedSoftwareCertificate, UaArray, UserTokenPolicy,
-    WriteValue, read_array,
+    ActivateSessionRequest, CloseSessionRequest, CreateSessionRequest, EndpointDescription,
+    GetEndpointsRequest, ReadRequest, ReadResponse, ReadValueId, Request, Response,
+    SignedSoftwareCertificate, UaArray, UserTokenPolicy, WriteRequest, WriteValue, read_array,
 };
 use ua_variant::{DataValue, DiagnosticInfo};
 
@@ -40,6 +41,22 @@ fn structure_text(alloc: Global, kind: &str, octets: &[u8]) -> Result<String, Fa
         "SignedSoftwareCertificate" => list_text::<SignedSoftwareCertificate>(alloc, octets),
         "UserTokenPolicy" => list_text::<UserTokenPolicy>(alloc, octets),
         "EndpointDescription" => list_text::<EndpointDescription>(alloc, octets),
+        _ => message_text(alloc, kind, octets),
+    }
+}
+
+/// What is printed of an array of messages, each as its own type reads it.
+fn message_text(alloc: Global, kind: &str, octets: &[u8]) -> Result<String, Fault> {
+    match kind {
+        "Request" => list_text::<Request>(alloc, octets),
+        "Response" => list_text::<Response>(alloc, octets),
+        "GetEndpointsRequest" => list_text::<GetEndpointsRequest>(alloc, octets),
+        "CreateSessionRequest" => list_text::<CreateSessionRequest>(alloc, octets),
+        "ActivateSessionRequest" => list_text::<ActivateSessionRequest>(alloc, octets),
+        "CloseSessionRequest" => list_text::<CloseSessionRequest>(alloc, octets),
+        "ReadRequest" => list_text::<ReadRequest>(alloc, octets),
+        "ReadResponse" => list_text::<ReadResponse>(alloc, octets),
+        "WriteRequest" => list_text::<WriteRequest>(alloc, octets),
         _ => Err(Fault::NoRow),
     }
 }

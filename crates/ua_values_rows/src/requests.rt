@@ -8,8 +8,8 @@ use std::alloc::Global;
 use ua_builtin::{DateTime, Identifier, NodeId, Octets, UaString, WriteFault};
 use ua_services::{
     ActivateSessionRequest, CloseSessionRequest, CreateSessionRequest, GetEndpointsRequest,
-    ReadRequest, Request, RequestFault, RequestHeader, RequestKind, WriteRequest, WriteValue,
-    read_request, write_request,
+    ReadRequest, ReadValueId, Request, RequestFault, RequestHeader, RequestKind, WriteRequest,
+    WriteValue, read_request, write_request,
 };
 use ua_variant::{DataValue, HeldVariant, Variant};
 
@@ -123,6 +123,15 @@ pub fn fault_text(alloc: Global, fault: RequestFault) -> Result<String, Fault> {
         RequestFault::Unreadable(handle) => Ok(format!(in alloc; "unreadable {handle}")?),
         RequestFault::OutOfMemory => Err(Fault::Memory),
     }
+}
+
+/// What is printed of a Read that is made of the NodeId that octets encode.
+pub fn made_read(alloc: Global, words: &str) -> Result<String, Fault> {
+    let octets = octets_of(alloc, words)?;
+    let (node, _) = crate::values::read::<NodeId>(alloc, octets.as_slice())?;
+    let item = ReadValueId::of_value(node);
+    let request = ReadRequest::of_item(alloc, header(), item)?;
+    body_text(alloc, Request::Read(request), octets.as_slice())
 }
 
 /// What is printed of a Write that is made of the Variant that octets encode.
