@@ -130,7 +130,7 @@ fn tell_next(client: &Client, told: &mut Told) {
 }
 
 /// Tells replies in their order.
-fn tell_replies(given: &Given, replies: Vec<Reply>, told: &mut Told) {
+pub fn tell_replies(given: &Given, replies: Vec<Reply>, told: &mut Told) {
     if replies.is_empty() {
         told.word("nothing");
     }
@@ -168,7 +168,7 @@ fn failed(
 }
 
 /// Tells a fault. A line over memory that is not told to fail fails where it is refused memory.
-fn tell_fault(course: &Course, fault: ClientFault, told: &mut Told) {
+pub fn tell_fault(course: &Course, fault: ClientFault, told: &mut Told) {
     match fault {
         ClientFault::OutOfMemory => told.end("client: out of memory"),
         ClientFault::Write if !course.has_failing_write => told.end("line: out of memory"),

@@ -2,8 +2,9 @@
 
 use crate::given::Given;
 use crate::told::Told;
+use crate::words::front;
 use std::alloc::{AllocError, Global};
-use ua_pair::{DissectOptions, Dissector};
+use ua_pair::{DissectOptions, Dissector, Side, dissect};
 
 /// The dissector of one side, behind the octets so far.
 #[derive(Drop)]
@@ -39,6 +40,25 @@ impl Dissection {
             Ok(()) => tell_lines(&out, told),
             Err(_) => told.end("dissect: out of memory"),
         }
+    }
+}
+
+/// The side that a word names.
+pub fn side_of(word: &str) -> Side {
+    match word {
+        "client" => Side::Client,
+        _ => Side::Server,
+    }
+}
+
+/// Tells the lines of all octets of one side, by the call that takes them at once.
+pub fn tell_all(given: &Given, words: &str, told: &mut Told) {
+    let (side, words) = front(words);
+    let octets = given.octets(words, told);
+    let mut out = String::new(told.alloc());
+    match dissect(told.alloc(), octets.as_slice(), side_of(side), &mut out) {
+        Ok(()) => tell_lines(&out, told),
+        Err(_) => told.end("dissect: out of memory"),
     }
 }
 

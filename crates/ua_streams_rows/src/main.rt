@@ -28,6 +28,7 @@ mod serving;
 mod sweeps;
 mod taking;
 mod told;
+mod uses;
 mod words;
 
 use crate::input::{broken, print_line};

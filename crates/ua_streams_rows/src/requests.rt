@@ -44,10 +44,23 @@ fn push_requests<T: Asked>(given: &Given, word: &str, out: &mut Vec<T>, told: &m
 }
 
 fn push_request<T: Asked>(body: &[u8], out: &mut Vec<T>, told: &mut Told) {
+    if let Some(request) = request_in(body, told) {
+        push_value(T::of_request(request), out, told);
+    }
+}
+
+/// The request that a body is.
+pub fn request_in(body: &[u8], told: &mut Told) -> Option<Request> {
     match read_request(told.alloc(), &mut Octets::new(body)) {
-        Ok(request) => push_value(T::of_request(request), out, told),
-        Err(RequestFault::OutOfMemory) => told.end("read_request: out of memory"),
-        Err(_) => told.fail("no request"),
+        Ok(request) => Some(request),
+        Err(RequestFault::OutOfMemory) => {
+            told.end("read_request: out of memory");
+            None
+        }
+        Err(_) => {
+            told.fail("no request");
+            None
+        }
     }
 }
 

@@ -1,7 +1,7 @@
 //! What the rows so far began, and the answer to each row.
 
 use crate::assembling::Joining;
-use crate::dissection::Dissection;
+use crate::dissection::{Dissection, side_of, tell_all};
 use crate::given::Given;
 use crate::lines::{Course, tell_moments};
 use crate::requests::turns_of;
@@ -9,14 +9,14 @@ use crate::serving::Serving;
 use crate::taking::take_pieces;
 use crate::told::Told;
 use crate::words::{first_number, front, limits_of, text_of};
-use crate::{bodies, calling, client, ends, frames, parts, server};
+use crate::{bodies, calling, client, ends, frames, parts, server, uses};
 use std::alloc::Global;
 use ua_builtin::Wire;
 use ua_channel::{ClientChannel, ServerChannel};
 use ua_client::Client;
 use ua_exchange::Turn;
 use ua_frame::{Ack, ErrorFrame, FrameReader, Hello};
-use ua_pair::{DissectOptions, Side};
+use ua_pair::DissectOptions;
 
 /// What rows take steps of.
 #[derive(Drop)]
@@ -94,6 +94,8 @@ impl Rows {
             }
             "parts" => parts::tell_node(&self.given, words, told),
             "source" => parts::tell_source(&self.given, words, told),
+            "dissect-all" => tell_all(&self.given, words, told),
+            "write-and-read" => uses::tell(&self.given, &mut self.course, words, told),
             _ => self.begin_or_step(kind, words, told),
         }
     }
@@ -213,10 +215,7 @@ impl Rows {
     fn begin_dissector(&mut self, kind: &str, words: &str, told: &mut Told) {
         let (side, words) = front(words);
         let options = DissectOptions {
-            side: match side {
-                "client" => Side::Client,
-                _ => Side::Server,
-            },
+            side: side_of(side),
             fields: kind == "dissect-fields" || kind == "dissect-named-fields",
             names: kind == "dissect-names" || kind == "dissect-named-fields",
         };

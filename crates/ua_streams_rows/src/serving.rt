@@ -6,6 +6,7 @@ ghost use Rattle.ua_nodes.specs.Sound.{IsSound};
 use crate::calling::tell_code;
 use crate::given::Given;
 use crate::lines::Course;
+use crate::requests::{request_in, tell_response};
 use crate::sweeps::{changed, fronts};
 use crate::taking::{Goes, Takes, take_pieces};
 use crate::told::Told;
@@ -86,6 +87,7 @@ impl Serving {
             "connect" => self.begin(told),
             "host" => self.begin_server(words, told),
             "answer" => self.reply(given, words, told),
+            "respond" => self.respond(given, words, told),
             "step" => {
                 let (size, words) = first_number(words, told);
                 let octets = given.octets(words, told);
@@ -152,6 +154,22 @@ impl Serving {
         ) {
             Ok(body) => given.tell(body.as_slice(), told),
             Err(_) => told.end("reply: out of memory"),
+        }
+    }
+
+    /// The body of the response to a request, which the services are handed as such.
+    fn respond(&mut self, given: &Given, words: &str, told: &mut Told) {
+        let body = given.octets(words, told);
+        let (Some(services), Some(request)) = (
+            &mut self.services,
+            request_in(body.as_slice(), told),
+        ) else {
+            told.fail("no row");
+            return;
+        };
+        match services.answer(told.alloc(), request, given.moment) {
+            Ok(response) => tell_response(given, response, told),
+            Err(_) => told.end("answer: out of memory"),
         }
     }
 
