@@ -3,6 +3,7 @@
 use crate::fault::Fault;
 use crate::items::{read, values, write};
 use crate::lines::{bad_results, endpoint, named_code, read_line, response_lines, write_line};
+use crate::message_fields::{body_fields, fields};
 use crate::node_table::{State, insert, load, moment, node, nodes};
 use crate::requests::{ask, url};
 use crate::scripts::script;
@@ -74,6 +75,8 @@ fn use_answer(alloc: Global, kind: &str, words: &str) -> Result<String, Fault> {
         "in-file" => in_file(alloc, words),
         "request" => request(alloc, words),
         "bad" => bad(alloc, words),
+        "fields" => fields(alloc, words),
+        "body-fields" => body_fields(alloc, words),
         _ => Err(Fault::NoRow),
     }
 }

@@ -11,6 +11,7 @@ mod answers;
 mod fault;
 mod items;
 mod lines;
+mod message_fields;
 mod node_table;
 mod octets;
 mod requests;
