@@ -1,0 +1,189 @@
+/* Every call of the library once in ample memory on each of its conditions, without sockets, and what it answers.
+ *
+ *     answers CLIENT SERVER
+ *
+ * The files hold the octets that both sides of one conversation say: a session that writes 6 to a node and reads it.
+ * What is printed is compared by tools/try_c with lines that are written out there. */
+#include <stdio.h>
+#include <stdlib.h>
+#include <string.h>
+
+#include "ua.h"
+
+#define TEXT(t) (const uint8_t *)(t), strlen(t)
+#define LONG "aaaaaaaaaaaaaaaaaaaaaaaaaaaaaaa" /* 31 octets */
+
+/* 1970-01-01 */
+static const int64_t moment = 116444736000000000;
+static const struct ua_limits limits = {65535, 65535, 1048576, 256}, small = {8192, 8192, 100, 1};
+static const char nodes[] = "ns=1;s=Pump\trw\tPump\tInt32\t5\nns=1;s=" LONG "\trw\t" LONG "\tString\t" LONG "\n";
+static const char url[] = "opc.tcp://localhost:4840", long_url[] = "opc.tcp://localhost:4840/" LONG;
+static struct ua_handle server, client;
+static uint8_t up[4096], down[4096], request[1024], reply[4096], text[4096];
+static size_t up_count, down_count, request_count, reply_count, text_count;
+static uint32_t event, id, code;
+
+static void check(uint32_t status, const char *what) {
+    if (status != UA_OK) {
+        fprintf(stderr, "answers: %s: status %u\n", what, (unsigned)status);
+        exit(1);
+    }
+}
+
+static void say_digits(const char *what, const uint8_t *octets, size_t count) {
+    printf("%s ", what);
+    for (size_t at = 0; at < count; at++)
+        printf("%02x", octets[at]);
+    printf("\n");
+}
+
+/* What a handle has to say goes behind what its side said so far. */
+static size_t fetch(struct ua_handle *from, uint8_t *said, size_t *count) {
+    size_t fetched;
+    check(ua_fetch(from, said + *count, 4096 - *count, &fetched), "fetch");
+    *count += fetched;
+    return fetched;
+}
+
+/* What waits at the client goes to the server, and what that says back to the client, until the client tells something
+ * else than octets to be sent. What then waits is put into `reply`. */
+static void talk(void) {
+    size_t taken, waiting;
+    do {
+        size_t first = up_count, back = down_count;
+        fetch(&client, up, &up_count);
+        for (size_t at = first; at < up_count; at += taken)
+            check(ua_server_step(&server, up + at, up_count - at, moment, &taken, &waiting, &code), "step");
+        fetch(&server, down, &down_count);
+        for (size_t at = back; at < down_count; at += taken)
+            check(ua_client_take(&client, down + at, down_count - at, moment, &taken, &event, &id, &code), "take");
+    } while (event == UA_SEND);
+    reply_count = 0;
+    if (event == UA_ANSWERED)
+        fetch(&client, reply, &reply_count);
+}
+
+/* Asks what stands in `request`, and says under which id it is answered, and by how many octets. */
+static void ask(uint32_t status, const char *what) {
+    check(status, what);
+    check(ua_client_ask(&client, request, request_count, &id), "ask");
+    talk();
+    printf("%s %zu event %u id %u code %08X reply %zu\n", what, request_count, (unsigned)event, (unsigned)id,
+           (unsigned)code, reply_count);
+}
+
+static void say_text(const char *what, uint32_t status) {
+    check(status, what);
+    printf("%s %.*s%s", what, (int)text_count, (const char *)text, text_count && text[text_count - 1] == '\n' ? "" : "\n");
+}
+
+/* Whether a file holds these octets. */
+static const char *same(const char *name, const uint8_t *octets, size_t count) {
+    static uint8_t found[4096];
+    FILE *file = fopen(name, "rb");
+    size_t size = file ? fread(found, 1, sizeof found, file) : 0;
+    if (file)
+        fclose(file);
+    return size == count && memcmp(found, octets, count) == 0 ? "same" : "others";
+}
+
+static void open_with(const struct ua_limits *allowed, const char *at) {
+    up_count = down_count = 0;
+    check(ua_client_new(allowed, TEXT(at), &client), "client_new");
+    check(ua_client_hello(&client), "hello");
+    talk();
+    printf("open event %u, %zu octets up and %zu down\n", (unsigned)event, up_count, down_count);
+}
+
+#define REQUEST request, sizeof request, &request_count
+#define INTO text, sizeof text, &text_count
+
+/* The conversation of the two files. */
+static void converse(char **files) {
+    size_t line, taken, waiting;
+    uint8_t token[64];
+    size_t token_count;
+    check(ua_server_new(TEXT(nodes), &limits, TEXT(url), 1, &server, &line), "server_new");
+    open_with(&limits, url);
+    ask(ua_create_session_request(TEXT(url), moment, 2, REQUEST), "create_session");
+    say_text("token", ua_session_token(reply, reply_count, INTO, &code));
+    memcpy(token, text, text_count);
+    token_count = text_count;
+    ask(ua_activate_session_request(token, token_count, moment, 3, REQUEST), "activate_session");
+    ask(ua_write_request(token, token_count, moment, 4, TEXT("ns=1;s=Pump"), TEXT("Int32"), TEXT("6"), REQUEST), "write");
+    say_text("lines", ua_response_text(TEXT("ns=1;s=Pump"), reply, reply_count, INTO, &code));
+    ask(ua_read_request(token, token_count, moment, 5, TEXT("ns=1;s=Pump"), TEXT(""), REQUEST), "read");
+    say_text("lines", ua_response_text(TEXT("ns=1;s=Pump"), reply, reply_count, INTO, &code));
+    ask(ua_close_session_request(token, token_count, moment, 6, REQUEST), "close_session");
+    check(ua_client_close(&client, moment), "close");
+    line = up_count;
+    fetch(&client, up, &up_count);
+    printf("close %u\n", (unsigned)ua_server_step(&server, up + line, up_count - line, moment, &taken, &waiting, &code));
+    printf("up %s, down %s\n", same(files[1], up, up_count), same(files[2], down, down_count));
+    say_text("dissect 0", ua_dissect(up, up_count, 0, INTO));
+    say_text("dissect 1", ua_dissect(down, down_count, 1, INTO));
+}
+
+/* A second connection to the same nodes: endpoints, a renewal, texts of 31 octets. */
+static void go_on(void) {
+    check(ua_server_next_connection(&server, 2), "next_connection");
+    open_with(&limits, long_url);
+    ask(ua_get_endpoints_request(TEXT(url), moment, 2, REQUEST), "get_endpoints");
+    say_text("lines", ua_response_text(TEXT("i=0"), reply, reply_count, INTO, &code));
+    check(ua_client_renew(&client, moment, &id), "renew");
+    talk();
+    printf("renew event %u id %u\n", (unsigned)event, (unsigned)id);
+    ask(ua_create_session_request(TEXT(long_url), moment, 3, REQUEST), "create_session");
+    say_text("token", ua_session_token(reply, reply_count, INTO, &code));
+    ask(ua_activate_session_request(text, text_count, moment, 4, REQUEST), "activate_session");
+    ask(ua_read_request(TEXT("ns=2;i=2"), moment, 5, TEXT("ns=1;s=" LONG "\nns=1;s=Pump\ni=9"), TEXT(""), REQUEST), "read");
+    say_text("lines", ua_response_text(TEXT("ns=1;s=" LONG "\nns=1;s=Pump\ni=9"), reply, reply_count, INTO, &code));
+    ask(ua_write_request(TEXT("ns=2;i=2"), moment, 6, TEXT("ns=1;s=" LONG), TEXT("String"), TEXT(LONG "b"), REQUEST), "write");
+    say_text("lines", ua_response_text(TEXT("ns=1;s=" LONG), reply, reply_count, INTO, &code));
+}
+
+/* A reply that is given up, a stream that the server refuses, and what the client says of that. */
+static void fail(void) {
+    size_t taken, waiting;
+    uint32_t status;
+    check(ua_server_next_connection(&server, 3), "next_connection");
+    open_with(&small, url);
+    ask(ua_get_endpoints_request(TEXT(url), moment, 2, REQUEST), "get_endpoints");
+    status = ua_server_step(&server, TEXT("HEXF8888"), moment, &taken, &waiting, &code);
+    printf("step %u took %zu code %08X\n", (unsigned)status, taken, (unsigned)code);
+    down_count = 0;
+    fetch(&server, down, &down_count);
+    say_digits("waited", down, down_count);
+    status = ua_client_take(&client, down, down_count, moment, &taken, &event, &id, &code);
+    printf("take %u took %zu event %u code %08X\n", (unsigned)status, taken, (unsigned)event, (unsigned)code);
+}
+
+/* Calls without a handle. */
+static void make(void) {
+    check(ua_read_request(TEXT("ns=2;i=1"), moment, 5, TEXT("ns=1;s=Pump\ni=9999"), TEXT("1:9"), REQUEST), "read");
+    say_digits("read", request, request_count);
+    check(ua_close_session_request(TEXT("ns=2;s=" LONG), moment, 6, REQUEST), "close_session");
+    say_digits("close_session", request, request_count);
+    check(ua_encode_value(TEXT("Int32"), TEXT("6"), INTO), "encode");
+    say_digits("encode", text, text_count);
+    check(ua_encode_value(TEXT("Int32[]"), TEXT("10,20"), INTO), "encode");
+    say_digits("encode", text, text_count);
+    check(ua_encode_value(TEXT("ByteString"), TEXT("3q2+7w=="), INTO), "encode");
+    say_digits("encode", text, text_count);
+    check(ua_encode_value(TEXT("String[]"), TEXT("a," LONG), REQUEST), "encode");
+    say_digits("encode", request, request_count);
+    say_text("decode", ua_decode_value(request, request_count, INTO));
+    say_text("decode", ua_decode_value((const uint8_t *)"\x06\x06\0\0\0", 5, INTO));
+}
+
+int main(int count, char **words) {
+    if (count != 3)
+        return 2;
+    converse(words);
+    go_on();
+    fail();
+    make();
+    ua_free(&client);
+    ua_free(&server);
+    return 0;
+}
