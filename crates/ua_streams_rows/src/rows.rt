@@ -113,6 +113,7 @@ impl Rows {
             "take" | "pieces" => self.take(kind, words, told),
             "number"
             | "reply"
+            | "take-once"
             | "state"
             | "end"
             | "ask"

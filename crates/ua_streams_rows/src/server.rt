@@ -64,12 +64,28 @@ fn tell_fault(given: &Given, fault: ChannelFault, told: &mut Told) {
 pub fn step(given: &Given, channel: &mut ServerChannel, kind: &str, words: &str, told: &mut Told) {
     match kind {
         "reply" => reply(given, channel, words, told),
+        "take-once" => take_once(given, channel, words, told),
         "state" => state(channel, told),
         "end" => {
             channel.end();
             state(channel, told);
         }
         _ => told.fail("no row"),
+    }
+}
+
+/// What comes of one call of `take`, and how many octets it took; at a refusal it does not say.
+fn take_once(given: &Given, channel: &mut ServerChannel, words: &str, told: &mut Told) {
+    let octets = given.octets(words, told);
+    match channel.take(octets.as_slice(), given.moment) {
+        Ok((taken, event)) => {
+            if let Goes::On = tell_event(given, event, told) {
+                told.event("waits");
+            }
+            told.event("took");
+            told.shown(&taken);
+        }
+        Err(fault) => tell_fault(given, fault, told),
     }
 }
 
