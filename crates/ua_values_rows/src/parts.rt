@@ -6,11 +6,11 @@ ghost use Rattle.std.specs.List.{concat};
 use crate::fault::Fault;
 use crate::messages::body_text;
 use crate::octets::{number_of, octets_of};
-use crate::requests::fault_text;
+use crate::requests::{fault_text, is_same, skipped_text};
 use bytes::Bytes;
 use std::alloc::{AllocError, Global};
 use ua_builtin::{Parts, Source};
-use ua_services::read_request;
+use ua_services::{read_request, skip_request};
 
 /// What is printed of a request that came in two parts, the first of so many octets.
 pub fn two_parts(alloc: Global, words: &str) -> Result<String, Fault> {
@@ -58,8 +58,12 @@ fn parts_text(alloc: Global, parts: &[Bytes], octets: &[u8]) -> Result<String, F
 {
     let mut src = Parts::new(parts);
     let count = src.left();
+    let skipped = skip_request(alloc, &mut Parts::new(parts));
     let answer = read_request(alloc, &mut src);
     let left = src.left();
+    if !is_same(&answer, skipped) {
+        return skipped_text(alloc, skipped);
+    }
     let text = match answer {
         Ok(request) => body_text(alloc, request, octets)?,
         Err(fault) => fault_text(alloc, fault)?,

@@ -9,7 +9,7 @@ use ua_builtin::{DateTime, Identifier, NodeId, Octets, UaString, WriteFault};
 use ua_services::{
     ActivateSessionRequest, CloseSessionRequest, CreateSessionRequest, GetEndpointsRequest,
     ReadRequest, ReadValueId, Request, RequestFault, RequestHeader, RequestKind, WriteRequest,
-    WriteValue, read_request, write_request,
+    WriteValue, read_request, skip_request, write_request,
 };
 use ua_variant::{DataValue, HeldVariant, Variant};
 
@@ -107,12 +107,45 @@ pub fn kind_name(kind: RequestKind) -> &'static str {
 }
 
 /// What is printed of a request: its kind, its handle, its fields, and what is written for it; or
-/// its fault.
+/// its fault. Passing over it has to come to the same, else just what that comes to is printed.
 pub fn request(alloc: Global, words: &str) -> Result<String, Fault> {
     let octets = octets_of(alloc, words)?;
-    match read_request(alloc, &mut Octets::new(octets.as_slice())) {
+    let skipped = skip_request(alloc, &mut Octets::new(octets.as_slice()));
+    let read = read_request(alloc, &mut Octets::new(octets.as_slice()));
+    if !is_same(&read, skipped) {
+        return skipped_text(alloc, skipped);
+    }
+    match read {
         Ok(request) => message_text(alloc, request, octets.as_slice()),
         Err(fault) => fault_text(alloc, fault),
+    }
+}
+
+/// Whether passing over a request came to the same as reading it.
+pub fn is_same(
+    read: &Result<Request, RequestFault>,
+    skipped: Result<RequestKind, RequestFault>,
+) -> bool {
+    match read {
+        Ok(request) => skipped == Ok(request.kind()),
+        Err(fault) => skipped == Err(*fault),
+    }
+}
+
+/// What is printed where passing over a request comes to something else than reading it.
+pub fn skipped_text(
+    alloc: Global,
+    skipped: Result<RequestKind, RequestFault>,
+) -> Result<String, Fault> {
+    match skipped {
+        Ok(kind) => {
+            let name = kind_name(kind);
+            Ok(format!(in alloc; "skipped {name}")?)
+        }
+        Err(fault) => {
+            let text = fault_text(alloc, fault)?;
+            Ok(format!(in alloc; "skipped {text}")?)
+        }
     }
 }
 
