@@ -2,9 +2,10 @@
 use Rattle.std.specs.Prelude.{◌≡◌, ◌++◌, ◌+◌, ◌<◌, ℕ, List, [], cond, nat_eq, length, take, Option, Some, None, Result, Ok, Err}
 use Rattle.ua_channel.specs.declared.line.LineFault.{LineFault}
 
--- the octets of a line that tells them: those to come, and those written so far
+-- the octets of a line that tells them: those to come once these octets more are written to it, whether they answer what is written or not;
+-- and those written so far
 pub record Traffic : Type 0 where
-  pub coming : List ℕ
+  pub coming : List ℕ → List ℕ
   pub written : List ℕ
 
 -- ---- failures
@@ -24,14 +25,16 @@ failures_after before (Err fault) = one_more before
 
 -- ---- octets
 
--- what a read did: it handed out the next octets, and none into a buffer with room only where none are to come; a failure moved nothing
+-- what a read did: it handed out the next octets, whatever more is written, and none into a buffer with room only where none are to come
+-- before more is written; a failure moved nothing
 abbrev pub Hands : Result ℕ LineFault → List ℕ → Traffic → Traffic → Type 0
-Hands (Ok n) buffer before after = (before.coming ≡ take n buffer ++ after.coming) × (after.written ≡ before.written) × (n ≡ 0 → 0 < length buffer → before.coming ≡ [])
+Hands (Ok n) buffer before after = ((more : List ℕ) → before.coming more ≡ take n buffer ++ after.coming more) × (after.written ≡ before.written) × (n ≡ 0 → 0 < length buffer → before.coming [] ≡ [])
 Hands (Err fault) buffer before after = after ≡ before
 
--- what a write did: it took the first of the octets offered; a failure moved nothing
+-- what a write did: it took the first of the octets offered, and what is to come is what was to come once they are written; a failure moved
+-- nothing
 abbrev pub Takes : Result ℕ LineFault → List ℕ → Traffic → Traffic → Type 0
-Takes (Ok n) octets before after = (after.written ≡ before.written ++ take n octets) × (after.coming ≡ before.coming)
+Takes (Ok n) octets before after = (after.written ≡ before.written ++ take n octets) × ((more : List ℕ) → after.coming more ≡ before.coming (take n octets ++ more))
 Takes (Err fault) octets before after = after ≡ before
 
 -- a line that told its octets goes on telling them, and this is what became of them; of a line that does not, nothing is said

@@ -9,9 +9,18 @@ pub record Pace : Type 0 where
   pub limits : List ℕ
   pub fails : Option ℕ
 
+-- the octets of a line over memory: those to come, whatever is written to it, and those written so far
+pub record Stored : Type 0 where
+  pub coming : List ℕ
+  pub written : List ℕ
+
+-- as those of any line
+abbrev pub traffic_of : Stored → Traffic
+traffic_of s = record { coming = λ (more : List ℕ). s.coming; written = s.written }
+
 -- a line over memory: its octets, its failures so far, and the paces of its reads and of its writes
 pub record Memory : Type 0 where
-  pub traffic : Traffic
+  pub traffic : Stored
   pub failures : ℕ
   pub reads : Pace
   pub writes : Pace

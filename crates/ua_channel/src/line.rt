@@ -18,14 +18,14 @@ pub enum LineFault {
 /// A call that fails moves no octets, and the line may be used again. What a line says of its octets
 /// holds where it tells them; a socket does not tell them.
 pub trait Line {
-    /// The octets to come and those written so far, where the line tells them.
+    /// The octets to come, by what else is written, and those written so far, where the line tells them.
     ghost traffic: { Self → Option Traffic };
 
     /// How many calls failed so far, from the greatest number of 64 bits on again from 0.
     ghost failures: { Self → ℕ };
 
     /// Hands out the next octets, as many as it likes up to the length of the buffer, and answers
-    /// how many. None into a buffer with room is the end: no octets are to come.
+    /// how many. None into a buffer with room is the end: no octets are to come unless more is written.
     fn read(&mut self, buffer: &mut [u8]) -> Result<usize, LineFault>
         ensures within { IfOk result (λ n. n ≤ length buffer.new) }
         ensures failed { failures self.new ≡ failures_after (failures self.old) result }

@@ -2,7 +2,7 @@
 
 ghost use Rattle.std.specs.Prelude.{◌≡◌, ◌≤◌, ◌<◌, ◌++◌, ℕ, List, [], Some, Option, length, drop, take, min, IfOk, Ok, option_map};
 ghost use Rattle.ua_channel.specs.Line.{Traffic, Hands, Takes, WhereTold, failures_after};
-ghost use Rattle.ua_channel.specs.MemoryLine.{Pace as Calls, Memory, moves, after_call};
+ghost use Rattle.ua_channel.specs.MemoryLine.{Pace as Calls, Memory, moves, after_call, traffic_of};
 
 use crate::line::{Line, LineFault};
 use std::alloc::Global;
@@ -110,14 +110,14 @@ impl MemoryLine {
 }
 
 impl Line for MemoryLine {
-    ghost traffic = { λ l. Some l.traffic };
+    ghost traffic = { λ l. Some (traffic_of l.traffic) };
 
     ghost failures = { λ l. l.failures };
 
     fn read(&mut self, buffer: &mut [u8]) -> Result<usize, LineFault>
         ensures within { IfOk result (λ n. n ≤ length buffer.new) }
         ensures failed { self.new.failures ≡ failures_after self.old.failures result }
-        ensures octets { Hands result buffer.new self.old.traffic self.new.traffic }
+        ensures octets { Hands result buffer.new (traffic_of self.old.traffic) (traffic_of self.new.traffic) }
         ensures paced { result ≡ moves self.old.reads (min (length self.old.traffic.coming) (length buffer.old)) }
         ensures reads { self.new.reads ≡ after_call self.old.reads }
         ensures writes { self.new.writes ≡ self.old.writes }
@@ -141,7 +141,7 @@ impl Line for MemoryLine {
         ensures within { IfOk result (λ n. n ≤ length octets.now) }
         ensures some { 0 < length octets.now → IfOk result (λ n. 0 < n) }
         ensures failed { self.new.failures ≡ failures_after self.old.failures result }
-        ensures octets { Takes result octets.now self.old.traffic self.new.traffic }
+        ensures octets { Takes result octets.now (traffic_of self.old.traffic) (traffic_of self.new.traffic) }
         ensures paced { IfOk result (λ n. Ok n ≡ moves self.old.writes (length octets.now)) }
         ensures writes { self.new.writes ≡ after_call self.old.writes }
         ensures reads { self.new.reads ≡ self.old.reads }

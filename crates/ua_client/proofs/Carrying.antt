@@ -12,11 +12,11 @@ use Rattle.ua_client.specs.Carried.{Carries, WritesFront, IsAtEnd}
 
 pub carried-nothing : (t : Option Traffic) → WhereTold (Carries [] []) t t
 carried-nothing None = refl
-carried-nothing (Some t) = record { coming = refl; written = sym (append-nil t.written) }
+carried-nothing (Some t) = record { coming = λ rest. refl; written = sym (append-nil t.written) }
 
 pub carried-then : (got sent more out : List ℕ) (a b c : Option Traffic) → WhereTold (Carries got sent) a b → WhereTold (Carries more out) b c → WhereTold (Carries (got ++ more) (sent ++ out)) a c
 carried-then got sent more out (Some a) (Some b) (Some c) h k = record {
-  coming = h.coming ∙ (ap (λ (t : List ℕ). got ++ t) k.coming ∙ sym (append_assoc got more c.coming));
+  coming = λ rest. ap a.coming (append_assoc sent out rest) ∙ (h.coming (out ++ rest) ∙ (ap (λ (t : List ℕ). got ++ t) (k.coming rest) ∙ sym (append_assoc got more (c.coming rest))));
   written = k.written ∙ (ap (λ (t : List ℕ). t ++ out) h.written ∙ append_assoc a.written sent out);
 }
 carried-then got sent more out (Some a) (Some b) None h k = absurd k
@@ -31,7 +31,7 @@ carried-as got sent got' sent' a b p q h = subst (λ (s : List ℕ). WhereTold (
 -- ---- calls of a line
 
 pub wrote : (octets : List ℕ) (n : ℕ) (a b : Option Traffic) → WhereTold (Takes (Ok n) octets) a b → WhereTold (Carries [] (take n octets)) a b
-wrote octets n (Some a) (Some b) h = record { coming = sym h.1; written = h.0 }
+wrote octets n (Some a) (Some b) h = record { coming = λ rest. sym (h.1 rest); written = h.0 }
 wrote octets n (Some a) None h = absurd h
 wrote octets n None b h = h
 
@@ -47,8 +47,8 @@ had-read buffer n None b h = h
 
 pub read-end : (buffer : List ℕ) (n : ℕ) (a b : Option Traffic) → WhereTold (Hands (Ok n) buffer) a b → 0 < length buffer → n ≡ 0 → IsAtEnd b
 read-end buffer n (Some a) (Some b) h room none =
-    let all : a.coming ≡ [] = h.2 none room in
-    sym (h.0 ∙ ap (λ (k : ℕ). take k buffer ++ b.coming) none) ∙ all
+    let all : a.coming [] ≡ [] = h.2 none room in
+    sym (h.0 [] ∙ ap (λ (k : ℕ). take k buffer ++ b.coming []) none) ∙ all
 read-end buffer n (Some a) None h room none = tt
 read-end buffer n None None h room none = tt
 read-end buffer n None (Some b) h room none = absurd cc

@@ -5,7 +5,8 @@ use Rattle.ua_channel.specs.Line.{Traffic, one_more}
 
 -- these octets were read and these were written, between two moments
 pub record Carries (got sent : List ℕ) (before after : Traffic) : Type 0 where
-  pub coming : before.coming ≡ got ++ after.coming
+  -- whatever more is written
+  pub coming : (more : List ℕ) → before.coming (sent ++ more) ≡ got ++ after.coming more
   pub written : after.written ≡ before.written ++ sent
 
 -- nothing was read, and a beginning of these octets was written
@@ -19,10 +20,10 @@ abbrev pub Writes : {A E : Type 0} → Result A E → List ℕ → Traffic → T
 Writes (Ok found) octets before after = Carries [] octets before after
 Writes (Err fault) octets before after = WritesFront octets before after
 
--- a line that tells its octets has none to come
+-- a line that tells its octets has none to come before more is written
 abbrev pub IsAtEnd : Option Traffic → Type 0
 IsAtEnd None = Unit {0}
-IsAtEnd (Some traffic) = traffic.coming ≡ []
+IsAtEnd (Some traffic) = traffic.coming [] ≡ []
 
 -- the count of a line's failures behind a call that fails where the line does
 abbrev pub counted_by : {A E : Type 0} → ℕ → Result A E → ℕ

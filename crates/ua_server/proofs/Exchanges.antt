@@ -11,7 +11,7 @@ use Rattle.ua_server.specs.ServingParts.{Exchanged}
 
 moves-then : (r s r' s' : List ℕ) (a b c : Traffic) → Moves r s a b → Moves r' s' b c → Moves (r ++ r') (s ++ s') a c
 moves-then r s r' s' a b c m n = (
-  m.0 ∙ (ap (λ (x : List ℕ). r ++ x) n.0 ∙ sym (append_assoc r r' c.coming)),
+  λ rest. ap a.coming (append_assoc s s' rest) ∙ (m.0 (s' ++ rest) ∙ (ap (λ (x : List ℕ). r ++ x) (n.0 rest) ∙ sym (append_assoc r r' (c.coming rest)))),
   n.1 ∙ (ap (λ (x : List ℕ). x ++ s') m.1 ∙ append_assoc a.written s s'),
 )
 
@@ -22,7 +22,7 @@ told-then r s r' s' (Some a) None c m n = absurd m
 told-then r s r' s' None b c m n = subst (λ (o : Option Traffic). WhereTold (Moves r' s') o c) m n
 
 pub told-nothing : (a : Option Traffic) → WhereTold (Moves [] []) a a
-told-nothing (Some t) = (refl, sym (append-nil t.written))
+told-nothing (Some t) = (λ rest. refl, sym (append-nil t.written))
 told-nothing None = refl
 
 pub gives-then : {M : Type 0} (gives : M → Event → M → Type 0) (a b c : M) (ts us : List Event) → Leads gives a ts b → Leads gives b us c → Leads gives a (ts ++ us) c
@@ -42,12 +42,12 @@ exchanged-then gives a b c r r' x y z P P' Q e f on = record {
 -- ---- one call of a line
 
 pub took : (n : ℕ) (octets : List ℕ) (a b : Option Traffic) → WhereTold (Takes (Ok n) octets) a b → WhereTold (Moves [] (take n octets)) a b
-took n octets (Some a) (Some b) t = (sym t.1, t.0)
+took n octets (Some a) (Some b) t = (λ rest. sym (t.1 rest), t.0)
 took n octets (Some a) None t = t
 took n octets None b t = t
 
 pub not-took : (f : LineFault) (octets : List ℕ) (a b : Option Traffic) → WhereTold (Takes (Err f) octets) a b → WhereTold (Moves [] []) a b
-not-took f octets (Some a) (Some b) t = (ap (λ (x : Traffic). x.coming) (sym t), ap (λ (x : Traffic). x.written) t ∙ sym (append-nil a.written))
+not-took f octets (Some a) (Some b) t = (λ rest. ap (λ (x : Traffic). x.coming rest) (sym t), ap (λ (x : Traffic). x.written) t ∙ sym (append-nil a.written))
 not-took f octets (Some a) None t = t
 not-took f octets None b t = t
 

@@ -222,7 +222,7 @@ module _ (limits : Limits) (channel : ℕ) (first : State) where
 
     -- what is exchanged with a line that tells its octets is served
     pub served : (m : M × W) (read : List ℕ) (la lb : Option Traffic) (result : Result Ending ServeFault) (now : State) (P : List ℕ → List Event → Type 0) → Exchanged step m0 m read la lb P
-        → ((b : Traffic) (w : List ℕ) (ts : List Event) → lb ≡ Some b → P w ts → ComesTo result read w ts now b.coming)
+        → ((b : Traffic) (w : List ℕ) (ts : List Event) → lb ≡ Some b → P w ts → ComesTo result read w ts now (b.coming []))
         → WhereTold (ServesTelling limits channel gives notes first m0 result now m) la lb
     served m read (Some a) (Some b) result now P e by =
         let to = by b e.written e.ticks refl e.holds in
@@ -236,14 +236,14 @@ module _ (limits : Limits) (channel : ℕ) (first : State) where
     handed n buffer None b h = h
 
     not-handed : (f : LineFault) (buffer : List ℕ) (a b : Option Traffic) → WhereTold (Hands (Err f) buffer) a b → WhereTold (Moves [] []) a b
-    not-handed f buffer (Some a) (Some b) h = (ap (λ (t : Traffic). t.coming) (sym h), ap (λ (t : Traffic). t.written) h ∙ sym (append-nil a.written))
+    not-handed f buffer (Some a) (Some b) h = (λ rest. ap (λ (t : Traffic). t.coming rest) (sym h), ap (λ (t : Traffic). t.written) h ∙ sym (append-nil a.written))
     not-handed f buffer (Some a) None h = h
     not-handed f buffer None b h = h
 
-    ended : (n : ℕ) (buffer : List ℕ) (a b : Option Traffic) (t : Traffic) → WhereTold (Hands (Ok n) buffer) a b → n ≡ 0 → 0 < length buffer → b ≡ Some t → t.coming ≡ []
+    ended : (n : ℕ) (buffer : List ℕ) (a b : Option Traffic) (t : Traffic) → WhereTold (Hands (Ok n) buffer) a b → n ≡ 0 → 0 < length buffer → b ≡ Some t → t.coming [] ≡ []
     ended n buffer (Some a) (Some b) t h zero room is =
         let same : b ≡ t = cc in
-        sym (ap (λ (s : Traffic). s.coming) same) ∙ (sym (ap (λ (k : ℕ). take k buffer ++ b.coming) zero) ∙ (sym h.0 ∙ h.2 zero room))
+        sym (ap (λ (s : Traffic). s.coming []) same) ∙ (sym (ap (λ (k : ℕ). take k buffer ++ b.coming []) zero) ∙ (sym (h.0 []) ∙ h.2 zero room))
     ended n buffer (Some a) None t h zero room is = absurd h
     ended n buffer None b t h zero room is = let none : ◌≡◌ {A = Option Traffic} None (Some t) = sym h ∙ is in absurd cc
 
@@ -288,7 +288,7 @@ module _ (limits : Limits) (channel : ℕ) (first : State) where
         served m s.read la lc (Ok end) now (λ written ts. Keeps x limits channel first s.read written ts now)
         (subst (λ (r : List ℕ). Exchanged step m0 m r la lc (λ written ts. Keeps x limits channel first s.read written ts now)) (ap (λ (k : ℕ). s.read ++ take k buffer) zero ∙ append-nil s.read)
         (read-on la lb lc reads m x now n buffer s (handed n buffer lb lc h)))
-        (λ b w ts is k. finished x end s.read w ts now b.coming k by (ended n buffer lb lc b h zero room is))
+        (λ b w ts is k. finished x end s.read w ts now (b.coming []) k by (ended n buffer lb lc b h zero room is))
 
     pub read-too-long : (la lb : Option Traffic) (reads : ℕ) (m : M × W) (x : Serving) (now : State) → greatest ≤ reads → Served la reads m lb x now → WhereTold (ServesTelling limits channel gives notes first m0 (Err fault.TooLong) now m) la lb
     read-too-long la lb reads m x now h s =
@@ -331,13 +331,13 @@ module _ (limits : Limits) (channel : ℕ) (first : State) where
           → WhereTold (ServesTelling limits channel gives notes first m0 (Ok end) now' m') la ld
       served-end end f =
           served m' (s.read ++ take n buffer) la ld (Ok end) now' (λ written ts. EndsTelling end limits channel first (s.read ++ take n buffer) written ts now') (handles-on (Ok (Some end)) f)
-          (λ b w ts is k. ends-serves end (s.read ++ take n buffer) w ts now' b.coming k)
+          (λ b w ts is k. ends-serves end (s.read ++ take n buffer) w ts now' (b.coming []) k)
 
       pub served-fault : (f : ServeFault) → Exchanged step m m' [] lc ld (λ more ts. Handles (Err f) y limits channel first (s.read ++ take n buffer) (s.exchanged.written ++ more) (s.exchanged.ticks ++ ts) now')
           → WhereTold (ServesTelling limits channel gives notes first m0 (Err f) now' m') la ld
       served-fault f e =
           served m' (s.read ++ take n buffer) la ld (Err f) now' (λ written ts. FailsTelling f limits channel first (s.read ++ take n buffer) written ts now') (handles-on (Err f) e)
-          (λ b w ts is k. fails-serves f (s.read ++ take n buffer) w ts now' b.coming k)
+          (λ b w ts is k. fails-serves f (s.read ++ take n buffer) w ts now' (b.coming []) k)
 
 -- less of a piece is left behind a turn
 pub turns-fewer : (piece : List ℕ) (taken n : ℕ) → taken < length piece → n ≤ length (rest_of piece taken) → (0 < length (rest_of piece taken) → 0 < n) → length piece - (taken + n) < length piece - taken

@@ -188,9 +188,9 @@ TellsBy (Err fault.TooLong) limits channel first read written moments now coming
 
 -- ---- by the line
 
--- a line moved octets: those read were to come before those that still are, and those written stand behind those written before
+-- a line moved octets: those read were to come before those that still are, once those written are, and these stand behind those written before
 abbrev pub Moves : List ℕ → List ℕ → Traffic → Traffic → Type 0
-Moves read written before after = (before.coming ≡ read ++ after.coming) × (after.written ≡ before.written ++ written)
+Moves read written before after = ((more : List ℕ) → before.coming (written ++ more) ≡ read ++ after.coming more) × (after.written ≡ before.written ++ written)
 
 -- a line that tells its octets was served from this state on: octets were read and written, and moments were given in turn
 pub record Serves {M : Type 0} (limits : Limits) (channel : ℕ) (gives : M → ℤ → M → Type 0) (first : State) (moments : M) (result : Result Ending ServeFault) (now : State) (later : M) (before after : Traffic) : Type 0 where
@@ -199,7 +199,7 @@ pub record Serves {M : Type 0} (limits : Limits) (channel : ℕ) (gives : M → 
   pub ticks : List ℤ
   pub moved : Moves read written before after
   pub given : Gives gives moments ticks later
-  pub comes_to : ServesBy result limits channel first read written (map moment_of ticks) now after.coming
+  pub comes_to : ServesBy result limits channel first read written (map moment_of ticks) now (after.coming [])
 
 -- the same with who is told of requests: moments were given and requests told in turn
 pub record ServesTelling {M W : Type 0} (limits : Limits) (channel : ℕ) (gives : M → ℤ → M → Type 0) (notes : W → AnsweredRequest → W → Type 0) (first : State) (beside : M × W) (result : Result Ending ServeFault) (now : State) (later : M × W) (before after : Traffic) : Type 0 where
@@ -208,8 +208,8 @@ pub record ServesTelling {M W : Type 0} (limits : Limits) (channel : ℕ) (gives
   pub happened : List Event
   pub moved : Moves read written before after
   pub led : Leads (Happens gives notes) beside happened later
-  pub comes_to : ServesBy result limits channel first read written (moments_in happened) now after.coming
-  pub tells : TellsBy result limits channel first read written (moments_in happened) now after.coming comes_to (noted_in happened)
+  pub comes_to : ServesBy result limits channel first read written (moments_in happened) now (after.coming [])
+  pub tells : TellsBy result limits channel first read written (moments_in happened) now (after.coming []) comes_to (noted_in happened)
 
 -- the count of failures of a line after a call: it moved on by one where the line is named as failing, and nowhere else
 abbrev pub LineFailed : {A : Type 0} → ℕ → Result A ServeFault → ℕ → Type 0

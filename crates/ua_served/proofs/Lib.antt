@@ -1,0 +1,7 @@
+mod Further
+mod Saying
+mod Stepped
+mod Pieces
+mod Lines
+mod Courses
+mod Reaching

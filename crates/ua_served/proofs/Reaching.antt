@@ -1,0 +1,163 @@
+-- That what a client over a line sends is what a server reads.
+use Rattle.std.proofs.Common.{◌≡◌, ℕ, ◌+◌, ◌<◌, ◌≤◌, ◌^◌, Bool, true, false, not, leb, IsTrue, List, [], ◌∷◌, ◌++◌, Option, Some, None, length, refl, sym, ◌∙◌, ap, subst, arith, append-nil, append_assoc}
+use Rattle.std.specs.Prelude.{if◌then◌else◌}
+use Rattle.std.proofs.lemmas.Bool.{leb-false, not-false}
+use Rattle.ua_builtin.specs.DateTime.{date_time}
+use Rattle.ua_builtin.specs.Reasons.{first_reason}
+use Rattle.ua_builtin.specs.declared.date_time.DateTime.{DateTime}
+use Rattle.ua_frame.specs.Agreement.{url_length}
+use Rattle.ua_frame.specs.Frames.{frame_octets}
+use Rattle.ua_frame.specs.Messages.{hello}
+use Rattle.ua_frame.specs.Run.{Going}
+use Rattle.ua_frame.specs.declared.ack.Ack.{Ack}
+use Rattle.ua_frame.specs.declared.limits.Limits.{Limits}
+use Rattle.ua_frame.proofs.Unique.{unique}
+use Rattle.ua_chunk.specs.Cutting.{chunks_octets, chunks_of}
+use Rattle.ua_chunk.specs.declared.lane.Lane.{Lane}
+use Rattle.ua_channel.specs.Agreement.{agreement_of}
+use Rattle.ua_channel.specs.Client.{limits_of, rules_of}
+use Rattle.ua_channel.specs.ClientAsks.{is_too_large, most_tokens, no_id, room_of}
+use Rattle.ua_channel.specs.ClientReads.{AtClient, ClientReads, lane_from}
+use Rattle.ua_channel.specs.ClientSends.{close_frame, hello_frame, hello_to, renewal_frame}
+use Rattle.ua_channel.specs.ClientTokens.{channel_in, held_tokens, responses}
+use Rattle.ua_channel.specs.Received.{Received, latest, received}
+use Rattle.ua_channel.specs.ServerReads.{AtServer, IsBodyFor, IsLaneTo, ServerCloses, ServerReads, greeted_at, with_message, with_token}
+use Rattle.ua_channel.specs.ServerTold.{Told, Agreed, Opened, Asked, Closed}
+use Rattle.ua_channel.specs.declared.client.channel.ClientChannel.{ClientChannel}
+use Rattle.ua_channel.proofs.InStep.{body_for, lane_to}
+use Rattle.ua_channel.proofs.ServerReading.{reads_close, reads_first, reads_hello, reads_message, reads_renewal}
+use Rattle.ua_services.proofs.RequestLawful.{lawful_request}
+use Rattle.ua_services.specs.Request.{request}
+use Rattle.ua_services.specs.declared.request.Request.{Request}
+use Rattle.ua_client.specs.Calls.{refusal_at, sent_at}
+use Rattle.ua_client.specs.Client.{closing_at, closing_by}
+use Rattle.ua_client.specs.Renewing.{renewal_at, renewal_by, renewal_refusal}
+use Rattle.ua_client.specs.Sent.{bodies_of, calls_octets, group_reasons, numbers_behind}
+use Rattle.ua_client.specs.Site.{Site, At, id_at, lane_behind, lane_by}
+use Rattle.ua_served.specs.Course.{opening_octets}
+use Rattle.ua_served.specs.Together.{AreTogether, behind_calls, calls_told}
+
+-- ---- where a client stands
+
+module _ (x : ClientChannel) (s : Site) (c : AtClient) (at : At x s) (r : ClientReads (limits_of x) s.asks s.octets s.told c) where
+  before_is : s.before ≡ received r.frames
+  before_is = sym at.before_is ∙ ap received (unique (rules_of x s.asks) s.octets at.goes.frames r.frames at.goes.rest [] Going Going at.goes.stands.run r.run).frames
+
+  -- it has what the server acknowledged
+  pub acked_here : s.before.ack ≡ Some c.ack
+  acked_here = ap (λ (b : Received). b.ack) before_is ∙ r.ack_is
+
+  -- and its calls go out in this lane
+  pub lane_here : lane_behind s.before ≡ Some (lane_from c)
+  lane_here =
+      ap lane_behind before_is
+      ∙ (ap (λ (a : Option Ack). lane_by a (channel_in (responses (received r.frames).openings)) (latest (held_tokens (received r.frames)))) r.ack_is
+      ∙ (ap (λ (n : Option ℕ). lane_by (Some c.ack) n (latest (held_tokens (received r.frames)))) r.channel_is
+      ∙ ap (λ (k : Option ℕ). lane_by (Some c.ack) (Some c.channel) k) (ap latest r.tokens_are ∙ r.newest_is)))
+
+-- ---- what is not refused
+
+none_parts : {A : Type 0} (b : Bool) (x : A) (o : Option A) → (if b then Some x else o) ≡ None → (b ≡ false) × (o ≡ None)
+none_parts true x o e = absurd cc
+none_parts false x o e = (refl, e)
+
+some_octets : (m : Request) (b : List ℕ) → request.encodes m b → 0 < length b
+some_octets m [] h = absurd (lawful_request.starts m h)
+some_octets m (x ∷ b) h = omega arith
+
+-- requests that are asked under request ids from this one on, of a server that sent this ACK
+abbrev AreAsked : Ack → ℕ → List Request → Type 0
+AreAsked a id [] = Unit {0}
+AreAsked a id (m ∷ ms) = (id < no_id) × (0 < length (request.canonical m)) × (is_too_large a (request.canonical m) ≡ false) × AreAsked a (id + 1) ms
+
+not_refused : (a : Ack) (id : ℕ) (ms : List Request) → first_reason (group_reasons (Some a) id ms) ≡ None → AreAsked a id ms
+not_refused a id [] h = tt
+not_refused a id (m ∷ ms) h =
+    let one = none_parts (not (request.encodable m)) _ _ h in
+    let two = none_parts (leb no_id id) _ _ one.1 in
+    let three = none_parts (is_too_large a (request.canonical m)) _ _ two.1 in
+    (leb-false no_id id two.0, some_octets m (request.canonical m) (lawful_request.canonical_encodes m (not-false (request.encodable m) one.0)), three.0, not_refused a (id + 1) ms three.1)
+
+not_exhausted : (s : Site) → renewal_refusal s ≡ None → id_at s < no_id
+not_exhausted s h =
+    let one = none_parts (leb most_tokens (length (held_tokens s.before))) _ _ h in
+    let two = none_parts (leb no_id (id_at s)) _ _ one.1 in
+    leb-false no_id (id_at s) two.0
+
+-- ---- calls, one behind the other
+
+module _ (limits client : Limits) (url : Option (List ℕ)) (channel : ℕ) (on : channel < 2 ^ 32) (c : AtClient) where
+  -- a lane to a server is one behind a message in it, too
+  lane_stays : (s : AtServer) (body : List ℕ) → IsLaneTo limits channel s (lane_from c) → IsLaneTo limits channel (with_message s (lane_from c) body) (lane_from c)
+  lane_stays s body to = record { on = to.on; taken = record { not_before = omega arith; issued = to.taken.issued }; some = to.some; fits = to.fits }
+
+  calls_read : (octets : List ℕ) (told : List Told) (s : AtServer) (id : ℕ) (ms : List Request) → ((body : List ℕ) → 0 < length body → is_too_large c.ack body ≡ false → IsBodyFor limits (room_of c.ack) body)
+      → ServerReads limits channel octets told s → IsLaneTo limits channel s (lane_from c) → AreAsked c.ack id ms
+      → ServerReads limits channel (octets ++ calls_octets (Some (lane_from c)) s.next id (bodies_of ms)) (told ++ calls_told (lane_from c) id (bodies_of ms)) (behind_calls s (lane_from c) (bodies_of ms))
+  calls_read octets told s id [] fit r to asked =
+      subst (λ (o : List ℕ). ServerReads limits channel o (told ++ []) s) (sym (append-nil octets)) (subst (λ (t : List Told). ServerReads limits channel octets t s) (sym (append-nil told)) r)
+  calls_read octets told s id (m ∷ ms) fit r to asked =
+      let body : List ℕ = request.canonical m in
+      let lane : Lane = lane_from c in
+      let now : AtServer = with_message s lane body in
+      let chunks : List ℕ = chunks_octets (chunks_of lane body s.next id) in
+      let others : List ℕ = calls_octets (Some lane) now.next (id + 1) (bodies_of ms) in
+      let later : List Told = calls_told lane (id + 1) (bodies_of ms) in
+      let one : ServerReads limits channel (octets ++ chunks) (told ++ Asked id lane.token body ∷ []) now =
+      reads_message limits channel octets told s lane body id on (omega (arith, asked.0)) r to (fit body asked.1 asked.2) in
+      subst (λ (o : List ℕ). ServerReads limits channel o (told ++ (Asked id lane.token body ∷ later)) (behind_calls now lane (bodies_of ms))) (append_assoc octets chunks others)
+      (subst (λ (t : List Told). ServerReads limits channel ((octets ++ chunks) ++ others) t (behind_calls now lane (bodies_of ms))) (append_assoc told (Asked id lane.token body ∷ []) later)
+      (calls_read (octets ++ chunks) (told ++ Asked id lane.token body ∷ []) now (id + 1) ms fit one (lane_stays s body to) asked.3))
+
+-- the number behind them
+pub calls_counted : (s : AtServer) (lane : Lane) (bodies : List (List ℕ)) → numbers_behind (Some lane) s.next bodies ≡ (behind_calls s lane bodies).next
+calls_counted s lane [] = refl
+calls_counted s lane (body ∷ bodies) = calls_counted (with_message s lane body) lane bodies
+
+-- ---- turns
+
+-- the HEL and the OPN
+pub opening_read : (limits : Limits) (channel : ℕ) (client : Limits) (url : Option (List ℕ)) (moment : DateTime) → IsTrue (hello.encodable (hello_to client url)) → url_length url ≤ 4095 → IsTrue (date_time.encodable moment)
+    → ServerReads limits channel (opening_octets client url moment) (Agreed (agreement_of limits (hello_to client url)) ∷ (Opened 1 0 1 3600000 ∷ [])) (with_token (greeted_at (hello_to client url)))
+opening_read limits channel client url moment fits short dated =
+    reads_first limits channel (frame_octets (hello_frame (hello_to client url))) (Agreed (agreement_of limits (hello_to client url)) ∷ []) (greeted_at (hello_to client url)) moment
+    (reads_hello limits channel client url fits short) refl refl dated
+
+module _ (limits : Limits) (url : Option (List ℕ)) (channel : ℕ) (octets : List ℕ) (told : List Told) (s : AtServer) (x : ClientChannel) (site : Site) (c : AtClient) (on : channel < 2 ^ 32) (t : AreTogether limits url channel octets told s x site c) where
+  -- requests
+  pub requests_read : (requests : List Request) → refusal_at site requests ≡ None
+      → ServerReads limits channel (octets ++ sent_at site requests) (told ++ calls_told (lane_from c) (id_at site) (bodies_of requests)) (behind_calls s (lane_from c) (bodies_of requests))
+  requests_read requests judged =
+      let asked : AreAsked c.ack (id_at site) requests =
+      not_refused c.ack (id_at site) requests (ap (λ (a : Option Ack). first_reason (group_reasons a (id_at site) requests)) (sym (acked_here x site c t.stands t.client_reads)) ∙ judged) in
+      subst (λ (o : List ℕ). ServerReads limits channel (octets ++ o) (told ++ calls_told (lane_from c) (id_at site) (bodies_of requests)) (behind_calls s (lane_from c) (bodies_of requests)))
+      (ap (λ (n : ℕ). calls_octets (Some (lane_from c)) n (id_at site) (bodies_of requests)) (sym t.number_is)
+      ∙ ap (λ (l : Option Lane). calls_octets l site.number (id_at site) (bodies_of requests)) (sym (lane_here x site c t.stands t.client_reads)))
+      (calls_read limits (limits_of x) url channel on c octets told s (id_at site) requests (body_for limits (limits_of x) url channel s c t.in_step) t.server_reads (lane_to limits (limits_of x) url channel s c t.in_step) asked)
+
+  -- and the number behind them
+  pub numbers_read : (requests : List Request) → numbers_behind (lane_behind site.before) site.number (bodies_of requests) ≡ (behind_calls s (lane_from c) (bodies_of requests)).next
+  numbers_read requests =
+      ap (λ (l : Option Lane). numbers_behind l site.number (bodies_of requests)) (lane_here x site c t.stands t.client_reads)
+      ∙ (ap (λ (n : ℕ). numbers_behind (Some (lane_from c)) n (bodies_of requests)) t.number_is ∙ calls_counted s (lane_from c) (bodies_of requests))
+
+  -- a renewal
+  pub renewal_read : (moment : DateTime) → renewal_refusal site ≡ None → s.issued < 4294967295 → IsTrue (date_time.encodable moment)
+      → ServerReads limits channel (octets ++ renewal_at site moment) (told ++ Opened (id_at site) 0 (s.issued + 1) 3600000 ∷ []) (with_token s)
+  renewal_read moment judged few dated =
+      let used : id_at site < no_id = not_exhausted site judged in
+      let some : 0 < s.issued = omega (arith, t.server_reads.some_used, t.in_step.taken.not_before, t.in_step.taken.issued) in
+      subst (λ (o : List ℕ). ServerReads limits channel (octets ++ o) (told ++ Opened (id_at site) 0 (s.issued + 1) 3600000 ∷ []) (with_token s))
+      (ap (λ (k : ℕ). frame_octets (renewal_frame k s.next (id_at site) moment)) (sym t.in_step.channel_is)
+      ∙ (ap (λ (n : ℕ). renewal_by (Some (lane_from c)) n (id_at site) moment) (sym t.number_is)
+      ∙ ap (λ (l : Option Lane). renewal_by l site.number (id_at site) moment) (sym (lane_here x site c t.stands t.client_reads))))
+      (reads_renewal limits channel octets told s (id_at site) moment t.server_reads some few on (omega (arith, used)) dated)
+
+  -- the CLO
+  pub closing_read : (moment : DateTime) → id_at site < 2 ^ 32 → ServerCloses limits channel (octets ++ closing_at site moment) (told ++ Closed ∷ [])
+  closing_read moment used =
+      subst (λ (o : List ℕ). ServerCloses limits channel (octets ++ o) (told ++ Closed ∷ []))
+      (ap (λ (k : ℕ). frame_octets (close_frame k c.newest s.next (id_at site) moment)) (sym t.in_step.channel_is)
+      ∙ (ap (λ (n : ℕ). closing_by (Some (lane_from c)) n (id_at site) moment) (sym t.number_is)
+      ∙ ap (λ (l : Option Lane). closing_by l site.number (id_at site) moment) (sym (lane_here x site c t.stands t.client_reads))))
+      (reads_close limits channel octets told s c.newest (id_at site) moment t.server_reads t.in_step.taken on used)

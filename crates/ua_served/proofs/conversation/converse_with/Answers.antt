@@ -1,0 +1,18 @@
+use Rattle.std.proofs.Common.{ap, subst, sym}
+use Rattle.std.specs.Prelude.{List, ℕ}
+use Rattle.ua_served.specs.Kept.{LeavesAt, Served}
+use Rattle.ua_served.specs.declared.stage.Stage.{Stage}
+use Rattle.ua_served.proofs.Courses.{conversed_on}
+use Rattle.ua_served.proofs.conversation.converse_with.Goals as goal
+
+pub returns-clause-services : goal.returns-clause-services
+returns-clause-services g c =
+    let b = g.W.Began.beginning in
+    let parts = c.into_parts-up.result in
+    subst (λ (s : Stage). LeavesAt s b parts.0.items parts.2) (sym c.stage-stage.ensures)
+    (subst (λ (u : List ℕ). LeavesAt c.talk-outcome.new.line.stage b u parts.2) (sym c.into_parts-up.ensures.up) c.into_parts-up.ensures.services)
+
+pub returns-clause-converses : goal.returns-clause-converses
+returns-clause-converses g c =
+    conversed_on c.talk-outcome.result g.W.Began.beginning c.args.limits c.args.url c.args.moment c.args.turns.now c.new-line.result c.talk-outcome.new.line c.talk-outcome.new.replies.items c.into_parts-up.result.0.items c.into_parts-up.result.1.items
+    (ap (λ (l : Served). l.up) c.new-line.ensures) (ap (λ (l : Served). l.read) c.new-line.ensures) c.talk-outcome.ensures c.into_parts-up.ensures.up c.into_parts-up.ensures.down

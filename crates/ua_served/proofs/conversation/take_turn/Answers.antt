@@ -1,0 +1,18 @@
+use Rattle.std.proofs.Common.{◌∙◌, Some, ap, refl, sym}
+use Rattle.std.specs.Prelude.{List}
+use Rattle.ua_client.specs.Client.{connection_of}
+use Rattle.ua_services.specs.declared.request.Request.{Request}
+use Rattle.ua_served.specs.Course.{asked_by}
+use Rattle.ua_served.proofs.Courses.{stays_asked, stays_renewed}
+use Rattle.ua_served.proofs.conversation.take_turn.Goals as goal
+
+pub returns-in-Ok-clause-stays : goal.returns-in-Ok-clause-stays
+returns-in-Ok-clause-stays g c = λ opening opened turns before s.
+    stays_asked c.args.moment opening opened turns (connection_of c.args.client.now) (connection_of c.call_into.new.self) before (g.L.Line.traffic c.args.line.now) (g.L.Line.traffic c.call_into.new.line)
+    c.args.replies.now.items c.call_into.new.replies.items s c.args.turn.now c.deref.result.now c.in-Ok.field-0
+    (ap asked_by c.in-Ask.is ∙ ap (λ (rs : List Request). Some rs) (sym c.deref.ensures.value)) (c.in-Ok.ensures.calls c.requires)
+
+pub returns-in-Ok-renew-clause-stays : goal.returns-in-Ok-renew-clause-stays
+returns-in-Ok-renew-clause-stays g c = λ opening opened turns before s.
+    stays_renewed c.args.moment opening opened turns (connection_of c.args.client.now) (connection_of c.renew.new.self) before (g.L.Line.traffic c.args.line.now) (g.L.Line.traffic c.renew.new.line)
+    c.args.replies.now.items c.args.replies.now.items s c.args.turn.now c.in-Ok-renew.field-0 (ap asked_by c.in-Renew.is) (c.in-Ok-renew.ensures.renews c.requires) refl

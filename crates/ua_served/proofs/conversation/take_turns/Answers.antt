@@ -1,0 +1,15 @@
+use Rattle.ua_served.proofs.Courses.{taken_all, taken_more, taken_none}
+use Rattle.ua_served.proofs.conversation.take_turns.Goals as goal
+
+pub loop-turn-init : goal.loop-turn-init
+loop-turn-init g c = taken_none c.args.moment c.args.turns.now c.args.client.now (g.L.Line.traffic c.args.line.now) c.args.replies.now.items c.requires
+
+pub loop-turn-preserved : goal.loop-turn-preserved
+loop-turn-preserved g c =
+    taken_more c.args.moment c.args.turns.now c.loop-turn.turn-index c.args.client.now c.loop-turn.client c.take_turn.new.client (g.L.Line.traffic c.args.line.now) (g.L.Line.traffic c.loop-turn.line) (g.L.Line.traffic c.take_turn.new.line)
+    c.args.replies.now.items c.loop-turn.replies.items c.take_turn.new.replies.items c.turn-item.result c.loop-turn.invariant c.loop-turn-test.true c.turn-item.is c.in-Ok.ensures.stays c.in-Ok.ensures.ready
+
+pub returns-clause-stays : goal.returns-clause-stays
+returns-clause-stays g c =
+    taken_all c.args.moment c.args.turns.now c.loop-turn.turn-index c.args.client.now c.loop-turn.client (g.L.Line.traffic c.args.line.now) (g.L.Line.traffic c.loop-turn.line) c.args.replies.now.items c.loop-turn.replies.items
+    c.loop-turn.invariant c.loop-turn-test.false

@@ -1,0 +1,30 @@
+-- How the server at the other end of a line began.
+use Rattle.std.specs.Prelude.{ℕ, pos, [], None}
+use Rattle.std.proofs.Math.Nat.{le_refl}
+use Rattle.ua_builtin.specs.declared.date_time.DateTime.{DateTime}
+use Rattle.ua_frame.specs.declared.limits.Limits.{Limits}
+use Rattle.ua_server.specs.State.{State, fresh}
+
+-- its limits, the id of its channel, its services as the connection began, and the moment of each of its answers
+pub record Beginning : Type 0 where
+  pub limits : Limits
+  pub channel : ℕ
+  pub first : State
+  pub moment : DateTime
+
+-- the least limits
+abbrev pub least : Limits
+least = record {
+  receive_buffer_size = 8192;
+  send_buffer_size = 8192;
+  max_message_size = 1;
+  max_chunk_count = 1;
+  receives = le_refl 8192;
+  sends = le_refl 8192;
+  takes_octets = le_refl 1;
+  takes_chunks = le_refl 1;
+}
+
+-- a server with nothing to serve, of which no line is
+abbrev pub nobody : Beginning
+nobody = record { limits = least; channel = 0; first = fresh [] (record { url = None; application_uri = None; name = None; message_limit = 0 }); moment = record { ticks = pos 0 } }

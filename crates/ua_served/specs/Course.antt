@@ -1,0 +1,88 @@
+-- What comes of a client's turns over a line: which octets it sends, where it then stands, and the replies.
+use Rattle.std.specs.Prelude.{◌≡◌, ◌++◌, ℕ, List, [], ◌∷◌, Option, Some, None}
+use Rattle.ua_octets.specs.Format.{Extends}
+use Rattle.ua_builtin.specs.declared.date_time.DateTime.{DateTime}
+use Rattle.ua_frame.specs.declared.limits.Limits.{Limits}
+use Rattle.ua_channel.specs.Line.{Traffic, WhereTold}
+use Rattle.ua_channel.specs.declared.client.channel.ClientChannel.{ClientChannel}
+use Rattle.ua_services.specs.declared.request.Request.{Request}
+use Rattle.ua_client.specs.Calls.{AreGroups, Rounds, all_of}
+use Rattle.ua_client.specs.Carried.{Carries}
+use Rattle.ua_client.specs.Client.{closing_at}
+use Rattle.ua_client.specs.Hearing.{channel_of, untaken_of}
+use Rattle.ua_client.specs.Opening.{IsOpened, hello_octets, open_octets}
+use Rattle.ua_client.specs.Renewing.{IsRenewed, IsSettled, renewal_at}
+use Rattle.ua_client.specs.Site.{Site, At}
+use Rattle.ua_client.specs.declared.connection.Connection.{Connection}
+use Rattle.ua_client.specs.declared.reply.Reply.{Reply}
+use Rattle.ua_served.specs.declared.turn.Turn.{Turn}
+use Rattle.ua_served.specs.declared.turn.Turn.TheVariants.{Ask, Renew}
+
+-- the requests that are asked in a turn; none where it is a renewal
+abbrev pub asked_by : Turn → Option (List Request)
+asked_by (Ask requests) = Some requests.items
+asked_by Renew = None
+
+-- the turns of a client that stood here, each done where those before it left it, and all that it asks answered: where it then stands, what it
+-- sent, and the replies
+pub data Course (moment : DateTime) (s : Site) : List Turn → Site → List ℕ → List Reply → Type 0 where
+  Begun : Course moment s [] s [] []
+  -- requests, in groups of 64, of which the last may have fewer, each call with its own reply
+  Asked : {turns : List Turn} {m u : Site} {sent more taken : List ℕ} {replies added : List Reply} (t : Turn) (groups : List (List Request))
+      → Course moment s turns m sent replies → asked_by t ≡ Some (all_of groups) → AreGroups groups → Rounds m groups u more taken added → Course moment s (turns ++ t ∷ []) u (sent ++ more) (replies ++ added)
+  -- a renewal
+  Renewed : {turns : List Turn} {m u : Site} {sent taken : List ℕ} {replies : List Reply} (t : Turn) (x : ClientChannel)
+      → Course moment s turns m sent replies → asked_by t ≡ None → IsRenewed x m u taken → Course moment s (turns ++ t ∷ []) u (sent ++ renewal_at m moment) replies
+
+-- what a client sends to open its connection
+abbrev pub opening_octets : Limits → Option (List ℕ) → DateTime → List ℕ
+opening_octets limits url moment = hello_octets limits url ++ open_octets moment
+
+-- all of it, from the HEL to the CLO, and what it read: these octets were sent and a front of those was read, by a client with these turns,
+-- whose replies are these
+pub record Converses (limits : Limits) (url : Option (List ℕ)) (moment : DateTime) (turns : List Turn) (up down : List ℕ) (replies : List Reply) : Type 0 where
+  -- where the channel was open
+  pub x : ClientChannel
+  pub opened : Site
+  pub opens : IsOpened x opened.octets
+  pub opened_at : At x opened
+  -- and where the last turn left it
+  pub last : Site
+  pub sent : List ℕ
+  pub course : Course moment opened turns last sent replies
+  pub up_is : up ≡ opening_octets limits url moment ++ (sent ++ closing_at last moment)
+  pub read_first : Extends last.octets down
+
+-- ---- on the way
+
+-- a client that did these turns over a line: where it stands, what went over the line, and the replies
+pub record Stays (moment : DateTime) (opening : List ℕ) (opened : Site) (turns : List Turn) (x : Connection) (before now : Option Traffic) (replies : List Reply) : Type 0 where
+  pub site : Site
+  pub at : At (channel_of x) site
+  pub settled : IsSettled site
+  pub sent : List ℕ
+  pub course : Course moment opened turns site sent replies
+  pub got : List ℕ
+  pub carried : WhereTold (Carries got (opening ++ sent)) before now
+  pub got_is : got ≡ site.octets ++ untaken_of x
+
+-- the same of one that opened its connection there
+pub record Went (limits : Limits) (url : Option (List ℕ)) (moment : DateTime) (turns : List Turn) (x : Connection) (before now : Option Traffic) (replies : List Reply) : Type 0 where
+  pub channel : ClientChannel
+  pub opened : Site
+  pub opens : IsOpened channel opened.octets
+  pub opened_at : At channel opened
+  pub stays : Stays moment (opening_octets limits url moment) opened turns x before now replies
+
+-- it closed behind them
+pub record Talked (limits : Limits) (url : Option (List ℕ)) (moment : DateTime) (turns : List Turn) (before now : Option Traffic) (replies : List Reply) : Type 0 where
+  pub channel : ClientChannel
+  pub opened : Site
+  pub opens : IsOpened channel opened.octets
+  pub opened_at : At channel opened
+  pub last : Site
+  pub sent : List ℕ
+  pub course : Course moment opened turns last sent replies
+  pub got : List ℕ
+  pub read_first : Extends last.octets got
+  pub carried : WhereTold (Carries got (opening_octets limits url moment ++ (sent ++ closing_at last moment))) before now

@@ -1,0 +1,201 @@
+//! A client and a server that talk to each other.
+
+ghost use Rattle.std.specs.Prelude.{◌≡◌, ◌∷◌, ◌++◌, [], ℕ, List, Option, IsTrue, IfOk, OnOk, take};
+ghost use Rattle.ua_octets.specs.Counted.{text};
+ghost use Rattle.ua_channel.specs.Line.{Traffic};
+ghost use Rattle.ua_client.specs.Client.{IsReady, connection_of};
+ghost use Rattle.ua_client.specs.Site.{Site};
+ghost use Rattle.ua_served.specs.Beginning.{Beginning};
+ghost use Rattle.ua_served.specs.Course.{Converses, Stays, Talked, Went};
+ghost use Rattle.ua_served.specs.Kept.{LeavesAt};
+ghost use Rattle.ua_served.specs.Says.{said_to};
+ghost use Rattle.ua_served.specs.declared.turn.Turn.{Turn};
+
+use crate::served_line::{Began, ServedLine};
+use crate::stage::Stage;
+use crate::turn::Turn;
+use std::alloc::Global;
+use std::marker::Brand;
+use ua_builtin::{DateTime, UaString};
+use ua_channel::Line;
+use ua_client::laws::clients_are_settled;
+use ua_client::{Client, ClientFault, Reply};
+use ua_frame::Limits;
+use ua_server::Services;
+
+/// What went over a connection, and what is left behind it.
+#[derive(Drop)]
+pub struct Transcript {
+    /// The octets that the client wrote.
+    pub up: Vec<u8>,
+    /// The octets that the server wrote.
+    pub down: Vec<u8>,
+    /// The replies to the requests, in their order, as far as they came.
+    pub replies: Vec<Reply>,
+    /// Why the client did not do all that it was to do, if it did not.
+    pub outcome: Result<(), ClientFault>,
+    /// How far the connection is at the server.
+    pub stage: Stage,
+    /// The services, as they stand.
+    pub services: Services,
+}
+
+/// Opens a client.
+fn begin<L: Line>(
+    alloc: Global,
+    line: &mut L,
+    limits: Limits,
+    url: UaString,
+    moment: DateTime,
+) -> Result<Client, ClientFault>
+    requires { IsTrue (text.encodable url) }
+    ensures went { IfOk result (λ client. Went limits url moment [] (connection_of client) (L.traffic line.old) (L.traffic line.new) []) }
+    ensures ready { IfOk result (λ client. IsReady client) }
+{
+    clients_are_settled();
+    match Client::open(alloc, line, limits, url, moment) {
+        Ok(client) => Ok(client),
+        Err(fault) => Err(fault),
+    }
+}
+
+/// Takes a turn, and adds the replies.
+fn take_turn<L: Line>(
+    client: &mut Client,
+    line: &mut L,
+    turn: &Turn,
+    moment: DateTime,
+    replies: &mut Vec<Reply>,
+) -> Result<(), ClientFault>
+    requires { IsReady client.old }
+    ensures stays { OnOk result ((opening : List ℕ) (opened : Site) (turns : List Turn) (before : Option Traffic) → Stays moment opening opened turns (connection_of client.old) before (L.traffic line.old) replies.old.items
+        → Stays moment opening opened (turns ++ turn.now ∷ []) (connection_of client.new) before (L.traffic line.new) replies.new.items) }
+    ensures ready { OnOk result (IsReady client.new) }
+{
+    match turn {
+        Turn::Ask(requests) => match client.call_into(line, requests, moment, replies) {
+            Ok(()) => Ok(()),
+            Err(calls) => Err(calls.fault),
+        },
+        Turn::Renew => match client.renew(line, moment) {
+            Ok(()) => Ok(()),
+            Err(fault) => Err(fault),
+        },
+    }
+}
+
+/// Takes all turns, and adds the replies.
+fn take_turns<L: Line>(
+    client: &mut Client,
+    line: &mut L,
+    turns: &[Turn],
+    moment: DateTime,
+    replies: &mut Vec<Reply>,
+) -> Result<(), ClientFault>
+    requires { IsReady client.old }
+    ensures stays { OnOk result ((opening : List ℕ) (opened : Site) (before : Option Traffic) → Stays moment opening opened [] (connection_of client.old) before (L.traffic line.old) replies.old.items
+        → Stays moment opening opened turns.now (connection_of client.new) before (L.traffic line.new) replies.new.items) }
+    ensures ready { OnOk result (IsReady client.new) }
+{
+    for turn in turns {
+        match take_turn(client, line, turn, moment, replies) {
+            Ok(()) => {}
+            Err(fault) => return Err(fault),
+        }
+    }
+    Ok(())
+}
+
+/// Opens a client, takes all turns and closes it; adds the replies.
+fn talk<L: Line>(
+    alloc: Global,
+    line: &mut L,
+    limits: Limits,
+    url: UaString,
+    turns: &[Turn],
+    moment: DateTime,
+    replies: &mut Vec<Reply>,
+) -> Result<(), ClientFault>
+    requires url { IsTrue (text.encodable url) }
+    requires none { replies.old.items ≡ [] }
+    ensures { OnOk result (Talked limits url moment turns.now (L.traffic line.old) (L.traffic line.new) replies.new.items) }
+{
+    let mut client = match begin(alloc, line, limits, url, moment) {
+        Ok(client) => client,
+        Err(fault) => return Err(fault),
+    };
+    match take_turns(&mut client, line, turns, moment, replies) {
+        Ok(()) => {}
+        Err(fault) => return Err(fault),
+    }
+    match client.close(line, moment) {
+        Ok(()) => Ok(()),
+        Err(fault) => Err(fault),
+    }
+}
+
+/// Lets a client talk to a server over these services, of the beginning that the parameter names.
+fn converse_with<W: Began>(
+    alloc: Global,
+    services: Services,
+    limits: Limits,
+    channel_id: u32,
+    url: UaString,
+    turns: &[Turn],
+    moment: DateTime,
+    writes: Vec<usize>,
+    reads: Vec<usize>,
+) -> Transcript
+    requires url { IsTrue (text.encodable url) }
+    requires began { W.beginning ≡ record { limits = limits; channel = channel_id; first = services; moment = moment } }
+    ensures down { result.down.items ≡ said_to W.beginning result.up.items }
+    ensures services { LeavesAt result.stage W.beginning result.up.items result.services }
+    ensures converses { OnOk result.outcome (Converses limits url moment turns.now result.up.items result.down.items result.replies.items) }
+{
+    let mut line: ServedLine<W> = ServedLine::new(
+        alloc, limits, channel_id, services, moment, writes, reads,
+    );
+    let mut replies = Vec::new(alloc);
+    let outcome = talk(alloc, &mut line, limits, url, turns, moment, &mut replies);
+    let stage = line.stage();
+    let (up, down, services) = line.into_parts();
+    Transcript {
+        up,
+        down,
+        replies,
+        outcome,
+        stage,
+        services,
+    }
+}
+
+/// Lets a client take these turns, from the HEL to the CLO, over a line to a server over these services,
+/// both with these limits, and gives what went over the line each way, the replies, and the services as
+/// they then stand. No clause mentions the lengths of the pieces: what comes of them is the same for all.
+///
+/// The moment is that of each answer, of each OPN and of the CLO. Where the client did not do all, the
+/// outcome says why, and what was said and left by then stands in the transcript.
+pub fn converse(
+    alloc: Global,
+    services: Services,
+    limits: Limits,
+    channel_id: u32,
+    url: UaString,
+    turns: &[Turn],
+    moment: DateTime,
+    writes: Vec<usize>,
+    reads: Vec<usize>,
+) -> Transcript
+    requires { IsTrue (text.encodable url) }
+
+    // What the server said is what is said of what the client wrote, and the services are what that leaves.
+    ensures down { result.down.items ≡ said_to (record { limits = limits; channel = channel_id; first = services; moment = moment }) result.up.items }
+    ensures services { LeavesAt result.stage (record { limits = limits; channel = channel_id; first = services; moment = moment }) result.up.items result.services }
+
+    // The client sent just its turns, and each request has its own reply.
+    ensures converses { OnOk result.outcome (Converses limits url moment turns.now result.up.items result.down.items result.replies.items) }
+{
+    converse_with::<Brand>(
+        alloc, services, limits, channel_id, url, turns, moment, writes, reads,
+    )
+}

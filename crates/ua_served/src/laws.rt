@@ -1,0 +1,60 @@
+//! Laws of what a client over a line sends, and what a server reads of it. Each is the contract of a
+//! function that does nothing.
+//!
+//! They say it of octets alone, one turn after the other. Where both ends are, and what a server's
+//! answers bring the client, the laws of `ua_channel::both_ends` say.
+
+ghost use Rattle.std.specs.Prelude.{◌≡◌, ◌<◌, ◌≤◌, ◌+◌, ◌^◌, ◌∷◌, ◌++◌, [], ℕ, List, Option, None, IsTrue};
+ghost use Rattle.ua_builtin.specs.DateTime.{date_time};
+ghost use Rattle.ua_builtin.specs.declared.date_time.DateTime.{DateTime};
+ghost use Rattle.ua_frame.specs.Agreement.{url_length};
+ghost use Rattle.ua_frame.specs.Messages.{hello};
+ghost use Rattle.ua_frame.specs.declared.limits.Limits.{Limits};
+ghost use Rattle.ua_services.specs.declared.request.Request.{Request};
+ghost use Rattle.ua_channel.specs.Agreement.{agreement_of};
+ghost use Rattle.ua_channel.specs.ClientReads.{AtClient, lane_from};
+ghost use Rattle.ua_channel.specs.ClientSends.{hello_to};
+ghost use Rattle.ua_channel.specs.ServerReads.{AtServer, ServerCloses, ServerReads, greeted_at, with_token};
+ghost use Rattle.ua_channel.specs.ServerTold.{Told, Agreed, Opened, Closed};
+ghost use Rattle.ua_channel.specs.declared.client.channel.ClientChannel.{ClientChannel};
+ghost use Rattle.ua_client.specs.Calls.{Answered, sent_at};
+ghost use Rattle.ua_client.specs.Client.{closing_at};
+ghost use Rattle.ua_client.specs.Renewing.{renewal_at, renewal_refusal};
+ghost use Rattle.ua_client.specs.Replies.{AreReplies};
+ghost use Rattle.ua_client.specs.Sent.{bodies_of};
+ghost use Rattle.ua_client.specs.Site.{Site, id_at};
+ghost use Rattle.ua_client.specs.declared.reply.Reply.{Reply};
+ghost use Rattle.ua_served.specs.Course.{opening_octets};
+ghost use Rattle.ua_served.specs.Together.{AreTogether, behind_calls, calls_told};
+
+/// What a client sends to open its connection a server reads: it agrees, and issues the first token.
+pub fn openings_reach_the_server()
+    ensures { (limits : Limits) (channel : ℕ) (client : Limits) (url : Option (List ℕ)) (moment : DateTime) →
+        IsTrue (hello.encodable (hello_to client url)) → url_length url ≤ 4095 → IsTrue (date_time.encodable moment) →
+        ServerReads limits channel (opening_octets client url moment) (Agreed (agreement_of limits (hello_to client url)) ∷ (Opened 1 0 1 3600000 ∷ [])) (with_token (greeted_at (hello_to client url))) }
+{}
+
+/// What a client then sends of requests that are answered the server reads as just these: in their
+/// order, each whole, once and under its own request id. And each reply is that of its own request.
+pub fn requests_reach_the_server()
+    ensures { (limits : Limits) (url : Option (List ℕ)) (channel : ℕ) (octets : List ℕ) (told : List Told) (s : AtServer) (x : ClientChannel) (site behind : Site) (c : AtClient) (requests : List Request) (taken : List ℕ) (replies : List Reply) →
+        channel < 2 ^ 32 → AreTogether limits url channel octets told s x site c → Answered requests site behind taken replies →
+        ServerReads limits channel (octets ++ sent_at site requests) (told ++ calls_told (lane_from c) (id_at site) (bodies_of requests)) (behind_calls s (lane_from c) (bodies_of requests))
+        × (behind.number ≡ (behind_calls s (lane_from c) (bodies_of requests)).next)
+        × AreReplies requests (id_at site) behind.told replies }
+{}
+
+/// What it sends of a renewal that is not refused the server reads, and issues the next token, where it
+/// has one left.
+pub fn renewals_reach_the_server()
+    ensures { (limits : Limits) (url : Option (List ℕ)) (channel : ℕ) (octets : List ℕ) (told : List Told) (s : AtServer) (x : ClientChannel) (site : Site) (c : AtClient) (moment : DateTime) →
+        channel < 2 ^ 32 → AreTogether limits url channel octets told s x site c → renewal_refusal site ≡ None → s.issued < 4294967295 → IsTrue (date_time.encodable moment) →
+        ServerReads limits channel (octets ++ renewal_at site moment) (told ++ Opened (id_at site) 0 (s.issued + 1) 3600000 ∷ []) (with_token s) }
+{}
+
+/// What it sends to close its channel the server reads, and the channel is closed.
+pub fn closings_reach_the_server()
+    ensures { (limits : Limits) (url : Option (List ℕ)) (channel : ℕ) (octets : List ℕ) (told : List Told) (s : AtServer) (x : ClientChannel) (site : Site) (c : AtClient) (moment : DateTime) →
+        channel < 2 ^ 32 → AreTogether limits url channel octets told s x site c → id_at site < 2 ^ 32 →
+        ServerCloses limits channel (octets ++ closing_at site moment) (told ++ Closed ∷ []) }
+{}
