@@ -5,3 +5,4 @@ mod Pieces
 mod Lines
 mod Courses
 mod Reaching
+mod Opened

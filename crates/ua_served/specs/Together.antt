@@ -1,14 +1,20 @@
 -- Where both ends of a connection are between two turns of a client over a line, and what its requests tell the server.
-use Rattle.std.specs.Prelude.{◌≡◌, ℕ, ◌+◌, List, [], ◌∷◌, Option}
+use Rattle.std.specs.Prelude.{◌≡◌, ℕ, ◌+◌, List, [], ◌∷◌, ◌++◌, Option}
+use Rattle.ua_frame.specs.Agreement.{ack_to}
+use Rattle.ua_frame.specs.Frames.{frame_octets}
+use Rattle.ua_frame.specs.Messages.{ack_frame}
 use Rattle.ua_frame.specs.declared.limits.Limits.{Limits}
 use Rattle.ua_chunk.specs.declared.lane.Lane.{Lane}
 use Rattle.ua_channel.specs.Client.{limits_of}
 use Rattle.ua_channel.specs.ClientReads.{AtClient, ClientReads}
+use Rattle.ua_channel.specs.ClientSends.{hello_to}
 use Rattle.ua_channel.specs.InStep.{AreInStep}
 use Rattle.ua_channel.specs.ServerReads.{AtServer, ServerReads, with_message}
+use Rattle.ua_channel.specs.ServerSends.{opened_frame}
 use Rattle.ua_channel.specs.ServerTold.{Told, Asked}
 use Rattle.ua_channel.specs.declared.client.channel.ClientChannel.{ClientChannel}
 use Rattle.ua_client.specs.Site.{Site, At}
+use Rattle.ua_served.specs.Beginning.{Beginning}
 
 -- a server with these limits on this channel read these octets, which told it this, and is here; a client stands where it read what the
 -- server sent, and is there; both are in step, and the client's next number is the one that the server waits for
@@ -18,6 +24,11 @@ pub record AreTogether (limits : Limits) (url : Option (List ℕ)) (channel : �
   pub client_reads : ClientReads (limits_of x) site.asks site.octets site.told c
   pub in_step : AreInStep limits (limits_of x) url channel s c
   pub number_is : site.number ≡ s.next
+
+-- what a server that began so answers to the opening of a client: its ACK, and the OPN response that brings the first token
+-- (OPC 10000-6, 7.1.2.4 and 6.7.2)
+abbrev pub opening_answer : Beginning → Limits → Option (List ℕ) → List ℕ
+opening_answer b client url = frame_octets (ack_frame (ack_to (hello_to client url) b.limits)) ++ frame_octets (opened_frame b.channel 1 1 0 1 3600000 b.moment)
 
 -- what calls of these bodies in a lane tell a server, under request ids from this one on: each body whole and once, in order
 abbrev pub calls_told : Lane → ℕ → List (List ℕ) → List Told

@@ -7,12 +7,14 @@
 ghost use Rattle.std.specs.Prelude.{◌≡◌, ◌<◌, ◌≤◌, ◌+◌, ◌^◌, ◌∷◌, ◌++◌, [], ℕ, List, Option, None, IsTrue};
 ghost use Rattle.ua_builtin.specs.DateTime.{date_time};
 ghost use Rattle.ua_builtin.specs.declared.date_time.DateTime.{DateTime};
-ghost use Rattle.ua_frame.specs.Agreement.{url_length};
-ghost use Rattle.ua_frame.specs.Messages.{hello};
+ghost use Rattle.ua_frame.specs.Agreement.{ack_to, url_length};
+ghost use Rattle.ua_frame.specs.Messages.{ack, hello};
 ghost use Rattle.ua_frame.specs.declared.limits.Limits.{Limits};
+ghost use Rattle.ua_chunk.specs.Sequence.{next_number};
 ghost use Rattle.ua_services.specs.declared.request.Request.{Request};
 ghost use Rattle.ua_channel.specs.Agreement.{agreement_of};
-ghost use Rattle.ua_channel.specs.ClientReads.{AtClient, lane_from};
+ghost use Rattle.ua_channel.specs.Client.{limits_of, next_of};
+ghost use Rattle.ua_channel.specs.ClientReads.{AtClient, lane_from, opened_at};
 ghost use Rattle.ua_channel.specs.ClientSends.{hello_to};
 ghost use Rattle.ua_channel.specs.ServerReads.{AtServer, ServerCloses, ServerReads, greeted_at, with_token};
 ghost use Rattle.ua_channel.specs.ServerTold.{Told, Agreed, Opened, Closed};
@@ -22,16 +24,32 @@ ghost use Rattle.ua_client.specs.Client.{closing_at};
 ghost use Rattle.ua_client.specs.Renewing.{renewal_at, renewal_refusal};
 ghost use Rattle.ua_client.specs.Replies.{AreReplies};
 ghost use Rattle.ua_client.specs.Sent.{bodies_of};
-ghost use Rattle.ua_client.specs.Site.{Site, id_at};
+ghost use Rattle.ua_client.specs.Site.{Site, At, id_at};
 ghost use Rattle.ua_client.specs.declared.reply.Reply.{Reply};
+ghost use Rattle.ua_served.specs.Beginning.{Beginning};
 ghost use Rattle.ua_served.specs.Course.{opening_octets};
-ghost use Rattle.ua_served.specs.Together.{AreTogether, behind_calls, calls_told};
+ghost use Rattle.ua_served.specs.Says.{said_to};
+ghost use Rattle.ua_served.specs.Together.{AreTogether, behind_calls, calls_told, opening_answer};
 
 /// What a client sends to open its connection a server reads: it agrees, and issues the first token.
 pub fn openings_reach_the_server()
     ensures { (limits : Limits) (channel : ℕ) (client : Limits) (url : Option (List ℕ)) (moment : DateTime) →
         IsTrue (hello.encodable (hello_to client url)) → url_length url ≤ 4095 → IsTrue (date_time.encodable moment) →
         ServerReads limits channel (opening_octets client url moment) (Agreed (agreement_of limits (hello_to client url)) ∷ (Opened 1 0 1 3600000 ∷ [])) (with_token (greeted_at (hello_to client url))) }
+{}
+
+/// What a server says of the opening, in one process: its ACK, and the OPN response with the first
+/// token. A client that stands where it took just that, and asked nothing, and its server are together.
+pub fn ends_begin_together()
+    ensures said { (b : Beginning) (client : Limits) (url : Option (List ℕ)) (moment : DateTime) →
+        IsTrue (hello.encodable (hello_to client url)) → url_length url ≤ 4095 → IsTrue (date_time.encodable moment) →
+        said_to b (opening_octets client url moment) ≡ opening_answer b client url }
+    ensures together { (b : Beginning) (url : Option (List ℕ)) (moment : DateTime) (x : ClientChannel) (site : Site) →
+        IsTrue (hello.encodable (hello_to (limits_of x) url)) → url_length url ≤ 4095 → IsTrue (date_time.encodable moment) →
+        IsTrue (ack.encodable (ack_to (hello_to (limits_of x) url) b.limits)) → b.channel < 2 ^ 32 → IsTrue (date_time.encodable b.moment) →
+        At x site → site.asks ≡ [] → site.octets ≡ said_to b (opening_octets (limits_of x) url moment) → next_of x ≡ 2 →
+        AreTogether b.limits url b.channel (opening_octets (limits_of x) url moment) (Agreed (agreement_of b.limits (hello_to (limits_of x) url)) ∷ (Opened 1 0 1 3600000 ∷ [])) (with_token (greeted_at (hello_to (limits_of x) url))) x site
+        (opened_at (ack_to (hello_to (limits_of x) url) b.limits) b.channel 1 (next_number 1)) }
 {}
 
 /// What a client then sends of requests that are answered the server reads as just these: in their
