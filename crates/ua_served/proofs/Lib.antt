@@ -6,3 +6,6 @@ mod Lines
 mod Courses
 mod Reaching
 mod Opened
+mod Bodies
+mod Answering
+mod Staying

@@ -1,5 +1,5 @@
 -- That both ends are together behind the opening.
-use Rattle.std.proofs.Common.{◌≡◌, ℕ, ◌<◌, ◌≤◌, ◌^◌, IsTrue, List, [], ◌∷◌, ◌++◌, Option, sym, ◌∙◌, ap, subst, arith, append-nil}
+use Rattle.std.proofs.Common.{◌≡◌, ℕ, ◌<◌, ◌≤◌, ◌^◌, IsTrue, List, [], ◌∷◌, ◌++◌, Option, Some, refl, sym, ◌∙◌, ap, subst, arith, append-nil}
 use Rattle.ua_builtin.specs.DateTime.{date_time}
 use Rattle.ua_builtin.specs.declared.date_time.DateTime.{DateTime}
 use Rattle.ua_frame.specs.Agreement.{ack_to, url_length}
@@ -21,12 +21,12 @@ use Rattle.ua_channel.specs.declared.client.channel.ClientChannel.{ClientChannel
 use Rattle.ua_channel.proofs.ClientReading.{reads_ack, reads_opened}
 use Rattle.ua_channel.proofs.Following.{client_told}
 use Rattle.ua_channel.proofs.InStep.{in_step_opened}
-use Rattle.ua_server.specs.Said.{said}
+use Rattle.ua_server.specs.Said.{left, said}
 use Rattle.ua_client.specs.Site.{Site, At}
 use Rattle.ua_served.specs.Beginning.{Beginning}
 use Rattle.ua_served.specs.Course.{opening_octets}
 use Rattle.ua_served.specs.Says.{said_to, spent}
-use Rattle.ua_served.specs.Together.{AreTogether, opening_answer}
+use Rattle.ua_served.specs.Together.{AreServing, opening_answer}
 use Rattle.ua_served.proofs.Reaching.{opening_read}
 use Rattle.ua_served.proofs.Saying.{said_by_run}
 
@@ -49,6 +49,13 @@ module _ (b : Beginning) (client : Limits) (url : Option (List ℕ)) (moment : D
       said_by_run b (opening_octets client url moment) r.frames [] Going r.run
       ∙ (ap (λ (t : List Told). said b.channel b.first t Going (spent t b.moment)) r.told_is ∙ said_first_two b (agreement_of b.limits (hello_to client url)))
 
+-- what is left behind them
+left_first_two : (b : Beginning) (g : Agreement)
+    → ((left b.channel b.first (Agreed g ∷ (Opened 1 0 1 3600000 ∷ [])) (spent (Agreed g ∷ (Opened 1 0 1 3600000 ∷ [])) b.moment)).agreement ≡ Some g)
+    × ((left b.channel b.first (Agreed g ∷ (Opened 1 0 1 3600000 ∷ [])) (spent (Agreed g ∷ (Opened 1 0 1 3600000 ∷ [])) b.moment)).number ≡ next_number 1)
+unfolding left
+left_first_two b g = (refl, refl)
+
 -- a client reads that
 answer_read : (b : Beginning) (client : Limits) (url : Option (List ℕ)) → IsTrue (ack.encodable (ack_to (hello_to client url) b.limits)) → b.channel < 2 ^ 32 → IsTrue (date_time.encodable b.moment)
     → ClientReads client [] (opening_answer b client url) (heard.Agreed (ack_to (hello_to client url) b.limits) ∷ (heard.Opened b.channel 1 ∷ [])) (opened_at (ack_to (hello_to client url) b.limits) b.channel 1 (next_number 1))
@@ -61,7 +68,7 @@ answer_read b client url fits on dated =
 pub begin_together : (b : Beginning) (url : Option (List ℕ)) (moment : DateTime) (x : ClientChannel) (site : Site)
     → IsTrue (hello.encodable (hello_to (limits_of x) url)) → url_length url ≤ 4095 → IsTrue (date_time.encodable moment) → IsTrue (ack.encodable (ack_to (hello_to (limits_of x) url) b.limits)) → b.channel < 2 ^ 32 → IsTrue (date_time.encodable b.moment)
     → At x site → site.asks ≡ [] → site.octets ≡ said_to b (opening_octets (limits_of x) url moment) → next_of x ≡ 2
-    → AreTogether b.limits url b.channel (opening_octets (limits_of x) url moment) (Agreed (agreement_of b.limits (hello_to (limits_of x) url)) ∷ (Opened 1 0 1 3600000 ∷ [])) (with_token (greeted_at (hello_to (limits_of x) url))) x site
+    → AreServing b url (opening_octets (limits_of x) url moment) (Agreed (agreement_of b.limits (hello_to (limits_of x) url)) ∷ (Opened 1 0 1 3600000 ∷ [])) (with_token (greeted_at (hello_to (limits_of x) url))) x site
     (opened_at (ack_to (hello_to (limits_of x) url) b.limits) b.channel 1 (next_number 1))
 begin_together b url moment x site fits short dated acked on answered at none octets_are next_is =
     let all : List Heard = heard.Agreed (ack_to (hello_to (limits_of x) url) b.limits) ∷ (heard.Opened b.channel 1 ∷ []) in
@@ -70,9 +77,14 @@ begin_together b url moment x site fits short dated acked on answered at none oc
     subst (λ (asks : List Placed). ClientReads (limits_of x) asks site.octets all c) (sym none)
     (subst (λ (o : List ℕ). ClientReads (limits_of x) [] o all c) (sym (octets_are ∙ opening_said b (limits_of x) url moment fits short dated)) (answer_read b (limits_of x) url acked on answered)) in
     record {
-      server_reads = opening_read b.limits b.channel (limits_of x) url moment fits short dated;
-      stands = at;
-      client_reads = subst (λ (t : List Heard). ClientReads (limits_of x) site.asks site.octets t c) (sym (client_told x site.asks site.octets site.told all c at.goes here)) here;
-      in_step = in_step_opened b.limits (limits_of x) url b.channel (next_number 1);
-      number_is = sym at.number_is ∙ next_is;
+      together = record {
+        server_reads = opening_read b.limits b.channel (limits_of x) url moment fits short dated;
+        stands = at;
+        client_reads = subst (λ (t : List Heard). ClientReads (limits_of x) site.asks site.octets t c) (sym (client_told x site.asks site.octets site.told all c at.goes here)) here;
+        in_step = in_step_opened b.limits (limits_of x) url b.channel (next_number 1);
+        number_is = sym at.number_is ∙ next_is;
+      };
+      taken = octets_are;
+      agreed = (left_first_two b (agreement_of b.limits (hello_to (limits_of x) url))).0;
+      says_next = (left_first_two b (agreement_of b.limits (hello_to (limits_of x) url))).1;
     }

@@ -66,17 +66,23 @@ some_octets m [] h = absurd (lawful_request.starts m h)
 some_octets m (x ∷ b) h = omega arith
 
 -- requests that are asked under request ids from this one on, of a server that sent this ACK
-abbrev AreAsked : Ack → ℕ → List Request → Type 0
+abbrev pub AreAsked : Ack → ℕ → List Request → Type 0
 AreAsked a id [] = Unit {0}
 AreAsked a id (m ∷ ms) = (id < no_id) × (0 < length (request.canonical m)) × (is_too_large a (request.canonical m) ≡ false) × AreAsked a (id + 1) ms
 
-not_refused : (a : Ack) (id : ℕ) (ms : List Request) → first_reason (group_reasons (Some a) id ms) ≡ None → AreAsked a id ms
+pub not_refused : (a : Ack) (id : ℕ) (ms : List Request) → first_reason (group_reasons (Some a) id ms) ≡ None → AreAsked a id ms
 not_refused a id [] h = tt
 not_refused a id (m ∷ ms) h =
     let one = none_parts (not (request.encodable m)) _ _ h in
     let two = none_parts (leb no_id id) _ _ one.1 in
     let three = none_parts (is_too_large a (request.canonical m)) _ _ two.1 in
     (leb-false no_id id two.0, some_octets m (request.canonical m) (lawful_request.canonical_encodes m (not-false (request.encodable m) one.0)), three.0, not_refused a (id + 1) ms three.1)
+
+-- no request id is past the last
+pub few_ids : (a : Ack) (id : ℕ) (ms : List Request) → AreAsked a id ms → 0 < length ms → id + length (bodies_of ms) ≤ no_id
+few_ids a id [] h some = absurd (omega (arith, some))
+few_ids a id (m ∷ []) h some = omega (arith, h.0)
+few_ids a id (m ∷ (n ∷ ms)) h some = let rest = few_ids a (id + 1) (n ∷ ms) h.3 (omega arith) in omega (arith, rest)
 
 not_exhausted : (s : Site) → renewal_refusal s ≡ None → id_at s < no_id
 not_exhausted s h =
@@ -125,15 +131,17 @@ opening_read limits channel client url moment fits short dated =
 
 module _ (limits : Limits) (url : Option (List ℕ)) (channel : ℕ) (octets : List ℕ) (told : List Told) (s : AtServer) (x : ClientChannel) (site : Site) (c : AtClient) (on : channel < 2 ^ 32) (t : AreTogether limits url channel octets told s x site c) where
   -- requests
+  pub requests_asked : (requests : List Request) → refusal_at site requests ≡ None → AreAsked c.ack (id_at site) requests
+  requests_asked requests judged =
+      not_refused c.ack (id_at site) requests (ap (λ (a : Option Ack). first_reason (group_reasons a (id_at site) requests)) (sym (acked_here x site c t.stands t.client_reads)) ∙ judged)
+
   pub requests_read : (requests : List Request) → refusal_at site requests ≡ None
       → ServerReads limits channel (octets ++ sent_at site requests) (told ++ calls_told (lane_from c) (id_at site) (bodies_of requests)) (behind_calls s (lane_from c) (bodies_of requests))
   requests_read requests judged =
-      let asked : AreAsked c.ack (id_at site) requests =
-      not_refused c.ack (id_at site) requests (ap (λ (a : Option Ack). first_reason (group_reasons a (id_at site) requests)) (sym (acked_here x site c t.stands t.client_reads)) ∙ judged) in
       subst (λ (o : List ℕ). ServerReads limits channel (octets ++ o) (told ++ calls_told (lane_from c) (id_at site) (bodies_of requests)) (behind_calls s (lane_from c) (bodies_of requests)))
       (ap (λ (n : ℕ). calls_octets (Some (lane_from c)) n (id_at site) (bodies_of requests)) (sym t.number_is)
       ∙ ap (λ (l : Option Lane). calls_octets l site.number (id_at site) (bodies_of requests)) (sym (lane_here x site c t.stands t.client_reads)))
-      (calls_read limits (limits_of x) url channel on c octets told s (id_at site) requests (body_for limits (limits_of x) url channel s c t.in_step) t.server_reads (lane_to limits (limits_of x) url channel s c t.in_step) asked)
+      (calls_read limits (limits_of x) url channel on c octets told s (id_at site) requests (body_for limits (limits_of x) url channel s c t.in_step) t.server_reads (lane_to limits (limits_of x) url channel s c t.in_step) (requests_asked requests judged))
 
   -- and the number behind them
   pub numbers_read : (requests : List Request) → numbers_behind (lane_behind site.before) site.number (bodies_of requests) ≡ (behind_calls s (lane_from c) (bodies_of requests)).next

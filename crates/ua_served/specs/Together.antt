@@ -1,10 +1,11 @@
 -- Where both ends of a connection are between two turns of a client over a line, and what its requests tell the server.
-use Rattle.std.specs.Prelude.{◌≡◌, ℕ, ◌+◌, List, [], ◌∷◌, ◌++◌, Option}
+use Rattle.std.specs.Prelude.{◌≡◌, ℕ, ◌+◌, List, [], ◌∷◌, ◌++◌, Option, Some}
 use Rattle.ua_frame.specs.Agreement.{ack_to}
 use Rattle.ua_frame.specs.Frames.{frame_octets}
 use Rattle.ua_frame.specs.Messages.{ack_frame}
 use Rattle.ua_frame.specs.declared.limits.Limits.{Limits}
 use Rattle.ua_chunk.specs.declared.lane.Lane.{Lane}
+use Rattle.ua_channel.specs.Agreement.{agreement_of}
 use Rattle.ua_channel.specs.Client.{limits_of}
 use Rattle.ua_channel.specs.ClientReads.{AtClient, ClientReads}
 use Rattle.ua_channel.specs.ClientSends.{hello_to}
@@ -14,7 +15,9 @@ use Rattle.ua_channel.specs.ServerSends.{opened_frame}
 use Rattle.ua_channel.specs.ServerTold.{Told, Asked}
 use Rattle.ua_channel.specs.declared.client.channel.ClientChannel.{ClientChannel}
 use Rattle.ua_client.specs.Site.{Site, At}
+use Rattle.ua_server.specs.Said.{left}
 use Rattle.ua_served.specs.Beginning.{Beginning}
+use Rattle.ua_served.specs.Says.{said_to, spent}
 
 -- a server with these limits on this channel read these octets, which told it this, and is here; a client stands where it read what the
 -- server sent, and is there; both are in step, and the client's next number is the one that the server waits for
@@ -24,6 +27,14 @@ pub record AreTogether (limits : Limits) (url : Option (List ℕ)) (channel : �
   pub client_reads : ClientReads (limits_of x) site.asks site.octets site.told c
   pub in_step : AreInStep limits (limits_of x) url channel s c
   pub number_is : site.number ≡ s.next
+
+-- the same in one process: the client took all that a server which began so says of these octets, and what the server says next goes by what
+-- was agreed to, under the number that the client waits for
+pub record AreServing (b : Beginning) (url : Option (List ℕ)) (octets : List ℕ) (told : List Told) (s : AtServer) (x : ClientChannel) (site : Site) (c : AtClient) : Type 0 where
+  pub together : AreTogether b.limits url b.channel octets told s x site c
+  pub taken : site.octets ≡ said_to b octets
+  pub agreed : (left b.channel b.first told (spent told b.moment)).agreement ≡ Some (agreement_of b.limits s.hello)
+  pub says_next : (left b.channel b.first told (spent told b.moment)).number ≡ c.next
 
 -- what a server that began so answers to the opening of a client: its ACK, and the OPN response that brings the first token
 -- (OPC 10000-6, 7.1.2.4 and 6.7.2)

@@ -4,7 +4,7 @@
 //! They say it of octets alone, one turn after the other. Where both ends are, and what a server's
 //! answers bring the client, the laws of `ua_channel::both_ends` say.
 
-ghost use Rattle.std.specs.Prelude.{◌≡◌, ◌<◌, ◌≤◌, ◌+◌, ◌^◌, ◌∷◌, ◌++◌, [], ℕ, List, Option, None, IsTrue};
+ghost use Rattle.std.specs.Prelude.{◌≡◌, ◌<◌, ◌≤◌, ◌+◌, ◌^◌, ◌∷◌, ◌++◌, [], ℕ, List, Option, None, IsTrue, length};
 ghost use Rattle.ua_builtin.specs.DateTime.{date_time};
 ghost use Rattle.ua_builtin.specs.declared.date_time.DateTime.{DateTime};
 ghost use Rattle.ua_frame.specs.Agreement.{ack_to, url_length};
@@ -29,7 +29,7 @@ ghost use Rattle.ua_client.specs.declared.reply.Reply.{Reply};
 ghost use Rattle.ua_served.specs.Beginning.{Beginning};
 ghost use Rattle.ua_served.specs.Course.{opening_octets};
 ghost use Rattle.ua_served.specs.Says.{said_to};
-ghost use Rattle.ua_served.specs.Together.{AreTogether, behind_calls, calls_told, opening_answer};
+ghost use Rattle.ua_served.specs.Together.{AreServing, AreTogether, behind_calls, calls_told, opening_answer};
 
 /// What a client sends to open its connection a server reads: it agrees, and issues the first token.
 pub fn openings_reach_the_server()
@@ -39,16 +39,16 @@ pub fn openings_reach_the_server()
 {}
 
 /// What a server says of the opening, in one process: its ACK, and the OPN response with the first
-/// token. A client that stands where it took just that, and asked nothing, and its server are together.
+/// token. A client that stands where it took just that, and asked nothing, and its server are in step.
 pub fn ends_begin_together()
     ensures said { (b : Beginning) (client : Limits) (url : Option (List ℕ)) (moment : DateTime) →
         IsTrue (hello.encodable (hello_to client url)) → url_length url ≤ 4095 → IsTrue (date_time.encodable moment) →
         said_to b (opening_octets client url moment) ≡ opening_answer b client url }
-    ensures together { (b : Beginning) (url : Option (List ℕ)) (moment : DateTime) (x : ClientChannel) (site : Site) →
+    ensures serving { (b : Beginning) (url : Option (List ℕ)) (moment : DateTime) (x : ClientChannel) (site : Site) →
         IsTrue (hello.encodable (hello_to (limits_of x) url)) → url_length url ≤ 4095 → IsTrue (date_time.encodable moment) →
         IsTrue (ack.encodable (ack_to (hello_to (limits_of x) url) b.limits)) → b.channel < 2 ^ 32 → IsTrue (date_time.encodable b.moment) →
         At x site → site.asks ≡ [] → site.octets ≡ said_to b (opening_octets (limits_of x) url moment) → next_of x ≡ 2 →
-        AreTogether b.limits url b.channel (opening_octets (limits_of x) url moment) (Agreed (agreement_of b.limits (hello_to (limits_of x) url)) ∷ (Opened 1 0 1 3600000 ∷ [])) (with_token (greeted_at (hello_to (limits_of x) url))) x site
+        AreServing b url (opening_octets (limits_of x) url moment) (Agreed (agreement_of b.limits (hello_to (limits_of x) url)) ∷ (Opened 1 0 1 3600000 ∷ [])) (with_token (greeted_at (hello_to (limits_of x) url))) x site
         (opened_at (ack_to (hello_to (limits_of x) url) b.limits) b.channel 1 (next_number 1)) }
 {}
 
@@ -60,6 +60,14 @@ pub fn requests_reach_the_server()
         ServerReads limits channel (octets ++ sent_at site requests) (told ++ calls_told (lane_from c) (id_at site) (bodies_of requests)) (behind_calls s (lane_from c) (bodies_of requests))
         × (behind.number ≡ (behind_calls s (lane_from c) (bodies_of requests)).next)
         × AreReplies requests (id_at site) behind.told replies }
+{}
+
+/// And where the client then took all that the server says of what was sent, both are in step again.
+pub fn ends_stay_together()
+    ensures { (b : Beginning) (url : Option (List ℕ)) (octets : List ℕ) (told : List Told) (s : AtServer) (x y : ClientChannel) (site behind : Site) (c : AtClient) (requests : List Request) (taken : List ℕ) (replies : List Reply) →
+        b.channel < 2 ^ 32 → AreServing b url octets told s x site c → 0 < length requests → Answered requests site behind taken replies →
+        At y behind → limits_of y ≡ limits_of x → behind.octets ≡ said_to b (octets ++ sent_at site requests) →
+        (d : AtClient) × AreServing b url (octets ++ sent_at site requests) (told ++ calls_told (lane_from c) (id_at site) (bodies_of requests)) (behind_calls s (lane_from c) (bodies_of requests)) y behind d }
 {}
 
 /// What it sends of a renewal that is not refused the server reads, and issues the next token, where it

@@ -4,5 +4,5 @@ use Rattle.ua_served.proofs.laws.ends_begin_together.Goals as goal
 pub returns-clause-said : goal.returns-clause-said
 returns-clause-said c = opening_said
 
-pub returns-clause-together : goal.returns-clause-together
-returns-clause-together c = begin_together
+pub returns-clause-serving : goal.returns-clause-serving
+returns-clause-serving c = begin_together

@@ -1,0 +1,153 @@
+-- That a client reads what a server answers to its requests.
+use Rattle.std.proofs.Common.{◌≡◌, ◌⊎◌, inl, inr, ℕ, ◌+◌, ◌<◌, ◌≤◌, ◌^◌, Bool, true, false, not, ◌||◌, eqb, List, [], ◌∷◌, ◌++◌, Option, Some, length, refl, sym, ◌∙◌, ap, subst, arith, append-nil, append_assoc}
+use Rattle.std.specs.Prelude.{if◌then◌else◌}
+use Rattle.std.proofs.lemmas.Bool.{cases_lt, eq-eqb, eqb-true, ne_eqb}
+use Rattle.std.proofs.lemmas.List.Folds.{list_any-append}
+use Rattle.ua_builtin.specs.declared.date_time.DateTime.{DateTime}
+use Rattle.ua_frame.specs.declared.limits.Limits.{Limits}
+use Rattle.ua_chunk.specs.Cutting.{cut_refusal}
+use Rattle.ua_chunk.specs.declared.lane.Lane.{Lane}
+use Rattle.ua_channel.specs.Agreement.{Agreement, agreement_of, lane_of}
+use Rattle.ua_channel.specs.Asks.{Placed, asked_in, is_in, next_id}
+use Rattle.ua_channel.specs.Asks.Asking.{Call}
+use Rattle.ua_channel.specs.ClientReads.{AtClient, ClientReads, IsLaneBack, lane_from, told_reply, with_call, with_reply, without_id}
+use Rattle.ua_channel.specs.ClientTold.{Told as Heard}
+use Rattle.ua_channel.specs.InStep.{AreInStep}
+use Rattle.ua_channel.specs.Received.{latest}
+use Rattle.ua_channel.specs.ServerReads.{AtServer, with_message}
+use Rattle.ua_channel.specs.ServerSends.{replied}
+use Rattle.ua_channel.proofs.ClientReading.{reads_call, reads_replied}
+use Rattle.ua_channel.proofs.InStep.{in_step_call, in_step_reply, lane_from_server}
+use Rattle.ua_services.specs.Response.{response}
+use Rattle.ua_services.specs.declared.response.Response.{Response}
+use Rattle.ua_server.specs.Reply.{answered}
+use Rattle.ua_server.specs.Said.{behind_first, first_of, left_by, said_of}
+use Rattle.ua_server.specs.State.{State}
+use Rattle.ua_server.proofs.SaidInParts.{course}
+use Rattle.ua_client.specs.Sent.{calls_at}
+use Rattle.ua_client.proofs.Askings.{next-calls}
+use Rattle.ua_served.specs.Together.{behind_calls, calls_told}
+use Rattle.ua_served.proofs.Bodies.{response_takes_some}
+
+-- ---- calls that are unanswered
+
+-- a client with these calls more
+abbrev pub with_calls : AtClient → ℕ → List (List ℕ) → AtClient
+with_calls c id [] = c
+with_calls c id (body ∷ bodies) = with_calls (with_call c id) (id + 1) bodies
+
+pub calls_asked : (limits : Limits) (asks : List Placed) (octets : List ℕ) (told : List Heard) (c : AtClient) → ClientReads limits asks octets told c → (bodies : List (List ℕ))
+    → ClientReads limits (asks ++ calls_at (length octets) (next_id (asked_in asks)) bodies) octets told (with_calls c (next_id (asked_in asks)) bodies)
+calls_asked limits asks octets told c r [] = subst (λ (a : List Placed). ClientReads limits a octets told c) (sym (append-nil asks)) r
+calls_asked limits asks octets told c r (body ∷ bodies) =
+    let id : ℕ = next_id (asked_in asks) in
+    let one : List Placed = asks ++ (length octets, Call id) ∷ [] in
+    let others : List Placed = calls_at (length octets) (id + 1) bodies in
+    subst (λ (a : List Placed). ClientReads limits a octets told (with_calls (with_call c id) (id + 1) bodies)) (append_assoc asks ((length octets, Call id) ∷ []) others)
+    (subst (λ (n : ℕ). ClientReads limits (one ++ calls_at (length octets) n bodies) octets told (with_calls (with_call c id) n bodies)) (next-calls asks (length octets) id (body ∷ []))
+    (calls_asked limits one octets told (with_call c id) (reads_call limits asks octets told c r) bodies))
+
+or_true : (b : Bool) → (b || true) ≡ true
+or_true true = refl
+or_true false = refl
+
+in_more : (n m : ℕ) (ms : List ℕ) → is_in n ms ≡ true → is_in n (ms ++ m ∷ []) ≡ true
+in_more n m ms e = list_any-append (λ (k : ℕ). eqb k n) ms (m ∷ []) ∙ ap (λ (b : Bool). b || (eqb m n || false)) e
+
+in_last : (n m : ℕ) (ms : List ℕ) → m ≡ n → is_in n (ms ++ m ∷ []) ≡ true
+in_last n m ms e = list_any-append (λ (k : ℕ). eqb k n) ms (m ∷ []) ∙ (ap (λ (b : Bool). is_in n ms || (b || false)) (eq-eqb m n e) ∙ or_true (is_in n ms))
+
+stays_waiting : (c : AtClient) (id : ℕ) (bodies : List (List ℕ)) (k : ℕ) → is_in k c.pending ≡ true → is_in k (with_calls c id bodies).pending ≡ true
+stays_waiting c id [] k e = e
+stays_waiting c id (body ∷ bodies) k e = stays_waiting (with_call c id) (id + 1) bodies k (in_more k id c.pending e)
+
+-- each of them is unanswered
+pub waits : (c : AtClient) (id : ℕ) (bodies : List (List ℕ)) (k : ℕ) → id ≤ k → k < id + length bodies → is_in k (with_calls c id bodies).pending ≡ true
+waits c id [] k from to = absurd (omega (arith, from, to))
+waits c id (body ∷ bodies) k from to = by (λ later. waits (with_call c id) (id + 1) bodies k (omega (arith, later)) (omega (arith, to))) (cases_lt id k)
+  where
+    by : (id < k → is_in k (with_calls (with_call c id) (id + 1) bodies).pending ≡ true) → ((id < k) ⊎ (k ≤ id)) → is_in k (with_calls (with_call c id) (id + 1) bodies).pending ≡ true
+    by rest (inl later) = rest later
+    by rest (inr here) = stays_waiting (with_call c id) (id + 1) bodies k (in_last k id c.pending (omega (arith, from, here)))
+
+-- a call stays unanswered where one before it is answered
+kept_by : (gone same : Bool) (id k m : ℕ) (ms : List ℕ) → (gone ≡ true → same ≡ false) → eqb m k ≡ same → (is_in k ms ≡ true → is_in k (without_id id ms) ≡ true) → (same || is_in k ms) ≡ true
+    → is_in k (if not gone then m ∷ without_id id ms else without_id id ms) ≡ true
+kept_by true true id k m ms apart is rest e = let no : true ≡ false = apart refl in absurd cc
+kept_by true false id k m ms apart is rest e = rest e
+kept_by false true id k m ms apart is rest e = ap (λ (b : Bool). b || is_in k (without_id id ms)) is
+kept_by false false id k m ms apart is rest e = ap (λ (b : Bool). b || is_in k (without_id id ms)) is ∙ rest e
+
+kept_in : (id k : ℕ) (ms : List ℕ) → id < k → is_in k ms ≡ true → is_in k (without_id id ms) ≡ true
+kept_in id k [] less e = e
+kept_in id k (m ∷ ms) less e =
+    kept_by (eqb m id) (eqb m k) id k m ms (λ h. let same = eqb-true m id h in ne_eqb m k (λ n. omega (arith, less, same, n))) refl (kept_in id k ms less) e
+
+-- ---- in step
+
+pub calls_in_step : (server client : Limits) (url : Option (List ℕ)) (channel : ℕ) (s : AtServer) (c : AtClient) (id : ℕ) → AreInStep server client url channel s c → latest c.tokens ≡ Some c.newest → (bodies : List (List ℕ))
+    → AreInStep server client url channel (behind_calls s (lane_from c) bodies) (with_calls c id bodies)
+calls_in_step server client url channel s c id h newest [] = h
+calls_in_step server client url channel s c id h newest (body ∷ bodies) =
+    calls_in_step server client url channel (with_message s (lane_from c) body) (with_call c id) (id + 1) (in_step_call server client url channel s c h body id newest) newest bodies
+
+pub used_last : (s : AtServer) (lane : Lane) (bodies : List (List ℕ)) → 0 < length bodies → (behind_calls s lane bodies).used ≡ lane.token
+used_last s lane [] some = absurd (omega (arith, some))
+used_last s lane (body ∷ []) some = refl
+used_last s lane (body ∷ (next ∷ bodies)) some = used_last (with_message s lane body) lane (next ∷ bodies) (omega arith)
+
+pub hello_stays : (s : AtServer) (lane : Lane) (bodies : List (List ℕ)) → (behind_calls s lane bodies).hello ≡ s.hello
+hello_stays s lane [] = refl
+hello_stays s lane (body ∷ bodies) = hello_stays (with_message s lane body) lane bodies
+
+-- ---- replies, one behind the other
+
+-- what is said of calls is read
+pub record AreHeard (server client : Limits) (url : Option (List ℕ)) (channel : ℕ) (s : AtServer) (asks : List Placed) (octets : List ℕ) (number : ℕ) (agreement : Option Agreement) : Type 0 where
+  pub at : AtClient
+  pub heard : List Heard
+  pub reads : ClientReads client asks octets heard at
+  pub in_step : AreInStep server client url channel s at
+  pub number_is : number ≡ at.next
+  pub agreed : agreement ≡ Some (agreement_of server s.hello)
+
+module _ (server client : Limits) (url : Option (List ℕ)) (channel : ℕ) (on : channel < 2 ^ 32) (s : AtServer) (few_used : s.used < 2 ^ 32) (lane : Lane) (used_is : s.used ≡ lane.token) where
+  abbrev g : Agreement
+  g = agreement_of server s.hello
+
+  abbrev back : Lane
+  back = lane_of channel lane.token g
+
+  lane_here : (c : AtClient) → AreInStep server client url channel s c → IsLaneBack client c back
+  lane_here c h = subst (λ (t : ℕ). IsLaneBack client c (lane_of channel t g)) used_is (lane_from_server server client url channel s c h on few_used)
+
+  step_here : (c : AtClient) → AreInStep server client url channel s c → (id next : ℕ) → AreInStep server client url channel s (with_reply c lane.token id next)
+  step_here c h id next = subst (λ (t : ℕ). AreInStep server client url channel s (with_reply c t id next)) used_is (in_step_reply server client url channel s c h id next)
+
+  pub replies_read : (asks : List Placed) (octets : List ℕ) (told : List Heard) (c : AtClient) (state : State) (n : ℕ) (moments : List DateTime) (id : ℕ) (bodies : List (List ℕ))
+      → ClientReads client asks octets told c → AreInStep server client url channel s c → n ≡ c.next → ((k : ℕ) → id ≤ k → k < id + length bodies → is_in k c.pending ≡ true) → id + length bodies ≤ 4294967295
+      → AreHeard server client url channel s asks (octets ++ said_of channel (course state n moments (Some g)) (calls_told lane id bodies))
+      (left_by channel (course state n moments (Some g)) (calls_told lane id bodies)).number (left_by channel (course state n moments (Some g)) (calls_told lane id bodies)).agreement
+  replies_read asks octets told c state n moments id [] r h next waiting few =
+      record { at = c; heard = told; reads = subst (λ (o : List ℕ). ClientReads client asks o told c) (sym (append-nil octets)) r; in_step = h; number_is = next; agreed = refl }
+  replies_read asks octets told c state n moments id (body ∷ bodies) r h next waiting few =
+      let given : State × Response = answered state (first_of moments) body in
+      let reply : List ℕ = response.canonical given.1 in
+      let out : List ℕ × ℕ = replied back reply n id in
+      let heard : List Heard = told ++ told_reply (cut_refusal back reply) id reply ∷ [] in
+      let now : AtClient = with_reply c lane.token id out.1 in
+      let one : ClientReads client asks (octets ++ out.0) heard now =
+      subst (λ (m : ℕ). ClientReads client asks (octets ++ (replied back reply m id).0) heard (with_reply c lane.token id (replied back reply m id).1)) (sym next)
+      (reads_replied client asks octets told c back id r (lane_here c h) (waiting id (omega arith) (omega arith)) (omega (arith, few)) reply (response_takes_some given.1)) in
+      let rest =
+      replies_read asks (octets ++ out.0) heard now given.0 out.1 (behind_first moments) (id + 1) bodies one (step_here c h id out.1) refl
+      (λ k from to. kept_in id k c.pending (omega (arith, from)) (waiting k (omega (arith, from)) (omega (arith, to)))) (omega (arith, few)) in
+      record {
+        at = rest.at;
+        heard = rest.heard;
+        reads = subst (λ (o : List ℕ). ClientReads client asks o rest.heard rest.at)
+            (append_assoc octets out.0 (said_of channel (course given.0 out.1 (behind_first moments) (Some g)) (calls_told lane (id + 1) bodies))) rest.reads;
+        in_step = rest.in_step;
+        number_is = rest.number_is;
+        agreed = rest.agreed;
+      }

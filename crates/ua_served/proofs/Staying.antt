@@ -1,0 +1,151 @@
+-- That both ends in one process stay in step.
+use Rattle.std.proofs.Common.{◌≡◌, ℕ, ◌+◌, ◌<◌, ◌^◌, List, [], ◌∷◌, ◌++◌, Option, Some, length, refl, sym, ◌∙◌, ap, subst, arith, append-nil}
+use Rattle.ua_builtin.specs.declared.date_time.DateTime.{DateTime}
+use Rattle.ua_frame.specs.Run.{Going}
+use Rattle.ua_frame.specs.declared.limits.Limits.{Limits}
+use Rattle.ua_frame.specs.declared.hello.Hello.{Hello}
+use Rattle.ua_chunk.specs.declared.lane.Lane.{Lane}
+use Rattle.ua_channel.specs.Agreement.{Agreement, agreement_of}
+use Rattle.ua_channel.specs.Asks.{Placed}
+use Rattle.ua_channel.specs.Client.{limits_of}
+use Rattle.ua_channel.specs.ClientReads.{AtClient, ClientReads, lane_from}
+use Rattle.ua_channel.specs.ClientTold.{Told as Heard}
+use Rattle.ua_channel.specs.InStep.{AreInStep}
+use Rattle.ua_channel.specs.ServerReads.{AtServer, ServerReads}
+use Rattle.ua_channel.specs.ServerTold.{Told}
+use Rattle.ua_channel.specs.declared.client.channel.ClientChannel.{ClientChannel}
+use Rattle.ua_channel.proofs.Following.{client_told}
+use Rattle.ua_services.specs.declared.request.Request.{Request}
+use Rattle.ua_server.specs.Said.{Course, left, left_by, said, said_of, with_more}
+use Rattle.ua_server.proofs.SaidInParts.{course, left-append, left-more, said-append, said-more}
+use Rattle.ua_client.specs.Calls.{Answered, asked_at, sent_at}
+use Rattle.ua_client.specs.Sent.{bodies_of}
+use Rattle.ua_client.specs.Site.{Site, At, id_at}
+use Rattle.ua_client.specs.declared.reply.Reply.{Reply}
+use Rattle.ua_served.specs.Beginning.{Beginning}
+use Rattle.ua_served.specs.Says.{said_to, spent}
+use Rattle.ua_served.specs.Together.{AreServing, behind_calls, calls_told}
+use Rattle.ua_served.proofs.Answering.{AreHeard, calls_asked, calls_in_step, hello_stays, replies_read, used_last, waits, with_calls}
+use Rattle.ua_served.proofs.Reaching.{few_ids, numbers_read, requests_asked, requests_read}
+use Rattle.ua_served.proofs.Saying.{said_by_run, spent-append, spent-enough}
+
+-- ---- what a server says of more
+
+module _ (b : Beginning) (octets : List ℕ) (told : List Told) (s : AtServer) (r : ServerReads b.limits b.channel octets told s) where
+  said_there : said_to b octets ≡ said b.channel b.first told Going (spent told b.moment)
+  said_there = said_by_run b octets r.frames [] Going r.run ∙ ap (λ (t : List Told). said b.channel b.first t Going (spent t b.moment)) r.told_is
+
+  -- how far the server is behind these
+  abbrev pub behind_told : List Told → Course
+  behind_told more = with_more (left b.channel b.first told (spent told b.moment)) (spent more b.moment)
+
+  left_then : (more : List Told) → left b.channel b.first told (spent told b.moment ++ spent more b.moment) ≡ behind_told more
+  left_then more = left-more b.channel b.first told (spent told b.moment) (spent more b.moment) (spent-enough told b.moment)
+
+  pub left_more : (more : List Told) → left b.channel b.first (told ++ more) (spent (told ++ more) b.moment) ≡ left_by b.channel (behind_told more) more
+  left_more more =
+      ap (λ (ms : List DateTime). left b.channel b.first (told ++ more) ms) (spent-append told more b.moment)
+      ∙ (left-append b.channel b.first told more (spent told b.moment ++ spent more b.moment) ∙ ap (λ (k : Course). left_by b.channel k more) (left_then more))
+
+  pub said_more : (later : List ℕ) (more : List Told) (t : AtServer) → ServerReads b.limits b.channel later (told ++ more) t → said_to b later ≡ said_to b octets ++ said_of b.channel (behind_told more) more
+  said_more later more t q =
+      let ms : List DateTime = spent told b.moment ++ spent more b.moment in
+      let whole : said_to b later ≡ said b.channel b.first (told ++ more) Going (spent (told ++ more) b.moment) =
+      said_by_run b later q.frames [] Going q.run ∙ ap (λ (k : List Told). said b.channel b.first k Going (spent k b.moment)) q.told_is in
+      whole
+      ∙ (ap (λ (m : List DateTime). said b.channel b.first (told ++ more) Going m) (spent-append told more b.moment)
+      ∙ (said-append b.channel b.first told more Going ms
+      ∙ (ap (λ (o : List ℕ). o ++ (said_of b.channel (left b.channel b.first told ms) more ++ [])) (said-more b.channel b.first told Going (spent told b.moment) (spent more b.moment) (spent-enough told b.moment) ∙ sym said_there)
+      ∙ (ap (λ (o : List ℕ). said_to b octets ++ o) (append-nil (said_of b.channel (left b.channel b.first told ms) more))
+      ∙ ap (λ (k : Course). said_to b octets ++ said_of b.channel k more) (left_then more)))))
+
+some_bodies : (requests : List Request) → 0 < length requests → 0 < length (bodies_of requests)
+some_bodies [] some = absurd (omega (arith, some))
+some_bodies (m ∷ ms) some = omega arith
+
+-- ---- a turn
+
+module _ (b : Beginning) (url : Option (List ℕ)) (octets : List ℕ) (told : List Told) (s : AtServer) (x y : ClientChannel) (site behind : Site) (c : AtClient) (requests : List Request) (taken : List ℕ) (replies : List Reply)
+    (on : b.channel < 2 ^ 32) (t : AreServing b url octets told s x site c) (some : 0 < length requests) (a : Answered requests site behind taken replies)
+    (stands : At y behind) (same : limits_of y ≡ limits_of x) (took : behind.octets ≡ said_to b (octets ++ sent_at site requests)) where
+  abbrev lane : Lane
+  lane = lane_from c
+
+  abbrev bodies : List (List ℕ)
+  bodies = bodies_of requests
+
+  abbrev calls : List Told
+  calls = calls_told lane (id_at site) bodies
+
+  abbrev then_at : AtServer
+  then_at = behind_calls s lane bodies
+
+  abbrev g : Agreement
+  g = agreement_of b.limits then_at.hello
+
+  abbrev before : Course
+  before = left b.channel b.first told (spent told b.moment)
+
+  abbrev moments : List DateTime
+  moments = before.moments ++ spent calls b.moment
+
+  server_then : ServerReads b.limits b.channel (octets ++ sent_at site requests) (told ++ calls) then_at
+  server_then = requests_read b.limits url b.channel octets told s x site c on t.together requests a.judged
+
+  step_then : AreInStep b.limits (limits_of x) url b.channel then_at (with_calls c (id_at site) bodies)
+  step_then = calls_in_step b.limits (limits_of x) url b.channel s c (id_at site) t.together.in_step t.together.client_reads.newest_is bodies
+
+  few_used : then_at.used < 2 ^ 32
+  few_used = omega (arith, step_then.taken.not_before, step_then.taken.issued, server_then.few_issued)
+
+  agreed_before : before.agreement ≡ Some g
+  agreed_before = t.agreed ∙ ap (λ (h : Hello). Some (agreement_of b.limits h)) (sym (hello_stays s lane bodies))
+
+  course_is : behind_told b octets told s t.together.server_reads calls ≡ course before.state before.number moments (Some g)
+  course_is = ap (λ (o : Option Agreement). course before.state before.number moments o) agreed_before
+
+  heard_then : AreHeard b.limits (limits_of x) url b.channel then_at (asked_at site requests) (site.octets ++ said_of b.channel (course before.state before.number moments (Some g)) calls)
+      (left_by b.channel (course before.state before.number moments (Some g)) calls).number (left_by b.channel (course before.state before.number moments (Some g)) calls).agreement
+  heard_then =
+      replies_read b.limits (limits_of x) url b.channel on then_at few_used lane (used_last s lane bodies (some_bodies requests some))
+      (asked_at site requests) site.octets site.told (with_calls c (id_at site) bodies) before.state before.number moments (id_at site) bodies
+      (calls_asked (limits_of x) site.asks site.octets site.told c t.together.client_reads bodies) step_then (t.says_next ∙ sym (next_stays c (id_at site) bodies))
+      (waits c (id_at site) bodies) (few_ids c.ack (id_at site) requests (requests_asked b.limits url b.channel octets told s x site c on t.together requests a.judged) some)
+    where
+      next_stays : (d : AtClient) (id : ℕ) (bs : List (List ℕ)) → (with_calls d id bs).next ≡ d.next
+      next_stays d id [] = refl
+      next_stays d id (body ∷ bs) = next_stays (record d { pending = d.pending ++ id ∷ [] }) (id + 1) bs
+
+  octets_then : behind.octets ≡ site.octets ++ said_of b.channel (course before.state before.number moments (Some g)) calls
+  octets_then =
+      took
+      ∙ (said_more b octets told s t.together.server_reads (octets ++ sent_at site requests) calls then_at server_then
+      ∙ (ap (λ (o : List ℕ). o ++ said_of b.channel (behind_told b octets told s t.together.server_reads calls) calls) (sym t.taken)
+      ∙ ap (λ (k : Course). site.octets ++ said_of b.channel k calls) course_is))
+
+  left_then_is : left b.channel b.first (told ++ calls) (spent (told ++ calls) b.moment) ≡ left_by b.channel (course before.state before.number moments (Some g)) calls
+  left_then_is = left_more b octets told s t.together.server_reads calls ∙ ap (λ (k : Course). left_by b.channel k calls) course_is
+
+  here : ClientReads (limits_of y) behind.asks behind.octets heard_then.heard heard_then.at
+  here =
+      subst (λ (l : Limits). ClientReads l behind.asks behind.octets heard_then.heard heard_then.at) (sym same)
+      (subst (λ (p : List Placed). ClientReads (limits_of x) p behind.octets heard_then.heard heard_then.at) (sym a.asks)
+      (subst (λ (o : List ℕ). ClientReads (limits_of x) (asked_at site requests) o heard_then.heard heard_then.at) (sym octets_then) heard_then.reads))
+
+  -- both are in step behind requests that are answered
+  pub stay_together : (d : AtClient) × AreServing b url (octets ++ sent_at site requests) (told ++ calls) then_at y behind d
+  stay_together = (
+    heard_then.at,
+    record {
+      together = record {
+        server_reads = server_then;
+        stands = stands;
+        client_reads = subst (λ (h : List Heard). ClientReads (limits_of y) behind.asks behind.octets h heard_then.at) (sym (client_told y behind.asks behind.octets behind.told heard_then.heard heard_then.at stands.goes here)) here;
+        in_step = subst (λ (l : Limits). AreInStep b.limits l url b.channel then_at heard_then.at) (sym same) heard_then.in_step;
+        number_is = a.number ∙ numbers_read b.limits url b.channel octets told s x site c on t.together requests;
+      };
+      taken = took;
+      agreed = ap (λ (k : Course). k.agreement) left_then_is ∙ heard_then.agreed;
+      says_next = ap (λ (k : Course). k.number) left_then_is ∙ heard_then.number_is;
+    },
+  )
