@@ -88,7 +88,7 @@ to_quiet R x asks octets piece before n same all goes = record {
   told_is = subst (λ (S : Rules Told Why). events S goes.frames ≡ before) same goes.told_is;
 }
 
-to_tells : (R : Rules Told Why) (x : ClientChannel) (asks : List Placed) (octets piece : List ℕ) (before : List Told) (n : ℕ) (e : Told) → rules_of x asks ≡ R → n ≤ length piece → GoesTelling x asks (octets ++ take n piece) before e → Tells R octets piece before n e
+pub to_tells : (R : Rules Told Why) (x : ClientChannel) (asks : List Placed) (octets piece : List ℕ) (before : List Told) (n : ℕ) (e : Told) → rules_of x asks ≡ R → n ≤ length piece → GoesTelling x asks (octets ++ take n piece) before e → Tells R octets piece before n e
 to_tells R x asks octets piece before n e same within goes = record {
   within = within;
   frames = goes.frames;

@@ -8,3 +8,10 @@ pub mod AsksAlike
 pub mod AdvancesAlike
 pub mod NodesAlike
 pub mod StepsAlike
+pub mod FrontsAlike
+pub mod ServedAlike
+pub mod ExchangedAlike
+pub mod CallsAlike
+pub mod RenewalsAlike
+pub mod OpeningsAlike
+pub mod GroupsAlike

@@ -16,18 +16,18 @@ use Rattle.ua_pinned.proofs.FramesAlike.{no_part, good_not_wrong}
 -- ---- lists
 
 -- one list is split in two places
-data Splits {A : Type 0} (us vs : List A) (x y : A) (xs ys : List A) : Type 0 where
+pub data Splits {A : Type 0} (us vs : List A) (x y : A) (xs ys : List A) : Type 0 where
   Here : us ≡ vs → x ≡ y → Splits us vs x y xs ys
   Later : (m : List A) → vs ≡ (us ++ x ∷ []) ++ m → Splits us vs x y xs ys
   Sooner : (m : List A) → us ≡ (vs ++ y ∷ []) ++ m → Splits us vs x y xs ys
 
-same_head : {A : Type 0} (x y : A) (xs ys : List A) → x ∷ xs ≡ y ∷ ys → x ≡ y
+pub same_head : {A : Type 0} (x y : A) (xs ys : List A) → x ∷ xs ≡ y ∷ ys → x ≡ y
 same_head x y xs ys e = cc
 
-same_tail : {A : Type 0} (x y : A) (xs ys : List A) → x ∷ xs ≡ y ∷ ys → xs ≡ ys
+pub same_tail : {A : Type 0} (x y : A) (xs ys : List A) → x ∷ xs ≡ y ∷ ys → xs ≡ ys
 same_tail x y xs ys e = cc
 
-same_list : {A : Type 0} (a b : A) (us vs : List A) → a ≡ b → us ≡ vs → a ∷ us ≡ b ∷ vs
+pub same_list : {A : Type 0} (a b : A) (us vs : List A) → a ≡ b → us ≡ vs → a ∷ us ≡ b ∷ vs
 same_list a b us vs p q = cc
 
 more_split : {A : Type 0} (a b : A) (us vs : List A) (x y : A) (xs ys : List A) → a ≡ b → Splits us vs x y xs ys → Splits (a ∷ us) (b ∷ vs) x y xs ys
@@ -35,7 +35,7 @@ more_split a b us vs x y xs ys p (Here q r) = Here (same_list a b us vs p q) r
 more_split a b us vs x y xs ys p (Later m q) = Later m (same_list b a vs ((us ++ x ∷ []) ++ m) (sym p) q)
 more_split a b us vs x y xs ys p (Sooner m q) = Sooner m (same_list a b us ((vs ++ y ∷ []) ++ m) p q)
 
-split : {A : Type 0} (us vs : List A) (x y : A) (xs ys : List A) → (us ++ x ∷ []) ++ xs ≡ (vs ++ y ∷ []) ++ ys → Splits us vs x y xs ys
+pub split : {A : Type 0} (us vs : List A) (x y : A) (xs ys : List A) → (us ++ x ∷ []) ++ xs ≡ (vs ++ y ∷ []) ++ ys → Splits us vs x y xs ys
 split [] [] x y xs ys e = Here refl (same_head x y xs ys e)
 split [] (b ∷ vs) x y xs ys e = Later vs (same_list b x vs vs (sym (same_head x b xs ((vs ++ y ∷ []) ++ ys) e)) refl)
 split (a ∷ us) [] x y xs ys e = Sooner us (same_list a y us us (same_head a y ((us ++ x ∷ []) ++ xs) ys e) refl)
@@ -66,10 +66,10 @@ same_front octets piece n m p q e =
 
 -- ---- the first frames of a reading
 
-no_none : {A : Type 0} (o : Option A) (a : A) → o ≡ Some a → o ≡ None → ⊥
+pub no_none : {A : Type 0} (o : Option A) (a : A) → o ≡ Some a → o ≡ None → ⊥
 no_none o a s n = let c : Some a ≡ None = sym s ∙ n in cc
 
-not_both : (b : Bool) → b ≡ false → b ≡ true → ⊥
+pub not_both : (b : Bool) → b ≡ false → b ≡ true → ⊥
 not_both b f t = let c : false ≡ true = sym f ∙ t in cc
 
 -- where octets end, no frame begins that fits
@@ -92,7 +92,7 @@ front_from R start (f ∷ fs) (g ∷ gs) rest x end p q r e =
     (more.0, same_list g f gs (fs ++ more.0) (sym one.0) more.1)
 
 -- the frames of a beginning are the first of those of the whole
-begins : {E X : Type 0} (R : Rules E X) (octets more whole : List ℕ) (fs gs : List Frame) (rest x : List ℕ) (end last : End X) → octets ++ more ≡ whole → Run R octets fs rest end → Run R whole gs x last → (later : List Frame) × (gs ≡ fs ++ later)
+pub begins : {E X : Type 0} (R : Rules E X) (octets more whole : List ℕ) (fs gs : List Frame) (rest x : List ℕ) (end last : End X) → octets ++ more ≡ whole → Run R octets fs rest end → Run R whole gs x last → (later : List Frame) × (gs ≡ fs ++ later)
 unfolding AllAfter
 begins R octets more whole fs gs rest x end last e r s =
     front_from R [] fs gs (rest ++ more) x last r.good s.good s.ends (sym (append_assoc (frames_octets fs) rest more) ∙ (ap (λ (t : List ℕ). t ++ more) (sym r.whole) ∙ (e ∙ s.whole)))
@@ -104,7 +104,7 @@ each_append {A = A} {B = B} g start (x ∷ xs) ys =
     ∙ (sym (append_assoc (g start x) (each_from g (start ++ x ∷ []) xs) (each_from g ((start ++ x ∷ []) ++ xs) ys))
     ∙ ap (λ (t : List A). (g start x ++ each_from g (start ++ x ∷ []) xs) ++ each_from g t ys) (append_assoc start (x ∷ []) xs))
 
-events_on : {E X : Type 0} (R : Rules E X) (fs gs : List Frame) → events R (fs ++ gs) ≡ events R fs ++ each_from R.tells fs gs
+pub events_on : {E X : Type 0} (R : Rules E X) (fs gs : List Frame) → events R (fs ++ gs) ≡ events R fs ++ each_from R.tells fs gs
 unfolding each_after
 events_on R fs gs = each_append R.tells [] fs gs
 

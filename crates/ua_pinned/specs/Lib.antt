@@ -3,3 +3,7 @@ pub mod Alike
 pub mod Servers
 pub mod Steps
 pub mod Clients
+pub mod Lines
+pub mod Serving
+pub mod Exchanges
+pub mod Calling

@@ -5,12 +5,15 @@ mod answers;
 mod arrays;
 mod assembling;
 mod bodies;
+mod calling;
 mod chunks;
 mod clients;
 mod cutting;
+mod exchanging;
 mod frames;
 mod nodes;
 mod servers;
+mod serving;
 mod steps;
 mod texts;
 mod values;
@@ -22,17 +25,20 @@ pub use bodies::{
     read_open_request_twice, read_open_response_twice, read_request_twice, read_response_twice,
     request_body_twice, response_body_twice, skip_request_twice,
 };
+pub use calling::{call_all_twice, call_twice, close_twice, open_twice, renew_twice};
 pub use chunks::{read_chunk_twice, read_open_twice};
 pub use clients::{
     client_ask_twice, client_close_twice, client_judge_twice, client_renew_twice,
     client_take_twice, client_tells_twice,
 };
 pub use cutting::cut_twice;
+pub use exchanging::exchange_twice;
 pub use frames::take_frame_twice;
 pub use nodes::{append_items_twice, insert_twice, load_twice, read_item_twice, write_items_twice};
 pub use servers::{
     server_advance_twice, server_reply_twice, server_take_twice, server_tells_twice,
 };
+pub use serving::serve_twice;
 pub use steps::step_server_twice;
 pub use texts::{parse_text_twice, to_text_twice};
 pub use values::{append_twice, read_twice, read_whole_twice, write_twice};

@@ -1,0 +1,41 @@
+//! Lines that are served twice.
+
+ghost use Rattle.std.specs.Prelude.{◌≡◌, ℕ, ℤ, List};
+ghost use Rattle.ua_pinned.specs.Lines.{LinesAlike, WroteAlike};
+ghost use Rattle.ua_pinned.specs.Pinned.{HadMemory};
+ghost use Rattle.ua_pinned.specs.Serving.{LeftServices, ServesAlike};
+ghost use Rattle.ua_server.specs.declared.serve_fault.ServeFault.TheVariants.{OutOfMemory};
+
+use std::alloc::Global;
+use ua_channel::{Line, Moments};
+use ua_frame::Limits;
+use ua_server::{End, ServeFault, Services, serve};
+
+/// Serves two lines that bring the same octets and fail alike, from services in the same state, at the
+/// same moments: the answers are one, the same octets are written, and the services are left in one
+/// state.
+pub fn serve_twice<L: Line, K: Line, M: Moments>(
+    alloc: Global,
+    line: &mut L,
+    other: &mut K,
+    services: &mut Services,
+    others: &mut Services,
+    limits: Limits,
+    channel_id: u32,
+    moments: &mut M,
+    again: &mut M,
+) -> (Result<End, ServeFault>, Result<End, ServeFault>)
+    requires same { services.old ≡ others.old }
+    requires moments { moments.old ≡ again.old }
+    requires once { (m x y : M) (t u : ℤ) → M.gives m t x → M.gives m u y → (t ≡ u) × (x ≡ y) }
+    ensures answers { (coming : List ℕ) → LinesAlike (L.traffic line.old) (K.traffic other.old) coming → HadMemory OutOfMemory result.0 result.1
+        → ServesAlike result.0 result.1 (L.traffic line.old) (L.traffic line.new) (K.traffic other.old) (K.traffic other.new) → result.0 ≡ result.1 }
+    ensures written { (coming : List ℕ) → LinesAlike (L.traffic line.old) (K.traffic other.old) coming → HadMemory OutOfMemory result.0 result.1
+        → ServesAlike result.0 result.1 (L.traffic line.old) (L.traffic line.new) (K.traffic other.old) (K.traffic other.new) → WroteAlike (L.traffic line.old) (L.traffic line.new) (K.traffic other.old) (K.traffic other.new) }
+    ensures state { (coming : List ℕ) → LinesAlike (L.traffic line.old) (K.traffic other.old) coming → HadMemory OutOfMemory result.0 result.1
+        → ServesAlike result.0 result.1 (L.traffic line.old) (L.traffic line.new) (K.traffic other.old) (K.traffic other.new) → LeftServices result.0 services.new others.new }
+{
+    let first = serve(alloc, line, services, limits, channel_id, moments);
+    let second = serve(alloc, other, others, limits, channel_id, again);
+    (first, second)
+}
