@@ -23,6 +23,7 @@ mod lines;
 mod parts;
 mod requests;
 mod rows;
+mod served;
 mod server;
 mod serving;
 mod sweeps;

@@ -9,7 +9,7 @@ use crate::serving::Serving;
 use crate::taking::take_pieces;
 use crate::told::Told;
 use crate::words::{first_number, front, limits_of, text_of};
-use crate::{bodies, calling, client, ends, frames, parts, server, uses};
+use crate::{bodies, calling, client, ends, frames, parts, served, server, uses};
 use std::alloc::Global;
 use ua_builtin::Wire;
 use ua_channel::{ClientChannel, ServerChannel};
@@ -73,6 +73,7 @@ impl Rows {
                 let (nodes, turns) = (self.serving.nodes.as_str(), self.turns.as_slice());
                 ends::answer(&self.given, nodes, turns, words, told);
             }
+            "converse" => served::answer(&self.given, &self.serving, words, told),
             _ => self.answer_alone(kind, words, told),
         }
     }

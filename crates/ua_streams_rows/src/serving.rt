@@ -213,7 +213,7 @@ impl Serving {
 }
 
 /// Tells how a connection ended.
-fn tell_end(end: End, told: &mut Told) {
+pub fn tell_end(end: End, told: &mut Told) {
     match end {
         End::Refused(code) => tell_code("Refused", code, told),
         end => told.named(&end),
