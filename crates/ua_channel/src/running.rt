@@ -97,6 +97,7 @@ impl Running {
     }
 
     /// Why the ids of a chunk's channel and token are refused.
+    #[inline(always)]
     fn judge_ids(&self, channel: u32, chunk: &Chunk) -> Option<StatusCode>
         ensures { option_map (λ status. status.code) result ≡ first_reason (ids_reasons chunk.now channel self.now.used self.now.issued) }
     {
@@ -110,6 +111,7 @@ impl Running {
     }
 
     /// Takes a chunk of a message.
+    #[inline(always)]
     pub(crate) fn on_message(
         &mut self,
         channel: u32,

@@ -83,6 +83,7 @@ impl Assembler {
     }
 
     /// Why a chunk whose message was taken out is refused, but for memory.
+    #[inline(always)]
     fn refusal(&self, pending: &Pending, chunk: &Chunk) -> Option<AssembleFault>
         ensures { result ≡ refusal_kept self.now pending.now chunk.now }
     {
@@ -106,6 +107,7 @@ impl Assembler {
     }
 
     /// Adds a chunk to its message, which was taken out.
+    #[inline(always)]
     fn add(&mut self, mut pending: Pending, chunk: Chunk) -> Result<Option<Delivered>, AllocError>
         ensures given { IfOk result (λ d. items_of d ≡ given_kept pending chunk) }
         ensures parts { IfOk result (λ d. HasParts d (pending.message ++ filled (chunk.body ∷ []))) }
@@ -134,6 +136,7 @@ impl Assembler {
 
     /// Takes the next chunk, and hands out the message that it ends, if it does. After a fault the
     /// assembler takes nothing more.
+    #[inline(always)]
     pub fn accept(&mut self, chunk: Chunk) -> Result<Option<Delivered>, AssembleFault>
         // What is handed out is what the chunks deliver with this one, and did not without it.
         ensures given { (cs : List Chunk) → Stands self.old cs →

@@ -30,6 +30,7 @@ pub struct Chunk {
 }
 
 /// The chunk of a MSG or CLO frame. It takes no memory, and moves no octet.
+#[inline(always)]
 pub fn read_chunk(frame: Frame) -> Chunk
     requires flag { IsTrue (has_flag Msg frame.flag) }
     requires body { 16 ≤ length frame.body }

@@ -75,6 +75,7 @@ impl Message {
     }
 
     /// Adds the body of one more chunk, as it is.
+    #[inline(always)]
     pub(crate) fn add(&mut self, body: Bytes) -> Result<(), AllocError>
         ensures { OnOk result (self.new ≡ self.old ++ filled (body ∷ [])) }
     {

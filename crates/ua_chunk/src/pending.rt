@@ -19,6 +19,7 @@ impl Pending {
     ghost use Rattle.ua_chunk.specs.Gathered.{filled};
 
     /// Adds the body of one more chunk.
+    #[inline(always)]
     pub fn add(&mut self, body: Bytes) -> Result<(), AllocError>
         ensures { OnOk result (self.new ≡ record {
           request = self.old.request;
@@ -98,6 +99,7 @@ impl PendingMessages {
     }
 
     /// Takes out what has come under a request id.
+    #[inline(always)]
     pub fn take_out(&mut self, alloc: Global, request: u32) -> Pending
         ensures taken { result ≡ message_of request self.old }
         ensures rest { self.new ≡ without (is_under request) self.old }

@@ -58,6 +58,7 @@ pub fn read_size(header: &[u8]) -> u32
 
 /// What is wrong with a header where this gate stands.
 #[tactic(auto, unfolding(crate::specs::Frames::header_fault))]
+#[inline(always)]
 pub fn judge(gate: &Gate, header: &[u8]) -> Option<FrameFault>
     requires { length header.now ≡ 8 }
     ensures { result ≡ header_fault gate.now header.now }
@@ -83,6 +84,7 @@ pub fn judge(gate: &Gate, header: &[u8]) -> Option<FrameFault>
 
 /// The frame of a header and all that follows it.
 #[tactic(auto, using(crate::proofs::Fronts::header_frame))]
+#[inline(always)]
 pub fn make_frame(header: &[u8], body: Bytes) -> Frame
     requires head { length header.now ≡ 8 }
     requires sized { size_of header.now ≡ 8 + length body }

@@ -70,6 +70,7 @@ impl FrameReader {
     }
 
     /// Takes octets, by what is held and the piece alone.
+    #[inline(always)]
     fn advance(&mut self, piece: &[u8]) -> Result<(usize, Option<Frame>), FrameFault>
         ensures { Takes self.old piece.now result self.new }
     {
@@ -84,6 +85,7 @@ impl FrameReader {
     /// Takes octets up to the end of the first whole frame, else the whole piece. What is wrong
     /// with a header is answered as soon as its eight octets are there. After a fault the reader
     /// is closed.
+    #[inline(always)]
     pub fn take(&mut self, piece: &[u8]) -> Result<(usize, Option<Frame>), FrameFault>
         ensures takes { Takes self.old piece.now result self.new }
         ensures stands { (octets : List ℕ) (frames : List Frame) → StandsAfter self.old octets frames

@@ -23,6 +23,7 @@ pub struct Unfinished {
 }
 
 /// Puts the front of a piece where the header goes on.
+#[inline(always)]
 fn fill(header: &mut [u8], have: usize, piece: &[u8]) -> usize
     requires { have ≤ length header.old }
     ensures count { result ≡ min (length header.old - have) (length piece.now) }
@@ -35,6 +36,7 @@ fn fill(header: &mut [u8], have: usize, piece: &[u8]) -> usize
 
 /// Adds the front of a piece to a body, up to the length that it is to have. Room is made for at most
 /// twice the octets that have come, and never for more than that length.
+#[inline(always)]
 fn extend(body: &mut Vec<u8>, len: usize, piece: &[u8]) -> Result<usize, AllocError>
     requires { length body.old.items ≤ len }
     ensures count { IfOk result (λ n. n ≡ min (len - length body.old.items) (length piece.now)) }
@@ -74,6 +76,7 @@ impl Unfinished {
     }
 
     /// Takes octets behind a whole header.
+    #[inline(always)]
     fn go_on(&mut self, alloc: Global, piece: &[u8]) -> Result<(usize, Option<Frame>), FrameFault>
         requires kept { IsKept self.old }
         requires header { self.old.have ≡ 8 }
@@ -98,6 +101,7 @@ impl Unfinished {
     }
 
     /// Takes octets of a header that is not whole, and those behind it.
+    #[inline(always)]
     fn begin(&mut self, alloc: Global, piece: &[u8]) -> Result<(usize, Option<Frame>), FrameFault>
         requires kept { IsKept self.old }
         requires header { self.old.have < 8 }
@@ -119,6 +123,7 @@ impl Unfinished {
     }
 
     /// Takes octets up to the end of the frame, else the whole piece. A fault leaves nothing.
+    #[inline(always)]
     pub fn take(
         &mut self,
         alloc: Global,
