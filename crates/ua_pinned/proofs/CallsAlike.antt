@@ -1,19 +1,19 @@
 -- What calls of two clients read and write, over lines that bring the same octets.
-use Rattle.std.specs.Prelude.{◌≡◌, ℕ, ◌≤◌, ◌<◌, ◌⊎◌, Bool, true, false, List, [], ◌∷◌, ◌++◌, length, Option, Some, None, Result, Ok, Err, IsErrOf}
-use Rattle.std.proofs.Common.{refl, sym, ◌∙◌, ap, subst, arith, inl, inr, append_assoc, append-nil, length-append}
+use Rattle.std.specs.Prelude.{◌≡◌, ℕ, ◌≤◌, ◌<◌, Bool, true, false, List, [], ◌++◌, length, Option, Some, None}
+use Rattle.std.proofs.Common.{refl, sym, ◌∙◌, ap, subst, arith, append_assoc, append-nil, length-append}
 use Rattle.std.proofs.lemmas.List.{append_cancel_left, append_cancel_right}
 use Rattle.ua_builtin.specs.declared.status_code.StatusCode.{StatusCode}
 use Rattle.ua_channel.specs.Asks.{Placed}
 use Rattle.ua_channel.specs.Client.{Ended, Goes, rules_of, limits_of}
 use Rattle.ua_channel.specs.ClientTable.{client_rules}
 use Rattle.ua_channel.specs.ClientTold.{Told, Why, ours, peers}
-use Rattle.ua_channel.specs.Line.{Traffic, WhereTold}
+use Rattle.ua_channel.specs.Line.{Traffic}
 use Rattle.ua_channel.specs.declared.client.channel.ClientChannel.{ClientChannel}
 use Rattle.ua_frame.specs.Run.{Rules, Run, End, Going, Stopped, events}
 use Rattle.ua_frame.specs.declared.limits.Limits.{Limits}
 use Rattle.ua_client.specs.Carried.{Carries, IsAtEnd}
 use Rattle.ua_client.specs.Client.{connection_of}
-use Rattle.ua_client.specs.Hearing.{Moves, StopsAt, channel_of, most_reads, untaken_of}
+use Rattle.ua_client.specs.Hearing.{Moves, most_reads, untaken_of}
 use Rattle.ua_client.specs.declared.client.Client.{Client}
 use Rattle.ua_client.specs.declared.connection.Connection.{Connection}
 use Rattle.ua_client.specs.declared.fault.ClientFault.{ClientFault}
@@ -21,7 +21,7 @@ use Rattle.ua_client.specs.declared.fault.ClientFault.TheVariants as fault
 use Rattle.ua_pinned.specs.Calling.{ComesTo}
 use Rattle.ua_pinned.specs.Lines.{ComeAlike, Wrote, WroteAlike}
 use Rattle.ua_pinned.proofs.FrontsAlike.{ReadsAll, ReadsFront, stopped_all}
-use Rattle.ua_pinned.proofs.ServedAlike.{WasTold, come, same_some, where_told, wrote, wrote_same}
+use Rattle.ua_pinned.proofs.ServedAlike.{come, where_told, wrote}
 use Rattle.ua_pinned.proofs.ServersAlike.{same_code}
 
 -- ---- what a call read and wrote

@@ -8,10 +8,9 @@ use Rattle.ua_exchange.specs.declared.fault.PairFault.{PairFault}
 use Rattle.ua_exchange.specs.declared.fault.PairFault.TheVariants.{NotWritable, Request, OutOfMemory}
 use Rattle.ua_exchange.specs.declared.transcript.Transcript.{Transcript}
 use Rattle.ua_exchange.specs.declared.turn.Turn.{Turn}
-use Rattle.ua_server.specs.declared.step.End.{End}
 use Rattle.ua_server.specs.declared.step.End.TheVariants.{Closed}
 use Rattle.ua_exchange.specs.declared.reply.Reply.{Reply}
-use Rattle.ua_pinned.specs.Exchanges.{SameExchange, SameTranscript}
+use Rattle.ua_pinned.specs.Exchanges.{SameExchange}
 use Rattle.ua_pinned.specs.Pinned.{HadMemory}
 use Rattle.ua_pinned.proofs.StreamsAlike.{Splits, split}
 use Rattle.ua_pinned.proofs.StreamsAlike.Splits.{Here, Later, Sooner}

@@ -1,11 +1,15 @@
 -- Calls of a group that are asked twice.
-use Rattle.std.specs.Prelude.{◌≡◌, ℕ, ◌+◌, ◌≤◌, ◌<◌, ◌⊎◌, Bool, true, false, List, [], ◌∷◌, ◌++◌, length, Option, Some, None, Result, Ok, Err, IsErrOf}
+use Rattle.std.specs.Prelude.{◌≡◌, ℕ, ◌+◌, ◌≤◌, ◌<◌, ◌^◌, ◌⊎◌, Bool, true, false, List, [], ◌∷◌, ◌++◌, length, Option, Some, None, Result, Ok, Err, IsErrOf}
 use Rattle.std.proofs.Common.{refl, sym, ◌∙◌, ap, subst, arith, inl, inr, append-nil, length-append}
+use Rattle.std.proofs.lemmas.List.{append_cancel_left}
 use Rattle.ua_chunk.proofs.Lists.{filter_append}
 use Rattle.ua_builtin.specs.declared.status_code.StatusCode.{StatusCode}
-use Rattle.ua_frame.specs.Run.{End, Going, Rules, Stopped}
+use Rattle.ua_frame.specs.Frames.{frames_octets}
+use Rattle.ua_frame.specs.Run.{End, Going, Rules, Run, Stopped}
+use Rattle.ua_frame.specs.declared.frame.Frame.{Frame}
+use Rattle.ua_frame.proofs.Readings.{reading}
 use Rattle.ua_channel.specs.Asks.{Placed}
-use Rattle.ua_channel.specs.Client.{Ended, Goes, limits_of, rules_of}
+use Rattle.ua_channel.specs.Client.{Goes, limits_of, rules_of}
 use Rattle.ua_channel.specs.ClientTold.{Told, Why, ours, peers}
 use Rattle.ua_channel.specs.ClientTold.Told.{Answered, GaveUp}
 use Rattle.ua_channel.specs.Line.{Traffic}
@@ -18,10 +22,10 @@ use Rattle.ua_services.specs.declared.request.RequestKind.{RequestKind}
 use Rattle.ua_services.specs.declared.response.Response.{Response}
 use Rattle.ua_client.specs.Calls.{AllAt, Answered as IsAnsweredAt, AnsweredAll, AreGroups, BreaksAt, BrokenAll, CallsAll, EndsOn, GoesOn, IsSentAt, Rounds, all_of, asked_at, refusal_at, sent_at}
 use Rattle.ua_client.specs.Calls.Rounds.{NoRound, OneRound}
-use Rattle.ua_client.specs.Client.{IsDone, IsLeft, client_channel, connection_of, ends}
-use Rattle.ua_client.specs.Hearing.{Moves, StopsAt, channel_of, most_reads, untaken_of}
+use Rattle.ua_client.specs.Client.{IsLeft, client_channel, connection_of, ends}
+use Rattle.ua_client.specs.Hearing.{StopsAt, channel_of, most_reads, untaken_of}
 use Rattle.ua_client.specs.Renewing.{IsSettled}
-use Rattle.ua_client.specs.Replies.{AreReplies, IsAnswer, IsMisanswer, IsMisanswered, IsNoAnswer, IsReply, IsReplyBy, IsUnanswered}
+use Rattle.ua_client.specs.Replies.{AreReplies, IsAnswer, IsMisanswer, IsMisanswered, IsReplyBy, IsUnanswered}
 use Rattle.ua_client.specs.Site.{Site, At, id_at}
 use Rattle.ua_client.specs.Told.{is_told_of, told_of}
 use Rattle.ua_client.specs.declared.client.Client.{Client}
@@ -30,15 +34,18 @@ use Rattle.ua_client.specs.declared.fault.ClientFault.{ClientFault}
 use Rattle.ua_client.specs.declared.fault.ClientFault.TheVariants as fault
 use Rattle.ua_client.specs.declared.reply.Reply.{Reply}
 use Rattle.ua_client.specs.declared.reply.Reply.TheVariants.{Response as Responds, Aborted}
-use Rattle.ua_pinned.specs.Calling.{AreReady, CallsAlike, ComesTo, LeavesCalled, SameCalls, StandBy, StandReady, line_failed}
+use Rattle.ua_client.proofs.Settled.{NonePending}
+use Rattle.ua_pinned.specs.Calling.{AreFew, CallsAlike, ComesTo, LeavesBoth, LeavesCalled, SameCalls, StandBy, StandReady, line_failed}
 use Rattle.ua_pinned.specs.Calling.CallsAlike.{NoFault, AtRead, AtWrite}
-use Rattle.ua_pinned.specs.Lines.{ComeAlike, WroteAlike}
+use Rattle.ua_pinned.specs.Lines.{WroteAlike}
 use Rattle.ua_pinned.specs.Pinned.{HadMemory}
 use Rattle.ua_pinned.proofs.CallsAlike.{EndsBy, Ran, behind_parts, both_wrote, comes_at, ended_all, ended_reads, few_reads, goes_front, goes_reads, one_fault, ran, ran_comes, same_rules}
 use Rattle.ua_pinned.proofs.CallsAlike.EndsBy.{ByPeer, ByOurs, ByEnd}
-use Rattle.ua_pinned.proofs.FrontsAlike.{ReadsAll, ReadsFront, all_once, front_first, fronts_first}
+use Rattle.ua_pinned.proofs.FrontsAlike.{ReadsAll, ReadsFront, all_once, either_first, front_first, fronts_first}
+use Rattle.ua_pinned.proofs.NoneMore.{AreOctets, not_longer, octets_before, rest_none}
+use Rattle.ua_pinned.proofs.RenewalsAlike.{site_once}
 use Rattle.ua_pinned.proofs.ServedAlike.{same_some}
-use Rattle.ua_pinned.proofs.StreamsAlike.{pushed}
+use Rattle.ua_pinned.proofs.StreamsAlike.{begins, pushed}
 
 true_false : true ≡ false → ⊥
 true_false e = cc
@@ -196,8 +203,9 @@ broken_first requests s new sent taken f few b =
 
 -- where no call of the line failed and memory was had
 data CallsTo {A : Type 0} (view : A → List Reply) (R : Rules Told Why) (whole : List ℕ) (requests : List Request) (s : Site) (new : ClientChannel) (sent taken : List ℕ) (a : Result A ClientFault) : Type 0 where
-  Idle : (v : A) → a ≡ Ok v → requests ≡ [] → view v ≡ [] → sent ≡ [] → CallsTo view R whole requests s new sent taken a
-  Replied : (v : A) → a ≡ Ok v → refusal_at s requests ≡ None → sent ≡ sent_at s requests → (told : List Told) → ReadsFront R whole told → AreReplies requests (id_at s) told (view v) → CallsTo view R whole requests s new sent taken a
+  Idle : (v : A) → a ≡ Ok v → requests ≡ [] → view v ≡ [] → sent ≡ [] → taken ≡ [] → At new s → CallsTo view R whole requests s new sent taken a
+  Replied : (v : A) → a ≡ Ok v → refusal_at s requests ≡ None → sent ≡ sent_at s requests → (told : List Told) → ReadsFront R whole told → AreReplies requests (id_at s) told (view v)
+      → 0 < length requests → (t : Site) → At new t → IsSettled t → IsAnsweredAt requests s t taken (view v) → CallsTo view R whole requests s new sent taken a
   Waited : (f : ClientFault) (e : End Why) → a ≡ Err f → EndsBy f e → IsSentAt requests s sent → (told : List Told) → ReadsAll R whole told e → IsUnanswered requests (id_at s) told → CallsTo view R whole requests s new sent taken a
   Missed : a ≡ Err fault.UnknownResponse → IsSentAt requests s sent → (told : List Told) → ReadsFront R whole told → IsMisanswered requests (id_at s) told → CallsTo view R whole requests s new sent taken a
   Judged : (f : ClientFault) → a ≡ Err f → refusal_at s requests ≡ Some f → ends f ≡ false → sent ≡ [] → taken ≡ [] → At new s → CallsTo view R whole requests s new sent taken a
@@ -213,18 +221,18 @@ module _ {A : Type 0} (view : A → List Reply) (R : Rules Told Why) (requests :
   abbrev To : Type 0
   To = CallsTo view R (s.octets ++ coming) requests s (channel_of new) h.sent h.moves.taken a
 
-  answered : (v : A) → a ≡ Ok v → (t : Site) → At (channel_of new) t → Round s requests t h.sent h.moves.taken (view v) → To
-  answered v e t at o =
+  answered : (v : A) → a ≡ Ok v → 0 < length requests → (t : Site) → At (channel_of new) t → IsSettled t → Round s requests t h.sent h.moves.taken (view v) → To
+  answered v e some t at settled o =
       Replied v e o.1.judged o.0 t.told
       (goes_front R (channel_of new) (asked_at s requests) (s.octets ++ h.moves.taken) (untaken_of new ++ r.last.coming []) (s.octets ++ coming) t.told rules parts
       (subst (λ (x : List ℕ). Goes (channel_of new) (asked_at s requests) x t.told) o.1.octets (subst (λ (asked : List Placed). Goes (channel_of new) asked t.octets t.told) o.1.asks at.goes)))
-      o.1.replies_are
+      o.1.replies_are some t at settled o.1
 
   answered_all : (v : A) → a ≡ Ok v → (b : AnsweredAll requests s (channel_of new) h.sent h.moves.taken (view v)) → Single requests b.groups → To
   answered_all v e b (NoGroup none nothing) =
       let n = rounds_none s b.behind b.groups h.sent h.moves.taken (view v) b.rounds none in
-      Idle v e nothing n.replies_none n.sent_none
-  answered_all v e b (OneGroup one) = answered v e b.behind b.at (rounds_one s b.behind b.groups requests h.sent h.moves.taken (view v) b.rounds one)
+      Idle v e nothing n.replies_none n.sent_none n.taken_none (subst (At (channel_of new)) n.behind b.at)
+  answered_all v e b (OneGroup one) = answered v e (subst AreGroups one b.sized).0 b.behind b.at b.settled (rounds_one s b.behind b.groups requests h.sent h.moves.taken (view v) b.rounds one)
 
   ended : (f : ClientFault) (why : Why) → EndsBy f (Stopped why) → a ≡ Err f → IsSentAt requests s h.sent × EndsOn (channel_of new) (asked_at s requests) (s.octets ++ h.moves.taken) s.told why (IsUnanswered requests (id_at s)) → To
   ended f why by e w = Waited f (Stopped why) e by w.0 (s.told ++ w.1.0) (ended_reads R (channel_of new) (asked_at s requests) (s.octets ++ h.moves.taken) (untaken_of new ++ r.last.coming []) (s.octets ++ coming) (s.told ++ w.1.0) why rules parts w.1.1) w.1.2
@@ -394,39 +402,156 @@ module _ {A : Type 0} (once : OneBody) (view : A → List Reply) (Same : ClientF
   abbrev Second : Type 0
   Second = CallsTo view R (s.octets ++ coming) requests s (client_channel y) k.sent k.moves.taken b
 
+  abbrev StandPair : Type 0
+  StandPair = First × Second
+
+  outcomes : line_failed a ≡ false → line_failed b ≡ false → StandPair
+  outcomes f g = (
+    calls_to view R requests few_requests (connection_of one) (connection_of x) s line after coming p.0 p.1 p.2 stand.few a h mine stand.first stand.settled f had.first,
+    calls_to view R requests few_requests (connection_of two) (connection_of y) s other later coming q.0 q.1 q.2 stand.few b k theirs stand.second stand.settled g had.second,
+  )
+
   both : First → Second → Once
-  both (Idle v e none empty sent) (Idle w d none' empty' sent') = both_answered v w e d (empty ∙ sym empty') (sent ∙ sym sent')
-  both (Idle v e none empty sent) (Replied w d judge sent' told f replies) = both_answered v w e d (empty ∙ sym (no_replies requests (id_at s) told (view w) none replies)) (sent ∙ sym (sent' ∙ idle_sent none))
-  both (Idle v e none empty sent) (Waited f i d by sent' told all un) = absurd (idle_unanswered none told un)
-  both (Idle v e none empty sent) (Missed d sent' told f mis) = absurd (idle_misanswered none told mis)
-  both (Idle v e none empty sent) (Judged f d is ending sent' t at) = absurd (idle_asked none f is)
-  both (Replied v e judge sent told f replies) (Idle w d none empty sent') = both_answered v w e d (no_replies requests (id_at s) told (view v) none replies ∙ sym empty) ((sent ∙ idle_sent none) ∙ sym sent')
-  both (Replied v e judge sent told f replies) (Replied w d judge' sent' also g replies') =
+  both (Idle v e none empty sent _ _) (Idle w d none' empty' sent' _ _) = both_answered v w e d (empty ∙ sym empty') (sent ∙ sym sent')
+  both (Idle v e none empty sent _ _) (Replied w d judge sent' told f replies _ _ _ _ _) = both_answered v w e d (empty ∙ sym (no_replies requests (id_at s) told (view w) none replies)) (sent ∙ sym (sent' ∙ idle_sent none))
+  both (Idle v e none empty sent _ _) (Waited f i d by sent' told all un) = absurd (idle_unanswered none told un)
+  both (Idle v e none empty sent _ _) (Missed d sent' told f mis) = absurd (idle_misanswered none told mis)
+  both (Idle v e none empty sent _ _) (Judged f d is ending sent' t at) = absurd (idle_asked none f is)
+  both (Replied v e judge sent told f replies _ _ _ _ _) (Idle w d none empty sent' _ _) = both_answered v w e d (no_replies requests (id_at s) told (view v) none replies ∙ sym empty) ((sent ∙ idle_sent none) ∙ sym sent')
+  both (Replied v e judge sent told f replies _ _ _ _ _) (Replied w d judge' sent' also g replies' _ _ _ _ _) =
       let m = fronts_first R (s.octets ++ coming) told also f g in
       both_answered v w e d (same_replies once requests (id_at s) m.0 told also m.1 m.2 (view v) (view w) m.3 m.4 replies replies') (sent ∙ sym sent')
-  both (Replied v e judge sent told f replies) (Waited g i d by sent' all w un) = absurd (answered_waited told all i (view v) f replies w un)
-  both (Replied v e judge sent told f replies) (Missed d sent' also g mis) = absurd (answered_missed told also (view v) f replies g mis)
-  both (Replied v e judge sent told f replies) (Judged g d is ending sent' t at) = absurd (unasked g judge is)
-  both (Waited f i e by sent all w un) (Idle v d none empty sent') = absurd (idle_unanswered none all un)
-  both (Waited f i e by sent all w un) (Replied v d judge sent' told g replies) = absurd (answered_waited told all i (view v) g replies w un)
+  both (Replied v e judge sent told f replies _ _ _ _ _) (Waited g i d by sent' all w un) = absurd (answered_waited told all i (view v) f replies w un)
+  both (Replied v e judge sent told f replies _ _ _ _ _) (Missed d sent' also g mis) = absurd (answered_missed told also (view v) f replies g mis)
+  both (Replied v e judge sent told f replies _ _ _ _ _) (Judged g d is ending sent' t at) = absurd (unasked g judge is)
+  both (Waited f i e by sent all w un) (Idle v d none empty sent' _ _) = absurd (idle_unanswered none all un)
+  both (Waited f i e by sent all w un) (Replied v d judge sent' told g replies _ _ _ _ _) = absurd (answered_waited told all i (view v) g replies w un)
   both (Waited f i e by sent all w un) (Waited g j d by' sent' all' w' un') =
       failed f g e d (waited_ends f i by) (waited_ends g j by') (same f g (one_fault f g i j by by' (all_once R (s.octets ++ coming) all all' i j w w').1)) (sent.1 ∙ sym sent'.1)
   both (Waited f i e by sent all w un) (Missed d sent' told g mis) =
       let m = front_first R (s.octets ++ coming) told all i g w in
       failed f fault.UnknownResponse e d (waited_ends f i by) refl (missing told all m.0 m.1 un mis f).0 (sent.1 ∙ sym sent'.1)
   both (Waited f i e by sent all w un) (Judged g d is ending sent' t at) = absurd (unasked g sent.0 is)
-  both (Missed e sent told f mis) (Idle v d none empty sent') = absurd (idle_misanswered none told mis)
-  both (Missed e sent told f mis) (Replied v d judge sent' also g replies) = absurd (answered_missed also told (view v) g replies f mis)
+  both (Missed e sent told f mis) (Idle v d none empty sent' _ _) = absurd (idle_misanswered none told mis)
+  both (Missed e sent told f mis) (Replied v d judge sent' also g replies _ _ _ _ _) = absurd (answered_missed also told (view v) g replies f mis)
   both (Missed e sent told f mis) (Waited g i d by sent' all w un) =
       let m = front_first R (s.octets ++ coming) told all i f w in
       failed fault.UnknownResponse g e d refl (waited_ends g i by) (missing told all m.0 m.1 un mis g).1 (sent.1 ∙ sym sent'.1)
   both (Missed e sent told f mis) (Missed d sent' also g mis') = failed fault.UnknownResponse fault.UnknownResponse e d refl refl (same fault.UnknownResponse fault.UnknownResponse refl) (sent.1 ∙ sym sent'.1)
   both (Missed e sent told f mis) (Judged g d is ending sent' t at) = absurd (unasked g sent.0 is)
-  both (Judged f e is ending sent t at) (Idle v d none empty sent') = absurd (idle_asked none f is)
-  both (Judged f e is ending sent t at) (Replied v d judge sent' told g replies) = absurd (unasked f judge is)
+  both (Judged f e is ending sent t at) (Idle v d none empty sent' _ _) = absurd (idle_asked none f is)
+  both (Judged f e is ending sent t at) (Replied v d judge sent' told g replies _ _ _ _ _) = absurd (unasked f judge is)
   both (Judged f e is ending sent t at) (Waited g i d by sent' all w un) = absurd (unasked f sent'.0 is)
   both (Judged f e is ending sent t at) (Missed d sent' told g mis) = absurd (unasked f sent'.0 is)
   both (Judged f e is ending sent t at) (Judged g d is' ending' sent' t' at') = judged f g e d is is' ending sent sent' t t' at at'
+
+  -- ---- where both stand behind replies
+
+  ok_not_err : (c : Result A ClientFault) (v : A) (f : ClientFault) → c ≡ Ok v → c ≡ Err f → ⊥
+  ok_not_err c v f e d = let k : ◌≡◌ {A = Result A ClientFault} (Ok v) (Err f) = sym e ∙ d in cc
+
+  run_in : (z : ClientChannel) (t : Site) (at : At z t) → rules_of z (asked_at s requests) ≡ R → t.asks ≡ asked_at s requests → Run R t.octets at.goes.frames at.goes.rest Going
+  run_in z t at rules asks =
+      subst (λ (S : Rules Told Why). Run S t.octets at.goes.frames at.goes.rest Going) rules (subst (λ (asked : List Placed). Run (rules_of z asked) t.octets at.goes.frames at.goes.rest Going) asks at.goes.stands.run)
+
+  limits_same : limits_of (client_channel x) ≡ limits_of (client_channel y)
+  limits_same = sym h.same.limits ∙ (stand.same.limits ∙ k.same.limits)
+
+  -- both behind the same octets
+  stand_at : (v w : A) → a ≡ Ok v → b ≡ Ok w → (t : Site) → At (client_channel x) t → At (client_channel y) t → IsSettled t → t.octets ≡ s.octets ++ h.moves.taken → h.moves.taken ≡ k.moves.taken → StandBy false x y after later
+  stand_at v w e d t at at_too settled octets taken =
+      let ahead : untaken_of (connection_of x) ++ first.last.coming [] ≡ untaken_of (connection_of y) ++ second.last.coming [] =
+      append_cancel_left h.moves.taken _ _ (first.parts ∙ (sym second.parts ∙ ap (λ (o : List ℕ). o ++ (untaken_of (connection_of y) ++ second.last.coming [])) (sym taken))) in (
+        t,
+        untaken_of (connection_of x) ++ first.last.coming [],
+        record {
+          ready = subst (λ (z : Result A ClientFault). IsLeft z x) e left;
+          ready_too = subst (λ (z : Result A ClientFault). IsLeft z y) d left_too;
+          first = at;
+          second = at_too;
+          settled = settled;
+          same = record { limits = limits_same; url = sym h.same.url ∙ (stand.same.url ∙ k.same.url) };
+          comes = ran_comes x (connection_of x) h.sent h.moves.taken line after coming first refl;
+          comes_too = subst (ComesTo y later) (sym ahead) (ran_comes y (connection_of y) k.sent k.moves.taken other later coming second refl);
+          few = subst (λ (o : List ℕ). length o < 0xFFFF_FFFF_FFFF_FFFF) (sym (ap (λ (o : List ℕ). o ++ (untaken_of (connection_of x) ++ first.last.coming [])) octets ∙ behind_parts s.octets h.moves.taken (untaken_of (connection_of x) ++ first.last.coming []) coming first.parts)) stand.few;
+        },
+      )
+
+  module _ (none : NonePending) (are_few : AreFew s coming) where
+    short : (o : Option Traffic) (z : Connection) (sent taken : List ℕ) (c : Option Traffic) → Ran z sent taken o c coming → length (s.octets ++ taken) < 2 ^ 32
+    short o z sent taken c r =
+        let n = are_few.few in
+        omega (arith, n, ap length r.parts, length-append s.octets coming, length-append s.octets taken, length-append taken (untaken_of z ++ r.last.coming []))
+
+    octets_in : (o : Option Traffic) (z : Connection) (sent taken : List ℕ) (c : Option Traffic) → Ran z sent taken o c coming → AreOctets taken
+    octets_in o z sent taken c r = octets_before taken (untaken_of z ++ r.last.coming []) (subst AreOctets (sym r.parts) are_few.octets)
+
+    rest_of : (z : ClientChannel) (t : Site) (taken : List ℕ) (rs : List Reply) (at : At z t) → IsAnsweredAt requests s t taken rs → length (s.octets ++ taken) < 2 ^ 32 → at.goes.rest ≡ []
+    rest_of z t taken rs at o few_taken = rest_none (rules_of z t.asks) t.octets at.goes.frames at.goes.rest at.goes.stands.run o.whole (subst (λ (q : List ℕ). length q < 2 ^ 32) (sym o.octets) few_taken)
+
+    module _ (v w : A) (e : a ≡ Ok v) (d : b ≡ Ok w) (t u : Site) (at : At (client_channel x) t) (at_too : At (client_channel y) u) (settled : IsSettled t) (settled_too : IsSettled u)
+        (o : IsAnsweredAt requests s t h.moves.taken (view v)) (n : IsAnsweredAt requests s u k.moves.taken (view w)) where
+      rest_first : at.goes.rest ≡ []
+      rest_first = rest_of (client_channel x) t h.moves.taken (view v) at o (short line (connection_of x) h.sent h.moves.taken after first)
+
+      rest_second : at_too.goes.rest ≡ []
+      rest_second = rest_of (client_channel y) u k.moves.taken (view w) at_too n (short other (connection_of y) k.sent k.moves.taken later second)
+
+      mine_longer : (more : List Frame) → at_too.goes.frames ≡ at.goes.frames ++ more → at.goes.frames ≡ at_too.goes.frames
+      mine_longer [] p = sym (p ∙ append-nil at.goes.frames)
+      mine_longer (f ∷ more) p = absurd (not_longer none (client_channel x) (client_channel y) t u at at_too settled rest_first (o.asks ∙ sym n.asks) s.octets h.moves.taken k.moves.taken o.octets n.octets (octets_in other (connection_of y) k.sent k.moves.taken later second) f more p)
+
+      theirs_longer : (more : List Frame) → at.goes.frames ≡ at_too.goes.frames ++ more → at.goes.frames ≡ at_too.goes.frames
+      theirs_longer [] p = p ∙ append-nil at_too.goes.frames
+      theirs_longer (f ∷ more) p = absurd (not_longer none (client_channel y) (client_channel x) u t at_too at settled_too rest_second (n.asks ∙ sym o.asks) s.octets k.moves.taken h.moves.taken n.octets o.octets (octets_in line (connection_of x) h.sent h.moves.taken after first) f more p)
+
+      by_order : ((more : List Frame) × (at_too.goes.frames ≡ at.goes.frames ++ more)) ⊎ ((more : List Frame) × (at.goes.frames ≡ at_too.goes.frames ++ more)) → at.goes.frames ≡ at_too.goes.frames
+      by_order (inl m) = mine_longer m.0 m.1
+      by_order (inr m) = theirs_longer m.0 m.1
+
+      one_frames : at.goes.frames ≡ at_too.goes.frames
+      one_frames =
+          let r = reading R (s.octets ++ coming) in
+          let i = begins R t.octets (untaken_of (connection_of x) ++ first.last.coming []) (s.octets ++ coming) at.goes.frames r.frames at.goes.rest r.rest Going r.end
+          (ap (λ (q : List ℕ). q ++ (untaken_of (connection_of x) ++ first.last.coming [])) o.octets ∙ behind_parts s.octets h.moves.taken (untaken_of (connection_of x) ++ first.last.coming []) coming first.parts)
+          (run_in (client_channel x) t at mine o.asks) r.run in
+          let j = begins R u.octets (untaken_of (connection_of y) ++ second.last.coming []) (s.octets ++ coming) at_too.goes.frames r.frames at_too.goes.rest r.rest Going r.end
+          (ap (λ (q : List ℕ). q ++ (untaken_of (connection_of y) ++ second.last.coming [])) n.octets ∙ behind_parts s.octets k.moves.taken (untaken_of (connection_of y) ++ second.last.coming []) coming second.parts)
+          (run_in (client_channel y) u at_too theirs n.asks) r.run in
+          by_order (either_first at.goes.frames at_too.goes.frames i.0 j.0 (sym i.1 ∙ j.1))
+
+      one_octets : t.octets ≡ u.octets
+      one_octets =
+          at.goes.stands.run.whole ∙ (ap (λ (q : List ℕ). frames_octets at.goes.frames ++ q) (rest_first ∙ sym rest_second)
+          ∙ (ap (λ (fs : List Frame). frames_octets fs ++ at_too.goes.rest) one_frames ∙ sym at_too.goes.stands.run.whole))
+
+      replied_place : StandBy false x y after later
+      replied_place =
+          let place : t ≡ u = site_once (client_channel x) (client_channel y) t u at at_too limits_same (o.asks ∙ sym n.asks) one_octets (o.number ∙ sym n.number) in
+          stand_at v w e d t at (subst (At (client_channel y)) (sym place) at_too) settled o.octets (append_cancel_left s.octets h.moves.taken k.moves.taken (sym o.octets ∙ (one_octets ∙ n.octets)))
+
+    no_requests : requests ≡ [] → 0 < length requests → ⊥
+    no_requests none_asked some = omega (arith, ap length none_asked, some)
+
+    ok_place : (v w : A) → a ≡ Ok v → b ≡ Ok w → First → Second → StandBy false x y after later
+    ok_place v w e d (Idle _ _ _ _ _ taken at) (Idle _ _ _ _ _ taken' at') = stand_at v w e d s at at' stand.settled (sym (ap (λ (o : List ℕ). s.octets ++ o) taken ∙ append-nil s.octets)) (taken ∙ sym taken')
+    ok_place v w e d (Idle _ _ none_asked _ _ _ _) (Replied _ _ _ _ _ _ _ some _ _ _ _) = absurd (no_requests none_asked some)
+    ok_place v w e d (Idle _ _ _ _ _ _ _) (Waited f _ q _ _ _ _ _) = absurd (ok_not_err b w f d q)
+    ok_place v w e d (Idle _ _ _ _ _ _ _) (Missed q _ _ _ _) = absurd (ok_not_err b w fault.UnknownResponse d q)
+    ok_place v w e d (Idle _ _ _ _ _ _ _) (Judged f q _ _ _ _ _) = absurd (ok_not_err b w f d q)
+    ok_place v w e d (Replied _ _ _ _ _ _ _ some _ _ _ _) (Idle _ _ none_asked _ _ _ _) = absurd (no_requests none_asked some)
+    ok_place v w e d (Replied i p _ _ _ _ _ _ t at settled o) (Replied j q _ _ _ _ _ _ u at' settled' n) = replied_place i j p q t u at at' settled settled' o n
+    ok_place v w e d (Replied _ _ _ _ _ _ _ _ _ _ _ _) (Waited f _ q _ _ _ _ _) = absurd (ok_not_err b w f d q)
+    ok_place v w e d (Replied _ _ _ _ _ _ _ _ _ _ _ _) (Missed q _ _ _ _) = absurd (ok_not_err b w fault.UnknownResponse d q)
+    ok_place v w e d (Replied _ _ _ _ _ _ _ _ _ _ _ _) (Judged f q _ _ _ _ _) = absurd (ok_not_err b w f d q)
+    ok_place v w e d (Waited f _ q _ _ _ _ _) other_end = absurd (ok_not_err a v f e q)
+    ok_place v w e d (Missed q _ _ _ _) other_end = absurd (ok_not_err a v fault.UnknownResponse e q)
+    ok_place v w e d (Judged f q _ _ _ _ _) other_end = absurd (ok_not_err a v f e q)
+
+    place : (c i : Result A ClientFault) → a ≡ c → b ≡ i → (line_failed a ≡ false → line_failed b ≡ false → StandPair) → SameCalls view Same c i → LeavesCalled a x y after later → LeavesBoth a x y after later
+    place (Ok v) (Ok w) e d ends_of same_ends l = subst (λ (z : Result A ClientFault). LeavesBoth z x y after later) (sym e) (ok_place v w e d (ends_of (ap line_failed e) (ap line_failed d)).0 (ends_of (ap line_failed e) (ap line_failed d)).1)
+    place (Ok v) (Err g) e d ends_of same_ends l = absurd same_ends
+    place (Err f) i e d ends_of same_ends l = subst (λ (z : Result A ClientFault). LeavesBoth z x y after later) (sym e) (subst (λ (z : Result A ClientFault). LeavesCalled z x y after later) e l)
 
   pub grouped_once : CallsAlike a b line after other later → Once
   grouped_once (NoFault f g) =
@@ -437,6 +562,10 @@ module _ {A : Type 0} (once : OneBody) (view : A → List Reply) (Same : ClientF
       let also = at_read view R requests few_requests (connection_of two) (connection_of y) s other later coming q.0 q.1 q.2 stand.few b k theirs stand.second stand.settled g in
       failed fault.Read fault.Read f g refl refl (same fault.Read fault.Read refl) (sent.1 ∙ sym also.1)
   grouped_once (AtWrite f g w) = record { answers = by_equal (Err fault.Write) (Err fault.Write) f g (same fault.Write fault.Write refl); written = w; left = left_done fault.Write fault.Write f g refl refl }
+
+  -- where both stand, where what comes are octets, and few
+  pub placed_once : NonePending → AreFew s coming → CallsAlike a b line after other later → LeavesBoth a x y after later
+  placed_once none are_few faults = place none are_few a b refl refl outcomes (grouped_once faults).answers (grouped_once faults).left
 
 -- ---- one request
 

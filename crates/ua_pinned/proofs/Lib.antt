@@ -14,4 +14,7 @@ pub mod ExchangedAlike
 pub mod CallsAlike
 pub mod RenewalsAlike
 pub mod OpeningsAlike
+pub mod NoneMore
 pub mod GroupsAlike
+pub mod TextsAlike
+pub mod DissectedAlike

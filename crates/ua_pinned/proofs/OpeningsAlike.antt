@@ -1,38 +1,36 @@
 -- Clients that are opened twice.
-use Rattle.std.specs.Prelude.{◌≡◌, ℕ, ◌<◌, ◌⊎◌, Bool, true, false, List, [], ◌∷◌, ◌++◌, length, take, Option, Some, None, Result, Ok, Err, IsErrOf}
+use Rattle.std.specs.Prelude.{◌≡◌, ℕ, ◌<◌, ◌⊎◌, true, false, List, [], ◌∷◌, ◌++◌, length, take, Option, Some, Result, Ok, Err, IsErrOf}
 use Rattle.std.proofs.Common.{refl, sym, ◌∙◌, ap, subst, arith, inl, inr, length-append}
 use Rattle.std.proofs.Math.Seq.{take-append_seam}
 use Rattle.std.proofs.lemmas.List.{append_cancel_left}
 use Rattle.ua_builtin.specs.declared.date_time.DateTime.{DateTime}
-use Rattle.ua_builtin.specs.declared.status_code.StatusCode.{StatusCode}
 use Rattle.ua_frame.specs.Run.{End, Going, Rules, Stopped}
 use Rattle.ua_frame.specs.declared.ack.Ack.{Ack}
 use Rattle.ua_frame.specs.declared.limits.Limits.{Limits}
-use Rattle.ua_channel.specs.Asks.{Placed}
-use Rattle.ua_channel.specs.Client.{Ended, Goes, GoesTelling, limits_of, next_of, rules_of, url_of}
+use Rattle.ua_channel.specs.Client.{Ended, Goes, GoesTelling, limits_of, rules_of, url_of}
 use Rattle.ua_channel.specs.ClientTable.{client_rules}
 use Rattle.ua_channel.specs.ClientTold.{Told, Why, ours, peers}
 use Rattle.ua_channel.specs.ClientTold.Told.{Agreed, Opened}
 use Rattle.ua_channel.specs.Line.{Traffic}
 use Rattle.ua_channel.specs.declared.client.channel.ClientChannel.{ClientChannel}
 use Rattle.ua_channel.proofs.ClientReadings.{goes_behind}
-use Rattle.ua_client.specs.Client.{IsFresh, IsOver, OpensClient, OpensNothing, client_channel, connection_of}
-use Rattle.ua_client.specs.Hearing.{BreaksOff, Moves, StopsAt, channel_of, most_reads, untaken_of}
-use Rattle.ua_client.specs.Opening.{BreaksOpening, BreaksWaiting, IsOpened, Opens, OpensAt, hello_octets, open_octets}
+use Rattle.ua_client.specs.Client.{IsFresh, IsOver, OpensClient, OpensNothing, connection_of}
+use Rattle.ua_client.specs.Hearing.{BreaksOff, StopsAt, channel_of, most_reads, untaken_of}
+use Rattle.ua_client.specs.Opening.{BreaksWaiting, IsOpened, Opens, OpensAt, hello_octets, open_octets}
 use Rattle.ua_client.specs.Renewing.{IsSettled}
 use Rattle.ua_client.specs.Site.{Site, At}
 use Rattle.ua_client.specs.declared.client.Client.{Client}
 use Rattle.ua_client.specs.declared.connection.Connection.{Connection}
 use Rattle.ua_client.specs.declared.fault.ClientFault.{ClientFault}
 use Rattle.ua_client.specs.declared.fault.ClientFault.TheVariants as fault
-use Rattle.ua_pinned.specs.Calling.{CallsAlike, ComesTo, OpenAlike, StandBy, StandReady, line_failed}
+use Rattle.ua_pinned.specs.Calling.{CallsAlike, ComesTo, OpenAlike, StandBy, line_failed}
 use Rattle.ua_pinned.specs.Calling.CallsAlike.{NoFault, AtRead, AtWrite}
-use Rattle.ua_pinned.specs.Lines.{ComeAlike, LinesAlike, WroteAlike}
+use Rattle.ua_pinned.specs.Lines.{LinesAlike, WroteAlike}
 use Rattle.ua_pinned.specs.Pinned.{HadMemory}
 use Rattle.ua_pinned.proofs.CallsAlike.{EndsBy, Ran, both_wrote, ended_all, ended_reads, few_reads, goes_front, goes_reads, one_fault, ran, ran_comes, read_same}
 use Rattle.ua_pinned.proofs.CallsAlike.EndsBy.{ByPeer, ByOurs, ByEnd}
 use Rattle.ua_pinned.proofs.ClientsAlike.{to_tells}
-use Rattle.ua_pinned.proofs.FrontsAlike.{ReadsAll, ReadsFront, all_once, front_first}
+use Rattle.ua_pinned.proofs.FrontsAlike.{ReadsAll, all_once, front_first}
 use Rattle.ua_pinned.proofs.RenewalsAlike.{site_once}
 use Rattle.ua_pinned.proofs.StreamsAlike.{AsOne, Around, Meets, Tells, Within, tells_tells}
 

@@ -1,38 +1,35 @@
 -- Clients over lines that are closed, or whose tokens are renewed, twice.
 use Rattle.std.specs.Prelude.{◌≡◌, ℕ, ◌<◌, ◌||◌, Bool, true, false, List, [], ◌∷◌, ◌++◌, length, take, Option, Some, None, Result, Ok, Err, IsErrOf}
 use Rattle.std.specs.List.{list_any}
-use Rattle.std.proofs.Common.{refl, sym, ◌∙◌, ap, subst, arith, append_assoc, append-nil, length-append}
+use Rattle.std.proofs.Common.{refl, sym, ◌∙◌, ap, subst, arith, append_assoc, length-append}
 use Rattle.std.proofs.lemmas.List.{append_cancel_left}
 use Rattle.std.proofs.Math.Seq.{take-append_seam}
 use Rattle.std.proofs.lemmas.List.Folds.{list_any-append}
 use Rattle.ua_builtin.specs.declared.date_time.DateTime.{DateTime}
-use Rattle.ua_builtin.specs.declared.status_code.StatusCode.{StatusCode}
 use Rattle.ua_frame.specs.Run.{End, Going, Rules, Run, Stopped, events}
-use Rattle.ua_frame.specs.declared.frame.Frame.{Frame}
 use Rattle.ua_frame.proofs.Unique.{unique}
-use Rattle.ua_chunk.specs.Sequence.{next_number}
 use Rattle.ua_channel.specs.Asks.{Placed}
-use Rattle.ua_channel.specs.Client.{Goes, GoesTelling, SameClient, limits_of, rules_of}
+use Rattle.ua_channel.specs.Client.{Goes, GoesTelling, limits_of, rules_of}
 use Rattle.ua_channel.specs.ClientTold.{Told, Why, ours, peers}
 use Rattle.ua_channel.specs.ClientTold.Told.{Renewed}
-use Rattle.ua_channel.specs.Line.{Traffic, WhereTold}
+use Rattle.ua_channel.specs.Line.{Traffic}
 use Rattle.ua_channel.specs.Received.{Received, received}
 use Rattle.ua_channel.specs.declared.client.channel.ClientChannel.{ClientChannel}
 use Rattle.ua_client.specs.Carried.{Carries}
 use Rattle.ua_client.specs.Client.{Closes, ClosesAt, IsDone, IsLeft, client_channel, closing_at, connection_of, ends}
-use Rattle.ua_client.specs.Hearing.{Moves, StopsAt, channel_of, most_reads, untaken_of}
-use Rattle.ua_client.specs.Opening.{GoesWithout, EndsWithout, WaitsAt, any_done}
-use Rattle.ua_client.specs.Renewing.{IsRefusal, IsRenewed, IsSettled, Renews, RenewsAt, asks_renewed, is_renewed, refused_by, renewal_at, renewal_refusal}
+use Rattle.ua_client.specs.Hearing.{StopsAt, channel_of, most_reads, untaken_of}
+use Rattle.ua_client.specs.Opening.{GoesWithout, EndsWithout}
+use Rattle.ua_client.specs.Renewing.{IsRefusal, IsRenewed, IsSettled, Renews, RenewsAt, asks_renewed, is_renewed, refused_by, renewal_at}
 use Rattle.ua_client.specs.Site.{Site, At}
 use Rattle.ua_client.specs.declared.client.Client.{Client}
 use Rattle.ua_client.specs.declared.connection.Connection.{Connection}
 use Rattle.ua_client.specs.declared.fault.ClientFault.{ClientFault}
 use Rattle.ua_client.specs.declared.fault.ClientFault.TheVariants as fault
-use Rattle.ua_pinned.specs.Calling.{AreDone, CallsAlike, ComesTo, LeavesBoth, StandBy, StandReady, line_failed}
+use Rattle.ua_pinned.specs.Calling.{CallsAlike, ComesTo, LeavesBoth, StandBy, StandReady, line_failed}
 use Rattle.ua_pinned.specs.Calling.CallsAlike.{NoFault, AtRead, AtWrite}
-use Rattle.ua_pinned.specs.Lines.{ComeAlike, Wrote, WroteAlike}
+use Rattle.ua_pinned.specs.Lines.{Wrote, WroteAlike}
 use Rattle.ua_pinned.specs.Pinned.{HadMemory}
-use Rattle.ua_pinned.proofs.CallsAlike.{EndsBy, Ran, behind_parts, both_wrote, comes_at, ended_all, ended_reads, few_reads, goes_front, goes_reads, one_fault, ran, ran_comes, read_same, same_rules}
+use Rattle.ua_pinned.proofs.CallsAlike.{EndsBy, Ran, behind_parts, both_wrote, comes_at, ended_all, ended_reads, few_reads, goes_front, goes_reads, one_fault, ran, ran_comes, same_rules}
 use Rattle.ua_pinned.proofs.CallsAlike.EndsBy.{ByPeer, ByOurs, ByEnd}
 use Rattle.ua_pinned.proofs.ClientsAlike.{to_tells}
 use Rattle.ua_pinned.proofs.FrontsAlike.{ReadsAll, ReadsFront, all_once, front_first}

@@ -1,6 +1,6 @@
 -- Lines that are served twice.
-use Rattle.std.specs.Prelude.{◌≡◌, ℕ, ℤ, ◌≤◌, ◌<◌, ◌⊎◌, min, Bool, true, false, List, [], ◌∷◌, ◌++◌, map, length, Option, Some, None, Result, Ok, Err, IsErrOf}
-use Rattle.std.proofs.Common.{refl, sym, ◌∙◌, ap, subst, inl, inr, arith, append-nil, length-append}
+use Rattle.std.specs.Prelude.{◌≡◌, ℕ, ℤ, ◌<◌, min, false, List, [], ◌∷◌, ◌++◌, map, length, Option, Some, None, Result, Ok, Err, IsErrOf}
+use Rattle.std.proofs.Common.{refl, sym, ◌∙◌, ap, subst, arith, append-nil, length-append}
 use Rattle.std.proofs.lemmas.List.{append_cancel_left, append_cancel_right, map-append}
 use Rattle.ua_builtin.specs.declared.date_time.DateTime.{DateTime}
 use Rattle.ua_builtin.specs.declared.status_code.StatusCode.{StatusCode}
@@ -13,8 +13,8 @@ use Rattle.ua_channel.specs.Line.{Traffic, WhereTold}
 use Rattle.ua_channel.specs.Moments.{Gives}
 use Rattle.ua_channel.specs.ServerRules.{server_rules}
 use Rattle.ua_channel.specs.ServerTold.{Told}
-use Rattle.ua_server.specs.Said.{left, said, used_in, Course}
-use Rattle.ua_server.specs.Serving.{Answered, AnsweredTo, AreAsked, IsClean, Moves, RanOut, Serves, ServesBy, greatest, moment_of}
+use Rattle.ua_server.specs.Said.{left, said, Course}
+use Rattle.ua_server.specs.Serving.{Answered, AnsweredTo, AreAsked, IsClean, RanOut, Serves, ServesBy, greatest, moment_of}
 use Rattle.ua_server.specs.State.{State, begun}
 use Rattle.ua_server.specs.declared.serve_fault.ServeFault.{ServeFault}
 use Rattle.ua_server.specs.declared.serve_fault.ServeFault.TheVariants as fault

@@ -1,22 +1,22 @@
 -- Octets that come twice to a server.
-use Rattle.std.specs.Prelude.{◌≡◌, ℕ, ◌≤◌, ◌<◌, Bool, true, false, IsTrue, List, [], ◌∷◌, ◌++◌, length, take, map, Option, None, Some, Result, Ok, Err, IsErrOf}
+use Rattle.std.specs.Prelude.{◌≡◌, ℕ, ◌≤◌, Bool, true, false, List, [], ◌∷◌, ◌++◌, length, take, Option, None, Some, Result, Ok, Err, IsErrOf}
 use Rattle.std.proofs.Common.{refl, sym, ◌∙◌, ap, subst, append-nil, append_assoc}
 use Rattle.std.proofs.lemmas.List.{append_cancel_left}
 use Rattle.ua_builtin.specs.declared.date_time.DateTime.{DateTime}
 use Rattle.ua_builtin.specs.declared.status_code.StatusCode.{StatusCode}
-use Rattle.ua_frame.specs.Run.{Rules, Run, events, End, Going, Stopped, Over}
+use Rattle.ua_frame.specs.Run.{Rules, Run, events, Going, Stopped, Over}
 use Rattle.ua_frame.specs.declared.frame.Frame.{Frame}
 use Rattle.ua_frame.specs.declared.limits.Limits.{Limits}
 use Rattle.ua_frame.proofs.Unique.{unique}
 use Rattle.ua_channel.specs.Received.{received}
 use Rattle.ua_channel.specs.ServerRules.{server_rules}
-use Rattle.ua_channel.specs.ServerStands.{limits_of, channel_of, next_of, bound_of, bound_after, rules_of, IsDone, Goes, GoesTelling, ClosedAt, RefusedAt}
-use Rattle.ua_channel.specs.ServerTold.{Told, Agreed, Opened, Asked, GaveUp, Closed}
+use Rattle.ua_channel.specs.ServerStands.{limits_of, channel_of, bound_of, bound_after, rules_of, Goes, GoesTelling, ClosedAt, RefusedAt}
+use Rattle.ua_channel.specs.ServerTold.{Told, Closed}
 use Rattle.ua_channel.specs.Stops.{StopsAt}
 use Rattle.ua_channel.specs.declared.server.ServerChannel.{ServerChannel}
 use Rattle.ua_server.specs.Said.{is_answered, said, left}
 use Rattle.ua_server.specs.State.{State}
-use Rattle.ua_server.specs.Stepping.{Stands, Stops, StepGoes, StepCloses, StepRefuses, StepAnswers, StepBy, given_up, spent}
+use Rattle.ua_server.specs.Stepping.{Stands, Stops, StepAnswers, StepBy, given_up, spent}
 use Rattle.ua_server.specs.declared.step.End.{End as Ending}
 use Rattle.ua_server.specs.declared.step.End.TheVariants as ending
 use Rattle.ua_server.specs.declared.step.Step.{Step}
@@ -26,7 +26,7 @@ use Rattle.ua_pinned.specs.Pinned.{HadMemory}
 use Rattle.ua_pinned.specs.Servers.{ServersDone}
 use Rattle.ua_pinned.specs.Steps.{StepsAlike, SameStep, SameStepAnswer, LeavesSteps, LeftSteps}
 use Rattle.ua_pinned.proofs.ServersAlike.{same_code, whole_taken, to_quiet, to_tells, to_lasts}
-use Rattle.ua_pinned.proofs.StreamsAlike.{Quiet, Tells, Lasts, Wrong, WrongAt, wrong_at, Meets, AsOne, Within, Around, quiet_quiet, quiet_tells, quiet_lasts, quiet_wrong, wrong_tells, lasts_tells, lasts_wrong, lasts_lasts, tells_tells, wrong_wrong}
+use Rattle.ua_pinned.proofs.StreamsAlike.{Quiet, Tells, Lasts, WrongAt, wrong_at, Meets, AsOne, Within, Around, quiet_quiet, quiet_tells, quiet_lasts, quiet_wrong, wrong_tells, lasts_tells, lasts_wrong, lasts_lasts, tells_tells, wrong_wrong}
 
 -- ---- messages that were given up are not answered
 

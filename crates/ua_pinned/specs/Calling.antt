@@ -1,5 +1,6 @@
 -- What it is for two clients to be called alike, over lines that bring the same octets and fail alike.
-use Rattle.std.specs.Prelude.{◌≡◌, ℕ, ◌<◌, ◌⊎◌, Bool, true, false, List, ◌++◌, length, Option, Some, None, Result, Ok, Err, IsErrOf}
+use Rattle.std.specs.Prelude.{◌≡◌, ℕ, ◌<◌, ◌^◌, ◌⊎◌, Bool, true, false, List, ◌++◌, length, Option, Some, None, Result, Ok, Err, IsErrOf}
+use Rattle.std.specs.List.{AllByRecursion}
 use Rattle.ua_channel.specs.Client.{SameClient}
 use Rattle.ua_channel.specs.Line.{Traffic}
 use Rattle.ua_client.specs.Client.{IsDone, IsReady, client_channel, connection_of, ends}
@@ -82,6 +83,11 @@ SameCalls replies Same (Ok v) (Ok w) = replies v ≡ replies w
 SameCalls replies Same (Ok v) (Err f) = ⊥
 SameCalls replies Same (Err f) (Ok v) = ⊥
 SameCalls replies Same (Err f) (Err g) = Same f g
+
+-- these are octets, and with those that came fewer than 4294967296
+pub record AreFew (s : Site) (coming : List ℕ) : Type 0 where
+  pub octets : AllByRecursion (λ (b : ℕ). b < 256) coming
+  pub few : length (s.octets ++ coming) < 2 ^ 32
 
 -- both may be called
 pub record AreReady (one two : Client) : Type 0 where

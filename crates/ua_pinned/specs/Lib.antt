@@ -7,3 +7,5 @@ pub mod Lines
 pub mod Serving
 pub mod Exchanges
 pub mod Calling
+pub mod Texts
+pub mod Dissecting

@@ -1,5 +1,5 @@
 -- What it is for two lines to bring the same octets and to fail alike.
-use Rattle.std.specs.Prelude.{◌≡◌, ℕ, ◌<◌, Bool, true, false, List, [], ◌++◌, length, Option, Some, None, Result, Ok, Err}
+use Rattle.std.specs.Prelude.{◌≡◌, ℕ, ◌<◌, List, [], ◌++◌, length, Option, Some}
 use Rattle.ua_channel.specs.Line.{Traffic}
 
 -- these octets are to come from a line, whatever is written to it

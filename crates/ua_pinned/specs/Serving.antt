@@ -1,5 +1,5 @@
 -- What it is for two lines to be served alike.
-use Rattle.std.specs.Prelude.{◌≡◌, ℕ, Bool, true, false, List, Option, Result, Ok, Err, IsErrOf}
+use Rattle.std.specs.Prelude.{◌≡◌, Bool, true, false, Option, Result, Ok, Err, IsErrOf}
 use Rattle.ua_channel.specs.Line.{Traffic}
 use Rattle.ua_server.specs.State.{State}
 use Rattle.ua_server.specs.declared.serve_fault.ServeFault.{ServeFault}

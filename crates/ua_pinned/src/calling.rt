@@ -4,7 +4,7 @@ ghost use Rattle.std.specs.Prelude.{◌≡◌, ◌≤◌, ℕ, List, IsTrue, len
 ghost use Rattle.ua_client.specs.Site.{Site};
 ghost use Rattle.ua_client.specs.declared.fault.ClientFault.TheVariants.{OutOfMemory};
 ghost use Rattle.ua_octets.specs.Counted.{text};
-ghost use Rattle.ua_pinned.specs.Calling.{AreDone, CallsAlike, LeavesBoth, LeavesCalled, OpenAlike, SameCalls, SameFault, StandReady};
+ghost use Rattle.ua_pinned.specs.Calling.{AreDone, AreFew, CallsAlike, LeavesBoth, LeavesCalled, OpenAlike, SameCalls, SameFault, StandReady};
 ghost use Rattle.ua_pinned.specs.Lines.{LinesAlike, WroteAlike};
 ghost use Rattle.ua_pinned.specs.Pinned.{HadMemory};
 
@@ -101,8 +101,11 @@ pub fn call_twice<L: Line, K: Line>(
         → CallsAlike result.0 result.1 (L.traffic line.old) (L.traffic line.new) (K.traffic other.old) (K.traffic other.new) → WroteAlike (L.traffic line.old) (L.traffic line.new) (K.traffic other.old) (K.traffic other.new) }
     ensures left { (s : Site) (coming : List ℕ) → StandReady one.old two.old (L.traffic line.old) (K.traffic other.old) s coming → HadMemory OutOfMemory result.0 result.1
         → CallsAlike result.0 result.1 (L.traffic line.old) (L.traffic line.new) (K.traffic other.old) (K.traffic other.new) → LeavesCalled result.0 one.new two.new (L.traffic line.new) (K.traffic other.new) }
+    ensures place { (s : Site) (coming : List ℕ) → StandReady one.old two.old (L.traffic line.old) (K.traffic other.old) s coming → HadMemory OutOfMemory result.0 result.1
+        → CallsAlike result.0 result.1 (L.traffic line.old) (L.traffic line.new) (K.traffic other.old) (K.traffic other.new) → AreFew s coming → LeavesBoth result.0 one.new two.new (L.traffic line.new) (K.traffic other.new) }
 {
     bodies_of_responses_differ();
+    clients_are_settled();
     let first = one.call(line, request, moment);
     let second = two.call(other, request, moment);
     (first, second)
@@ -129,8 +132,11 @@ pub fn call_all_twice<L: Line, K: Line>(
         → CallsAlike result.0 result.1 (L.traffic line.old) (L.traffic line.new) (K.traffic other.old) (K.traffic other.new) → WroteAlike (L.traffic line.old) (L.traffic line.new) (K.traffic other.old) (K.traffic other.new) }
     ensures left { (s : Site) (coming : List ℕ) → StandReady one.old two.old (L.traffic line.old) (K.traffic other.old) s coming → HadMemory OutOfMemory result.0 result.1
         → CallsAlike result.0 result.1 (L.traffic line.old) (L.traffic line.new) (K.traffic other.old) (K.traffic other.new) → LeavesCalled result.0 one.new two.new (L.traffic line.new) (K.traffic other.new) }
+    ensures place { (s : Site) (coming : List ℕ) → StandReady one.old two.old (L.traffic line.old) (K.traffic other.old) s coming → HadMemory OutOfMemory result.0 result.1
+        → CallsAlike result.0 result.1 (L.traffic line.old) (L.traffic line.new) (K.traffic other.old) (K.traffic other.new) → AreFew s coming → LeavesBoth result.0 one.new two.new (L.traffic line.new) (K.traffic other.new) }
 {
     bodies_of_responses_differ();
+    clients_are_settled();
     let first = one.call_all(line, requests, moment);
     let second = two.call_all(other, requests, moment);
     (first, second)

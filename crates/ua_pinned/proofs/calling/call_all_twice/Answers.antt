@@ -3,7 +3,7 @@ use Rattle.ua_client.specs.Site.{Site}
 use Rattle.ua_client.specs.declared.fault.ClientFault.TheVariants.{OutOfMemory}
 use Rattle.ua_pinned.specs.Calling.{CallsAlike, SameFault, StandReady}
 use Rattle.ua_pinned.specs.Pinned.{HadMemory}
-use Rattle.ua_pinned.proofs.GroupsAlike.{GroupOnce, grouped_once}
+use Rattle.ua_pinned.proofs.GroupsAlike.{GroupOnce, grouped_once, placed_once}
 use Rattle.ua_pinned.proofs.calling.call_all_twice.Goals as goal
 use Rattle.ua_pinned.proofs.calling.call_all_twice.Given.{Over as Given}
 
@@ -23,3 +23,9 @@ returns-clause-written g c = λ s coming stand had faults. (once g c s coming st
 
 pub returns-clause-left : goal.returns-clause-left
 returns-clause-left g c = λ s coming stand had faults. (once g c s coming stand had faults).left
+
+pub returns-clause-place : goal.returns-clause-place
+returns-clause-place g c = λ s coming stand had faults few.
+    placed_once c.bodies_of_responses_differ.ensures (λ replies. replies.items) SameFault (λ f h e. inl e) c.args.one.now c.args.two.now c.call_all-first.new.self c.call_all-second.new.self c.args.requests.now c.requires
+    c.call_all-first.result c.call_all-second.result _ _ _ _ s coming (λ told all more e un mis f. (inr (inr refl), inr (inl refl))) stand had
+    (c.call_all-first.ensures.calls stand.ready) (c.call_all-second.ensures.calls stand.ready_too) (c.call_all-first.ensures.left stand.ready) (c.call_all-second.ensures.left stand.ready_too) c.clients_are_settled.ensures.none_pending few faults

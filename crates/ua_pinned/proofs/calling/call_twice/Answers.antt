@@ -3,7 +3,7 @@ use Rattle.ua_client.specs.Site.{Site}
 use Rattle.ua_client.specs.declared.fault.ClientFault.TheVariants.{OutOfMemory}
 use Rattle.ua_pinned.specs.Calling.{CallsAlike, StandReady}
 use Rattle.ua_pinned.specs.Pinned.{HadMemory}
-use Rattle.ua_pinned.proofs.GroupsAlike.{GroupOnce, called_missing, grouped_once, one_answer}
+use Rattle.ua_pinned.proofs.GroupsAlike.{GroupOnce, called_missing, grouped_once, one_answer, placed_once}
 use Rattle.ua_pinned.proofs.calling.call_twice.Goals as goal
 use Rattle.ua_pinned.proofs.calling.call_twice.Given.{Over as Given}
 
@@ -23,3 +23,9 @@ returns-clause-written g c = λ s coming stand had faults. (once g c s coming st
 
 pub returns-clause-left : goal.returns-clause-left
 returns-clause-left g c = λ s coming stand had faults. (once g c s coming stand had faults).left
+
+pub returns-clause-place : goal.returns-clause-place
+returns-clause-place g c = λ s coming stand had faults few.
+    placed_once c.bodies_of_responses_differ.ensures (λ reply. reply ∷ []) (λ f h. f ≡ h) (λ f h e. e) c.args.one.now c.args.two.now c.call-first.new.self c.call-second.new.self (c.args.request.now ∷ []) (omega arith)
+    c.call-first.result c.call-second.result _ _ _ _ s coming (called_missing c.args.request.now _) stand had
+    (c.call-first.ensures.calls stand.ready) (c.call-second.ensures.calls stand.ready_too) (c.call-first.ensures.left stand.ready) (c.call-second.ensures.left stand.ready_too) c.clients_are_settled.ensures.none_pending few faults

@@ -1,5 +1,4 @@
 use Rattle.std.specs.Prelude.{List, ℕ}
-use Rattle.std.proofs.Common.{subst, sym, ◌∙◌}
 use Rattle.ua_builtin.specs.declared.date_time.DateTime.{DateTime}
 use Rattle.ua_channel.specs.ServerTold.{Told}
 use Rattle.ua_server.specs.Served.{channel_in}
@@ -7,7 +6,7 @@ use Rattle.ua_server.specs.State.{State}
 use Rattle.ua_server.specs.declared.step.StepFault.TheVariants.{OutOfMemory}
 use Rattle.ua_pinned.specs.Pinned.{HadMemory}
 use Rattle.ua_pinned.specs.Steps.{StepsAlike}
-use Rattle.ua_pinned.proofs.StepsAlike.{Both, IsStepped, alike}
+use Rattle.ua_pinned.proofs.StepsAlike.{Both, alike}
 use Rattle.ua_pinned.proofs.steps.step_server_twice.Goals as goal
 
 both : (c : goal.After-step-second) (octets : List ℕ) (told : List Told) (begun : State) (moments : List DateTime) → StepsAlike (channel_in c.args.one.now) (channel_in c.args.two.now) octets told begun moments c.args.services.now c.args.others.now → HadMemory OutOfMemory c.step-first.result c.step-second.result
