@@ -13,8 +13,8 @@ use crate::text::UaString;
 use crate::wire::Wire;
 use std::alloc::Global;
 
-/// A value that can be passed over: its octets are taken just where reading would take them, and it is
-/// not made. A type of many values gives a `skip_value` of its own, which makes one at a time.
+/// A value that can be passed over: its octets are taken just where reading would take them, and nothing
+/// of it is kept. A type of many values gives a `skip_value` of its own, which makes one at a time.
 pub trait Skip: Wire + Drop {
     /// Passes over the value that the source begins with, of at most `depth` levels. After a fault the
     /// source is to be given up.

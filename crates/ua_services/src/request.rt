@@ -326,8 +326,8 @@ fn skip_announced<S: Source>(
 }
 
 /// The kind of the request that a body is, which [`read_request`] would read. Of a Read no item is made,
-/// so that it takes no memory but for a text of more than 30 octets or the octets of a ByteString, one
-/// at a time. After a fault the source is to be given up.
+/// so that it takes no memory but for a text of more than 30 octets, the octets of a ByteString or the
+/// XmlElement of an additional header, one at a time. After a fault the source is to be given up.
 pub fn skip_request<S: Source>(alloc: Global, src: &mut S) -> Result<RequestKind, RequestFault>
     ensures kind { (result ≡ kind_alone (request_read (S.octets src.old))) ⊎ (result ≡ Err RequestFault.OutOfMemory) }
 {

@@ -9,7 +9,7 @@ use Rattle.ua_octets.proofs.Readers.{some_is}
 use Rattle.ua_structures.specs.Array.{items_at}
 
 -- what stands behind what was found
-abbrev rest : {A : Type 0} → Option (A × List ℕ) → Option (Unit {0} × List ℕ)
+abbrev pub rest : {A : Type 0} → Option (A × List ℕ) → Option (Unit {0} × List ℕ)
 rest found = found >>= λ x. Some (tt, x.1)
 
 -- a value that was found, and the n values behind it

@@ -1,11 +1,8 @@
 use Rattle.std.proofs.Common.{ap, arith, List, ℕ, Option, Some}
 use Rattle.ua_builtin.specs.Exact.{◌>>=◌}
 use Rattle.ua_structures.proofs.ItemsRead.{claims_more}
+use Rattle.ua_structures.proofs.ItemsSkipped.{rest}
 use Rattle.ua_structures.proofs.array.UaArraySkip.skip_value.Goals as goal
 
--- what is passed over where nothing is found
-abbrev rest_of : {A : Type 0} → Option (A × List ℕ) → Option (Unit {0} × List ℕ)
-rest_of found = found >>= λ x. Some (tt, x.1)
-
 pub returns-then-left-count-clause-exact : goal.returns-then-left-count-clause-exact
-returns-then-left-count-clause-exact g c = ap rest_of (claims_more g.T.Wire.format c.lawful.ensures c.args.depth c.in_ok-count.count (g.S.Source.octets c.args.src.now) _ c.in_ok-count.ensures.exact (omega arith) (omega arith))
+returns-then-left-count-clause-exact g c = ap rest (claims_more g.T.Wire.format c.lawful.ensures c.args.depth c.in_ok-count.count (g.S.Source.octets c.args.src.now) _ c.in_ok-count.ensures.exact (omega arith) (omega arith))
