@@ -117,6 +117,15 @@ impl Source for Parts<'_> {
     ghost octets = { λ p. p };
 
     #[inline]
+    fn fork(&self) -> Self {
+        Parts {
+            front: self.front,
+            behind: self.behind,
+            left: self.left,
+        }
+    }
+
+    #[inline]
     fn left(&self) -> usize {
         self.left
     }

@@ -4,10 +4,15 @@ ghost use Rattle.std.specs.Prelude.{◌≡◌, ◌≤◌, ◌<◌, ◌++◌, ℕ
 
 use std::marker::Model;
 
-/// Octets that are still to come, taken from the left.
-pub trait Source {
+/// Octets that are still to come, taken from the left. A source may be let go at any place, as a fork is
+/// that was only looked at.
+pub trait Source: Drop {
     /// The octets still to come.
     ghost octets: { Self → List ℕ };
+
+    /// A source of the same octets, of which neither sees what is taken of the other.
+    fn fork(&self) -> Self
+        ensures { octets result ≡ octets self.now };
 
     /// How many octets are still to come.
     fn left(&self) -> usize
@@ -48,6 +53,11 @@ impl<'a> Octets<'a> {
 
 impl Source for Octets<'_> {
     ghost octets = { λ o. o };
+
+    #[inline]
+    fn fork(&self) -> Self {
+        Octets { rest: self.rest }
+    }
 
     #[inline]
     fn left(&self) -> usize {
