@@ -31,8 +31,8 @@ use Rattle.ua_exchange.specs.Turns.{id_behind}
 use Rattle.ua_exchange.specs.declared.client_end.ClientEnd.{ClientEnd}
 use Rattle.ua_exchange.specs.declared.fault.PairFault.{PairFault}
 use Rattle.ua_exchange.specs.declared.fault.PairFault.TheVariants.{OutOfMemory}
-use Rattle.ua_exchange.specs.declared.reply.Reply.{Reply}
-use Rattle.ua_exchange.specs.declared.reply.Reply.TheVariants as reply
+use Rattle.ua_client.specs.declared.reply.Reply.{Reply}
+use Rattle.ua_client.specs.declared.reply.Reply.TheVariants as reply
 use Rattle.ua_exchange.specs.declared.turn.Turn.{Turn}
 use Rattle.ua_exchange.specs.declared.turn.Turn.TheVariants.{Ask, Renew}
 use Rattle.ua_exchange.proofs.Hearing.{heard-push}

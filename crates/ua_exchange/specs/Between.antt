@@ -25,7 +25,7 @@ use Rattle.ua_exchange.specs.declared.client_end.ClientEnd.{ClientEnd}
 use Rattle.ua_exchange.specs.declared.ends.Ends.{Ends}
 use Rattle.ua_exchange.specs.declared.fault.PairFault.{PairFault}
 use Rattle.ua_exchange.specs.declared.fault.PairFault.TheVariants.{OutOfMemory}
-use Rattle.ua_exchange.specs.declared.reply.Reply.{Reply}
+use Rattle.ua_client.specs.declared.reply.Reply.{Reply}
 use Rattle.ua_exchange.specs.declared.server_end.ServerEnd.{ServerEnd}
 use Rattle.ua_exchange.specs.declared.turn.Turn.{Turn}
 

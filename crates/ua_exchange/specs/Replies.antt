@@ -15,8 +15,8 @@ use Rattle.ua_server.specs.Answer.{answer}
 use Rattle.ua_server.specs.State.{State}
 use Rattle.ua_exchange.specs.Programs.{agreement, channel}
 use Rattle.ua_exchange.specs.Turns.{token_behind}
-use Rattle.ua_exchange.specs.declared.reply.Reply.{Reply}
-use Rattle.ua_exchange.specs.declared.reply.Reply.TheVariants as reply
+use Rattle.ua_client.specs.declared.reply.Reply.{Reply}
+use Rattle.ua_client.specs.declared.reply.Reply.TheVariants as reply
 use Rattle.ua_exchange.specs.declared.turn.Turn.{Turn}
 use Rattle.ua_exchange.specs.declared.turn.Turn.TheVariants.{Ask, Renew}
 

@@ -39,8 +39,8 @@ use Rattle.ua_exchange.specs.declared.fault.PairFault.{PairFault}
 use Rattle.ua_exchange.specs.declared.fault.PairFault.TheVariants.{Request, NotWritable, OutOfMemory}
 use Rattle.ua_exchange.specs.declared.server_end.ServerEnd.{ServerEnd}
 use Rattle.ua_exchange.specs.Replies.{reply_behind, reply_read}
-use Rattle.ua_exchange.specs.declared.reply.Reply.{Reply}
-use Rattle.ua_exchange.specs.declared.reply.Reply.TheVariants as reply
+use Rattle.ua_client.specs.declared.reply.Reply.{Reply}
+use Rattle.ua_client.specs.declared.reply.Reply.TheVariants as reply
 use Rattle.ua_exchange.specs.declared.turn.Turn.{Turn}
 use Rattle.ua_exchange.specs.declared.turn.Turn.TheVariants.{Ask, Renew}
 

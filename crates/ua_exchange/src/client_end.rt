@@ -13,12 +13,12 @@ ghost use Rattle.ua_exchange.specs.declared.fault.PairFault.TheVariants.{OutOfMe
 use crate::cuts::Cuts;
 use crate::fault::PairFault;
 use crate::programs::{limits, url};
-use crate::reply::Reply;
 use crate::turn::Turn;
 use std::alloc::{AllocError, Global};
 use ua_builtin::{DateTime, WriteFault};
 use ua_channel::{AskFault, ClientChannel, ClientEvent};
 use ua_chunk::Message;
+use ua_client::Reply;
 use ua_services::{Request, empty_body, read_response, write_request};
 
 /// The encoding of a request.

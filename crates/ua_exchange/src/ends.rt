@@ -22,13 +22,13 @@ use crate::client_end::ClientEnd;
 use crate::cuts::Cuts;
 use crate::fault::PairFault;
 use crate::programs::endpoint;
-use crate::reply::Reply;
 use crate::server_end::ServerEnd;
 use crate::transcript::Transcript;
 use crate::turn::Turn;
 use std::alloc::{AllocError, Global};
 use ua_builtin::DateTime;
 use ua_channel::ClientEvent;
+use ua_client::Reply;
 use ua_nodes::NodeTable;
 use ua_server::{End, Services};
 

@@ -14,13 +14,12 @@ mod ends;
 mod fault;
 pub mod laws;
 mod programs;
-mod reply;
 mod server_end;
 mod transcript;
 mod turn;
 
 pub use ends::exchange;
 pub use fault::PairFault;
-pub use reply::Reply;
 pub use transcript::Transcript;
 pub use turn::Turn;
+pub use ua_client::Reply;

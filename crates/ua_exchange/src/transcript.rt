@@ -1,6 +1,6 @@
 //! What a connection came to.
 
-use crate::reply::Reply;
+use ua_client::Reply;
 use ua_server::End;
 
 /// What went over a connection, from the HEL to the CLO.

@@ -4,7 +4,7 @@ use Rattle.std.specs.List.{list_any, slice_get}
 use Rattle.std.proofs.lemmas.List.{drop_all}
 use Rattle.ua_builtin.specs.declared.node_id.NodeId.{NodeId}
 use Rattle.ua_builtin.specs.declared.status_code.StatusCode.{StatusCode}
-use Rattle.ua_exchange.specs.declared.reply.Reply.{Reply}
+use Rattle.ua_client.specs.declared.reply.Reply.{Reply}
 use Rattle.ua_looping.specs.Faults.{of_answer}
 use Rattle.ua_looping.specs.Printed.{AddsAll, AddsTold, asked_behind, asked_by, asked_for, fault_of, is_bad_reply, is_bad_told, read_told, replies_told, reply_told, text_of, unless_failed, write_told}
 use Rattle.ua_looping.specs.declared.fault.LoopFault.{LoopFault}

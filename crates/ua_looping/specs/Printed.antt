@@ -8,8 +8,8 @@ use Rattle.ua_exchange.specs.Exchanged.{down_octets}
 use Rattle.ua_exchange.specs.Programs.{begun_over}
 use Rattle.ua_exchange.specs.Replies.{turns_replies}
 use Rattle.ua_exchange.specs.Turns.{up_octets}
-use Rattle.ua_exchange.specs.declared.reply.Reply.{Reply}
-use Rattle.ua_exchange.specs.declared.reply.Reply.TheVariants.{Response as Responds, Aborted}
+use Rattle.ua_client.specs.declared.reply.Reply.{Reply}
+use Rattle.ua_client.specs.declared.reply.Reply.TheVariants.{Response as Responds, Aborted}
 use Rattle.ua_looping.specs.Script.{script_moment, script_turns}
 use Rattle.ua_looping.specs.declared.fault.LoopFault.{LoopFault}
 use Rattle.ua_looping.specs.declared.fault.LoopFault.TheVariants.{Service, UnknownResponse, NoMemory}

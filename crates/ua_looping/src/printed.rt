@@ -2,7 +2,7 @@
 
 ghost use Rattle.std.specs.Prelude.{◌≡◌, ◌++◌, ◌∷◌, [], ℕ, Bool, List, Option, Some, Ok, Err, drop, length, map, string_bytes, IfOk, IfErr, OnOk};
 ghost use Rattle.std.specs.List.{slice_get};
-ghost use Rattle.ua_exchange.specs.declared.reply.Reply.TheVariants as reply;
+ghost use Rattle.ua_client.specs.declared.reply.Reply.TheVariants as reply;
 ghost use Rattle.ua_looping.specs.Faults.{of_answer};
 ghost use Rattle.ua_looping.specs.Printed.{AddsAll, AddsTold, asked_behind, asked_for, end_text, replies_told, reply_told, response_told, totals_line};
 ghost use Rattle.ua_texts.specs.declared.script.Step.{Step};

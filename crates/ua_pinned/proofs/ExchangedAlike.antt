@@ -9,7 +9,7 @@ use Rattle.ua_exchange.specs.declared.fault.PairFault.TheVariants.{NotWritable, 
 use Rattle.ua_exchange.specs.declared.transcript.Transcript.{Transcript}
 use Rattle.ua_exchange.specs.declared.turn.Turn.{Turn}
 use Rattle.ua_server.specs.declared.step.End.TheVariants.{Closed}
-use Rattle.ua_exchange.specs.declared.reply.Reply.{Reply}
+use Rattle.ua_client.specs.declared.reply.Reply.{Reply}
 use Rattle.ua_pinned.specs.Exchanges.{SameExchange}
 use Rattle.ua_pinned.specs.Pinned.{HadMemory}
 use Rattle.ua_pinned.proofs.StreamsAlike.{Splits, split}

@@ -1,6 +1,6 @@
 use Rattle.std.proofs.Common.{◌++◌, ◌∙◌, List, Option, ap, append-nil, sym}
 use Rattle.ua_exchange.specs.Between.{given}
-use Rattle.ua_exchange.specs.declared.reply.Reply.{Reply}
+use Rattle.ua_client.specs.declared.reply.Reply.{Reply}
 use Rattle.ua_exchange.proofs.Between.{given-none}
 use Rattle.ua_exchange.proofs.ends.add_reply.Goals as goal
 

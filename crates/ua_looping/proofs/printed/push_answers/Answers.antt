@@ -1,6 +1,6 @@
 use Rattle.std.proofs.Common.{Err, Ok, Option, Some, arith, inr, refl, string_bytes, subst, sym}
 use Rattle.std.proofs.lemmas.Result.{err_from_is_err_and}
-use Rattle.ua_exchange.specs.declared.reply.Reply.{Reply}
+use Rattle.ua_client.specs.declared.reply.Reply.{Reply}
 use Rattle.ua_looping.specs.Printed.{AddsTold, reply_told}
 use Rattle.ua_looping.proofs.Told.{asks, behind-all, behind-fault, behind-none, behind-step}
 use Rattle.ua_looping.proofs.printed.push_answers.Goals as goal

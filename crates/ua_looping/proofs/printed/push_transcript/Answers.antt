@@ -1,7 +1,7 @@
 use Rattle.std.proofs.Common.{Err, List, None, Ok, Some, drop, map, string_bytes, subst}
 use Rattle.std.specs.List.{slice_get}
 use Rattle.std.proofs.lemmas.Result.{err_from_is_err_and}
-use Rattle.ua_exchange.specs.declared.reply.Reply.{Reply}
+use Rattle.ua_client.specs.declared.reply.Reply.{Reply}
 use Rattle.ua_looping.specs.Printed.{AddsAll, AddsTold, asked_behind, replies_told, reply_told}
 use Rattle.ua_looping.proofs.Told.{whole-all, whole-first, whole-others, whole-second}
 use Rattle.ua_looping.proofs.printed.push_transcript.Goals as goal
