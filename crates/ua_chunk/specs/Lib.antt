@@ -12,6 +12,7 @@ pub mod Open
 pub mod Refusal
 pub mod Cutting
 pub mod Merge
+pub mod HeldParts
 pub mod Pending
 pub mod Kept
 pub mod Assembling

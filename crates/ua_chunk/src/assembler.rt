@@ -119,11 +119,11 @@ impl Assembler {
         self.last = Some(chunk.sequence);
         match chunk.flag {
             Flag::F => {
-                pending.add(chunk.body)?;
+                pending.add(self.alloc, chunk.body)?;
                 Ok(Some(Delivered::Whole(chunk.request, pending.message)))
             }
             Flag::C => {
-                pending.add(chunk.body)?;
+                pending.add(self.alloc, chunk.body)?;
                 self.pending.put(pending)?;
                 Ok(None)
             }
@@ -160,7 +160,7 @@ impl Assembler {
             return Err(AssembleFault::Closed);
         }
         let _chunks = self.chunks;
-        let pending = self.pending.take_out(self.alloc, chunk.request);
+        let pending = self.pending.take_out(chunk.request);
         if let Some(fault) = self.refusal(&pending, &chunk) {
             self.close();
             return Err(fault);

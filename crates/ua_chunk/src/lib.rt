@@ -23,6 +23,7 @@ mod delivered;
 mod fault;
 mod fields;
 mod flag;
+mod held_parts;
 mod lane;
 pub mod laws;
 mod message;

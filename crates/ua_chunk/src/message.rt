@@ -1,5 +1,6 @@
 //! Messages, as the bodies of their chunks.
 
+use crate::held_parts::HeldParts;
 use bytes::Bytes;
 use std::alloc::{AllocError, Global};
 use std::marker::Model;
@@ -9,7 +10,7 @@ use ua_octets::Parts;
 /// are these, joined.
 #[derive(Drop)]
 pub struct Message {
-    parts: Vec<Bytes>,
+    parts: HeldParts,
     /// How many octets they have together.
     len: usize,
 }
@@ -20,9 +21,11 @@ impl Model for Message {
 
     ghost Value = { List (List ℕ) };
 
-    ghost view = { λ m. m.parts.items };
+    ghost use Rattle.ua_chunk.specs.HeldParts.{held_parts};
 
-    ghost invariant = { λ m. m.len ≡ length (concat m.parts.items) };
+    ghost view = { λ m. held_parts m.parts };
+
+    ghost invariant = { λ m. m.len ≡ length (concat (held_parts m.parts)) };
 }
 
 impl Message {
@@ -32,11 +35,11 @@ impl Message {
 
     /// A message of which nothing has come.
     #[inline]
-    pub(crate) fn new(alloc: Global) -> Message
+    pub(crate) fn new() -> Message
         ensures { result ≡ [] }
     {
         Message {
-            parts: Vec::new(alloc),
+            parts: HeldParts::None,
             len: 0,
         }
     }
@@ -76,7 +79,7 @@ impl Message {
 
     /// Adds the body of one more chunk, as it is.
     #[inline(always)]
-    pub(crate) fn add(&mut self, body: Bytes) -> Result<(), AllocError>
+    pub(crate) fn add(&mut self, alloc: Global, body: Bytes) -> Result<(), AllocError>
         ensures { OnOk result (self.new ≡ self.old ++ filled (body ∷ [])) }
     {
         if body.is_empty() {
@@ -85,7 +88,7 @@ impl Message {
         let Some(len) = self.len.checked_add(body.len()) else {
             return Err(AllocError);
         };
-        self.parts.push(body)?;
+        self.parts.push(alloc, body)?;
         self.len = len;
         Ok(())
     }

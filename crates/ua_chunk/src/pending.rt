@@ -20,14 +20,14 @@ impl Pending {
 
     /// Adds the body of one more chunk.
     #[inline(always)]
-    pub fn add(&mut self, body: Bytes) -> Result<(), AllocError>
+    pub fn add(&mut self, alloc: Global, body: Bytes) -> Result<(), AllocError>
         ensures { OnOk result (self.new ≡ record {
           request = self.old.request;
           chunks = min (self.old.chunks + 1) 4294967295;
           message = self.old.message ++ filled (body ∷ []);
         }) }
     {
-        self.message.add(body)?;
+        self.message.add(alloc, body)?;
         self.chunks = self.chunks.saturating_add(1);
         Ok(())
     }
@@ -100,7 +100,7 @@ impl PendingMessages {
 
     /// Takes out what has come under a request id.
     #[inline(always)]
-    pub fn take_out(&mut self, alloc: Global, request: u32) -> Pending
+    pub fn take_out(&mut self, request: u32) -> Pending
         ensures taken { result ≡ message_of request self.old }
         ensures rest { self.new ≡ without (is_under request) self.old }
     {
@@ -108,7 +108,7 @@ impl PendingMessages {
             return Pending {
                 request,
                 chunks: 0,
-                message: Message::new(alloc),
+                message: Message::new(),
             };
         };
         let pending = self.messages.remove(place);

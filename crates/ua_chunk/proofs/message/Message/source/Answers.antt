@@ -3,4 +3,4 @@ use Rattle.std.specs.List.{concat}
 use Rattle.ua_chunk.proofs.message.Message.source.Goals as goal
 
 pub new-requires : goal.new-requires
-new-requires c = omega (arith, c.self.invariant, ap (λ (t : List (List ℕ)). length (concat t)) c.as_slice.ensures.value)
+new-requires c = omega (arith, c.self.invariant, ap (λ (t : List (List ℕ)). length (concat t)) c.as_slice.ensures)
