@@ -3,6 +3,7 @@ pub mod AbortsRead
 pub mod Assembles
 pub mod Bounds
 pub mod Carried
+pub mod ChunkHeaders
 pub mod CutLaws
 pub mod Fresh
 pub mod HeadersLawful

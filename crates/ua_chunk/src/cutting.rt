@@ -11,8 +11,9 @@ ghost use Rattle.ua_chunk.specs.Sequence.{next_number};
 use crate::fault::CutFault;
 use crate::flag::Flag;
 use crate::lane::Lane;
+use byteorder::{ByteOrder, LittleEndian};
 use std::alloc::AllocError;
-use ua_builtin::Wire;
+use ua_frame::{HEADER_LEN, Kind, header_octets};
 
 /// The octets of a chunk in front of its body.
 const HEADERS: usize = 24;
@@ -50,27 +51,16 @@ fn octets_of_chunks(room: u32, len: usize) -> Option<usize>
     chunks.checked_mul(HEADERS)?.checked_add(len)
 }
 
-/// Adds what stands in front of the body of a chunk.
-fn append_headers(
-    lane: &Lane,
-    flag: Flag,
-    size: u32,
-    sequence: u32,
-    request: u32,
-    out: &mut Vec<u8>,
-) -> Result<(), AllocError>
-    ensures ok { OnOk result (out.new.items ≡ out.old.items ++ front_octets lane.now flag size sequence request) }
-    ensures err { OnErr result (Extends out.old.items out.new.items) }
+/// What stands in front of the body of a chunk.
+#[inline(always)]
+fn headers(lane: &Lane, flag: Flag, size: u32, sequence: u32, request: u32) -> [u8; HEADERS]
+    ensures { result ≡ front_octets lane.now flag size sequence request }
 {
-    let Lane { channel, token, .. } = *lane;
-    out.extend_from_slice(b"MSG")?;
-    out.push(flag.octet())?;
-    size.append(out)?;
-    channel.append(out)?;
-    token.append(out)?;
-    sequence.append(out)?;
-    request.append(out)?;
-    Ok(())
+    let mut octets = [0; HEADERS];
+    octets[..HEADER_LEN].copy_from_slice(&header_octets(Kind::Msg, flag.octet(), size));
+    let numbers = [lane.channel, lane.token, sequence, request];
+    LittleEndian::write_u32_into(&numbers, &mut octets[HEADER_LEN..]);
+    octets
 }
 
 /// Adds the frame of a chunk. After an error some of it may stand there.
@@ -87,7 +77,7 @@ fn append_chunk(
     ensures err { OnErr result (Extends out.old.items out.new.items) }
 {
     let size = (HEADERS + piece.len()) as u32;
-    append_headers(lane, flag, size, sequence, request, out)?;
+    out.extend_from_slice(&headers(lane, flag, size, sequence, request))?;
     out.extend_from_slice(piece)?;
     Ok(())
 }
