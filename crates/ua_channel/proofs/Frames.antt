@@ -12,7 +12,7 @@ use Rattle.ua_chunk.specs.declared.chunk.Chunk.{Chunk}
 use Rattle.ua_chunk.specs.Layout.{chunk_in}
 use Rattle.ua_channel.specs.declared.running.Running.{Running}
 use Rattle.ua_channel.specs.declared.server.Phase.{Phase}
-use Rattle.ua_channel.specs.declared.server.Phase.TheVariants.{Greeted, Open, Done}
+use Rattle.ua_channel.specs.declared.server.Phase.TheVariants.{Waiting, Greeted, Open, Done}
 use Rattle.ua_channel.specs.declared.server.ServerChannel.{ServerChannel}
 use Rattle.ua_channel.specs.declared.server_event.Event.{Event}
 use Rattle.ua_channel.specs.declared.server_event.Event.TheVariants as event
@@ -46,6 +46,18 @@ opn_only size kind.Err h = absurd cc
 opn_only size Msg h = absurd cc
 opn_only size Opn h = refl
 opn_only size Clo h = absurd cc
+
+-- a MSG is let in where a channel is open, and there alone
+pub msg_open : (p : Phase) (k : Kind) → k ≡ Msg → ((r : Running) → p ≡ Open r → ⊥) → IsTrue (lets_in (phase_gate p) k) → ⊥
+msg_open p Hel is shut h = absurd cc
+msg_open p kind.Ack is shut h = absurd cc
+msg_open p kind.Err is shut h = absurd cc
+msg_open p Opn is shut h = absurd cc
+msg_open p Clo is shut h = absurd cc
+msg_open Waiting Msg is shut h = absurd cc
+msg_open (Greeted a) Msg is shut h = absurd cc
+msg_open (Open r) Msg is shut h = shut r refl
+msg_open Done Msg is shut h = absurd cc
 
 -- what is known in the phase that a channel was found in
 pub was : (x : ServerChannel) (before : Received) (p : Phase) → p ≡ x.phase → Holds x before → InServerPhase (limits_of x) p before

@@ -57,8 +57,9 @@ fn hello_gate() -> Gate
 }
 
 impl ServerChannel {
-    ghost use Rattle.std.specs.Prelude.{◌≡◌, ◌<◌, ◌≤◌, ◌+◌, ◌++◌, ◌^◌, ◌↔◌, [], ℕ, List, length, take, None, Some, Ok, Err, IfOk, IfSome, MatchOption, MatchResult, OnOk, OnErr, IsErrOf, IsTrue};
+    ghost use Rattle.std.specs.Prelude.{◌≡◌, ◌≢◌, ◌<◌, ◌≤◌, ◌+◌, ◌++◌, ◌^◌, ◌↔◌, [], ℕ, List, length, take, None, Some, Ok, Err, IfOk, IfSome, MatchOption, MatchResult, OnOk, OnErr, IsErrOf, IsTrue};
     ghost use Rattle.ua_frame.specs.declared.frame.Frame.{Frame};
+    ghost use Rattle.ua_frame.specs.declared.kind.Kind.TheVariants.{Msg};
     ghost use Rattle.ua_frame.specs.Kinds.{lets_in};
     ghost use Rattle.ua_chunk.specs.Cutting.{most_octets};
     ghost use Rattle.ua_chunk.specs.declared.lane.Lane.{Lane};
@@ -125,9 +126,31 @@ impl ServerChannel {
         }
     }
 
-    /// Takes a frame on an open channel, whose phase was taken out.
+    /// Takes a chunk of a message on an open channel, which stays where it stands.
+    #[inline(always)]
+    fn on_message(&mut self, frame: Frame) -> Result<Option<Event>, StepFault>
+        requires kind { frame.kind ≡ Msg }
+        requires shape { HasShape frame }
+        ensures judges { (before : Received) → Holds self.old before → IsTrue (lets_in (phase_gate self.old.phase) frame.kind)
+            → JudgesFrame self.old before (content frame) result self.new }
+        ensures kept { self.new ≡ record self.old { phase = self.new.phase } }
+    {
+        let Phase::Open(running) = &mut self.phase else {
+            return Err(StepFault::Closed);
+        };
+        match running.on_message(self.channel, read_chunk(frame)) {
+            Ok(event) => Ok(event),
+            Err(fault) => {
+                self.phase = Phase::Done;
+                Err(fault)
+            }
+        }
+    }
+
+    /// Takes another frame on an open channel, whose phase was taken out.
     fn on_running(&mut self, mut running: Running, frame: Frame) -> Result<Option<Event>, StepFault>
         requires done { self.old.phase ≡ phase.Done }
+        requires kind { frame.kind ≢ Msg }
         requires shape { HasShape frame }
         ensures judges { (before : Received) → Stays self.old.limits running before → self.old.bound ≡ bound_after self.old.limits before
             → IsTrue (lets_in (phase_gate (phase.Open running)) frame.kind) → JudgesFrame self.old before (content frame) result self.new }
@@ -139,16 +162,11 @@ impl ServerChannel {
                 self.phase = Phase::Open(running);
                 Ok(event)
             }
-            Kind::Msg => {
-                let event = running.on_message(self.channel, read_chunk(frame))?;
-                self.phase = Phase::Open(running);
-                Ok(event)
-            }
             Kind::Clo => {
                 running.on_close(self.channel, read_chunk(frame))?;
                 Ok(Some(Event::Closed))
             }
-            Kind::Hel | Kind::Ack | Kind::Err => Err(StepFault::Closed),
+            Kind::Msg | Kind::Hel | Kind::Ack | Kind::Err => Err(StepFault::Closed),
         }
     }
 
@@ -159,6 +177,10 @@ impl ServerChannel {
             → JudgesFrame self.old before (content frame) result self.new }
         ensures kept { self.new ≡ record self.old { phase = self.new.phase; bound = self.new.bound } }
     {
+        if let Kind::Msg = frame.kind {
+            // nearly always: the channel stays where it is
+            return self.on_message(frame);
+        }
         match mem::replace(&mut self.phase, Phase::Done) {
             Phase::Waiting => {
                 let agreement = judge_hello(self.alloc, &self.limits, &frame.body)?;

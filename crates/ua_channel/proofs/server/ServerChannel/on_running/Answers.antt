@@ -1,6 +1,6 @@
 use Rattle.std.proofs.Common.{refl}
 use Rattle.std.proofs.lemmas.Result.{err_from_is_err_and}
-use Rattle.ua_channel.proofs.Frames.{opn_fault, msg_fault, clo_fault, opn_taken, msg_taken, clo_taken}
+use Rattle.ua_channel.proofs.Frames.{opn_fault, clo_fault, opn_taken, clo_taken}
 use Rattle.ua_channel.proofs.server.ServerChannel.on_running.Goals as goal
 
 pub returns-in_err-event-in-Opn-clause-judges : goal.returns-in_err-event-in-Opn-clause-judges
@@ -8,24 +8,15 @@ returns-in_err-event-in-Opn-clause-judges c = λ before s bound place.
     let p = err_from_is_err_and c.from_residual.result c.from_residual.ensures.1 in
     rw (p.1, p.2) (opn_fault c.args.self.now c.args.self.now before c.requires.done refl c.args.frame c.in_err-event-in-Opn.field-0.0 c.on_renewal.new.self c.in-Opn.is (c.in_err-event-in-Opn.ensures c.args.self.now.limits before s))
 
-pub returns-in_err-event-in-Msg-clause-judges : goal.returns-in_err-event-in-Msg-clause-judges
-returns-in_err-event-in-Msg-clause-judges c = λ before s bound place.
-    let p = err_from_is_err_and c.from_residual-in_err-event-in-Msg.result c.from_residual-in_err-event-in-Msg.ensures.1 in
-    rw (p.1, p.2) (msg_fault c.args.self.now c.args.self.now before c.requires.done refl c.args.frame c.read_chunk.result c.in_err-event-in-Msg.field-0.0 c.on_message.new.self c.in-Msg.is c.read_chunk.ensures.found (c.in_err-event-in-Msg.ensures c.args.self.now.limits before s))
-
 pub returns-in_err-on_close-in-Clo-clause-judges : goal.returns-in_err-on_close-in-Clo-clause-judges
 returns-in_err-on_close-in-Clo-clause-judges c = λ before s bound place.
     let p = err_from_is_err_and c.from_residual-in_err-on_close-in-Clo.result c.from_residual-in_err-on_close-in-Clo.ensures.1 in
-    rw (p.1, p.2) (clo_fault c.args.self.now c.args.self.now before c.requires.done refl c.args.frame c.read_chunk-in-Clo.result c.in_err-on_close-in-Clo.field-0.0 c.in-Clo.is c.read_chunk-in-Clo.ensures.found (c.in_err-on_close-in-Clo.ensures c.args.self.now.limits before s))
+    rw (p.1, p.2) (clo_fault c.args.self.now c.args.self.now before c.requires.done refl c.args.frame c.read_chunk.result c.in_err-on_close-in-Clo.field-0.0 c.in-Clo.is c.read_chunk.ensures.found (c.in_err-on_close-in-Clo.ensures c.args.self.now.limits before s))
 
 pub returns-in_ok-event-in-Opn-clause-judges : goal.returns-in_ok-event-in-Opn-clause-judges
 returns-in_ok-event-in-Opn-clause-judges c = λ before s bound place.
     opn_taken c.args.self.now _ before c.args.frame refl bound c.args.running c.on_renewal.new.self c.in_ok-event-in-Opn.event c.in-Opn.is s refl (c.in_ok-event-in-Opn.ensures c.args.self.now.limits before s)
 
-pub returns-in_ok-event-in-Msg-clause-judges : goal.returns-in_ok-event-in-Msg-clause-judges
-returns-in_ok-event-in-Msg-clause-judges c = λ before s bound place.
-    msg_taken c.args.self.now _ before c.args.frame refl bound c.args.running c.on_message.new.self c.read_chunk.result c.in_ok-event-in-Msg.event c.in-Msg.is c.read_chunk.ensures.found s refl (c.in_ok-event-in-Msg.ensures c.args.self.now.limits before s)
-
 pub returns-in_ok-on_close-in-Clo-clause-judges : goal.returns-in_ok-on_close-in-Clo-clause-judges
 returns-in_ok-on_close-in-Clo-clause-judges c = λ before s bound place.
-    clo_taken c.args.self.now c.args.self.now before c.args.frame refl bound c.read_chunk-in-Clo.result c.in-Clo.is c.read_chunk-in-Clo.ensures.found c.requires.done (c.in_ok-on_close-in-Clo.ensures c.args.self.now.limits before s)
+    clo_taken c.args.self.now c.args.self.now before c.args.frame refl bound c.read_chunk.result c.in-Clo.is c.read_chunk.ensures.found c.requires.done (c.in_ok-on_close-in-Clo.ensures c.args.self.now.limits before s)
