@@ -1,6 +1,7 @@
 -- That a client reads what a server answers to its requests.
-use Rattle.std.proofs.Common.{◌≡◌, ◌⊎◌, inl, inr, ℕ, ◌+◌, ◌<◌, ◌≤◌, ◌^◌, Bool, true, false, not, ◌||◌, eqb, List, [], ◌∷◌, ◌++◌, Option, Some, length, refl, sym, ◌∙◌, ap, subst, arith, append-nil, append_assoc}
+use Rattle.std.proofs.Common.{◌≡◌, ◌⊎◌, inl, inr, ℕ, ◌+◌, ◌<◌, ◌≤◌, ◌^◌, Bool, true, false, not, ◌||◌, ◌&&◌, eqb, List, [], ◌∷◌, ◌++◌, Option, Some, length, refl, sym, ◌∙◌, ap, subst, arith, append-nil, append_assoc}
 use Rattle.std.specs.Prelude.{if◌then◌else◌}
+use Rattle.std.specs.List.{AllByRecursion}
 use Rattle.std.proofs.lemmas.Bool.{cases_lt, eq-eqb, eqb-true, ne_eqb}
 use Rattle.std.proofs.lemmas.List.Folds.{list_any-append}
 use Rattle.ua_builtin.specs.declared.date_time.DateTime.{DateTime}
@@ -11,6 +12,7 @@ use Rattle.ua_channel.specs.Agreement.{Agreement, agreement_of, lane_of}
 use Rattle.ua_channel.specs.Asks.{Placed, asked_in, is_in, next_id}
 use Rattle.ua_channel.specs.Asks.Asking.{Call}
 use Rattle.ua_channel.specs.ClientReads.{AtClient, ClientReads, IsLaneBack, lane_from, told_reply, with_call, with_reply, without_id}
+use Rattle.ua_channel.specs.ClientTokens.{from_last}
 use Rattle.ua_channel.specs.ClientTold.{Told as Heard}
 use Rattle.ua_channel.specs.InStep.{AreInStep}
 use Rattle.ua_channel.specs.Received.{latest}
@@ -100,6 +102,23 @@ pub hello_stays : (s : AtServer) (lane : Lane) (bodies : List (List ℕ)) → (b
 hello_stays s lane [] = refl
 hello_stays s lane (body ∷ bodies) = hello_stays (with_message s lane body) lane bodies
 
+pub issued_stays : (s : AtServer) (lane : Lane) (bodies : List (List ℕ)) → (behind_calls s lane bodies).issued ≡ s.issued
+issued_stays s lane [] = refl
+issued_stays s lane (body ∷ bodies) = issued_stays (with_message s lane body) lane bodies
+
+pub tokens_stay : (c : AtClient) (id : ℕ) (bodies : List (List ℕ)) → (with_calls c id bodies).tokens ≡ c.tokens
+tokens_stay c id [] = refl
+tokens_stay c id (body ∷ bodies) = tokens_stay (with_call c id) (id + 1) bodies
+
+all_by : (P : ℕ → Type 0) (stays : Bool) (m : ℕ) (ms from : List ℕ) → P m → AllByRecursion P ms → AllByRecursion P from → AllByRecursion P (if stays then m ∷ ms else from)
+all_by P true m ms from one h k = (one, h)
+all_by P false m ms from one h k = k
+
+-- what is so of all tokens is so of those from the last one used on
+all_held : (P : ℕ → Type 0) (n : ℕ) (ms : List ℕ) → AllByRecursion P ms → AllByRecursion P (from_last n ms)
+all_held P n [] h = tt
+all_held P n (m ∷ ms) h = all_by P (eqb m n && not (is_in n ms)) m ms (from_last n ms) h.0 h.1 (all_held P n ms h.1)
+
 -- ---- replies, one behind the other
 
 -- what is said of calls is read
@@ -110,6 +129,7 @@ pub record AreHeard (server client : Limits) (url : Option (List ℕ)) (channel 
   pub in_step : AreInStep server client url channel s at
   pub number_is : number ≡ at.next
   pub agreed : agreement ≡ Some (agreement_of server s.hello)
+  pub issued : AllByRecursion (λ (token : ℕ). token ≤ s.issued) at.tokens
 
 module _ (server client : Limits) (url : Option (List ℕ)) (channel : ℕ) (on : channel < 2 ^ 32) (s : AtServer) (few_used : s.used < 2 ^ 32) (lane : Lane) (used_is : s.used ≡ lane.token) where
   abbrev g : Agreement
@@ -125,12 +145,12 @@ module _ (server client : Limits) (url : Option (List ℕ)) (channel : ℕ) (on 
   step_here c h id next = subst (λ (t : ℕ). AreInStep server client url channel s (with_reply c t id next)) used_is (in_step_reply server client url channel s c h id next)
 
   pub replies_read : (asks : List Placed) (octets : List ℕ) (told : List Heard) (c : AtClient) (state : State) (n : ℕ) (moments : List DateTime) (id : ℕ) (bodies : List (List ℕ))
-      → ClientReads client asks octets told c → AreInStep server client url channel s c → n ≡ c.next → ((k : ℕ) → id ≤ k → k < id + length bodies → is_in k c.pending ≡ true) → id + length bodies ≤ 4294967295
+      → ClientReads client asks octets told c → AreInStep server client url channel s c → n ≡ c.next → ((k : ℕ) → id ≤ k → k < id + length bodies → is_in k c.pending ≡ true) → id + length bodies ≤ 4294967295 → AllByRecursion (λ (token : ℕ). token ≤ s.issued) c.tokens
       → AreHeard server client url channel s asks (octets ++ said_of channel (course state n moments (Some g)) (calls_told lane id bodies))
       (left_by channel (course state n moments (Some g)) (calls_told lane id bodies)).number (left_by channel (course state n moments (Some g)) (calls_told lane id bodies)).agreement
-  replies_read asks octets told c state n moments id [] r h next waiting few =
-      record { at = c; heard = told; reads = subst (λ (o : List ℕ). ClientReads client asks o told c) (sym (append-nil octets)) r; in_step = h; number_is = next; agreed = refl }
-  replies_read asks octets told c state n moments id (body ∷ bodies) r h next waiting few =
+  replies_read asks octets told c state n moments id [] r h next waiting few issued =
+      record { at = c; heard = told; reads = subst (λ (o : List ℕ). ClientReads client asks o told c) (sym (append-nil octets)) r; in_step = h; number_is = next; agreed = refl; issued = issued }
+  replies_read asks octets told c state n moments id (body ∷ bodies) r h next waiting few issued =
       let given : State × Response = answered state (first_of moments) body in
       let reply : List ℕ = response.canonical given.1 in
       let out : List ℕ × ℕ = replied back reply n id in
@@ -141,7 +161,7 @@ module _ (server client : Limits) (url : Option (List ℕ)) (channel : ℕ) (on 
       (reads_replied client asks octets told c back id r (lane_here c h) (waiting id (omega arith) (omega arith)) (omega (arith, few)) reply (response_takes_some given.1)) in
       let rest =
       replies_read asks (octets ++ out.0) heard now given.0 out.1 (behind_first moments) (id + 1) bodies one (step_here c h id out.1) refl
-      (λ k from to. kept_in id k c.pending (omega (arith, from)) (waiting k (omega (arith, from)) (omega (arith, to)))) (omega (arith, few)) in
+      (λ k from to. kept_in id k c.pending (omega (arith, from)) (waiting k (omega (arith, from)) (omega (arith, to)))) (omega (arith, few)) (all_held (λ (token : ℕ). token ≤ s.issued) lane.token c.tokens issued) in
       record {
         at = rest.at;
         heard = rest.heard;
@@ -150,4 +170,5 @@ module _ (server client : Limits) (url : Option (List ℕ)) (channel : ℕ) (on 
         in_step = rest.in_step;
         number_is = rest.number_is;
         agreed = rest.agreed;
+        issued = rest.issued;
       }

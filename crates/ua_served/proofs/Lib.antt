@@ -9,3 +9,5 @@ mod Opened
 mod Bodies
 mod Answering
 mod Staying
+mod RenewedTaken
+mod Renewed

@@ -87,4 +87,6 @@ begin_together b url moment x site fits short dated acked on answered at none oc
       taken = octets_are;
       agreed = (left_first_two b (agreement_of b.limits (hello_to (limits_of x) url))).0;
       says_next = (left_first_two b (agreement_of b.limits (hello_to (limits_of x) url))).1;
+      issued = (omega arith, tt);
+      spare = omega arith;
     }

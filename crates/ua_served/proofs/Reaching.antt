@@ -84,7 +84,7 @@ few_ids a id [] h some = absurd (omega (arith, some))
 few_ids a id (m ∷ []) h some = omega (arith, h.0)
 few_ids a id (m ∷ (n ∷ ms)) h some = let rest = few_ids a (id + 1) (n ∷ ms) h.3 (omega arith) in omega (arith, rest)
 
-not_exhausted : (s : Site) → renewal_refusal s ≡ None → id_at s < no_id
+pub not_exhausted : (s : Site) → renewal_refusal s ≡ None → id_at s < no_id
 not_exhausted s h =
     let one = none_parts (leb most_tokens (length (held_tokens s.before))) _ _ h in
     let two = none_parts (leb no_id (id_at s)) _ _ one.1 in

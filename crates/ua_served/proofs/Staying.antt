@@ -1,12 +1,13 @@
 -- That both ends in one process stay in step.
-use Rattle.std.proofs.Common.{◌≡◌, ℕ, ◌+◌, ◌<◌, ◌^◌, List, [], ◌∷◌, ◌++◌, Option, Some, length, refl, sym, ◌∙◌, ap, subst, arith, append-nil}
+use Rattle.std.proofs.Common.{◌≡◌, ℕ, ◌+◌, ◌<◌, ◌≤◌, ◌^◌, List, [], ◌∷◌, ◌++◌, Option, Some, length, refl, sym, ◌∙◌, ap, subst, arith, append-nil}
+use Rattle.std.specs.List.{AllByRecursion}
 use Rattle.ua_builtin.specs.declared.date_time.DateTime.{DateTime}
 use Rattle.ua_frame.specs.Run.{Going}
 use Rattle.ua_frame.specs.declared.limits.Limits.{Limits}
 use Rattle.ua_frame.specs.declared.hello.Hello.{Hello}
 use Rattle.ua_chunk.specs.declared.lane.Lane.{Lane}
 use Rattle.ua_channel.specs.Agreement.{Agreement, agreement_of}
-use Rattle.ua_channel.specs.Asks.{Placed}
+use Rattle.ua_channel.specs.Asks.{Placed, asked_in, next_id}
 use Rattle.ua_channel.specs.Client.{limits_of}
 use Rattle.ua_channel.specs.ClientReads.{AtClient, ClientReads, lane_from}
 use Rattle.ua_channel.specs.ClientTold.{Told as Heard}
@@ -22,10 +23,11 @@ use Rattle.ua_client.specs.Calls.{Answered, asked_at, sent_at}
 use Rattle.ua_client.specs.Sent.{bodies_of}
 use Rattle.ua_client.specs.Site.{Site, At, id_at}
 use Rattle.ua_client.specs.declared.reply.Reply.{Reply}
+use Rattle.ua_client.proofs.Askings.{next-calls}
 use Rattle.ua_served.specs.Beginning.{Beginning}
 use Rattle.ua_served.specs.Says.{said_to, spent}
 use Rattle.ua_served.specs.Together.{AreServing, behind_calls, calls_told}
-use Rattle.ua_served.proofs.Answering.{AreHeard, calls_asked, calls_in_step, hello_stays, replies_read, used_last, waits, with_calls}
+use Rattle.ua_served.proofs.Answering.{AreHeard, calls_asked, calls_in_step, hello_stays, issued_stays, replies_read, tokens_stay, used_last, waits, with_calls}
 use Rattle.ua_served.proofs.Reaching.{few_ids, numbers_read, requests_asked, requests_read}
 use Rattle.ua_served.proofs.Saying.{said_by_run, spent-append, spent-enough}
 
@@ -104,13 +106,23 @@ module _ (b : Beginning) (url : Option (List ℕ)) (octets : List ℕ) (told : L
   course_is : behind_told b octets told s t.together.server_reads calls ≡ course before.state before.number moments (Some g)
   course_is = ap (λ (o : Option Agreement). course before.state before.number moments o) agreed_before
 
+  tokens_then : AllByRecursion (λ (token : ℕ). token ≤ then_at.issued) (with_calls c (id_at site) bodies).tokens
+  tokens_then =
+      subst (λ (n : ℕ). AllByRecursion (λ (token : ℕ). token ≤ n) (with_calls c (id_at site) bodies).tokens) (sym (issued_stays s lane bodies))
+      (subst (λ (ns : List ℕ). AllByRecursion (λ (token : ℕ). token ≤ s.issued) ns) (sym (tokens_stay c (id_at site) bodies)) t.issued)
+
+  spare_then : then_at.issued < id_at behind
+  spare_then =
+      let ids : id_at behind ≡ id_at site + length bodies = ap (λ (p : List Placed). next_id (asked_in p)) a.asks ∙ next-calls site.asks (length site.octets) (id_at site) bodies in
+      omega (arith, ids, issued_stays s lane bodies, t.spare)
+
   heard_then : AreHeard b.limits (limits_of x) url b.channel then_at (asked_at site requests) (site.octets ++ said_of b.channel (course before.state before.number moments (Some g)) calls)
       (left_by b.channel (course before.state before.number moments (Some g)) calls).number (left_by b.channel (course before.state before.number moments (Some g)) calls).agreement
   heard_then =
       replies_read b.limits (limits_of x) url b.channel on then_at few_used lane (used_last s lane bodies (some_bodies requests some))
       (asked_at site requests) site.octets site.told (with_calls c (id_at site) bodies) before.state before.number moments (id_at site) bodies
       (calls_asked (limits_of x) site.asks site.octets site.told c t.together.client_reads bodies) step_then (t.says_next ∙ sym (next_stays c (id_at site) bodies))
-      (waits c (id_at site) bodies) (few_ids c.ack (id_at site) requests (requests_asked b.limits url b.channel octets told s x site c on t.together requests a.judged) some)
+      (waits c (id_at site) bodies) (few_ids c.ack (id_at site) requests (requests_asked b.limits url b.channel octets told s x site c on t.together requests a.judged) some) tokens_then
     where
       next_stays : (d : AtClient) (id : ℕ) (bs : List (List ℕ)) → (with_calls d id bs).next ≡ d.next
       next_stays d id [] = refl
@@ -147,5 +159,7 @@ module _ (b : Beginning) (url : Option (List ℕ)) (octets : List ℕ) (told : L
       taken = took;
       agreed = ap (λ (k : Course). k.agreement) left_then_is ∙ heard_then.agreed;
       says_next = ap (λ (k : Course). k.number) left_then_is ∙ heard_then.number_is;
+      issued = heard_then.issued;
+      spare = spare_then;
     },
   )

@@ -1,5 +1,6 @@
 -- Where both ends of a connection are between two turns of a client over a line, and what its requests tell the server.
-use Rattle.std.specs.Prelude.{◌≡◌, ℕ, ◌+◌, List, [], ◌∷◌, ◌++◌, Option, Some}
+use Rattle.std.specs.Prelude.{◌≡◌, ◌<◌, ◌≤◌, ℕ, ◌+◌, List, [], ◌∷◌, ◌++◌, Option, Some}
+use Rattle.std.specs.List.{AllByRecursion}
 use Rattle.ua_frame.specs.Agreement.{ack_to}
 use Rattle.ua_frame.specs.Frames.{frame_octets}
 use Rattle.ua_frame.specs.Messages.{ack_frame}
@@ -14,7 +15,7 @@ use Rattle.ua_channel.specs.ServerReads.{AtServer, ServerReads, with_message}
 use Rattle.ua_channel.specs.ServerSends.{opened_frame}
 use Rattle.ua_channel.specs.ServerTold.{Told, Asked}
 use Rattle.ua_channel.specs.declared.client.channel.ClientChannel.{ClientChannel}
-use Rattle.ua_client.specs.Site.{Site, At}
+use Rattle.ua_client.specs.Site.{Site, At, id_at}
 use Rattle.ua_server.specs.Said.{left}
 use Rattle.ua_served.specs.Beginning.{Beginning}
 use Rattle.ua_served.specs.Says.{said_to, spent}
@@ -35,11 +36,18 @@ pub record AreServing (b : Beginning) (url : Option (List ℕ)) (octets : List �
   pub taken : site.octets ≡ said_to b octets
   pub agreed : (left b.channel b.first told (spent told b.moment)).agreement ≡ Some (agreement_of b.limits s.hello)
   pub says_next : (left b.channel b.first told (spent told b.moment)).number ≡ c.next
+  -- the server issued each token that the client holds, and it issued fewer than request ids were used
+  pub issued : AllByRecursion (λ (token : ℕ). token ≤ s.issued) c.tokens
+  pub spare : s.issued < id_at site
 
 -- what a server that began so answers to the opening of a client: its ACK, and the OPN response that brings the first token
 -- (OPC 10000-6, 7.1.2.4 and 6.7.2)
 abbrev pub opening_answer : Beginning → Limits → Option (List ℕ) → List ℕ
 opening_answer b client url = frame_octets (ack_frame (ack_to (hello_to client url) b.limits)) ++ frame_octets (opened_frame b.channel 1 1 0 1 3600000 b.moment)
+
+-- what it answers to a renewal under this request id, with this number: the OPN response that brings this token (OPC 10000-6, 6.7.2)
+abbrev pub renewal_answer : Beginning → ℕ → ℕ → ℕ → List ℕ
+renewal_answer b number id token = frame_octets (opened_frame b.channel number id 0 token 3600000 b.moment)
 
 -- what calls of these bodies in a lane tell a server, under request ids from this one on: each body whole and once, in order
 abbrev pub calls_told : Lane → ℕ → List (List ℕ) → List Told

@@ -5,6 +5,7 @@
 //! answers bring the client, the laws of `ua_channel::both_ends` say.
 
 ghost use Rattle.std.specs.Prelude.{◌≡◌, ◌<◌, ◌≤◌, ◌+◌, ◌^◌, ◌∷◌, ◌++◌, [], ℕ, List, Option, None, IsTrue, length};
+ghost use Rattle.ua_octets.specs.Format.{Extends};
 ghost use Rattle.ua_builtin.specs.DateTime.{date_time};
 ghost use Rattle.ua_builtin.specs.declared.date_time.DateTime.{DateTime};
 ghost use Rattle.ua_frame.specs.Agreement.{ack_to, url_length};
@@ -21,7 +22,7 @@ ghost use Rattle.ua_channel.specs.ServerTold.{Told, Agreed, Opened, Closed};
 ghost use Rattle.ua_channel.specs.declared.client.channel.ClientChannel.{ClientChannel};
 ghost use Rattle.ua_client.specs.Calls.{Answered, sent_at};
 ghost use Rattle.ua_client.specs.Client.{closing_at};
-ghost use Rattle.ua_client.specs.Renewing.{renewal_at, renewal_refusal};
+ghost use Rattle.ua_client.specs.Renewing.{IsRenewed, IsSettled, renewal_at, renewal_refusal};
 ghost use Rattle.ua_client.specs.Replies.{AreReplies};
 ghost use Rattle.ua_client.specs.Sent.{bodies_of};
 ghost use Rattle.ua_client.specs.Site.{Site, At, id_at};
@@ -29,7 +30,7 @@ ghost use Rattle.ua_client.specs.declared.reply.Reply.{Reply};
 ghost use Rattle.ua_served.specs.Beginning.{Beginning};
 ghost use Rattle.ua_served.specs.Course.{opening_octets};
 ghost use Rattle.ua_served.specs.Says.{said_to};
-ghost use Rattle.ua_served.specs.Together.{AreServing, AreTogether, behind_calls, calls_told, opening_answer};
+ghost use Rattle.ua_served.specs.Together.{AreServing, AreTogether, behind_calls, calls_told, opening_answer, renewal_answer};
 
 /// What a client sends to open its connection a server reads: it agrees, and issues the first token.
 pub fn openings_reach_the_server()
@@ -76,6 +77,23 @@ pub fn renewals_reach_the_server()
     ensures { (limits : Limits) (url : Option (List ℕ)) (channel : ℕ) (octets : List ℕ) (told : List Told) (s : AtServer) (x : ClientChannel) (site : Site) (c : AtClient) (moment : DateTime) →
         channel < 2 ^ 32 → AreTogether limits url channel octets told s x site c → renewal_refusal site ≡ None → s.issued < 4294967295 → IsTrue (date_time.encodable moment) →
         ServerReads limits channel (octets ++ renewal_at site moment) (told ++ Opened (id_at site) 0 (s.issued + 1) 3600000 ∷ []) (with_token s) }
+{}
+
+/// What the server says of that: its OPN response, which brings the next token. Where octets begin with
+/// that and with what a client took whose renewal is answered, the client took just that. Both are then
+/// in step again, and the client's calls go under that token.
+pub fn renewals_stay_together()
+    ensures said { (b : Beginning) (url : Option (List ℕ)) (octets : List ℕ) (told : List Told) (s : AtServer) (x : ClientChannel) (site : Site) (c : AtClient) (moment : DateTime) →
+        b.channel < 2 ^ 32 → AreServing b url octets told s x site c → renewal_refusal site ≡ None → IsTrue (date_time.encodable moment) →
+        said_to b (octets ++ renewal_at site moment) ≡ said_to b octets ++ renewal_answer b c.next (id_at site) (s.issued + 1) }
+    ensures took { (b : Beginning) (url : Option (List ℕ)) (octets : List ℕ) (told : List Told) (s : AtServer) (x y : ClientChannel) (site behind : Site) (c : AtClient) (moment : DateTime) (taken down : List ℕ) →
+        b.channel < 2 ^ 32 → AreServing b url octets told s x site c → renewal_refusal site ≡ None → IsTrue (date_time.encodable moment) → IsTrue (date_time.encodable b.moment) →
+        IsSettled site → IsRenewed y site behind taken → limits_of y ≡ limits_of x → Extends behind.octets down → Extends (said_to b (octets ++ renewal_at site moment)) down →
+        behind.octets ≡ said_to b (octets ++ renewal_at site moment) }
+    ensures serving { (b : Beginning) (url : Option (List ℕ)) (octets : List ℕ) (told : List Told) (s : AtServer) (x y : ClientChannel) (site behind : Site) (c : AtClient) (moment : DateTime) (taken : List ℕ) →
+        b.channel < 2 ^ 32 → AreServing b url octets told s x site c → renewal_refusal site ≡ None → IsTrue (date_time.encodable moment) → IsTrue (date_time.encodable b.moment) →
+        IsSettled site → IsRenewed y site behind taken → limits_of y ≡ limits_of x → behind.octets ≡ said_to b (octets ++ renewal_at site moment) →
+        (d : AtClient) × AreServing b url (octets ++ renewal_at site moment) (told ++ Opened (id_at site) 0 (s.issued + 1) 3600000 ∷ []) (with_token s) y behind d × (d.newest ≡ s.issued + 1) }
 {}
 
 /// What it sends to close its channel the server reads, and the channel is closed.
