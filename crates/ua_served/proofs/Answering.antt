@@ -23,13 +23,14 @@ use Rattle.ua_channel.proofs.InStep.{in_step_call, in_step_reply, lane_from_serv
 use Rattle.ua_services.specs.Response.{response}
 use Rattle.ua_services.specs.declared.response.Response.{Response}
 use Rattle.ua_server.specs.Reply.{answered}
-use Rattle.ua_server.specs.Said.{behind_first, first_of, left_by, said_of}
+use Rattle.ua_server.specs.Said.{Course, behind_first, first_of, left_by, said_of}
 use Rattle.ua_server.specs.State.{State}
 use Rattle.ua_server.proofs.SaidInParts.{course}
 use Rattle.ua_client.specs.Sent.{calls_at}
 use Rattle.ua_client.proofs.Askings.{next-calls}
 use Rattle.ua_served.specs.Together.{behind_calls, calls_told}
 use Rattle.ua_served.proofs.Bodies.{response_takes_some}
+use Rattle.ua_served.proofs.Ending.{LastChunk, replied_ends}
 
 -- ---- calls that are unanswered
 
@@ -121,8 +122,8 @@ all_held P n (m ∷ ms) h = all_by P (eqb m n && not (is_in n ms)) m ms (from_la
 
 -- ---- replies, one behind the other
 
--- what is said of calls is read
-pub record AreHeard (server client : Limits) (url : Option (List ℕ)) (channel : ℕ) (s : AtServer) (asks : List Placed) (octets : List ℕ) (number : ℕ) (agreement : Option Agreement) : Type 0 where
+-- what is said of so many calls is read, by a client whose calls go under this token
+pub record AreHeard (server client : Limits) (url : Option (List ℕ)) (channel : ℕ) (s : AtServer) (count token : ℕ) (asks : List Placed) (octets : List ℕ) (number : ℕ) (agreement : Option Agreement) : Type 0 where
   pub at : AtClient
   pub heard : List Heard
   pub reads : ClientReads client asks octets heard at
@@ -130,6 +131,13 @@ pub record AreHeard (server client : Limits) (url : Option (List ℕ)) (channel 
   pub number_is : number ≡ at.next
   pub agreed : agreement ≡ Some (agreement_of server s.hello)
   pub issued : AllByRecursion (λ (token : ℕ). token ≤ s.issued) at.tokens
+  pub newest : at.newest ≡ token
+  pub ends : 0 < count → LastChunk client asks octets
+
+ends_behind : (client : Limits) (asks : List Placed) (octets : List ℕ) (channel : ℕ) (k : Course) (lane : Lane) (id : ℕ) (bodies : List (List ℕ)) → LastChunk client asks octets
+    → (0 < length bodies → LastChunk client asks (octets ++ said_of channel k (calls_told lane id bodies))) → LastChunk client asks (octets ++ said_of channel k (calls_told lane id bodies))
+ends_behind client asks octets channel k lane id [] one rest = subst (LastChunk client asks) (sym (append-nil octets)) one
+ends_behind client asks octets channel k lane id (body ∷ bodies) one rest = rest (omega arith)
 
 module _ (server client : Limits) (url : Option (List ℕ)) (channel : ℕ) (on : channel < 2 ^ 32) (s : AtServer) (few_used : s.used < 2 ^ 32) (lane : Lane) (used_is : s.used ≡ lane.token) where
   abbrev g : Agreement
@@ -146,10 +154,10 @@ module _ (server client : Limits) (url : Option (List ℕ)) (channel : ℕ) (on 
 
   pub replies_read : (asks : List Placed) (octets : List ℕ) (told : List Heard) (c : AtClient) (state : State) (n : ℕ) (moments : List DateTime) (id : ℕ) (bodies : List (List ℕ))
       → ClientReads client asks octets told c → AreInStep server client url channel s c → n ≡ c.next → ((k : ℕ) → id ≤ k → k < id + length bodies → is_in k c.pending ≡ true) → id + length bodies ≤ 4294967295 → AllByRecursion (λ (token : ℕ). token ≤ s.issued) c.tokens
-      → AreHeard server client url channel s asks (octets ++ said_of channel (course state n moments (Some g)) (calls_told lane id bodies))
+      → AreHeard server client url channel s (length bodies) c.newest asks (octets ++ said_of channel (course state n moments (Some g)) (calls_told lane id bodies))
       (left_by channel (course state n moments (Some g)) (calls_told lane id bodies)).number (left_by channel (course state n moments (Some g)) (calls_told lane id bodies)).agreement
   replies_read asks octets told c state n moments id [] r h next waiting few issued =
-      record { at = c; heard = told; reads = subst (λ (o : List ℕ). ClientReads client asks o told c) (sym (append-nil octets)) r; in_step = h; number_is = next; agreed = refl; issued = issued }
+      record { at = c; heard = told; reads = subst (λ (o : List ℕ). ClientReads client asks o told c) (sym (append-nil octets)) r; in_step = h; number_is = next; agreed = refl; issued = issued; newest = refl; ends = λ some. absurd (omega (arith, some)) }
   replies_read asks octets told c state n moments id (body ∷ bodies) r h next waiting few issued =
       let given : State × Response = answered state (first_of moments) body in
       let reply : List ℕ = response.canonical given.1 in
@@ -159,6 +167,9 @@ module _ (server client : Limits) (url : Option (List ℕ)) (channel : ℕ) (on 
       let one : ClientReads client asks (octets ++ out.0) heard now =
       subst (λ (m : ℕ). ClientReads client asks (octets ++ (replied back reply m id).0) heard (with_reply c lane.token id (replied back reply m id).1)) (sym next)
       (reads_replied client asks octets told c back id r (lane_here c h) (waiting id (omega arith) (omega arith)) (omega (arith, few)) reply (response_takes_some given.1)) in
+      let last : LastChunk client asks (octets ++ out.0) =
+      subst (λ (m : ℕ). LastChunk client asks (octets ++ (replied back reply m id).0)) (sym next)
+      (replied_ends client asks octets told c back id r (lane_here c h) (omega (arith, few)) reply (response_takes_some given.1)) in
       let rest =
       replies_read asks (octets ++ out.0) heard now given.0 out.1 (behind_first moments) (id + 1) bodies one (step_here c h id out.1) refl
       (λ k from to. kept_in id k c.pending (omega (arith, from)) (waiting k (omega (arith, from)) (omega (arith, to)))) (omega (arith, few)) (all_held (λ (token : ℕ). token ≤ s.issued) lane.token c.tokens issued) in
@@ -171,4 +182,7 @@ module _ (server client : Limits) (url : Option (List ℕ)) (channel : ℕ) (on 
         number_is = rest.number_is;
         agreed = rest.agreed;
         issued = rest.issued;
+        newest = rest.newest;
+        ends = λ some. subst (LastChunk client asks) (append_assoc octets out.0 (said_of channel (course given.0 out.1 (behind_first moments) (Some g)) (calls_told lane (id + 1) bodies)))
+            (ends_behind client asks (octets ++ out.0) channel (course given.0 out.1 (behind_first moments) (Some g)) lane (id + 1) bodies last rest.ends);
       }

@@ -1,21 +1,24 @@
 -- A client's turns over a line, one behind the other.
-use Rattle.std.proofs.Common.{◌≡◌, ◌⊎◌, inl, inr, ℕ, ◌+◌, ◌<◌, ◌≤◌, List, [], ◌∷◌, ◌++◌, Option, Some, None, Result, Ok, Err, get_or, length, take, drop, refl, sym, ◌∙◌, ap, subst, append-nil, append_assoc}
+use Rattle.std.proofs.Common.{◌≡◌, ◌⊎◌, inl, inr, ℕ, ◌+◌, ◌<◌, ◌≤◌, List, [], ◌∷◌, ◌++◌, Option, Some, None, Result, Ok, Err, get_or, length, take, refl, sym, ◌∙◌, ap, subst, append-nil, append_assoc, arith}
 use Rattle.std.specs.Prelude.{OnOk}
 use Rattle.std.proofs.lemmas.List.{take_all, take_more}
 use Rattle.ua_builtin.specs.declared.date_time.DateTime.{DateTime}
+use Rattle.ua_frame.specs.Run.{Going, Over}
 use Rattle.ua_frame.specs.declared.limits.Limits.{Limits}
-use Rattle.ua_channel.specs.Client.{limits_of, url_of}
-use Rattle.ua_channel.specs.Line.{Traffic}
-use Rattle.ua_channel.specs.declared.client.channel.ClientChannel.{ClientChannel}
+use Rattle.ua_channel.specs.Line.{Traffic, WhereTold}
+use Rattle.ua_channel.specs.ServerReads.{ServerCloses}
+use Rattle.ua_channel.specs.ServerTold.{Told, Opened, Closed}
 use Rattle.ua_services.specs.declared.request.Request.{Request}
+use Rattle.ua_server.specs.Said.{said}
+use Rattle.ua_server.specs.State.{State}
+use Rattle.ua_server.proofs.SaidInParts.{said-append, said-more}
 use Rattle.ua_client.specs.Calls.{Rounds}
 use Rattle.ua_client.specs.Calls.Rounds.{NoRound, OneRound}
+use Rattle.ua_client.specs.Carried.{Carries}
 use Rattle.ua_client.specs.Client.{Closes, IsReady, OpensClient, OpensNothing, closing_at, connection_of}
 use Rattle.ua_client.specs.Hearing.{channel_of, untaken_of}
-use Rattle.ua_client.specs.Kept.{CallsInto}
-use Rattle.ua_client.specs.Opening.{IsOpened, OpensAt, hello_octets, open_octets}
-use Rattle.ua_client.specs.Renewing.{IsRenewed, IsSettled, Renews, renewal_at}
-use Rattle.ua_client.specs.Site.{Site, At}
+use Rattle.ua_client.specs.Renewing.{IsRenewed, Renews, renewal_at}
+use Rattle.ua_client.specs.Site.{Site, id_at}
 use Rattle.ua_client.specs.declared.client.Client.{Client}
 use Rattle.ua_client.specs.declared.connection.Connection.{Connection}
 use Rattle.ua_client.specs.declared.fault.ClientFault.{ClientFault}
@@ -23,130 +26,165 @@ use Rattle.ua_client.specs.declared.fault.ClientFault.TheVariants.{OutOfMemory}
 use Rattle.ua_client.specs.declared.reply.Reply.{Reply}
 use Rattle.ua_client.proofs.Carrying.{carried-as, carried-then}
 use Rattle.ua_served.specs.Beginning.{Beginning}
-use Rattle.ua_served.specs.Course.{Converses, Course, Stays, Talked, Went, asked_by, opening_octets}
-use Rattle.ua_served.specs.Course.Course.{Begun, Asked, Renewed}
+use Rattle.ua_served.specs.Course.{Converses, Course, Stays, asked_by, opening_octets}
+use Rattle.ua_served.specs.Course.Course.{Asked, Renewed}
 use Rattle.ua_served.specs.Kept.{Served, traffic_of}
-use Rattle.ua_served.specs.Says.{said_to}
+use Rattle.ua_served.specs.Says.{said_to, spent}
+use Rattle.ua_served.specs.Talking.{AreTalking, AsksAll, CanOpen, StaysTalking, Talked, Went, line_to}
+use Rattle.ua_served.specs.Turns.{conversation_told, id_behind, ids_behind, opening_told, token_behind, tokens_behind, turn_told, turns_told}
 use Rattle.ua_served.specs.declared.turn.Turn.{Turn}
+use Rattle.ua_served.proofs.Begun.{SettlesOpened, went_first}
+use Rattle.ua_served.proofs.Reaching.{closing_read}
+use Rattle.ua_served.proofs.Saying.{said_by_run, spent-append, spent-enough}
+use Rattle.ua_served.proofs.Staying.{said_there}
+use Rattle.ua_served.proofs.Talks.{got_on, talking_as, talks_renewed}
 
 -- ---- octets
-
--- what was got before, and what then is, is what was taken and what is left
-got_on : (got more octets left taken untaken : List ℕ) → got ≡ octets ++ left → left ++ more ≡ taken ++ untaken → got ++ more ≡ (octets ++ taken) ++ untaken
-got_on got more octets left taken untaken is parts =
-    ap (λ (t : List ℕ). t ++ more) is ∙ (append_assoc octets left more ∙ (ap (λ (t : List ℕ). octets ++ t) parts ∙ sym (append_assoc octets taken untaken)))
 
 -- what rounds took
 rounds_octets : {s t : Site} {groups : List (List Request)} {sent taken : List ℕ} {replies : List Reply} → Rounds s groups t sent taken replies → t.octets ≡ s.octets ++ taken
 rounds_octets {s = s} NoRound = sym (append-nil s.octets)
 rounds_octets {s = s} (OneRound {taken = taken} {part = part} group x r at a) = a.octets ∙ (ap (λ (o : List ℕ). o ++ part) (rounds_octets r) ∙ append_assoc s.octets taken part)
 
--- ---- the opening
+-- ---- what turns tell, with one turn more
 
--- that a client which opened is settled
-abbrev pub SettlesOpened : Type 0
-SettlesOpened = (x : ClientChannel) (octets : List ℕ) → IsOpened x octets → (s : Site) × (s.octets ≡ octets) × (s.asks ≡ []) × At x s × IsSettled s
+told_push : (token id : ℕ) (turns : List Turn) (t : Turn) → turns_told token id (turns ++ t ∷ []) ≡ turns_told token id turns ++ turn_told (tokens_behind token turns) (ids_behind id turns) (asked_by t)
+told_push token id [] t = append-nil (turn_told token id (asked_by t))
+told_push token id (u ∷ us) t =
+    ap (λ (ts : List Told). turn_told token id (asked_by u) ++ ts) (told_push (token_behind token (asked_by u)) (id_behind id (asked_by u)) us t)
+    ∙ sym (append_assoc (turn_told token id (asked_by u)) (turns_told (token_behind token (asked_by u)) (id_behind id (asked_by u)) us)
+    (turn_told (tokens_behind (token_behind token (asked_by u)) us) (ids_behind (id_behind id (asked_by u)) us) (asked_by t)))
 
-pub went_first : (limits : Limits) (url : Option (List ℕ)) (moment : DateTime) (before after : Option Traffic) (client : Client) → SettlesOpened → OpensClient limits url moment before after (Ok client)
-    → Went limits url moment [] (connection_of client) before after []
-went_first limits url moment before after client law o =
-    let at : OpensAt (hello_octets (limits_of (channel_of o.begun)) (url_of (channel_of o.begun))) (open_octets moment) (channel_of o.last) o.opens.sent o.opens.moves.taken (Ok client) = o.opens.answers o.fresh.goes in
-    let s = law (channel_of o.last) o.opens.moves.taken at.1 in
-    let hello : hello_octets (limits_of (channel_of o.begun)) (url_of (channel_of o.begun)) ≡ hello_octets limits url =
-    ap (λ (l : Limits). hello_octets l (url_of (channel_of o.begun))) o.fresh.limits_are ∙ ap (λ (u : Option (List ℕ)). hello_octets limits u) o.fresh.url_is in
-    record {
-      channel = channel_of o.last;
-      opened = s.0;
-      opens = subst (λ (t : List ℕ). IsOpened (channel_of o.last) t) (sym s.1) at.1;
-      opened_at = s.3;
-      stays = subst (λ (x : Connection). Stays moment (opening_octets limits url moment) s.0 [] x before after []) (sym o.over.0) (record {
-        site = s.0;
-        at = s.3;
-        settled = s.4;
-        sent = [];
-        course = Begun;
-        got = o.opens.moves.got;
-        carried = carried-as o.opens.moves.got o.opens.sent o.opens.moves.got (opening_octets limits url moment ++ []) before after refl
-            (at.0 ∙ (ap (λ (t : List ℕ). t ++ open_octets moment) hello ∙ sym (append-nil (opening_octets limits url moment)))) o.opens.moves.carried;
-        got_is =
-            ap (λ (t : List ℕ). t ++ o.opens.moves.got) (sym o.fresh.untaken)
-            ∙ (o.opens.moves.parts ∙ ap (λ (t : List ℕ). t ++ untaken_of o.last) (sym s.1));
-      });
-    }
+tokens_push : (token : ℕ) (turns : List Turn) (t : Turn) → tokens_behind token (turns ++ t ∷ []) ≡ token_behind (tokens_behind token turns) (asked_by t)
+tokens_push token [] t = refl
+tokens_push token (u ∷ us) t = tokens_push (token_behind token (asked_by u)) us t
+
+ids_push : (id : ℕ) (turns : List Turn) (t : Turn) → ids_behind id (turns ++ t ∷ []) ≡ id_behind (ids_behind id turns) (asked_by t)
+ids_push id [] t = refl
+ids_push id (u ∷ us) t = ids_push (id_behind id (asked_by u)) us t
 
 -- ---- a turn
 
-module _ (moment : DateTime) (opening : List ℕ) (opened : Site) (turns : List Turn) (x y : Connection) (before now after : Option Traffic) (had have : List Reply) (s : Stays moment opening opened turns x before now had) where
+module _ (b : Beginning) (limits : Limits) (url : Option (List ℕ)) (moment : DateTime) (opened : Site) (turns : List Turn) (x y : Connection) (first now after : Option Traffic) (had have : List Reply) (s : StaysTalking b limits url moment opened turns x first now had) where
+  abbrev opening : List ℕ
+  opening = opening_octets limits url moment
+
+  abbrev was : Stays moment (opening_octets limits url moment) opened turns x first now had
+  was = s.stays
+
+  -- both are in step behind one turn more, which was sent and told this
+  more_talking : (t : Turn) (asked : Option (List Request)) (is : asked_by t ≡ asked) (sent : List ℕ) (site : Site)
+      → AreTalking b limits url ((opening ++ was.sent) ++ sent) ((opening_told b.limits limits url ++ turns_told 1 2 turns) ++ turn_told (tokens_behind 1 turns) (ids_behind 2 turns) asked) (token_behind (tokens_behind 1 turns) asked) (id_behind (ids_behind 2 turns) asked) site y first after
+      → AreTalking b limits url (opening ++ (was.sent ++ sent)) (opening_told b.limits limits url ++ turns_told 1 2 (turns ++ t ∷ [])) (tokens_behind 1 (turns ++ t ∷ [])) (ids_behind 2 (turns ++ t ∷ [])) site y first after
+  more_talking t asked is sent site talks =
+      talking_as b limits url ((opening ++ was.sent) ++ sent) (opening ++ (was.sent ++ sent)) ((opening_told b.limits limits url ++ turns_told 1 2 turns) ++ turn_told (tokens_behind 1 turns) (ids_behind 2 turns) asked)
+      (opening_told b.limits limits url ++ turns_told 1 2 (turns ++ t ∷ [])) (token_behind (tokens_behind 1 turns) asked) (tokens_behind 1 (turns ++ t ∷ [])) (id_behind (ids_behind 2 turns) asked) (ids_behind 2 (turns ++ t ∷ [])) site y first after
+      (append_assoc opening was.sent sent)
+      (append_assoc (opening_told b.limits limits url) (turns_told 1 2 turns) (turn_told (tokens_behind 1 turns) (ids_behind 2 turns) asked)
+      ∙ ap (λ (ts : List Told). opening_told b.limits limits url ++ ts) (sym (told_push 1 2 turns t ∙ ap (λ (o : Option (List Request)). turns_told 1 2 turns ++ turn_told (tokens_behind 1 turns) (ids_behind 2 turns) o) is)))
+      (sym (tokens_push 1 turns t ∙ ap (λ (o : Option (List Request)). token_behind (tokens_behind 1 turns) o) is))
+      (sym (ids_push 2 turns t ∙ ap (λ (o : Option (List Request)). id_behind (ids_behind 2 turns) o) is)) talks
+
+  carried_on : (got sent : List ℕ) → WhereTold (Carries got sent) now after → WhereTold (Carries (was.got ++ got) (opening ++ (was.sent ++ sent))) first after
+  carried_on got sent carried =
+      carried-as (was.got ++ got) ((opening ++ was.sent) ++ sent) (was.got ++ got) (opening ++ (was.sent ++ sent)) first after refl (append_assoc opening was.sent sent)
+      (carried-then was.got (opening ++ was.sent) got sent first now after was.carried carried)
+
   -- requests are asked
-  pub stays_asked : (t : Turn) (requests : List Request) (done : Unit {0}) → asked_by t ≡ Some requests → CallsInto {A = Unit {0}} requests x y now after (Ok done) had have
-      → Stays moment opening opened (turns ++ t ∷ []) y before after have
-  stays_asked t requests done is c =
-      let a = c.answers s.site s.at s.settled in
+  pub stays_asked : (t : Turn) (requests : List Request) → asked_by t ≡ Some requests → AsksAll requests x y now after had have → StaysTalking b limits url moment opened (turns ++ t ∷ []) y first after have
+  stays_asked t requests is c =
+      let a = c.answers was.site was.at was.settled in
       record {
-        site = a.behind;
-        at = a.at;
-        settled = a.settled;
-        sent = s.sent ++ c.sent;
-        course = subst (λ (r : List Reply). Course moment opened (turns ++ t ∷ []) a.behind (s.sent ++ c.sent) r) (sym c.have_is)
-            (Asked t a.groups s.course (is ∙ ap (λ (rs : List Request). Some rs) a.parts) a.sized a.rounds);
-        got = s.got ++ c.moves.got;
-        carried = carried-as (s.got ++ c.moves.got) ((opening ++ s.sent) ++ c.sent) (s.got ++ c.moves.got) (opening ++ (s.sent ++ c.sent)) before after refl (append_assoc opening s.sent c.sent)
-            (carried-then s.got (opening ++ s.sent) c.moves.got c.sent before now after s.carried c.moves.carried);
-        got_is = got_on s.got c.moves.got s.site.octets (untaken_of x) c.moves.taken (untaken_of y) s.got_is c.moves.parts ∙ ap (λ (o : List ℕ). o ++ untaken_of y) (sym (rounds_octets a.rounds));
+        able = s.able;
+        stays = record {
+          site = a.behind;
+          at = a.at;
+          settled = a.settled;
+          sent = was.sent ++ c.sent;
+          course = subst (λ (r : List Reply). Course moment opened (turns ++ t ∷ []) a.behind (was.sent ++ c.sent) r) (sym c.have_is)
+              (Asked t a.groups was.course (is ∙ ap (λ (rs : List Request). Some rs) a.parts) a.sized a.rounds);
+          got = was.got ++ c.moves.got;
+          carried = carried_on c.moves.got c.sent c.moves.carried;
+          got_is = got_on was.got c.moves.got was.site.octets (untaken_of x) c.moves.taken (untaken_of y) was.got_is c.moves.parts ∙ ap (λ (o : List ℕ). o ++ untaken_of y) (sym (rounds_octets a.rounds));
+        };
+        talking = more_talking t (Some requests) is c.sent a.behind
+            (c.talking b limits url (opening ++ was.sent) (opening_told b.limits limits url ++ turns_told 1 2 turns) (tokens_behind 1 turns) (ids_behind 2 turns) was.site was.at was.settled first s.talking);
       }
 
   -- the token is renewed
-  pub stays_renewed : (t : Turn) (done : Unit {0}) → asked_by t ≡ None → Renews {A = Unit {0}} moment x y now after (Ok done) → have ≡ had → Stays moment opening opened (turns ++ t ∷ []) y before after have
+  pub stays_renewed : (t : Turn) (done : Unit {0}) → asked_by t ≡ None → Renews {A = Unit {0}} moment x y now after (Ok done) → have ≡ had → StaysTalking b limits url moment opened (turns ++ t ∷ []) y first after have
   stays_renewed t done is c same =
-      let a = c.answers s.site s.at s.settled in
+      let a = c.answers was.site was.at was.settled in
       let u : Site = a.1.0 in
-      let renewed : IsRenewed (channel_of y) s.site u c.moves.taken = a.1.1 in
+      let renewed : IsRenewed (channel_of y) was.site u c.moves.taken = a.1.1 in
       record {
-        site = u;
-        at = renewed.at;
-        settled = renewed.settled;
-        sent = s.sent ++ renewal_at s.site moment;
-        course = subst (λ (r : List Reply). Course moment opened (turns ++ t ∷ []) u (s.sent ++ renewal_at s.site moment) r) (sym same) (Renewed t (channel_of y) s.course is renewed);
-        got = s.got ++ c.moves.got;
-        carried = carried-as (s.got ++ c.moves.got) ((opening ++ s.sent) ++ c.sent) (s.got ++ c.moves.got) (opening ++ (s.sent ++ renewal_at s.site moment)) before after refl
-            (append_assoc opening s.sent c.sent ∙ ap (λ (o : List ℕ). opening ++ (s.sent ++ o)) a.0) (carried-then s.got (opening ++ s.sent) c.moves.got c.sent before now after s.carried c.moves.carried);
-        got_is = got_on s.got c.moves.got s.site.octets (untaken_of x) c.moves.taken (untaken_of y) s.got_is c.moves.parts ∙ ap (λ (o : List ℕ). o ++ untaken_of y) (sym renewed.octets);
+        able = s.able;
+        stays = record {
+          site = u;
+          at = renewed.at;
+          settled = renewed.settled;
+          sent = was.sent ++ renewal_at was.site moment;
+          course = subst (λ (r : List Reply). Course moment opened (turns ++ t ∷ []) u (was.sent ++ renewal_at was.site moment) r) (sym same) (Renewed t (channel_of y) was.course is renewed);
+          got = was.got ++ c.moves.got;
+          carried = subst (λ (o : List ℕ). WhereTold (Carries (was.got ++ c.moves.got) (opening ++ (was.sent ++ o))) first after) a.0 (carried_on c.moves.got c.sent c.moves.carried);
+          got_is = got_on was.got c.moves.got was.site.octets (untaken_of x) c.moves.taken (untaken_of y) was.got_is c.moves.parts ∙ ap (λ (o : List ℕ). o ++ untaken_of y) (sym renewed.octets);
+        };
+        talking = more_talking t None is (renewal_at was.site moment) u
+            (subst (λ (o : List ℕ). AreTalking b limits url ((opening ++ was.sent) ++ o) ((opening_told b.limits limits url ++ turns_told 1 2 turns) ++ Opened (ids_behind 2 turns) 0 (tokens_behind 1 turns + 1) 3600000 ∷ []) (tokens_behind 1 turns + 1) (ids_behind 2 turns + 1) u y first after) a.0
+            (talks_renewed b limits url (opening ++ was.sent) (opening_told b.limits limits url ++ turns_told 1 2 turns) (tokens_behind 1 turns) (ids_behind 2 turns) was.site x first now s.talking y after c.sent c.moves c.same u renewed.settled renewed.octets
+            moment s.able.dated s.able.answered (sym (c.judged was.site was.at was.settled)) a.0 renewed));
       }
 
 -- ---- the end
 
+module _ (b : Beginning) (octets more : List ℕ) (told : List Told) (q : ServerCloses b.limits b.channel more (told ++ Closed ∷ [])) (here : said_to b octets ≡ said b.channel b.first told Going (spent told b.moment)) where
+  -- a CLO is not answered
+  closing_said : said_to b more ≡ said_to b octets
+  closing_said =
+      let ms : List DateTime = spent told b.moment ++ spent (Closed ∷ []) b.moment in
+      said_by_run b more q.frames [] Over q.run
+      ∙ (ap (λ (k : List Told). said b.channel b.first k Over (spent k b.moment)) q.told_is
+      ∙ (ap (λ (m : List DateTime). said b.channel b.first (told ++ Closed ∷ []) Over m) (spent-append told (Closed ∷ []) b.moment)
+      ∙ (said-append b.channel b.first told (Closed ∷ []) Over ms
+      ∙ (append-nil (said b.channel b.first told Going ms)
+      ∙ (said-more b.channel b.first told Going (spent told b.moment) (spent (Closed ∷ []) b.moment) (spent-enough told b.moment) ∙ sym here)))))
+
 -- it closes
-pub talked_all : (limits : Limits) (url : Option (List ℕ)) (moment : DateTime) (turns : List Turn) (x : Connection) (before now after : Option Traffic) (replies : List Reply)
-    (w : Went limits url moment [] x before now []) (y : Connection) (later : Option Traffic) (done : Unit {0})
-    → Stays moment (opening_octets limits url moment) w.opened turns y before later replies → Closes {A = Unit {0}} moment (channel_of y) later after (Ok done) → Talked limits url moment turns before after replies
-talked_all limits url moment turns x before now after replies w y later done s c =
+pub talked_all : (b : Beginning) (limits : Limits) (url : Option (List ℕ)) (moment : DateTime) (turns : List Turn) (x : Connection) (first now after : Option Traffic) (replies : List Reply)
+    (w : Went b limits url moment x first now) (y : Connection) (later : Option Traffic) (done : Unit {0})
+    → StaysTalking b limits url moment w.opened turns y first later replies → Closes {A = Unit {0}} moment (channel_of y) later after (Ok done) → Talked b limits url moment turns first after replies
+talked_all b limits url moment turns x first now after replies w y later done s c =
     let opening : List ℕ = opening_octets limits url moment in
+    let was = s.stays in
+    let t = s.talking in
+    let told : List Told = opening_told b.limits limits url ++ turns_told 1 2 turns in
+    let sent_is : c.sent ≡ closing_at was.site moment = c.answers was.site was.at in
+    let all : (opening ++ was.sent) ++ closing_at was.site moment ≡ opening ++ (was.sent ++ closing_at was.site moment) = append_assoc opening was.sent (closing_at was.site moment) in
+    let used : id_at was.site < 4294967296 = omega (arith, t.id_is, t.few) in
+    let closes : ServerCloses b.limits b.channel (opening ++ (was.sent ++ closing_at was.site moment)) (conversation_told b.limits limits url turns) =
+    subst (λ (o : List ℕ). ServerCloses b.limits b.channel o (told ++ Closed ∷ [])) all
+    (closing_read b.limits url b.channel (opening ++ was.sent) told t.at_server (channel_of y) was.site t.at_client t.on t.serving.together moment used) in
     record {
       channel = w.channel;
       opened = w.opened;
       opens = w.opens;
       opened_at = w.opened_at;
-      last = s.site;
-      sent = s.sent;
-      course = s.course;
-      got = s.got;
-      read_first = record { more = untaken_of y; parts = s.got_is };
-      carried = carried-as (s.got ++ []) ((opening ++ s.sent) ++ c.sent) s.got (opening ++ (s.sent ++ closing_at s.site moment)) before after (append-nil s.got)
-          (append_assoc opening s.sent c.sent ∙ ap (λ (o : List ℕ). opening ++ (s.sent ++ o)) (c.answers s.site s.at)) (carried-then s.got (opening ++ s.sent) [] c.sent before later after s.carried c.carried);
+      last = was.site;
+      sent = was.sent;
+      course = was.course;
+      got = was.got;
+      carried = carried-as (was.got ++ []) ((opening ++ was.sent) ++ c.sent) was.got (opening ++ (was.sent ++ closing_at was.site moment)) first after (append-nil was.got)
+          (ap (λ (o : List ℕ). (opening ++ was.sent) ++ o) sent_is ∙ all) (carried-then was.got (opening ++ was.sent) [] c.sent first later after was.carried c.carried);
+      took = t.serving.taken ∙ sym (closing_said b (opening ++ was.sent) (opening ++ (was.sent ++ closing_at was.site moment)) told closes (said_there b (opening ++ was.sent) told t.at_server t.serving.together.server_reads));
+      closes = closes;
     }
 
 -- over a line to a server
-pub conversed : (b : Beginning) (limits : Limits) (url : Option (List ℕ)) (moment : DateTime) (turns : List Turn) (old new : Served) (replies : List Reply) → old.up ≡ [] → old.read ≡ 0
-    → Talked limits url moment turns (Some (traffic_of b old)) (Some (traffic_of b new)) replies → Converses limits url moment turns new.up (said_to b new.up) replies
-conversed b limits url moment turns old new replies none nothing_read t =
+pub conversed : (b : Beginning) (limits : Limits) (url : Option (List ℕ)) (moment : DateTime) (turns : List Turn) (old new : Served) (replies : List Reply) → old.up ≡ []
+    → Talked b limits url moment turns (Some (traffic_of b old)) (Some (traffic_of b new)) replies → Converses limits url moment turns new.up (said_to b new.up) replies
+conversed b limits url moment turns old new replies none t =
     let sent : List ℕ = opening_octets limits url moment ++ (t.sent ++ closing_at t.last moment) in
     let up_is : new.up ≡ sent = t.carried.written ∙ ap (λ (o : List ℕ). o ++ sent) none in
-    let behind : List ℕ = drop new.read (said_to b (new.up ++ [])) in
-    let all : drop old.read (said_to b (old.up ++ (sent ++ []))) ≡ t.got ++ behind = t.carried.coming [] in
-    let whole : drop old.read (said_to b (old.up ++ (sent ++ []))) ≡ said_to b new.up =
-    ap (λ (n : ℕ). drop n (said_to b (old.up ++ (sent ++ [])))) nothing_read
-    ∙ (ap (λ (o : List ℕ). said_to b (o ++ (sent ++ []))) none
-    ∙ (ap (λ (o : List ℕ). said_to b o) (append-nil sent) ∙ ap (λ (o : List ℕ). said_to b o) (sym up_is))) in
     record {
       x = t.channel;
       opened = t.opened;
@@ -156,57 +194,99 @@ conversed b limits url moment turns old new replies none nothing_read t =
       sent = t.sent;
       course = t.course;
       up_is = up_is;
-      read_first = record {
-        more = t.read_first.more ++ behind;
-        parts = sym whole ∙ (all ∙ (ap (λ (o : List ℕ). o ++ behind) t.read_first.parts ∙ append_assoc t.last.octets t.read_first.more behind));
-      };
+      took = t.took ∙ ap (said_to b) (sym up_is);
     }
+
+-- and the server was told just this
+pub closed_by : (b : Beginning) (limits : Limits) (url : Option (List ℕ)) (moment : DateTime) (turns : List Turn) (old new : Served) (replies : List Reply) → old.up ≡ []
+    → Talked b limits url moment turns (Some (traffic_of b old)) (Some (traffic_of b new)) replies → ServerCloses b.limits b.channel new.up (conversation_told b.limits limits url turns)
+closed_by b limits url moment turns old new replies none t =
+    subst (λ (o : List ℕ). ServerCloses b.limits b.channel o (conversation_told b.limits limits url turns))
+    (sym (t.carried.written ∙ ap (λ (o : List ℕ). o ++ (opening_octets limits url moment ++ (t.sent ++ closing_at t.last moment))) none)) t.closes
+
+-- the line as it begins
+pub line_begins : (b : Beginning) (old : Served) → old.up ≡ [] → old.read ≡ 0 → ◌≡◌ {A = Option Traffic} (Some (traffic_of b old)) (Some (line_to b))
+line_begins b old none nothing_read =
+    ap (λ (l : Served). Some (traffic_of b l)) (same_kept old none nothing_read)
+  where
+    same_kept : (l : Served) → l.up ≡ [] → l.read ≡ 0 → l ≡ record l { up = []; read = 0 }
+    same_kept l p q = ap (λ (u : List ℕ). record l { up = u }) p ∙ ap (λ (n : ℕ). record l { up = []; read = n }) q
 
 -- ---- turns, one behind the other
 
 -- so many turns were taken
 pub record TakenSoFar (moment : DateTime) (turns : List Turn) (index : ℕ) (x y : Client) (before now : Option Traffic) (had have : List Reply) : Type 0 where
-  pub stays : (opening : List ℕ) (opened : Site) (first : Option Traffic) → Stays moment opening opened [] (connection_of x) first before had
-      → Stays moment opening opened (take index turns) (connection_of y) first now have
+  pub stays : (b : Beginning) (limits : Limits) (url : Option (List ℕ)) (opened : Site) (first : Option Traffic) → StaysTalking b limits url moment opened [] (connection_of x) first before had
+      → StaysTalking b limits url moment opened (take index turns) (connection_of y) first now have
   pub ready : IsReady y
 
 pub taken_none : (moment : DateTime) (turns : List Turn) (x : Client) (before : Option Traffic) (had : List Reply) → IsReady x → TakenSoFar moment turns 0 x x before before had had
-taken_none moment turns x before had ready = record { stays = λ opening opened first s. s; ready = ready }
+taken_none moment turns x before had ready = record { stays = λ b limits url opened first s. s; ready = ready }
 
 pub taken_more : (moment : DateTime) (turns : List Turn) (index : ℕ) (x y z : Client) (before now after : Option Traffic) (had have later : List Reply) (t : Turn) → TakenSoFar moment turns index x y before now had have
     → index < length turns → t ≡ get_or turns index t
-    → ((opening : List ℕ) (opened : Site) (done : List Turn) (first : Option Traffic) → Stays moment opening opened done (connection_of y) first now have → Stays moment opening opened (done ++ t ∷ []) (connection_of z) first after later)
+    → ((b : Beginning) (limits : Limits) (url : Option (List ℕ)) (opened : Site) (done : List Turn) (first : Option Traffic) → StaysTalking b limits url moment opened done (connection_of y) first now have
+    → StaysTalking b limits url moment opened (done ++ t ∷ []) (connection_of z) first after later)
     → IsReady z → TakenSoFar moment turns (index + 1) x z before after had later
 taken_more moment turns index x y z before now after had have later t so less is turn ready = record {
-  stays = λ opening opened first s.
-      subst (λ (ts : List Turn). Stays moment opening opened ts (connection_of z) first after later)
+  stays = λ b limits url opened first s.
+      subst (λ (ts : List Turn). StaysTalking b limits url moment opened ts (connection_of z) first after later)
       (sym (take_more turns index t less ∙ ap (λ (u : Turn). take index turns ++ u ∷ []) (sym is)))
-      (turn opening opened (take index turns) first (so.stays opening opened first s));
+      (turn b limits url opened (take index turns) first (so.stays b limits url opened first s));
   ready = ready;
 }
 
 pub taken_all : (moment : DateTime) (turns : List Turn) (index : ℕ) (x y : Client) (before now : Option Traffic) (had have : List Reply) → TakenSoFar moment turns index x y before now had have → length turns ≤ index
-    → (opening : List ℕ) (opened : Site) (first : Option Traffic) → Stays moment opening opened [] (connection_of x) first before had → Stays moment opening opened turns (connection_of y) first now have
-taken_all moment turns index x y before now had have so enough opening opened first s =
-    subst (λ (ts : List Turn). Stays moment opening opened ts (connection_of y) first now have) (take_all index turns enough) (so.stays opening opened first s)
+    → (b : Beginning) (limits : Limits) (url : Option (List ℕ)) (opened : Site) (first : Option Traffic) → StaysTalking b limits url moment opened [] (connection_of x) first before had
+    → StaysTalking b limits url moment opened turns (connection_of y) first now have
+taken_all moment turns index x y before now had have so enough b limits url opened first s =
+    subst (λ (ts : List Turn). StaysTalking b limits url moment opened ts (connection_of y) first now have) (take_all index turns enough) (so.stays b limits url opened first s)
 
 -- ---- what calls of a client say
 
 -- it opened
 pub went_by : (limits : Limits) (url : Option (List ℕ)) (moment : DateTime) (before after : Option Traffic) (client : Client) → SettlesOpened
-    → (OpensNothing before after (Ok client) ⊎ OpensClient limits url moment before after (Ok client)) → Went limits url moment [] (connection_of client) before after []
-went_by limits url moment before after client law (inl nothing) = let none : ◌≡◌ {A = Result Client ClientFault} (Ok client) (Err OutOfMemory) = nothing.0 in absurd cc
-went_by limits url moment before after client law (inr o) = went_first limits url moment before after client law o
+    → (OpensNothing before after (Ok client) ⊎ OpensClient limits url moment before after (Ok client)) → (b : Beginning) → CanOpen b limits url moment → before ≡ Some (line_to b) → Went b limits url moment (connection_of client) before after
+went_by limits url moment before after client law (inl nothing) b able line = let none : ◌≡◌ {A = Result Client ClientFault} (Ok client) (Err OutOfMemory) = nothing.0 in absurd cc
+went_by limits url moment before after client law (inr o) b able line = went_first b limits url moment before after client law o able line
 
 pub ready_by : (limits : Limits) (url : Option (List ℕ)) (moment : DateTime) (before after : Option Traffic) (client : Client)
     → (OpensNothing before after (Ok client) ⊎ OpensClient limits url moment before after (Ok client)) → IsReady client
 ready_by limits url moment before after client (inl nothing) = let none : ◌≡◌ {A = Result Client ClientFault} (Ok client) (Err OutOfMemory) = nothing.0 in absurd cc
 ready_by limits url moment before after client (inr o) = o.over.1
 
--- where it did all
-pub conversed_on : (r : Result (Unit {0}) ClientFault) (b : Beginning) (limits : Limits) (url : Option (List ℕ)) (moment : DateTime) (turns : List Turn) (old new : Served) (replies : List Reply) (up down : List ℕ) → old.up ≡ [] → old.read ≡ 0
-    → OnOk r (Talked limits url moment turns (Some (traffic_of b old)) (Some (traffic_of b new)) replies) → up ≡ new.up → down ≡ said_to b new.up → OnOk r (Converses limits url moment turns up down replies)
-conversed_on (Err f) b limits url moment turns old new replies up down none nothing_read t p q = tt
-conversed_on (Ok found) b limits url moment turns old new replies up down none nothing_read t p q =
-    subst (λ (u : List ℕ). Converses limits url moment turns u down replies) (sym p)
-    (subst (λ (d : List ℕ). Converses limits url moment turns new.up d replies) (sym q) (conversed b limits url moment turns old new replies none nothing_read t))
+-- ---- where it did all
+
+module _ (b : Beginning) (limits : Limits) (channel : ℕ) (services : State) (url : Option (List ℕ)) (moment : DateTime) (turns : List Turn) (old new : Served) (replies : List Reply) (is : b ≡ record { limits = limits; channel = channel; first = services; moment = moment })
+    (able : CanOpen (record { limits = limits; channel = channel; first = services; moment = moment }) limits url moment) (none : old.up ≡ []) (nothing_read : old.read ≡ 0)
+    (t : (b' : Beginning) → CanOpen b' limits url moment → ◌≡◌ {A = Option Traffic} (Some (traffic_of b old)) (Some (line_to b')) → Talked b' limits url moment turns (Some (traffic_of b old)) (Some (traffic_of b new)) replies) where
+  talked : Talked b limits url moment turns (Some (traffic_of b old)) (Some (traffic_of b new)) replies
+  talked = t b (subst (λ (d : Beginning). CanOpen d limits url moment) (sym is) able) (line_begins b old none nothing_read)
+
+  all_conversed : (up down : List ℕ) → up ≡ new.up → down ≡ said_to b new.up → Converses limits url moment turns up down replies
+  all_conversed up down p q =
+      subst (λ (u : List ℕ). Converses limits url moment turns u down replies) (sym p)
+      (subst (λ (d : List ℕ). Converses limits url moment turns new.up d replies) (sym q) (conversed b limits url moment turns old new replies none talked))
+
+  all_closed : (up : List ℕ) → up ≡ new.up → ServerCloses limits channel up (conversation_told limits limits url turns)
+  all_closed up p =
+      subst (λ (d : Beginning). ServerCloses d.limits d.channel up (conversation_told d.limits limits url turns)) is
+      (subst (λ (u : List ℕ). ServerCloses b.limits b.channel u (conversation_told b.limits limits url turns)) (sym p) (closed_by b limits url moment turns old new replies none talked))
+
+-- what went over the line
+pub conversed_on : (r : Result (Unit {0}) ClientFault) (b : Beginning) (limits : Limits) (channel : ℕ) (services : State) (url : Option (List ℕ)) (moment : DateTime) (turns : List Turn) (old new : Served) (replies : List Reply) (up down : List ℕ)
+    → b ≡ record { limits = limits; channel = channel; first = services; moment = moment } → CanOpen (record { limits = limits; channel = channel; first = services; moment = moment }) limits url moment → old.up ≡ [] → old.read ≡ 0
+    → OnOk r ((b' : Beginning) → CanOpen b' limits url moment → ◌≡◌ {A = Option Traffic} (Some (traffic_of b old)) (Some (line_to b')) → Talked b' limits url moment turns (Some (traffic_of b old)) (Some (traffic_of b new)) replies)
+    → up ≡ new.up → down ≡ said_to b new.up → OnOk r (Converses limits url moment turns up down replies)
+conversed_on (Err f) b limits channel services url moment turns old new replies up down is able none nothing_read t p q = tt
+conversed_on (Ok found) b limits channel services url moment turns old new replies up down is able none nothing_read t p q =
+    all_conversed b limits channel services url moment turns old new replies is able none nothing_read t up down p q
+
+-- and what it told the server
+pub closed_on : (r : Result (Unit {0}) ClientFault) (b : Beginning) (limits : Limits) (channel : ℕ) (services : State) (url : Option (List ℕ)) (moment : DateTime) (turns : List Turn) (old new : Served) (replies : List Reply) (up : List ℕ)
+    → b ≡ record { limits = limits; channel = channel; first = services; moment = moment } → CanOpen (record { limits = limits; channel = channel; first = services; moment = moment }) limits url moment → old.up ≡ [] → old.read ≡ 0
+    → OnOk r ((b' : Beginning) → CanOpen b' limits url moment → ◌≡◌ {A = Option Traffic} (Some (traffic_of b old)) (Some (line_to b')) → Talked b' limits url moment turns (Some (traffic_of b old)) (Some (traffic_of b new)) replies)
+    → up ≡ new.up → OnOk r (ServerCloses limits channel up (conversation_told limits limits url turns))
+closed_on (Err f) b limits channel services url moment turns old new replies up is able none nothing_read t p = tt
+closed_on (Ok found) b limits channel services url moment turns old new replies up is able none nothing_read t p =
+    all_closed b limits channel services url moment turns old new replies is able none nothing_read t up p

@@ -57,7 +57,7 @@ unfolding left
 left_first_two b g = (refl, refl)
 
 -- a client reads that
-answer_read : (b : Beginning) (client : Limits) (url : Option (List ℕ)) → IsTrue (ack.encodable (ack_to (hello_to client url) b.limits)) → b.channel < 2 ^ 32 → IsTrue (date_time.encodable b.moment)
+pub answer_read : (b : Beginning) (client : Limits) (url : Option (List ℕ)) → IsTrue (ack.encodable (ack_to (hello_to client url) b.limits)) → b.channel < 2 ^ 32 → IsTrue (date_time.encodable b.moment)
     → ClientReads client [] (opening_answer b client url) (heard.Agreed (ack_to (hello_to client url) b.limits) ∷ (heard.Opened b.channel 1 ∷ [])) (opened_at (ack_to (hello_to client url) b.limits) b.channel 1 (next_number 1))
 answer_read b client url fits on dated =
     reads_opened client (frame_octets (ack_frame (ack_to (hello_to client url) b.limits))) (heard.Agreed (ack_to (hello_to client url) b.limits) ∷ []) (ack_to (hello_to client url) b.limits) b.channel 1 0 1 3600000 b.moment

@@ -1,6 +1,7 @@
 -- That both ends in one process stay in step.
 use Rattle.std.proofs.Common.{◌≡◌, ℕ, ◌+◌, ◌<◌, ◌≤◌, ◌^◌, List, [], ◌∷◌, ◌++◌, Option, Some, length, refl, sym, ◌∙◌, ap, subst, arith, append-nil}
 use Rattle.std.specs.List.{AllByRecursion}
+use Rattle.ua_octets.specs.Format.{Extends}
 use Rattle.ua_builtin.specs.declared.date_time.DateTime.{DateTime}
 use Rattle.ua_frame.specs.Run.{Going}
 use Rattle.ua_frame.specs.declared.limits.Limits.{Limits}
@@ -20,21 +21,25 @@ use Rattle.ua_services.specs.declared.request.Request.{Request}
 use Rattle.ua_server.specs.Said.{Course, left, left_by, said, said_of, with_more}
 use Rattle.ua_server.proofs.SaidInParts.{course, left-append, left-more, said-append, said-more}
 use Rattle.ua_client.specs.Calls.{Answered, asked_at, sent_at}
+use Rattle.ua_client.specs.Renewing.{IsSettled}
 use Rattle.ua_client.specs.Sent.{bodies_of}
 use Rattle.ua_client.specs.Site.{Site, At, id_at}
 use Rattle.ua_client.specs.declared.reply.Reply.{Reply}
 use Rattle.ua_client.proofs.Askings.{next-calls}
+use Rattle.ua_client.proofs.Settled.{NonePending}
 use Rattle.ua_served.specs.Beginning.{Beginning}
 use Rattle.ua_served.specs.Says.{said_to, spent}
 use Rattle.ua_served.specs.Together.{AreServing, behind_calls, calls_told}
 use Rattle.ua_served.proofs.Answering.{AreHeard, calls_asked, calls_in_step, hello_stays, issued_stays, replies_read, tokens_stay, used_last, waits, with_calls}
+use Rattle.ua_served.proofs.Ending.{LastChunk}
 use Rattle.ua_served.proofs.Reaching.{few_ids, numbers_read, requests_asked, requests_read}
 use Rattle.ua_served.proofs.Saying.{said_by_run, spent-append, spent-enough}
+use Rattle.ua_served.proofs.Untaken.{took_all}
 
 -- ---- what a server says of more
 
 module _ (b : Beginning) (octets : List ℕ) (told : List Told) (s : AtServer) (r : ServerReads b.limits b.channel octets told s) where
-  said_there : said_to b octets ≡ said b.channel b.first told Going (spent told b.moment)
+  pub said_there : said_to b octets ≡ said b.channel b.first told Going (spent told b.moment)
   said_there = said_by_run b octets r.frames [] Going r.run ∙ ap (λ (t : List Told). said b.channel b.first t Going (spent t b.moment)) r.told_is
 
   -- how far the server is behind these
@@ -67,9 +72,8 @@ some_bodies (m ∷ ms) some = omega arith
 
 -- ---- a turn
 
-module _ (b : Beginning) (url : Option (List ℕ)) (octets : List ℕ) (told : List Told) (s : AtServer) (x y : ClientChannel) (site behind : Site) (c : AtClient) (requests : List Request) (taken : List ℕ) (replies : List Reply)
-    (on : b.channel < 2 ^ 32) (t : AreServing b url octets told s x site c) (some : 0 < length requests) (a : Answered requests site behind taken replies)
-    (stands : At y behind) (same : limits_of y ≡ limits_of x) (took : behind.octets ≡ said_to b (octets ++ sent_at site requests)) where
+module _ (b : Beginning) (url : Option (List ℕ)) (octets : List ℕ) (told : List Told) (s : AtServer) (x : ClientChannel) (site behind : Site) (c : AtClient) (requests : List Request) (taken : List ℕ) (replies : List Reply)
+    (on : b.channel < 2 ^ 32) (t : AreServing b url octets told s x site c) (some : 0 < length requests) (a : Answered requests site behind taken replies) where
   abbrev lane : Lane
   lane = lane_from c
 
@@ -116,7 +120,7 @@ module _ (b : Beginning) (url : Option (List ℕ)) (octets : List ℕ) (told : L
       let ids : id_at behind ≡ id_at site + length bodies = ap (λ (p : List Placed). next_id (asked_in p)) a.asks ∙ next-calls site.asks (length site.octets) (id_at site) bodies in
       omega (arith, ids, issued_stays s lane bodies, t.spare)
 
-  heard_then : AreHeard b.limits (limits_of x) url b.channel then_at (asked_at site requests) (site.octets ++ said_of b.channel (course before.state before.number moments (Some g)) calls)
+  heard_then : AreHeard b.limits (limits_of x) url b.channel then_at (length bodies) (with_calls c (id_at site) bodies).newest (asked_at site requests) (site.octets ++ said_of b.channel (course before.state before.number moments (Some g)) calls)
       (left_by b.channel (course before.state before.number moments (Some g)) calls).number (left_by b.channel (course before.state before.number moments (Some g)) calls).agreement
   heard_then =
       replies_read b.limits (limits_of x) url b.channel on then_at few_used lane (used_last s lane bodies (some_bodies requests some))
@@ -128,38 +132,62 @@ module _ (b : Beginning) (url : Option (List ℕ)) (octets : List ℕ) (told : L
       next_stays d id [] = refl
       next_stays d id (body ∷ bs) = next_stays (record d { pending = d.pending ++ id ∷ [] }) (id + 1) bs
 
-  octets_then : behind.octets ≡ site.octets ++ said_of b.channel (course before.state before.number moments (Some g)) calls
-  octets_then =
-      took
-      ∙ (said_more b octets told s t.together.server_reads (octets ++ sent_at site requests) calls then_at server_then
+  said_then : said_to b (octets ++ sent_at site requests) ≡ site.octets ++ said_of b.channel (course before.state before.number moments (Some g)) calls
+  said_then =
+      said_more b octets told s t.together.server_reads (octets ++ sent_at site requests) calls then_at server_then
       ∙ (ap (λ (o : List ℕ). o ++ said_of b.channel (behind_told b octets told s t.together.server_reads calls) calls) (sym t.taken)
-      ∙ ap (λ (k : Course). site.octets ++ said_of b.channel k calls) course_is))
+      ∙ ap (λ (k : Course). site.octets ++ said_of b.channel k calls) course_is)
 
   left_then_is : left b.channel b.first (told ++ calls) (spent (told ++ calls) b.moment) ≡ left_by b.channel (course before.state before.number moments (Some g)) calls
   left_then_is = left_more b octets told s t.together.server_reads calls ∙ ap (λ (k : Course). left_by b.channel k calls) course_is
 
-  here : ClientReads (limits_of y) behind.asks behind.octets heard_then.heard heard_then.at
-  here =
-      subst (λ (l : Limits). ClientReads l behind.asks behind.octets heard_then.heard heard_then.at) (sym same)
-      (subst (λ (p : List Placed). ClientReads (limits_of x) p behind.octets heard_then.heard heard_then.at) (sym a.asks)
-      (subst (λ (o : List ℕ). ClientReads (limits_of x) (asked_at site requests) o heard_then.heard heard_then.at) (sym octets_then) heard_then.reads))
+  newest_then : heard_then.at.newest ≡ c.newest
+  newest_then = heard_then.newest ∙ newest_stays c (id_at site) bodies
+    where
+      newest_stays : (d : AtClient) (id : ℕ) (bs : List (List ℕ)) → (with_calls d id bs).newest ≡ d.newest
+      newest_stays d id [] = refl
+      newest_stays d id (body ∷ bs) = newest_stays (record d { pending = d.pending ++ id ∷ [] }) (id + 1) bs
 
-  -- both are in step behind requests that are answered
-  pub stay_together : (d : AtClient) × AreServing b url (octets ++ sent_at site requests) (told ++ calls) then_at y behind d
-  stay_together = (
-    heard_then.at,
-    record {
-      together = record {
-        server_reads = server_then;
-        stands = stands;
-        client_reads = subst (λ (h : List Heard). ClientReads (limits_of y) behind.asks behind.octets h heard_then.at) (sym (client_told y behind.asks behind.octets behind.told heard_then.heard heard_then.at stands.goes here)) here;
-        in_step = subst (λ (l : Limits). AreInStep b.limits l url b.channel then_at heard_then.at) (sym same) heard_then.in_step;
-        number_is = a.number ∙ numbers_read b.limits url b.channel octets told s x site c on t.together requests;
-      };
-      taken = took;
-      agreed = ap (λ (k : Course). k.agreement) left_then_is ∙ heard_then.agreed;
-      says_next = ap (λ (k : Course). k.number) left_then_is ∙ heard_then.number_is;
-      issued = heard_then.issued;
-      spare = spare_then;
-    },
-  )
+  module _ (y : ClientChannel) (stands : At y behind) (same : limits_of y ≡ limits_of x) where
+    -- the client reads what the server says of it
+    reads_then : ClientReads (limits_of y) behind.asks (said_to b (octets ++ sent_at site requests)) heard_then.heard heard_then.at
+    reads_then =
+        subst (λ (l : Limits). ClientReads l behind.asks (said_to b (octets ++ sent_at site requests)) heard_then.heard heard_then.at) (sym same)
+        (subst (λ (p : List Placed). ClientReads (limits_of x) p (said_to b (octets ++ sent_at site requests)) heard_then.heard heard_then.at) (sym a.asks)
+        (subst (λ (o : List ℕ). ClientReads (limits_of x) (asked_at site requests) o heard_then.heard heard_then.at) (sym said_then) heard_then.reads))
+
+    -- which ends with the chunk of a reply
+    ends_then : LastChunk (limits_of y) behind.asks (said_to b (octets ++ sent_at site requests))
+    ends_then =
+        subst (λ (l : Limits). LastChunk l behind.asks (said_to b (octets ++ sent_at site requests))) (sym same)
+        (subst (λ (p : List Placed). LastChunk (limits_of x) p (said_to b (octets ++ sent_at site requests))) (sym a.asks)
+        (subst (LastChunk (limits_of x) (asked_at site requests)) (sym said_then) (heard_then.ends (some_bodies requests some))))
+
+    -- where it took a front of that, it took all of it
+    pub answered_took : NonePending → IsSettled behind → Extends behind.octets (said_to b (octets ++ sent_at site requests)) → behind.octets ≡ said_to b (octets ++ sent_at site requests)
+    answered_took law settled front =
+        took_all law y behind stands settled (said_to b (octets ++ sent_at site requests)) reads_then.frames reads_then.run (ends_then reads_then.frames reads_then.run) front
+
+    module _ (took : behind.octets ≡ said_to b (octets ++ sent_at site requests)) where
+      here : ClientReads (limits_of y) behind.asks behind.octets heard_then.heard heard_then.at
+      here = subst (λ (o : List ℕ). ClientReads (limits_of y) behind.asks o heard_then.heard heard_then.at) (sym took) reads_then
+
+      serving_then : AreServing b url (octets ++ sent_at site requests) (told ++ calls) then_at y behind heard_then.at
+      serving_then = record {
+        together = record {
+          server_reads = server_then;
+          stands = stands;
+          client_reads = subst (λ (h : List Heard). ClientReads (limits_of y) behind.asks behind.octets h heard_then.at) (sym (client_told y behind.asks behind.octets behind.told heard_then.heard heard_then.at stands.goes here)) here;
+          in_step = subst (λ (l : Limits). AreInStep b.limits l url b.channel then_at heard_then.at) (sym same) heard_then.in_step;
+          number_is = a.number ∙ numbers_read b.limits url b.channel octets told s x site c on t.together requests;
+        };
+        taken = took;
+        agreed = ap (λ (k : Course). k.agreement) left_then_is ∙ heard_then.agreed;
+        says_next = ap (λ (k : Course). k.number) left_then_is ∙ heard_then.number_is;
+        issued = heard_then.issued;
+        spare = spare_then;
+      }
+
+      -- both are in step behind requests that are answered, and the client's calls go under the token that they went under
+      pub stay_together : (d : AtClient) × AreServing b url (octets ++ sent_at site requests) (told ++ calls) then_at y behind d × (d.newest ≡ c.newest)
+      stay_together = (heard_then.at, serving_then, newest_then)

@@ -1,6 +1,5 @@
 -- What comes of a client's turns over a line: which octets it sends, where it then stands, and the replies.
 use Rattle.std.specs.Prelude.{◌≡◌, ◌++◌, ℕ, List, [], ◌∷◌, Option, Some, None}
-use Rattle.ua_octets.specs.Format.{Extends}
 use Rattle.ua_builtin.specs.declared.date_time.DateTime.{DateTime}
 use Rattle.ua_frame.specs.declared.limits.Limits.{Limits}
 use Rattle.ua_channel.specs.Line.{Traffic, WhereTold}
@@ -38,7 +37,7 @@ pub data Course (moment : DateTime) (s : Site) : List Turn → Site → List ℕ
 abbrev pub opening_octets : Limits → Option (List ℕ) → DateTime → List ℕ
 opening_octets limits url moment = hello_octets limits url ++ open_octets moment
 
--- all of it, from the HEL to the CLO, and what it read: these octets were sent and a front of those was read, by a client with these turns,
+-- all of it, from the HEL to the CLO, and what it took: these octets were sent and all of those were taken, by a client with these turns,
 -- whose replies are these
 pub record Converses (limits : Limits) (url : Option (List ℕ)) (moment : DateTime) (turns : List Turn) (up down : List ℕ) (replies : List Reply) : Type 0 where
   -- where the channel was open
@@ -51,7 +50,7 @@ pub record Converses (limits : Limits) (url : Option (List ℕ)) (moment : DateT
   pub sent : List ℕ
   pub course : Course moment opened turns last sent replies
   pub up_is : up ≡ opening_octets limits url moment ++ (sent ++ closing_at last moment)
-  pub read_first : Extends last.octets down
+  pub took : last.octets ≡ down
 
 -- ---- on the way
 
@@ -65,24 +64,3 @@ pub record Stays (moment : DateTime) (opening : List ℕ) (opened : Site) (turns
   pub got : List ℕ
   pub carried : WhereTold (Carries got (opening ++ sent)) before now
   pub got_is : got ≡ site.octets ++ untaken_of x
-
--- the same of one that opened its connection there
-pub record Went (limits : Limits) (url : Option (List ℕ)) (moment : DateTime) (turns : List Turn) (x : Connection) (before now : Option Traffic) (replies : List Reply) : Type 0 where
-  pub channel : ClientChannel
-  pub opened : Site
-  pub opens : IsOpened channel opened.octets
-  pub opened_at : At channel opened
-  pub stays : Stays moment (opening_octets limits url moment) opened turns x before now replies
-
--- it closed behind them
-pub record Talked (limits : Limits) (url : Option (List ℕ)) (moment : DateTime) (turns : List Turn) (before now : Option Traffic) (replies : List Reply) : Type 0 where
-  pub channel : ClientChannel
-  pub opened : Site
-  pub opens : IsOpened channel opened.octets
-  pub opened_at : At channel opened
-  pub last : Site
-  pub sent : List ℕ
-  pub course : Course moment opened turns last sent replies
-  pub got : List ℕ
-  pub read_first : Extends last.octets got
-  pub carried : WhereTold (Carries got (opening_octets limits url moment ++ (sent ++ closing_at last moment))) before now

@@ -1,14 +1,18 @@
 //! A client and a server that talk to each other.
 
-ghost use Rattle.std.specs.Prelude.{◌≡◌, ◌∷◌, ◌++◌, [], ℕ, List, Option, IsTrue, IfOk, OnOk, take};
+ghost use Rattle.std.specs.Prelude.{◌≡◌, ◌<◌, ◌≤◌, ◌+◌, ◌∷◌, ◌++◌, [], ℕ, List, Option, Some, IsTrue, IfOk, OnOk};
 ghost use Rattle.ua_octets.specs.Counted.{text};
+ghost use Rattle.ua_frame.specs.declared.limits.Limits.{Limits};
 ghost use Rattle.ua_channel.specs.Line.{Traffic};
+ghost use Rattle.ua_channel.specs.ServerReads.{ServerCloses};
 ghost use Rattle.ua_client.specs.Client.{IsReady, connection_of};
 ghost use Rattle.ua_client.specs.Site.{Site};
 ghost use Rattle.ua_served.specs.Beginning.{Beginning};
-ghost use Rattle.ua_served.specs.Course.{Converses, Stays, Talked, Went};
+ghost use Rattle.ua_served.specs.Course.{Converses};
 ghost use Rattle.ua_served.specs.Kept.{LeavesAt};
-ghost use Rattle.ua_served.specs.Says.{said_to};
+ghost use Rattle.ua_served.specs.Says.{left_by, said_to};
+ghost use Rattle.ua_served.specs.Talking.{AsksAll, CanOpen, StaysTalking, Talked, Went, line_to};
+ghost use Rattle.ua_served.specs.Turns.{conversation_told};
 ghost use Rattle.ua_served.specs.declared.turn.Turn.{Turn};
 
 use crate::served_line::{Began, ServedLine};
@@ -22,6 +26,10 @@ use ua_client::laws::clients_are_settled;
 use ua_client::{Client, ClientFault, Reply};
 use ua_frame::Limits;
 use ua_server::Services;
+use ua_services::Request;
+
+/// The most requests of a group.
+const MOST_CALLS: usize = 64;
 
 /// What went over a connection, and what is left behind it.
 #[derive(Drop)]
@@ -49,7 +57,7 @@ fn begin<L: Line>(
     moment: DateTime,
 ) -> Result<Client, ClientFault>
     requires { IsTrue (text.encodable url) }
-    ensures went { IfOk result (λ client. Went limits url moment [] (connection_of client) (L.traffic line.old) (L.traffic line.new) []) }
+    ensures went { IfOk result (λ client. (b : Beginning) → CanOpen b limits url moment → L.traffic line.old ≡ Some (line_to b) → Went b limits url moment (connection_of client) (L.traffic line.old) (L.traffic line.new)) }
     ensures ready { IfOk result (λ client. IsReady client) }
 {
     clients_are_settled();
@@ -57,6 +65,45 @@ fn begin<L: Line>(
         Ok(client) => Ok(client),
         Err(fault) => Err(fault),
     }
+}
+
+/// Where the group of requests that begins at a place ends, among so many.
+fn group_end(start: usize, count: usize) -> usize
+    requires { start < count }
+    ensures some { start < result }
+    ensures few { result ≤ start + 64 }
+    ensures full { result < count → result ≡ start + 64 }
+    ensures within { result ≤ count }
+{
+    if count - start <= MOST_CALLS {
+        return count;
+    }
+    start + MOST_CALLS
+}
+
+/// Asks requests, one group behind the other, and adds the replies.
+fn ask_all<L: Line>(
+    client: &mut Client,
+    line: &mut L,
+    requests: &[Request],
+    moment: DateTime,
+    replies: &mut Vec<Reply>,
+) -> Result<(), ClientFault>
+    requires { IsReady client.old }
+    ensures asks { OnOk result (AsksAll requests.now (connection_of client.old) (connection_of client.new) (L.traffic line.old) (L.traffic line.new) replies.old.items replies.new.items) }
+    ensures ready { OnOk result (IsReady client.new) }
+{
+    clients_are_settled();
+    let mut start = 0;
+    while start < requests.len() {
+        let end = group_end(start, requests.len());
+        let group = &requests[start..end];
+        match client.call_into(line, group, moment, replies) {
+            Ok(()) => start = end,
+            Err(calls) => return Err(calls.fault),
+        }
+    }
+    Ok(())
 }
 
 /// Takes a turn, and adds the replies.
@@ -68,14 +115,14 @@ fn take_turn<L: Line>(
     replies: &mut Vec<Reply>,
 ) -> Result<(), ClientFault>
     requires { IsReady client.old }
-    ensures stays { OnOk result ((opening : List ℕ) (opened : Site) (turns : List Turn) (before : Option Traffic) → Stays moment opening opened turns (connection_of client.old) before (L.traffic line.old) replies.old.items
-        → Stays moment opening opened (turns ++ turn.now ∷ []) (connection_of client.new) before (L.traffic line.new) replies.new.items) }
+    ensures stays { OnOk result ((b : Beginning) (limits : Limits) (url : Option (List ℕ)) (opened : Site) (turns : List Turn) (first : Option Traffic) → StaysTalking b limits url moment opened turns (connection_of client.old) first (L.traffic line.old) replies.old.items
+        → StaysTalking b limits url moment opened (turns ++ turn.now ∷ []) (connection_of client.new) first (L.traffic line.new) replies.new.items) }
     ensures ready { OnOk result (IsReady client.new) }
 {
     match turn {
-        Turn::Ask(requests) => match client.call_into(line, requests, moment, replies) {
+        Turn::Ask(requests) => match ask_all(client, line, requests, moment, replies) {
             Ok(()) => Ok(()),
-            Err(calls) => Err(calls.fault),
+            Err(fault) => Err(fault),
         },
         Turn::Renew => match client.renew(line, moment) {
             Ok(()) => Ok(()),
@@ -93,8 +140,8 @@ fn take_turns<L: Line>(
     replies: &mut Vec<Reply>,
 ) -> Result<(), ClientFault>
     requires { IsReady client.old }
-    ensures stays { OnOk result ((opening : List ℕ) (opened : Site) (before : Option Traffic) → Stays moment opening opened [] (connection_of client.old) before (L.traffic line.old) replies.old.items
-        → Stays moment opening opened turns.now (connection_of client.new) before (L.traffic line.new) replies.new.items) }
+    ensures stays { OnOk result ((b : Beginning) (limits : Limits) (url : Option (List ℕ)) (opened : Site) (first : Option Traffic) → StaysTalking b limits url moment opened [] (connection_of client.old) first (L.traffic line.old) replies.old.items
+        → StaysTalking b limits url moment opened turns.now (connection_of client.new) first (L.traffic line.new) replies.new.items) }
     ensures ready { OnOk result (IsReady client.new) }
 {
     for turn in turns {
@@ -118,7 +165,7 @@ fn talk<L: Line>(
 ) -> Result<(), ClientFault>
     requires url { IsTrue (text.encodable url) }
     requires none { replies.old.items ≡ [] }
-    ensures { OnOk result (Talked limits url moment turns.now (L.traffic line.old) (L.traffic line.new) replies.new.items) }
+    ensures { OnOk result ((b : Beginning) → CanOpen b limits url moment → L.traffic line.old ≡ Some (line_to b) → Talked b limits url moment turns.now (L.traffic line.old) (L.traffic line.new) replies.new.items) }
 {
     let mut client = match begin(alloc, line, limits, url, moment) {
         Ok(client) => client,
@@ -151,6 +198,7 @@ fn converse_with<W: Began>(
     ensures down { result.down.items ≡ said_to W.beginning result.up.items }
     ensures services { LeavesAt result.stage W.beginning result.up.items result.services }
     ensures converses { OnOk result.outcome (Converses limits url moment turns.now result.up.items result.down.items result.replies.items) }
+    ensures heard { OnOk result.outcome (ServerCloses limits channel_id result.up.items (conversation_told limits limits url turns.now)) }
 {
     let mut line: ServedLine<W> = ServedLine::new(
         alloc, limits, channel_id, services, moment, writes, reads,
@@ -192,8 +240,12 @@ pub fn converse(
     ensures down { result.down.items ≡ said_to (record { limits = limits; channel = channel_id; first = services; moment = moment }) result.up.items }
     ensures services { LeavesAt result.stage (record { limits = limits; channel = channel_id; first = services; moment = moment }) result.up.items result.services }
 
-    // The client sent just its turns, and each request has its own reply.
+    // The client sent just its turns and took all that the server said, and each request has its own reply.
     ensures converses { OnOk result.outcome (Converses limits url moment turns.now result.up.items result.down.items result.replies.items) }
+
+    // The server refused none of it, and was told just these turns: each request once, in order, under its own request id; and the
+    // next token at each renewal. The CLO closed the channel.
+    ensures heard { OnOk result.outcome (ServerCloses limits channel_id result.up.items (conversation_told limits limits url turns.now)) }
 {
     converse_with::<Brand>(
         alloc, services, limits, channel_id, url, turns, moment, writes, reads,

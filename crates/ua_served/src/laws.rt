@@ -32,6 +32,8 @@ ghost use Rattle.ua_served.specs.Course.{opening_octets};
 ghost use Rattle.ua_served.specs.Says.{said_to};
 ghost use Rattle.ua_served.specs.Together.{AreServing, AreTogether, behind_calls, calls_told, opening_answer, renewal_answer};
 
+use ua_client::laws::clients_are_settled;
+
 /// What a client sends to open its connection a server reads: it agrees, and issues the first token.
 pub fn openings_reach_the_server()
     ensures { (limits : Limits) (channel : ℕ) (client : Limits) (url : Option (List ℕ)) (moment : DateTime) →
@@ -63,13 +65,19 @@ pub fn requests_reach_the_server()
         × AreReplies requests (id_at site) behind.told replies }
 {}
 
-/// And where the client then took all that the server says of what was sent, both are in step again.
+/// A client that was answered took all that the server says of what was sent, where it took a front of
+/// that. Then both are in step again, and the client's calls go under the token that they went under.
 pub fn ends_stay_together()
-    ensures { (b : Beginning) (url : Option (List ℕ)) (octets : List ℕ) (told : List Told) (s : AtServer) (x y : ClientChannel) (site behind : Site) (c : AtClient) (requests : List Request) (taken : List ℕ) (replies : List Reply) →
+    ensures took { (b : Beginning) (url : Option (List ℕ)) (octets : List ℕ) (told : List Told) (s : AtServer) (x y : ClientChannel) (site behind : Site) (c : AtClient) (requests : List Request) (taken : List ℕ) (replies : List Reply) →
+        b.channel < 2 ^ 32 → AreServing b url octets told s x site c → IsSettled site → 0 < length requests → Answered requests site behind taken replies →
+        At y behind → limits_of y ≡ limits_of x → Extends behind.octets (said_to b (octets ++ sent_at site requests)) → behind.octets ≡ said_to b (octets ++ sent_at site requests) }
+    ensures serving { (b : Beginning) (url : Option (List ℕ)) (octets : List ℕ) (told : List Told) (s : AtServer) (x y : ClientChannel) (site behind : Site) (c : AtClient) (requests : List Request) (taken : List ℕ) (replies : List Reply) →
         b.channel < 2 ^ 32 → AreServing b url octets told s x site c → 0 < length requests → Answered requests site behind taken replies →
         At y behind → limits_of y ≡ limits_of x → behind.octets ≡ said_to b (octets ++ sent_at site requests) →
-        (d : AtClient) × AreServing b url (octets ++ sent_at site requests) (told ++ calls_told (lane_from c) (id_at site) (bodies_of requests)) (behind_calls s (lane_from c) (bodies_of requests)) y behind d }
-{}
+        (d : AtClient) × AreServing b url (octets ++ sent_at site requests) (told ++ calls_told (lane_from c) (id_at site) (bodies_of requests)) (behind_calls s (lane_from c) (bodies_of requests)) y behind d × (d.newest ≡ c.newest) }
+{
+    clients_are_settled();
+}
 
 /// What it sends of a renewal that is not refused the server reads, and issues the next token, where it
 /// has one left.

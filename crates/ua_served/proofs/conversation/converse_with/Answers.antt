@@ -1,8 +1,9 @@
-use Rattle.std.proofs.Common.{ap, subst, sym}
+use Rattle.std.proofs.Common.{Fits, FitsSigned, ap, rules, subst, sym, w32, w64}
 use Rattle.std.specs.Prelude.{List, ℕ}
 use Rattle.ua_served.specs.Kept.{LeavesAt, Served}
 use Rattle.ua_served.specs.declared.stage.Stage.{Stage}
-use Rattle.ua_served.proofs.Courses.{conversed_on}
+use Rattle.ua_served.proofs.Courses.{closed_on, conversed_on}
+use Rattle.ua_served.proofs.Fitting.{can_open}
 use Rattle.ua_served.proofs.conversation.converse_with.Goals as goal
 
 pub returns-clause-services : goal.returns-clause-services
@@ -14,5 +15,24 @@ returns-clause-services g c =
 
 pub returns-clause-converses : goal.returns-clause-converses
 returns-clause-converses g c =
-    conversed_on c.talk-outcome.result g.W.Began.beginning c.args.limits c.args.url c.args.moment c.args.turns.now c.new-line.result c.talk-outcome.new.line c.talk-outcome.new.replies.items c.into_parts-up.result.0.items c.into_parts-up.result.1.items
+    let dated : FitsSigned w64 c.args.moment.ticks = search rules in
+    let channel : Fits w32 c.args.channel_id = search rules in
+    let receive : Fits w32 c.args.limits.receive_buffer_size = search rules in
+    let send : Fits w32 c.args.limits.send_buffer_size = search rules in
+    let octets : Fits w32 c.args.limits.max_message_size = search rules in
+    let chunks : Fits w32 c.args.limits.max_chunk_count = search rules in
+    conversed_on c.talk-outcome.result g.W.Began.beginning c.args.limits c.args.channel_id c.args.services c.args.url c.args.moment c.args.turns.now c.new-line.result c.talk-outcome.new.line c.talk-outcome.new.replies.items c.into_parts-up.result.0.items c.into_parts-up.result.1.items
+    c.requires.began (can_open c.args.limits c.args.channel_id c.args.services c.args.url c.args.moment receive send octets chunks channel dated c.requires.url)
     (ap (λ (l : Served). l.up) c.new-line.ensures) (ap (λ (l : Served). l.read) c.new-line.ensures) c.talk-outcome.ensures c.into_parts-up.ensures.up c.into_parts-up.ensures.down
+
+pub returns-clause-heard : goal.returns-clause-heard
+returns-clause-heard g c =
+    let dated : FitsSigned w64 c.args.moment.ticks = search rules in
+    let channel : Fits w32 c.args.channel_id = search rules in
+    let receive : Fits w32 c.args.limits.receive_buffer_size = search rules in
+    let send : Fits w32 c.args.limits.send_buffer_size = search rules in
+    let octets : Fits w32 c.args.limits.max_message_size = search rules in
+    let chunks : Fits w32 c.args.limits.max_chunk_count = search rules in
+    closed_on c.talk-outcome.result g.W.Began.beginning c.args.limits c.args.channel_id c.args.services c.args.url c.args.moment c.args.turns.now c.new-line.result c.talk-outcome.new.line c.talk-outcome.new.replies.items c.into_parts-up.result.0.items
+    c.requires.began (can_open c.args.limits c.args.channel_id c.args.services c.args.url c.args.moment receive send octets chunks channel dated c.requires.url)
+    (ap (λ (l : Served). l.up) c.new-line.ensures) (ap (λ (l : Served). l.read) c.new-line.ensures) c.talk-outcome.ensures c.into_parts-up.ensures.up

@@ -1,5 +1,9 @@
-use Rattle.ua_served.proofs.Staying.{stay_together}
+use Rattle.ua_served.proofs.Staying.{answered_took, stay_together}
 use Rattle.ua_served.proofs.laws.ends_stay_together.Goals as goal
 
-pub returns : goal.returns
-returns g = λ b url octets told s x y site behind c requests taken replies on t some a stands same took. stay_together b url octets told s x y site behind c requests taken replies on t some a stands same took
+pub returns-clause-took : goal.returns-clause-took
+returns-clause-took g = λ b url octets told s x y site behind c requests taken replies on t settled some a stands same front.
+    answered_took b url octets told s x site behind c requests taken replies on t some a y stands same g.clients_are_settled.ensures.none_pending (g.clients_are_settled.ensures.answered requests site behind taken replies settled a) front
+
+pub returns-clause-serving : goal.returns-clause-serving
+returns-clause-serving g = λ b url octets told s x y site behind c requests taken replies on t some a stands same took. stay_together b url octets told s x site behind c requests taken replies on t some a y stands same took

@@ -1,0 +1,146 @@
+-- That a client which may be called takes no chunk, so that it took all of what ends with one.
+use Rattle.std.proofs.Common.{◌≡◌, ℕ, Bool, true, false, not, ltb, List, [], ◌∷◌, ◌++◌, None, length, map, refl, sym, ◌∙◌, ap, subst, arith, append-nil, append_assoc, length-append}
+use Rattle.std.specs.Prelude.{cond}
+use Rattle.std.specs.List.{filter, flat_map}
+use Rattle.std.proofs.lemmas.Grind.{flat_map-append}
+use Rattle.ua_octets.specs.Format.{Extends}
+use Rattle.ua_builtin.specs.Reasons.{first_reason}
+use Rattle.ua_frame.specs.After.{AllAfter, AllFrom}
+use Rattle.ua_frame.specs.Frames.{frames_octets}
+use Rattle.ua_frame.specs.Run.{Fits, Going, Rules, Run}
+use Rattle.ua_frame.specs.declared.frame.Frame.{Frame}
+use Rattle.ua_frame.specs.declared.limits.Limits.{Limits}
+use Rattle.ua_chunk.specs.Gathered.{ends}
+use Rattle.ua_chunk.specs.declared.chunk.Chunk.{Chunk}
+use Rattle.ua_chunk.proofs.Lists.{filter_append}
+use Rattle.ua_channel.specs.Asks.{Asking, Placed, asked_before, asked_in, call_in, calls, end_of, is_finished, is_in, pending_calls}
+use Rattle.ua_channel.specs.Client.{limits_of, rules_of}
+use Rattle.ua_channel.specs.ClientTable.{client_reasons, client_rules}
+use Rattle.ua_channel.specs.Content.{Content, content}
+use Rattle.ua_channel.specs.Content.Content.{Sends}
+use Rattle.ua_channel.specs.Received.{Received, chunks_in, messages, received}
+use Rattle.ua_channel.specs.declared.client.channel.ClientChannel.{ClientChannel}
+use Rattle.ua_channel.specs.inside.ClientParts.{left_behind, left_pending}
+use Rattle.ua_channel.proofs.Askings.{pending_calls-more}
+use Rattle.ua_channel.proofs.ReadOn.{begins_run}
+use Rattle.ua_client.specs.Renewing.{IsSettled}
+use Rattle.ua_client.specs.Site.{Site, At}
+use Rattle.ua_client.proofs.Renewals.{none-holds}
+use Rattle.ua_client.proofs.Settled.{NonePending}
+use Rattle.ua_served.proofs.Ending.{EndsInChunk}
+
+-- ---- calls of which none is unanswered
+
+nothing_by : (ending : Bool) (request : ℕ) → left_behind ending request [] ≡ []
+nothing_by true request = refl
+nothing_by false request = refl
+
+nothing_left : (c : Chunk) → left_pending c [] ≡ []
+nothing_left c = nothing_by (ends c) c.request
+
+-- with more chunks none is, either
+none_stays : (cs more : List Chunk) (asked : List Asking) → pending_calls cs asked ≡ [] → pending_calls (cs ++ more) asked ≡ []
+none_stays cs [] asked e = ap (λ (us : List Chunk). pending_calls us asked) (append-nil cs) ∙ e
+none_stays cs (c ∷ more) asked e =
+    ap (λ (us : List Chunk). pending_calls us asked) (sym (append_assoc cs (c ∷ []) more))
+    ∙ none_stays (cs ++ c ∷ []) more asked (pending_calls-more cs c asked ∙ (ap (left_pending c) e ∙ nothing_left c))
+
+nil_parts : {A : Type 0} (xs ys : List A) → xs ++ ys ≡ [] → (xs ≡ []) × (ys ≡ [])
+nil_parts [] ys e = (refl, e)
+nil_parts (x ∷ xs) ys e = absurd cc
+
+kept_none : (kept : Bool) (test : ℕ → Bool) (a : Placed) (asks : List Placed) → filter test (call_in a.1) ≡ [] → filter test (flat_map call_in (map (λ (b : Placed). b.1) asks)) ≡ []
+    → filter test (flat_map call_in (map (λ (b : Placed). b.1) (cond kept (a ∷ asks) asks))) ≡ []
+kept_none true test a asks one rest =
+    filter_append test (call_in a.1) (flat_map call_in (map (λ (b : Placed). b.1) asks))
+    ∙ (ap (λ (ids : List ℕ). ids ++ filter test (flat_map call_in (map (λ (b : Placed). b.1) asks))) one ∙ rest)
+kept_none false test a asks one rest = rest
+
+none_asked : (test : ℕ → Bool) (place : ℕ) (asks : List Placed) → filter test (flat_map call_in (asked_in asks)) ≡ [] → filter test (flat_map call_in (asked_before place asks)) ≡ []
+unfolding asked_before asked_in
+none_asked test place [] e = e
+none_asked test place (a ∷ asks) e =
+    let parts = nil_parts (filter test (call_in a.1)) (filter test (flat_map call_in (asked_in asks))) (sym (filter_append test (call_in a.1) (flat_map call_in (asked_in asks))) ∙ e) in
+    kept_none (ltb a.0 place) test a (filter (λ (b : Placed). ltb b.0 place) asks) parts.0 (none_asked test place asks parts.1)
+
+-- and none of those that were asked before a place
+none_before : (cs : List Chunk) (place : ℕ) (asks : List Placed) → pending_calls cs (asked_in asks) ≡ [] → pending_calls cs (asked_before place asks) ≡ []
+unfolding pending_calls calls
+none_before cs place asks e = none_asked (λ (id : ℕ). not (is_finished cs id)) place asks e
+
+-- ---- frames one behind the other
+
+messages_append : (fs gs : List Frame) → (received (fs ++ gs)).messages ≡ (received fs).messages ++ messages gs
+unfolding received messages
+messages_append fs gs = flat_map-append (λ (f : Frame). chunks_in (content f)) fs gs
+
+fits_from : {E X : Type 0} (R : Rules E X) (start fs : List Frame) (f : Frame) → AllFrom (Fits R) start (fs ++ f ∷ []) → Fits R (start ++ fs) f
+fits_from R start [] f h = subst (λ (hs : List Frame). Fits R hs f) (sym (append-nil start)) h.0
+fits_from R start (g ∷ fs) f h = subst (λ (hs : List Frame). Fits R hs f) (append_assoc start (g ∷ []) fs) (fits_from R (start ++ g ∷ []) fs f h.1)
+
+fits_last : {E X : Type 0} (R : Rules E X) (fs : List Frame) (f : Frame) → AllAfter (Fits R) (fs ++ f ∷ []) → Fits R fs f
+unfolding AllAfter
+fits_last R fs f h = fits_from R [] fs f h
+
+same_next : {A : Type 0} (x y : A) (xs ys : List A) → x ∷ xs ≡ y ∷ ys → (x ≡ y) × (xs ≡ ys)
+same_next x y xs ys e = (cc, cc)
+
+-- all but the last of a list, where something stands behind another
+split_last : {A : Type 0} (front fs gs : List A) (x g : A) → front ++ x ∷ [] ≡ fs ++ (g ∷ gs) → (middle : List A) × (front ≡ fs ++ middle)
+split_last front [] gs x g e = (front, refl)
+split_last [] (f ∷ fs) gs x g e = absurd (omega (arith, ap length e, length-append fs (g ∷ gs)))
+split_last (y ∷ front) (f ∷ fs) gs x g e =
+    let parts = same_next y f (front ++ x ∷ []) (fs ++ (g ∷ gs)) e in
+    let rest = split_last front fs gs x g parts.1 in
+    (rest.0, ap (λ z. z ∷ front) parts.0 ∙ ap (λ zs. f ∷ zs) rest.1)
+
+-- ---- a chunk is refused where no call is unanswered
+
+chunk_refused : (limits : Limits) (b : Received) (asked : List Asking) (c : Chunk) → pending_calls b.messages asked ≡ [] → first_reason (client_reasons limits b asked (Sends c)) ≡ None → ⊥
+chunk_refused limits b asked c none e =
+    let all = none-holds (client_reasons limits b asked (Sends c)) e in
+    let waits : not (is_in c.request (pending_calls b.messages asked)) ≡ false = all.1.1.1.1.1.1.1.1.1.1.1.1.0 in
+    let waits_nowhere : not (is_in c.request []) ≡ false = subst (λ (ids : List ℕ). not (is_in c.request ids) ≡ false) none waits in
+    absurd cc
+
+no_more : (more : List ℕ) → length more ≡ 0 → more ≡ []
+no_more [] e = refl
+no_more (x ∷ more) e = absurd (omega (arith, e))
+
+module _ (law : NonePending) (y : ClientChannel) (s : Site) (at : At y s) (settled : IsSettled s) (all : List ℕ) (frames : List Frame) (run : Run (client_rules (limits_of y) s.asks) all frames [] Going) (last : EndsInChunk frames) (front : Extends s.octets all) where
+  abbrev here : List Frame
+  here = at.goes.frames
+
+  -- none is unanswered behind more frames
+  none_behind : (more : List Frame) → pending_calls (received (here ++ more)).messages (asked_in s.asks) ≡ []
+  none_behind more =
+      ap (λ (cs : List Chunk). pending_calls cs (asked_in s.asks)) (messages_append here more)
+      ∙ none_stays (received here).messages (messages more) (asked_in s.asks) (ap (λ (b : Received). pending_calls b.messages (asked_in s.asks)) at.before_is ∙ law y s at settled)
+
+  never_last : (more : List Frame) → last.before ≡ here ++ more → ⊥
+  never_last more e =
+      let fits = fits_last (rules_of y s.asks) last.before last.frame (subst (AllAfter (Fits (rules_of y s.asks))) last.parts run.good) in
+      let place = end_of last.before last.frame in
+      chunk_refused (limits_of y) (received last.before) (asked_before place s.asks) last.chunk
+      (none_before (received last.before).messages place s.asks (ap (λ (fs : List Frame). pending_calls (received fs).messages (asked_in s.asks)) e ∙ none_behind more))
+      (ap (λ (k : Content). first_reason (client_reasons (limits_of y) (received last.before) (asked_before place s.asks) k)) (sym last.carries) ∙ fits.accepted)
+
+  took_by : (later : List Frame) → frames ≡ here ++ later → s.octets ≡ all
+  took_by [] e =
+      let whole = ap length run.whole in
+      let part = ap length at.goes.stands.run.whole in
+      let more = ap length front.parts in
+      let same = ap (λ (fs : List Frame). length (frames_octets fs)) (e ∙ append-nil here) in
+      sym (front.parts
+      ∙ (ap (λ (o : List ℕ). s.octets ++ o)
+      (no_more front.more (omega (arith, whole, part, more, same, length-append (frames_octets frames) [], length-append (frames_octets here) at.goes.rest, length-append s.octets front.more)))
+      ∙ append-nil s.octets))
+  took_by (f ∷ later) e =
+      let middle = split_last last.before here later last.frame f (sym last.parts ∙ e) in
+      absurd (never_last middle.0 middle.1)
+
+  -- it took all of it
+  pub took_all : s.octets ≡ all
+  took_all =
+      let later = begins_run (rules_of y s.asks) s.octets front.more here frames at.goes.rest Going at.goes.stands.run (subst (λ (o : List ℕ). Run (rules_of y s.asks) o frames [] Going) front.parts run) in
+      took_by later.0 later.1

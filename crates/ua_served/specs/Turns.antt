@@ -1,0 +1,61 @@
+-- What a client's turns tell a server, from the HEL to the CLO.
+use Rattle.std.specs.Prelude.{ℕ, ◌+◌, length, List, [], ◌∷◌, ◌++◌, Option, Some, None}
+use Rattle.ua_frame.specs.declared.limits.Limits.{Limits}
+use Rattle.ua_channel.specs.Agreement.{agreement_of}
+use Rattle.ua_channel.specs.ClientSends.{hello_to}
+use Rattle.ua_channel.specs.ServerTold.{Told, Agreed, Opened, Asked, Closed}
+use Rattle.ua_services.specs.Request.{request}
+use Rattle.ua_services.specs.declared.request.Request.{Request}
+use Rattle.ua_served.specs.Course.{asked_by}
+use Rattle.ua_served.specs.declared.turn.Turn.{Turn}
+
+-- ---- one turn, by the requests that are asked in it; none where it is a renewal
+
+-- requests under this token and request ids from this one on: each whole and once, its body the canonical encoding, in order
+-- (OPC 10000-6, 6.7.2)
+abbrev pub requests_told : ℕ → ℕ → List Request → List Told
+requests_told token id [] = []
+requests_told token id (m ∷ ms) = Asked id token (request.canonical m) ∷ requests_told token (id + 1) ms
+
+-- where this is the newest token: the requests under it; or that the next token is issued, for an hour (OPC 10000-4, 5.6.2)
+abbrev pub turn_told : ℕ → ℕ → Option (List Request) → List Told
+turn_told token id (Some requests) = requests_told token id requests
+turn_told token id None = Opened id 0 (token + 1) 3600000 ∷ []
+
+-- the newest token behind it
+abbrev pub token_behind : ℕ → Option (List Request) → ℕ
+token_behind token (Some requests) = token
+token_behind token None = token + 1
+
+-- the next request id behind it: each request and each renewal has one
+abbrev pub id_behind : ℕ → Option (List Request) → ℕ
+id_behind id (Some requests) = id + length requests
+id_behind id None = id + 1
+
+-- ---- all turns
+
+-- turns in order, where this is the newest token and the next request id
+abbrev pub turns_told : ℕ → ℕ → List Turn → List Told
+turns_told token id [] = []
+turns_told token id (t ∷ turns) = turn_told token id (asked_by t) ++ turns_told (token_behind token (asked_by t)) (id_behind id (asked_by t)) turns
+
+-- the newest token behind them
+abbrev pub tokens_behind : ℕ → List Turn → ℕ
+tokens_behind token [] = token
+tokens_behind token (t ∷ turns) = tokens_behind (token_behind token (asked_by t)) turns
+
+-- the next request id behind them
+abbrev pub ids_behind : ℕ → List Turn → ℕ
+ids_behind id [] = id
+ids_behind id (t ∷ turns) = ids_behind (id_behind id (asked_by t)) turns
+
+-- ---- a whole conversation
+
+-- the opening of a client with these limits for this URL, at a server with those: what is agreed to, and the first token, 1, which is issued
+-- under the request id 1, for an hour
+abbrev pub opening_told : Limits → Limits → Option (List ℕ) → List Told
+opening_told server client url = Agreed (agreement_of server (hello_to client url)) ∷ (Opened 1 0 1 3600000 ∷ [])
+
+-- all of it: the opening, the turns, and the CLO
+abbrev pub conversation_told : Limits → Limits → Option (List ℕ) → List Turn → List Told
+conversation_told server client url turns = (opening_told server client url ++ turns_told 1 2 turns) ++ Closed ∷ []
