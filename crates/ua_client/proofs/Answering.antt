@@ -104,7 +104,7 @@ fills_some requests first told t slots n reply h once s = slots-set requests fir
 
 pub fills_fault : (requests : List Request) (first : ℕ) (told : List Told) (t : Told) (slots : List (Option Reply)) (x : ClientFault) → PlacesReply requests first t (Err x) → IsFirstOf told t
     → AreSlots requests first told slots → FillsSlots requests first (told ++ t ∷ []) slots (Err x)
-fills_fault requests first told t slots fault.UnknownResponse h once s = (misanswered-at requests first told t h.0 h.1 h.2 once h.3, front-lacking requests first told t slots h.0 h.1 once s h.2 h.3)
+fills_fault requests first told t slots fault.UnknownResponse h once s = (misanswered-at requests first told t slots h.0 h.1 h.2 once s h.3, front-lacking requests first told t slots h.0 h.1 once s h.2 h.3)
 fills_fault requests first told t slots fault.OutOfMemory h once s = tt
 fills_fault requests first told t slots fault.Read h once s = absurd h
 fills_fault requests first told t slots fault.Write h once s = absurd h

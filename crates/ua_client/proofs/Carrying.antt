@@ -2,7 +2,7 @@
 use Rattle.std.specs.Prelude.{◌≡◌, ℕ, ◌+◌, ◌-◌, ◌≤◌, ◌<◌, List, [], ◌++◌, length, take, drop, Option, Some, None, Ok, Err}
 use Rattle.std.proofs.Common.{refl, sym, ◌∙◌, ap, subst, append_assoc, append-nil, arith}
 use Rattle.std.proofs.Math.Seq.{take-add, take-length}
-use Rattle.std.proofs.lemmas.List.{length-drop, take-append-drop}
+use Rattle.std.proofs.lemmas.List.{length-append, length-drop, take-append-drop}
 use Rattle.ua_octets.specs.Format.{Extends}
 use Rattle.ua_channel.specs.Line.{Traffic, Hands, Takes, WhereTold}
 use Rattle.ua_channel.specs.declared.line.LineFault.{LineFault}
@@ -90,19 +90,22 @@ written-all octets at a b w all =
     let whole : at ≡ length octets = omega (arith, w.within, all) in
     carried-as [] (take at octets) [] octets a b refl (ap (λ (k : ℕ). take k octets) whole ∙ take-length octets) w.carried
 
-front-of : (sent octets : List ℕ) (a b : Option Traffic) → Extends sent octets → WhereTold (Carries [] sent) a b → WhereTold (WritesFront octets) a b
-front-of sent octets (Some a) (Some b) front h = record { sent = sent; front = front; carried = h }
-front-of sent octets (Some a) None front h = h
-front-of sent octets None b front h = h
+front-of : (sent octets : List ℕ) (a b : Option Traffic) → Extends sent octets → length sent < length octets → WhereTold (Carries [] sent) a b → WhereTold (WritesFront octets) a b
+front-of sent octets (Some a) (Some b) front fewer h = record { sent = sent; front = front; fewer = fewer; carried = h }
+front-of sent octets (Some a) None front fewer h = h
+front-of sent octets None b front fewer h = h
 
-pub written-front : (octets : List ℕ) (at : ℕ) (a b : Option Traffic) → WhereTold (Carries [] (take at octets)) a b → WhereTold (WritesFront octets) a b
-written-front octets at a b h = front-of (take at octets) octets a b (record { more = drop at octets; parts = sym (take-append-drop at octets) }) h
+length-front : (octets : List ℕ) (at : ℕ) → at < length octets → length (take at octets) < length octets
+length-front octets at more = omega (arith, more, ap length (take-append-drop at octets), length-append (take at octets) (drop at octets), length-drop at octets)
 
--- a beginning of these octets was written
-pub sends-front : (octets : List ℕ) (a b : Option Traffic) → WhereTold (WritesFront octets) a b → (sent : List ℕ) × Extends sent octets × WhereTold (Carries [] sent) a b
-sends-front octets (Some a) (Some b) h = (h.sent, h.front, h.carried)
+pub written-front : (octets : List ℕ) (at : ℕ) (a b : Option Traffic) → at < length octets → WhereTold (Carries [] (take at octets)) a b → WhereTold (WritesFront octets) a b
+written-front octets at a b more h = front-of (take at octets) octets a b (record { more = drop at octets; parts = sym (take-append-drop at octets) }) (length-front octets at more) h
+
+-- a beginning of these octets was written, and where there are some not all of them
+pub sends-front : (octets : List ℕ) (a b : Option Traffic) → WhereTold (WritesFront octets) a b → (sent : List ℕ) × Extends sent octets × WhereTold (Carries [] sent) a b × (0 < length octets → length sent < length octets)
+sends-front octets (Some a) (Some b) h = (h.sent, h.front, h.carried, λ some. h.fewer)
 sends-front octets (Some a) None h = absurd h
-sends-front octets None b h = ([], record { more = octets; parts = refl }, h)
+sends-front octets None b h = ([], record { more = octets; parts = refl }, h, λ some. some)
 
 -- ---- a whole write, part by part
 
@@ -118,11 +121,15 @@ part-written octets at end a b c w on fits h =
     }
 
 -- a beginning of that part is written too
-pub part-front : (octets : List ℕ) (at count : ℕ) (a b c : Option Traffic) → Written octets at a b → WhereTold (WritesFront (take count (drop at octets))) b c → WhereTold (WritesFront octets) a c
-part-front octets at count a b c w h =
+pub part-front : (octets : List ℕ) (at count : ℕ) (a b c : Option Traffic) → Written octets at a b → 0 < length (take count (drop at octets)) → WhereTold (WritesFront (take count (drop at octets))) b c → WhereTold (WritesFront octets) a c
+part-front octets at count a b c w some h =
     let front = sends-front (take count (drop at octets)) b c h in
-    front-of (take at octets ++ front.0) octets a c (record { more = front.1.more ++ drop count (drop at octets); parts = parts front.0 front.1 }) (carried-then [] (take at octets) [] front.0 a b c w.carried front.2)
+    front-of (take at octets ++ front.0) octets a c (record { more = front.1.more ++ drop count (drop at octets); parts = parts front.0 front.1 }) (fewer front.0 (front.3 some)) (carried-then [] (take at octets) [] front.0 a b c w.carried front.2)
   where
+    fewer : (sent : List ℕ) → length sent < length (take count (drop at octets)) → length (take at octets ++ sent) < length octets
+    fewer sent few =
+        omega (arith, few, length-append (take at octets) sent, ap length (take-append-drop at octets), length-append (take at octets) (drop at octets), ap length (take-append-drop count (drop at octets)), length-append (take count (drop at octets)) (drop count (drop at octets)))
+
     parts : (sent : List ℕ) (e : Extends sent (take count (drop at octets))) → octets ≡ (take at octets ++ sent) ++ (e.more ++ drop count (drop at octets))
     parts sent e =
         sym (take-append-drop at octets)

@@ -1,6 +1,6 @@
 -- How replies come to the places of their requests.
 use Rattle.std.specs.Prelude.{◌≡◌, ◌+◌, ◌<◌, ◌++◌, ℕ, zero, suc, Bool, true, false, cond, List, [], ◌∷◌, length, Option, Some, None}
-use Rattle.std.proofs.Common.{refl, ◌∙◌, ap, subst, inl, inr, eqb, get_or, set, rules, append-nil, arith, add-zero}
+use Rattle.std.proofs.Common.{refl, ◌∙◌, ap, subst, eqb, get_or, set, rules, append-nil, arith, add-zero}
 use Rattle.std.proofs.lemmas.Bool.{eqb-true}
 use Rattle.ua_channel.specs.ClientTold.{Told}
 use Rattle.ua_services.specs.Request.{kind_of}
@@ -82,20 +82,23 @@ slots-set (r ∷ rs) id told t (slot ∷ slots) (suc n) request reply h at first
     one-on : (a b : ℕ) → a + suc b ≡ (a + 1) + b
     one-on a b = omega arith
 
-pub misanswered-at : (requests : List Request) (id : ℕ) (told : List Told) (t : Told) (n : ℕ) (request : Request) → IsAt requests n request → IsFirstOf told t → IsMisanswer (kind_of request) (id + n) t → IsMisanswered requests id (told ++ t ∷ [])
-misanswered-at [] id told t n request at first by = absurd at
-misanswered-at (r ∷ rs) id told t zero request at first by =
-    let own : IsMisanswer (kind_of r) id t = subst (λ (q : Request). IsMisanswer (kind_of q) id t) at (subst (λ (m : ℕ). IsMisanswer (kind_of request) m t) (add-zero id) by) in
-    let mine : is_told_of id t ≡ true = ap (is_told_of id) own.1 ∙ same id in
-    inl (t, told-own id told t mine (first id mine), own)
+pub misanswered-at : (requests : List Request) (id : ℕ) (told : List Told) (t : Told) (slots : List (Option Reply)) (n : ℕ) (request : Request) → IsAt requests n request → IsFirstOf told t → AreSlots requests id told slots
+    → IsMisanswer (kind_of request) (id + n) t → IsMisanswered requests id (told ++ t ∷ [])
+misanswered-at requests id told t slots n request at first h by = record {
+  before = told;
+  last = t;
+  told_is = refl;
+  slots = slots;
+  slots_are = h;
+  place = n;
+  request = request;
+  request_is = at;
+  untold = first (id + n) (ap (is_told_of (id + n)) by.1 ∙ same (id + n));
+  misanswers = by;
+}
   where
-    same : (n : ℕ) → eqb n n ≡ true
-    same n = search rules
-misanswered-at (r ∷ rs) id told t (suc n) request at first by =
-    inr (misanswered-at rs (id + 1) told t n request at first (subst (λ (m : ℕ). IsMisanswer (kind_of request) m t) (one-on id n) by))
-  where
-    one-on : (a b : ℕ) → a + suc b ≡ (a + 1) + b
-    one-on a b = omega arith
+    same : (m : ℕ) → eqb m m ≡ true
+    same m = search rules
 
 -- the element that was read is at its place
 pub is-at : (requests : List Request) (n : ℕ) (request d : Request) → n < length requests → request ≡ get_or requests n d → IsAt requests n request

@@ -6,7 +6,7 @@ use Rattle.ua_channel.specs.ClientTold.{Told}
 use Rattle.ua_services.specs.Request.{kind_of}
 use Rattle.ua_services.specs.declared.request.Request.{Request}
 use Rattle.ua_client.specs.Calls.{AreUntold, none_for}
-use Rattle.ua_client.specs.Replies.{IsReply, IsMisanswer, IsUnanswered, AreSlots, AreReplies, IsAt, IsFront, IsUntold, IsUntoldBefore, LacksAnswer, front_of}
+use Rattle.ua_client.specs.Replies.{IsReply, IsMisanswer, AreSlots, AreReplies, IsAt, IsFront, IsUntold, IsUntoldBefore, LacksAnswer, front_of}
 use Rattle.ua_client.specs.Told.{is_told_of, IsFirstOf}
 use Rattle.ua_client.specs.declared.reply.Reply.{Reply}
 use Rattle.ua_client.proofs.Filling.{eqb-other, told-other, told-own}
@@ -19,11 +19,6 @@ front-untold [] id told (slot ∷ slots) h e = absurd h
 front-untold (r ∷ rs) id told [] h e = absurd h
 front-untold (r ∷ rs) id told (None ∷ slots) h e = h.0
 front-untold (r ∷ rs) id told (Some reply ∷ slots) h e = (h.0, front-untold rs (id + 1) told slots h.1 e)
-
-pub front-unanswered : (requests : List Request) (id : ℕ) (told : List Told) (kept : List Reply) → IsFront IsUntold kept requests id told → IsUnanswered requests id told
-front-unanswered [] id told kept h = absurd h
-front-unanswered (r ∷ rs) id told [] h = inl h
-front-unanswered (r ∷ rs) id told (reply ∷ kept) h = inr (front-unanswered rs (id + 1) told kept h.1)
 
 pub front-before : (requests : List Request) (id : ℕ) (told : List Told) (kept : List Reply) → IsFront IsUntold kept requests id told → IsFront IsUntoldBefore kept requests id told
 front-before [] id told kept h = absurd h

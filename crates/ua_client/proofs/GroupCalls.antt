@@ -32,8 +32,8 @@ use Rattle.ua_client.specs.declared.fault.ClientFault.TheVariants as fault
 use Rattle.ua_client.specs.declared.reply.Reply.{Reply}
 use Rattle.ua_client.proofs.Carrying.{carried-nothing, carried-then, carried-as, sends-front}
 use Rattle.ua_client.proofs.Hearings.{moves-from, moves-writing}
-use Rattle.ua_client.proofs.Fronts.{front-all, front-fewer, front-unanswered, front-whole}
-use Rattle.ua_client.proofs.Incoming.{collects-none}
+use Rattle.ua_client.proofs.Fronts.{front-all, front-fewer, front-untold, front-whole}
+use Rattle.ua_client.proofs.Incoming.{collects-none, told-whole}
 use Rattle.ua_client.proofs.Judging.{group-judged, is_reason, refused-for}
 use Rattle.ua_client.proofs.Settled.{NonePending}
 
@@ -290,9 +290,9 @@ module _ (requests : List Request) (old mid : Connection) (first : ℕ) (out : L
     untold-asked law = subst (λ (n : ℕ). AreUntold requests n s.told) (sym first-asked) (untold-from requests (id_at s) s.told (λ n. law (channel_of old) s.asks s.octets s.told n at.goes))
 
   -- a write that failed
-  pub group-unwritten : {A : Type 0} (before after : Option Traffic) (reads : ℕ) (had have : List Reply) → have ≡ had → WhereTold (WritesFront out) before after
+  pub group-unwritten : {A : Type 0} (before after : Option Traffic) (reads : ℕ) (had have : List Reply) → have ≡ had → 0 < length out → WhereTold (WritesFront out) before after
       → CallsGroup {A = A} requests old mid before after reads reads (Err (first_unkept fault.Write had have)) had have
-  group-unwritten before after reads had have none h =
+  group-unwritten before after reads had have none some h =
       let front = sends-front out before after h in
       let kept : have ≡ had ++ [] = none ∙ sym (append-nil had) in
       record {
@@ -301,7 +301,7 @@ module _ (requests : List Request) (old mid : Connection) (first : ℕ) (out : L
         same = q.same;
         added = [];
         have_is = kept;
-        answers = λ s at settled. ((q.judged s at settled, record { more = front.1.more; parts = sym (sent-asked s at) ∙ front.1.parts }, refl), (added-count had have [] kept, refl));
+        answers = λ s at settled. ((q.judged s at settled, record { more = front.1.more; parts = sym (sent-asked s at) ∙ front.1.parts }, refl, subst (λ (o : List ℕ). length front.0 < length o) (sent-asked s at) (front.3 some)), (added-count had have [] kept, refl));
         stops = tt;
       }
 
@@ -341,11 +341,11 @@ module _ (requests : List Request) (old mid : Connection) (first : ℕ) (out : L
           count = added-count had have (front_of slots) kept
 
           breaks : (y : ClientFault) (s : Site) → IsSentAt requests s out → CollectsAt {A = B} slots requests (id_at s) new after (Err y) (asked_at s requests) (s.octets ++ c.moves.taken) s.told → BreaksAt requests s new out c.moves.taken y
-          breaks (fault.Peer code) s sent h = (sent, (h.0, h.1, front-unanswered requests (id_at s) (s.told ++ h.0) (front_of slots) h.2))
-          breaks (fault.Refused code) s sent h = (sent, (h.0, h.1, front-unanswered requests (id_at s) (s.told ++ h.0) (front_of slots) h.2))
-          breaks fault.Ended s sent h = (sent, (h.0, h.1, front-unanswered requests (id_at s) (s.told ++ h.0) (front_of slots) h.2))
-          breaks fault.Read s sent h = (sent, (h.0, h.1, front-unanswered requests (id_at s) (s.told ++ h.0) (front_of slots) h.2))
-          breaks fault.TooLong s sent h = (sent, (h.0, h.1, front-unanswered requests (id_at s) (s.told ++ h.0) (front_of slots) h.2))
+          breaks (fault.Peer code) s sent h = (sent, (h.0, h.1, record { slots = slots; slots_are = h.2.0; missing = h.2.1 }))
+          breaks (fault.Refused code) s sent h = (sent, (h.0, h.1, record { slots = slots; slots_are = h.2.0; missing = h.2.1 }))
+          breaks fault.Ended s sent h = (sent, (h.0, h.1, record { slots = slots; slots_are = h.2.0; missing = h.2.1 }))
+          breaks fault.Read s sent h = (sent, (h.0, h.1, record { slots = slots; slots_are = h.2.0; missing = h.2.1 }))
+          breaks fault.TooLong s sent h = (sent, (h.0, h.1, record { slots = slots; slots_are = h.2.0; missing = h.2.1 }))
           breaks fault.UnknownResponse s sent h = (sent, (h.0, h.1, h.2.0))
           breaks fault.OutOfMemory s sent h = inr (sent, (h.0, h.1))
           breaks fault.Write s sent h = absurd h
@@ -358,11 +358,11 @@ module _ (requests : List Request) (old mid : Connection) (first : ℕ) (out : L
 
           keeps : (y : ClientFault) (s : Site) → CollectsAt {A = B} slots requests (id_at s) new after (Err y) (asked_at s requests) (s.octets ++ c.moves.taken) s.told
               → KeepsAt requests s new c.moves.taken y (length have - length had) (front_of slots)
-          keeps (fault.Peer code) s h = (count, h)
-          keeps (fault.Refused code) s h = (count, h)
-          keeps fault.Ended s h = (count, h)
-          keeps fault.Read s h = (count, h)
-          keeps fault.TooLong s h = (count, h)
+          keeps (fault.Peer code) s h = (count, (h.0, h.1, front-untold requests (id_at s) (s.told ++ h.0) slots h.2.0 h.2.1))
+          keeps (fault.Refused code) s h = (count, (h.0, h.1, front-untold requests (id_at s) (s.told ++ h.0) slots h.2.0 h.2.1))
+          keeps fault.Ended s h = (count, (h.0, h.1, front-untold requests (id_at s) (s.told ++ h.0) slots h.2.0 h.2.1))
+          keeps fault.Read s h = (count, (h.0, h.1, front-untold requests (id_at s) (s.told ++ h.0) slots h.2.0 h.2.1))
+          keeps fault.TooLong s h = (count, (h.0, h.1, front-untold requests (id_at s) (s.told ++ h.0) slots h.2.0 h.2.1))
           keeps fault.UnknownResponse s h = (count, (h.0, h.1, h.2.1))
           keeps fault.OutOfMemory s h = (count, inr h)
           keeps fault.Write s h = absurd h
@@ -402,17 +402,18 @@ module _ (requests : List Request) (old mid : Connection) (first : ℕ) (out : L
             let h = collected (Ok done) c s at in (
               sent-asked s at,
               (
-                record { asks = asked_at s requests; octets = s.octets ++ c.moves.taken; before = received h.0.1.frames; told = s.told ++ h.0.0; number = next_of (channel_of new) },
-                record { goes = h.0.1; before_is = refl; number_is = refl },
+                record { asks = asked_at s requests; octets = s.octets ++ c.moves.taken; before = received h.1.frames; told = s.told ++ h.0; number = next_of (channel_of new) },
+                record { goes = h.1; before_is = refl; number_is = refl },
+                h.2.2,
                 record {
                   judged = q.judged s at settled;
                   asks = refl;
                   octets = refl;
-                  whole = h.1;
-                  heard = h.0.0;
+                  whole = told-whole (channel_of new) (asked_at s requests) (s.octets ++ c.moves.taken) h.2.2.before h.2.2.last h.2.2.tells;
+                  heard = h.0;
                   told = refl;
                   number = c.keeps.next ∙ next-asked s at;
-                  replies_are = front-all requests (id_at s) (s.told ++ h.0.0) slots h.0.2.0 h.0.2.1;
+                  replies_are = front-all requests (id_at s) (s.told ++ h.0) slots h.2.0 h.2.1;
                 },
               ),
             );

@@ -7,6 +7,7 @@ use Rattle.std.proofs.lemmas.List.{length-append, length-drop, take-append-drop}
 use Rattle.ua_services.specs.declared.request.Request.{Request}
 use Rattle.ua_channel.specs.Client.{SameClient}
 use Rattle.ua_channel.specs.Line.{Traffic}
+use Rattle.ua_channel.specs.declared.client.channel.ClientChannel.{ClientChannel}
 use Rattle.ua_client.specs.Site.{Site, At}
 use Rattle.ua_client.specs.Calls.{Rounds, all_of, AreGroups, AnsweredAll}
 use Rattle.ua_client.specs.Calls.Rounds.{NoRound, OneRound}
@@ -62,6 +63,16 @@ length-between requests start end h k = taken (drop start requests) (end - start
     taken (m ∷ ms) zero few = refl
     taken (m ∷ ms) (suc n) few = ap suc (taken ms n (omega (arith, few)))
 
+-- ---- the channel of a client
+
+same-behind : (x y z : ClientChannel) → SameClient x y → SameClient y z → SameClient x z
+same-behind x y z h k = record { limits = h.limits ∙ k.limits; url = h.url ∙ k.url }
+
+-- rounds of a client are rounds of each that has the same limits and URL
+pub rounds-same : (x y : ClientChannel) → SameClient x y → {s t : Site} {groups : List (List Request)} {sent taken : List ℕ} {replies : List Reply} → Rounds x s groups t sent taken replies → Rounds y s groups t sent taken replies
+rounds-same x y same NoRound = NoRound
+rounds-same x y same (OneRound group z r b a) = OneRound group z (rounds-same x y same r) (record { same = same-behind z x y b.same same; at = b.at; came = b.came }) a
+
 -- ---- one group more
 
 -- these requests are answered, in groups that are full where there are more
@@ -115,9 +126,9 @@ module _ (requests group : List Request) (old now new : Connection) (before at t
             sized = groups-push a.groups group (known.1 goes) some few;
             behind = b.1.0;
             at = b.1.1;
-            settled = answered-settled group a.behind b.1.0 g.moves.taken g.added a.settled b.1.2;
-            rounds = subst (λ (o : List ℕ). Rounds s (a.groups ++ group ∷ []) b.1.0 (c.sent ++ o) (c.moves.taken ++ g.moves.taken) (c.added ++ g.added)) (sym b.0)
-                (OneRound group (channel_of new) a.rounds b.1.1 b.1.2);
+            settled = answered-settled group a.behind b.1.0 g.moves.taken g.added a.settled b.1.3;
+            rounds = subst (λ (o : List ℕ). Rounds (channel_of new) s (a.groups ++ group ∷ []) b.1.0 (c.sent ++ o) (c.moves.taken ++ g.moves.taken) (c.added ++ g.added)) (sym b.0)
+                (OneRound group (channel_of new) (rounds-same (channel_of now) (channel_of new) g.same a.rounds) (record { same = record { limits = refl; url = refl }; at = b.1.1; came = b.1.2 }) b.1.3);
           },
           λ l. full-push a.groups group (known.1 goes) (full l),
         );
@@ -153,7 +164,7 @@ module _ (requests group : List Request) (old now new : Connection) (before at t
             taken_then = g.moves.taken;
             taken_parts = refl;
             replies = c.added;
-            rounds = a.rounds;
+            rounds = rounds-same (channel_of now) (channel_of new) g.same a.rounds;
             breaks = b.0;
           };
           kept = g.added;

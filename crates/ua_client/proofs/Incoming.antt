@@ -2,19 +2,22 @@
 use Rattle.std.specs.Prelude.{◌≡◌, ◌⊎◌, ℕ, ◌+◌, ◌≤◌, ◌<◌, true, false, cond, is_none, List, [], ◌∷◌, ◌++◌, length, take, Option, None, Ok, Err}
 use Rattle.std.proofs.Common.{refl, sym, ◌∙◌, ap, subst, inl, inr, append_assoc, append-nil, arith, zero, suc}
 use Rattle.std.proofs.lemmas.List.{length-append}
-use Rattle.std.specs.List.{list_any}
+use Rattle.std.specs.List.{AllByRecursion, list_any}
 use Rattle.ua_builtin.specs.declared.date_time.DateTime.{DateTime}
-use Rattle.ua_frame.specs.Frames.{frames_octets}
+use Rattle.ua_frame.specs.After.{AllAfter, AllFrom}
+use Rattle.ua_frame.specs.Frames.{IsSized, frames_octets}
+use Rattle.ua_frame.specs.Run.{Fits, Rules}
+use Rattle.ua_frame.specs.declared.frame.Frame.{Frame}
 use Rattle.ua_channel.specs.Asks.{Placed}
-use Rattle.ua_channel.specs.Client.{Goes, GoesTelling}
+use Rattle.ua_channel.specs.Client.{Goes, GoesTelling, rules_of}
 use Rattle.ua_channel.specs.ClientTold.{Told}
 use Rattle.ua_channel.specs.Line.{Traffic, one_more}
 use Rattle.ua_channel.specs.declared.client.channel.ClientChannel.{ClientChannel}
 use Rattle.ua_channel.specs.declared.client.event.ClientEvent.{ClientEvent}
 use Rattle.ua_services.specs.declared.request.Request.{Request}
-use Rattle.ua_client.specs.Calls.{AreFrames, AreUntold, Collects, CollectsAt, GoesOn, none_for}
+use Rattle.ua_client.specs.Calls.{AreFrames, AreUntold, Collects, CollectsAt, GoesOn, LastCame, none_for}
 use Rattle.ua_client.specs.Hearing.{channel_of, Keeps, Moves, Says, Hears, HearsAt, StopsAt, is_line_fault}
-use Rattle.ua_client.specs.Replies.{AreSlots, IsFront, IsUntold, IsUntoldBefore, LacksAnswer, IsMisanswered, FillsSlots, front_of, is_reading_fault}
+use Rattle.ua_client.specs.Replies.{AreSlots, IsFront, IsUntoldBefore, LacksAnswer, IsMisanswered, FillsSlots, front_of, is_reading_fault}
 use Rattle.ua_client.specs.Told.{IsFirstOf}
 use Rattle.ua_client.specs.declared.connection.Connection.{Connection}
 use Rattle.ua_client.specs.declared.fault.ClientFault.{ClientFault}
@@ -64,14 +67,16 @@ reading-failures fault.TooLong h n = refl
 
 -- ---- one event more
 
+-- no reply came, or the last that was told was told while a reply was missing, and nothing stands behind its frame
+abbrev pub IsLast : List Request → ℕ → Connection → List Placed → List ℕ → List (Option Reply) → List Told → Type 0
+IsLast requests first now asks octets slots all = (slots ≡ none_for requests) ⊎ LastCame (channel_of now) requests first asks octets all
+
 -- so far these replies came
 pub record Waiting (requests : List Request) (first : ℕ) (old now : Connection) (before at : Option Traffic) (reads left : ℕ) (slots : List (Option Reply)) : Type 0 where
   pub moves : Moves old now [] before at
   pub keeps : Keeps old now
   pub goes : (asks : List Placed) (octets : List ℕ) (told : List Told) → Goes (channel_of old) asks octets told → AreUntold requests first told
-      → GoesOn (channel_of now) asks (octets ++ moves.taken) told (λ all. AreSlots requests first all slots)
-  -- once something was told, nothing stands behind its frame
-  pub whole : (asks : List Placed) (octets : List ℕ) (told : List Told) → Goes (channel_of old) asks octets told → AreUntold requests first told → (slots ≡ none_for requests) ⊎ AreFrames (octets ++ moves.taken)
+      → GoesOn (channel_of now) asks (octets ++ moves.taken) told (λ all. AreSlots requests first all slots × IsLast requests first now asks (octets ++ moves.taken) slots all)
   pub spent : reads ≤ left + length moves.got
   pub count : length slots ≡ length requests
 
@@ -86,24 +91,37 @@ waits-first requests first x t reads slots e = record {
   goes = λ asks octets told g none. (
     [],
     subst (λ (o : List ℕ). Goes (channel_of x) asks o (told ++ [])) (sym (append-nil octets)) (subst (λ (h : List Told). Goes (channel_of x) asks octets h) (sym (append-nil told)) g),
-    subst (λ (h : List Told). AreSlots requests first h slots) (sym (append-nil told)) (subst (λ (ss : List (Option Reply)). AreSlots requests first told ss) (sym e) (untold-slots requests first told none)),
+    (subst (λ (h : List Told). AreSlots requests first h slots) (sym (append-nil told)) (subst (λ (ss : List (Option Reply)). AreSlots requests first told ss) (sym e) (untold-slots requests first told none)), inl e),
   );
-  whole = λ asks octets told g none. inl e;
   spent = omega arith;
   count = ap length e ∙ length-none requests;
 }
 
-told-whole : (x : ClientChannel) (asks : List Placed) (octets : List ℕ) (told : List Told) (t : Told) → GoesTelling x asks octets told t → AreFrames octets
-told-whole x asks octets told t g = (g.frames ++ g.frame ∷ [], g.stands.run.whole ∙ append-nil (frames_octets (g.frames ++ g.frame ∷ [])))
+-- frames that are taken are of sizes that a header can name
+sized-from : {E X : Type 0} (R : Rules E X) (start frames : List Frame) → AllFrom (Fits R) start frames → AllByRecursion IsSized frames
+sized-from R start [] h = tt
+sized-from R start (f ∷ fs) h = (h.0.sized, sized-from R (start ++ f ∷ []) fs h.1)
+
+sized-all : {E X : Type 0} (R : Rules E X) (frames : List Frame) → AllAfter (Fits R) frames → AllByRecursion IsSized frames
+unfolding AllAfter
+sized-all R frames h = sized-from R [] frames h
+
+pub told-whole : (x : ClientChannel) (asks : List Placed) (octets : List ℕ) (told : List Told) (t : Told) → GoesTelling x asks octets told t → AreFrames octets
+told-whole x asks octets told t g = (
+  g.frames ++ g.frame ∷ [],
+  g.stands.run.whole ∙ append-nil (frames_octets (g.frames ++ g.frame ∷ [])),
+  sized-all (rules_of x asks) (g.frames ++ g.frame ∷ []) g.stands.run.good,
+)
 
 none-missing : (requests : List Request) → 0 < length requests → list_any is_none (none_for requests) ≡ false → ⊥
 none-missing [] some e = absurd (omega (arith, some))
 none-missing (r ∷ rs) some e = absurd cc
 
--- where no reply is missing, something was told
-all-whole : (requests : List Request) (slots : List (Option Reply)) (octets : List ℕ) → 0 < length requests → list_any is_none slots ≡ false → (slots ≡ none_for requests) ⊎ AreFrames octets → AreFrames octets
-all-whole requests slots octets some none (inl e) = absurd (none-missing requests some (subst (λ (ss : List (Option Reply)). list_any is_none ss ≡ false) e none))
-all-whole requests slots octets some none (inr k) = k
+-- where no reply is missing, the last of them came
+last-came : (requests : List Request) (first : ℕ) (now : Connection) (asks : List Placed) (octets : List ℕ) (slots : List (Option Reply)) (all : List Told) → 0 < length requests → list_any is_none slots ≡ false
+    → IsLast requests first now asks octets slots all → LastCame (channel_of now) requests first asks octets all
+last-came requests first now asks octets slots all some none (inl e) = absurd (none-missing requests some (subst (λ (ss : List (Option Reply)). list_any is_none ss ≡ false) e none))
+last-came requests first now asks octets slots all some none (inr k) = k
 
 abbrev pub ToldOnce : Type 0
 ToldOnce = (x : ClientChannel) (asks : List Placed) (octets : List ℕ) (told : List Told) (t : Told) → GoesTelling x asks octets told t → IsFirstOf told t
@@ -116,62 +134,72 @@ module _ (requests : List Request) (first : ℕ) (old now new : Connection) (bef
   module _ (e : ClientEvent) (h : Hears now new moment at then left less (Ok e)) (goes_on : GoesOnBehind) (once : ToldOnce) where
     -- the history behind an event
     behind : (P : List Told → Type 0) (asks : List Placed) (octets : List ℕ) (told : List Told) → Goes (channel_of old) asks octets told → AreUntold requests first told
-        → ((all : List Told) (t : Told) → Says moment e t → IsFirstOf all t → AreSlots requests first all slots → P (all ++ t ∷ []))
+        → ((all : List Told) (t : Told) → Says moment e t → GoesTelling (channel_of new) asks (octets ++ (w.moves.taken ++ h.moves.taken)) all t → AreSlots requests first all slots → P (all ++ t ∷ []))
         → GoesOn (channel_of new) asks (octets ++ (w.moves.taken ++ h.moves.taken)) told P
     behind P asks octets told g none filled =
         let on = w.goes asks octets told g none in
         let heard : List Told = on.0 in
         let says = h.answers asks (octets ++ w.moves.taken) (told ++ heard) on.1 in
         let t : Told = says.0 in
-        let whole : List ℕ = (octets ++ w.moves.taken) ++ h.moves.taken in
-        let further : Goes (channel_of new) asks whole ((told ++ heard) ++ t ∷ []) = goes_on (channel_of new) asks whole (told ++ heard) t says.2 in
-        let is : P ((told ++ heard) ++ t ∷ []) = filled (told ++ heard) t says.1 (once (channel_of new) asks whole (told ++ heard) t says.2) on.2 in (
+        let whole : List ℕ = octets ++ (w.moves.taken ++ h.moves.taken) in
+        let tells : GoesTelling (channel_of new) asks whole (told ++ heard) t =
+        subst (λ (o : List ℕ). GoesTelling (channel_of new) asks o (told ++ heard) t) (append_assoc octets w.moves.taken h.moves.taken) says.2 in
+        let is : P ((told ++ heard) ++ t ∷ []) = filled (told ++ heard) t says.1 tells on.2.0 in (
           heard ++ t ∷ [],
-          subst (λ (o : List ℕ). Goes (channel_of new) asks o (told ++ (heard ++ t ∷ []))) (append_assoc octets w.moves.taken h.moves.taken)
-              (subst (λ (all : List Told). Goes (channel_of new) asks whole all) (append_assoc told heard (t ∷ [])) further),
+          subst (λ (all : List Told). Goes (channel_of new) asks whole all) (append_assoc told heard (t ∷ [])) (goes_on (channel_of new) asks whole (told ++ heard) t tells),
           subst P (append_assoc told heard (t ∷ [])) is,
         )
 
-    behind-whole : (asks : List Placed) (octets : List ℕ) (told : List Told) → Goes (channel_of old) asks octets told → AreUntold requests first told → AreFrames (octets ++ (w.moves.taken ++ h.moves.taken))
-    behind-whole asks octets told g none =
-        let on = w.goes asks octets told g none in
-        let says = h.answers asks (octets ++ w.moves.taken) (told ++ on.0) on.1 in
-        subst AreFrames (append_assoc octets w.moves.taken h.moves.taken) (told-whole (channel_of new) asks ((octets ++ w.moves.taken) ++ h.moves.taken) (told ++ on.0) says.0 says.2)
+    -- what is told is the first that is told of its call
+    first-filled : (P : List Told → Type 0) → ((m : DateTime) (all : List Told) (t : Told) → Says m e t → IsFirstOf all t → AreSlots requests first all slots → P (all ++ t ∷ []))
+        → (asks : List Placed) (octets : List ℕ) (all : List Told) (t : Told) → Says moment e t → GoesTelling (channel_of new) asks octets all t → AreSlots requests first all slots → P (all ++ t ∷ [])
+    first-filled P filled asks octets all t says tells s = filled moment all t says (once (channel_of new) asks octets all t tells) s
 
-    pub waits-more : (next : List (Option Reply)) → length next ≡ length slots
+    pub waits-more : (next : List (Option Reply)) → length next ≡ length slots → list_any is_none slots ≡ true
         → ((m : DateTime) (all : List Told) (t : Told) → Says m e t → IsFirstOf all t → AreSlots requests first all slots → AreSlots requests first (all ++ t ∷ []) next)
         → Waiting requests first old new before then reads less next
-    waits-more next same filled = record {
+    waits-more next same missing filled = record {
       moves = moves-behind old now new [] [] before at then w.moves h.moves;
       keeps = keeps-then old now new w.keeps h.keeps;
-      goes = λ asks octets told g none. behind (λ all. AreSlots requests first all next) asks octets told g none (filled moment);
-      whole = λ asks octets told g none. inr (behind-whole asks octets told g none);
+      goes = λ asks octets told g none.
+          let whole : List ℕ = octets ++ (w.moves.taken ++ h.moves.taken) in
+          behind (λ all. AreSlots requests first all next × IsLast requests first new asks whole next all) asks octets told g none
+          (λ all t says tells s. (
+            first-filled (λ all. AreSlots requests first all next) filled asks whole all t says tells s,
+            inr (record { before = all; last = t; told_is = refl; awaited = record { slots = slots; slots_are = s; missing = missing }; tells = tells }),
+          ));
       spent = spent-more h.moves.got h.stops;
       count = same ∙ w.count;
     }
+
+    no-filling : ((m : DateTime) (all : List Told) (t : Told) → Says m e t → IsFirstOf all t → AreSlots requests first all slots → ⊥) → (asks : List Placed) (octets : List ℕ) (told : List Told)
+        → Goes (channel_of old) asks octets told → AreUntold requests first told → ⊥
+    no-filling filled asks octets told g none = (behind (λ all. ⊥) asks octets told g none (first-filled (λ all. ⊥) filled asks (octets ++ (w.moves.taken ++ h.moves.taken)))).2
 
     misread-by : (A : Type 0) (x : ClientFault) (next : List (Option Reply)) → next ≡ slots → list_any is_none slots ≡ true
         → ((m : DateTime) (all : List Told) (t : Told) → Says m e t → IsFirstOf all t → AreSlots requests first all slots → FillsSlots requests first (all ++ t ∷ []) next (Err x))
         → (asks : List Placed) (octets : List ℕ) (told : List Told) → Goes (channel_of old) asks octets told → AreUntold requests first told
         → CollectsAt {A = A} next requests first new then (Err x) asks (octets ++ (w.moves.taken ++ h.moves.taken)) told
     misread-by A fault.UnknownResponse next same missing filled asks octets told g none =
-        behind (λ all. IsMisanswered requests first all × IsFront LacksAnswer (front_of next) requests first all) asks octets told g none (filled moment)
+        behind (λ all. IsMisanswered requests first all × IsFront LacksAnswer (front_of next) requests first all) asks octets told g none
+        (first-filled (λ all. IsMisanswered requests first all × IsFront LacksAnswer (front_of next) requests first all) filled asks (octets ++ (w.moves.taken ++ h.moves.taken)))
     misread-by A fault.OutOfMemory next same missing filled asks octets told g none =
         let on = behind (IsFront IsUntoldBefore (front_of next) requests first) asks octets told g none
-        (λ all t says first_of s. subst (λ (ss : List (Option Reply)). IsFront IsUntoldBefore (front_of ss) requests first (all ++ t ∷ [])) (sym same) (front-unread requests first all t slots first_of s missing)) in
+        (λ all t says tells s. subst (λ (ss : List (Option Reply)). IsFront IsUntoldBefore (front_of ss) requests first (all ++ t ∷ [])) (sym same)
+        (front-unread requests first all t slots (once (channel_of new) asks (octets ++ (w.moves.taken ++ h.moves.taken)) all t tells) s missing)) in
         (on.0, inr on.1, on.2)
-    misread-by A fault.Read next same missing filled asks octets told g none = absurd (behind (λ all. ⊥) asks octets told g none (filled moment)).2
-    misread-by A fault.Write next same missing filled asks octets told g none = absurd (behind (λ all. ⊥) asks octets told g none (filled moment)).2
-    misread-by A fault.Ended next same missing filled asks octets told g none = absurd (behind (λ all. ⊥) asks octets told g none (filled moment)).2
-    misread-by A (fault.Peer code) next same missing filled asks octets told g none = absurd (behind (λ all. ⊥) asks octets told g none (filled moment)).2
-    misread-by A (fault.Refused code) next same missing filled asks octets told g none = absurd (behind (λ all. ⊥) asks octets told g none (filled moment)).2
-    misread-by A (fault.Service code) next same missing filled asks octets told g none = absurd (behind (λ all. ⊥) asks octets told g none (filled moment)).2
-    misread-by A fault.TooLarge next same missing filled asks octets told g none = absurd (behind (λ all. ⊥) asks octets told g none (filled moment)).2
-    misread-by A fault.NotWritable next same missing filled asks octets told g none = absurd (behind (λ all. ⊥) asks octets told g none (filled moment)).2
-    misread-by A fault.Exhausted next same missing filled asks octets told g none = absurd (behind (λ all. ⊥) asks octets told g none (filled moment)).2
-    misread-by A fault.Closed next same missing filled asks octets told g none = absurd (behind (λ all. ⊥) asks octets told g none (filled moment)).2
-    misread-by A fault.TooManyTokens next same missing filled asks octets told g none = absurd (behind (λ all. ⊥) asks octets told g none (filled moment)).2
-    misread-by A fault.TooLong next same missing filled asks octets told g none = absurd (behind (λ all. ⊥) asks octets told g none (filled moment)).2
+    misread-by A fault.Read next same missing filled asks octets told g none = absurd (no-filling filled asks octets told g none)
+    misread-by A fault.Write next same missing filled asks octets told g none = absurd (no-filling filled asks octets told g none)
+    misread-by A fault.Ended next same missing filled asks octets told g none = absurd (no-filling filled asks octets told g none)
+    misread-by A (fault.Peer code) next same missing filled asks octets told g none = absurd (no-filling filled asks octets told g none)
+    misread-by A (fault.Refused code) next same missing filled asks octets told g none = absurd (no-filling filled asks octets told g none)
+    misread-by A (fault.Service code) next same missing filled asks octets told g none = absurd (no-filling filled asks octets told g none)
+    misread-by A fault.TooLarge next same missing filled asks octets told g none = absurd (no-filling filled asks octets told g none)
+    misread-by A fault.NotWritable next same missing filled asks octets told g none = absurd (no-filling filled asks octets told g none)
+    misread-by A fault.Exhausted next same missing filled asks octets told g none = absurd (no-filling filled asks octets told g none)
+    misread-by A fault.Closed next same missing filled asks octets told g none = absurd (no-filling filled asks octets told g none)
+    misread-by A fault.TooManyTokens next same missing filled asks octets told g none = absurd (no-filling filled asks octets told g none)
+    misread-by A fault.TooLong next same missing filled asks octets told g none = absurd (no-filling filled asks octets told g none)
 
   -- a fault of the line or of the channel while replies are missing
   heard-fault : (A : Type 0) (x : ClientFault) (h : Hears now new moment at then left less (Err x)) → list_any is_none slots ≡ true
@@ -179,11 +207,11 @@ module _ (requests : List Request) (first : ℕ) (old now new : Connection) (bef
       → CollectsAt {A = A} slots requests first new then (Err x) asks (octets ++ (w.moves.taken ++ h.moves.taken)) told
   heard-fault A x h missing asks octets told g none = by x (subst (λ (o : List ℕ). HearsAt moment (Err x) (channel_of new) asks o (told ++ on.0)) (append_assoc octets w.moves.taken h.moves.taken) (h.answers asks (octets ++ w.moves.taken) (told ++ on.0) on.1))
     where
-      on : GoesOn (channel_of now) asks (octets ++ w.moves.taken) told (λ all. AreSlots requests first all slots)
+      on : GoesOn (channel_of now) asks (octets ++ w.moves.taken) told (λ all. AreSlots requests first all slots × IsLast requests first now asks (octets ++ w.moves.taken) slots all)
       on = w.goes asks octets told g none
 
-      some : IsFront IsUntold (front_of slots) requests first (told ++ on.0)
-      some = front-untold requests first (told ++ on.0) slots on.2 missing
+      some : AreSlots requests first (told ++ on.0) slots × (list_any is_none slots ≡ true)
+      some = (on.2.0, missing)
 
       by : (y : ClientFault) → HearsAt moment (Err y) (channel_of new) asks (octets ++ (w.moves.taken ++ h.moves.taken)) (told ++ on.0) → CollectsAt {A = A} slots requests first new then (Err y) asks (octets ++ (w.moves.taken ++ h.moves.taken)) told
       by (fault.Peer code) k = (on.0, k, some)
@@ -191,7 +219,7 @@ module _ (requests : List Request) (first : ℕ) (old now new : Connection) (bef
       by fault.Ended k = (on.0, k, some)
       by fault.Read k = (on.0, k, some)
       by fault.TooLong k = (on.0, k, some)
-      by fault.OutOfMemory k = (on.0, inl k, front-before requests first (told ++ on.0) (front_of slots) some)
+      by fault.OutOfMemory k = (on.0, inl k, front-before requests first (told ++ on.0) (front_of slots) (front-untold requests first (told ++ on.0) slots on.2.0 missing))
       by fault.UnknownResponse k = absurd k
       by fault.Write k = absurd k
       by (fault.Service code) k = absurd k
@@ -257,10 +285,8 @@ module _ (requests : List Request) (first : ℕ) (old now new : Connection) (bef
     moves = w.moves;
     keeps = w.keeps;
     answers = λ asks octets told g n.
-        let on = w.goes asks octets told g n in (
-          (on.0, on.1, (on.2, none)),
-          all-whole requests slots (octets ++ w.moves.taken) some none (w.whole asks octets told g n),
-        );
+        let on = w.goes asks octets told g n in
+        (on.0, on.1, (on.2.0, none, last-came requests first now asks (octets ++ w.moves.taken) slots (told ++ on.0) some none on.2.1));
     stops = w.spent;
   }
 

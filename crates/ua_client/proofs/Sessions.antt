@@ -16,6 +16,7 @@ use Rattle.ua_channel.specs.Client.{SameClient, url_of}
 use Rattle.ua_channel.specs.ClientAsks.{is_too_large, no_id}
 use Rattle.ua_channel.specs.ClientTable.{of_ack}
 use Rattle.ua_channel.specs.Line.{Traffic}
+use Rattle.ua_channel.specs.declared.client.channel.ClientChannel.{ClientChannel}
 use Rattle.ua_client.specs.Calls.{Answered, BreaksAt}
 use Rattle.ua_client.specs.Kept.{CallsGroup, GroupAt}
 use Rattle.ua_client.specs.Hearing.{channel_of, most_reads, StopsAt}
@@ -75,9 +76,9 @@ one-replied request requests old new before after reads left had have reply e no
         record {
           behind = a.1.0;
           at = a.1.1;
-          settled = answered-settled (request ∷ []) s a.1.0 g.moves.taken g.added settled a.1.2;
+          settled = answered-settled (request ∷ []) s a.1.0 g.moves.taken g.added settled a.1.3;
           reply = reply;
-          replied = record { sent_is = a.0; answered = subst (λ (rs : List Reply). Answered (request ∷ []) s a.1.0 g.moves.taken rs) alone a.1.2 };
+          replied = record { sent_is = a.0; came = a.1.2; answered = subst (λ (rs : List Reply). Answered (request ∷ []) s a.1.0 g.moves.taken rs) alone a.1.3 };
           says = refl;
         }
 
@@ -261,10 +262,10 @@ has-token (response.Read m) (inr e) good none = absurd cc
 has-token (response.Write m) (inl e) good none = absurd cc
 has-token (response.Write m) (inr e) good none = absurd cc
 
-brings-some : (url : Option (List ℕ)) (moment : DateTime) (s t : Site) (sent taken : List ℕ) (reply : Reply) → IsReplied (creating_at url moment s) s t sent taken reply
+brings-some : (x : ClientChannel) (url : Option (List ℕ)) (moment : DateTime) (s t : Site) (sent taken : List ℕ) (reply : Reply) → IsReplied x (creating_at url moment s) s t sent taken reply
     → reply_failure reply ≡ None → token_in reply ≡ None → ⊥
-brings-some url moment s t sent taken (Aborted code) h good none = absurd cc
-brings-some url moment s t sent taken (Responds m) h good none = has-token m h.answered.replies_are.0.2.2.1 good none
+brings-some x url moment s t sent taken (Aborted code) h good none = absurd cc
+brings-some x url moment s t sent taken (Responds m) h good none = has-token m h.answered.replies_are.0.2.2.1 good none
 
 module _ (url : Option (List ℕ)) (moment : DateTime) (request : Request) (old new : Connection) (before after : Option Traffic) (reads left : ℕ)
     (is : (s : Site) → At (channel_of old) s → request ≡ creating_at url moment s) (reply : Reply)
@@ -280,8 +281,8 @@ module _ (url : Option (List ℕ)) (moment : DateTime) (request : Request) (old 
         same = d.same;
         answers = λ s at settled.
             let a = d.answers s at settled in
-            absurd (brings-some url moment s a.behind d.sent d.moves.taken a.reply
-            (subst (λ (r : Request). IsReplied r s a.behind d.sent d.moves.taken a.reply) (is s at) a.replied) a.says.0 (sym (ap token_in a.says.1) ∙ none));
+            absurd (brings-some (channel_of new) url moment s a.behind d.sent d.moves.taken a.reply
+            (subst (λ (r : Request). IsReplied (channel_of new) r s a.behind d.sent d.moves.taken a.reply) (is s at) a.replied) a.says.0 (sym (ap token_in a.says.1) ∙ none));
         stops = tt;
       })
 
@@ -315,6 +316,7 @@ module _ (policy_id : Option (List ℕ)) (moment : DateTime) (old mid new : Conn
         token = token;
         between = a.behind;
         channel = channel_of mid;
+        same = e.same;
         at = a.at;
         settled = a.settled;
         reply = a.reply;

@@ -1,12 +1,12 @@
 -- What a client's calls come to: groups of 64, the last of which may have fewer, each judged whole, written and then answered.
-use Rattle.std.specs.Prelude.{◌≡◌, ◌⊎◌, ◌+◌, ◌<◌, ◌≤◌, ◌++◌, ℕ, List, [], ◌∷◌, map, length, is_none, false, Option, Some, None, Result, Ok, Err}
-use Rattle.std.specs.List.{list_any}
+use Rattle.std.specs.Prelude.{◌≡◌, ◌⊎◌, ◌+◌, ◌<◌, ◌≤◌, ◌++◌, ℕ, List, [], ◌∷◌, map, length, is_none, true, false, Option, Some, None, Result, Ok, Err}
+use Rattle.std.specs.List.{AllByRecursion, list_any}
 use Rattle.ua_octets.specs.Format.{Extends}
 use Rattle.ua_builtin.specs.Reasons.{first_reason}
-use Rattle.ua_frame.specs.Frames.{frames_octets}
+use Rattle.ua_frame.specs.Frames.{IsSized, frames_octets}
 use Rattle.ua_frame.specs.declared.frame.Frame.{Frame}
 use Rattle.ua_channel.specs.Asks.{Placed}
-use Rattle.ua_channel.specs.Client.{Goes, Ended, SameClient}
+use Rattle.ua_channel.specs.Client.{Goes, GoesTelling, Ended, SameClient}
 use Rattle.ua_channel.specs.ClientTold.{Told, Why, ours, peers}
 use Rattle.ua_channel.specs.Line.{Traffic}
 use Rattle.ua_channel.specs.declared.client.channel.ClientChannel.{ClientChannel}
@@ -15,7 +15,7 @@ use Rattle.ua_client.specs.Hearing.{channel_of, most_reads, Keeps, Moves, Starve
 use Rattle.ua_client.specs.Renewing.{IsSettled}
 use Rattle.ua_client.specs.Site.{Site, At, id_at, lane_behind}
 use Rattle.ua_client.specs.Told.{told_of}
-use Rattle.ua_client.specs.Replies.{AreReplies, AreSlots, IsFront, IsUntold, IsUntoldBefore, LacksAnswer, IsMisanswered, IsUnanswered, front_of}
+use Rattle.ua_client.specs.Replies.{AreAwaited, AreReplies, AreSlots, IsFront, IsUntoldBefore, LacksAnswer, IsMisanswered, front_of}
 use Rattle.ua_client.specs.Sent.{calls_octets, numbers_behind, calls_at, bodies_of, group_reasons}
 use Rattle.ua_client.specs.declared.connection.Connection.{Connection}
 use Rattle.ua_client.specs.declared.fault.ClientFault.{ClientFault}
@@ -54,18 +54,27 @@ EndsOn x asks octets told why P = (heard : List Told) × Ended x asks octets (to
 abbrev pub LacksMemory : ClientChannel → List Placed → List ℕ → List Told → Type 0
 LacksMemory x asks octets told = Starved x asks octets told ⊎ Goes x asks octets told
 
--- octets are whole frames, behind which nothing stands
+-- octets are whole frames, each of a size that a header can name, behind which nothing stands
 abbrev pub AreFrames : List ℕ → Type 0
-AreFrames octets = (frames : List Frame) × (octets ≡ frames_octets frames)
+AreFrames octets = (frames : List Frame) × (octets ≡ frames_octets frames) × AllByRecursion IsSized frames
+
+-- the last that was told is the last reply to these requests that was waited for, and nothing stands behind its frame
+pub record LastCame (x : ClientChannel) (requests : List Request) (id : ℕ) (asks : List Placed) (octets : List ℕ) (told : List Told) : Type 0 where
+  pub before : List Told
+  pub last : Told
+  pub told_is : told ≡ before ++ last ∷ []
+  pub awaited : AreAwaited requests id before
+  pub tells : GoesTelling x asks octets before last
 
 -- what became of the replies to calls of these requests, whose request ids are counted from the first: all came, or a front of them
 abbrev pub CollectsAt : {A : Type 0} → List (Option Reply) → List Request → ℕ → Connection → Option Traffic → Result A ClientFault → List Placed → List ℕ → List Told → Type 0
-CollectsAt slots requests first new after (Ok found) asks octets told = GoesOn (channel_of new) asks octets told (λ all. AreSlots requests first all slots × (list_any is_none slots ≡ false)) × AreFrames octets
-CollectsAt slots requests first new after (Err (fault.Peer code)) asks octets told = EndsOn (channel_of new) asks octets told (peers code.code) (IsFront IsUntold (front_of slots) requests first)
-CollectsAt slots requests first new after (Err (fault.Refused code)) asks octets told = EndsOn (channel_of new) asks octets told (ours code.code) (IsFront IsUntold (front_of slots) requests first)
-CollectsAt slots requests first new after (Err fault.Ended) asks octets told = GoesOn (channel_of new) asks octets told (IsFront IsUntold (front_of slots) requests first)
-CollectsAt slots requests first new after (Err fault.Read) asks octets told = GoesOn (channel_of new) asks octets told (IsFront IsUntold (front_of slots) requests first)
-CollectsAt slots requests first new after (Err fault.TooLong) asks octets told = GoesOn (channel_of new) asks octets told (IsFront IsUntold (front_of slots) requests first)
+CollectsAt slots requests first new after (Ok found) asks octets told =
+    GoesOn (channel_of new) asks octets told (λ all. AreSlots requests first all slots × (list_any is_none slots ≡ false) × LastCame (channel_of new) requests first asks octets all)
+CollectsAt slots requests first new after (Err (fault.Peer code)) asks octets told = EndsOn (channel_of new) asks octets told (peers code.code) (λ all. AreSlots requests first all slots × (list_any is_none slots ≡ true))
+CollectsAt slots requests first new after (Err (fault.Refused code)) asks octets told = EndsOn (channel_of new) asks octets told (ours code.code) (λ all. AreSlots requests first all slots × (list_any is_none slots ≡ true))
+CollectsAt slots requests first new after (Err fault.Ended) asks octets told = GoesOn (channel_of new) asks octets told (λ all. AreSlots requests first all slots × (list_any is_none slots ≡ true))
+CollectsAt slots requests first new after (Err fault.Read) asks octets told = GoesOn (channel_of new) asks octets told (λ all. AreSlots requests first all slots × (list_any is_none slots ≡ true))
+CollectsAt slots requests first new after (Err fault.TooLong) asks octets told = GoesOn (channel_of new) asks octets told (λ all. AreSlots requests first all slots × (list_any is_none slots ≡ true))
 CollectsAt slots requests first new after (Err fault.UnknownResponse) asks octets told =
     GoesOn (channel_of new) asks octets told (λ all. IsMisanswered requests first all × IsFront LacksAnswer (front_of slots) requests first all)
 CollectsAt slots requests first new after (Err fault.OutOfMemory) asks octets told = (heard : List Told) × LacksMemory (channel_of new) asks octets (told ++ heard) × IsFront IsUntoldBefore (front_of slots) requests first (told ++ heard)
@@ -105,13 +114,13 @@ pub record Answered (requests : List Request) (s t : Site) (taken : List ℕ) (r
 
 -- a group of calls is not asked here, or is not answered
 abbrev pub BreaksAt : List Request → Site → Connection → List ℕ → List ℕ → ClientFault → Type 0
-BreaksAt requests s new sent taken (fault.Peer code) = IsSentAt requests s sent × EndsOn (channel_of new) (asked_at s requests) (s.octets ++ taken) s.told (peers code.code) (IsUnanswered requests (id_at s))
-BreaksAt requests s new sent taken (fault.Refused code) = IsSentAt requests s sent × EndsOn (channel_of new) (asked_at s requests) (s.octets ++ taken) s.told (ours code.code) (IsUnanswered requests (id_at s))
-BreaksAt requests s new sent taken fault.Ended = IsSentAt requests s sent × GoesOn (channel_of new) (asked_at s requests) (s.octets ++ taken) s.told (IsUnanswered requests (id_at s))
-BreaksAt requests s new sent taken fault.Read = IsSentAt requests s sent × GoesOn (channel_of new) (asked_at s requests) (s.octets ++ taken) s.told (IsUnanswered requests (id_at s))
-BreaksAt requests s new sent taken fault.TooLong = IsSentAt requests s sent × GoesOn (channel_of new) (asked_at s requests) (s.octets ++ taken) s.told (IsUnanswered requests (id_at s))
+BreaksAt requests s new sent taken (fault.Peer code) = IsSentAt requests s sent × EndsOn (channel_of new) (asked_at s requests) (s.octets ++ taken) s.told (peers code.code) (AreAwaited requests (id_at s))
+BreaksAt requests s new sent taken (fault.Refused code) = IsSentAt requests s sent × EndsOn (channel_of new) (asked_at s requests) (s.octets ++ taken) s.told (ours code.code) (AreAwaited requests (id_at s))
+BreaksAt requests s new sent taken fault.Ended = IsSentAt requests s sent × GoesOn (channel_of new) (asked_at s requests) (s.octets ++ taken) s.told (AreAwaited requests (id_at s))
+BreaksAt requests s new sent taken fault.Read = IsSentAt requests s sent × GoesOn (channel_of new) (asked_at s requests) (s.octets ++ taken) s.told (AreAwaited requests (id_at s))
+BreaksAt requests s new sent taken fault.TooLong = IsSentAt requests s sent × GoesOn (channel_of new) (asked_at s requests) (s.octets ++ taken) s.told (AreAwaited requests (id_at s))
 BreaksAt requests s new sent taken fault.UnknownResponse = IsSentAt requests s sent × GoesOn (channel_of new) (asked_at s requests) (s.octets ++ taken) s.told (IsMisanswered requests (id_at s))
-BreaksAt requests s new sent taken fault.Write = (refusal_at s requests ≡ None) × Extends sent (sent_at s requests) × (taken ≡ [])
+BreaksAt requests s new sent taken fault.Write = (refusal_at s requests ≡ None) × Extends sent (sent_at s requests) × (taken ≡ []) × (length sent < length (sent_at s requests))
 BreaksAt requests s new sent taken fault.OutOfMemory =
     ((sent ≡ []) × (taken ≡ []))
     ⊎ (IsSentAt requests s sent × ((heard : List Told) × LacksMemory (channel_of new) (asked_at s requests) (s.octets ++ taken) (s.told ++ heard)))
@@ -122,12 +131,19 @@ BreaksAt requests s new sent taken other = ⊥
 
 -- ---- groups of calls, one behind another
 
--- groups of calls are answered, each asked where those before it left the client, so that a channel stands behind each: what was sent and
--- taken, and the replies
-pub data Rounds (s : Site) : List (List Request) → Site → List ℕ → List ℕ → List Reply → Type 0 where
-  NoRound : Rounds s [] s [] [] []
+-- behind a group of calls that was asked here a channel of this client stands there, where the last reply came
+pub record StandsBehind (client x : ClientChannel) (requests : List Request) (s t : Site) : Type 0 where
+  pub same : SameClient x client
+  pub at : At x t
+  pub came : LastCame x requests (id_at s) t.asks t.octets t.told
+
+-- groups of calls of a client are answered, each asked where those before it left the client, so that a channel of it stands behind each: what
+-- was sent and taken, and the replies
+pub data Rounds (client : ClientChannel) (s : Site) : List (List Request) → Site → List ℕ → List ℕ → List Reply → Type 0 where
+  NoRound : Rounds client s [] s [] [] []
   OneRound : {groups : List (List Request)} {m t : Site} {sent taken part : List ℕ} {replies added : List Reply} (group : List Request) (x : ClientChannel)
-      → Rounds s groups m sent taken replies → At x t → Answered group m t part added → Rounds s (groups ++ group ∷ []) t (sent ++ sent_at m group) (taken ++ part) (replies ++ added)
+      → Rounds client s groups m sent taken replies → StandsBehind client x group m t → Answered group m t part added
+      → Rounds client s (groups ++ group ∷ []) t (sent ++ sent_at m group) (taken ++ part) (replies ++ added)
 
 -- ---- all calls
 
@@ -150,7 +166,7 @@ pub record AnsweredAll (requests : List Request) (s : Site) (x : ClientChannel) 
   pub at : At x behind
   -- it may be called again
   pub settled : IsSettled behind
-  pub rounds : Rounds s groups behind sent taken replies
+  pub rounds : Rounds x s groups behind sent taken replies
 
 -- behind groups that are answered, the next one is not
 pub record BrokenAll (requests : List Request) (s : Site) (new : Connection) (sent taken : List ℕ) (f : ClientFault) : Type 0 where
@@ -170,7 +186,7 @@ pub record BrokenAll (requests : List Request) (s : Site) (new : Connection) (se
   pub taken_then : List ℕ
   pub taken_parts : taken ≡ taken_before ++ taken_then
   pub replies : List Reply
-  pub rounds : Rounds s groups behind sent_before taken_before replies
+  pub rounds : Rounds (channel_of new) s groups behind sent_before taken_before replies
   pub breaks : BreaksAt group behind new sent_then taken_then f
 
 -- what becomes of requests that are called where a client may be

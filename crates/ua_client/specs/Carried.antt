@@ -1,5 +1,5 @@
 -- What calls of a client read from a line and write to it.
-use Rattle.std.specs.Prelude.{◌≡◌, ◌++◌, ℕ, List, [], Option, Some, None, Result, Ok, Err}
+use Rattle.std.specs.Prelude.{◌≡◌, ◌<◌, ◌++◌, ℕ, List, [], length, Option, Some, None, Result, Ok, Err}
 use Rattle.ua_octets.specs.Format.{Extends}
 use Rattle.ua_channel.specs.Line.{Traffic, one_more}
 
@@ -9,10 +9,11 @@ pub record Carries (got sent : List ℕ) (before after : Traffic) : Type 0 where
   pub coming : (more : List ℕ) → before.coming (sent ++ more) ≡ got ++ after.coming more
   pub written : after.written ≡ before.written ++ sent
 
--- nothing was read, and a beginning of these octets was written
+-- nothing was read, and a beginning of these octets was written, not all of them
 pub record WritesFront (octets : List ℕ) (before after : Traffic) : Type 0 where
   pub sent : List ℕ
   pub front : Extends sent octets
+  pub fewer : length sent < length octets
   pub carried : Carries [] sent before after
 
 -- what a write of these octets did: it wrote them all, or failed behind a beginning of them

@@ -4,7 +4,7 @@ use Rattle.ua_channel.specs.Client.{SameClient}
 use Rattle.ua_channel.specs.ClientTold.{Told, ours, peers}
 use Rattle.ua_channel.specs.Line.{Traffic}
 use Rattle.ua_services.specs.declared.request.Request.{Request}
-use Rattle.ua_client.specs.Calls.{Answered, AnsweredAll, BreaksAt, BrokenAll, EndsOn, GoesOn, LacksMemory, all_of, asked_at, refusal_at, sent_at}
+use Rattle.ua_client.specs.Calls.{Answered, AnsweredAll, BreaksAt, BrokenAll, EndsOn, GoesOn, LacksMemory, LastCame, all_of, asked_at, refusal_at, sent_at}
 use Rattle.ua_client.specs.Hearing.{channel_of, fault_alone, most_reads, Moves, StopsAt}
 use Rattle.ua_client.specs.Renewing.{IsSettled}
 use Rattle.ua_client.specs.Replies.{IsFront, IsUntold, IsUntoldBefore, LacksAnswer}
@@ -52,7 +52,7 @@ KeepsAt requests s new taken other n kept = ⊥
 
 -- what becomes of a group of calls that is asked here, with the replies that are added
 abbrev pub GroupAt : {A : Type 0} → List Request → Site → Connection → List ℕ → List ℕ → Result A CallsFault → List Reply → Type 0
-GroupAt requests s new sent taken (Ok done) added = (sent ≡ sent_at s requests) × ((t : Site) × At (channel_of new) t × Answered requests s t taken added)
+GroupAt requests s new sent taken (Ok done) added = (sent ≡ sent_at s requests) × ((t : Site) × At (channel_of new) t × LastCame (channel_of new) requests (id_at s) t.asks t.octets t.told × Answered requests s t taken added)
 GroupAt requests s new sent taken (Err c) added = BreaksAt requests s new sent taken c.fault × KeepsAt requests s new taken c.fault c.request added
 
 -- a group of calls, whose replies are added to those that were there

@@ -1,5 +1,6 @@
 -- The replies to a client's calls: each is what was told under the request id of its call.
-use Rattle.std.specs.Prelude.{◌≡◌, ◌+◌, ◌<◌, ◌⊎◌, ◌++◌, ℕ, zero, suc, Bool, true, false, List, [], ◌∷◌, length, Option, Some, None, Result, Ok, Err}
+use Rattle.std.specs.Prelude.{◌≡◌, ◌+◌, ◌<◌, ◌⊎◌, ◌++◌, ℕ, zero, suc, Bool, true, false, is_none, List, [], ◌∷◌, length, Option, Some, None, Result, Ok, Err}
+use Rattle.std.specs.List.{list_any}
 use Rattle.ua_channel.specs.ClientTold.{Told}
 use Rattle.ua_channel.specs.ClientTold.Told.{Answered, GaveUp}
 use Rattle.ua_services.specs.Message.{IsBody}
@@ -60,16 +61,6 @@ AreReplies [] id told (reply ∷ replies) = ⊥
 AreReplies (request ∷ requests) id told [] = ⊥
 AreReplies (request ∷ requests) id told (reply ∷ replies) = IsReply request id told reply × AreReplies requests (id + 1) told replies
 
--- one of the calls was answered by what is no answer to its request
-abbrev pub IsMisanswered : List Request → ℕ → List Told → Type 0
-IsMisanswered [] id told = ⊥
-IsMisanswered (request ∷ requests) id told = ((t : Told) × (told_of id told ≡ t ∷ []) × IsMisanswer (kind_of request) id t) ⊎ IsMisanswered requests (id + 1) told
-
--- nothing was told of one of the calls
-abbrev pub IsUnanswered : List Request → ℕ → List Told → Type 0
-IsUnanswered [] id told = ⊥
-IsUnanswered (request ∷ requests) id told = (told_of id told ≡ []) ⊎ IsUnanswered requests (id + 1) told
-
 -- ---- replies that are still waited for
 
 -- the reply to a request, if there is one: nothing was told of its call, or the reply was
@@ -83,6 +74,12 @@ AreSlots [] id told [] = Unit {0}
 AreSlots [] id told (slot ∷ slots) = ⊥
 AreSlots (request ∷ requests) id told [] = ⊥
 AreSlots (request ∷ requests) id told (slot ∷ slots) = IsSlot request id told slot × AreSlots requests (id + 1) told slots
+
+-- each of the calls was answered, or nothing was told of it; and of one nothing was told
+pub record AreAwaited (requests : List Request) (id : ℕ) (told : List Told) : Type 0 where
+  pub slots : List (Option Reply)
+  pub slots_are : AreSlots requests id told slots
+  pub missing : list_any is_none slots ≡ true
 
 -- the replies before the first that is missing, in order
 abbrev pub front_of : List (Option Reply) → List Reply
@@ -117,6 +114,20 @@ abbrev pub IsAt : List Request → ℕ → Request → Type 0
 IsAt [] n request = ⊥
 IsAt (r ∷ rs) zero request = request ≡ r
 IsAt (r ∷ rs) (suc n) request = IsAt rs n request
+
+-- the last that was told is a message that is no answer to the request of its call, of which nothing was told before; and before it each of
+-- the calls was answered, or nothing was told of it
+pub record IsMisanswered (requests : List Request) (id : ℕ) (told : List Told) : Type 0 where
+  pub before : List Told
+  pub last : Told
+  pub told_is : told ≡ before ++ last ∷ []
+  pub slots : List (Option Reply)
+  pub slots_are : AreSlots requests id before slots
+  pub place : ℕ
+  pub request : Request
+  pub request_is : IsAt requests place request
+  pub untold : told_of (id + place) before ≡ []
+  pub misanswers : IsMisanswer (kind_of request) (id + place) last
 
 -- what was told is of none of so many calls from this request id on
 abbrev pub IsOfNone : ℕ → ℕ → Told → Type 0

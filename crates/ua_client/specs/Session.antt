@@ -15,7 +15,7 @@ use Rattle.ua_requests.specs.Requests.{create_session, activate_session_as, anon
 use Rattle.ua_channel.specs.Client.{SameClient, url_of}
 use Rattle.ua_channel.specs.Line.{Traffic}
 use Rattle.ua_channel.specs.declared.client.channel.ClientChannel.{ClientChannel}
-use Rattle.ua_client.specs.Calls.{Answered, BreaksAt, sent_at}
+use Rattle.ua_client.specs.Calls.{Answered, BreaksAt, LastCame, sent_at}
 use Rattle.ua_client.specs.Hearing.{channel_of, most_reads, Moves, StopsAt}
 use Rattle.ua_client.specs.Renewing.{IsSettled}
 use Rattle.ua_client.specs.Site.{Site, At, id_at}
@@ -90,9 +90,10 @@ LacksToken reply f = (f ≡ fault.UnknownResponse) × (token_in reply ≡ None)
 
 -- ---- a service
 
--- a request that was called there by itself is answered: what was sent and taken, where the client then stands, and the reply
-pub record IsReplied (request : Request) (s t : Site) (sent taken : List ℕ) (reply : Reply) : Type 0 where
+-- a request that was called there by itself is answered: what was sent and taken, where the channel of the client then stands, and the reply
+pub record IsReplied (x : ClientChannel) (request : Request) (s t : Site) (sent taken : List ℕ) (reply : Reply) : Type 0 where
   pub sent_is : sent ≡ sent_at s (request ∷ [])
+  pub came : LastCame x (request ∷ []) (id_at s) t.asks t.octets t.told
   pub answered : Answered (request ∷ []) s t taken (reply ∷ [])
 
 -- the same, where the channel stands behind it and may be called again, and the reply is such a one
@@ -101,7 +102,7 @@ pub record Replies (request : Request) (s : Site) (x : ClientChannel) (sent take
   pub at : At x behind
   pub settled : IsSettled behind
   pub reply : Reply
-  pub replied : IsReplied request s behind sent taken reply
+  pub replied : IsReplied x request s behind sent taken reply
   pub says : P reply
 
 -- what becomes of a request that is called there by itself: the reply, or a fault of the call
@@ -118,11 +119,12 @@ ServesAt request brings s new sent taken (Err f) = BreaksAt (request ∷ []) s n
 
 -- ---- both services
 
--- CreateSession, asked there, brought a token; of what was sent and taken behind that, where the client then stood, this holds
-pub record BehindCreating (url : Option (List ℕ)) (moment : DateTime) (s : Site) (sent taken : List ℕ) (P : NodeId → Site → List ℕ → List ℕ → Type 0) : Type 0 where
+-- CreateSession, asked there, brought a token; of what was sent and taken behind that, where a channel of this client then stood, this holds
+pub record BehindCreating (client : ClientChannel) (url : Option (List ℕ)) (moment : DateTime) (s : Site) (sent taken : List ℕ) (P : NodeId → Site → List ℕ → List ℕ → Type 0) : Type 0 where
   pub token : NodeId
   pub between : Site
   pub channel : ClientChannel
+  pub same : SameClient channel client
   pub at : At channel between
   pub settled : IsSettled between
   pub reply : Reply
@@ -132,7 +134,7 @@ pub record BehindCreating (url : Option (List ℕ)) (moment : DateTime) (s : Sit
   pub taken_before : List ℕ
   pub taken_then : List ℕ
   pub taken_parts : taken ≡ taken_before ++ taken_then
-  pub created : IsReplied (creating_at url moment s) s between sent_before taken_before reply
+  pub created : IsReplied channel (creating_at url moment s) s between sent_before taken_before reply
   pub good : reply_failure reply ≡ None
   pub brought : brings_token token reply
   pub further : P token between sent_then taken_then
@@ -140,7 +142,7 @@ pub record BehindCreating (url : Option (List ℕ)) (moment : DateTime) (s : Sit
 -- what becomes of ActivateSession by the token policy with this PolicyId, behind CreateSession, asked there
 abbrev pub ActivatesBehind : Option (List ℕ) → Option (List ℕ) → DateTime → Site → Connection → List ℕ → List ℕ → (NodeId → Type 0) → Result (Unit {0}) ClientFault → Type 0
 ActivatesBehind url policy_id moment s new sent taken P result =
-    BehindCreating url moment s sent taken (λ token t sent_then taken_then. P token × ServesAt (activating_at policy_id token moment t) brings_any t new sent_then taken_then result)
+    BehindCreating (channel_of new) url moment s sent taken (λ token t sent_then taken_then. P token × ServesAt (activating_at policy_id token moment t) brings_any t new sent_then taken_then result)
 
 -- what becomes of a session that is begun there: both services are done, and the first brought this token; or one of them was not, by
 -- this fault, and it was the first, or the second behind the first

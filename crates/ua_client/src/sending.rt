@@ -1,6 +1,6 @@
 //! Octets that go to a line whole.
 
-ghost use Rattle.std.specs.Prelude.{◌≡◌, ◌<◌, ◌≤◌, length};
+ghost use Rattle.std.specs.Prelude.{◌≡◌, ◌<◌, ◌≤◌, length, OnErr};
 ghost use Rattle.ua_channel.specs.Line.{WhereTold};
 ghost use Rattle.ua_client.specs.Carried.{Writes, counted_by};
 
@@ -12,6 +12,7 @@ use ua_octets::front_number;
 /// where it stopped.
 pub fn write_whole<L: Line>(line: &mut L, octets: &[u8]) -> Result<(), LineFault>
     ensures written { WhereTold (Writes result octets.now) (L.traffic line.old) (L.traffic line.new) }
+    ensures some { OnErr result (0 < length octets.now) }
     ensures failed { L.failures line.new ≡ counted_by (L.failures line.old) result }
 {
     let mut at = 0;
@@ -41,6 +42,7 @@ fn frame_len(octets: &[u8]) -> usize
 /// Writes frames whole, each by one write where the line takes it so.
 pub fn write_frames<L: Line>(line: &mut L, octets: &[u8]) -> Result<(), LineFault>
     ensures written { WhereTold (Writes result octets.now) (L.traffic line.old) (L.traffic line.new) }
+    ensures some { OnErr result (0 < length octets.now) }
     ensures failed { L.failures line.new ≡ counted_by (L.failures line.old) result }
 {
     let mut at = 0;

@@ -21,7 +21,7 @@ use Rattle.ua_client.specs.declared.fault.ClientFault.TheVariants as fault
 use Rattle.ua_pinned.specs.Calling.{ComesTo}
 use Rattle.ua_pinned.specs.Lines.{ComeAlike, Wrote, WroteAlike}
 use Rattle.ua_pinned.proofs.FrontsAlike.{ReadsAll, ReadsFront, stopped_all}
-use Rattle.ua_pinned.proofs.ServedAlike.{come, where_told, wrote}
+use Rattle.ua_pinned.proofs.ServedAlike.{come, where_told, wrote, wrote_at}
 use Rattle.ua_pinned.proofs.ServersAlike.{same_code}
 
 -- ---- what a call read and wrote
@@ -85,6 +85,16 @@ pub ended_all : (new : Connection) (sent taken : List ℕ) (line after : Option 
 ended_all new sent taken line after coming r none end =
     let last : r.last.coming [] ≡ [] = subst IsAtEnd r.last_is end in
     sym (append-nil taken) ∙ (ap (λ (t : List ℕ). taken ++ t) (sym (ap (λ (u : List ℕ). u ++ r.last.coming []) none ∙ last)) ∙ r.parts)
+
+-- and nothing is to come
+pub ended_more : (new : Connection) (sent taken : List ℕ) (line after : Option Traffic) (coming : List ℕ) (r : Ran new sent taken line after coming) → untaken_of new ≡ [] → IsAtEnd after → untaken_of new ++ r.last.coming [] ≡ []
+ended_more new sent taken line after coming r none end = ap (λ (u : List ℕ). u ++ r.last.coming []) none ∙ subst IsAtEnd r.last_is end
+
+-- where the same octets were written to both lines both calls sent the same
+pub wrote_same : (one two : Connection) (sent other taken got : List ℕ) (line after elsewhere later : Option Traffic) (coming : List ℕ) → Ran one sent taken line after coming → Ran two other got elsewhere later coming → WroteAlike line after elsewhere later → sent ≡ other
+wrote_same one two sent other taken got line after elsewhere later coming r q w =
+    append_cancel_left r.first.written sent w.sent (sym r.written ∙ wrote_at line after r.first r.last w.sent r.first_is r.last_is w.first)
+    ∙ sym (append_cancel_left q.first.written other w.sent (sym q.written ∙ wrote_at elsewhere later q.first q.last w.sent q.first_is q.last_is w.second))
 
 -- where reads of both failed behind the same octets both took the same
 pub read_same : (one two : Connection) (sent other taken got : List ℕ) (line after elsewhere later : Option Traffic) (coming : List ℕ) → Ran one sent taken line after coming → Ran two other got elsewhere later coming

@@ -14,7 +14,10 @@ pub mod ExchangedAlike
 pub mod CallsAlike
 pub mod RenewalsAlike
 pub mod OpeningsAlike
-pub mod NoneMore
+pub mod GroupOnce
 pub mod GroupsAlike
+pub mod LinesAlike
+pub mod CallsOnce
+pub mod SessionsAlike
 pub mod TextsAlike
 pub mod DissectedAlike

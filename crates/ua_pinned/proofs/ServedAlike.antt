@@ -52,7 +52,7 @@ wrote line new before after sent p q e = subst (λ (z : Option Traffic). Wrote z
 pub come : (new later : Option Traffic) (after other : Traffic) → new ≡ Some after → later ≡ Some other → ComeAlike new later → after.coming [] ≡ other.coming []
 come new later after other p q h = subst (λ (z : Option Traffic). ComeAlike (Some after) z) q (subst (λ (z : Option Traffic). ComeAlike z later) p h)
 
-wrote_at : (line new : Option Traffic) (before after : Traffic) (sent : List ℕ) → line ≡ Some before → new ≡ Some after → Wrote line new sent → after.written ≡ before.written ++ sent
+pub wrote_at : (line new : Option Traffic) (before after : Traffic) (sent : List ℕ) → line ≡ Some before → new ≡ Some after → Wrote line new sent → after.written ≡ before.written ++ sent
 wrote_at line new before after sent p q h = subst (λ (z : Option Traffic). Wrote (Some before) z sent) q (subst (λ (z : Option Traffic). Wrote z new sent) p h)
 
 -- what was written is this

@@ -1,6 +1,5 @@
 -- What it is for two clients to be called alike, over lines that bring the same octets and fail alike.
-use Rattle.std.specs.Prelude.{◌≡◌, ℕ, ◌<◌, ◌^◌, ◌⊎◌, Bool, true, false, List, ◌++◌, length, Option, Some, None, Result, Ok, Err, IsErrOf}
-use Rattle.std.specs.List.{AllByRecursion}
+use Rattle.std.specs.Prelude.{◌≡◌, ℕ, ◌<◌, Bool, true, false, List, ◌++◌, length, Option, Some, None, Result, Ok, Err, IsErrOf}
 use Rattle.ua_channel.specs.Client.{SameClient}
 use Rattle.ua_channel.specs.Line.{Traffic}
 use Rattle.ua_client.specs.Client.{IsDone, IsReady, client_channel, connection_of, ends}
@@ -10,7 +9,6 @@ use Rattle.ua_client.specs.Site.{Site, At}
 use Rattle.ua_client.specs.declared.client.Client.{Client}
 use Rattle.ua_client.specs.declared.fault.ClientFault.{ClientFault}
 use Rattle.ua_client.specs.declared.fault.ClientFault.TheVariants as fault
-use Rattle.ua_client.specs.declared.reply.Reply.{Reply}
 use Rattle.ua_pinned.specs.Lines.{ComeAlike, WroteAlike}
 
 -- ---- how the lines fail
@@ -70,31 +68,3 @@ OpenAlike (Ok x) (Ok y) line other = StandBy false x y line other
 OpenAlike (Ok x) (Err f) line other = ⊥
 OpenAlike (Err f) (Ok y) line other = ⊥
 OpenAlike (Err f) (Err g) line other = f ≡ g
-
--- ---- calls
-
--- two faults of calls are one; or one of them says that a message was no answer to its request
-abbrev pub SameFault : ClientFault → ClientFault → Type 0
-SameFault f g = (f ≡ g) ⊎ ((f ≡ fault.UnknownResponse) ⊎ (g ≡ fault.UnknownResponse))
-
--- two answers to calls are the same: the same replies, or such faults
-abbrev pub SameCalls : {V : Type 0} → (V → List Reply) → (ClientFault → ClientFault → Type 0) → Result V ClientFault → Result V ClientFault → Type 0
-SameCalls replies Same (Ok v) (Ok w) = replies v ≡ replies w
-SameCalls replies Same (Ok v) (Err f) = ⊥
-SameCalls replies Same (Err f) (Ok v) = ⊥
-SameCalls replies Same (Err f) (Err g) = Same f g
-
--- these are octets, and with those that came fewer than 4294967296
-pub record AreFew (s : Site) (coming : List ℕ) : Type 0 where
-  pub octets : AllByRecursion (λ (b : ℕ). b < 256) coming
-  pub few : length (s.octets ++ coming) < 2 ^ 32
-
--- both may be called
-pub record AreReady (one two : Client) : Type 0 where
-  pub first : IsReady one
-  pub second : IsReady two
-
--- where calls leave them: both may be called again where all are answered; at a fault they stand as they stood, or both are done
-abbrev pub LeavesCalled : {A : Type 0} → Result A ClientFault → Client → Client → Option Traffic → Option Traffic → Type 0
-LeavesCalled (Ok found) one two line other = AreReady one two
-LeavesCalled (Err f) one two line other = StandBy (ends f) one two line other

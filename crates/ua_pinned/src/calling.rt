@@ -1,18 +1,19 @@
 //! Clients over lines that are called twice.
 
-ghost use Rattle.std.specs.Prelude.{◌≡◌, ◌≤◌, ℕ, List, IsTrue, length};
+ghost use Rattle.std.specs.Prelude.{◌≡◌, ℕ, List, IsTrue};
+ghost use Rattle.ua_client.specs.Hearing.{fault_alone};
 ghost use Rattle.ua_client.specs.Site.{Site};
 ghost use Rattle.ua_client.specs.declared.fault.ClientFault.TheVariants.{OutOfMemory};
 ghost use Rattle.ua_octets.specs.Counted.{text};
-ghost use Rattle.ua_pinned.specs.Calling.{AreDone, AreFew, CallsAlike, LeavesBoth, LeavesCalled, OpenAlike, SameCalls, SameFault, StandReady};
+ghost use Rattle.ua_pinned.specs.Calling.{AreDone, CallsAlike, LeavesBoth, OpenAlike, StandReady};
 ghost use Rattle.ua_pinned.specs.Lines.{LinesAlike, WroteAlike};
-ghost use Rattle.ua_pinned.specs.Pinned.{HadMemory};
+ghost use Rattle.ua_pinned.specs.Pinned.{HadMemory, SameBy};
 
 use std::alloc::Global;
-use ua_builtin::{DateTime, UaString};
+use ua_builtin::{DateTime, NodeId, UaString};
 use ua_channel::Line;
 use ua_client::laws::clients_are_settled;
-use ua_client::{Client, ClientFault, Reply};
+use ua_client::{CallsFault, Client, ClientFault, Reply};
 use ua_frame::Limits;
 use ua_services::Request;
 use ua_services::laws::bodies_of_responses_differ;
@@ -85,8 +86,8 @@ pub fn renew_twice<L: Line, K: Line>(
 }
 
 /// Asks the same request of two clients that stand in one place, over lines that bring the same octets
-/// and fail alike: the answers are one, the same octets are written, and both may be called again, or
-/// stand as they stood, or are done.
+/// and fail alike: the answers are one, the same octets are written, and both stand in one place again,
+/// or are done.
 pub fn call_twice<L: Line, K: Line>(
     one: &mut Client,
     two: &mut Client,
@@ -100,20 +101,17 @@ pub fn call_twice<L: Line, K: Line>(
     ensures written { (s : Site) (coming : List ℕ) → StandReady one.old two.old (L.traffic line.old) (K.traffic other.old) s coming → HadMemory OutOfMemory result.0 result.1
         → CallsAlike result.0 result.1 (L.traffic line.old) (L.traffic line.new) (K.traffic other.old) (K.traffic other.new) → WroteAlike (L.traffic line.old) (L.traffic line.new) (K.traffic other.old) (K.traffic other.new) }
     ensures left { (s : Site) (coming : List ℕ) → StandReady one.old two.old (L.traffic line.old) (K.traffic other.old) s coming → HadMemory OutOfMemory result.0 result.1
-        → CallsAlike result.0 result.1 (L.traffic line.old) (L.traffic line.new) (K.traffic other.old) (K.traffic other.new) → LeavesCalled result.0 one.new two.new (L.traffic line.new) (K.traffic other.new) }
-    ensures place { (s : Site) (coming : List ℕ) → StandReady one.old two.old (L.traffic line.old) (K.traffic other.old) s coming → HadMemory OutOfMemory result.0 result.1
-        → CallsAlike result.0 result.1 (L.traffic line.old) (L.traffic line.new) (K.traffic other.old) (K.traffic other.new) → AreFew s coming → LeavesBoth result.0 one.new two.new (L.traffic line.new) (K.traffic other.new) }
+        → CallsAlike result.0 result.1 (L.traffic line.old) (L.traffic line.new) (K.traffic other.old) (K.traffic other.new) → LeavesBoth result.0 one.new two.new (L.traffic line.new) (K.traffic other.new) }
 {
     bodies_of_responses_differ();
-    clients_are_settled();
     let first = one.call(line, request, moment);
     let second = two.call(other, request, moment);
     (first, second)
 }
 
-/// Asks the same requests, at most 64, of two clients that stand in one place, over lines that bring the
-/// same octets and fail alike: the replies are one, or the faults are, unless one of them says that a
-/// message was no answer; and the same octets are written.
+/// Asks the same requests of two clients that stand in one place, over lines that bring the same octets
+/// and fail alike: the replies are one, or the faults are, the same octets are written, and both stand
+/// in one place again, or are done.
 pub fn call_all_twice<L: Line, K: Line>(
     one: &mut Client,
     two: &mut Client,
@@ -125,19 +123,90 @@ pub fn call_all_twice<L: Line, K: Line>(
     Result<Vec<Reply>, ClientFault>,
     Result<Vec<Reply>, ClientFault>,
 )
-    requires { length requests.now ≤ 64 }
     ensures answers { (s : Site) (coming : List ℕ) → StandReady one.old two.old (L.traffic line.old) (K.traffic other.old) s coming → HadMemory OutOfMemory result.0 result.1
-        → CallsAlike result.0 result.1 (L.traffic line.old) (L.traffic line.new) (K.traffic other.old) (K.traffic other.new) → SameCalls (λ replies. replies.items) SameFault result.0 result.1 }
+        → CallsAlike result.0 result.1 (L.traffic line.old) (L.traffic line.new) (K.traffic other.old) (K.traffic other.new) → SameBy (λ replies. replies.items) result.0 result.1 }
     ensures written { (s : Site) (coming : List ℕ) → StandReady one.old two.old (L.traffic line.old) (K.traffic other.old) s coming → HadMemory OutOfMemory result.0 result.1
         → CallsAlike result.0 result.1 (L.traffic line.old) (L.traffic line.new) (K.traffic other.old) (K.traffic other.new) → WroteAlike (L.traffic line.old) (L.traffic line.new) (K.traffic other.old) (K.traffic other.new) }
     ensures left { (s : Site) (coming : List ℕ) → StandReady one.old two.old (L.traffic line.old) (K.traffic other.old) s coming → HadMemory OutOfMemory result.0 result.1
-        → CallsAlike result.0 result.1 (L.traffic line.old) (L.traffic line.new) (K.traffic other.old) (K.traffic other.new) → LeavesCalled result.0 one.new two.new (L.traffic line.new) (K.traffic other.new) }
-    ensures place { (s : Site) (coming : List ℕ) → StandReady one.old two.old (L.traffic line.old) (K.traffic other.old) s coming → HadMemory OutOfMemory result.0 result.1
-        → CallsAlike result.0 result.1 (L.traffic line.old) (L.traffic line.new) (K.traffic other.old) (K.traffic other.new) → AreFew s coming → LeavesBoth result.0 one.new two.new (L.traffic line.new) (K.traffic other.new) }
+        → CallsAlike result.0 result.1 (L.traffic line.old) (L.traffic line.new) (K.traffic other.old) (K.traffic other.new) → LeavesBoth result.0 one.new two.new (L.traffic line.new) (K.traffic other.new) }
 {
     bodies_of_responses_differ();
-    clients_are_settled();
     let first = one.call_all(line, requests, moment);
     let second = two.call_all(other, requests, moment);
+    (first, second)
+}
+
+/// The same of calls that add their replies to vectors in which the same stands: the answers are one,
+/// also by the request that a fault names, and the same replies are added.
+pub fn call_into_twice<L: Line, K: Line>(
+    one: &mut Client,
+    two: &mut Client,
+    line: &mut L,
+    other: &mut K,
+    requests: &[Request],
+    moment: DateTime,
+    replies: &mut Vec<Reply>,
+    others: &mut Vec<Reply>,
+) -> (Result<(), CallsFault>, Result<(), CallsFault>)
+    requires same { replies.old.items ≡ others.old.items }
+    ensures answers { (s : Site) (coming : List ℕ) → StandReady one.old two.old (L.traffic line.old) (K.traffic other.old) s coming → HadMemory OutOfMemory (fault_alone result.0) (fault_alone result.1)
+        → CallsAlike (fault_alone result.0) (fault_alone result.1) (L.traffic line.old) (L.traffic line.new) (K.traffic other.old) (K.traffic other.new) → result.0 ≡ result.1 }
+    ensures kept { (s : Site) (coming : List ℕ) → StandReady one.old two.old (L.traffic line.old) (K.traffic other.old) s coming → HadMemory OutOfMemory (fault_alone result.0) (fault_alone result.1)
+        → CallsAlike (fault_alone result.0) (fault_alone result.1) (L.traffic line.old) (L.traffic line.new) (K.traffic other.old) (K.traffic other.new) → replies.new.items ≡ others.new.items }
+    ensures written { (s : Site) (coming : List ℕ) → StandReady one.old two.old (L.traffic line.old) (K.traffic other.old) s coming → HadMemory OutOfMemory (fault_alone result.0) (fault_alone result.1)
+        → CallsAlike (fault_alone result.0) (fault_alone result.1) (L.traffic line.old) (L.traffic line.new) (K.traffic other.old) (K.traffic other.new) → WroteAlike (L.traffic line.old) (L.traffic line.new) (K.traffic other.old) (K.traffic other.new) }
+    ensures left { (s : Site) (coming : List ℕ) → StandReady one.old two.old (L.traffic line.old) (K.traffic other.old) s coming → HadMemory OutOfMemory (fault_alone result.0) (fault_alone result.1)
+        → CallsAlike (fault_alone result.0) (fault_alone result.1) (L.traffic line.old) (L.traffic line.new) (K.traffic other.old) (K.traffic other.new) → LeavesBoth (fault_alone result.0) one.new two.new (L.traffic line.new) (K.traffic other.new) }
+{
+    bodies_of_responses_differ();
+    let first = one.call_into(line, requests, moment, replies);
+    let second = two.call_into(other, requests, moment, others);
+    (first, second)
+}
+
+/// Begins a session by the token policy `anonymous` of two clients that stand in one place, over lines
+/// that bring the same octets and fail alike: the answers are one, the same octets are written, and both
+/// stand in one place again, or are done.
+pub fn begin_session_twice<L: Line, K: Line>(
+    one: &mut Client,
+    two: &mut Client,
+    line: &mut L,
+    other: &mut K,
+    moment: DateTime,
+) -> (Result<NodeId, ClientFault>, Result<NodeId, ClientFault>)
+    ensures answers { (s : Site) (coming : List ℕ) → StandReady one.old two.old (L.traffic line.old) (K.traffic other.old) s coming → HadMemory OutOfMemory result.0 result.1
+        → CallsAlike result.0 result.1 (L.traffic line.old) (L.traffic line.new) (K.traffic other.old) (K.traffic other.new) → result.0 ≡ result.1 }
+    ensures written { (s : Site) (coming : List ℕ) → StandReady one.old two.old (L.traffic line.old) (K.traffic other.old) s coming → HadMemory OutOfMemory result.0 result.1
+        → CallsAlike result.0 result.1 (L.traffic line.old) (L.traffic line.new) (K.traffic other.old) (K.traffic other.new) → WroteAlike (L.traffic line.old) (L.traffic line.new) (K.traffic other.old) (K.traffic other.new) }
+    ensures left { (s : Site) (coming : List ℕ) → StandReady one.old two.old (L.traffic line.old) (K.traffic other.old) s coming → HadMemory OutOfMemory result.0 result.1
+        → CallsAlike result.0 result.1 (L.traffic line.old) (L.traffic line.new) (K.traffic other.old) (K.traffic other.new) → LeavesBoth result.0 one.new two.new (L.traffic line.new) (K.traffic other.new) }
+{
+    bodies_of_responses_differ();
+    let first = one.begin_session(line, moment);
+    let second = two.begin_session(other, moment);
+    (first, second)
+}
+
+/// The same by the token policy with the same PolicyId.
+pub fn begin_session_as_twice<L: Line, K: Line>(
+    one: &mut Client,
+    two: &mut Client,
+    line: &mut L,
+    other: &mut K,
+    policy_id: UaString,
+    again: UaString,
+    moment: DateTime,
+) -> (Result<NodeId, ClientFault>, Result<NodeId, ClientFault>)
+    requires same { policy_id ≡ again }
+    ensures answers { (s : Site) (coming : List ℕ) → StandReady one.old two.old (L.traffic line.old) (K.traffic other.old) s coming → HadMemory OutOfMemory result.0 result.1
+        → CallsAlike result.0 result.1 (L.traffic line.old) (L.traffic line.new) (K.traffic other.old) (K.traffic other.new) → result.0 ≡ result.1 }
+    ensures written { (s : Site) (coming : List ℕ) → StandReady one.old two.old (L.traffic line.old) (K.traffic other.old) s coming → HadMemory OutOfMemory result.0 result.1
+        → CallsAlike result.0 result.1 (L.traffic line.old) (L.traffic line.new) (K.traffic other.old) (K.traffic other.new) → WroteAlike (L.traffic line.old) (L.traffic line.new) (K.traffic other.old) (K.traffic other.new) }
+    ensures left { (s : Site) (coming : List ℕ) → StandReady one.old two.old (L.traffic line.old) (K.traffic other.old) s coming → HadMemory OutOfMemory result.0 result.1
+        → CallsAlike result.0 result.1 (L.traffic line.old) (L.traffic line.new) (K.traffic other.old) (K.traffic other.new) → LeavesBoth result.0 one.new two.new (L.traffic line.new) (K.traffic other.new) }
+{
+    bodies_of_responses_differ();
+    let first = one.begin_session_as(line, policy_id, moment);
+    let second = two.begin_session_as(other, again, moment);
     (first, second)
 }

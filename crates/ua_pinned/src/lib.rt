@@ -29,7 +29,10 @@ pub use bodies::{
     read_open_request_twice, read_open_response_twice, read_request_twice, read_response_twice,
     request_body_twice, response_body_twice, skip_request_twice,
 };
-pub use calling::{call_all_twice, call_twice, close_twice, open_twice, renew_twice};
+pub use calling::{
+    begin_session_as_twice, begin_session_twice, call_all_twice, call_into_twice, call_twice,
+    close_twice, open_twice, renew_twice,
+};
 pub use chunks::{read_chunk_twice, read_open_twice};
 pub use clients::{
     client_ask_twice, client_close_twice, client_judge_twice, client_renew_twice,

@@ -8,6 +8,7 @@ use Rattle.ua_frame.specs.declared.limits.Limits.{Limits}
 use Rattle.ua_channel.specs.Line.{Traffic, WhereTold}
 use Rattle.ua_channel.specs.ServerReads.{ServerCloses}
 use Rattle.ua_channel.specs.ServerTold.{Told, Opened, Closed}
+use Rattle.ua_channel.specs.declared.client.channel.ClientChannel.{ClientChannel}
 use Rattle.ua_services.specs.declared.request.Request.{Request}
 use Rattle.ua_server.specs.Said.{said}
 use Rattle.ua_server.specs.State.{State}
@@ -42,7 +43,7 @@ use Rattle.ua_served.proofs.Talks.{got_on, talking_as, talks_renewed}
 -- ---- octets
 
 -- what rounds took
-rounds_octets : {s t : Site} {groups : List (List Request)} {sent taken : List ℕ} {replies : List Reply} → Rounds s groups t sent taken replies → t.octets ≡ s.octets ++ taken
+rounds_octets : {c : ClientChannel} {s t : Site} {groups : List (List Request)} {sent taken : List ℕ} {replies : List Reply} → Rounds c s groups t sent taken replies → t.octets ≡ s.octets ++ taken
 rounds_octets {s = s} NoRound = sym (append-nil s.octets)
 rounds_octets {s = s} (OneRound {taken = taken} {part = part} group x r at a) = a.octets ∙ (ap (λ (o : List ℕ). o ++ part) (rounds_octets r) ∙ append_assoc s.octets taken part)
 

@@ -8,7 +8,7 @@ use Rattle.ua_channel.specs.ServerTold.{Told, Asked}
 use Rattle.ua_channel.specs.declared.client.channel.ClientChannel.{ClientChannel}
 use Rattle.ua_services.specs.Request.{request}
 use Rattle.ua_services.specs.declared.request.Request.{Request}
-use Rattle.ua_client.specs.Calls.{Answered, AnsweredAll, AreGroups, Rounds, all_of, sent_at}
+use Rattle.ua_client.specs.Calls.{Answered, AnsweredAll, AreGroups, Rounds, StandsBehind, all_of, sent_at}
 use Rattle.ua_client.specs.Calls.Rounds.{NoRound, OneRound}
 use Rattle.ua_client.specs.Client.{IsReady, connection_of}
 use Rattle.ua_client.specs.Hearing.{Moves, channel_of}
@@ -19,7 +19,7 @@ use Rattle.ua_client.specs.declared.client.Client.{Client}
 use Rattle.ua_client.specs.declared.connection.Connection.{Connection}
 use Rattle.ua_client.specs.declared.reply.Reply.{Reply}
 use Rattle.ua_client.proofs.GroupCalls.{moves-nothing}
-use Rattle.ua_client.proofs.Grouping.{AreFull, all-taken, between, group-few, group-full, group-some}
+use Rattle.ua_client.proofs.Grouping.{AreFull, all-taken, between, group-few, group-full, group-some, rounds-same}
 use Rattle.ua_client.proofs.Hearings.{moves-behind}
 use Rattle.ua_client.proofs.Settled.{NonePending}
 use Rattle.ua_served.specs.Beginning.{Beginning}
@@ -29,9 +29,11 @@ use Rattle.ua_served.proofs.Talks.{talking_as, talks_group}
 
 -- ---- one group
 
--- a group of calls that is answered, and what was sent of it
-pub record OneAnswered (group : List Request) (s t : Site) (sent taken : List ℕ) (replies : List Reply) : Type 0 where
+-- a group of calls of a client that is answered, what was sent of it, and the channel that stands behind it
+pub record OneAnswered (client : ClientChannel) (group : List Request) (s t : Site) (sent taken : List ℕ) (replies : List Reply) : Type 0 where
   pub sent_is : sent ≡ sent_at s group
+  pub channel : ClientChannel
+  pub stands : StandsBehind client channel group s t
   pub answered : Answered group s t taken replies
 
 record NoneAnswered (s t : Site) (sent taken : List ℕ) (replies : List Reply) : Type 0 where
@@ -40,7 +42,7 @@ record NoneAnswered (s t : Site) (sent taken : List ℕ) (replies : List Reply) 
   taken_is : taken ≡ []
   replies_are : replies ≡ []
 
-no_round : {s t : Site} {groups : List (List Request)} {sent taken : List ℕ} {replies : List Reply} → Rounds s groups t sent taken replies → groups ≡ [] → NoneAnswered s t sent taken replies
+no_round : {c : ClientChannel} {s t : Site} {groups : List (List Request)} {sent taken : List ℕ} {replies : List Reply} → Rounds c s groups t sent taken replies → groups ≡ [] → NoneAnswered s t sent taken replies
 no_round NoRound e = record { site_is = refl; sent_is = refl; taken_is = refl; replies_are = refl }
 no_round (OneRound {groups = groups} group x r at a) e = absurd (omega (arith, ap length e, length-append groups (group ∷ [])))
 
@@ -51,9 +53,11 @@ last_one : {A : Type 0} (xs : List A) (x y : A) → xs ++ x ∷ [] ≡ y ∷ [] 
 last_one [] x y e = (refl, same_one x y e)
 last_one (z ∷ zs) x y e = absurd (omega (arith, ap length e, length-append zs (x ∷ [])))
 
-one_by : (s m t : Site) (group other : List Request) (sent taken part : List ℕ) (replies added : List Reply) → NoneAnswered s m sent taken replies → other ≡ group → Answered other m t part added
-    → OneAnswered group s t (sent ++ sent_at m other) (taken ++ part) (replies ++ added)
-one_by s m t group other sent taken part replies added none same a = record {
+one_by : (c x : ClientChannel) (s m t : Site) (group other : List Request) (sent taken part : List ℕ) (replies added : List Reply) → NoneAnswered s m sent taken replies → other ≡ group → StandsBehind c x other m t
+    → Answered other m t part added → OneAnswered c group s t (sent ++ sent_at m other) (taken ++ part) (replies ++ added)
+one_by c x s m t group other sent taken part replies added none same at a = record {
+  channel = x;
+  stands = subst (λ (z : Site). StandsBehind c x group z t) none.site_is (subst (λ (g : List Request). StandsBehind c x g m t) same at);
   sent_is = ap (λ (o : List ℕ). o ++ sent_at m other) none.sent_is ∙ (ap (λ (g : List Request). sent_at m g) same ∙ ap (λ (z : Site). sent_at z group) none.site_is);
   answered =
       subst (λ (rs : List Reply). Answered group s t (taken ++ part) (rs ++ added)) (sym none.replies_are)
@@ -61,11 +65,11 @@ one_by s m t group other sent taken part replies added none same a = record {
       (subst (λ (z : Site). Answered group z t part added) none.site_is (subst (λ (g : List Request). Answered g m t part added) same a)));
 }
 
-one_round : {s t : Site} {groups : List (List Request)} {sent taken : List ℕ} {replies : List Reply} (group : List Request) → Rounds s groups t sent taken replies → groups ≡ group ∷ [] → OneAnswered group s t sent taken replies
+one_round : {c : ClientChannel} {s t : Site} {groups : List (List Request)} {sent taken : List ℕ} {replies : List Reply} (group : List Request) → Rounds c s groups t sent taken replies → groups ≡ group ∷ [] → OneAnswered c group s t sent taken replies
 one_round group NoRound e = absurd cc
-one_round {s = s} group (OneRound {groups = groups} {m = m} {t = t} {sent = sent} {taken = taken} {part = part} {replies = replies} {added = added} other x r at a) e =
+one_round {c = c} {s = s} group (OneRound {groups = groups} {m = m} {t = t} {sent = sent} {taken = taken} {part = part} {replies = replies} {added = added} other x r at a) e =
     let parts = last_one groups other group e in
-    one_by s m t group other sent taken part replies added (no_round r parts.0) parts.1 a
+    one_by c x s m t group other sent taken part replies added (no_round r parts.0) parts.1 at a
 
 -- requests of which there are at most 64 are one group
 one_group : (requests : List Request) (groups : List (List Request)) → AreGroups groups → requests ≡ all_of groups → 0 < length requests → length requests ≤ 64 → groups ≡ requests ∷ []
@@ -76,7 +80,7 @@ one_group requests (g ∷ (h ∷ hs)) sized parts some few =
     absurd (omega (arith, ap length parts, length-append g (h ++ all_of hs), length-append h (all_of hs), full, sized.3.0, few))
 
 pub group_answered : (requests : List Request) (s : Site) (x : ClientChannel) (sent taken : List ℕ) (replies : List Reply) (a : AnsweredAll requests s x sent taken replies) → 0 < length requests → length requests ≤ 64
-    → OneAnswered requests s a.behind sent taken replies
+    → OneAnswered x requests s a.behind sent taken replies
 group_answered requests s x sent taken replies a some few = one_round requests a.rounds (one_group requests a.groups a.sized a.parts some few)
 
 -- ---- lists of groups
@@ -147,8 +151,8 @@ module _ (law : NonePending) (requests group : List Request) (old now new : Conn
             behind = b.behind;
             at = b.at;
             settled = b.settled;
-            rounds = subst (λ (o : List ℕ). Rounds s (a.groups ++ group ∷ []) b.behind (c.sent ++ o) (c.moves.taken ++ g.moves.taken) (c.added ++ g.added)) (sym one.sent_is)
-                (OneRound group (channel_of new) a.rounds b.at one.answered);
+            rounds = subst (λ (o : List ℕ). Rounds (channel_of new) s (a.groups ++ group ∷ []) b.behind (c.sent ++ o) (c.moves.taken ++ g.moves.taken) (c.added ++ g.added)) (sym one.sent_is)
+                (OneRound group one.channel (rounds-same (channel_of now) (channel_of new) g.same a.rounds) one.stands one.answered);
           },
           λ l. full_push a.groups group (known.1 goes) (full l),
         );

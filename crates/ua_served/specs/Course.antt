@@ -26,9 +26,9 @@ asked_by Renew = None
 -- sent, and the replies
 pub data Course (moment : DateTime) (s : Site) : List Turn → Site → List ℕ → List Reply → Type 0 where
   Begun : Course moment s [] s [] []
-  -- requests, in groups of 64, of which the last may have fewer, each call with its own reply
-  Asked : {turns : List Turn} {m u : Site} {sent more taken : List ℕ} {replies added : List Reply} (t : Turn) (groups : List (List Request))
-      → Course moment s turns m sent replies → asked_by t ≡ Some (all_of groups) → AreGroups groups → Rounds m groups u more taken added → Course moment s (turns ++ t ∷ []) u (sent ++ more) (replies ++ added)
+  -- requests, in groups of 64, of which the last may have fewer, each call with its own reply, by the channel of a client
+  Asked : {x : ClientChannel} {turns : List Turn} {m u : Site} {sent more taken : List ℕ} {replies added : List Reply} (t : Turn) (groups : List (List Request))
+      → Course moment s turns m sent replies → asked_by t ≡ Some (all_of groups) → AreGroups groups → Rounds x m groups u more taken added → Course moment s (turns ++ t ∷ []) u (sent ++ more) (replies ++ added)
   -- a renewal
   Renewed : {turns : List Turn} {m u : Site} {sent taken : List ℕ} {replies : List Reply} (t : Turn) (x : ClientChannel)
       → Course moment s turns m sent replies → asked_by t ≡ None → IsRenewed x m u taken → Course moment s (turns ++ t ∷ []) u (sent ++ renewal_at m moment) replies

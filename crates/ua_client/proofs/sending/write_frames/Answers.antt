@@ -17,4 +17,4 @@ loop-at-preserved g c =
 pub returns-in-Err-clause-written : goal.returns-in-Err-clause-written
 returns-in-Err-clause-written g c =
     part-front c.args.octets.now c.loop-at.at (c.loop-at.at + c.frame_len.result - c.loop-at.at) (g.L.Line.traffic c.args.line.now) (g.L.Line.traffic c.loop-at.line) (g.L.Line.traffic c.write_whole.new.line)
-    c.loop-at.invariant.written c.in-Err.ensures.written
+    c.loop-at.invariant.written c.in-Err.ensures.some c.in-Err.ensures.written

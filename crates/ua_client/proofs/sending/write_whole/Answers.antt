@@ -15,4 +15,4 @@ pub returns-in-Err-clause-written : goal.returns-in-Err-clause-written
 returns-in-Err-clause-written g c =
     subst (λ (t : Option Traffic). WhereTold (WritesFront c.args.octets.now) (g.L.Line.traffic c.args.line.now) t)
     (sym (failed-write c.in-Err.fault (take (length c.args.octets.now - c.loop-at.at) (drop c.loop-at.at c.args.octets.now)) (g.L.Line.traffic c.loop-at.line) (g.L.Line.traffic c.write.new.self) c.in-Err.ensures.octets))
-    (written-front c.args.octets.now c.loop-at.at (g.L.Line.traffic c.args.line.now) (g.L.Line.traffic c.loop-at.line) c.loop-at.invariant.written.carried)
+    (written-front c.args.octets.now c.loop-at.at (g.L.Line.traffic c.args.line.now) (g.L.Line.traffic c.loop-at.line) c.loop-at-test.true c.loop-at.invariant.written.carried)

@@ -1,18 +1,17 @@
-use Rattle.std.proofs.Common.{List, ℕ, [], ◌∷◌, ◌≡◌, arith}
+use Rattle.std.proofs.Common.{List, ℕ, [], ◌∷◌}
 use Rattle.ua_client.specs.Site.{Site}
 use Rattle.ua_client.specs.declared.fault.ClientFault.TheVariants.{OutOfMemory}
 use Rattle.ua_pinned.specs.Calling.{CallsAlike, StandReady}
 use Rattle.ua_pinned.specs.Pinned.{HadMemory}
-use Rattle.ua_pinned.proofs.GroupsAlike.{GroupOnce, called_missing, grouped_once, one_answer, placed_once}
+use Rattle.ua_pinned.proofs.CallsOnce.{CalledOnce, called_once, one_answer}
 use Rattle.ua_pinned.proofs.calling.call_twice.Goals as goal
 use Rattle.ua_pinned.proofs.calling.call_twice.Given.{Over as Given}
 
 once : (g : Given) (c : goal.After-call-second g) (s : Site) (coming : List ℕ) → StandReady c.args.one.now c.args.two.now (g.L.Line.traffic c.args.line.now) (g.K.Line.traffic c.args.other.now) s coming → HadMemory OutOfMemory c.call-first.result c.call-second.result
     → CallsAlike c.call-first.result c.call-second.result (g.L.Line.traffic c.args.line.now) (g.L.Line.traffic c.call-first.new.line) (g.K.Line.traffic c.args.other.now) (g.K.Line.traffic c.call-second.new.line)
-    → GroupOnce (λ reply. reply ∷ []) (λ f h. f ≡ h) c.call-first.result c.call-second.result c.call-first.new.self c.call-second.new.self (g.L.Line.traffic c.args.line.now) (g.L.Line.traffic c.call-first.new.line) (g.K.Line.traffic c.args.other.now) (g.K.Line.traffic c.call-second.new.line)
+    → CalledOnce (λ reply. reply ∷ []) c.call-first.result c.call-second.result c.call-first.new.self c.call-second.new.self (g.L.Line.traffic c.args.line.now) (g.L.Line.traffic c.call-first.new.line) (g.K.Line.traffic c.args.other.now) (g.K.Line.traffic c.call-second.new.line)
 once g c s coming stand had faults =
-    grouped_once c.bodies_of_responses_differ.ensures (λ reply. reply ∷ []) (λ f h. f ≡ h) (λ f h e. e) c.args.one.now c.args.two.now c.call-first.new.self c.call-second.new.self (c.args.request.now ∷ []) (omega arith)
-    c.call-first.result c.call-second.result _ _ _ _ s coming (called_missing c.args.request.now _) stand had
+    called_once c.bodies_of_responses_differ.ensures (λ reply. reply ∷ []) c.args.one.now c.args.two.now c.call-first.new.self c.call-second.new.self (c.args.request.now ∷ []) c.call-first.result c.call-second.result _ _ _ _ s coming stand had
     (c.call-first.ensures.calls stand.ready) (c.call-second.ensures.calls stand.ready_too) (c.call-first.ensures.left stand.ready) (c.call-second.ensures.left stand.ready_too) faults
 
 pub returns-clause-answers : goal.returns-clause-answers
@@ -23,9 +22,3 @@ returns-clause-written g c = λ s coming stand had faults. (once g c s coming st
 
 pub returns-clause-left : goal.returns-clause-left
 returns-clause-left g c = λ s coming stand had faults. (once g c s coming stand had faults).left
-
-pub returns-clause-place : goal.returns-clause-place
-returns-clause-place g c = λ s coming stand had faults few.
-    placed_once c.bodies_of_responses_differ.ensures (λ reply. reply ∷ []) (λ f h. f ≡ h) (λ f h e. e) c.args.one.now c.args.two.now c.call-first.new.self c.call-second.new.self (c.args.request.now ∷ []) (omega arith)
-    c.call-first.result c.call-second.result _ _ _ _ s coming (called_missing c.args.request.now _) stand had
-    (c.call-first.ensures.calls stand.ready) (c.call-second.ensures.calls stand.ready_too) (c.call-first.ensures.left stand.ready) (c.call-second.ensures.left stand.ready_too) c.clients_are_settled.ensures.none_pending few faults

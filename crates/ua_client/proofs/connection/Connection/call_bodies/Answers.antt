@@ -1,4 +1,4 @@
-use Rattle.std.proofs.Common.{◌++◌, refl, sym, ◌∙◌, ap, subst}
+use Rattle.std.proofs.Common.{◌++◌, ◌<◌, length, refl, sym, ◌∙◌, ap, subst}
 use Rattle.std.specs.Prelude.{ℕ, List, []}
 use Rattle.std.proofs.lemmas.Result.{err_from_is_err_and}
 use Rattle.ua_channel.specs.Line.{WhereTold}
@@ -43,7 +43,7 @@ returns-in_default-clause-calls g c =
       some = c.requires.some;
       asks = c.in_ok-asked.ensures.asks;
     } in
-    group-unwritten c.args.requests.now c.args.self.now mid c.in_ok-asked.asked.0 c.in_ok-asked.asked.1.items asked (g.L.Line.traffic c.args.line.now) (g.L.Line.traffic c.write_frames.new.line) c.args.reads.now c.args.replies.now.items c.make_room.new.replies.items c.in_ok-make_room.ensures.same
+    group-unwritten c.args.requests.now c.args.self.now mid c.in_ok-asked.asked.0 c.in_ok-asked.asked.1.items asked (g.L.Line.traffic c.args.line.now) (g.L.Line.traffic c.write_frames.new.line) c.args.reads.now c.args.replies.now.items c.make_room.new.replies.items c.in_ok-make_room.ensures.same (subst (λ (o : List ℕ). 0 < length o) c.deref.ensures.value c.in_default.ensures.some)
     (subst (λ (o : List ℕ). WhereTold (WritesFront o) (g.L.Line.traffic c.args.line.now) (g.L.Line.traffic c.write_frames.new.line)) c.deref.ensures.value c.in_default.ensures.written)
 
 pub returns-in_err-slots-clause-calls : goal.returns-in_err-slots-clause-calls

@@ -43,7 +43,7 @@ pub loop-alloc-preserved : goal.loop-alloc-preserved
 loop-alloc-preserved g c = record {
   waits = waits-more c.args.requests.now c.args.first c.args.self.now c.loop-alloc.self c.hear.new.self (g.L.Line.traffic c.args.line.now) (g.L.Line.traffic c.loop-alloc.line) (g.L.Line.traffic c.hear.new.line)
       c.args.reads.now c.loop-alloc.reads c.hear.new.reads c.loop-alloc.slots.items c.args.moment c.loop-alloc.invariant.waits c.in_ok-event.event c.in_ok-event.ensures.hears c.client_goes_on.ensures c.calls_are_told_once.ensures
-      c.place_reply.new.slots.items c.in_ok-place_reply.ensures.count c.in_ok-place_reply.ensures.fills;
+      c.place_reply.new.slots.items c.in_ok-place_reply.ensures.count (subst (λ (ss : List (Option Reply)). list_any is_none ss ≡ true) c.deref.ensures.value (sym c.is_waiting.ensures ∙ c.loop-alloc-test.true)) c.in_ok-place_reply.ensures.fills;
   same = ◌∙◌ {b = g.L.Line.failures c.loop-alloc.line} c.in_ok-event.ensures.failed c.loop-alloc.invariant.same;
 }
 
