@@ -12,6 +12,7 @@ mod Events
 mod Standing
 mod Exchanges
 mod Pendings
+mod Keeping
 mod Advancing
 mod Turning
 mod Handling
