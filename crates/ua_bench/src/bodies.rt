@@ -6,6 +6,7 @@ use bytes::Bytes;
 use std::alloc::Global;
 use std::marker::Model;
 use ua_builtin::{Octets, Parts};
+use ua_chunk::{Lane, cut};
 use ua_services::{read_request, read_response, write_request, write_response};
 
 /// A body, as the one part of a message.
@@ -118,6 +119,32 @@ pub fn write_requests(alloc: Global, octets: &[u8], times: u32) -> Result<u64, F
         out.clear();
         write_request(&request, &mut out)?;
         sum = sum.wrapping_add(out.len() as u64);
+    }
+    Ok(sum)
+}
+
+/// A lane of chunks of 8,192 octets, without limits.
+const LANE: Lane = Lane {
+    channel: 1,
+    token: 1,
+    room: 8168,
+    octets: 0,
+    chunks: 0,
+};
+
+/// Cuts a body into chunks so many times; how many octets they have.
+pub fn cut_bodies(alloc: Global, octets: &[u8], times: u32) -> Result<u64, Fault> {
+    if octets.is_empty() {
+        return Err(Fault::Value);
+    }
+    let mut out = Vec::new(alloc);
+    let mut sum = 0u64;
+    for _ in 0..times {
+        out.clear();
+        match cut(&LANE, octets, 1, 1, &mut out) {
+            Ok(_) => sum = sum.wrapping_add(out.len() as u64),
+            Err(_) => return Err(Fault::Memory),
+        }
     }
     Ok(sum)
 }

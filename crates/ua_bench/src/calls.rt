@@ -1,12 +1,12 @@
 //! Calls of a client over a line over memory, from which all answers come.
 
 use crate::fault::Fault;
-use crate::given::{Given, MOMENT, limits, text};
+use crate::given::{Given, MOMENT, limits, request_of, text};
 use std::alloc::Global;
-use ua_builtin::{Octets, Wire};
+use ua_builtin::Wire;
 use ua_channel::MemoryLine;
 use ua_client::{Client, ClientFault, Reply};
-use ua_services::{Request, read_request};
+use ua_services::Request;
 
 /// How many calls of a group there are.
 const GROUP: usize = 64;
@@ -40,14 +40,6 @@ fn begin(alloc: Global, line: &mut MemoryLine) -> Result<Client, Fault> {
     match client.begin_session(line, MOMENT) {
         Ok(_token) => Ok(client),
         Err(fault) => Err(of_call(fault)),
-    }
-}
-
-/// The request of a body.
-fn request_of(alloc: Global, body: &[u8]) -> Result<Request, Fault> {
-    match read_request(alloc, &mut Octets::new(body)) {
-        Ok(request) => Ok(request),
-        Err(_) => Err(Fault::Value),
     }
 }
 

@@ -3,8 +3,9 @@
 use crate::fault::Fault;
 use std::alloc::Global;
 use std::str;
-use ua_builtin::{DateTime, UaString};
+use ua_builtin::{DateTime, Octets, UaString};
 use ua_frame::Limits;
+use ua_services::{Request, read_request};
 
 /// The moment of each call and answer.
 pub const MOMENT: DateTime = DateTime {
@@ -46,6 +47,14 @@ impl Given {
 /// The limits of an end.
 pub fn limits() -> Result<Limits, Fault> {
     Limits::new(65535, 65535, 1_048_576, 256).ok_or(Fault::Value)
+}
+
+/// The request of a body.
+pub fn request_of(alloc: Global, body: &[u8]) -> Result<Request, Fault> {
+    match read_request(alloc, &mut Octets::new(body)) {
+        Ok(request) => Ok(request),
+        Err(_) => Err(Fault::Value),
+    }
 }
 
 /// A text.

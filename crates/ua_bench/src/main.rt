@@ -8,6 +8,7 @@ mod bodies;
 mod calls;
 mod fault;
 mod given;
+mod nodes;
 mod streams;
 mod work;
 

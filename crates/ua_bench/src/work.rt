@@ -1,9 +1,10 @@
 //! The pieces of work.
 
-use crate::bodies::{read_requests, read_responses, write_requests, write_responses};
+use crate::bodies::{cut_bodies, read_requests, read_responses, write_requests, write_responses};
 use crate::calls::{call, call_groups};
 use crate::fault::Fault;
 use crate::given::Given;
+use crate::nodes::{load_nodes, read_items};
 use crate::streams::{answer_messages, dissect_octets, read_frames, take_messages};
 use std::alloc::Global;
 use ua_builtin::{MOST_LEVELS, Octets, Source, Wire};
@@ -30,6 +31,12 @@ pub enum Work {
     WriteResponseBody,
     ReadRequestBody,
     WriteRequestBody,
+    /// Loads a node file.
+    Load,
+    /// Reads the items of a Read from the nodes of a node file.
+    ReadItem,
+    /// Cuts a body into chunks.
+    Cut,
     /// Reads frames.
     Frames,
     /// Takes messages at a server's channel.
@@ -59,6 +66,9 @@ impl Work {
             "write-response-body" => Some(Work::WriteResponseBody),
             "read-request-body" => Some(Work::ReadRequestBody),
             "write-request-body" => Some(Work::WriteRequestBody),
+            "load" => Some(Work::Load),
+            "read-item" => Some(Work::ReadItem),
+            "cut" => Some(Work::Cut),
             "frames" => Some(Work::Frames),
             "channel" => Some(Work::Channel),
             "step" => Some(Work::Step),
@@ -85,6 +95,9 @@ impl Work {
             Work::WriteResponseBody => write_responses(alloc, octets, times),
             Work::ReadRequestBody => read_requests(alloc, octets, times),
             Work::WriteRequestBody => write_requests(alloc, octets, times),
+            Work::Load => load_nodes(alloc, octets, times),
+            Work::ReadItem => read_items(alloc, given, times),
+            Work::Cut => cut_bodies(alloc, octets, times),
             Work::Frames => read_frames(alloc, octets, times),
             Work::Channel => take_messages(alloc, octets, times),
             Work::Step => answer_messages(alloc, given, times),
