@@ -8,11 +8,18 @@ use ua_octets::Parts;
 
 /// A message: the bodies of its chunks that are not empty, in order and as they came. Its octets
 /// are these, joined.
-#[derive(Drop)]
 pub struct Message {
     parts: HeldParts,
     /// How many octets they have together.
     len: usize,
+}
+
+// By hand, so that a crate that lets a message go calls this, and proves nothing of what lies in it.
+impl Drop for Message {
+    fn drop(self) {
+        let Message { parts, len: _ } = self;
+        drop(parts);
+    }
 }
 
 impl Model for Message {
