@@ -18,10 +18,11 @@ use Rattle.ua_server.specs.Said.{Course, say, left, said, used_in, is_answered}
 use Rattle.ua_server.specs.Served.{channel_in}
 use Rattle.ua_server.specs.Happening.{Event, noted_in}
 use Rattle.ua_server.specs.Requests.{requests}
-use Rattle.ua_server.specs.Serving.{moments_in, most_gathered, Answer, AreFew, Refusal}
-use Rattle.ua_server.specs.ServingParts.{AdvancesTo, Ends, Gathers, Owes, Pending, Starves, Unmade, is_there, noted}
+use Rattle.ua_server.specs.Serving.{moments_in, Answer, BrokenOff, Refusal}
+use Rattle.ua_server.specs.ServingParts.{AdvancesTo, Ends, FailsTelling, Keeps, Owes, Pending, is_there, noted}
 use Rattle.ua_server.specs.State.{State}
-use Rattle.ua_server.specs.Stepping.{AdvanceBy, LeftByMessage, Stands, StepAnswers, StepBy, Stops, Tells, given_up, spent}
+use Rattle.ua_server.specs.Stepping.{AdvanceBy, Stands, StepAnswers, StepBy, Stops, Tells, given_up, spent}
+use Rattle.ua_server.specs.declared.serve_fault.ServeFault.TheVariants as serve_fault
 use Rattle.ua_server.specs.declared.server.Server.{Server}
 use Rattle.ua_server.specs.declared.serving.Serving.{Serving}
 use Rattle.ua_server.specs.declared.step.End.{End as Ending}
@@ -30,7 +31,7 @@ use Rattle.ua_server.specs.declared.step.StepFault.{StepFault}
 use Rattle.ua_server.specs.declared.step.StepFault.TheVariants as step_fault
 use Rattle.ua_server.specs.declared.watch.AnsweredRequest.{AnsweredRequest}
 use Rattle.ua_server.proofs.Happened.{moments-append, noted-append}
-use Rattle.ua_server.proofs.Pendings.{pending-on, answered-as, requests-as}
+use Rattle.ua_server.proofs.Pendings.{pending-on, pending-unwritten, answered-as, requests-as}
 use Rattle.ua_server.proofs.RequestsInParts.{requests-silent, requests-closed, requests-more}
 use Rattle.ua_server.proofs.SaidInParts.{used_in-append, left-append, said-more}
 use Rattle.ua_server.proofs.Steps.{left-quiet, said-silent, used-quiet, course, left-agreement, left-course, agreed-quiet, left-one, said-one}
@@ -90,16 +91,10 @@ asked-used told id token octets used m e =
     let l = length-append used (m ∷ []) in
     (omega (arith, e, u, l), omega (arith, e, u, l))
 
-used-front : (told whole gathered : List Told) (n : ℕ) → told ≡ whole ++ gathered → n ≡ used_in told → used_in whole ≤ n
-used-front told whole gathered n e h = let same = ap used_in e in omega (arith, h, same, used_in-append whole gathered)
-
-few-behind : (a b w k : ℕ) → a ≡ w + k → b ≡ w → k < most_gathered → a < b + most_gathered
-few-behind a b w k p q h = omega (arith, p, q, h)
-
 module _ (x : Serving) (server : Server) (m : DateTime) (piece read written : List ℕ) (given ts : List Event) (first now0 now1 : State)
     (lim : limits_of (channel_in server) ≡ limits_of (channel_in x.server)) (chan : channel_of (channel_in server) ≡ channel_of (channel_in x.server))
     (asked : listed x.moment ++ moments_in ts ≡ m ∷ [])
-    (kept-so : Gathers x (limits_of (channel_in x.server)) (channel_of (channel_in x.server)) first read written given now0) where
+    (o : Keeps x (limits_of (channel_in x.server)) (channel_of (channel_in x.server)) first read written given now0) where
   abbrev l : Limits
   l = limits_of (channel_in x.server)
 
@@ -111,13 +106,6 @@ module _ (x : Serving) (server : Server) (m : DateTime) (piece read written : Li
 
   abbrev y : Serving
   y = record x { server = server; moment = Some m }
-
-  -- what it owes before the step, and the answers that are kept
-  abbrev o : Owes x l c first read x.out.items written given now0
-  o = kept-so.owes
-
-  abbrev kept-octets : List ℕ
-  kept-octets = x.out.items
 
   moments-are : moments_in (given ++ ts) ≡ o.used ++ m ∷ []
   moments-are = moments-append given ts
@@ -139,11 +127,11 @@ module _ (x : Serving) (server : Server) (m : DateTime) (piece read written : Li
   events-here : (frames : List Frame) (told : List Told) → events (rules_of ch) frames ≡ told → events (server_rules l c) frames ≡ told
   events-here frames told e = ap (λ (R : Rules Told ℕ). events R frames) (sym rules-here) ∙ e
 
-  all-said : said c first o.told Going o.used ≡ written ++ kept-octets
-  all-said = o.said_is
+  all-said : said c first o.told Going o.used ≡ written
+  all-said = o.said_is ∙ append-nil written
 
-  said-more-here : (out said_now : List ℕ) → said_now ≡ said c first o.told Going o.used ++ out → said_now ≡ written ++ (kept-octets ++ out)
-  said-more-here out said_now e = e ∙ (ap (λ (w : List ℕ). w ++ out) all-said ∙ append_assoc written kept-octets out)
+  said-more-here : (out said_now : List ℕ) → said_now ≡ said c first o.told Going o.used ++ out → said_now ≡ written ++ out
+  said-more-here out said_now e = e ∙ ap (λ (w : List ℕ). w ++ out) all-said
 
   used-here : (q : List ℕ) → length o.used ≡ used_in (o.told ++ given_up q)
   used-here q = o.stands.used ∙ sym (used-quiet o.told q)
@@ -151,35 +139,10 @@ module _ (x : Serving) (server : Server) (m : DateTime) (piece read written : Li
   room : (q : List ℕ) → used_in (o.told ++ given_up q) ≤ length o.used
   room q = enough-used (used_in o.told) (used_in (o.told ++ given_up q)) (length o.used) (used-quiet o.told q) o.stands.used
 
-  -- what is gathered behind what is answered whole
-  before-whole : (q : List ℕ) → o.told ++ given_up q ≡ o.whole ++ (o.gathered ++ given_up q)
-  before-whole q = ap (λ (t : List Told). t ++ given_up q) o.told_is ∙ append_assoc o.whole o.gathered (given_up q)
-
-  told-whole : (q : List ℕ) (more : List Told) → (o.told ++ given_up q) ++ more ≡ o.whole ++ ((o.gathered ++ given_up q) ++ more)
-  told-whole q more = ap (λ (t : List Told). t ++ more) (before-whole q) ∙ append_assoc o.whole (o.gathered ++ given_up q) more
-
-  whole-room : used_in o.whole ≤ length o.used
-  whole-room = used-front o.told o.whole o.gathered (length o.used) o.told_is o.stands.used
-
-  -- all that is written is said of what is answered whole, with moments more
-  whole-more : (extra : List DateTime) → written ≡ said c first o.whole Going (o.used ++ extra)
-  whole-more extra = o.whole_is ∙ sym (said-more c first o.whole Going o.used extra whole-room)
-
-  whole-before : (extra : List DateTime) → written ≡ said c first o.whole Going (o.used ++ extra) ++ []
-  whole-before extra = whole-more extra ∙ sym (append-nil (said c first o.whole Going (o.used ++ extra)))
-
   -- all that was said behind messages that were given up, with moments more
-  said-kept : (q : List ℕ) (extra : List DateTime) → said c first (o.told ++ given_up q) Going (o.used ++ extra) ≡ written ++ kept-octets
-  said-kept q extra = said-more c first (o.told ++ given_up q) Going o.used extra (room q) ∙ (said-silent c first o.told q o.used ∙ all-said)
-
-  few-before : (q : List ℕ) (extra : List DateTime) → AreFew c first (o.used ++ extra) o.whole (o.told ++ given_up q)
-  few-before q extra =
-      few-behind (length (said c first (o.told ++ given_up q) Going (o.used ++ extra))) (length (said c first o.whole Going (o.used ++ extra))) (length written) (length kept-octets)
-      (ap length (said-kept q extra) ∙ length-append written kept-octets) (ap length (sym (whole-more extra))) kept-so.few
-
-  -- nothing stands behind what is kept
-  kept-alone : (out : List ℕ) → out ≡ [] → kept-octets ≡ kept-octets ++ out
-  kept-alone out none = sym (ap (λ (w : List ℕ). kept-octets ++ w) none ∙ append-nil kept-octets)
+  said-before : (q : List ℕ) (extra : List DateTime) → written ≡ said c first (o.told ++ given_up q) Going (o.used ++ extra) ++ []
+  said-before q extra = sym (append-nil (said c first (o.told ++ given_up q) Going (o.used ++ extra))
+      ∙ (said-more c first (o.told ++ given_up q) Going o.used extra (room q) ∙ (said-silent c first o.told q o.used ∙ all-said)))
 
   state-here : (q : List ℕ) → (left c first (o.told ++ given_up q) o.used).state ≡ now0
   state-here q = ap (λ (d : Course). d.state) (left-quiet c first o.told q o.used) ∙ o.stands.state_is
@@ -199,7 +162,7 @@ module _ (x : Serving) (server : Server) (m : DateTime) (piece read written : Li
   on-silent : noted_in ts ≡ [] → (n : ℕ) (out q : List ℕ) (more : List Told) → false ≡ has_some more → Stops ch read piece n out (o.told ++ given_up q) more
       → Stands ch (read ++ take n piece) ((o.told ++ given_up q) ++ more) first (o.used ++ spent more m) now1
       → said c first ((o.told ++ given_up q) ++ more) Going (o.used ++ spent more m) ≡ said c first o.told Going o.used ++ out
-      → Owes y l c first (read ++ take n piece) (kept-octets ++ out) written (given ++ ts) now1
+      → Owes y l c first (read ++ take n piece) out written (given ++ ts) now1
   on-silent no_request n out q [] none stops stands said_is =
       let ds = append-nil (o.told ++ given_up q) in
       let us = append-nil o.used in
@@ -220,16 +183,12 @@ module _ (x : Serving) (server : Server) (m : DateTime) (piece read written : Li
         requests_are = noted-told no_request ∙ sym (
             ap (λ (u : List DateTime). requests c first ((o.told ++ given_up q) ++ []) u) us
             ∙ (ap (λ (d : List Told). requests c first d o.used) ds ∙ requests-silent c first o.told q o.used));
-        whole = o.whole;
-        gathered = (o.gathered ++ given_up q) ++ [];
-        told_is = told-whole q [];
-        whole_is = whole-more [];
         pending =
-            subst (λ (rs : List AnsweredRequest). Pending rs l c first (read ++ take n piece) (kept-octets ++ out) written (o.used ++ []) now1) (sym (noted-before no_request))
-            (subst (λ (u : List DateTime). Pending (noted_in given) l c first (read ++ take n piece) (kept-octets ++ out) written u now1) (sym us)
-            (subst (λ (s : State). Pending (noted_in given) l c first (read ++ take n piece) (kept-octets ++ out) written o.used s) same
-            (subst (λ (w : List ℕ). Pending (noted_in given) l c first (read ++ take n piece) w written o.used now0) (kept-alone out stops.1)
-            (pending-on l c first (noted_in given) read (take n piece) kept-octets written o.used now0 o.pending))));
+            subst (λ (rs : List AnsweredRequest). Pending rs l c first (read ++ take n piece) out written (o.used ++ []) now1) (sym (noted-before no_request))
+            (subst (λ (u : List DateTime). Pending (noted_in given) l c first (read ++ take n piece) out written u now1) (sym us)
+            (subst (λ (s : State). Pending (noted_in given) l c first (read ++ take n piece) out written o.used s) same
+            (subst (λ (w : List ℕ). Pending (noted_in given) l c first (read ++ take n piece) w written o.used now0) (sym stops.1)
+            (pending-on l c first (noted_in given) read (take n piece) [] written o.used now0 o.pending))));
       }
   on-silent no_request n out q (t ∷ more) none stops stands said_is = absurd cc
 
@@ -238,7 +197,7 @@ module _ (x : Serving) (server : Server) (m : DateTime) (piece read written : Li
       → Stands ch (read ++ take n piece) ((o.told ++ given_up q) ++ more) first (o.used ++ spent more m) now1
       → said c first ((o.told ++ given_up q) ++ more) Going (o.used ++ spent more m) ≡ said c first o.told Going o.used ++ out
       → requests c first ((o.told ++ given_up q) ++ more) (o.used ++ spent more m) ≡ requests c first o.told o.used ++ listed request
-      → Owes (noted y) l c first (read ++ take n piece) (kept-octets ++ out) written (given ++ ts) now1
+      → Owes (noted y) l c first (read ++ take n piece) out written (given ++ ts) now1
   on-saying request telling n out q [] some stops stands said_is asks = absurd cc
   on-saying request telling n out q (t ∷ (u ∷ more)) some stops stands said_is asks = absurd stops
   on-saying request telling n out q (t ∷ []) some stops stands said_is asks =
@@ -263,10 +222,6 @@ module _ (x : Serving) (server : Server) (m : DateTime) (piece read written : Li
         count_is = o.count_is;
         said_is = said-more-here out _ said_is;
         requests_are = requests-then _ _ (listed request) telling asks;
-        whole = o.whole;
-        gathered = (o.gathered ++ given_up q) ++ t ∷ [];
-        told_is = told-whole q (t ∷ []);
-        whole_is = whole-more (spent (t ∷ []) m);
         pending = record {
           front = read ++ take n piece;
           behind = [];
@@ -284,24 +239,20 @@ module _ (x : Serving) (server : Server) (m : DateTime) (piece read written : Li
           state_is = ap (λ (k : ℕ). (left k first ((o.told ++ given_up q) ++ t ∷ []) (o.used ++ spent (t ∷ []) m)).state) (sym chan) ∙ stands.state_is;
           all_used = stands.used;
           requests_are = requests-then _ _ (listed request) telling asks;
-          whole = o.whole;
-          gathered = o.gathered ++ given_up q;
-          before_is = before-whole q;
-          few = few-before q (spent (t ∷ []) m);
           part = [];
-          written_is = whole-before (spent (t ∷ []) m);
+          written_is = said-before q (spent (t ∷ []) m);
           said_is = said-more-here out _ said_is;
         };
       }
 
   -- the connection ends
-  on-end : noted_in ts ≡ [] → (end : Ending) (n : ℕ) (out : List ℕ) → StepBy c m piece (Some end) n out ch read o.told first o.used now0 now1 → Ends y end l c first (read ++ take n piece) (kept-octets ++ out) written (given ++ ts) now1
+  on-end : noted_in ts ≡ [] → (end : Ending) (n : ℕ) (out : List ℕ) → StepBy c m piece (Some end) n out ch read o.told first o.used now0 now1 → Ends y end l c first (read ++ take n piece) out written (given ++ ts) now1
   on-end no_request ending.Closed n out s = record {
     count_is = o.count_is;
     ends = record {
       frames = s.closed.frames;
       rest = [];
-      to = answered-as l c first (read ++ take n piece) (written ++ (kept-octets ++ out)) s.closed.frames [] Over ((o.told ++ given_up s.quiet) ++ Closed ∷ []) o.used (m ∷ []) (moments_in (given ++ ts)) now1
+      to = answered-as l c first (read ++ take n piece) (written ++ out) s.closed.frames [] Over ((o.told ++ given_up s.quiet) ++ Closed ∷ []) o.used (m ∷ []) (moments_in (given ++ ts)) now1
           moments-are one-kept (run-here (read ++ take n piece) s.closed.frames [] Over s.closed.run) (events-here s.closed.frames _ s.closed.told_is)
           (sym (said-more-here out _ s.out_is)) s.left_is (close-used (o.told ++ given_up s.quiet) (length o.used) (used-here s.quiet));
     };
@@ -313,17 +264,17 @@ module _ (x : Serving) (server : Server) (m : DateTime) (piece read written : Li
     moments_are = moments-are;
     one = one-kept;
     pending =
-        subst (λ (rs : List AnsweredRequest). Pending rs l c first (read ++ take n piece) (kept-octets ++ out) written o.used now1) (sym (noted-before no_request))
-        (subst (λ (z : State). Pending (noted_in given) l c first (read ++ take n piece) (kept-octets ++ out) written o.used z) (sym s.state_is)
-        (subst (λ (w : List ℕ). Pending (noted_in given) l c first (read ++ take n piece) w written o.used now0) (kept-alone out s.silent)
-        (pending-on l c first (noted_in given) read (take n piece) kept-octets written o.used now0 o.pending)));
+        subst (λ (rs : List AnsweredRequest). Pending rs l c first (read ++ take n piece) out written o.used now1) (sym (noted-before no_request))
+        (subst (λ (z : State). Pending (noted_in given) l c first (read ++ take n piece) out written o.used z) (sym s.state_is)
+        (subst (λ (w : List ℕ). Pending (noted_in given) l c first (read ++ take n piece) w written o.used now0) (sym s.silent)
+        (pending-on l c first (noted_in given) read (take n piece) [] written o.used now0 o.pending)));
   }
   on-end no_request (ending.Refused code) n out s = record {
     count_is = o.count_is;
     ends = record {
       frames = s.refused.frames;
       rest = s.refused.rest;
-      to = answered-as l c first (read ++ take n piece) (written ++ (kept-octets ++ out)) s.refused.frames s.refused.rest (Stopped code.code) (o.told ++ given_up s.quiet) o.used (m ∷ []) (moments_in (given ++ ts)) now1
+      to = answered-as l c first (read ++ take n piece) (written ++ out) s.refused.frames s.refused.rest (Stopped code.code) (o.told ++ given_up s.quiet) o.used (m ∷ []) (moments_in (given ++ ts)) now1
           moments-are one-kept (run-here (read ++ take n piece) s.refused.frames s.refused.rest (Stopped code.code) s.refused.run) (events-here s.refused.frames _ s.refused.told_is)
           (sym (said-more-here out _ s.out_is)) s.left_is (used-here s.quiet);
     };
@@ -349,12 +300,8 @@ module _ (x : Serving) (server : Server) (m : DateTime) (piece read written : Li
       state_is = ap (λ (d : List Told). (left c first d o.used).state) (append-nil (o.told ++ given_up s.quiet)) ∙ s.left_is;
       all_used = plain-used (o.told ++ given_up s.quiet) (length o.used) (used-here s.quiet);
       requests_are = noted-told no_request ∙ sym (ap (λ (d : List Told). requests c first d o.used) (append-nil (o.told ++ given_up s.quiet)) ∙ requests-silent c first o.told s.quiet o.used);
-      whole = o.whole;
-      gathered = o.gathered ++ given_up s.quiet;
-      before_is = before-whole s.quiet;
-      few = subst (λ (u : List DateTime). AreFew c first u o.whole (o.told ++ given_up s.quiet)) (append-nil o.used) (few-before s.quiet []);
       part = [];
-      written_is = o.whole_is ∙ sym (append-nil (said c first o.whole Going o.used));
+      written_is = said-before s.quiet [] ∙ ap (λ (u : List DateTime). said c first (o.told ++ given_up s.quiet) Going u ++ []) (append-nil o.used);
       said_is = ap (λ (d : List Told). said c first d (Stopped code.code) o.used) (append-nil (o.told ++ given_up s.quiet)) ∙ said-more-here out _ s.out_is;
     };
   }
@@ -362,63 +309,48 @@ module _ (x : Serving) (server : Server) (m : DateTime) (piece read written : Li
   on-end no_request ending.Cut n out s = absurd s
 
   -- what became of the first octets of the piece
-  pub advanced-quiet : (request : Option AnsweredRequest) → noted_in ts ≡ [] → (end : Option Ending) (n : ℕ) (out : List ℕ) → AdvanceBy false request c m piece end n out ch read o.told first o.used now0 now1 → AdvancesTo end y l c first (read ++ take n piece) (kept-octets ++ out) written (given ++ ts) now1
+  pub advanced-quiet : (request : Option AnsweredRequest) → noted_in ts ≡ [] → (end : Option Ending) (n : ℕ) (out : List ℕ) → AdvanceBy false request c m piece end n out ch read o.told first o.used now0 now1 → AdvancesTo end y l c first (read ++ take n piece) out written (given ++ ts) now1
   advanced-quiet request no_request None n out t = on-silent no_request n out t.goes.quiet t.goes.more t.answered_is t.goes.stops t.goes.stands t.goes.out_is
   advanced-quiet request no_request (Some end) n out t = on-end no_request end n out t.0
 
-  pub advanced-saying : (request : Option AnsweredRequest) → noted_in ts ≡ listed request → (end : Option Ending) (n : ℕ) (out : List ℕ) → AdvanceBy true request c m piece end n out ch read o.told first o.used now0 now1 → AdvancesTo end (noted y) l c first (read ++ take n piece) (kept-octets ++ out) written (given ++ ts) now1
+  pub advanced-saying : (request : Option AnsweredRequest) → noted_in ts ≡ listed request → (end : Option Ending) (n : ℕ) (out : List ℕ) → AdvanceBy true request c m piece end n out ch read o.told first o.used now0 now1 → AdvancesTo end (noted y) l c first (read ++ take n piece) out written (given ++ ts) now1
   advanced-saying request telling None n out t = on-saying request telling n out t.goes.quiet t.goes.more t.answered_is t.goes.stops t.goes.stands t.goes.out_is t.requests_are
   advanced-saying request telling (Some end) n out t = absurd cc
 
   -- memory was refused
-  broken-on : noted_in ts ≡ [] → now1 ≡ now0 → Starves y l c first (read ++ piece) kept-octets written (given ++ ts) now1
-  broken-on no_request e = record {
-    count_is = o.count_is;
-    used = o.used;
-    spare = m ∷ [];
-    moments_are = moments-are;
-    one = one-kept;
-    by = inl
-        (subst (λ (rs : List AnsweredRequest). Pending rs l c first (read ++ piece) kept-octets written o.used now1) (sym (noted-before no_request))
-        (subst (λ (z : State). Pending (noted_in given) l c first (read ++ piece) kept-octets written o.used z) (sym e) (pending-on l c first (noted_in given) read piece kept-octets written o.used now0 o.pending)));
-  }
+  broken-on : noted_in ts ≡ [] → now1 ≡ now0 → FailsTelling serve_fault.OutOfMemory l c first (read ++ piece) written (given ++ ts) now1
+  broken-on no_request e =
+      let broken = pending-unwritten l c first (noted_in (given ++ ts)) (read ++ piece) [] written o.used (m ∷ []) (moments_in (given ++ ts)) now1 moments-are one-kept
+      (subst (λ (rs : List AnsweredRequest). Pending rs l c first (read ++ piece) [] written o.used now1) (sym (noted-before no_request))
+      (subst (λ (z : State). Pending (noted_in given) l c first (read ++ piece) [] written o.used z) (sym e) (pending-on l c first (noted_in given) read piece [] written o.used now0 o.pending))) in
+      record { fails = (broken.0, inr broken.1); tells = inr (broken.1, broken.2) }
 
-  -- the answer to a message was not made
-  unmade : noted_in ts ≡ [] → LeftByMessage l c m piece read o.told now0 now1 → Unmade (noted_in (given ++ ts)) l c first (read ++ piece) kept-octets written (o.used ++ m ∷ []) now1
-  unmade no_request by =
+  pub advanced-broken : noted_in ts ≡ [] → (f : StepFault) → StepAnswers l c m piece (Err f) ch read o.told first o.used now0 now1 → FailsTelling serve_fault.OutOfMemory l c first (read ++ piece) written (given ++ ts) now1
+  advanced-broken no_request step_fault.Closed s = absurd s
+  advanced-broken no_request step_fault.OutOfMemory (done, inl e) = broken-on no_request e
+  advanced-broken no_request step_fault.OutOfMemory (done, inr by) =
       let w = by.ends in
       let before = o.told ++ given_up w.quiet in
       let t = Asked w.id w.token by.message in
       let behind : left c first before o.used ≡ course now0 (next_of (channel_in x.server)) [] (agreed_by o.told) = left-quiet c first o.told w.quiet o.used ∙ left-course (channel_in x.server) read o.told first o.used now0 o.stands in
-      record {
-        front = read ++ take w.n piece;
-        behind = drop w.n piece;
-        front_is = sym (append_assoc read (take w.n piece) (drop w.n piece) ∙ ap (λ (p : List ℕ). read ++ p) (take-append-drop w.n piece));
-        before = before;
-        message = t;
-        ends = record { frames = w.frames; frame = w.frame; run = w.run; told_is = w.told_is; tells = w.tells; answered = refl };
-        state_is = ap (λ (d : Course). d.state) (left-one c first before t o.used (m ∷ []) (course now0 (next_of (channel_in x.server)) [] (agreed_by o.told)) behind (room w.quiet)) ∙ sym by.now_is;
-        asked = asked-used before w.id w.token by.message o.used m (used-here w.quiet);
-        requests_are = noted-told no_request ∙ sym (requests-more c first before o.used (m ∷ []) (room w.quiet) ∙ requests-silent c first o.told w.quiet o.used);
-        whole = o.whole;
-        gathered = o.gathered ++ given_up w.quiet;
-        before_is = before-whole w.quiet;
-        few = few-before w.quiet (m ∷ []);
-        written_is = whole-more (m ∷ []);
-        kept_is = said-kept w.quiet (m ∷ []);
-        answer = (say c (course now0 (next_of (channel_in x.server)) (m ∷ []) (agreed_by o.told)) t).0;
-        said_is = said-one c first before t o.used (m ∷ []) (course now0 (next_of (channel_in x.server)) [] (agreed_by o.told)) behind (room w.quiet)
-            ∙ ap (λ (s : List ℕ). s ++ (say c (course now0 (next_of (channel_in x.server)) (m ∷ []) (agreed_by o.told)) t).0) (said-silent c first o.told w.quiet o.used ∙ all-said);
-      }
-
-  pub advanced-broken : noted_in ts ≡ [] → (f : StepFault) → StepAnswers l c m piece (Err f) ch read o.told first o.used now0 now1 → Starves y l c first (read ++ piece) kept-octets written (given ++ ts) now1
-  advanced-broken no_request step_fault.Closed s = absurd s
-  advanced-broken no_request step_fault.OutOfMemory (done, inl e) = broken-on no_request e
-  advanced-broken no_request step_fault.OutOfMemory (done, inr by) = record {
-    count_is = o.count_is;
-    used = o.used;
-    spare = m ∷ [];
-    moments_are = moments-are;
-    one = one-kept;
-    by = inr (subst (λ (ms : List DateTime). Unmade (noted_in (given ++ ts)) l c first (read ++ piece) kept-octets written ms now1) (sym moments-are) (unmade no_request by));
-  }
+      let at : List DateTime → Type 0 = λ ms. (broken : BrokenOff l c first (read ++ piece) written ms now1) × (broken.part ≡ []) × (noted_in (given ++ ts) ≡ requests c first broken.before ms) in
+      let broken : at (moments_in (given ++ ts)) = subst at (sym moments-are) (
+        record {
+          front = read ++ take w.n piece;
+          behind = drop w.n piece;
+          front_is = sym (append_assoc read (take w.n piece) (drop w.n piece) ∙ ap (λ (p : List ℕ). read ++ p) (take-append-drop w.n piece));
+          before = before;
+          word = Answer t;
+          ends = record { frames = w.frames; frame = w.frame; run = w.run; told_is = w.told_is; tells = w.tells; answered = refl };
+          state_is = ap (λ (d : Course). d.state) (left-one c first before t o.used (m ∷ []) (course now0 (next_of (channel_in x.server)) [] (agreed_by o.told)) behind (room w.quiet)) ∙ sym by.now_is;
+          asked = asked-used before w.id w.token by.message o.used m (used-here w.quiet);
+          part = [];
+          written_is = said-before w.quiet (m ∷ []);
+          unwritten = (say c (course now0 (next_of (channel_in x.server)) (m ∷ []) (agreed_by o.told)) t).0;
+          said_is = said-one c first before t o.used (m ∷ []) (course now0 (next_of (channel_in x.server)) [] (agreed_by o.told)) behind (room w.quiet)
+              ∙ ap (λ (s : List ℕ). s ++ (say c (course now0 (next_of (channel_in x.server)) (m ∷ []) (agreed_by o.told)) t).0) (said-silent c first o.told w.quiet o.used ∙ all-said);
+        },
+        refl,
+        noted-told no_request ∙ sym (requests-more c first before o.used (m ∷ []) (room w.quiet) ∙ requests-silent c first o.told w.quiet o.used),
+      ) in
+      record { fails = (broken.0, inl broken.1); tells = inl (broken.1, broken.2) }

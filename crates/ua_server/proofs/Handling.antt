@@ -20,7 +20,7 @@ use Rattle.ua_server.specs.Served.{channel_in}
 use Rattle.ua_server.specs.Happening.{Event, Happens, noted_in}
 use Rattle.ua_server.specs.Requests.{requests}
 use Rattle.ua_server.specs.Serving.{moments_in, greatest, Answered, AnsweredTo, IsClean, Moves, ServesTelling, ServesBy, TellsAll, TellsBy}
-use Rattle.ua_server.specs.ServingParts.{EndsTelling, Exchanged, FailsTelling, Finishes, Gathers, Handles, Keeps, Reads, Turns, TurnsTo}
+use Rattle.ua_server.specs.ServingParts.{EndsTelling, Exchanged, FailsTelling, Finishes, Handles, Keeps, Reads, Turns, TurnsTo}
 use Rattle.ua_server.specs.State.{State}
 use Rattle.ua_server.specs.declared.serve_fault.ServeFault.{ServeFault}
 use Rattle.ua_server.specs.declared.serve_fault.ServeFault.TheVariants as fault
@@ -31,7 +31,7 @@ use Rattle.ua_server.specs.declared.watch.AnsweredRequest.{AnsweredRequest}
 use Rattle.ua_server.proofs.Exchanges.{told-then, told-nothing, gives-then, exchanged-then}
 use Rattle.ua_server.proofs.Passing.{rest_of, rest-is, rest-length, joined, fewer}
 use Rattle.ua_server.proofs.Pendings.{pending-unwritten, answered-as, requests-as}
-use Rattle.ua_server.proofs.Turning.{gathers-keeps, keeps-gathers, listed-one}
+use Rattle.ua_server.proofs.Turning.{listed-one}
 
 -- the same at other lists
 moved-to : (P : List ℕ → List ℕ → List Event → Type 0) (r r' w w' : List ℕ) (t t' : List Event) → r ≡ r' → w ≡ w' → t ≡ t' → P r w t → P r' w' t'
@@ -74,7 +74,7 @@ module _ (limits : Limits) (channel : ℕ) (first : State) where
   module _ {M : Type 0} (gives : M → Event → M → Type 0) (m0 : M) (la : Option Traffic) (x : Serving) (now0 : State) (piece : List ℕ) where
     -- so many octets of the piece are answered, and it goes on
     abbrev pub Handled : ℕ → M → Option Traffic → Serving → State → List ℕ → List ℕ → List Event → Type 0
-    Handled taken m lb y now read written given = Exchanged gives m0 m [] la lb (λ more ts. Gathers y limits channel first (read ++ take taken piece) (written ++ more) (given ++ ts) now)
+    Handled taken m lb y now read written given = Exchanged gives m0 m [] la lb (λ more ts. Keeps y limits channel first (read ++ take taken piece) (written ++ more) (given ++ ts) now)
 
     pub handled-nothing : (read written : List ℕ) (given : List Event) → Keeps x limits channel first read written given now0 → Handled 0 m0 la x now0 read written given
     handled-nothing read written given k = record {
@@ -82,8 +82,7 @@ module _ (limits : Limits) (channel : ℕ) (first : State) where
       ticks = [];
       moved = told-nothing la;
       given = refl;
-      holds = moved-to (λ r w t. Gathers x limits channel first r w t now0) read (read ++ []) written (written ++ []) given (given ++ []) (sym (append-nil read)) (sym (append-nil written)) (sym (append-nil given))
-          (keeps-gathers limits channel first x read written given now0 k);
+      holds = moved-to (λ r w t. Keeps x limits channel first r w t now0) read (read ++ []) written (written ++ []) given (given ++ []) (sym (append-nil read)) (sym (append-nil written)) (sym (append-nil given)) k;
     }
 
     module _ (taken : ℕ) (m m' : M) (lb lc : Option Traffic) (mid y : Serving) (now now' : State) (read written : List ℕ) (given : List Event) (so_far : Handled taken m lb mid now read written given) where
@@ -95,10 +94,10 @@ module _ (limits : Limits) (channel : ℕ) (first : State) where
           → Exchanged gives m m' [] lb lc (λ more ts. Turns (Ok (n, end)) y limits channel first (rest_of piece taken) there ((written ++ so_far.written) ++ more) ((given ++ so_far.ticks) ++ ts) now')
           → Handled (taken + n) m' lc y now' read written given
       handled-more n end is f =
-          exchanged-then gives m0 m m' [] [] la lb lc (λ more ts. Gathers mid limits channel first there (written ++ more) (given ++ ts) now)
+          exchanged-then gives m0 m m' [] [] la lb lc (λ more ts. Keeps mid limits channel first there (written ++ more) (given ++ ts) now)
           (λ more ts. Turns (Ok (n, end)) y limits channel first (rest_of piece taken) there ((written ++ so_far.written) ++ more) ((given ++ so_far.ticks) ++ ts) now')
-          (λ more ts. Gathers y limits channel first (read ++ take (taken + n) piece) (written ++ more) (given ++ ts) now') so_far f
-          (λ w ts h. moved-to (λ r u t. Gathers y limits channel first r u t now') (there ++ take n (rest_of piece taken)) (read ++ take (taken + n) piece)
+          (λ more ts. Keeps y limits channel first (read ++ take (taken + n) piece) (written ++ more) (given ++ ts) now') so_far f
+          (λ w ts h. moved-to (λ r u t. Keeps y limits channel first r u t now') (there ++ take n (rest_of piece taken)) (read ++ take (taken + n) piece)
           ((written ++ so_far.written) ++ w) (written ++ (so_far.written ++ w)) ((given ++ so_far.ticks) ++ ts) (given ++ (so_far.ticks ++ ts))
           (joined read piece taken n) (append_assoc written so_far.written w) (append_assoc given so_far.ticks ts)
           (subst (λ (e : Option Ending). TurnsTo e y limits channel first (there ++ take n (rest_of piece taken)) ((written ++ so_far.written) ++ w) ((given ++ so_far.ticks) ++ ts) now') is h))
@@ -114,7 +113,7 @@ module _ (limits : Limits) (channel : ℕ) (first : State) where
           → Exchanged gives m m' [] lb lc (λ more ts. Turns (Ok (n, end)) y limits channel first (rest_of piece taken) there ((written ++ so_far.written) ++ more) ((given ++ so_far.ticks) ++ ts) now')
           → Exchanged gives m0 m' [] la lc (λ more ts. Handles (Ok (Some e)) y limits channel first (read ++ piece) (written ++ more) (given ++ ts) now')
       handled-end n end e is f =
-          exchanged-then gives m0 m m' [] [] la lb lc (λ more ts. Gathers mid limits channel first there (written ++ more) (given ++ ts) now)
+          exchanged-then gives m0 m m' [] [] la lb lc (λ more ts. Keeps mid limits channel first there (written ++ more) (given ++ ts) now)
           (λ more ts. Turns (Ok (n, end)) y limits channel first (rest_of piece taken) there ((written ++ so_far.written) ++ more) ((given ++ so_far.ticks) ++ ts) now')
           (λ more ts. EndsTelling e limits channel first (read ++ piece) (written ++ more) (given ++ ts) now') so_far f
           (λ w ts h. moved-to (λ r u t. EndsTelling e limits channel first r u t now') ((there ++ take n (rest_of piece taken)) ++ drop n (rest_of piece taken)) (read ++ piece)
@@ -128,7 +127,7 @@ module _ (limits : Limits) (channel : ℕ) (first : State) where
           → Exchanged gives m m' [] lb lc (λ more ts. Turns (Err f) y limits channel first (rest_of piece taken) there ((written ++ so_far.written) ++ more) ((given ++ so_far.ticks) ++ ts) now')
           → Exchanged gives m0 m' [] la lc (λ more ts. Handles (Err f) y limits channel first (read ++ piece) (written ++ more) (given ++ ts) now')
       handled-fault f t =
-          exchanged-then gives m0 m m' [] [] la lb lc (λ more ts. Gathers mid limits channel first there (written ++ more) (given ++ ts) now)
+          exchanged-then gives m0 m m' [] [] la lb lc (λ more ts. Keeps mid limits channel first there (written ++ more) (given ++ ts) now)
           (λ more ts. Turns (Err f) y limits channel first (rest_of piece taken) there ((written ++ so_far.written) ++ more) ((given ++ so_far.ticks) ++ ts) now')
           (λ more ts. FailsTelling f limits channel first (read ++ piece) (written ++ more) (given ++ ts) now') so_far t
           (λ w ts h. moved-to (λ r u o. FailsTelling f limits channel first r u o now') (there ++ rest_of piece taken) (read ++ piece)
@@ -140,14 +139,13 @@ module _ (limits : Limits) (channel : ℕ) (first : State) where
       all-of h k = let same : taken ≡ length piece = omega (arith, h, k) in ap (λ (n : ℕ). take n piece) same ∙ take-length piece
 
       -- the whole piece is answered
-      pub handled-all : taken ≤ length piece → length piece ≤ taken → mid.out.items ≡ [] → Exchanged gives m0 m [] la lb (λ more ts. Handles (Ok None) mid limits channel first (read ++ piece) (written ++ more) (given ++ ts) now)
-      handled-all h k none = record {
+      pub handled-all : taken ≤ length piece → length piece ≤ taken → Exchanged gives m0 m [] la lb (λ more ts. Handles (Ok None) mid limits channel first (read ++ piece) (written ++ more) (given ++ ts) now)
+      handled-all h k = record {
         written = so_far.written;
         ticks = so_far.ticks;
         moved = so_far.moved;
         given = so_far.given;
-        holds = subst (λ (p : List ℕ). Keeps mid limits channel first (read ++ p) (written ++ so_far.written) (given ++ so_far.ticks) now) (all-of h k)
-            (gathers-keeps limits channel first mid (read ++ take taken piece) (written ++ so_far.written) (given ++ so_far.ticks) now none so_far.holds);
+        holds = subst (λ (p : List ℕ). Keeps mid limits channel first (read ++ p) (written ++ so_far.written) (given ++ so_far.ticks) now) (all-of h k) so_far.holds;
       }
 
   -- ---- a line
@@ -157,35 +155,35 @@ module _ (limits : Limits) (channel : ℕ) (first : State) where
 
   -- the frames of all that was read
   run-of : (x : Serving) (read written : List ℕ) (given : List Event) (now : State) (k : Keeps x limits channel first read written given now)
-      → Run (server_rules limits channel) read k.owes.stands.goes.frames k.owes.stands.goes.rest Going × (events (server_rules limits channel) k.owes.stands.goes.frames ≡ k.owes.told)
+      → Run (server_rules limits channel) read k.stands.goes.frames k.stands.goes.rest Going × (events (server_rules limits channel) k.stands.goes.frames ≡ k.told)
   run-of x read written given now k =
-      let g = k.owes.stands.goes in
-      let same = rules-at (channel_in x.server) k.owes.limits_is k.owes.channel_is in (
+      let g = k.stands.goes in
+      let same = rules-at (channel_in x.server) k.limits_is k.channel_is in (
         subst (λ (R : Rules Told ℕ). Run R read g.frames g.rest Going) same g.stands.run,
         ap (λ (R : Rules Told ℕ). events R g.frames) (sym same) ∙ g.told_is,
       )
 
   -- all that was read is answered
   keeps-answered : (x : Serving) (read written : List ℕ) (given : List Event) (now : State) (k : Keeps x limits channel first read written given now)
-      → AnsweredTo limits channel first read written (moments_in given) now k.owes.stands.goes.frames k.owes.stands.goes.rest Going
+      → AnsweredTo limits channel first read written (moments_in given) now k.stands.goes.frames k.stands.goes.rest Going
   keeps-answered x read written given now k =
-      let g = k.owes.stands.goes in
+      let g = k.stands.goes in
       let run = run-of x read written given now k in
-      answered-as limits channel first read written g.frames g.rest Going k.owes.told k.owes.used (listed x.moment) (moments_in given) now k.owes.moments_are (listed-one limits channel first x.moment)
+      answered-as limits channel first read written g.frames g.rest Going k.told k.used (listed x.moment) (moments_in given) now k.moments_are (listed-one limits channel first x.moment)
       run.0
       run.1
-      (sym (k.owes.said_is ∙ append-nil written))
-      (ap (λ (n : ℕ). (left n first k.owes.told k.owes.used).state) (sym k.owes.channel_is) ∙ k.owes.stands.state_is)
-      k.owes.stands.used
+      (sym (k.said_is ∙ append-nil written))
+      (ap (λ (n : ℕ). (left n first k.told k.used).state) (sym k.channel_is) ∙ k.stands.state_is)
+      k.stands.used
 
-  keeps-told : (x : Serving) (read written : List ℕ) (given : List Event) (now : State) (k : Keeps x limits channel first read written given now) → TellsAll limits channel first (moments_in given) k.owes.stands.goes.frames (noted_in given)
+  keeps-told : (x : Serving) (read written : List ℕ) (given : List Event) (now : State) (k : Keeps x limits channel first read written given now) → TellsAll limits channel first (moments_in given) k.stands.goes.frames (noted_in given)
   keeps-told x read written given now k =
-      requests-as limits channel first (noted_in given) k.owes.stands.goes.frames k.owes.told k.owes.used (listed x.moment) (moments_in given) k.owes.moments_are (run-of x read written given now k).1 k.owes.stands.used k.owes.requests_are
+      requests-as limits channel first (noted_in given) k.stands.goes.frames k.told k.used (listed x.moment) (moments_in given) k.moments_are (run-of x read written given now k).1 k.stands.used k.requests_are
 
   pub still-going : (x : Serving) (read written : List ℕ) (given : List Event) (now : State) → Keeps x limits channel first read written given now
       → (a : Answered limits channel first read written (moments_in given) now Going) × TellsAll limits channel first (moments_in given) a.frames (noted_in given)
   still-going x read written given now k = (
-    record { frames = k.owes.stands.goes.frames; rest = k.owes.stands.goes.rest; to = keeps-answered x read written given now k },
+    record { frames = k.stands.goes.frames; rest = k.stands.goes.rest; to = keeps-answered x read written given now k },
     keeps-told x read written given now k,
   )
 
@@ -197,11 +195,11 @@ module _ (limits : Limits) (channel : ℕ) (first : State) where
   pub finished : (x : Serving) (end : Ending) (read written : List ℕ) (given : List Event) (now : State) (coming : List ℕ) → Keeps x limits channel first read written given now
       → ((octets : List ℕ) (frames : List Frame) (rest : List ℕ) → Holds (channel_in x.server) octets frames rest → Finishes end frames rest) → coming ≡ []
       → ComesTo (Ok end) read written given now coming
-  finished x end read written given now coming k by none = by-end end (by read k.owes.stands.goes.frames k.owes.stands.goes.rest k.owes.stands.goes.stands)
+  finished x end read written given now coming k by none = by-end end (by read k.stands.goes.frames k.stands.goes.rest k.stands.goes.stands)
     where
-      by-end : (e : Ending) → Finishes e k.owes.stands.goes.frames k.owes.stands.goes.rest → ComesTo (Ok e) read written given now coming
-      by-end ending.NoClose h = (record { frames = k.owes.stands.goes.frames; rest = k.owes.stands.goes.rest; to = keeps-answered x read written given now k; none = none; stands = h }, keeps-told x read written given now k)
-      by-end ending.Cut h = (record { frames = k.owes.stands.goes.frames; rest = k.owes.stands.goes.rest; to = keeps-answered x read written given now k; none = none; stands = h }, keeps-told x read written given now k)
+      by-end : (e : Ending) → Finishes e k.stands.goes.frames k.stands.goes.rest → ComesTo (Ok e) read written given now coming
+      by-end ending.NoClose h = (record { frames = k.stands.goes.frames; rest = k.stands.goes.rest; to = keeps-answered x read written given now k; none = none; stands = h }, keeps-told x read written given now k)
+      by-end ending.Cut h = (record { frames = k.stands.goes.frames; rest = k.stands.goes.rest; to = keeps-answered x read written given now k; none = none; stands = h }, keeps-told x read written given now k)
       by-end ending.Closed h = absurd h
       by-end (ending.Refused code) h = absurd h
 
@@ -261,7 +259,7 @@ module _ (limits : Limits) (channel : ℕ) (first : State) where
     serves-nothing la x now k =
         served m0 [] la la (Err fault.OutOfMemory) now (λ w ts. Keeps x limits channel first [] w ts now) (record { written = []; ticks = []; moved = told-nothing la; given = refl; holds = k })
         (λ b w ts is h.
-        let broken = pending-unwritten limits channel first (noted_in ts) [] [] w h.owes.used (listed x.moment) (moments_in ts) now h.owes.moments_are (listed-one limits channel first x.moment) h.owes.pending in
+        let broken = pending-unwritten limits channel first (noted_in ts) [] [] w h.used (listed x.moment) (moments_in ts) now h.moments_are (listed-one limits channel first x.moment) h.pending in
         ((broken.0, inr broken.1), inr (broken.1, broken.2)))
 
     -- a read is handed out
@@ -344,7 +342,3 @@ module _ (limits : Limits) (channel : ℕ) (first : State) where
 -- less of a piece is left behind a turn
 pub turns-fewer : (piece : List ℕ) (taken n : ℕ) → taken < length piece → n ≤ length (rest_of piece taken) → (0 < length (rest_of piece taken) → 0 < n) → length piece - (taken + n) < length piece - taken
 turns-fewer piece taken n h k some = fewer (length piece) taken n (length (rest_of piece taken)) h (rest-length piece taken) k some
-
--- none is left behind the last turn
-pub turns-last : (piece : List ℕ) (taken n : ℕ) → length piece ≤ taken + n → length (rest_of piece taken) ≤ n
-turns-last piece taken n h = let r = rest-length piece taken in omega (arith, h, r)

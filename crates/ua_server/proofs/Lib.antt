@@ -12,7 +12,6 @@ mod Events
 mod Standing
 mod Exchanges
 mod Pendings
-mod Keeping
 mod Advancing
 mod Turning
 mod Handling

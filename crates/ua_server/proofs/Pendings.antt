@@ -1,6 +1,6 @@
 -- What is said and not written yet.
-use Rattle.std.specs.Prelude.{◌≡◌, ℕ, ◌+◌, ◌<◌, ◌≤◌, false, List, [], ◌∷◌, ◌++◌, length, None}
-use Rattle.std.proofs.Common.{Vec, Global, refl, sym, ◌∙◌, ap, subst, append_assoc, append-nil, length-append, arith}
+use Rattle.std.specs.Prelude.{◌≡◌, ℕ, ◌+◌, ◌≤◌, false, List, [], ◌∷◌, ◌++◌, length, None}
+use Rattle.std.proofs.Common.{refl, sym, ◌∙◌, ap, subst, append_assoc, append-nil, length-append, arith}
 use Rattle.ua_builtin.specs.declared.date_time.DateTime.{DateTime}
 use Rattle.ua_frame.specs.Run.{End, Going, Run, events}
 use Rattle.ua_frame.specs.declared.frame.Frame.{Frame}
@@ -11,7 +11,7 @@ use Rattle.ua_channel.specs.ServerTold.{Told}
 use Rattle.ua_server.specs.Requests.{requests}
 use Rattle.ua_server.specs.Said.{Course, left, said, used_in}
 use Rattle.ua_server.specs.Served.{channel_in}
-use Rattle.ua_server.specs.Serving.{AnsweredTo, AreAsked, AreFew, most_gathered, BrokenOff, Nothing, TellsAll, told_at, end_at}
+use Rattle.ua_server.specs.Serving.{AnsweredTo, AreAsked, BrokenOff, Nothing, TellsAll, told_at, end_at}
 use Rattle.ua_server.specs.Stepping.{Stands}
 use Rattle.ua_server.specs.declared.server.Server.{Server}
 use Rattle.ua_server.specs.ServingParts.{Keeps, Pending}
@@ -33,10 +33,6 @@ module _ (limits : Limits) (channel : ℕ) (first : State) where
     state_is = p.state_is;
     all_used = p.all_used;
     requests_are = p.requests_are;
-    whole = p.whole;
-    gathered = p.gathered;
-    before_is = p.before_is;
-    few = p.few;
     part = p.part;
     written_is = p.written_is;
     said_is = p.said_is;
@@ -55,12 +51,8 @@ module _ (limits : Limits) (channel : ℕ) (first : State) where
     state_is = p.state_is;
     all_used = p.all_used;
     requests_are = p.requests_are;
-    whole = p.whole;
-    gathered = p.gathered;
-    before_is = p.before_is;
-    few = p.few;
     part = p.part ++ done;
-    written_is = ap (λ (w : List ℕ). w ++ done) p.written_is ∙ append_assoc (said channel first p.whole Going used) p.part done;
+    written_is = ap (λ (w : List ℕ). w ++ done) p.written_is ∙ append_assoc (said channel first p.before Going used) p.part done;
     said_is = p.said_is ∙ (ap (λ (o : List ℕ). written ++ o) e ∙ sym (append_assoc written done left));
   }
 
@@ -75,24 +67,11 @@ module _ (limits : Limits) (channel : ℕ) (first : State) where
   enough : (told : List Told) (n : ℕ) → n ≡ used_in told → used_in told ≤ n
   enough told n e = omega (arith, e)
 
-  used-whole : (before whole gathered : List Told) (n : ℕ) → before ≡ whole ++ gathered → used_in before ≤ n → used_in whole ≤ n
-  used-whole before whole gathered n e h = let same = ap used_in e in omega (arith, h, same, used_in-append whole gathered)
-
-  fewer : (a b c d : ℕ) → c ≡ a → d ≡ b → a < b + most_gathered → c < d + most_gathered
-  fewer a b c d p q h = omega (arith, p, q, h)
-
-  -- fewer octets are gathered, with moments more too
-  pub few-more : (whole gathered before : List Told) (used kept : List DateTime) → before ≡ whole ++ gathered → used_in before ≤ length used → AreFew channel first used whole before → AreFew channel first (used ++ kept) whole before
-  few-more whole gathered before used kept e h f =
-      fewer (length (said channel first before Going used)) (length (said channel first whole Going used)) (length (said channel first before Going (used ++ kept))) (length (said channel first whole Going (used ++ kept)))
-      (ap length (said-more channel first before Going used kept h))
-      (ap length (said-more channel first whole Going used kept (used-whole before whole gathered (length used) e h))) f
-
   -- the connection breaks off there, and this is unwritten
   pub pending-unwritten : (requested : List AnsweredRequest) (read out written : List ℕ) (used kept moments : List DateTime) (now : State) → moments ≡ used ++ kept → length kept ≤ 1 → Pending requested limits channel first read out written used now
-      → (broken : BrokenOff limits channel first read written moments now) × (broken.unwritten ≡ out) × (requested ≡ requests channel first (broken.before ++ told_at broken.word) moments) × AreFew channel first moments broken.whole broken.before
+      → (broken : BrokenOff limits channel first read written moments now) × (broken.unwritten ≡ out) × (requested ≡ requests channel first (broken.before ++ told_at broken.word) moments)
   pending-unwritten requested read out written used kept moments now is one p =
-      subst (λ (ms : List DateTime). (broken : BrokenOff limits channel first read written ms now) × (broken.unwritten ≡ out) × (requested ≡ requests channel first (broken.before ++ told_at broken.word) ms) × AreFew channel first ms broken.whole broken.before) (sym is) (
+      subst (λ (ms : List DateTime). (broken : BrokenOff limits channel first read written ms now) × (broken.unwritten ≡ out) × (requested ≡ requests channel first (broken.before ++ told_at broken.word) ms)) (sym is) (
         record {
           front = p.front;
           behind = p.behind;
@@ -102,17 +81,13 @@ module _ (limits : Limits) (channel : ℕ) (first : State) where
           ends = p.ends;
           state_is = ap (λ (c : Course). c.state) (left-more channel first (p.before ++ told_at p.word) used kept (enough (p.before ++ told_at p.word) (length used) p.all_used)) ∙ p.state_is;
           asked = all-used (p.before ++ told_at p.word) used kept p.all_used one;
-          whole = p.whole;
-          gathered = p.gathered;
-          before_is = p.before_is;
           part = p.part;
-          written_is = p.written_is ∙ ap (λ (o : List ℕ). o ++ p.part) (sym (said-more channel first p.whole Going used kept (used-whole p.before p.whole p.gathered (length used) p.before_is (used-before p.before (told_at p.word) (length used) p.all_used))));
+          written_is = p.written_is ∙ ap (λ (o : List ℕ). o ++ p.part) (sym (said-more channel first p.before Going used kept (used-before p.before (told_at p.word) (length used) p.all_used)));
           unwritten = out;
           said_is = said-more channel first (p.before ++ told_at p.word) (end_at p.word) used kept (enough (p.before ++ told_at p.word) (length used) p.all_used) ∙ p.said_is;
         },
         refl,
         p.requests_are ∙ sym (requests-more channel first (p.before ++ told_at p.word) used kept (enough (p.before ++ told_at p.word) (length used) p.all_used)),
-        few-more p.whole p.gathered p.before used kept p.before_is (used-before p.before (told_at p.word) (length used) p.all_used) p.few,
       )
 
   -- the requests that are told of are those of all that was read
@@ -135,43 +110,19 @@ module _ (limits : Limits) (channel : ℕ) (first : State) where
       })
 
 -- before any octet
-pub keeps-first : (server : Server) (alloc : Global) (out : Vec ℕ Global) (limits : Limits) (channel : ℕ) (first : State) → out.items ≡ [] → limits_of (channel_in server) ≡ limits → channel_of (channel_in server) ≡ channel → Stands (channel_in server) [] [] first [] first
-    → Keeps (record { server = server; moment = None; greeted = false; written = 0; alloc = alloc; out = out }) limits channel first [] [] [] first
+pub keeps-first : (server : Server) (limits : Limits) (channel : ℕ) (first : State) → limits_of (channel_in server) ≡ limits → channel_of (channel_in server) ≡ channel → Stands (channel_in server) [] [] first [] first
+    → Keeps (record { server = server; moment = None; greeted = false; written = 0 }) limits channel first [] [] [] first
 unfolding left said requests
-keeps-first server alloc out limits channel first none lim chan stands = record {
-  owes = record {
-    limits_is = lim;
-    channel_is = chan;
-    told = [];
-    used = [];
-    moments_are = refl;
-    stands = stands;
-    greeted_is = refl;
-    count_is = refl;
-    said_is = refl;
-    requests_are = refl;
-    whole = [];
-    gathered = [];
-    told_is = refl;
-    whole_is = refl;
-    pending = record {
-      front = [];
-      behind = [];
-      front_is = refl;
-      before = [];
-      word = Nothing;
-      ends = (refl, refl);
-      state_is = refl;
-      all_used = refl;
-      requests_are = refl;
-      whole = [];
-      gathered = [];
-      before_is = refl;
-      few = omega arith;
-      part = [];
-      written_is = refl;
-      said_is = refl;
-    };
-  };
-  none = none;
+keeps-first server limits channel first lim chan stands = record {
+  limits_is = lim;
+  channel_is = chan;
+  told = [];
+  used = [];
+  moments_are = refl;
+  stands = stands;
+  greeted_is = refl;
+  count_is = refl;
+  said_is = refl;
+  requests_are = refl;
+  pending = record { front = []; behind = []; front_is = refl; before = []; word = Nothing; ends = (refl, refl); state_is = refl; all_used = refl; requests_are = refl; part = []; written_is = refl; said_is = refl };
 }

@@ -1,6 +1,6 @@
 -- What a step makes of a connection that is served, whatever moment it is given.
 use Rattle.std.specs.Prelude.{◌≡◌, ℕ, ℤ, Bool, true, false, List, [], ◌∷◌, ◌++◌, map, take, Option, None, Some, Result, Ok, Err}
-use Rattle.std.proofs.Common.{Vec, Global, refl, sym, ◌∙◌, ap, subst}
+use Rattle.std.proofs.Common.{refl, sym, ◌∙◌, ap, subst}
 use Rattle.ua_builtin.specs.declared.date_time.DateTime.{DateTime}
 use Rattle.ua_frame.specs.declared.limits.Limits.{Limits}
 use Rattle.ua_channel.specs.Received.{listed}
@@ -9,9 +9,10 @@ use Rattle.ua_channel.specs.ServerTold.{Told}
 use Rattle.ua_server.specs.Served.{channel_in}
 use Rattle.ua_server.specs.Happening.{Event, Happens, IsTold}
 use Rattle.ua_server.specs.Serving.{moment_of, moments_in}
-use Rattle.ua_server.specs.ServingParts.{AdvancesTo, Asked, Gathers, Met, Starves, Steps, noted}
+use Rattle.ua_server.specs.ServingParts.{AdvancesTo, Asked, FailsTelling, Keeps, Met, Steps, noted}
 use Rattle.ua_server.specs.State.{State}
 use Rattle.ua_server.specs.Stepping.{AdvanceBy, Advances, Stands}
+use Rattle.ua_server.specs.declared.serve_fault.ServeFault.TheVariants as serve_fault
 use Rattle.ua_server.specs.declared.server.Server.{Server}
 use Rattle.ua_server.specs.declared.serving.Serving.{Serving}
 use Rattle.ua_server.specs.declared.step.Step.{Step}
@@ -21,22 +22,22 @@ use Rattle.ua_server.proofs.Happened.{meeting, meeting-led, meeting-moments, mee
 use Rattle.ua_server.proofs.Advancing.{advanced-quiet, advanced-saying, advanced-broken}
 
 -- an answer is noted
-pub noted-again : (server : Server) (m : Option DateTime) (greeted : Bool) (n : ℕ) (alloc : Global) (out : Vec ℕ Global) → greeted ≡ true
-    → ◌≡◌ {A = Serving} (record { server = server; moment = None; greeted = greeted; written = n; alloc = alloc; out = out }) (noted (record { server = server; moment = m; greeted = greeted; written = n; alloc = alloc; out = out }))
-noted-again server m true n alloc out e = refl
-noted-again server m false n alloc out e = absurd cc
+pub noted-again : (server : Server) (m : Option DateTime) (greeted : Bool) (n : ℕ) → greeted ≡ true
+    → ◌≡◌ {A = Serving} (record { server = server; moment = None; greeted = greeted; written = n }) (noted (record { server = server; moment = m; greeted = greeted; written = n }))
+noted-again server m true n e = refl
+noted-again server m false n e = absurd cc
 
-pub noted-first : (server : Server) (m : Option DateTime) (greeted : Bool) (n : ℕ) (alloc : Global) (out : Vec ℕ Global) → greeted ≡ false
-    → ◌≡◌ {A = Serving} (record { server = server; moment = m; greeted = true; written = n; alloc = alloc; out = out }) (noted (record { server = server; moment = m; greeted = greeted; written = n; alloc = alloc; out = out }))
-noted-first server m false n alloc out e = refl
-noted-first server m true n alloc out e = absurd cc
+pub noted-first : (server : Server) (m : Option DateTime) (greeted : Bool) (n : ℕ) → greeted ≡ false
+    → ◌≡◌ {A = Serving} (record { server = server; moment = m; greeted = true; written = n }) (noted (record { server = server; moment = m; greeted = greeted; written = n }))
+noted-first server m false n e = refl
+noted-first server m true n e = absurd cc
 
 module _ {M W : Type 0} (gives : M → ℤ → M → Type 0) (notes : W → AnsweredRequest → W → Type 0) (m0 m1 : M) (limits : Limits) (channel : ℕ) (first : State) (x mid : Serving) (server : Server) (mom : DateTime) (piece read written : List ℕ) (given : List Event) (now0 now1 : State)
     (kept : mid ≡ record x { moment = Some mom }) (a : Asked gives m0 m1 (λ ts. listed x.moment ++ map moment_of ts ≡ mom ∷ []))
     (lim : limits_of (channel_in server) ≡ limits_of (channel_in mid.server)) (chan : channel_of (channel_in server) ≡ channel_of (channel_in mid.server)) (result : Result (Step × Bool × Option AnsweredRequest) StepFault)
     (answers : (octets : List ℕ) (told : List Told) (f : State) (moments : List DateTime) → Stands (channel_in mid.server) octets told f moments now0
     → Advances (limits_of (channel_in mid.server)) (channel_of (channel_in mid.server)) mom piece result (channel_in server) octets told f moments now0 now1)
-    (k : Gathers x limits channel first read written given now0) where
+    (k : Keeps x limits channel first read written given now0) where
   abbrev l : Limits
   l = limits_of (channel_in x.server)
 
@@ -52,20 +53,20 @@ module _ {M W : Type 0} (gives : M → ℤ → M → Type 0) (notes : W → Answ
   chan-here : channel_of (channel_in server) ≡ channel_of (channel_in x.server)
   chan-here = chan ∙ ap (λ (s : Server). channel_of (channel_in s)) same
 
-  own : Gathers x l c first read written given now0
-  own = subst (λ (v : Limits). Gathers x v c first read written given now0) (sym k.owes.limits_is) (subst (λ (n : ℕ). Gathers x limits n first read written given now0) (sym k.owes.channel_is) k)
+  own : Keeps x l c first read written given now0
+  own = subst (λ (v : Limits). Keeps x v c first read written given now0) (sym k.limits_is) (subst (λ (n : ℕ). Keeps x limits n first read written given now0) (sym k.channel_is) k)
 
-  advanced : Advances l c mom piece result (channel_in server) read own.owes.told first own.owes.used now0 now1
+  advanced : Advances l c mom piece result (channel_in server) read own.told first own.used now0 now1
   advanced =
-      subst (λ (s : Server). Advances (limits_of (channel_in s)) (channel_of (channel_in s)) mom piece result (channel_in server) read own.owes.told first own.owes.used now0 now1) same
-      (answers read own.owes.told first own.owes.used (subst (λ (s : Server). Stands (channel_in s) read own.owes.told first own.owes.used now0) (sym same) own.owes.stands))
+      subst (λ (s : Server). Advances (limits_of (channel_in s)) (channel_of (channel_in s)) mom piece result (channel_in server) read own.told first own.used now0 now1) same
+      (answers read own.told first own.used (subst (λ (s : Server). Stands (channel_in s) read own.told first own.used now0) (sym same) own.stands))
 
-  advanced-at : (r : Result (Step × Bool × Option AnsweredRequest) StepFault) → result ≡ r → Advances l c mom piece r (channel_in server) read own.owes.told first own.owes.used now0 now1
-  advanced-at r is = subst (λ (v : Result (Step × Bool × Option AnsweredRequest) StepFault). Advances l c mom piece v (channel_in server) read own.owes.told first own.owes.used now0 now1) is advanced
+  advanced-at : (r : Result (Step × Bool × Option AnsweredRequest) StepFault) → result ≡ r → Advances l c mom piece r (channel_in server) read own.told first own.used now0 now1
+  advanced-at r is = subst (λ (v : Result (Step × Bool × Option AnsweredRequest) StepFault). Advances l c mom piece v (channel_in server) read own.told first own.used now0 now1) is advanced
 
   -- at the limits and the channel that are named
   there : (P : Limits → ℕ → Type 0) → P l c → P limits channel
-  there P p = subst (λ (n : ℕ). P limits n) k.owes.channel_is (subst (λ (v : Limits). P v c) k.owes.limits_is p)
+  there P p = subst (λ (n : ℕ). P limits n) k.channel_is (subst (λ (v : Limits). P v c) k.limits_is p)
 
   kept-moment : (request : Option AnsweredRequest) → listed x.moment ++ moments_in (meeting a.ticks request) ≡ mom ∷ []
   kept-moment request = ap (λ (ms : List DateTime). listed x.moment ++ ms) (meeting-moments a.ticks request) ∙ a.holds
@@ -77,10 +78,10 @@ module _ {M W : Type 0} (gives : M → ℤ → M → Type 0) (notes : W → Answ
       record {
         ticks = ts;
         given = meeting-led gives notes m0 m1 w w a.ticks None a.given refl;
-        holds = subst (λ (z : Serving). AdvancesTo found.0.end (record z { server = server }) limits channel first (read ++ take found.0.taken piece) (z.out.items ++ found.0.out.items) written (given ++ ts) now1) (sym kept)
-            (there (λ v n. AdvancesTo found.0.end (record x { server = server; moment = Some mom }) v n first (read ++ take found.0.taken piece) (x.out.items ++ found.0.out.items) written (given ++ ts) now1)
+        holds = subst (λ (z : Serving). AdvancesTo found.0.end (record z { server = server }) limits channel first (read ++ take found.0.taken piece) found.0.out.items written (given ++ ts) now1) (sym kept)
+            (there (λ v n. AdvancesTo found.0.end (record x { server = server; moment = Some mom }) v n first (read ++ take found.0.taken piece) found.0.out.items written (given ++ ts) now1)
             (advanced-quiet x server mom piece read written given ts first now0 now1 lim-here chan-here (kept-moment None) own found.2 (meeting-noted a.ticks None) found.0.end found.0.taken found.0.out.items
-            (subst (λ (b : Bool). AdvanceBy b found.2 c mom piece found.0.end found.0.taken found.0.out.items (channel_in server) read own.owes.told first own.owes.used now0 now1) quiet (advanced-at (Ok found) is))));
+            (subst (λ (b : Bool). AdvanceBy b found.2 c mom piece found.0.end found.0.taken found.0.out.items (channel_in server) read own.told first own.used now0 now1) quiet (advanced-at (Ok found) is))));
       }
 
   pub steps-saying : (w w' : W) (found : Step × Bool × Option AnsweredRequest) → IsTold notes w found.2 w' → result ≡ Ok found → found.1 ≡ true
@@ -90,19 +91,18 @@ module _ {M W : Type 0} (gives : M → ℤ → M → Type 0) (notes : W → Answ
       record {
         ticks = ts;
         given = meeting-led gives notes m0 m1 w w' a.ticks found.2 a.given led;
-        holds = subst (λ (z : Serving). AdvancesTo found.0.end (noted (record z { server = server })) limits channel first (read ++ take found.0.taken piece) (z.out.items ++ found.0.out.items) written (given ++ ts) now1) (sym kept)
-            (there (λ v n. AdvancesTo found.0.end (noted (record x { server = server; moment = Some mom })) v n first (read ++ take found.0.taken piece) (x.out.items ++ found.0.out.items) written (given ++ ts) now1)
+        holds = subst (λ (z : Serving). AdvancesTo found.0.end (noted (record z { server = server })) limits channel first (read ++ take found.0.taken piece) found.0.out.items written (given ++ ts) now1) (sym kept)
+            (there (λ v n. AdvancesTo found.0.end (noted (record x { server = server; moment = Some mom })) v n first (read ++ take found.0.taken piece) found.0.out.items written (given ++ ts) now1)
             (advanced-saying x server mom piece read written given ts first now0 now1 lim-here chan-here (kept-moment found.2) own found.2 (meeting-noted a.ticks found.2) found.0.end found.0.taken found.0.out.items
-            (subst (λ (b : Bool). AdvanceBy b found.2 c mom piece found.0.end found.0.taken found.0.out.items (channel_in server) read own.owes.told first own.owes.used now0 now1) said (advanced-at (Ok found) is))));
+            (subst (λ (b : Bool). AdvanceBy b found.2 c mom piece found.0.end found.0.taken found.0.out.items (channel_in server) read own.told first own.used now0 now1) said (advanced-at (Ok found) is))));
       }
 
-  pub steps-broken : (w : W) (f : StepFault) → result ≡ Err f → Met (Happens gives notes) (m0, w) (m1, w) (λ ts. Steps (Err f) (record mid { server = server }) limits channel first piece read written (given ++ ts) now1)
-  steps-broken w f is =
+  pub steps-broken : (w : W) (f : StepFault) (y : Serving) → result ≡ Err f → Met (Happens gives notes) (m0, w) (m1, w) (λ ts. Steps (Err f) y limits channel first piece read written (given ++ ts) now1)
+  steps-broken w f y is =
       let ts = meeting a.ticks None in
       record {
         ticks = ts;
         given = meeting-led gives notes m0 m1 w w a.ticks None a.given refl;
-        holds = subst (λ (z : Serving). Starves (record z { server = server }) limits channel first (read ++ piece) z.out.items written (given ++ ts) now1) (sym kept)
-            (there (λ v n. Starves (record x { server = server; moment = Some mom }) v n first (read ++ piece) x.out.items written (given ++ ts) now1)
-            (advanced-broken x server mom piece read written given ts first now0 now1 lim-here chan-here (kept-moment None) own (meeting-noted a.ticks None) f (advanced-at (Err f) is)));
+        holds = there (λ v n. FailsTelling serve_fault.OutOfMemory v n first (read ++ piece) written (given ++ ts) now1)
+            (advanced-broken x server mom piece read written given ts first now0 now1 lim-here chan-here (kept-moment None) own (meeting-noted a.ticks None) f (advanced-at (Err f) is));
       }

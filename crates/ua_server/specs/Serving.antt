@@ -105,12 +105,8 @@ EndsAt limits channel octets before Nothing = (octets ≡ []) × (before ≡ [])
 EndsAt limits channel octets before (Answer t) = EndsAnswered limits channel octets before t
 EndsAt limits channel octets before (Refusal code) = EndsRefused limits channel octets before code
 
--- the most octets of answers that are gathered before one more is written with them
-abbrev pub most_gathered : ℕ
-most_gathered = 16384
-
--- it broke off: a front of what was read ends at its last word, and the state is the one that the front leaves. All that is said of what was
--- told first is written whole; of what was gathered behind it, up to that word, some octets are written, all of them or none
+-- it broke off: a front of what was read ends at its last word, which may not be written whole; all that is said before that word is, and
+-- the state is the one that the front leaves
 pub record BrokenOff (limits : Limits) (channel : ℕ) (first : State) (read written : List ℕ) (moments : List DateTime) (now : State) : Type 0 where
   pub front : List ℕ
   pub behind : List ℕ
@@ -120,21 +116,10 @@ pub record BrokenOff (limits : Limits) (channel : ℕ) (first : State) (read wri
   pub ends : EndsAt limits channel front before word
   pub state_is : (left channel first (before ++ told_at word) moments).state ≡ now
   pub asked : AreAsked (before ++ told_at word) moments
-  pub whole : List Told
-  pub gathered : List Told
-  pub before_is : before ≡ whole ++ gathered
   pub part : List ℕ
-  pub written_is : written ≡ said channel first whole Going moments ++ part
+  pub written_is : written ≡ said channel first before Going moments ++ part
   pub unwritten : List ℕ
   pub said_is : said channel first (before ++ told_at word) (end_at word) moments ≡ written ++ unwritten
-
--- what was gathered before the last word has fewer octets than that
-abbrev pub AreFew : ℕ → State → List DateTime → List Told → List Told → Type 0
-AreFew channel first moments whole before = length (said channel first before Going moments) < length (said channel first whole Going moments) + most_gathered
-
--- nothing of the last word is written: all that was written is said before it
-abbrev pub IsUnbegun : ℕ → State → List ℕ → List DateTime → List Told → Type 0
-IsUnbegun channel first written moments before = (kept : List ℕ) × (said channel first before Going moments ≡ written ++ kept)
 
 -- ---- by the answer
 
@@ -149,12 +134,12 @@ EndsBy (ending.Refused code) limits channel first read written moments now = Ans
 EndsBy ending.NoClose limits channel first read written moments now = ⊥
 EndsBy ending.Cut limits channel first read written moments now = ⊥
 
--- how an answer failed; a failed write says how many octets were written in all, up to the greatest number, and leaves some octets of what was
--- gathered unwritten; where memory is refused all is written, or all but the last word
+-- how an answer failed; a failed write says how many octets were written in all, up to the greatest number, and leaves some octets of the last word
+-- unwritten; where memory is refused the last word is written whole or not at all
 abbrev pub FailsBy : ServeFault → Limits → ℕ → State → List ℕ → List ℕ → List DateTime → State → Type 0
 FailsBy fault.Read limits channel first read written moments now = ⊥
-FailsBy (fault.Write n) limits channel first read written moments now = (broken : BrokenOff limits channel first read written moments now) × (0 < length broken.unwritten) × (n ≡ min (length written) greatest) × AreFew channel first moments broken.whole broken.before
-FailsBy fault.OutOfMemory limits channel first read written moments now = (broken : BrokenOff limits channel first read written moments now) × (((broken.gathered ≡ []) × (broken.part ≡ [])) ⊎ (broken.unwritten ≡ []))
+FailsBy (fault.Write n) limits channel first read written moments now = (broken : BrokenOff limits channel first read written moments now) × (0 < length broken.unwritten) × (n ≡ min (length written) greatest)
+FailsBy fault.OutOfMemory limits channel first read written moments now = (broken : BrokenOff limits channel first read written moments now) × ((broken.part ≡ []) ⊎ (broken.unwritten ≡ []))
 FailsBy fault.TooLong limits channel first read written moments now = ⊥
 
 -- what serving comes to, where these octets were read and written at these moments, and these are to come
@@ -181,12 +166,11 @@ EndTells (ending.Refused code) limits channel first read written moments now a t
 EndTells ending.NoClose limits channel first read written moments now a told = ⊥
 EndTells ending.Cut limits channel first read written moments now a told = ⊥
 
--- how an answer failed: at a failed write the request of the last word is told of, unless memory was refused before its answer was made, of which
--- nothing is written then; where memory is refused it is where that word is written whole, and not where none of it is
+-- how an answer failed: at a failed write the request of the last word is told of; where memory is refused it is where that word is written
+-- whole, and not where none of it is
 abbrev pub FailTells : (f : ServeFault) (limits : Limits) (channel : ℕ) (first : State) (read written : List ℕ) (moments : List DateTime) (now : State) → FailsBy f limits channel first read written moments now → List AnsweredRequest → Type 0
 FailTells fault.Read limits channel first read written moments now b told = ⊥
-FailTells (fault.Write n) limits channel first read written moments now b told =
-    (told ≡ requests channel first (b.0.before ++ told_at b.0.word) moments) ⊎ (IsUnbegun channel first written moments b.0.before × (told ≡ requests channel first b.0.before moments))
+FailTells (fault.Write n) limits channel first read written moments now b told = told ≡ requests channel first (b.0.before ++ told_at b.0.word) moments
 FailTells fault.OutOfMemory limits channel first read written moments now b told =
     ((b.0.part ≡ []) × (told ≡ requests channel first b.0.before moments)) ⊎ ((b.0.unwritten ≡ []) × (told ≡ requests channel first (b.0.before ++ told_at b.0.word) moments))
 FailTells fault.TooLong limits channel first read written moments now b told = ⊥

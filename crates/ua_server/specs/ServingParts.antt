@@ -1,6 +1,5 @@
 -- What the parts of serving make of octets.
-use Rattle.std.specs.Prelude.{Vec, ◌≡◌, ◌⊎◌, ℕ, ◌+◌, ◌<◌, ◌≤◌, ℤ, Bool, true, false, List, [], ◌∷◌, ◌++◌, cond, map, min, take, length, Option, Some, None, Result, Ok, Err}
-use Rattle.std.specs.declared.alloc.Global.{Global}
+use Rattle.std.specs.Prelude.{◌≡◌, ℕ, ◌+◌, ◌<◌, ◌≤◌, ℤ, Bool, true, false, List, [], ◌∷◌, ◌++◌, cond, map, min, take, length, Option, Some, None, Result, Ok, Err}
 use Rattle.ua_builtin.specs.declared.date_time.DateTime.{DateTime}
 use Rattle.ua_frame.specs.Run.{Going}
 use Rattle.ua_frame.specs.declared.frame.Frame.{Frame}
@@ -16,7 +15,7 @@ use Rattle.ua_server.specs.Happening.{Event, Leads, noted_in}
 use Rattle.ua_server.specs.Requests.{requests}
 use Rattle.ua_server.specs.Said.{left, said, used_in}
 use Rattle.ua_server.specs.Served.{channel_in}
-use Rattle.ua_server.specs.Serving.{moments_in, AreAsked, AreFew, LastWord, told_at, end_at, EndsAnswered, EndsAt, IsClean, EndsBy, EndTells, FailsBy, FailTells, Moves, greatest, most_gathered}
+use Rattle.ua_server.specs.Serving.{moments_in, LastWord, told_at, end_at, EndsAt, IsClean, EndsBy, EndTells, FailsBy, FailTells, Moves, greatest}
 use Rattle.ua_server.specs.State.{State}
 use Rattle.ua_server.specs.Stepping.{Stands}
 use Rattle.ua_server.specs.declared.serve_fault.ServeFault.{ServeFault}
@@ -64,50 +63,10 @@ write_failures (Err n) before = one_more before
 abbrev pub counted : ℕ → ℕ → ℕ
 counted n more = min (n + more) greatest
 
--- a write failed behind the first of these octets
-abbrev pub Unsent : ServeFault → Serving → List ℕ → Option Traffic → Option Traffic → Type 0
-Unsent f old octets before after = (n : ℕ) × (f ≡ fault.Write (counted old.written n)) × (n < length octets) × WhereTold (Moves [] (take n octets)) before after
-
 -- octets were written and counted, all of them, or not the last
 abbrev pub Says : List ℕ → Result (Unit {0}) ServeFault → Serving → Serving → Option Traffic → Option Traffic → Type 0
 Says octets (Ok u) old new before after = (new ≡ record old { written = counted old.written (length octets) }) × WhereTold (Moves [] octets) before after
-Says octets (Err f) old new before after = Unsent f old octets before after
-
--- ---- answers that are kept
-
--- the server, the moment that is kept and whether the ACK was made are the same
-abbrev pub AreAlike : Serving → Serving → Type 0
-AreAlike old new = (new.server ≡ old.server) × (new.moment ≡ old.moment) × (new.greeted ≡ old.greeted)
-
--- these octets were written and counted, and none is kept
-pub record Sent (old new : Serving) (octets : List ℕ) (before after : Option Traffic) : Type 0 where
-  pub alike : AreAlike old new
-  pub count_is : new.written ≡ counted old.written (length octets)
-  pub none : new.out.items ≡ []
-  pub moved : WhereTold (Moves [] octets) before after
-
--- these octets are kept, which are few, and none was written
-pub record Kept (old new : Serving) (octets : List ℕ) (before after : Option Traffic) : Type 0 where
-  pub alike : AreAlike old new
-  pub count_is : new.written ≡ old.written
-  pub out_is : new.out.items ≡ octets
-  pub few : length octets < most_gathered
-  pub silent : after ≡ before
-
--- an answer is kept behind the others, or given back where memory is refused
-abbrev pub KeepsMore : List ℕ → Result (Unit {0}) (Vec ℕ Global) → Serving → Serving → Type 0
-KeepsMore octets (Ok u) old new = AreAlike old new × (new.written ≡ old.written) × (new.out.items ≡ old.out.items ++ octets)
-KeepsMore octets (Err back) old new = AreAlike old new × (new.written ≡ old.written) × (new.out.items ≡ old.out.items) × (back.items ≡ octets)
-
--- these octets were written, or not the last of them
-abbrev pub Sends : List ℕ → Result (Unit {0}) ServeFault → Serving → Serving → Option Traffic → Option Traffic → Type 0
-Sends octets (Ok u) old new before after = Sent old new octets before after
-Sends octets (Err f) old new before after = Unsent f old octets before after
-
--- these octets were written, or not the last of them; or they are kept, where more is to come
-abbrev pub Puts : List ℕ → Bool → Result (Unit {0}) ServeFault → Serving → Serving → Option Traffic → Option Traffic → Type 0
-Puts octets is_last (Ok u) old new before after = Sent old new octets before after ⊎ ((is_last ≡ false) × Kept old new octets before after)
-Puts octets is_last (Err f) old new before after = Unsent f old octets before after
+Says octets (Err f) old new before after = (n : ℕ) × (f ≡ fault.Write (counted old.written n)) × (n < length octets) × WhereTold (Moves [] (take n octets)) before after
 
 -- an answer was made: the first one is the ACK, and those behind it use the moment that is kept
 abbrev pub noted : Serving → Serving
@@ -120,8 +79,7 @@ abbrev pub is_there : Option Agreement → Bool
 is_there None = false
 is_there (Some a) = true
 
--- a front of what was read ends at the last word of what is said so far; of that these octets are written, and these are not yet, which are few but
--- for that word
+-- a front of what was read ends at the last word of what is said so far; of that these octets are written, and these are not yet
 pub record Pending (requested : List AnsweredRequest) (limits : Limits) (channel : ℕ) (first : State) (read out written : List ℕ) (used : List DateTime) (now : State) : Type 0 where
   pub front : List ℕ
   pub behind : List ℕ
@@ -132,12 +90,8 @@ pub record Pending (requested : List AnsweredRequest) (limits : Limits) (channel
   pub state_is : (left channel first (before ++ told_at word) used).state ≡ now
   pub all_used : length used ≡ used_in (before ++ told_at word)
   pub requests_are : requested ≡ requests channel first (before ++ told_at word) used
-  pub whole : List Told
-  pub gathered : List Told
-  pub before_is : before ≡ whole ++ gathered
-  pub few : AreFew channel first used whole before
   pub part : List ℕ
-  pub written_is : written ≡ said channel first whole Going used ++ part
+  pub written_is : written ≡ said channel first before Going used ++ part
   pub said_is : said channel first (before ++ told_at word) (end_at word) used ≡ written ++ out
 
 -- a connection that is served goes on: of what is said of the octets read, these are written and these are not yet; and of the moments given
@@ -153,21 +107,11 @@ pub record Owes (x : Serving) (limits : Limits) (channel : ℕ) (first : State) 
   pub count_is : x.written ≡ min (length written) greatest
   pub said_is : said channel first told Going used ≡ written ++ out
   pub requests_are : noted_in ticks ≡ requests channel first told used
-  pub whole : List Told
-  pub gathered : List Told
-  pub told_is : told ≡ whole ++ gathered
-  pub whole_is : written ≡ said channel first whole Going used
   pub pending : Pending (noted_in ticks) limits channel first read out written used now
 
--- all that is said is written, but the answers that are kept, which are few
-pub record Gathers (x : Serving) (limits : Limits) (channel : ℕ) (first : State) (read written : List ℕ) (ticks : List Event) (now : State) : Type 0 where
-  pub owes : Owes x limits channel first read x.out.items written ticks now
-  pub few : length x.out.items < most_gathered
-
--- all that is said is written, and no answer is kept
-pub record Keeps (x : Serving) (limits : Limits) (channel : ℕ) (first : State) (read written : List ℕ) (ticks : List Event) (now : State) : Type 0 where
-  pub owes : Owes x limits channel first read [] written ticks now
-  pub none : x.out.items ≡ []
+-- all that is said is written
+abbrev pub Keeps : Serving → Limits → ℕ → State → List ℕ → List ℕ → List Event → State → Type 0
+Keeps x limits channel first read written ticks now = Owes x limits channel first read [] written ticks now
 
 -- the connection ended, and of what is said these octets are not written yet
 pub record Ends (x : Serving) (end : Ending) (limits : Limits) (channel : ℕ) (first : State) (read out written : List ℕ) (ticks : List Event) (now : State) : Type 0 where
@@ -179,36 +123,6 @@ pub record Ends (x : Serving) (end : Ending) (limits : Limits) (channel : ℕ) (
   pub moments_are : moments_in ticks ≡ used ++ kept
   pub one : length kept ≤ 1
   pub pending : Pending (noted_in ticks) limits channel first read out written used now
-
--- memory was refused before the answer to a message was made, at whose last octet a front of what was read ends; the state is the one that the message
--- leaves, and its request was not told. Of what is said before it these octets are written, and these are kept
-pub record Unmade (requested : List AnsweredRequest) (limits : Limits) (channel : ℕ) (first : State) (read kept written : List ℕ) (moments : List DateTime) (now : State) : Type 0 where
-  pub front : List ℕ
-  pub behind : List ℕ
-  pub front_is : read ≡ front ++ behind
-  pub before : List Told
-  pub message : Told
-  pub ends : EndsAnswered limits channel front before message
-  pub state_is : (left channel first (before ++ message ∷ []) moments).state ≡ now
-  pub asked : AreAsked (before ++ message ∷ []) moments
-  pub requests_are : requested ≡ requests channel first before moments
-  pub whole : List Told
-  pub gathered : List Told
-  pub before_is : before ≡ whole ++ gathered
-  pub few : AreFew channel first moments whole before
-  pub written_is : written ≡ said channel first whole Going moments
-  pub kept_is : said channel first before Going moments ≡ written ++ kept
-  pub answer : List ℕ
-  pub said_is : said channel first (before ++ message ∷ []) Going moments ≡ (written ++ kept) ++ answer
-
--- memory was refused, and these octets are kept: all that is said was written but them, or the answer to a message was not made
-pub record Starves (x : Serving) (limits : Limits) (channel : ℕ) (first : State) (read kept written : List ℕ) (ticks : List Event) (now : State) : Type 0 where
-  pub count_is : x.written ≡ min (length written) greatest
-  pub used : List DateTime
-  pub spare : List DateTime
-  pub moments_are : moments_in ticks ≡ used ++ spare
-  pub one : length spare ≤ 1
-  pub by : Pending (noted_in ticks) limits channel first read kept written used now ⊎ Unmade (noted_in ticks) limits channel first read kept written (moments_in ticks) now
 
 -- how a connection ended, and which requests are told of
 pub record EndsTelling (end : Ending) (limits : Limits) (channel : ℕ) (first : State) (read written : List ℕ) (ticks : List Event) (now : State) : Type 0 where
@@ -225,14 +139,14 @@ abbrev pub AdvancesTo : Option Ending → Serving → Limits → ℕ → State �
 AdvancesTo None x limits channel first read out written ticks now = Owes x limits channel first read out written ticks now
 AdvancesTo (Some end) x limits channel first read out written ticks now = Ends x end limits channel first read out written ticks now
 
--- a step, whose answer stands behind those that are kept
+-- a step, whose answer is not written yet
 abbrev pub Steps : Result Step StepFault → Serving → Limits → ℕ → State → List ℕ → List ℕ → List ℕ → List Event → State → Type 0
-Steps (Ok step) x limits channel first piece read written ticks now = AdvancesTo step.end x limits channel first (read ++ take step.taken piece) (x.out.items ++ step.out.items) written ticks now
-Steps (Err f) x limits channel first piece read written ticks now = Starves x limits channel first (read ++ piece) x.out.items written ticks now
+Steps (Ok step) x limits channel first piece read written ticks now = AdvancesTo step.end x limits channel first (read ++ take step.taken piece) step.out.items written ticks now
+Steps (Err f) x limits channel first piece read written ticks now = FailsTelling fault.OutOfMemory limits channel first (read ++ piece) written ticks now
 
--- the same by how the connection ended, once the answer is kept or written
+-- the same by how the connection ended, once the answer is written
 abbrev pub TurnsTo : Option Ending → Serving → Limits → ℕ → State → List ℕ → List ℕ → List Event → State → Type 0
-TurnsTo None x limits channel first read written ticks now = Gathers x limits channel first read written ticks now
+TurnsTo None x limits channel first read written ticks now = Keeps x limits channel first read written ticks now
 TurnsTo (Some end) x limits channel first read written ticks now = EndsTelling end limits channel first read written ticks now
 
 -- a step and its answer
@@ -240,10 +154,9 @@ abbrev pub Turns : Result (ℕ × Option Ending) ServeFault → Serving → Limi
 Turns (Ok turn) x limits channel first piece read written ticks now = TurnsTo turn.1 x limits channel first (read ++ take turn.0 piece) written ticks now
 Turns (Err f) x limits channel first piece read written ticks now = FailsTelling f limits channel first (read ++ piece) written ticks now
 
--- a whole piece, or the octets of it up to the end of the connection, with all its answers written
+-- a whole piece, or the octets of it up to the end of the connection
 abbrev pub Handles : Result (Option Ending) ServeFault → Serving → Limits → ℕ → State → List ℕ → List ℕ → List Event → State → Type 0
-Handles (Ok None) x limits channel first read written ticks now = Keeps x limits channel first read written ticks now
-Handles (Ok (Some end)) x limits channel first read written ticks now = EndsTelling end limits channel first read written ticks now
+Handles (Ok end) x limits channel first read written ticks now = TurnsTo end x limits channel first read written ticks now
 Handles (Err f) x limits channel first read written ticks now = FailsTelling f limits channel first read written ticks now
 
 -- ---- what is exchanged

@@ -9,10 +9,9 @@ pub enum ServeFault {
     #[error("the line cannot be read")]
     Read,
     /// A write of the line failed, behind so many octets in all; the number stops at its greatest.
-    /// Memory may have been refused before that write.
     #[error("the line cannot be written behind {0} octets")]
     Write(u64),
-    /// Memory was refused. The answers made before are written, and nothing more was.
+    /// Memory was refused. Nothing more was written.
     #[error("out of memory")]
     OutOfMemory,
     /// The line was read 18446744073709551615 times.

@@ -1,9 +1,9 @@
 //! Serving a line.
 
-ghost use Rattle.std.specs.Prelude.{◌≡◌, ◌<◌, ℕ, List, [], IfOk, None, false, length};
+ghost use Rattle.std.specs.Prelude.{◌≡◌, ◌<◌, ℕ, List, [], IfOk, length};
 ghost use Rattle.ua_channel.specs.Line.{WhereTold};
 ghost use Rattle.ua_server.specs.Happening.{WasTold};
-ghost use Rattle.ua_server.specs.Serving.{Serves, ServesTelling, LineFailed, most_gathered};
+ghost use Rattle.ua_server.specs.Serving.{Serves, ServesTelling, LineFailed};
 ghost use Rattle.ua_server.specs.ServingParts.{StopsWithin, Wrote, most_at_once, write_failures};
 ghost use Rattle.ua_server.specs.State.{begun};
 
@@ -13,7 +13,6 @@ use crate::services::Services;
 use crate::step::{End, Step, StepFault};
 use crate::watch::{Unwatched, Watch, tell};
 use std::alloc::{AllocError, Global};
-use std::mem;
 use ua_builtin::DateTime;
 use ua_channel::{Line, Moments};
 use ua_frame::Limits;
@@ -21,18 +20,9 @@ use ua_frame::Limits;
 /// The most octets that are read at once.
 const PIECE: usize = 4096;
 
-/// So many octets of answers are written at once, though more of their piece is to be answered.
-const GATHERED: usize = 16384;
-
 /// Serves the client at the other end of a line, up to the end of its connection: reads pieces of at
 /// most 4096 octets, answers what they ask in order, and writes each answer whole, by as many calls as
-/// the line needs. Before it reads again, all that it says of what it read is written.
-///
-/// Answers to one piece are gathered, and written together: behind the last one, or once they are 16384
-/// octets or more. So where a write fails, the services stand behind all requests whose answers were
-/// gathered by then: before the last one of these fewer than 16384 octets. Memory may have been refused
-/// before that write; it then failed with the answers that had been made, and a message may have been
-/// carried out whose answer was not.
+/// the line needs.
 ///
 /// The services begin without a session. A moment is asked for before octets are looked at, unless the
 /// last one is not used yet; an OPN response and a reply use one each.
@@ -59,8 +49,7 @@ pub fn serve<L: Line, M: Moments>(
 }
 
 /// Does what [`serve`] does, and tells of each request that is answered, in order, as its answer is
-/// made: before that answer is written, and before the next request is looked at. A message that is
-/// given up is not answered.
+/// made: right before the answer is written. A message that is given up is not answered.
 pub fn serve_watched<L: Line, M: Moments, W: Watch>(
     alloc: Global,
     line: &mut L,
@@ -107,23 +96,6 @@ fn write_whole<L: Line>(line: &mut L, octets: &[u8]) -> Result<(), usize>
     Ok(())
 }
 
-/// Whether no answer to the rest of a piece of so many octets is to come: all of it was taken, or the
-/// connection ended.
-fn is_last(end: Option<End>, taken: usize, len: usize) -> bool
-    ensures goes { result ≡ false → end ≡ None }
-    ensures left { result ≡ false → taken < len }
-{
-    end.is_some() || taken >= len
-}
-
-/// Whether so many octets of answers are to be written now.
-fn is_due(is_last: bool, kept: usize) -> bool
-    ensures more { result ≡ false → is_last ≡ false }
-    ensures few { result ≡ false → kept < most_gathered }
-{
-    is_last || kept >= GATHERED
-}
-
 /// A connection that is served, as far as it has come.
 #[derive(Drop)]
 pub struct Serving {
@@ -134,9 +106,6 @@ pub struct Serving {
     greeted: bool,
     /// How many octets were written, up to the greatest number.
     written: u64,
-    alloc: Global,
-    /// The answers that are not written yet.
-    out: Vec<u8>,
 }
 
 impl Serving {
@@ -150,7 +119,7 @@ impl Serving {
     ghost use Rattle.ua_server.specs.Served.{channel_in};
     ghost use Rattle.ua_server.specs.Happening.{Event, Happens, WasTold};
     ghost use Rattle.ua_server.specs.Serving.{moment_of, Moves, ServesTelling, LineFailed};
-    ghost use Rattle.ua_server.specs.ServingParts.{Asked, Exchanged, Finishes, Gathers, Handles, Keeps, KeepsMore, Met, Puts, Says, Sends, Steps, Turns, noted};
+    ghost use Rattle.ua_server.specs.ServingParts.{Asked, Exchanged, Finishes, Handles, Keeps, Met, Says, Steps, Turns, noted};
     ghost use Rattle.ua_server.specs.Stepping.{Takes};
     ghost use Rattle.ua_server.specs.State.{State};
 
@@ -163,8 +132,6 @@ impl Serving {
             moment: None,
             greeted: false,
             written: 0,
-            alloc,
-            out: Vec::new(alloc),
         }
     }
 
@@ -206,7 +173,7 @@ impl Serving {
         watch: &mut W,
         piece: &[u8],
     ) -> Result<Step, StepFault>
-        ensures steps { (limits : Limits) (channel : ℕ) (first : State) (read written : List ℕ) (given : List Event) → Gathers self.old limits channel first read written given services.old
+        ensures steps { (limits : Limits) (channel : ℕ) (first : State) (read written : List ℕ) (given : List Event) → Keeps self.old limits channel first read written given services.old
             → Met (Happens M.gives W.notes) (moments.old, watch.old) (moments.new, watch.new) (λ events. Steps result self.new limits channel first piece.now read written (given ++ events) services.new) }
         ensures told { WasTold W.notes watch.old watch.new }
         ensures progress { IfOk result (λ step. Takes piece.now step) }
@@ -249,62 +216,8 @@ impl Serving {
         }
     }
 
-    /// Keeps an answer behind those that are not written yet. Where memory is refused it gives the
-    /// answer back.
-    fn keep(&mut self, out: Vec<u8>) -> Result<(), Vec<u8>>
-        ensures { KeepsMore out.items result self.old self.new }
-    {
-        if self.out.is_empty() {
-            self.out = out;
-            return Ok(());
-        }
-        match self.out.extend_from_slice(&out) {
-            Ok(()) => Ok(()),
-            Err(_) => Err(out),
-        }
-    }
-
-    /// Writes the answers that are kept.
-    fn flush<L: Line>(&mut self, line: &mut L) -> Result<(), ServeFault>
-        ensures sends { Sends self.old.out.items result self.old self.new (L.traffic line.old) (L.traffic line.new) }
-        ensures failed { LineFailed (L.failures line.old) result (L.failures line.new) }
-    {
-        let out = mem::replace(&mut self.out, Vec::new(self.alloc));
-        self.say(line, &out)
-    }
-
-    /// Writes the answers that are kept, and this one behind them, by calls of their own.
-    fn write_apart<L: Line>(&mut self, line: &mut L, out: &[u8]) -> Result<(), ServeFault>
-        ensures sends { Sends (self.old.out.items ++ out.now) result self.old self.new (L.traffic line.old) (L.traffic line.new) }
-        ensures failed { LineFailed (L.failures line.old) result (L.failures line.new) }
-    {
-        match self.flush(line) {
-            Ok(()) => self.say(line, out),
-            Err(fault) => Err(fault),
-        }
-    }
-
-    /// Takes an answer over. It is kept where more of its piece is to be answered and few octets are
-    /// kept; else it is written with them.
-    fn put<L: Line>(&mut self, line: &mut L, out: Vec<u8>, is_last: bool) -> Result<(), ServeFault>
-        ensures puts { Puts (self.old.out.items ++ out.items) is_last result self.old self.new (L.traffic line.old) (L.traffic line.new) }
-        ensures failed { LineFailed (L.failures line.old) result (L.failures line.new) }
-    {
-        match self.keep(out) {
-            Ok(()) => {
-                if is_due(is_last, self.out.len()) {
-                    self.flush(line)
-                } else {
-                    Ok(())
-                }
-            }
-            Err(out) => self.write_apart(line, &out),
-        }
-    }
-
-    /// One step of the server, and its answer, which is kept or written. Says how many octets were
-    /// taken, and how the connection ended, if it did. Behind the last octet of the piece no answer
-    /// is kept.
+    /// One step of the server, and its answer. Says how many octets were taken, and how the
+    /// connection ended, if it did.
     fn turn<L: Line, M: Moments, W: Watch>(
         &mut self,
         line: &mut L,
@@ -313,26 +226,19 @@ impl Serving {
         watch: &mut W,
         piece: &[u8],
     ) -> Result<(usize, Option<End>), ServeFault>
-        ensures turns { (limits : Limits) (channel : ℕ) (first : State) (read written : List ℕ) (given : List Event) → Gathers self.old limits channel first read written given services.old
+        ensures turns { (limits : Limits) (channel : ℕ) (first : State) (read written : List ℕ) (given : List Event) → Keeps self.old limits channel first read written given services.old
             → Exchanged (Happens M.gives W.notes) (moments.old, watch.old) (moments.new, watch.new) [] (L.traffic line.old) (L.traffic line.new)
             (λ more events. Turns result self.new limits channel first piece.now read (written ++ more) (given ++ events) services.new) }
         ensures told { WasTold W.notes watch.old watch.new }
         ensures progress { IfOk result (λ turn. (turn.0 ≤ length piece.now) × (turn.1 ≡ None → 0 < length piece.now → 0 < turn.0)) }
-        ensures flushed { IfOk result (λ turn. length piece.now ≤ turn.0 → self.new.out.items ≡ []) }
         ensures failed { LineFailed (L.failures line.old) result (L.failures line.new) }
     {
         let step = match self.step(services, moments, watch, piece) {
             Ok(step) => step,
-            Err(_) => {
-                return match self.flush(line) {
-                    Ok(()) => Err(ServeFault::OutOfMemory),
-                    Err(fault) => Err(fault),
-                };
-            }
+            Err(_) => return Err(ServeFault::OutOfMemory),
         };
-        let Step { taken, out, end } = step;
-        match self.put(line, out, is_last(end, taken, piece.len())) {
-            Ok(()) => Ok((taken, end)),
+        match self.say(line, &step.out) {
+            Ok(()) => Ok((step.taken, step.end)),
             Err(fault) => Err(fault),
         }
     }

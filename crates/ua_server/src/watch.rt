@@ -26,7 +26,7 @@ pub trait Watch {
     /// A request leads from what was told before to what is told after.
     ghost notes: { Self → AnsweredRequest → Self → Type 0 };
 
-    /// A request was answered. Its answer is not written yet.
+    /// A request was answered. Its answer is written next.
     fn note(&mut self, request: AnsweredRequest)
         ensures { notes self.old request self.new };
 }

@@ -2,7 +2,7 @@ use Rattle.std.proofs.Common.{arith, ◌≡◌, ◌++◌, ℕ, ℤ, List, Option
 use Rattle.ua_server.specs.Happening.{Happens}
 use Rattle.ua_server.specs.Serving.{LineFailed}
 use Rattle.ua_server.specs.declared.step.End.{End}
-use Rattle.ua_server.proofs.Handling.{handled-nothing, handled-more, handled-end, handled-fault, handled-all, turns-fewer, turns-last}
+use Rattle.ua_server.proofs.Handling.{handled-nothing, handled-more, handled-end, handled-fault, handled-all, turns-fewer}
 use Rattle.ua_server.proofs.Happened.{told-none, told-more}
 use Rattle.ua_server.proofs.Passing.{within-piece}
 use Rattle.ua_server.proofs.serving.Serving.handle.Goals as goal
@@ -13,7 +13,6 @@ loop-taken-init g c = record {
   so_far = λ limits channel first read written given k. handled-nothing limits channel first (Happens g.M.Moments.gives g.W.Watch.notes) (c.args.moments.now, c.args.watch.now) (g.L.Line.traffic c.args.line.now) c.args.self.now c.args.services.now c.args.piece.now read written given k;
   same = refl;
   told = told-none g.W.Watch.notes c.args.watch.now;
-  flushed = λ none h. none;
 }
 
 pub returns-in-Err-clause-handles : goal.returns-in-Err-clause-handles
@@ -43,13 +42,12 @@ loop-taken-preserved g c = record {
       handled-more limits channel first (Happens g.M.Moments.gives g.W.Watch.notes) (c.args.moments.now, c.args.watch.now) (g.L.Line.traffic c.args.line.now) c.args.self.now c.args.services.now c.args.piece.now c.loop-taken.taken (c.loop-taken.moments, c.loop-taken.watch) (c.turn.new.moments, c.turn.new.watch) (g.L.Line.traffic c.loop-taken.line) (g.L.Line.traffic c.turn.new.line) c.loop-taken.self c.turn.new.self c.loop-taken.services c.turn.new.services read written given so c.in-Ok.turn.0 c.in-Ok.turn.1 c.in-None.is (c.in-Ok.ensures.turns limits channel first (read ++ take c.loop-taken.taken c.args.piece.now) (written ++ so.written) (given ++ so.ticks) so.holds);
   same = c.in-Ok.ensures.failed ∙ c.loop-taken.invariant.same;
   told = told-more g.W.Watch.notes c.args.watch.now c.loop-taken.watch c.turn.new.watch c.loop-taken.invariant.told c.in-Ok.ensures.told;
-  flushed = λ none h. c.in-Ok.ensures.flushed (turns-last c.args.piece.now c.loop-taken.taken c.in-Ok.turn.0 h);
 }
 
 pub returns-clause-handles : goal.returns-clause-handles
 returns-clause-handles g c = λ limits channel first read written given k.
     let so = c.loop-taken.invariant.so_far limits channel first read written given k in
-    handled-all limits channel first (Happens g.M.Moments.gives g.W.Watch.notes) (c.args.moments.now, c.args.watch.now) (g.L.Line.traffic c.args.line.now) c.args.self.now c.args.services.now c.args.piece.now c.loop-taken.taken (c.loop-taken.moments, c.loop-taken.watch) (c.loop-taken.moments, c.loop-taken.watch) (g.L.Line.traffic c.loop-taken.line) (g.L.Line.traffic c.loop-taken.line) c.loop-taken.self c.loop-taken.self c.loop-taken.services c.loop-taken.services read written given so c.loop-taken.invariant.within c.loop-taken-test.false (c.loop-taken.invariant.flushed k.none c.loop-taken-test.false)
+    handled-all limits channel first (Happens g.M.Moments.gives g.W.Watch.notes) (c.args.moments.now, c.args.watch.now) (g.L.Line.traffic c.args.line.now) c.args.self.now c.args.services.now c.args.piece.now c.loop-taken.taken (c.loop-taken.moments, c.loop-taken.watch) (c.loop-taken.moments, c.loop-taken.watch) (g.L.Line.traffic c.loop-taken.line) (g.L.Line.traffic c.loop-taken.line) c.loop-taken.self c.loop-taken.self c.loop-taken.services c.loop-taken.services read written given so c.loop-taken.invariant.within c.loop-taken-test.false
 
 pub returns-clause-failed : goal.returns-clause-failed
 returns-clause-failed g c = c.loop-taken.invariant.same

@@ -1,4 +1,4 @@
-use Rattle.std.proofs.Common.{◌≡◌, ◌≤◌, ◌-◌, [], ℕ, ℤ, List, length}
+use Rattle.std.proofs.Common.{◌≡◌, ◌≤◌, ◌-◌, ℕ, ℤ, List, length}
 use Rattle.ua_frame.specs.declared.limits.Limits.{Limits}
 use Rattle.ua_server.specs.Happening.{Event, Happens, WasTold}
 use Rattle.ua_server.specs.ServingParts.{Keeps}
@@ -13,7 +13,6 @@ invariant-loop-taken g l = record {
       → Handled limits channel first (Happens g.M.Moments.gives g.W.Watch.notes) (l.fn.moments, l.fn.watch) (g.L.Line.traffic l.fn.line) l.fn.self l.fn.services l.piece l.taken (l.moments, l.watch) (g.L.Line.traffic l.line) l.self l.services read written given;
   same : g.L.Line.failures l.line ≡ g.L.Line.failures l.fn.line;
   told : WasTold g.W.Watch.notes l.fn.watch l.watch;
-  flushed : l.fn.self.out.items ≡ [] → length l.piece ≤ l.taken → l.self.out.items ≡ [];
 }
 
 abbrev pub decreases-loop-taken : goal.decreases-loop-taken

@@ -9,7 +9,8 @@ use Rattle.ua_server.proofs.serving.Serving.step.Goals as goal
 pub returns-in-Err-clause-steps : goal.returns-in-Err-clause-steps
 returns-in-Err-clause-steps g c = λ limits channel first read written given k.
     steps-broken g.M.Moments.gives g.W.Watch.notes c.args.moments.now c.moment-moment.new.moments limits channel first c.args.self.now c.moment-moment.new.self c.advance.new.self c.moment-moment.result c.args.piece.now read written given c.args.services.now c.advance.new.services
-    c.moment-moment.ensures.kept c.moment-moment.ensures.asked c.advance.ensures.limits c.advance.ensures.channel c.advance.result c.advance.ensures.answers k c.args.watch.now c.in-Err.fault c.in-Err.is
+    c.moment-moment.ensures.kept c.moment-moment.ensures.asked c.advance.ensures.limits c.advance.ensures.channel c.advance.result c.advance.ensures.answers k c.args.watch.now c.in-Err.fault
+    (record c.moment-moment.new.self { server = c.advance.new.self }) c.in-Err.is
 
 pub returns-then-not-answered-clause-steps : goal.returns-then-not-answered-clause-steps
 returns-then-not-answered-clause-steps g c = λ limits channel first read written given k.

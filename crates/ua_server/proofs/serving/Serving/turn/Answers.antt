@@ -1,19 +1,45 @@
+use Rattle.std.proofs.Common.{◌≡◌, [], ℕ, List, Err, length, refl, subst}
+use Rattle.ua_channel.specs.Line.{WhereTold}
 use Rattle.ua_server.specs.Happening.{Happens}
-use Rattle.ua_server.proofs.Turning.{turn-broken, turn-put, turn-starved, turn-unsaid}
+use Rattle.ua_server.specs.Serving.{Moves}
+use Rattle.ua_server.specs.ServingParts.{Says, counted}
+use Rattle.ua_server.specs.declared.serving.Serving.{Serving}
+use Rattle.ua_server.proofs.Turning.{turn-said, turn-unsaid, turn-broken}
 use Rattle.ua_server.proofs.serving.Serving.turn.Goals as goal
 
-pub returns-in-Ok-flush-clause-turns : goal.returns-in-Ok-flush-clause-turns
-returns-in-Ok-flush-clause-turns g c = λ limits channel first read written given k.
-    turn-broken limits channel first (Happens g.M.Moments.gives g.W.Watch.notes) (c.args.moments.now, c.args.watch.now) (c.step.new.moments, c.step.new.watch) (g.L.Line.traffic c.args.line.now) (g.L.Line.traffic c.flush.new.line) c.args.piece.now read written given c.step.new.services c.in-Err.field-0 c.step.new.self c.flush.new.self (c.in-Err.ensures.steps limits channel first read written given k) c.in-Ok-flush.ensures.sends
+pub returns-in-Err-clause-turns : goal.returns-in-Err-clause-turns
+returns-in-Err-clause-turns g c = λ limits channel first read written given k.
+    turn-broken limits channel first (Happens g.M.Moments.gives g.W.Watch.notes) (c.args.moments.now, c.args.watch.now) (c.step.new.moments, c.step.new.watch) (g.L.Line.traffic c.args.line.now) (g.L.Line.traffic c.args.line.now) c.args.piece.now read written given c.step.new.services c.in-Err.field-0 c.step.new.self (c.in-Err.ensures.steps limits channel first read written given k)
 
-pub returns-in-Err-flush-clause-turns : goal.returns-in-Err-flush-clause-turns
-returns-in-Err-flush-clause-turns g c = λ limits channel first read written given k.
-    turn-starved limits channel first (Happens g.M.Moments.gives g.W.Watch.notes) (c.args.moments.now, c.args.watch.now) (c.step.new.moments, c.step.new.watch) (g.L.Line.traffic c.args.line.now) (g.L.Line.traffic c.flush.new.line) c.args.piece.now read written given c.step.new.services c.in-Err.field-0 c.step.new.self c.flush.new.self c.in-Err-flush.fault (c.in-Err.ensures.steps limits channel first read written given k) c.in-Err-flush.ensures.sends
+pub returns-in-Err-clause-failed : goal.returns-in-Err-clause-failed
+returns-in-Err-clause-failed g c = refl
 
-pub returns-in-Ok-put-clause-turns : goal.returns-in-Ok-put-clause-turns
-returns-in-Ok-put-clause-turns g c = λ limits channel first read written given k.
-    turn-put limits channel first (Happens g.M.Moments.gives g.W.Watch.notes) (c.args.moments.now, c.args.watch.now) (c.step.new.moments, c.step.new.watch) (g.L.Line.traffic c.args.line.now) (g.L.Line.traffic c.put.new.line) c.args.piece.now read written given c.step.new.services c.in-Ok.step c.is_last.result c.step.new.self c.put.new.self c.is_last.ensures.goes (c.in-Ok.ensures.steps limits channel first read written given k) c.in-Ok-put.ensures.puts
+pub returns-in-Ok-say-clause-turns : goal.returns-in-Ok-say-clause-turns
+returns-in-Ok-say-clause-turns g c = λ limits channel first read written given k.
+    let counted_so : List ℕ → Serving = λ o. record c.step.new.self { written = counted c.step.new.self.written (length o) } in
+    turn-said limits channel first (Happens g.M.Moments.gives g.W.Watch.notes) (c.args.moments.now, c.args.watch.now) (c.step.new.moments, c.step.new.watch) (g.L.Line.traffic c.args.line.now) (g.L.Line.traffic c.say.new.line) c.args.piece.now read written given c.step.new.services c.in-Ok.step c.step.new.self c.say.new.self (c.in-Ok.ensures.steps limits channel first read written given k)
+    (subst (λ (o : List ℕ). c.say.new.self ≡ counted_so o) c.deref.ensures.value c.in-Ok-say.ensures.says.0)
+    (subst (λ (o : List ℕ). WhereTold (Moves [] o) (g.L.Line.traffic c.args.line.now) (g.L.Line.traffic c.say.new.line)) c.deref.ensures.value c.in-Ok-say.ensures.says.1)
 
-pub returns-in-Err-put-clause-turns : goal.returns-in-Err-put-clause-turns
-returns-in-Err-put-clause-turns g c = λ limits channel first read written given k.
-    turn-unsaid limits channel first (Happens g.M.Moments.gives g.W.Watch.notes) (c.args.moments.now, c.args.watch.now) (c.step.new.moments, c.step.new.watch) (g.L.Line.traffic c.args.line.now) (g.L.Line.traffic c.put.new.line) c.args.piece.now read written given c.step.new.services c.in-Ok.step c.step.new.self c.in-Err-put.fault (c.in-Ok.ensures.steps limits channel first read written given k) c.in-Err-put.ensures.puts c.put.new.self
+pub returns-in-Ok-say-clause-progress : goal.returns-in-Ok-say-clause-progress
+returns-in-Ok-say-clause-progress g c = c.in-Ok.ensures.progress
+
+pub returns-in-Ok-say-clause-failed : goal.returns-in-Ok-say-clause-failed
+returns-in-Ok-say-clause-failed g c = c.in-Ok-say.ensures.failed
+
+pub returns-clause-turns : goal.returns-clause-turns
+returns-clause-turns g c = λ limits channel first read written given k.
+    turn-unsaid limits channel first (Happens g.M.Moments.gives g.W.Watch.notes) (c.args.moments.now, c.args.watch.now) (c.step.new.moments, c.step.new.watch) (g.L.Line.traffic c.args.line.now) (g.L.Line.traffic c.say.new.line) c.args.piece.now read written given c.step.new.services c.in-Ok.step c.step.new.self c.say.new.self c.in-Err-say.fault (c.in-Ok.ensures.steps limits channel first read written given k)
+    (subst (λ (o : List ℕ). Says o (Err c.in-Err-say.fault) c.step.new.self c.say.new.self (g.L.Line.traffic c.args.line.now) (g.L.Line.traffic c.say.new.line)) c.deref.ensures.value c.in-Err-say.ensures.says)
+
+pub returns-clause-failed : goal.returns-clause-failed
+returns-clause-failed g c = c.in-Err-say.ensures.failed
+
+pub returns-in-Err-clause-told : goal.returns-in-Err-clause-told
+returns-in-Err-clause-told g c = c.in-Err.ensures.told
+
+pub returns-in-Ok-say-clause-told : goal.returns-in-Ok-say-clause-told
+returns-in-Ok-say-clause-told g c = c.in-Ok.ensures.told
+
+pub returns-clause-told : goal.returns-clause-told
+returns-clause-told g c = c.in-Ok.ensures.told
