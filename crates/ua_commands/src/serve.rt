@@ -27,7 +27,7 @@ use ua_server::{
     AnsweredRequest, End, Endpoint, ServeFault, Services, Watch, serve, serve_watched,
 };
 use ua_services::RequestKind;
-use ua_tcp::{ClockMoments, TcpLine, without_delay};
+use ua_tcp::{ClockMoments, GatheringLine, TcpLine, without_delay};
 use ua_texts::push_code;
 
 /// The most octets of a message.
@@ -263,7 +263,7 @@ fn serve_next<'a, R: Net + Clock + AllocGlobal, O: Write>(
         Ok((stream, _)) => stream,
         Err(error) => return Err(cannot_listen(error)),
     };
-    let mut line = TcpLine::new(without_delay(stream));
+    let mut line = GatheringLine::new(rt.alloc(), TcpLine::new(without_delay(stream)));
     let mut moments = ClockMoments::new(rt);
     let text = serve_client(
         rt.alloc(),
@@ -273,9 +273,11 @@ fn serve_next<'a, R: Net + Clock + AllocGlobal, O: Write>(
         requests,
         &mut moments,
         out,
-    )?;
+    );
+    // the last answers, or the ERR frame; that the client gets them no connection tells
+    let _ = line.flush();
     drop(line);
-    say(out, &text)
+    say(out, &text?)
 }
 
 /// The services over the nodes of a file.

@@ -6,7 +6,7 @@ use crate::carried::{carry, carry_pieces};
 use crate::client::client;
 use crate::fault::Fault;
 use crate::files::{file, text};
-use crate::lines::{carried, moment, stream};
+use crate::lines::{carried, gathering, moment, stream};
 use crate::names::{client_fault, end, loop_fault, named_end, outcome};
 use crate::offline::offline_row;
 use crate::run::{pipe_row, run_row, words_row};
@@ -75,6 +75,7 @@ fn text_answer<R: AllocGlobal>(rt: &R, kind: &str, words: &str) -> Result<String
         "no-words" => no_words_row(rt, words),
         "carry-pieces" => carry_pieces(alloc, words),
         "stream" => stream(alloc, words),
+        "gathering" => gathering(alloc, words),
         "moment" => moment(alloc, words),
         "client-fault" => client_fault(alloc, words),
         "loop-fault" => loop_fault(alloc, words),

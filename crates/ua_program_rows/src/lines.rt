@@ -5,14 +5,15 @@ ghost use Rattle.std.specs.Prelude.{◌≤◌, IfOk};
 use crate::fault::Fault;
 use crate::octets::{digits, number_of, octets_of};
 use crate::tcp::pair;
+use crate::texts::first_word;
 use std::alloc::{AllocError, Global};
 use std::io;
 use std::io::{Read, Write};
 use std::net::Net;
 use std::rt::Files;
 use std::time::{Clock, Duration};
-use ua_channel::{Line, LineFault, Moments};
-use ua_tcp::{ClockMoments, TcpLine};
+use ua_channel::{Line, LineFault, MemoryLine, Moments};
+use ua_tcp::{ClockMoments, GatheringLine, TcpLine};
 
 /// `carried OCTETS`: octets that are written at one end of a connection within this process, and read at
 /// the other one; behind them how many a read gives once the first end has gone.
@@ -77,6 +78,55 @@ pub fn stream(alloc: Global, words: &str) -> Result<String, Fault> {
     let written = moved(alloc, line.write(b"Pump"))?;
     let none = moved(alloc, line.write(b""))?;
     Ok(format!(in alloc; "read {read} write {written} none {none}")?)
+}
+
+/// What a call of a line that gathers says: `read`, `flush`, or a write of so many octets.
+fn called(
+    alloc: Global,
+    line: &mut GatheringLine<MemoryLine>,
+    call: &str,
+    octets: &mut Vec<u8>,
+) -> Result<String, Fault> {
+    let answer = match call {
+        "read" => line.read(&mut [0; 8]),
+        "flush" => line.flush().map(|()| 0),
+        count => {
+            let at = octets.len();
+            for _ in 0..number_of(count)? {
+                octets.push((octets.len() % 251) as u8)?;
+            }
+            line.write(octets.get(at..).unwrap_or(&[]))
+        }
+    };
+    Ok(moved(alloc, answer)?)
+}
+
+/// `gathering MOST FAILS CALL ..`: what each call of a line says that gathers, over one that takes so many
+/// octets a write at most and whose write of this number fails (`-`: no limit; none); and of the octets
+/// offered how many went out, in order.
+pub fn gathering(alloc: Global, words: &str) -> Result<String, Fault> {
+    let (most, words) = first_word(words);
+    let (fails, calls) = first_word(words);
+    let mut writes = Vec::new(alloc);
+    if let Ok(most) = number_of(most) {
+        writes.push(most)?;
+    }
+    let (coming, reads) = (Vec::new(alloc), Vec::new(alloc));
+    let under = MemoryLine::new(alloc, coming, reads, writes, None, number_of(fails).ok());
+    let mut line = GatheringLine::new(alloc, under);
+    let (mut octets, mut text) = (Vec::new(alloc), String::new(alloc));
+    for call in calls.split_whitespace() {
+        text.push_str(&called(alloc, &mut line, call, &mut octets)?)?;
+        text.push_str(" ")?;
+    }
+    let out = line.beneath().written();
+    let order = if octets.starts_with(out) {
+        "in order"
+    } else {
+        "mixed"
+    };
+    let count = out.len();
+    Ok(format!(in alloc; "{text}out {count} {order}")?)
 }
 
 /// A clock that stands at this time, or fails.

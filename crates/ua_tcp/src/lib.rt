@@ -10,7 +10,9 @@
 #![tactic(auto)]
 
 mod clock_moments;
+mod gathering_line;
 mod tcp_line;
 
 pub use clock_moments::ClockMoments;
+pub use gathering_line::GatheringLine;
 pub use tcp_line::{TcpLine, without_delay};
