@@ -1,8 +1,9 @@
 //! Values that are passed over.
 
-ghost use Rattle.std.specs.Prelude.{◌≤◌};
+ghost use Rattle.std.specs.Prelude.{◌≡◌, ◌≤◌, IfErr, IsErrOf};
 ghost use Rattle.ua_octets.specs.Exact.{skipped};
 ghost use Rattle.ua_octets.specs.Format.{most_levels, Gives, StaysBehind};
+ghost use Rattle.ua_octets.specs.declared.fault.ReadFault.TheVariants.{NoValue};
 
 use crate::byte_string::UaBytes;
 use crate::double_bits::DoubleBits;
@@ -23,6 +24,8 @@ pub trait Skip: Wire + Drop {
         requires levels { depth ≤ most_levels }
         ensures exact { Gives (skipped (Self.format.decode depth)) (S.octets src.old) (S.octets src.new) result }
         ensures behind { StaysBehind (S.octets src.old) (S.octets src.new) }
+        ensures long { Self.overlong (S.octets src.old) → IsErrOf result NoValue }
+        ensures memory { Self.memoryless → IfErr result (λ e. e ≡ NoValue) }
     {
         let value = Self::read_value(alloc, src, depth)?;
         drop(value);
