@@ -10,4 +10,6 @@ pub mod DiagnosticsLawful
 pub mod Lengths
 pub mod Extents
 pub mod Empty
+pub mod Skipped
+mod Products
 mod Written

@@ -2,19 +2,20 @@
 
 ghost use Rattle.std.specs.Prelude.{◌≡◌, ◌≤◌, ◌++◌, true, IsTrue, OnOk, OnErr, is_some};
 ghost use Rattle.std.specs.Int.{w32};
+ghost use Rattle.ua_builtin.specs.Exact.{skipped};
 ghost use Rattle.ua_builtin.specs.Flags.{flagged_text};
 ghost use Rattle.ua_builtin.specs.Format.{most_levels, Gives, GivesBy, StaysBehind, Extends};
 ghost use Rattle.ua_builtin.specs.Signed.{signed};
 ghost use Rattle.ua_builtin.specs.Status.{status_code};
 ghost use Rattle.ua_parts.specs.Parts.{optional_read, optional_fits, optional_canonical};
-ghost use Rattle.ua_parts.specs.Diagnostic.{diagnostic_at, diagnostic_step, diagnostic_flags, diagnostic_fits, diagnostic_fields_encodable, diagnostic_fields_canonical, diagnostic_canonical, innermost, no_fields};
+ghost use Rattle.ua_parts.specs.Diagnostic.{diagnostic_at, diagnostic_step, diagnostic_fields, diagnostic_flags, diagnostic_fits, diagnostic_fields_encodable, diagnostic_fields_canonical, diagnostic_canonical, innermost, no_fields};
 ghost use Rattle.ua_parts.specs.View.{diagnostic_of, diagnostic_fields_of};
 
 use crate::diagnostic_info::{BoxedDiagnostic, DiagnosticInfo};
 use crate::field::{append_field, append_three, read_field};
 use std::alloc::{AllocError, Global};
 use ua_builtin::flags::{append_flagged, flag_of, read_flagged};
-use ua_builtin::{ReadFault, Source, StatusCode, UaString, Wire};
+use ua_builtin::{ReadFault, Skip, Source, StatusCode, UaString, Wire};
 
 const SYMBOLIC_ID: u8 = 0x01;
 
@@ -131,6 +132,71 @@ fn read_inner<S: Source>(
     }
     let inner = read_diagnostic(alloc, src, depth)?;
     Ok(Some(BoxedDiagnostic::new(alloc, inner)?))
+}
+
+impl Skip for DiagnosticInfo {
+    #[tactic(auto, unfolding(crate::specs::Formats::diagnostic_format))]
+    fn skip_value<S: Source>(alloc: Global, src: &mut S, depth: u32) -> Result<(), ReadFault> {
+        skip_diagnostic(alloc, src, depth)
+    }
+}
+
+/// Passes over a DiagnosticInfo of at most so many levels.
+#[cycle(skipped_diagnostics)]
+pub fn skip_diagnostic<S: Source>(alloc: Global, src: &mut S, depth: u32) -> Result<(), ReadFault>
+    requires levels { depth ≤ most_levels }
+    ensures exact { Gives (skipped (diagnostic_at depth)) (S.octets src.old) (S.octets src.new) result }
+    ensures behind { StaysBehind (S.octets src.old) (S.octets src.new) }
+{
+    if depth == 0 {
+        return Err(ReadFault::NoValue);
+    }
+    skip_level(alloc, src, depth - 1)
+}
+
+/// Passes over a DiagnosticInfo, with so many levels left within. Each field is let go before the next
+/// one is read.
+#[cycle(skipped_diagnostics)]
+#[tactic(auto, unfolding(crate::specs::Diagnostic::diagnostic_step))]
+fn skip_level<S: Source>(alloc: Global, src: &mut S, depth: u32) -> Result<(), ReadFault>
+    requires levels { depth ≤ most_levels }
+    ensures exact { Gives (skipped (diagnostic_step (diagnostic_at depth))) (S.octets src.old) (S.octets src.new) result }
+    ensures behind { StaysBehind (S.octets src.old) (S.octets src.new) }
+{
+    let mask = u8::read_value(alloc, src, 0)?;
+    if mask > KNOWN_FLAGS {
+        return Err(ReadFault::NoValue);
+    }
+    skip_fields(alloc, src, mask)?;
+    skip_inner(alloc, src, depth, mask & INNER != 0)
+}
+
+/// Passes over the fields that the mask announces, but the inner info.
+#[tactic(auto, unfolding(crate::specs::Diagnostic::diagnostic_fields))]
+fn skip_fields<S: Source>(alloc: Global, src: &mut S, mask: u8) -> Result<(), ReadFault>
+    ensures exact { Gives (skipped (diagnostic_fields mask).decode) (S.octets src.old) (S.octets src.new) result }
+    ensures behind { StaysBehind (S.octets src.old) (S.octets src.new) }
+{
+    read_field::<i32, S>(alloc, src, 0, mask & SYMBOLIC_ID != 0)?;
+    read_field::<i32, S>(alloc, src, 0, mask & NAMESPACE_URI != 0)?;
+    read_field::<i32, S>(alloc, src, 0, mask & LOCALE != 0)?;
+    read_field::<i32, S>(alloc, src, 0, mask & LOCALIZED_TEXT != 0)?;
+    read_flagged(alloc, src, 0, mask & ADDITIONAL_INFO != 0)?;
+    read_field::<StatusCode, S>(alloc, src, 0, mask & INNER_STATUS_CODE != 0)?;
+    Ok(())
+}
+
+/// Passes over an inner info where it is announced.
+#[cycle(skipped_diagnostics)]
+fn skip_inner<S: Source>(alloc: Global, src: &mut S, depth: u32, set: bool) -> Result<(), ReadFault>
+    requires levels { depth ≤ most_levels }
+    ensures exact { Gives (skipped (optional_read set (diagnostic_at depth))) (S.octets src.old) (S.octets src.new) result }
+    ensures behind { StaysBehind (S.octets src.old) (S.octets src.new) }
+{
+    if !set {
+        return Ok(());
+    }
+    skip_diagnostic(alloc, src, depth)
 }
 
 /// The flags of the fields that are there, but the inner info.

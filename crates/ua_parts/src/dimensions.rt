@@ -2,6 +2,7 @@
 
 ghost use Rattle.std.specs.Prelude.{◌≡◌, ◌<◌, ◌*◌, ◌++◌, true, min, length, IsTrue, IfOk, OnOk, OnErr, IsErrOf, []};
 ghost use Rattle.ua_builtin.specs.Counted.{first_negative};
+ghost use Rattle.ua_builtin.specs.Exact.{image_read, skipped};
 ghost use Rattle.ua_builtin.specs.Format.{Gives, GivesBy, StaysBehind, Extends};
 ghost use Rattle.ua_octets.specs.declared.fault.ReadFault.TheVariants.{NoValue};
 ghost use Rattle.ua_parts.specs.Dimensions.{product, is_count, are_sizes, dims_encodable, dims_canonical, sizes_canonical, size_at, sizes_at, dims_at, no_dims_at, IsOverlongDims};
@@ -174,6 +175,44 @@ fn read_sizes<S: Source>(alloc: Global, src: &mut S, count: u32) -> Result<Vec<i
         sizes.push(size)?;
     }
     Ok(sizes)
+}
+
+/// Passes over the dimensions of an array of so many elements, where they are announced.
+#[tactic(auto, unfolding(crate::specs::Dimensions::dims_at))]
+pub fn skip_dims<S: Source>(
+    alloc: Global,
+    src: &mut S,
+    set: bool,
+    elements: u32,
+) -> Result<(), ReadFault>
+    requires { elements < first_negative }
+    ensures exact { Gives (skipped (dims_at set elements)) (S.octets src.old) (S.octets src.new) result }
+    ensures behind { StaysBehind (S.octets src.old) (S.octets src.new) }
+{
+    if !set {
+        return Ok(());
+    }
+    let count = u32::read_value(alloc, src, 0)?;
+    if count >= FIRST_NEGATIVE || count == 0 {
+        return Ok(());
+    }
+    if skip_sizes(alloc, src, count)? != elements as u64 {
+        return Err(ReadFault::NoValue);
+    }
+    Ok(())
+}
+
+/// Passes over so many dimensions, and tells their product, or the greatest number.
+fn skip_sizes<S: Source>(alloc: Global, src: &mut S, count: u32) -> Result<u64, ReadFault>
+    ensures exact { Gives (image_read (λ sizes. min (product sizes) u64.MAX) (sizes_at count)) (S.octets src.old) (S.octets src.new) result }
+    ensures behind { StaysBehind (S.octets src.old) (S.octets src.new) }
+{
+    let mut all = 1u64;
+    for _ in 0..count {
+        let size = read_size(alloc, src)?;
+        all = all.saturating_mul(u64::from(size.unsigned_abs()));
+    }
+    Ok(all)
 }
 
 /// Reads an Int32 that is not negative.
