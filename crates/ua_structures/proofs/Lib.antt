@@ -4,6 +4,7 @@ pub mod ArrayLawful
 pub mod ItemsRead
 mod ItemsSkipped
 pub mod HeaderLawful
+mod HeaderRead
 pub mod AttributeLawful
 pub mod DiscoveryLawful
 pub mod SecureChannelLawful

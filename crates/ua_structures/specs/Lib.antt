@@ -6,3 +6,5 @@ pub mod Header
 pub mod Plain
 pub mod SecureChannel
 pub mod Session
+-- Words that only contracts within this crate cite.
+pub mod inside

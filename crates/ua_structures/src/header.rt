@@ -1,18 +1,31 @@
 //! Headers of requests and responses, and the fault.
 
-ghost use Rattle.std.specs.Prelude.{◌≡◌, IsTrue};
+ghost use Rattle.std.specs.Prelude.{◌≡◌, Some, None, IsTrue, MatchOption};
+ghost use Rattle.ua_builtin.specs.ExtensionObject.{null_object};
+ghost use Rattle.ua_builtin.specs.Format.{StaysBehind};
 ghost use Rattle.ua_builtin.specs.NodeId.{node_id};
+ghost use Rattle.ua_parts.specs.View.{no_diagnostics};
 ghost use Rattle.ua_structures.specs.Header.{request_header, response_header, service_fault};
 ghost use Rattle.ua_structures.specs.Plain.{request_header_of, response_header_of, service_fault_of};
+ghost use Rattle.ua_structures.specs.inside.HeaderEnds.{behind_diagnostics, behind_result};
 
 use crate::array::UaArray;
 use std::alloc::{AllocError, Global};
 use ua_builtin::laws::{moment_is_encodable, status_is_encodable};
 use ua_builtin::{
-    DateTime, ExtensionObject, NodeId, ReadFault, Skip, Source, StatusCode, UaString, Wire,
+    DateTime, ExtensionObject, NULL_COUNT, NodeId, ReadFault, Skip, Source, StatusCode, UaString,
+    Wire,
 };
 use ua_octets::{append_three, append_two};
 use ua_variant::DiagnosticInfo;
+
+/// What stands behind the ServiceResult of nearly each response, as a number, the least octet first: 00 of
+/// a DiagnosticInfo without fields (OPC 10000-6, 5.2.2.12), FF FF FF FF of a null array of texts (5.2.5),
+/// and 00 00 00 of the object that holds nothing (5.2.2.15).
+const NOTHING_MORE: u64 = 0x0000_00FF_FFFF_FF00;
+
+/// The same with an array of no texts, whose count is 00 00 00 00.
+const NO_TEXTS: u64 = 0;
 
 /// What stands at the head of each request (OPC 10000-4, 7.33).
 #[derive(Drop)]
@@ -60,7 +73,7 @@ impl RequestHeader {
 impl RequestHeader {
     ghost use Rattle.std.specs.Prelude.{◌≤◌};
     ghost use Rattle.ua_builtin.specs.Exact.{image_read};
-    ghost use Rattle.ua_builtin.specs.Format.{most_levels, Gives, GivesBy, StaysBehind};
+    ghost use Rattle.ua_builtin.specs.Format.{most_levels, Gives, GivesBy};
 
     /// A header whose fields are null or 0, to read one into. Takes no memory.
     pub fn empty() -> RequestHeader {
@@ -86,6 +99,30 @@ impl RequestHeader {
         self.timestamp = DateTime::read_value(alloc, src, depth)?;
         self.request_handle = u32::read_value(alloc, src, depth)?;
         self.return_diagnostics = u32::read_value(alloc, src, depth)?;
+        if let Some(timeout_hint) = take_timeout_alone(alloc, src) {
+            self.audit_entry_id = UaString::null();
+            self.timeout_hint = timeout_hint;
+            self.additional_header = ExtensionObject::null();
+            return Ok(());
+        }
+        self.read_behind_diagnostics(alloc, src, depth)
+    }
+
+    /// Reads what stands behind the ReturnDiagnostics in the place of what this header has of it.
+    #[inline(never)]
+    fn read_behind_diagnostics<S: Source>(
+        &mut self,
+        alloc: Global,
+        src: &mut S,
+        depth: u32,
+    ) -> Result<(), ReadFault>
+        requires levels { depth ≤ most_levels }
+        ensures exact { GivesBy (λ _. (self.new.audit_entry_id, (self.new.timeout_hint, self.new.additional_header)))
+            behind_diagnostics (S.octets src.old) (S.octets src.new) result }
+        ensures kept { (self.new.authentication_token ≡ self.old.authentication_token) × (self.new.timestamp ≡ self.old.timestamp)
+            × (self.new.request_handle ≡ self.old.request_handle) × (self.new.return_diagnostics ≡ self.old.return_diagnostics) }
+        ensures behind { StaysBehind (S.octets src.old) (S.octets src.new) }
+    {
         self.audit_entry_id = UaString::read_value(alloc, src, depth)?;
         self.timeout_hint = u32::read_value(alloc, src, depth)?;
         self.additional_header = ExtensionObject::read_value(alloc, src, depth)?;
@@ -108,11 +145,40 @@ impl RequestHeader {
         DateTime::skip_value(alloc, src, depth)?;
         let request_handle = u32::read_value(alloc, src, depth)?;
         u32::skip_value(alloc, src, depth)?;
+        if take_timeout_alone(alloc, src).is_some() {
+            return Ok(request_handle);
+        }
         UaString::skip_value(alloc, src, depth)?;
         u32::skip_value(alloc, src, depth)?;
         ExtensionObject::skip_value(alloc, src, depth)?;
         Ok(request_handle)
     }
+}
+
+/// Takes what stands behind the ReturnDiagnostics of a request that names no audit entry and adds nothing,
+/// as nearly each one, and answers its TimeoutHint. With `None` nothing is taken.
+#[inline(always)]
+fn take_timeout_alone<S: Source>(alloc: Global, src: &mut S) -> Option<u32>
+    ensures exact { MatchOption result (S.octets src.new ≡ S.octets src.old)
+        (λ timeout. behind_diagnostics (S.octets src.old) ≡ Some ((None, (timeout, null_object)), S.octets src.new)) }
+    ensures behind { StaysBehind (S.octets src.old) (S.octets src.new) }
+{
+    let mut ahead = src.fork();
+    let Ok(NULL_COUNT) = u32::read_value(alloc, &mut ahead, 0) else {
+        return None;
+    };
+    let Ok(timeout_hint) = u32::read_value(alloc, &mut ahead, 0) else {
+        return None;
+    };
+    // The object that holds nothing: the NodeId 00 00, and 00 of no body (OPC 10000-6, 5.2.2.15).
+    let Ok(0) = u16::read_value(alloc, &mut ahead, 0) else {
+        return None;
+    };
+    let Ok(0) = u8::read_value(alloc, &mut ahead, 0) else {
+        return None;
+    };
+    *src = ahead;
+    Some(timeout_hint)
 }
 
 impl Wire for RequestHeader {
@@ -206,7 +272,7 @@ impl ResponseHeader {
 
 impl ResponseHeader {
     ghost use Rattle.std.specs.Prelude.{◌≤◌};
-    ghost use Rattle.ua_builtin.specs.Format.{most_levels, GivesBy, StaysBehind};
+    ghost use Rattle.ua_builtin.specs.Format.{most_levels, GivesBy};
 
     /// A header whose fields are null or 0, to read one into. Takes no memory.
     pub fn empty() -> ResponseHeader {
@@ -231,11 +297,57 @@ impl ResponseHeader {
         self.timestamp = DateTime::read_value(alloc, src, depth)?;
         self.request_handle = u32::read_value(alloc, src, depth)?;
         self.service_result = StatusCode::read_value(alloc, src, depth)?;
+        if let Some(texts) = take_nothing_more(alloc, src, depth) {
+            self.service_diagnostics = DiagnosticInfo::empty();
+            self.string_table = texts;
+            self.additional_header = ExtensionObject::null();
+            return Ok(());
+        }
+        self.read_behind_result(alloc, src, depth)
+    }
+
+    /// Reads what stands behind the ServiceResult in the place of what this header has of it.
+    #[inline(never)]
+    fn read_behind_result<S: Source>(
+        &mut self,
+        alloc: Global,
+        src: &mut S,
+        depth: u32,
+    ) -> Result<(), ReadFault>
+        requires levels { depth ≤ most_levels }
+        ensures exact { GivesBy (λ _. (self.new.service_diagnostics, (self.new.string_table, self.new.additional_header)))
+            (behind_result depth) (S.octets src.old) (S.octets src.new) result }
+        ensures kept { (self.new.timestamp ≡ self.old.timestamp) × (self.new.request_handle ≡ self.old.request_handle)
+            × (self.new.service_result ≡ self.old.service_result) }
+        ensures behind { StaysBehind (S.octets src.old) (S.octets src.new) }
+    {
         self.service_diagnostics = DiagnosticInfo::read_value(alloc, src, depth)?;
         self.string_table = UaArray::read_value(alloc, src, depth)?;
         self.additional_header = ExtensionObject::read_value(alloc, src, depth)?;
         Ok(())
     }
+}
+
+/// Takes what stands behind the ServiceResult of a response without diagnostics and texts that adds nothing,
+/// as nearly each one, and answers its table of texts, null or empty. With `None` nothing is taken.
+#[inline(always)]
+#[tactic(auto, using(crate::proofs::HeaderRead::nothing_more, crate::proofs::HeaderRead::no_texts))]
+fn take_nothing_more<S: Source>(alloc: Global, src: &mut S, depth: u32) -> Option<UaArray<UaString>>
+    ensures exact { MatchOption result (S.octets src.new ≡ S.octets src.old)
+        (λ texts. behind_result depth (S.octets src.old) ≡ Some ((no_diagnostics, (texts, null_object)), S.octets src.new)) }
+    ensures behind { StaysBehind (S.octets src.old) (S.octets src.new) }
+{
+    if depth == 0 {
+        return None;
+    }
+    let mut ahead = src.fork();
+    let texts = match u64::read_value(alloc, &mut ahead, 0) {
+        Ok(NOTHING_MORE) => UaArray::null(),
+        Ok(NO_TEXTS) => UaArray::new(Some(Vec::new(alloc))),
+        _ => return None,
+    };
+    *src = ahead;
+    Some(texts)
 }
 
 impl Wire for ResponseHeader {
