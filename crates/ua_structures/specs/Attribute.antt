@@ -1,12 +1,10 @@
 -- The structures of Read and Write.
-use Rattle.std.specs.Prelude.{List, Option, ℤ}
 use Rattle.ua_builtin.specs.DoubleBits.{double_bits}
 use Rattle.ua_builtin.specs.Format.{Format, flat}
 use Rattle.ua_builtin.specs.Join.{pair, struct}
 use Rattle.ua_builtin.specs.NodeId.{node_id}
 use Rattle.ua_builtin.specs.QualifiedName.{qualified_name}
 use Rattle.ua_builtin.specs.Status.{status_code}
-use Rattle.ua_octets.specs.declared.double_bits.DoubleBits.{DoubleBits}
 use Rattle.ua_variant.specs.Formats.{data_value_format, diagnostic_format}
 use Rattle.ua_structures.specs.Array.{array}
 use Rattle.ua_structures.specs.Field.{int32, string, uint32}
@@ -17,7 +15,6 @@ use Rattle.ua_structures.specs.declared.attribute.ReadValueId.{ReadValueId}
 use Rattle.ua_structures.specs.declared.attribute.WriteRequest.{WriteRequest}
 use Rattle.ua_structures.specs.declared.attribute.WriteResponse.{WriteResponse}
 use Rattle.ua_structures.specs.declared.attribute.WriteValue.{WriteValue}
-use Rattle.ua_structures.specs.declared.header.RequestHeader.{RequestHeader}
 
 -- ---- ReadValueId
 
@@ -35,28 +32,17 @@ read_value_id = struct
 
 -- ---- ReadRequest
 
--- the fields behind its header
-abbrev pub ReadFields : Type 0
-ReadFields = DoubleBits × (ℤ × Option (List ReadValueId))
-
-abbrev pub read_request_fields : Format ReadFields
-read_request_fields = pair (flat double_bits) (pair int32 (array read_value_id))
-
--- the Read request that a header and the fields behind it make
-abbrev pub read_request_of : RequestHeader × ReadFields → ReadRequest
-read_request_of (request_header, (max_age, (timestamps_to_return, nodes_to_read))) = record {
-  request_header = request_header;
-  max_age = max_age;
-  timestamps_to_return = timestamps_to_return;
-  nodes_to_read = nodes_to_read;
-}
-
 -- its fields in order (OPC 10000-4, 5.11.2)
 unfoldable pub read_request : Format ReadRequest
 read_request = struct
-    read_request_of
+    (λ (request_header, (max_age, (timestamps_to_return, nodes_to_read))). record {
+      request_header = request_header;
+      max_age = max_age;
+      timestamps_to_return = timestamps_to_return;
+      nodes_to_read = nodes_to_read;
+    })
     (λ s. (s.request_header, (s.max_age, (s.timestamps_to_return, s.nodes_to_read))))
-    (pair request_header read_request_fields)
+    (pair request_header (pair (flat double_bits) (pair int32 (array read_value_id))))
 
 -- ---- ReadResponse
 
@@ -87,20 +73,12 @@ write_value = struct
 
 -- ---- WriteRequest
 
--- the fields behind its header
-abbrev pub write_request_fields : Format (Option (List WriteValue))
-write_request_fields = array write_value
-
--- the Write request that a header and the fields behind it make
-abbrev pub write_request_of : RequestHeader × Option (List WriteValue) → WriteRequest
-write_request_of (request_header, nodes_to_write) = record { request_header = request_header; nodes_to_write = nodes_to_write }
-
 -- its fields in order (OPC 10000-4, 5.11.4)
 unfoldable pub write_request : Format WriteRequest
 write_request = struct
-    write_request_of
+    (λ (request_header, nodes_to_write). record { request_header = request_header; nodes_to_write = nodes_to_write })
     (λ s. (s.request_header, s.nodes_to_write))
-    (pair request_header write_request_fields)
+    (pair request_header (array write_value))
 
 -- ---- WriteResponse
 

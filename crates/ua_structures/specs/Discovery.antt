@@ -1,5 +1,4 @@
 -- The structures of GetEndpoints.
-use Rattle.std.specs.Prelude.{List, Option, ℕ}
 use Rattle.ua_builtin.specs.Format.{Format, flat}
 use Rattle.ua_builtin.specs.Join.{pair, struct}
 use Rattle.ua_builtin.specs.LocalizedText.{localized_text}
@@ -11,7 +10,6 @@ use Rattle.ua_structures.specs.declared.discovery.EndpointDescription.{EndpointD
 use Rattle.ua_structures.specs.declared.discovery.GetEndpointsRequest.{GetEndpointsRequest}
 use Rattle.ua_structures.specs.declared.discovery.GetEndpointsResponse.{GetEndpointsResponse}
 use Rattle.ua_structures.specs.declared.discovery.UserTokenPolicy.{UserTokenPolicy}
-use Rattle.ua_structures.specs.declared.header.RequestHeader.{RequestHeader}
 
 -- ---- ApplicationDescription
 
@@ -140,28 +138,17 @@ endpoint_description = struct
 
 -- ---- GetEndpointsRequest
 
--- the fields behind its header
-abbrev pub GetEndpointsFields : Type 0
-GetEndpointsFields = Option (List ℕ) × (Option (List (Option (List ℕ))) × Option (List (Option (List ℕ))))
-
-abbrev pub get_endpoints_request_fields : Format GetEndpointsFields
-get_endpoints_request_fields = pair string (pair (array string) (array string))
-
--- the GetEndpoints request that a header and the fields behind it make
-abbrev pub get_endpoints_request_of : RequestHeader × GetEndpointsFields → GetEndpointsRequest
-get_endpoints_request_of (request_header, (endpoint_url, (locale_ids, profile_uris))) = record {
-  request_header = request_header;
-  endpoint_url = endpoint_url;
-  locale_ids = locale_ids;
-  profile_uris = profile_uris;
-}
-
 -- its fields in order (OPC 10000-4, 5.5.4)
 unfoldable pub get_endpoints_request : Format GetEndpointsRequest
 get_endpoints_request = struct
-    get_endpoints_request_of
+    (λ (request_header, (endpoint_url, (locale_ids, profile_uris))). record {
+      request_header = request_header;
+      endpoint_url = endpoint_url;
+      locale_ids = locale_ids;
+      profile_uris = profile_uris;
+    })
     (λ s. (s.request_header, (s.endpoint_url, (s.locale_ids, s.profile_uris))))
-    (pair request_header get_endpoints_request_fields)
+    (pair request_header (pair string (pair (array string) (array string))))
 
 -- ---- GetEndpointsResponse
 

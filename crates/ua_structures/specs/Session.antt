@@ -1,5 +1,4 @@
 -- The structures of the Session services.
-use Rattle.std.specs.Prelude.{Bool, List, Option, ℕ}
 use Rattle.ua_builtin.specs.Boolean.{boolean}
 use Rattle.ua_builtin.specs.DoubleBits.{double_bits}
 use Rattle.ua_builtin.specs.ExtensionObject.{extension_object}
@@ -7,15 +6,11 @@ use Rattle.ua_builtin.specs.Format.{Format, flat}
 use Rattle.ua_builtin.specs.Join.{pair, struct}
 use Rattle.ua_builtin.specs.NodeId.{node_id}
 use Rattle.ua_builtin.specs.Status.{status_code}
-use Rattle.ua_octets.specs.declared.double_bits.DoubleBits.{DoubleBits}
-use Rattle.ua_builtin.specs.declared.extension_object.ExtensionObject.{ExtensionObject}
 use Rattle.ua_variant.specs.Formats.{diagnostic_format}
 use Rattle.ua_structures.specs.Array.{array}
 use Rattle.ua_structures.specs.Discovery.{application_description, endpoint_description}
 use Rattle.ua_structures.specs.Field.{byte_string, string, uint32}
 use Rattle.ua_structures.specs.Header.{request_header, response_header}
-use Rattle.ua_structures.specs.declared.discovery.ApplicationDescription.{ApplicationDescription}
-use Rattle.ua_structures.specs.declared.header.RequestHeader.{RequestHeader}
 use Rattle.ua_structures.specs.declared.session.ActivateSessionRequest.{ActivateSessionRequest}
 use Rattle.ua_structures.specs.declared.session.ActivateSessionResponse.{ActivateSessionResponse}
 use Rattle.ua_structures.specs.declared.session.AnonymousIdentityToken.{AnonymousIdentityToken}
@@ -55,54 +50,41 @@ anonymous_identity_token = struct
 
 -- ---- CreateSessionRequest
 
--- the fields behind its header
-abbrev pub CreateSessionFields : Type 0
-CreateSessionFields = ApplicationDescription × (Option (List ℕ) × (Option (List ℕ) × (Option (List ℕ) × (Option (List ℕ) × (Option (List ℕ)
-    × (DoubleBits × ℕ))))))
-
-abbrev pub create_session_request_fields : Format CreateSessionFields
-create_session_request_fields = pair application_description (pair string (pair string (pair string (pair byte_string (pair byte_string
-    (pair (flat double_bits) uint32))))))
-
--- the CreateSession request that a header and the fields behind it make
-abbrev pub create_session_request_of : RequestHeader × CreateSessionFields → CreateSessionRequest
-create_session_request_of (
-  request_header,
-  (
-    client_description,
-    (
-      server_uri,
+-- its fields in order (OPC 10000-4, 5.7.2)
+unfoldable pub create_session_request : Format CreateSessionRequest
+create_session_request = struct
+    (λ (
+      request_header,
       (
-        endpoint_url,
+        client_description,
         (
-          session_name,
+          server_uri,
           (
-            client_nonce,
+            endpoint_url,
             (
-              client_certificate,
-              (requested_session_timeout, max_response_message_size),
+              session_name,
+              (
+                client_nonce,
+                (
+                  client_certificate,
+                  (requested_session_timeout, max_response_message_size),
+                ),
+              ),
             ),
           ),
         ),
       ),
-    ),
-  ),
-) = record {
-  request_header = request_header;
-  client_description = client_description;
-  server_uri = server_uri;
-  endpoint_url = endpoint_url;
-  session_name = session_name;
-  client_nonce = client_nonce;
-  client_certificate = client_certificate;
-  requested_session_timeout = requested_session_timeout;
-  max_response_message_size = max_response_message_size;
-}
-
--- its fields in order (OPC 10000-4, 5.7.2)
-unfoldable pub create_session_request : Format CreateSessionRequest
-create_session_request = struct
-    create_session_request_of
+    ). record {
+      request_header = request_header;
+      client_description = client_description;
+      server_uri = server_uri;
+      endpoint_url = endpoint_url;
+      session_name = session_name;
+      client_nonce = client_nonce;
+      client_certificate = client_certificate;
+      requested_session_timeout = requested_session_timeout;
+      max_response_message_size = max_response_message_size;
+    })
     (λ s. (
       s.request_header,
       (
@@ -125,7 +107,8 @@ create_session_request = struct
         ),
       ),
     ))
-    (pair request_header create_session_request_fields)
+    (pair request_header (pair application_description (pair string (pair string (pair string (pair byte_string (pair byte_string
+    (pair (flat double_bits) uint32))))))))
 
 -- ---- CreateSessionResponse
 
@@ -189,47 +172,35 @@ create_session_response = struct
 
 -- ---- ActivateSessionRequest
 
--- the fields behind its header
-abbrev pub ActivateSessionFields : Type 0
-ActivateSessionFields = SignatureData × (Option (List SignedSoftwareCertificate) × (Option (List (Option (List ℕ)))
-    × (ExtensionObject × SignatureData)))
-
-abbrev pub activate_session_request_fields : Format ActivateSessionFields
-activate_session_request_fields = pair signature_data (pair (array signed_software_certificate) (pair (array string)
-    (pair (flat extension_object) signature_data)))
-
--- the ActivateSession request that a header and the fields behind it make
-abbrev pub activate_session_request_of : RequestHeader × ActivateSessionFields → ActivateSessionRequest
-activate_session_request_of (
-  request_header,
-  (
-    client_signature,
-    (
-      client_software_certificates,
-      (
-        locale_ids,
-        (
-          user_identity_token,
-          user_token_signature,
-        ),
-      ),
-    ),
-  ),
-) = record {
-  request_header = request_header;
-  client_signature = client_signature;
-  client_software_certificates = client_software_certificates;
-  locale_ids = locale_ids;
-  user_identity_token = user_identity_token;
-  user_token_signature = user_token_signature;
-}
-
 -- its fields in order (OPC 10000-4, 5.7.3)
 unfoldable pub activate_session_request : Format ActivateSessionRequest
 activate_session_request = struct
-    activate_session_request_of
+    (λ (
+      request_header,
+      (
+        client_signature,
+        (
+          client_software_certificates,
+          (
+            locale_ids,
+            (
+              user_identity_token,
+              user_token_signature,
+            ),
+          ),
+        ),
+      ),
+    ). record {
+      request_header = request_header;
+      client_signature = client_signature;
+      client_software_certificates = client_software_certificates;
+      locale_ids = locale_ids;
+      user_identity_token = user_identity_token;
+      user_token_signature = user_token_signature;
+    })
     (λ s. (s.request_header, (s.client_signature, (s.client_software_certificates, (s.locale_ids, (s.user_identity_token, s.user_token_signature))))))
-    (pair request_header activate_session_request_fields)
+    (pair request_header (pair signature_data (pair (array signed_software_certificate) (pair (array string)
+    (pair (flat extension_object) signature_data)))))
 
 -- ---- ActivateSessionResponse
 
@@ -247,23 +218,15 @@ activate_session_response = struct
 
 -- ---- CloseSessionRequest
 
--- the fields behind its header
-abbrev pub close_session_request_fields : Format Bool
-close_session_request_fields = flat boolean
-
--- the CloseSession request that a header and the field behind it make
-abbrev pub close_session_request_of : RequestHeader × Bool → CloseSessionRequest
-close_session_request_of (request_header, delete_subscriptions) = record {
-  request_header = request_header;
-  delete_subscriptions = delete_subscriptions;
-}
-
 -- its fields in order (OPC 10000-4, 5.7.4)
 unfoldable pub close_session_request : Format CloseSessionRequest
 close_session_request = struct
-    close_session_request_of
+    (λ (request_header, delete_subscriptions). record {
+      request_header = request_header;
+      delete_subscriptions = delete_subscriptions;
+    })
     (λ s. (s.request_header, s.delete_subscriptions))
-    (pair request_header close_session_request_fields)
+    (pair request_header (flat boolean))
 
 -- ---- CloseSessionResponse
 

@@ -121,9 +121,7 @@ pub struct ReadRequest {
 }
 
 impl ReadRequest {
-    ghost use Rattle.ua_builtin.specs.Exact.{image_read, skipped};
-    ghost use Rattle.ua_builtin.specs.Format.{most_levels, Gives, GivesBy, StaysBehind};
-    ghost use Rattle.ua_structures.specs.Attribute.{read_request_fields, read_request_of};
+    ghost use Rattle.ua_builtin.specs.Format.{most_levels, GivesBy, StaysBehind};
 
     /// A Read of these items, however old their values, with the times of source and server.
     #[tactic(auto, using(crate::proofs::PlainFits::read_request_fits))]
@@ -166,58 +164,25 @@ impl ReadRequest {
         }
     }
 
-    /// Reads the fields behind the header, which stays, in the place of these, as
-    /// [`read_behind`](ReadRequest::read_behind) reads them. After a fault the source is to be given up.
+    /// Reads the ReadRequest that the source begins with in the place of this one, as reading a value
+    /// does. After a fault the source is to be given up.
     #[inline(never)]
-    pub fn read_fields<S: Source>(
+    #[tactic(auto, unfolding(crate::specs::Attribute::read_request))]
+    pub fn read_into<S: Source>(
         &mut self,
         alloc: Global,
         src: &mut S,
         depth: u32,
     ) -> Result<(), ReadFault>
         requires levels { depth ≤ most_levels }
-        ensures exact { GivesBy (λ _. self.new) (image_read (λ fields. read_request_of (self.old.request_header, fields)) (read_request_fields.decode depth)) (S.octets src.old) (S.octets src.new) result }
-        ensures header { self.new.request_header ≡ self.old.request_header }
+        ensures exact { GivesBy (λ _. self.new) (read_request.decode depth) (S.octets src.old) (S.octets src.new) result }
         ensures behind { StaysBehind (S.octets src.old) (S.octets src.new) }
     {
+        self.request_header.read_into(alloc, src, depth)?;
         self.max_age = DoubleBits::read_value(alloc, src, depth)?;
         self.timestamps_to_return = i32::read_value(alloc, src, depth)?;
         self.nodes_to_read = UaArray::read_value(alloc, src, depth)?;
         Ok(())
-    }
-
-    /// Passes over the fields behind a header that was read already, and keeps none. After a fault the
-    /// source is to be given up.
-    pub fn skip_fields<S: Source>(alloc: Global, src: &mut S, depth: u32) -> Result<(), ReadFault>
-        requires levels { depth ≤ most_levels }
-        ensures exact { Gives (skipped (read_request_fields.decode depth)) (S.octets src.old) (S.octets src.new) result }
-        ensures behind { StaysBehind (S.octets src.old) (S.octets src.new) }
-    {
-        DoubleBits::skip_value(alloc, src, depth)?;
-        i32::skip_value(alloc, src, depth)?;
-        UaArray::<ReadValueId>::skip_value(alloc, src, depth)
-    }
-
-    /// Reads the fields behind a header that was read already.
-    pub fn read_behind<S: Source>(
-        alloc: Global,
-        src: &mut S,
-        depth: u32,
-        request_header: RequestHeader,
-    ) -> Result<ReadRequest, ReadFault>
-        requires levels { depth ≤ most_levels }
-        ensures exact { Gives (image_read (λ fields. read_request_of (request_header, fields)) (read_request_fields.decode depth)) (S.octets src.old) (S.octets src.new) result }
-        ensures behind { StaysBehind (S.octets src.old) (S.octets src.new) }
-    {
-        let max_age = DoubleBits::read_value(alloc, src, depth)?;
-        let timestamps_to_return = i32::read_value(alloc, src, depth)?;
-        let nodes_to_read = UaArray::read_value(alloc, src, depth)?;
-        Ok(ReadRequest {
-            request_header,
-            max_age,
-            timestamps_to_return,
-            nodes_to_read,
-        })
     }
 }
 
@@ -236,8 +201,14 @@ impl Wire for ReadRequest {
         src: &mut S,
         depth: u32,
     ) -> Result<ReadRequest, ReadFault> {
-        let request_header = RequestHeader::read_value(alloc, src, depth)?;
-        ReadRequest::read_behind(alloc, src, depth, request_header)
+        let mut message = ReadRequest::empty();
+        match message.read_into(alloc, src, depth) {
+            Ok(()) => Ok(message),
+            Err(fault) => {
+                drop(message);
+                Err(fault)
+            }
+        }
     }
 
     #[tactic(auto, unfolding(crate::specs::Attribute::read_request))]
@@ -252,6 +223,16 @@ impl Wire for ReadRequest {
     fn append(&self, out: &mut Vec<u8>) -> Result<(), AllocError> {
         append_two(&self.request_header, &self.max_age, out)?;
         append_two(&self.timestamps_to_return, &self.nodes_to_read, out)
+    }
+}
+
+impl Skip for ReadRequest {
+    #[tactic(auto, unfolding(crate::specs::Attribute::read_request))]
+    fn skip_value<S: Source>(alloc: Global, src: &mut S, depth: u32) -> Result<(), ReadFault> {
+        RequestHeader::skip_for_handle(alloc, src, depth)?;
+        DoubleBits::skip_value(alloc, src, depth)?;
+        i32::skip_value(alloc, src, depth)?;
+        UaArray::<ReadValueId>::skip_value(alloc, src, depth)
     }
 }
 
@@ -430,10 +411,6 @@ pub struct WriteRequest {
 }
 
 impl WriteRequest {
-    ghost use Rattle.ua_builtin.specs.Exact.{image_read};
-    ghost use Rattle.ua_builtin.specs.Format.{most_levels, Gives, StaysBehind};
-    ghost use Rattle.ua_structures.specs.Attribute.{write_request_fields, write_request_of};
-
     /// A Write of these items.
     #[tactic(auto, using(crate::proofs::PlainFits::write_request_fits))]
     pub fn of_items(request_header: RequestHeader, items: Vec<WriteValue>) -> WriteRequest
@@ -462,24 +439,6 @@ impl WriteRequest {
         items.push(item)?;
         Ok(WriteRequest::of_items(request_header, items))
     }
-
-    /// Reads the fields behind a header that was read already.
-    pub fn read_behind<S: Source>(
-        alloc: Global,
-        src: &mut S,
-        depth: u32,
-        request_header: RequestHeader,
-    ) -> Result<WriteRequest, ReadFault>
-        requires levels { depth ≤ most_levels }
-        ensures exact { Gives (image_read (λ fields. write_request_of (request_header, fields)) (write_request_fields.decode depth)) (S.octets src.old) (S.octets src.new) result }
-        ensures behind { StaysBehind (S.octets src.old) (S.octets src.new) }
-    {
-        let nodes_to_write = Wire::read_value(alloc, src, depth)?;
-        Ok(WriteRequest {
-            request_header,
-            nodes_to_write,
-        })
-    }
 }
 
 impl Wire for WriteRequest {
@@ -498,7 +457,11 @@ impl Wire for WriteRequest {
         depth: u32,
     ) -> Result<WriteRequest, ReadFault> {
         let request_header = RequestHeader::read_value(alloc, src, depth)?;
-        WriteRequest::read_behind(alloc, src, depth, request_header)
+        let nodes_to_write = Wire::read_value(alloc, src, depth)?;
+        Ok(WriteRequest {
+            request_header,
+            nodes_to_write,
+        })
     }
 
     #[tactic(auto, unfolding(crate::specs::Attribute::write_request))]

@@ -304,10 +304,6 @@ pub struct GetEndpointsRequest {
 }
 
 impl GetEndpointsRequest {
-    ghost use Rattle.ua_builtin.specs.Exact.{image_read};
-    ghost use Rattle.ua_builtin.specs.Format.{most_levels, Gives, StaysBehind};
-    ghost use Rattle.ua_structures.specs.Discovery.{get_endpoints_request_fields, get_endpoints_request_of};
-
     /// Asks for the endpoints at this address, for any locale and profile.
     #[tactic(auto, using(crate::proofs::PlainFits::endpoints_fit))]
     pub fn of_url(request_header: RequestHeader, endpoint_url: UaString) -> GetEndpointsRequest
@@ -320,26 +316,6 @@ impl GetEndpointsRequest {
             locale_ids: UaArray::null(),
             profile_uris: UaArray::null(),
         }
-    }
-
-    /// Reads the fields behind a header that was read already.
-    pub fn read_behind<S: Source>(
-        alloc: Global,
-        src: &mut S,
-        depth: u32,
-        request_header: RequestHeader,
-    ) -> Result<GetEndpointsRequest, ReadFault>
-        requires levels { depth ≤ most_levels }
-        ensures exact { Gives (image_read (λ fields. get_endpoints_request_of (request_header, fields)) (get_endpoints_request_fields.decode depth)) (S.octets src.old) (S.octets src.new) result }
-        ensures behind { StaysBehind (S.octets src.old) (S.octets src.new) }
-    {
-        let (endpoint_url, (locale_ids, profile_uris)) = Wire::read_value(alloc, src, depth)?;
-        Ok(GetEndpointsRequest {
-            request_header,
-            endpoint_url,
-            locale_ids,
-            profile_uris,
-        })
     }
 }
 
@@ -359,7 +335,13 @@ impl Wire for GetEndpointsRequest {
         depth: u32,
     ) -> Result<GetEndpointsRequest, ReadFault> {
         let request_header = RequestHeader::read_value(alloc, src, depth)?;
-        GetEndpointsRequest::read_behind(alloc, src, depth, request_header)
+        let (endpoint_url, (locale_ids, profile_uris)) = Wire::read_value(alloc, src, depth)?;
+        Ok(GetEndpointsRequest {
+            request_header,
+            endpoint_url,
+            locale_ids,
+            profile_uris,
+        })
     }
 
     #[tactic(auto, unfolding(crate::specs::Discovery::get_endpoints_request))]

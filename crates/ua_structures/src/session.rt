@@ -87,10 +87,6 @@ pub struct CreateSessionRequest {
 }
 
 impl CreateSessionRequest {
-    ghost use Rattle.ua_builtin.specs.Exact.{image_read};
-    ghost use Rattle.ua_builtin.specs.Format.{most_levels, Gives, StaysBehind};
-    ghost use Rattle.ua_structures.specs.Session.{create_session_request_fields, create_session_request_of};
-
     /// Asks for a session of this client, at this address, under this name, with this timeout in
     /// milliseconds: without a limit of responses, and with nulls else.
     #[tactic(auto, using(crate::proofs::PlainFits::create_session_fits))]
@@ -118,18 +114,24 @@ impl CreateSessionRequest {
             max_response_message_size: 0,
         }
     }
+}
 
-    /// Reads the fields behind a header that was read already.
-    pub fn read_behind<S: Source>(
+impl Wire for CreateSessionRequest {
+    ghost use Rattle.ua_structures.specs.Session.{create_session_request};
+
+    ghost format = { create_session_request };
+
+    #[inline]
+    #[tactic(auto, using(crate::proofs::SessionLawful::lawful_create_session_request))]
+    fn lawful() {}
+
+    #[tactic(auto, unfolding(crate::specs::Session::create_session_request))]
+    fn read_value<S: Source>(
         alloc: Global,
         src: &mut S,
         depth: u32,
-        request_header: RequestHeader,
-    ) -> Result<CreateSessionRequest, ReadFault>
-        requires levels { depth ≤ most_levels }
-        ensures exact { Gives (image_read (λ fields. create_session_request_of (request_header, fields)) (create_session_request_fields.decode depth)) (S.octets src.old) (S.octets src.new) result }
-        ensures behind { StaysBehind (S.octets src.old) (S.octets src.new) }
-    {
+    ) -> Result<CreateSessionRequest, ReadFault> {
+        let request_header = RequestHeader::read_value(alloc, src, depth)?;
         let (
             client_description,
             (
@@ -160,26 +162,6 @@ impl CreateSessionRequest {
             requested_session_timeout,
             max_response_message_size,
         })
-    }
-}
-
-impl Wire for CreateSessionRequest {
-    ghost use Rattle.ua_structures.specs.Session.{create_session_request};
-
-    ghost format = { create_session_request };
-
-    #[inline]
-    #[tactic(auto, using(crate::proofs::SessionLawful::lawful_create_session_request))]
-    fn lawful() {}
-
-    #[tactic(auto, unfolding(crate::specs::Session::create_session_request))]
-    fn read_value<S: Source>(
-        alloc: Global,
-        src: &mut S,
-        depth: u32,
-    ) -> Result<CreateSessionRequest, ReadFault> {
-        let request_header = RequestHeader::read_value(alloc, src, depth)?;
-        CreateSessionRequest::read_behind(alloc, src, depth, request_header)
     }
 
     #[tactic(auto, unfolding(crate::specs::Session::create_session_request))]
@@ -372,10 +354,6 @@ pub struct ActivateSessionRequest {
 }
 
 impl ActivateSessionRequest {
-    ghost use Rattle.ua_builtin.specs.Exact.{image_read};
-    ghost use Rattle.ua_builtin.specs.Format.{most_levels, Gives, StaysBehind};
-    ghost use Rattle.ua_structures.specs.Session.{activate_session_request_fields, activate_session_request_of};
-
     /// Says that the session of the header is that of this identity; with nulls else.
     #[tactic(auto, using(crate::proofs::PlainFits::activate_session_fits))]
     pub fn new(
@@ -395,34 +373,6 @@ impl ActivateSessionRequest {
             user_token_signature: SignatureData::null(),
         }
     }
-
-    /// Reads the fields behind a header that was read already.
-    pub fn read_behind<S: Source>(
-        alloc: Global,
-        src: &mut S,
-        depth: u32,
-        request_header: RequestHeader,
-    ) -> Result<ActivateSessionRequest, ReadFault>
-        requires levels { depth ≤ most_levels }
-        ensures exact { Gives (image_read (λ fields. activate_session_request_of (request_header, fields)) (activate_session_request_fields.decode depth)) (S.octets src.old) (S.octets src.new) result }
-        ensures behind { StaysBehind (S.octets src.old) (S.octets src.new) }
-    {
-        let (
-            client_signature,
-            (
-                client_software_certificates,
-                (locale_ids, (user_identity_token, user_token_signature)),
-            ),
-        ) = Wire::read_value(alloc, src, depth)?;
-        Ok(ActivateSessionRequest {
-            request_header,
-            client_signature,
-            client_software_certificates,
-            locale_ids,
-            user_identity_token,
-            user_token_signature,
-        })
-    }
 }
 
 impl Wire for ActivateSessionRequest {
@@ -441,7 +391,21 @@ impl Wire for ActivateSessionRequest {
         depth: u32,
     ) -> Result<ActivateSessionRequest, ReadFault> {
         let request_header = RequestHeader::read_value(alloc, src, depth)?;
-        ActivateSessionRequest::read_behind(alloc, src, depth, request_header)
+        let (
+            client_signature,
+            (
+                client_software_certificates,
+                (locale_ids, (user_identity_token, user_token_signature)),
+            ),
+        ) = Wire::read_value(alloc, src, depth)?;
+        Ok(ActivateSessionRequest {
+            request_header,
+            client_signature,
+            client_software_certificates,
+            locale_ids,
+            user_identity_token,
+            user_token_signature,
+        })
     }
 
     #[tactic(auto, unfolding(crate::specs::Session::activate_session_request))]
@@ -544,30 +508,6 @@ pub struct CloseSessionRequest {
     pub delete_subscriptions: bool,
 }
 
-impl CloseSessionRequest {
-    ghost use Rattle.ua_builtin.specs.Exact.{image_read};
-    ghost use Rattle.ua_builtin.specs.Format.{most_levels, Gives, StaysBehind};
-    ghost use Rattle.ua_structures.specs.Session.{close_session_request_fields, close_session_request_of};
-
-    /// Reads the fields behind a header that was read already.
-    pub fn read_behind<S: Source>(
-        alloc: Global,
-        src: &mut S,
-        depth: u32,
-        request_header: RequestHeader,
-    ) -> Result<CloseSessionRequest, ReadFault>
-        requires levels { depth ≤ most_levels }
-        ensures exact { Gives (image_read (λ fields. close_session_request_of (request_header, fields)) (close_session_request_fields.decode depth)) (S.octets src.old) (S.octets src.new) result }
-        ensures behind { StaysBehind (S.octets src.old) (S.octets src.new) }
-    {
-        let delete_subscriptions = Wire::read_value(alloc, src, depth)?;
-        Ok(CloseSessionRequest {
-            request_header,
-            delete_subscriptions,
-        })
-    }
-}
-
 impl Wire for CloseSessionRequest {
     ghost use Rattle.ua_structures.specs.Session.{close_session_request};
 
@@ -584,7 +524,11 @@ impl Wire for CloseSessionRequest {
         depth: u32,
     ) -> Result<CloseSessionRequest, ReadFault> {
         let request_header = RequestHeader::read_value(alloc, src, depth)?;
-        CloseSessionRequest::read_behind(alloc, src, depth, request_header)
+        let delete_subscriptions = Wire::read_value(alloc, src, depth)?;
+        Ok(CloseSessionRequest {
+            request_header,
+            delete_subscriptions,
+        })
     }
 
     #[tactic(auto, unfolding(crate::specs::Session::close_session_request))]
