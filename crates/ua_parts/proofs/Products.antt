@@ -1,5 +1,5 @@
 -- The product of dimensions that are passed over.
-use Rattle.std.proofs.Common.{◌≡◌, ℕ, zero, suc, ◌+◌, ◌-◌, ◌*◌, ◌<◌, ◌≤◌, min, List, ◌∷◌, Option, Some, None, Err, refl, sym, ap, ◌∙◌, arith}
+use Rattle.std.proofs.Common.{◌≡◌, ℕ, suc, ◌+◌, ◌-◌, ◌*◌, ◌<◌, ◌≤◌, min, List, ◌∷◌, Option, Some, None, Err, refl, sym, ap, ◌∙◌, arith}
 use lib.IntN.{ℤ}
 use Rattle.std.specs.Int.RustNames.{unsigned_abs}
 use Rattle.ua_octets.specs.Exact.{◌>>=◌, image_read}

@@ -1,9 +1,10 @@
 //! The parts that values which hold values are made of, both ways: fields that a mask announces,
 //! the dimensions of arrays, and DiagnosticInfo (OPC 10000-6, 5.2.2.12).
 //!
-//! Its contract is that of `Wire` for DiagnosticInfo, over the relation `EncodesDiagnostic`, with
-//! exact `depth`, `count`, `writable` and `try_clone`; `Dimensions` and the functions of `field`
-//! are for the crate above, which reads and writes Variants and DataValues with them.
+//! Its contract is that of `Wire` and of `Skip` for DiagnosticInfo, over the relation
+//! `EncodesDiagnostic`, with exact `depth`, `count`, `writable` and `try_clone`; `Dimensions` and the
+//! functions of `field` are for the crate above, which reads and writes Variants and DataValues with
+//! them.
 //!
 //! ```
 //! let mut src = Octets::new(&octets);

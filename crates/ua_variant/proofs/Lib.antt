@@ -17,3 +17,4 @@ mod Valued
 mod Written
 mod OntoRead
 mod PackedRows
+mod RowsSkipped

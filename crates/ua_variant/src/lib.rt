@@ -1,7 +1,7 @@
 //! Values that hold values of OPC UA Binary, both ways: Variant, DataValue and DiagnosticInfo
 //! (OPC 10000-6, 5.2.2.12, 5.2.2.16 and 5.2.2.17).
 //!
-//! Its contract is that of `Wire` for the three, over the relations `EncodesVariant`,
+//! Its contract is that of `Wire` and of `Skip` for the three, over the relations `EncodesVariant`,
 //! `EncodesDataValue` and `EncodesDiagnostic`, and exact `depth`, `count`, `writable` and
 //! `try_clone`. Values hold no pointers or capacities in a contract, so `≡` is equality of values.
 //!
@@ -35,6 +35,7 @@ mod onto;
 mod packed;
 mod read;
 mod records;
+mod skip;
 mod values;
 mod wire;
 mod write;

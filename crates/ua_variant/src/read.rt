@@ -35,7 +35,7 @@ use ua_parts::{read_dims, read_no_dims};
 
 /// Reads a scalar that holds no further value.
 #[inline(always)]
-fn read_leaf<S: Source>(alloc: Global, src: &mut S, kind: u8) -> Result<Scalar, ReadFault>
+pub fn read_leaf<S: Source>(alloc: Global, src: &mut S, kind: u8) -> Result<Scalar, ReadFault>
     ensures exact { GivesBy scalar_of (image_read leaf (leaf_at kind)) (S.octets src.old) (S.octets src.new) result }
     ensures behind { StaysBehind (S.octets src.old) (S.octets src.new) }
 {
@@ -109,7 +109,7 @@ pub fn read_variant<S: Source>(alloc: Global, src: &mut S, depth: u32) -> Result
 
 /// Whether values of the type id are read.
 #[inline]
-fn is_read_kind(kind: u8) -> bool
+pub fn is_read_kind(kind: u8) -> bool
     ensures { result ≡ read_kind kind }
 {
     1 <= kind && kind <= 31

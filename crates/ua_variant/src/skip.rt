@@ -1,0 +1,239 @@
+//! Passes over Variants and DataValues. Of an array one scalar is made at a time, or a part of a packed
+//! one, and let go before the next, so that memory does not grow with the elements.
+
+ghost use Rattle.std.specs.Prelude.{◌≡◌, ◌<◌, ◌≤◌, true};
+ghost use Rattle.ua_builtin.specs.Counted.{first_negative};
+ghost use Rattle.ua_builtin.specs.Exact.{image_read, skipped};
+ghost use Rattle.ua_builtin.specs.Format.{most_levels, Gives, StaysBehind};
+ghost use Rattle.ua_parts.specs.Parts.{optional_read};
+ghost use Rattle.ua_variant.specs.Data.{leaf};
+ghost use Rattle.ua_variant.specs.Decoding.{variant_at, variant_step, variant_after, data_value_at, data_value_step, scalars_at, array_at, elements_at, row_at};
+ghost use Rattle.ua_variant.specs.Leaf.{leaf_at};
+ghost use Rattle.ua_variant.specs.Packed.{is_packed_kind};
+
+use crate::blocks::{is_packed, read_packed};
+use crate::fields::read_data_fields;
+use crate::least::least_octets;
+use crate::masks;
+use crate::read::{is_read_kind, read_leaf};
+use crate::values::{DataValue, Variant};
+use std::alloc::Global;
+use ua_builtin::{ReadFault, Skip, Source, Wire};
+use ua_octets::FIRST_NEGATIVE;
+use ua_parts::{read_no_dims, skip_diagnostic, skip_dims};
+
+/// At most so many elements of a packed array are read at a time, which take 8 KiB or less.
+const PART: u32 = 512;
+
+impl Skip for Variant {
+    #[tactic(auto, unfolding(crate::specs::Formats::variant_format))]
+    fn skip_value<S: Source>(alloc: Global, src: &mut S, depth: u32) -> Result<(), ReadFault> {
+        skip_variant(alloc, src, depth)
+    }
+}
+
+impl Skip for DataValue {
+    #[tactic(auto, unfolding(crate::specs::Formats::data_value_format))]
+    fn skip_value<S: Source>(alloc: Global, src: &mut S, depth: u32) -> Result<(), ReadFault> {
+        skip_data_value(alloc, src, depth)
+    }
+}
+
+/// Passes over a scalar that holds no further value: it is read, and let go.
+fn skip_leaf<S: Source>(alloc: Global, src: &mut S, kind: u8) -> Result<(), ReadFault>
+    ensures exact { Gives (skipped (image_read leaf (leaf_at kind))) (S.octets src.old) (S.octets src.new) result }
+    ensures behind { StaysBehind (S.octets src.old) (S.octets src.new) }
+{
+    read_leaf(alloc, src, kind)?;
+    Ok(())
+}
+
+/// Passes over so many elements of a type id whose arrays are packed, a part of them at a time.
+fn skip_packed<S: Source>(alloc: Global, src: &mut S, kind: u8, count: u32) -> Result<(), ReadFault>
+    requires { is_packed_kind kind ≡ true }
+    ensures exact { Gives (skipped (row_at count (image_read leaf (leaf_at kind)))) (S.octets src.old) (S.octets src.new) result }
+    ensures behind { StaysBehind (S.octets src.old) (S.octets src.new) }
+{
+    let mut left = count;
+    while left > 0 {
+        let part = left.min(PART);
+        read_packed(alloc, src, kind, part)?;
+        left -= part;
+    }
+    Ok(())
+}
+
+/// Passes over a Variant of at most so many levels.
+#[cycle(skips)]
+fn skip_variant<S: Source>(alloc: Global, src: &mut S, depth: u32) -> Result<(), ReadFault>
+    requires levels { depth ≤ most_levels }
+    ensures exact { Gives (skipped (variant_at depth)) (S.octets src.old) (S.octets src.new) result }
+    ensures behind { StaysBehind (S.octets src.old) (S.octets src.new) }
+{
+    if depth == 0 {
+        return Err(ReadFault::NoValue);
+    }
+    skip_variant_level(alloc, src, depth - 1)
+}
+
+/// Passes over a Variant, with so many levels left within.
+#[cycle(skips)]
+#[tactic(auto, unfolding(crate::specs::Decoding::variant_step))]
+fn skip_variant_level<S: Source>(alloc: Global, src: &mut S, depth: u32) -> Result<(), ReadFault>
+    requires levels { depth ≤ most_levels }
+    ensures exact { Gives (skipped (variant_step (scalars_at depth))) (S.octets src.old) (S.octets src.new) result }
+    ensures behind { StaysBehind (S.octets src.old) (S.octets src.new) }
+{
+    let tag = u8::read_value(alloc, src, 0)?;
+    skip_tagged(alloc, src, depth, tag)
+}
+
+/// Passes over a Variant behind its first octet, with so many levels left within.
+#[cycle(skips)]
+#[tactic(auto, unfolding(crate::specs::Decoding::variant_after))]
+fn skip_tagged<S: Source>(alloc: Global, src: &mut S, depth: u32, tag: u8) -> Result<(), ReadFault>
+    requires levels { depth ≤ most_levels }
+    ensures exact { Gives (skipped (variant_after (scalars_at depth) tag)) (S.octets src.old) (S.octets src.new) result }
+    ensures behind { StaysBehind (S.octets src.old) (S.octets src.new) }
+{
+    if tag == 0 {
+        return Ok(());
+    }
+    if tag >= masks::ARRAY {
+        let kind = tag & masks::TYPE_ID;
+        if !is_read_kind(kind) {
+            return Err(ReadFault::NoValue);
+        }
+        return skip_array(alloc, src, depth, kind, tag & masks::DIMENSIONS != 0);
+    }
+    if tag == 24 {
+        return Err(ReadFault::NoValue);
+    }
+    skip_scalar(alloc, src, depth, tag)
+}
+
+/// Passes over an array behind its first octet.
+#[cycle(skips)]
+#[tactic(auto, unfolding(crate::specs::Decoding::array_at))]
+fn skip_array<S: Source>(
+    alloc: Global,
+    src: &mut S,
+    depth: u32,
+    kind: u8,
+    flagged: bool,
+) -> Result<(), ReadFault>
+    requires levels { depth ≤ most_levels }
+    ensures exact { Gives (skipped (array_at (scalars_at depth) kind flagged)) (S.octets src.old) (S.octets src.new) result }
+    ensures behind { StaysBehind (S.octets src.old) (S.octets src.new) }
+{
+    let count = u32::read_value(alloc, src, 0)?;
+    if count >= FIRST_NEGATIVE {
+        read_no_dims(alloc, src, flagged)?;
+        return Ok(());
+    }
+    let room = src.left() / least_octets(kind);
+    if room < count as usize {
+        return Err(ReadFault::NoValue);
+    }
+    skip_elements(alloc, src, depth, kind, flagged, count)
+}
+
+/// Passes over so many elements and the dimensions.
+#[cycle(skips)]
+fn skip_elements<S: Source>(
+    alloc: Global,
+    src: &mut S,
+    depth: u32,
+    kind: u8,
+    flagged: bool,
+    count: u32,
+) -> Result<(), ReadFault>
+    requires levels { depth ≤ most_levels }
+    requires count { count < first_negative }
+    ensures exact { Gives (skipped (elements_at (scalars_at depth) kind flagged count)) (S.octets src.old) (S.octets src.new) result }
+    ensures behind { StaysBehind (S.octets src.old) (S.octets src.new) }
+{
+    skip_row(alloc, src, depth, kind, count)?;
+    skip_dims(alloc, src, flagged, count)
+}
+
+/// Passes over so many elements of the type id.
+#[cycle(skips)]
+fn skip_row<S: Source>(
+    alloc: Global,
+    src: &mut S,
+    depth: u32,
+    kind: u8,
+    count: u32,
+) -> Result<(), ReadFault>
+    requires levels { depth ≤ most_levels }
+    ensures exact { Gives (skipped (row_at count (scalars_at depth kind))) (S.octets src.old) (S.octets src.new) result }
+    ensures behind { StaysBehind (S.octets src.old) (S.octets src.new) }
+{
+    if is_packed(kind) {
+        return skip_packed(alloc, src, kind, count);
+    }
+    for _ in 0..count {
+        skip_scalar(alloc, src, depth, kind)?;
+    }
+    Ok(())
+}
+
+/// Passes over a value of the type id, with so many levels left within.
+#[cycle(skips)]
+#[tactic(auto, unfolding(crate::specs::Decoding::scalar_at))]
+fn skip_scalar<S: Source>(alloc: Global, src: &mut S, depth: u32, kind: u8) -> Result<(), ReadFault>
+    requires levels { depth ≤ most_levels }
+    ensures exact { Gives (skipped (scalars_at depth kind)) (S.octets src.old) (S.octets src.new) result }
+    ensures behind { StaysBehind (S.octets src.old) (S.octets src.new) }
+{
+    match kind {
+        23 => skip_data_value(alloc, src, depth),
+        24 => skip_variant(alloc, src, depth),
+        25 => skip_diagnostic(alloc, src, depth),
+        _ => skip_leaf(alloc, src, kind),
+    }
+}
+
+/// Passes over a DataValue of at most so many levels.
+#[cycle(skips)]
+fn skip_data_value<S: Source>(alloc: Global, src: &mut S, depth: u32) -> Result<(), ReadFault>
+    requires levels { depth ≤ most_levels }
+    ensures exact { Gives (skipped (data_value_at depth)) (S.octets src.old) (S.octets src.new) result }
+    ensures behind { StaysBehind (S.octets src.old) (S.octets src.new) }
+{
+    if depth == 0 {
+        return Err(ReadFault::NoValue);
+    }
+    skip_data_value_level(alloc, src, depth - 1)
+}
+
+/// Passes over a DataValue, with so many levels left within.
+#[cycle(skips)]
+#[tactic(auto, unfolding(crate::specs::Decoding::data_value_step))]
+fn skip_data_value_level<S: Source>(alloc: Global, src: &mut S, depth: u32) -> Result<(), ReadFault>
+    requires levels { depth ≤ most_levels }
+    ensures exact { Gives (skipped (data_value_step (variant_at depth))) (S.octets src.old) (S.octets src.new) result }
+    ensures behind { StaysBehind (S.octets src.old) (S.octets src.new) }
+{
+    let mask = u8::read_value(alloc, src, 0)?;
+    if mask > masks::KNOWN_FLAGS {
+        return Err(ReadFault::NoValue);
+    }
+    skip_held(alloc, src, depth, mask & masks::VALUE != 0)?;
+    read_data_fields(alloc, src, mask)?;
+    Ok(())
+}
+
+/// Passes over a Variant within a DataValue, where it is announced.
+#[cycle(skips)]
+fn skip_held<S: Source>(alloc: Global, src: &mut S, depth: u32, set: bool) -> Result<(), ReadFault>
+    requires levels { depth ≤ most_levels }
+    ensures exact { Gives (skipped (optional_read set (variant_at depth))) (S.octets src.old) (S.octets src.new) result }
+    ensures behind { StaysBehind (S.octets src.old) (S.octets src.new) }
+{
+    if !set {
+        return Ok(());
+    }
+    skip_variant(alloc, src, depth)
+}
