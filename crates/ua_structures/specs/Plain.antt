@@ -54,6 +54,13 @@ response_header_of time handle code = record {
   additional_header = null_object;
 }
 
+-- headers whose fields are null or 0
+abbrev pub empty_request_header : RequestHeader
+empty_request_header = request_header_of null_id (record { ticks = pos 0 }) 0
+
+abbrev pub empty_response_header : ResponseHeader
+empty_response_header = response_header_of (record { ticks = pos 0 }) 0 (of_code 0)
+
 -- a fault that says its code alone
 abbrev pub service_fault_of : DateTime → ℕ → StatusCode → ServiceFault
 service_fault_of time handle code = record { response_header = response_header_of time handle code }
@@ -73,6 +80,13 @@ read_of header items = record { request_header = header; max_age = record { bits
 -- a Write of these items
 abbrev pub write_of : RequestHeader → List WriteValue → WriteRequest
 write_of header items = record { request_header = header; nodes_to_write = Some items }
+
+-- a Read of nothing, and the values of no items
+abbrev pub empty_read : ReadRequest
+empty_read = record { request_header = empty_request_header; max_age = record { bits = 0 }; timestamps_to_return = pos 0; nodes_to_read = None }
+
+abbrev pub empty_read_response : ReadResponse
+empty_read_response = record { response_header = empty_response_header; results = None; diagnostic_infos = None }
 
 -- no signature: neither an algorithm nor octets
 abbrev pub null_signature : SignatureData

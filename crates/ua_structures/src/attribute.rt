@@ -8,7 +8,7 @@ ghost use Rattle.ua_builtin.specs.Status.{status_code};
 ghost use Rattle.ua_variant.specs.Formats.{data_value_format};
 ghost use Rattle.ua_structures.specs.Attribute.{read_value_id, read_request, read_response, write_value, write_request, write_response};
 ghost use Rattle.ua_structures.specs.Header.{request_header as header_format, response_header as answer_format};
-ghost use Rattle.ua_structures.specs.Plain.{value_of_node, value_for_node, read_of, write_of, values_of, statuses_of};
+ghost use Rattle.ua_structures.specs.Plain.{empty_read, empty_read_response, value_of_node, value_for_node, read_of, write_of, values_of, statuses_of};
 
 use crate::array::UaArray;
 use crate::data_values::read_data_values;
@@ -155,7 +155,9 @@ impl ReadRequest {
     }
 
     /// A Read of nothing under an empty header, to read one into. Takes no memory.
-    pub fn empty() -> ReadRequest {
+    pub fn empty() -> ReadRequest
+        ensures { result ≡ empty_read }
+    {
         ReadRequest {
             request_header: RequestHeader::empty(),
             max_age: DoubleBits { bits: 0 },
@@ -265,7 +267,9 @@ impl ReadResponse {
     ghost use Rattle.ua_builtin.specs.Format.{most_levels, GivesBy, StaysBehind};
 
     /// The values of no items under an empty header, to read one into. Takes no memory.
-    pub fn empty() -> ReadResponse {
+    pub fn empty() -> ReadResponse
+        ensures { result ≡ empty_read_response }
+    {
         ReadResponse {
             response_header: ResponseHeader::empty(),
             results: UaArray::null(),
@@ -403,6 +407,16 @@ impl Wire for WriteValue {
     }
 }
 
+impl Skip for WriteValue {
+    #[tactic(auto, unfolding(crate::specs::Attribute::write_value))]
+    fn skip_value<S: Source>(alloc: Global, src: &mut S, depth: u32) -> Result<(), ReadFault> {
+        NodeId::skip_value(alloc, src, depth)?;
+        u32::skip_value(alloc, src, depth)?;
+        UaString::skip_value(alloc, src, depth)?;
+        DataValue::skip_value(alloc, src, depth)
+    }
+}
+
 /// Write: sets attributes of nodes (OPC 10000-4, 5.11.4).
 #[derive(Drop)]
 pub struct WriteRequest {
@@ -472,6 +486,14 @@ impl Wire for WriteRequest {
     #[tactic(auto, unfolding(crate::specs::Attribute::write_request))]
     fn append(&self, out: &mut Vec<u8>) -> Result<(), AllocError> {
         append_two(&self.request_header, &self.nodes_to_write, out)
+    }
+}
+
+impl Skip for WriteRequest {
+    #[tactic(auto, unfolding(crate::specs::Attribute::write_request))]
+    fn skip_value<S: Source>(alloc: Global, src: &mut S, depth: u32) -> Result<(), ReadFault> {
+        RequestHeader::skip_for_handle(alloc, src, depth)?;
+        UaArray::<WriteValue>::skip_value(alloc, src, depth)
     }
 }
 

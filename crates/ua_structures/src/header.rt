@@ -6,7 +6,7 @@ ghost use Rattle.ua_builtin.specs.Format.{StaysBehind};
 ghost use Rattle.ua_builtin.specs.NodeId.{node_id};
 ghost use Rattle.ua_parts.specs.View.{no_diagnostics};
 ghost use Rattle.ua_structures.specs.Header.{request_header, response_header, service_fault};
-ghost use Rattle.ua_structures.specs.Plain.{request_header_of, response_header_of, service_fault_of};
+ghost use Rattle.ua_structures.specs.Plain.{empty_request_header, empty_response_header, request_header_of, response_header_of, service_fault_of};
 ghost use Rattle.ua_structures.specs.inside.HeaderEnds.{behind_diagnostics, behind_result};
 
 use crate::array::UaArray;
@@ -76,7 +76,9 @@ impl RequestHeader {
     ghost use Rattle.ua_builtin.specs.Format.{most_levels, Gives, GivesBy};
 
     /// A header whose fields are null or 0, to read one into. Takes no memory.
-    pub fn empty() -> RequestHeader {
+    pub fn empty() -> RequestHeader
+        ensures { result ≡ empty_request_header }
+    {
         RequestHeader::new(NodeId::null(), DateTime { ticks: 0 }, 0)
     }
 
@@ -275,7 +277,9 @@ impl ResponseHeader {
     ghost use Rattle.ua_builtin.specs.Format.{most_levels, GivesBy};
 
     /// A header whose fields are null or 0, to read one into. Takes no memory.
-    pub fn empty() -> ResponseHeader {
+    pub fn empty() -> ResponseHeader
+        ensures { result ≡ empty_response_header }
+    {
         ResponseHeader::new(DateTime { ticks: 0 }, 0, StatusCode::GOOD)
     }
 
