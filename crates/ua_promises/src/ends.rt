@@ -1,0 +1,13 @@
+//! Calls of a node table, a server and a client.
+
+mod answers;
+mod calls;
+mod items;
+mod served;
+mod serving;
+
+pub use answers::{answer_both, reply_to};
+pub use calls::call_each;
+pub use items::{append_answers, read_one_item};
+pub use served::{converse_over, write_up};
+pub use serving::serve_begun;

@@ -1,0 +1,18 @@
+//! What is promised of the calls of each layer, each in a function that makes the call alone: its
+//! contract follows from that of the call, so a body that this contract refuses that one refuses
+//! too.
+#![tactic(auto)]
+
+mod chunks;
+mod ends;
+mod values;
+
+pub use chunks::{
+    accept_by_reason, accept_next, accept_parts, agree_by, cut_body, held_by, source_of, step_next,
+    take_frame, take_octets,
+};
+pub use ends::{
+    answer_both, append_answers, call_each, converse_over, read_one_item, reply_to, serve_begun,
+    write_up,
+};
+pub use values::{read_front, read_node_id, read_one_request, read_variant, write_data_value};
