@@ -1,10 +1,11 @@
-//! The octets of a row.
+//! The octets of a row, and the values that they encode.
 //!
-//! They are words of hexadecimal digits. `300*0001` is 0001 three hundred times, and `300*05_00` is
+//! Octets are words of hexadecimal digits. `300*0001` is 0001 three hundred times, and `300*05_00` is
 //! 05, the number of the time from 0 as a UInt16, and 00, three hundred times.
 
 use crate::fault::Fault;
 use std::alloc::Global;
+use ua_builtin::{Octets, Source, Wire};
 
 /// The octets of these words.
 pub fn octets_of(alloc: Global, words: &str) -> Result<Vec<u8>, Fault> {
@@ -75,4 +76,16 @@ fn push_numbered(
         push_octets(behind.as_slice(), octets)?;
     }
     Ok(())
+}
+
+/// The value that octets encode, with nothing behind it.
+pub fn value_in<T: Wire + Drop>(alloc: Global, words: &str) -> Result<T, Fault> {
+    let octets = octets_of(alloc, words)?;
+    let mut src = Octets::new(octets.as_slice());
+    let value = T::read(alloc, &mut src, 100)?;
+    if src.left() > 0 {
+        drop(value);
+        return Err(Fault::NoRow);
+    }
+    Ok(value)
 }
