@@ -1,3 +1,7 @@
+mod Elements
+mod Ends
+mod Bodies
+mod OneLine
 mod Befores
 mod CutBacks
 mod Dissections

@@ -17,8 +17,8 @@ use Rattle.ua_services.specs.declared.fault.RequestFault.{RequestFault}
 use Rattle.ua_services.specs.declared.fault.RequestFault.TheVariants as request_fault
 use Rattle.ua_services.specs.declared.fault.ResponseFault.{ResponseFault}
 use Rattle.ua_services.specs.declared.fault.ResponseFault.TheVariants as response_fault
-use Rattle.ua_fields.specs.declared.body.BodyKind.{BodyKind}
-use Rattle.ua_fields.specs.declared.body.BodyKind.TheVariants as kind
+use Rattle.ua_pair.specs.declared.fields.body.BodyKind.{BodyKind}
+use Rattle.ua_pair.specs.declared.fields.body.BodyKind.TheVariants as kind
 use Rattle.ua_pair.specs.declared.side.Side.{Side}
 use Rattle.ua_pair.specs.declared.side.Side.TheVariants.{Client, Server}
 

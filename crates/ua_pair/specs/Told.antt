@@ -15,8 +15,8 @@ use Rattle.ua_chunk.specs.Item.{Item}
 use Rattle.ua_chunk.specs.Item.Item.{Whole, Aborted}
 use Rattle.ua_chunk.specs.Layout.{chunk_in}
 use Rattle.ua_chunk.specs.Opening.{opening_in}
-use Rattle.ua_fields.specs.Bodies.{body_fields}
-use Rattle.ua_fields.specs.declared.body.BodyKind.{BodyKind}
+use Rattle.ua_pair.specs.Bodies.{body_fields}
+use Rattle.ua_pair.specs.declared.fields.body.BodyKind.{BodyKind}
 use Rattle.ua_pair.specs.declared.options.DissectOptions.{DissectOptions}
 use Rattle.ua_pair.specs.Before.{message_chunks}
 use Rattle.ua_pair.specs.Lines.{hello_line, ack_line, error_line, opening_line, chunk_line, message_line, aborted_line}

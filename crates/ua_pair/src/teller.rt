@@ -19,6 +19,7 @@ ghost use Rattle.ua_pair.specs.Names.{message_kind as kind_of_message, opening_k
 ghost use Rattle.ua_pair.specs.Told.{fields_of, frame_lines, item_lines, line_if, place_behind};
 
 use crate::fault::DissectFault;
+use crate::fields::{BodyKind, push_body_fields};
 use crate::line::{
     GreetingLine, push_aborted_line, push_chunk_line, push_message_line, push_opening_line,
 };
@@ -28,7 +29,6 @@ use crate::side::Side;
 use std::alloc::{AllocError, Global};
 use ua_builtin::{Octets, Source, StatusCode};
 use ua_chunk::{Assembler, Delivered, Message, OpenChunk, read_chunk, read_open};
-use ua_fields::{BodyKind, push_body_fields};
 use ua_frame::{Ack, ErrorFrame, Frame, HEADER_LEN, Hello, Kind};
 
 /// The most octets of a message.

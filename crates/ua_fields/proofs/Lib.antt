@@ -1,4 +1,0 @@
-mod Elements
-mod Ends
-mod Bodies
-mod OneLine

@@ -1,0 +1,10 @@
+use Rattle.ua_pair.specs.Attribute.{write_response_entries}
+use Rattle.ua_pair.proofs.Ends.{then_more, last}
+use Rattle.ua_pair.proofs.fields.attribute.WriteResponseLines.push_lines.Goals as goal
+
+pub returns : goal.returns
+unfolding write_response_entries
+returns c =
+    then_more c.push_field-2.result c.args.out.now _ _ c.push_part.new.out c.push_field-2.new.out c.in_ok-push_part.ensures
+    (then_more c.push_field-2.result c.push_part.new.out _ _ c.push_field.new.out c.push_field-2.new.out c.in_ok-push_field.ensures
+    (last c.push_field-2.result c.push_field.new.out _ c.push_field-2.new.out c.push_field-2.ensures))

@@ -1,0 +1,40 @@
+-- The fields of a body: those of the message that it is.
+use Rattle.std.specs.Prelude.{◌≡◌, ℕ, Bool, List, [], Option, Some, None}
+use Rattle.ua_structures.specs.SecureChannel.{open_request, close_request}
+use Rattle.ua_services.specs.Message.{IsBody, message, body_of}
+use Rattle.ua_services.specs.Open.{IsAnswer, answer_read}
+use Rattle.ua_services.specs.Request.{request}
+use Rattle.ua_services.specs.Response.{response}
+use Rattle.ua_pair.specs.Messages.{request_fields, response_fields, open_request_fields, open_answer_fields, close_request_fields}
+use Rattle.ua_pair.specs.declared.fields.body.BodyKind.{BodyKind}
+use Rattle.ua_pair.specs.declared.fields.body.BodyKind.TheVariants.{Request, Response, OpenRequest, OpenResponse, CloseRequest}
+
+-- ---- by what reading gives
+
+-- the lines of the message that was found, none where none was
+abbrev pub fields_found : {A : Type 0} → (A → List ℕ) → Option A → List ℕ
+fields_found fields None = []
+fields_found fields (Some m) = fields m
+
+-- the lines of the message whose body the octets are; an answer to OpenSecureChannel is a response or a ServiceFault
+unfoldable pub body_fields : Bool → BodyKind → List ℕ → List ℕ
+body_fields names Request octets = fields_found (request_fields names) (body_of request octets)
+body_fields names Response octets = fields_found (response_fields names) (body_of response octets)
+body_fields names OpenRequest octets = fields_found (open_request_fields names) (body_of (message 446 open_request) octets)
+body_fields names OpenResponse octets = fields_found (open_answer_fields names) (answer_read octets)
+body_fields names CloseRequest octets = fields_found (close_request_fields names) (body_of (message 452 close_request) octets)
+
+-- ---- by what the octets encode
+
+-- the text is that of each value whose body the octets are, and empty where they are the body of none
+pub record AreFields {A : Type 0} (IsBodyOf : A → List ℕ → Type 0) (fields : A → List ℕ) (octets text : List ℕ) : Type 0 where
+  pub some : (m : A) → IsBodyOf m octets → text ≡ fields m
+  pub none : ((m : A) → IsBodyOf m octets → ⊥) → text ≡ []
+
+-- the text has the lines of each message of this kind whose body the octets are, and is empty where they are the body of none
+abbrev pub AreBodyFields : Bool → BodyKind → List ℕ → List ℕ → Type 0
+AreBodyFields names Request octets text = AreFields (IsBody request) (request_fields names) octets text
+AreBodyFields names Response octets text = AreFields (IsBody response) (response_fields names) octets text
+AreBodyFields names OpenRequest octets text = AreFields (IsBody (message 446 open_request)) (open_request_fields names) octets text
+AreBodyFields names OpenResponse octets text = AreFields IsAnswer (open_answer_fields names) octets text
+AreBodyFields names CloseRequest octets text = AreFields (IsBody (message 452 close_request)) (close_request_fields names) octets text

@@ -1,0 +1,90 @@
+-- The fields of the services of sessions.
+use Rattle.std.specs.Prelude.{[], ◌∷◌, codes}
+use Rattle.ua_structures.specs.declared.session.ActivateSessionRequest.{ActivateSessionRequest}
+use Rattle.ua_structures.specs.declared.session.ActivateSessionResponse.{ActivateSessionResponse}
+use Rattle.ua_structures.specs.declared.session.CloseSessionRequest.{CloseSessionRequest}
+use Rattle.ua_structures.specs.declared.session.CloseSessionResponse.{CloseSessionResponse}
+use Rattle.ua_structures.specs.declared.session.CreateSessionRequest.{CreateSessionRequest}
+use Rattle.ua_structures.specs.declared.session.CreateSessionResponse.{CreateSessionResponse}
+use Rattle.ua_structures.specs.declared.signature.SignatureData.{SignatureData}
+use Rattle.ua_structures.specs.declared.signature.SignedSoftwareCertificate.{SignedSoftwareCertificate}
+use Rattle.ua_pair.specs.Tree.{Fields, structure, named, array_of}
+use Rattle.ua_pair.specs.Leaves.{number, boolean, double, string, byte_string, status_code, node_id, extension_object, diagnostic_info}
+use Rattle.ua_pair.specs.Header.{request_header_entries, response_header_entries}
+use Rattle.ua_pair.specs.Discovery.{application_description_entries, endpoint_description_entries}
+
+-- SignedSoftwareCertificate (OPC 10000-4, 7.38)
+unfoldable pub signed_software_certificate_entries : SignedSoftwareCertificate → Fields
+signed_software_certificate_entries c = named (
+    (codes "certificate_data", byte_string c.certificate_data)
+    ∷ (codes "signature", byte_string c.signature)
+    ∷ [])
+
+-- SignatureData (OPC 10000-4, 7.37)
+unfoldable pub signature_data_entries : SignatureData → Fields
+signature_data_entries s = named (
+    (codes "algorithm", string s.algorithm)
+    ∷ (codes "signature", byte_string s.signature)
+    ∷ [])
+
+-- the request of CreateSession (OPC 10000-4, 5.7.2)
+unfoldable pub create_session_request_entries : CreateSessionRequest → Fields
+create_session_request_entries m = named (
+    (codes "request_header", structure (request_header_entries m.request_header))
+    ∷ (codes "client_description", structure (application_description_entries m.client_description))
+    ∷ (codes "server_uri", string m.server_uri)
+    ∷ (codes "endpoint_url", string m.endpoint_url)
+    ∷ (codes "session_name", string m.session_name)
+    ∷ (codes "client_nonce", byte_string m.client_nonce)
+    ∷ (codes "client_certificate", byte_string m.client_certificate)
+    ∷ (codes "requested_session_timeout", double m.requested_session_timeout)
+    ∷ (codes "max_response_message_size", number m.max_response_message_size)
+    ∷ [])
+
+-- the response of CreateSession (OPC 10000-4, 5.7.2)
+unfoldable pub create_session_response_entries : CreateSessionResponse → Fields
+create_session_response_entries m = named (
+    (codes "response_header", structure (response_header_entries m.response_header))
+    ∷ (codes "session_id", node_id m.session_id)
+    ∷ (codes "authentication_token", node_id m.authentication_token)
+    ∷ (codes "revised_session_timeout", double m.revised_session_timeout)
+    ∷ (codes "server_nonce", byte_string m.server_nonce)
+    ∷ (codes "server_certificate", byte_string m.server_certificate)
+    ∷ (codes "server_endpoints", array_of (λ e. structure (endpoint_description_entries e)) m.server_endpoints)
+    ∷ (codes "server_software_certificates", array_of (λ c. structure (signed_software_certificate_entries c)) m.server_software_certificates)
+    ∷ (codes "server_signature", structure (signature_data_entries m.server_signature))
+    ∷ (codes "max_request_message_size", number m.max_request_message_size)
+    ∷ [])
+
+-- the request of ActivateSession (OPC 10000-4, 5.7.3)
+unfoldable pub activate_session_request_entries : ActivateSessionRequest → Fields
+activate_session_request_entries m = named (
+    (codes "request_header", structure (request_header_entries m.request_header))
+    ∷ (codes "client_signature", structure (signature_data_entries m.client_signature))
+    ∷ (codes "client_software_certificates", array_of (λ c. structure (signed_software_certificate_entries c)) m.client_software_certificates)
+    ∷ (codes "locale_ids", array_of string m.locale_ids)
+    ∷ (codes "user_identity_token", extension_object m.user_identity_token)
+    ∷ (codes "user_token_signature", structure (signature_data_entries m.user_token_signature))
+    ∷ [])
+
+-- the response of ActivateSession (OPC 10000-4, 5.7.3)
+unfoldable pub activate_session_response_entries : ActivateSessionResponse → Fields
+activate_session_response_entries m = named (
+    (codes "response_header", structure (response_header_entries m.response_header))
+    ∷ (codes "server_nonce", byte_string m.server_nonce)
+    ∷ (codes "results", array_of status_code m.results)
+    ∷ (codes "diagnostic_infos", array_of diagnostic_info m.diagnostic_infos)
+    ∷ [])
+
+-- the request of CloseSession (OPC 10000-4, 5.7.4)
+unfoldable pub close_session_request_entries : CloseSessionRequest → Fields
+close_session_request_entries m = named (
+    (codes "request_header", structure (request_header_entries m.request_header))
+    ∷ (codes "delete_subscriptions", boolean m.delete_subscriptions)
+    ∷ [])
+
+-- the response of CloseSession (OPC 10000-4, 5.7.4)
+unfoldable pub close_session_response_entries : CloseSessionResponse → Fields
+close_session_response_entries m = named (
+    (codes "response_header", structure (response_header_entries m.response_header))
+    ∷ [])

@@ -1,0 +1,23 @@
+//! The fields of messages, as lines of text: a line a field.
+//!
+//! A message is a tree of its fields, and its lines are those of the tree, which are defined once. A
+//! structure gives its fields by their names, in the standard's order.
+
+mod array;
+mod attribute;
+mod body;
+mod discovery;
+mod header;
+mod leaves;
+mod lines;
+mod message;
+mod null;
+mod secure_channel;
+mod session;
+mod text;
+
+pub use body::{BodyKind, push_body_fields};
+pub use message::{
+    push_close_request_fields, push_open_answer_fields, push_open_request_fields,
+    push_open_response_fields, push_request_fields, push_response_fields,
+};

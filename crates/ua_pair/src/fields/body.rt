@@ -1,0 +1,171 @@
+//! Bodies of messages as lines.
+
+ghost use Rattle.std.specs.Prelude.{◌≡◌, ◌++◌, string_bytes, IfOk, OnOk};
+ghost use Rattle.ua_structures.specs.SecureChannel.{close_request, open_request};
+ghost use Rattle.ua_services.specs.Message.{body_of, message, standard_number as number_of_id};
+ghost use Rattle.ua_services.specs.Open.{answer_read};
+ghost use Rattle.ua_services.specs.Request.{request};
+ghost use Rattle.ua_services.specs.Response.{response};
+ghost use Rattle.ua_pair.specs.Bodies.{AreBodyFields, body_fields, fields_found};
+ghost use Rattle.ua_pair.specs.Messages.{message_lines};
+
+use crate::fields::lines::Lines;
+use crate::fields::message::push_message;
+use std::alloc::{AllocError, Global};
+use ua_builtin::{Identifier, MOST_LEVELS, NodeId, ReadFault, Source, Wire};
+use ua_services::{
+    CloseRequest, OpenAnswer, OpenRequest, Request, RequestFault, Response, ResponseFault,
+    read_open_request, read_open_response, read_request, read_response,
+};
+
+/// What a body is read as, by who sent it and in which message (OPC 10000-6, 6.7.2).
+#[derive(Clone, Copy, PartialEq, Eq)]
+pub enum BodyKind {
+    /// A request, from a client in a MSG.
+    Request,
+    /// A response, from a server in a MSG.
+    Response,
+    /// A request of OpenSecureChannel, from a client in an OPN.
+    OpenRequest,
+    /// The answer to it, from a server in an OPN: a response, or a ServiceFault.
+    OpenResponse,
+    /// A request of CloseSecureChannel, from a client in a CLO.
+    CloseRequest,
+}
+
+/// The number of the encoding of a request of CloseSecureChannel (OPC 10000-6, A.3).
+const CLOSE_REQUEST: u32 = 452;
+
+/// The request that a body is, if it is one.
+#[tactic(auto, unfolding(ua_services::specs::Request::request_read), using(ua_services::proofs::BodyRead::found_ok, ua_services::proofs::BodyRead::found_err))]
+fn found_request<S: Source>(alloc: Global, src: &mut S) -> Result<Option<Request>, AllocError>
+    ensures { IfOk result (λ found. found ≡ body_of request (S.octets src.old)) }
+{
+    match read_request(alloc, src) {
+        Ok(message) => Ok(Some(message)),
+        Err(RequestFault::OutOfMemory) => Err(AllocError),
+        Err(_) => Ok(None),
+    }
+}
+
+/// The response that a body is, if it is one.
+#[tactic(auto, unfolding(ua_services::specs::Response::response_read), using(ua_services::proofs::BodyRead::found_ok, ua_services::proofs::BodyRead::found_err))]
+fn found_response<S: Source>(alloc: Global, src: &mut S) -> Result<Option<Response>, AllocError>
+    ensures { IfOk result (λ found. found ≡ body_of response (S.octets src.old)) }
+{
+    match read_response(alloc, src) {
+        Ok(message) => Ok(Some(message)),
+        Err(ResponseFault::OutOfMemory) => Err(AllocError),
+        Err(_) => Ok(None),
+    }
+}
+
+/// The request of OpenSecureChannel that a body is, if it is one.
+#[tactic(auto, using(ua_services::proofs::BodyRead::found_ok, ua_services::proofs::BodyRead::found_err))]
+fn found_open_request<S: Source>(
+    alloc: Global,
+    src: &mut S,
+) -> Result<Option<OpenRequest>, AllocError>
+    ensures { IfOk result (λ found. found ≡ body_of (message 446 open_request) (S.octets src.old)) }
+{
+    match read_open_request(alloc, src) {
+        Ok(message) => Ok(Some(message)),
+        Err(ReadFault::OutOfMemory) => Err(AllocError),
+        Err(ReadFault::NoValue) => Ok(None),
+    }
+}
+
+/// The answer to a request of OpenSecureChannel that a body is, if it is one.
+#[tactic(auto, using(ua_services::proofs::BodyRead::found_ok, ua_services::proofs::BodyRead::found_err))]
+fn found_open_answer<S: Source>(
+    alloc: Global,
+    src: &mut S,
+) -> Result<Option<OpenAnswer>, AllocError>
+    ensures { IfOk result (λ found. found ≡ answer_read (S.octets src.old)) }
+{
+    match read_open_response(alloc, src) {
+        Ok(message) => Ok(Some(message)),
+        Err(ReadFault::OutOfMemory) => Err(AllocError),
+        Err(ReadFault::NoValue) => Ok(None),
+    }
+}
+
+/// The number of a NodeId of the standard's namespace.
+fn standard_number(id: &NodeId) -> Option<u32>
+    ensures { result ≡ number_of_id id.now }
+{
+    match &id.identifier {
+        Identifier::Numeric(number) if id.namespace == 0 => Some(*number),
+        _ => None,
+    }
+}
+
+/// The request of CloseSecureChannel that octets are, behind the NodeId of its encoding.
+fn found_last<S: Source>(alloc: Global, src: &mut S) -> Result<Option<CloseRequest>, AllocError>
+    ensures { IfOk result (λ found. found ≡ body_of close_request (S.octets src.old)) }
+{
+    match CloseRequest::read_value(alloc, src, MOST_LEVELS) {
+        Ok(request) if src.left() == 0 => Ok(Some(request)),
+        Ok(_) => Ok(None),
+        Err(ReadFault::NoValue) => Ok(None),
+        Err(ReadFault::OutOfMemory) => Err(AllocError),
+    }
+}
+
+/// The request of CloseSecureChannel that a body is, if it is one.
+fn found_close_request<S: Source>(
+    alloc: Global,
+    src: &mut S,
+) -> Result<Option<CloseRequest>, AllocError>
+    ensures { IfOk result (λ found. found ≡ body_of (message 452 close_request) (S.octets src.old)) }
+{
+    let id = match NodeId::read_value(alloc, src, MOST_LEVELS) {
+        Ok(id) => id,
+        Err(ReadFault::NoValue) => return Ok(None),
+        Err(ReadFault::OutOfMemory) => return Err(AllocError),
+    };
+    let Some(number) = standard_number(&id) else {
+        return Ok(None);
+    };
+    if number != CLOSE_REQUEST {
+        return Ok(None);
+    }
+    found_last(alloc, src)
+}
+
+/// Adds the lines of the message that was found, and lets it go.
+fn push_found<T: Lines + Drop>(
+    alloc: Global,
+    found: Option<T>,
+    names: bool,
+    out: &mut String,
+) -> Result<(), AllocError>
+    ensures { OnOk result (string_bytes out.new ≡ string_bytes out.old ++ fields_found (λ m. message_lines names (T.tree m)) found) }
+{
+    match found {
+        Some(message) => push_message(alloc, &message, names, out),
+        None => Ok(()),
+    }
+}
+
+/// Adds the lines of a body: those of the message that it is, or none where it is unreadable or of an
+/// unknown service. The source is to be given up. Where memory is refused, some lines may stand there.
+#[tactic(auto, unfolding(crate::specs::Bodies::body_fields), using(crate::proofs::Bodies::body_told))]
+pub fn push_body_fields<S: Source>(
+    alloc: Global,
+    kind: BodyKind,
+    names: bool,
+    src: &mut S,
+    out: &mut String,
+) -> Result<(), AllocError>
+    ensures fields { OnOk result (string_bytes out.new ≡ string_bytes out.old ++ body_fields names kind (S.octets src.old)) }
+    ensures told { AreBodyFields names kind (S.octets src.old) (body_fields names kind (S.octets src.old)) }
+{
+    match kind {
+        BodyKind::Request => push_found(alloc, found_request(alloc, src)?, names, out),
+        BodyKind::Response => push_found(alloc, found_response(alloc, src)?, names, out),
+        BodyKind::OpenRequest => push_found(alloc, found_open_request(alloc, src)?, names, out),
+        BodyKind::OpenResponse => push_found(alloc, found_open_answer(alloc, src)?, names, out),
+        BodyKind::CloseRequest => push_found(alloc, found_close_request(alloc, src)?, names, out),
+    }
+}

@@ -1,0 +1,144 @@
+//! Values as lines, and where they stand.
+
+ghost use Rattle.std.specs.Prelude.{◌≡◌, ◌++◌, codes, string_bytes, OnOk, IfOk};
+ghost use Rattle.ua_pair.specs.Tree.{Tree, deeper, element_path, field_path, line, lines};
+
+use std::alloc::{AllocError, Global};
+use std::fmt::Write;
+
+/// Where the lines of a value stand.
+#[derive(Clone, Copy)]
+pub(crate) struct Place<'a> {
+    /// Whether a status code has its standard name behind it.
+    pub(crate) names: bool,
+    /// The blanks in front of each.
+    pub(crate) margin: &'a str,
+    /// The path of the value, which is empty for a message.
+    pub(crate) path: &'a str,
+}
+
+/// A value that is printed as lines, one for each of its fields.
+pub(crate) trait Lines {
+    /// The value as a tree of its fields.
+    ghost tree: { Self → Tree };
+
+    /// Adds the lines of the value.
+    fn push_lines(
+        &self,
+        alloc: Global,
+        out: &mut String,
+        place: Place<'_>,
+    ) -> Result<(), AllocError>
+        ensures { OnOk result (string_bytes out.new ≡ string_bytes out.old ++ lines place.entry.names place.entry.margin.now place.entry.path.now (tree self.now)) };
+}
+
+/// Adds what stands in front of the text of a line.
+pub(crate) fn push_start(out: &mut String, place: Place<'_>) -> Result<(), AllocError>
+    ensures { OnOk result (string_bytes out.new ≡ string_bytes out.old ++ (place.entry.margin.now ++ (place.entry.path.now ++ codes " "))) }
+{
+    out.push_str(place.margin)?;
+    out.push_str(place.path)?;
+    out.push_str(" ")
+}
+
+/// Adds a line with this text.
+#[tactic(auto, unfolding(crate::specs::Tree::line))]
+pub(crate) fn push_line(out: &mut String, place: Place<'_>, text: &str) -> Result<(), AllocError>
+    ensures { OnOk result (string_bytes out.new ≡ string_bytes out.old ++ line place.entry.margin.now place.entry.path.now text.now) }
+{
+    push_start(out, place)?;
+    out.push_str(text)?;
+    out.push_str("\n")
+}
+
+/// The blanks in front, one level deeper.
+pub(crate) fn deeper_margin(alloc: Global, margin: &str) -> Result<String, AllocError>
+    ensures { IfOk result (λ inner. string_bytes inner ≡ deeper margin.now) }
+{
+    let mut inner = String::from_str(alloc, margin)?;
+    inner.push_str("  ")?;
+    Ok(inner)
+}
+
+/// The path of a field, as a text of its own: nothing is to be put back behind it.
+fn path_of_field(alloc: Global, path: &str, name: &str) -> Result<String, AllocError>
+    ensures { IfOk result (λ inner. string_bytes inner ≡ field_path path.now name.now) }
+{
+    let mut inner = String::from_str(alloc, path)?;
+    if !path.is_empty() {
+        inner.push_str(".")?;
+    }
+    inner.push_str(name)?;
+    Ok(inner)
+}
+
+/// The path of an element.
+fn path_of_element(alloc: Global, path: &str, index: usize) -> Result<String, AllocError>
+    ensures { IfOk result (λ inner. string_bytes inner ≡ element_path path.now index) }
+{
+    let mut inner = String::from_str(alloc, path)?;
+    write!(inner, "[{index}]")?;
+    Ok(inner)
+}
+
+impl<'a> Place<'a> {
+    ghost use Rattle.std.specs.Prelude.{◌≡◌, ◌++◌, string_bytes, OnOk};
+    ghost use Rattle.ua_pair.specs.Tree.{deeper, element_path, field_path, lines};
+
+    /// Adds the lines of a field that is no structure.
+    pub(crate) fn push_field<T: Lines>(
+        self,
+        alloc: Global,
+        out: &mut String,
+        name: &str,
+        value: &T,
+    ) -> Result<(), AllocError>
+        ensures { OnOk result (string_bytes out.new ≡ string_bytes out.old ++ lines self.entry.names self.entry.margin.now (field_path self.entry.path.now name.now) (T.tree value.now)) }
+    {
+        let path = path_of_field(alloc, self.path, name)?;
+        let inner = Place {
+            names: self.names,
+            margin: self.margin,
+            path: &path,
+        };
+        value.push_lines(alloc, out, inner)
+    }
+
+    /// Adds the lines of a field that is a structure.
+    pub(crate) fn push_part<T: Lines>(
+        self,
+        alloc: Global,
+        out: &mut String,
+        name: &str,
+        value: &T,
+    ) -> Result<(), AllocError>
+        ensures { OnOk result (string_bytes out.new ≡ string_bytes out.old ++ lines self.entry.names (deeper self.entry.margin.now) (field_path self.entry.path.now name.now) (T.tree value.now)) }
+    {
+        let margin = deeper_margin(alloc, self.margin)?;
+        let inner = Place {
+            names: self.names,
+            margin: &margin,
+            path: self.path,
+        };
+        inner.push_field(alloc, out, name, value)
+    }
+
+    /// Adds the lines of an element.
+    pub(crate) fn push_element<T: Lines>(
+        self,
+        alloc: Global,
+        out: &mut String,
+        index: usize,
+        value: &T,
+    ) -> Result<(), AllocError>
+        ensures { OnOk result (string_bytes out.new ≡ string_bytes out.old ++ lines self.entry.names self.entry.margin.now (element_path self.entry.path.now index) (T.tree value.now)) }
+    {
+        let path = path_of_element(alloc, self.path, index)?;
+        let inner = Place {
+            names: self.names,
+            margin: self.margin,
+            path: &path,
+        };
+        value.push_lines(alloc, out, inner)
+    }
+}

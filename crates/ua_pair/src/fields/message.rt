@@ -1,0 +1,161 @@
+//! Messages as lines.
+
+ghost use Rattle.std.specs.Prelude.{◌≡◌, ◌++◌, string_bytes, OnOk};
+ghost use Rattle.ua_pair.specs.Messages.{close_request_fields, message_lines, open_answer_fields, open_request_fields, open_response_fields, request_fields, response_fields};
+
+use crate::fields::lines::{Lines, Place};
+use std::alloc::{AllocError, Global};
+use ua_services::{CloseRequest, OpenAnswer, OpenRequest, OpenResponse, Request, Response};
+
+impl Lines for Request {
+    ghost use Rattle.ua_pair.specs.Messages.{request_tree};
+
+    ghost tree = { request_tree };
+
+    fn push_lines(
+        &self,
+        alloc: Global,
+        out: &mut String,
+        place: Place<'_>,
+    ) -> Result<(), AllocError> {
+        match self {
+            Request::GetEndpoints(message) => message.push_lines(alloc, out, place),
+            Request::CreateSession(message) => message.push_lines(alloc, out, place),
+            Request::ActivateSession(message) => message.push_lines(alloc, out, place),
+            Request::CloseSession(message) => message.push_lines(alloc, out, place),
+            Request::Read(message) => message.push_lines(alloc, out, place),
+            Request::Write(message) => message.push_lines(alloc, out, place),
+        }
+    }
+}
+
+impl Lines for Response {
+    ghost use Rattle.ua_pair.specs.Messages.{response_tree};
+
+    ghost tree = { response_tree };
+
+    fn push_lines(
+        &self,
+        alloc: Global,
+        out: &mut String,
+        place: Place<'_>,
+    ) -> Result<(), AllocError> {
+        match self {
+            Response::GetEndpoints(message) => message.push_lines(alloc, out, place),
+            Response::CreateSession(message) => message.push_lines(alloc, out, place),
+            Response::ActivateSession(message) => message.push_lines(alloc, out, place),
+            Response::CloseSession(message) => message.push_lines(alloc, out, place),
+            Response::Read(message) => message.push_lines(alloc, out, place),
+            Response::Write(message) => message.push_lines(alloc, out, place),
+            Response::ServiceFault(message) => message.push_lines(alloc, out, place),
+        }
+    }
+}
+
+impl Lines for OpenAnswer {
+    ghost use Rattle.ua_pair.specs.Messages.{open_answer_tree};
+
+    ghost tree = { open_answer_tree };
+
+    fn push_lines(
+        &self,
+        alloc: Global,
+        out: &mut String,
+        place: Place<'_>,
+    ) -> Result<(), AllocError> {
+        match self {
+            OpenAnswer::Open(message) => message.push_lines(alloc, out, place),
+            OpenAnswer::Fault(message) => message.push_lines(alloc, out, place),
+        }
+    }
+}
+
+/// Adds the lines of a message.
+pub(crate) fn push_message<T: Lines>(
+    alloc: Global,
+    message: &T,
+    names: bool,
+    out: &mut String,
+) -> Result<(), AllocError>
+    ensures { OnOk result (string_bytes out.new ≡ string_bytes out.old ++ message_lines names (T.tree message.now)) }
+{
+    let place = Place {
+        names,
+        margin: "  ",
+        path: "",
+    };
+    message.push_lines(alloc, out, place)
+}
+
+/// Adds the lines of a request, one for each of its fields, with two blanks in front and two more
+/// for each level, with the standard names of status codes or without. Where memory is refused, some of them may stand there.
+pub fn push_request_fields(
+    alloc: Global,
+    request: &Request,
+    names: bool,
+    out: &mut String,
+) -> Result<(), AllocError>
+    ensures fields { OnOk result (string_bytes out.new ≡ string_bytes out.old ++ request_fields names request.now) }
+{
+    push_message(alloc, request, names, out)
+}
+
+/// Adds the lines of a response, as [`push_request_fields`] adds those of a request.
+pub fn push_response_fields(
+    alloc: Global,
+    response: &Response,
+    names: bool,
+    out: &mut String,
+) -> Result<(), AllocError>
+    ensures fields { OnOk result (string_bytes out.new ≡ string_bytes out.old ++ response_fields names response.now) }
+{
+    push_message(alloc, response, names, out)
+}
+
+/// Adds the lines of a request of OpenSecureChannel, as [`push_request_fields`] does.
+pub fn push_open_request_fields(
+    alloc: Global,
+    request: &OpenRequest,
+    names: bool,
+    out: &mut String,
+) -> Result<(), AllocError>
+    ensures fields { OnOk result (string_bytes out.new ≡ string_bytes out.old ++ open_request_fields names request.now) }
+{
+    push_message(alloc, request, names, out)
+}
+
+/// Adds the lines of a response of OpenSecureChannel, as [`push_request_fields`] does.
+pub fn push_open_response_fields(
+    alloc: Global,
+    response: &OpenResponse,
+    names: bool,
+    out: &mut String,
+) -> Result<(), AllocError>
+    ensures fields { OnOk result (string_bytes out.new ≡ string_bytes out.old ++ open_response_fields names response.now) }
+{
+    push_message(alloc, response, names, out)
+}
+
+/// Adds the lines of the answer to a request of OpenSecureChannel: of the response, or of the fault.
+pub fn push_open_answer_fields(
+    alloc: Global,
+    answer: &OpenAnswer,
+    names: bool,
+    out: &mut String,
+) -> Result<(), AllocError>
+    ensures fields { OnOk result (string_bytes out.new ≡ string_bytes out.old ++ open_answer_fields names answer.now) }
+{
+    push_message(alloc, answer, names, out)
+}
+
+/// Adds the lines of a request of CloseSecureChannel, as [`push_request_fields`] does.
+pub fn push_close_request_fields(
+    alloc: Global,
+    request: &CloseRequest,
+    names: bool,
+    out: &mut String,
+) -> Result<(), AllocError>
+    ensures fields { OnOk result (string_bytes out.new ≡ string_bytes out.old ++ close_request_fields names request.now) }
+{
+    push_message(alloc, request, names, out)
+}

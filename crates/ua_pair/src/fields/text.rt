@@ -1,0 +1,39 @@
+//! Texts of values.
+
+ghost use Rattle.std.specs.Prelude.{◌≡◌, ◌++◌, cond, codes, string_bytes, OnOk};
+ghost use Rattle.ua_builtin.specs.NodeText.{node_text};
+ghost use Rattle.ua_texts.specs.Shown.{shown, written_text};
+ghost use Rattle.ua_pair.specs.Tree.{line};
+
+use crate::fields::lines::{Place, push_line, push_start};
+use std::alloc::{AllocError, Global};
+use ua_builtin::{NodeId, UaString, Wire};
+use ua_texts::{push_encoded, push_string};
+
+/// Adds the text of a NodeId, control characters and backslashes escaped: a text from the network
+/// breaks no line.
+pub(crate) fn push_node(alloc: Global, out: &mut String, node: &NodeId) -> Result<(), AllocError>
+    ensures { OnOk result (string_bytes out.new ≡ string_bytes out.old ++ shown (node_text node.now)) }
+{
+    let name = UaString::new(Some(node.to_text(alloc)?));
+    push_string(out, &name)
+}
+
+/// Adds the line of a value that is shown by its octets, a null one as `null`.
+#[tactic(auto, unfolding(crate::specs::Tree::line))]
+pub(crate) fn push_encoded_line<T: Wire>(
+    alloc: Global,
+    out: &mut String,
+    place: Place<'_>,
+    is_null: bool,
+    value: &T,
+) -> Result<(), AllocError>
+    ensures { OnOk result (string_bytes out.new ≡ string_bytes out.old ++ line place.entry.margin.now place.entry.path.now (cond is_null (codes "null") (written_text (T.format.encodable value.now) (T.format.canonical value.now)))) }
+{
+    if is_null {
+        return push_line(out, place, "null");
+    }
+    push_start(out, place)?;
+    push_encoded(alloc, out, value)?;
+    out.push_str("\n")
+}
