@@ -1,5 +1,6 @@
--- The definitions, in the order in which they are best read: how faults are told, what words name, what is said of a line, the steps of a
--- conversation, what is made of replies, how a token policy is chosen, the conversations, and what of them a text shows.
+-- What is asked over a line, in the order in which its definitions are best read: how faults are told, what words name, what
+-- is said of a line, the steps of a conversation, what is made of replies, how a token policy is chosen, the conversations,
+-- and what of them a text shows.
 pub mod Told
 pub mod FaultText
 pub mod Words
@@ -11,3 +12,8 @@ pub mod Endpoints
 pub mod Question
 pub mod Session
 pub mod Printed
+-- A script that is run over nodes: what its lines ask, why it is not run, what is printed of it, and what both ends said.
+pub mod Script
+pub mod ScriptFaults
+pub mod ScriptPrinted
+pub mod Conversed

@@ -1,5 +1,5 @@
-//! What the commands `ua endpoints`, `ua read` and `ua write` ask a server over a line, and the lines
-//! that they add of the answers.
+//! What the commands that ask do. `ua endpoints`, `ua read` and `ua write` ask a server over a line, and
+//! add the lines of the answers; `ua loop` runs a script over nodes, with both ends in this process.
 //!
 //! Its contracts are those of [`endpoints_over`] and [`ask_over`]: what a client does at each step, how
 //! often its line fails, which lines are added of the replies, and which fault is told.
@@ -10,12 +10,23 @@
 //! ask_over(alloc, &mut line, limits, 4840, &TokenPolicy::Auto, &question, style, &mut moments, &mut out)?;
 //! // `ns=1;s=Pump 00000000 Int32 6` is added to `out`
 //! ```
+//!
+//! And that of [`run_lines`]: the octets each way and the text are functions of the nodes and of the
+//! script's lines, whatever the pieces; or a line's request is the first that a client does not ask.
+//!
+//! ```
+//! let lines = parse_lines(alloc, "write\tns=1;s=Pump\tInt32\t6\nread\tns=1;s=Pump\n")?;
+//! let looped = run_lines(alloc, nodes, &lines, 65535, false)?;
+//! // looped.up, looped.down: what each end wrote; looped.text: what is printed, up to looped.fault
+//! ```
 #![tactic(auto)]
 
 mod answer;
 mod endpoints;
 mod fault;
 mod fault_name;
+pub mod laws;
+mod looping;
 mod policy;
 mod question;
 mod session;
@@ -25,6 +36,7 @@ mod words;
 
 pub use endpoints::endpoints_over;
 pub use fault::{AskFault, WordFault};
+pub use looping::{LoopFault, Looped, parse_lines, push_end, run_lines};
 pub use policy::{TokenPolicy, chosen_id};
 pub use question::Question;
 pub use session::ask_over;

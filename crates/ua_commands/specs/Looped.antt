@@ -4,11 +4,11 @@ use Rattle.std.specs.Io.KnownBytes.{Appends}
 use Rattle.ua_exchange.specs.Accepted.{AreAccepted}
 use Rattle.ua_exchange.specs.Exchanged.{down_octets}
 use Rattle.ua_exchange.specs.Turns.{up_octets}
-use Rattle.ua_looping.specs.Faults.{Stops, Unread}
-use Rattle.ua_looping.specs.Printed.{fault_of, script_told, text_of}
-use Rattle.ua_looping.specs.Script.{script_moment, script_turns}
-use Rattle.ua_looping.specs.declared.fault.LoopFault.{LoopFault}
-use Rattle.ua_looping.specs.declared.looped.Looped.{Looped}
+use Rattle.ua_asking.specs.ScriptFaults.{Stops, Unread}
+use Rattle.ua_asking.specs.ScriptPrinted.{fault_of, script_told, text_of}
+use Rattle.ua_asking.specs.Script.{script_moment, script_turns}
+use Rattle.ua_asking.specs.declared.looping.fault.LoopFault.{LoopFault}
+use Rattle.ua_asking.specs.declared.looping.looped.Looped.{Looped}
 use Rattle.ua_nodes.specs.NodeFile.{WriteNodes, node_lines}
 use Rattle.ua_nodes.specs.Table.{Nodes}
 use Rattle.ua_texts.specs.Script.{AsksFor}

@@ -2,8 +2,7 @@
 
 use std::alloc::AllocError;
 use thiserror::Error;
-use ua_asking::{AskFault, WordFault};
-use ua_looping::LoopFault;
+use ua_asking::{AskFault, LoopFault, WordFault};
 use ua_nodes::LineReason;
 
 /// Why a command stopped; its text stands behind `ua: ` on standard error.

@@ -9,8 +9,7 @@ use crate::reason::Reason;
 use std::alloc::AllocError;
 use std::io;
 use std::io::Write;
-use ua_asking::{AskFault, WordFault};
-use ua_looping::LoopFault;
+use ua_asking::{AskFault, LoopFault, WordFault};
 
 /// Why a command stops.
 #[derive(Drop, Debug)]

@@ -8,8 +8,8 @@ use crate::output::Stop;
 use std::alloc::{AllocError, Global};
 use std::fmt::Write;
 use std::io;
+use ua_asking::LoopFault;
 use ua_builtin::{NodeId, TextFault, UaString};
-use ua_looping::LoopFault;
 use ua_nodes::{LineReason, MOST_OCTETS, ValueFault, parse_type, parse_value, without_return};
 use ua_texts::push_string;
 

@@ -3,11 +3,10 @@
 use crate::fault::Fault as RowFault;
 use crate::texts::first_word;
 use std::alloc::Global;
-use ua_asking::AskFault;
+use ua_asking::{AskFault, LoopFault, push_end};
 use ua_builtin::StatusCode;
 use ua_client::ClientFault;
 use ua_commands::{Fault, push_outcome};
-use ua_looping::{LoopFault, push_end};
 use ua_server::{End, ServeFault};
 
 /// The code behind a name.

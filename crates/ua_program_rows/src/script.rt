@@ -6,7 +6,7 @@ use crate::octets::digits;
 use crate::texts::first_word;
 use std::alloc::Global;
 use std::rt::Files;
-use ua_looping::{Looped, parse_lines, run_lines};
+use ua_asking::{Looped, parse_lines, run_lines};
 use ua_nodes::NodeTable;
 
 /// `script CUT NODES SCRIPT`: the octets each way of a script over the nodes of a file, in pieces of so

@@ -1,4 +1,0 @@
-mod Turns
-mod Told
-mod Opening
-mod Stopped

@@ -1,4 +1,0 @@
-pub mod Script
-pub mod Faults
-pub mod Printed
-pub mod Conversed
