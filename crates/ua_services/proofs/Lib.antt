@@ -9,3 +9,4 @@ pub mod RequestRead
 pub mod ResponseRead
 pub mod Lengths
 mod RequestSkipped
+mod NumberWritten

@@ -41,6 +41,22 @@ pub fn empty_body(alloc: Global) -> Vec<u8>
     body
 }
 
+/// Adds the canonical encoding of the NodeId of the standard's namespace with this number.
+#[inline]
+fn append_number(number: u32, out: &mut Vec<u8>) -> Result<(), AllocError>
+    requires { IsTrue (node_id.encodable (standard number)) }
+    ensures ok { OnOk result (out.new.items ≡ out.old.items ++ node_id.canonical (standard number)) }
+    ensures err { OnErr result (Extends out.old.items out.new.items) }
+{
+    if number < 256 || number >= 65536 {
+        return standard_id(number).append(out);
+    }
+    // nearly always: the form of four octets, which names the namespace 0
+    let octets = [0x01, 0x00, (number % 256) as u8, (number / 256) as u8];
+    out.extend_from_slice(&octets)?;
+    Ok(())
+}
+
 /// Adds the canonical encoding of a structure behind the NodeId with this number.
 pub fn append_message<T: Wire>(number: u32, value: &T, out: &mut Vec<u8>) -> Result<(), AllocError>
     requires known { IsTrue (node_id.encodable (standard number)) }
@@ -48,7 +64,7 @@ pub fn append_message<T: Wire>(number: u32, value: &T, out: &mut Vec<u8>) -> Res
     ensures ok { OnOk result (out.new.items ≡ out.old.items ++ (node_id.canonical (standard number) ++ T.format.canonical value.now)) }
     ensures err { OnErr result (Extends out.old.items out.new.items) }
 {
-    standard_id(number).append(out)?;
+    append_number(number, out)?;
     value.append(out)?;
     Ok(())
 }
