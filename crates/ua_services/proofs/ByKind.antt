@@ -3,6 +3,9 @@ use Rattle.std.specs.Prelude.{◌≡◌, ◌++◌}
 use Rattle.std.proofs.Common.{refl}
 use Rattle.ua_builtin.specs.NodeId.{node_id}
 use Rattle.ua_services.specs.Message.{standard}
+use Rattle.ua_services.proofs.MessagesLawful.{canonical-made}
+use Rattle.ua_services.proofs.RequestLawful.{are_requests}
+use Rattle.ua_services.proofs.ResponseLawful.{are_responses}
 use Rattle.ua_services.specs.Request.{request, requests, Structure}
 use Rattle.ua_services.specs.Response.{response, responses, Structure as Held}
 use Rattle.ua_services.specs.declared.request.RequestKind.{RequestKind}
@@ -21,12 +24,7 @@ request-encodable Write m = refl
 
 pub request-canonical : (k : RequestKind) (m : Structure k) → request.canonical (requests.make k m) ≡ node_id.canonical (standard (requests.number k)) ++ (requests.format k).canonical m
 unfolding request
-request-canonical GetEndpoints m = refl
-request-canonical CreateSession m = refl
-request-canonical ActivateSession m = refl
-request-canonical CloseSession m = refl
-request-canonical Read m = refl
-request-canonical Write m = refl
+request-canonical = canonical-made requests are_requests
 
 pub response-encodable : (k : ResponseKind) (m : Held k) → response.encodable (responses.make k m) ≡ (responses.format k).encodable m
 unfolding response node_id
@@ -40,10 +38,4 @@ response-encodable Fault m = refl
 
 pub response-canonical : (k : ResponseKind) (m : Held k) → response.canonical (responses.make k m) ≡ node_id.canonical (standard (responses.number k)) ++ (responses.format k).canonical m
 unfolding response
-response-canonical EndpointsGiven m = refl
-response-canonical SessionCreated m = refl
-response-canonical SessionActivated m = refl
-response-canonical SessionClosed m = refl
-response-canonical WasRead m = refl
-response-canonical WasWritten m = refl
-response-canonical Fault m = refl
+response-canonical = canonical-made responses are_responses

@@ -1,4 +1,4 @@
--- A request whose header is read first, against the reader on lists.
+-- A request, against the reader on lists.
 use Rattle.std.specs.Prelude.{◌≡◌, ℕ, ◌<◌, ◌≤◌, List, length, Option, Some, None, Result, Ok, Err, IfOk, IfErr, ◌⊎◌, ◌↔◌}
 use Rattle.std.proofs.Common.{refl, sym, ◌∙◌, ap, subst, inl, inr}
 use Rattle.ua_builtin.specs.Exact.{◌>>=◌}
@@ -8,17 +8,10 @@ use Rattle.ua_builtin.specs.NodeId.{node_id}
 use Rattle.ua_builtin.specs.declared.node_id.NodeId.{NodeId}
 use Rattle.ua_octets.specs.declared.fault.ReadFault.{ReadFault}
 use Rattle.ua_octets.specs.declared.fault.ReadFault.TheVariants.{NoValue, OutOfMemory as NoMemory}
-use Rattle.ua_structures.specs.Header.{request_header}
-use Rattle.ua_structures.specs.Attribute.{read_request, read_request_fields, read_request_of, write_request, write_request_fields, write_request_of}
-use Rattle.ua_structures.specs.Discovery.{get_endpoints_request, get_endpoints_request_fields, get_endpoints_request_of}
-use Rattle.ua_structures.specs.Session.{create_session_request, create_session_request_fields, create_session_request_of, activate_session_request, activate_session_request_fields, activate_session_request_of, close_session_request, close_session_request_fields, close_session_request_of}
-use Rattle.ua_structures.specs.declared.header.RequestHeader.{RequestHeader}
-use Rattle.ua_services.specs.Message.{IsBody, IsNoBody, kind_at, if_last, body_of, found_or, header_handle, id_handle, handle_of, handle_behind, id_of}
-use Rattle.ua_services.specs.Request.{request, requests, request_kind, behind_header, kind_read, request_read, unread_with, misread_id, misread_kind, AnnouncesNone, Misread}
+use Rattle.ua_services.specs.Message.{IsBody, IsNoBody, kind_at, if_last, body_of, found_or, id_handle, handle_of, handle_behind, id_of}
+use Rattle.ua_services.specs.Request.{request, requests, request_kind, kind_read, request_read, unread_with, misread_id, misread_kind, AnnouncesNone, Misread}
 use Rattle.ua_services.specs.declared.request.Request.{Request}
-use Rattle.ua_services.specs.declared.request.Request.TheVariants.{GetEndpoints as GetEndpointsMessage, CreateSession as CreateSessionMessage, ActivateSession as ActivateSessionMessage, CloseSession as CloseSessionMessage, Read as ReadMessage, Write as WriteMessage}
 use Rattle.ua_services.specs.declared.request.RequestKind.{RequestKind}
-use Rattle.ua_services.specs.declared.request.RequestKind.TheVariants.{GetEndpoints, CreateSession, ActivateSession, CloseSession, Read, Write}
 use Rattle.ua_services.specs.declared.fault.RequestFault.{RequestFault}
 use Rattle.ua_services.specs.declared.fault.RequestFault.TheVariants.{Unsupported, Unreadable, OutOfMemory}
 use Rattle.ua_services.proofs.RequestLawful.{lawful_request}
@@ -28,64 +21,40 @@ use Rattle.ua_services.proofs.BodyRead.{body_is, body_found, no_body, nothing_le
 abbrev pub Reads : Result Request RequestFault → Result Request RequestFault → Type 0
 Reads result expected = (result ≡ expected) ⊎ (result ≡ Err OutOfMemory)
 
--- ---- a structure whose header is read first
-
-abbrev join_with : {H F : Type 0} → H → F × List ℕ → Option ((H × F) × List ℕ)
-join_with h y = Some ((h, y.0), y.1)
-
-abbrev made_with : {R Q : Type 0} → (R → Q) → R × List ℕ → Option (Q × List ℕ)
-made_with make z = Some (make z.0, z.1)
-
-fields_first : {H F R Q : Type 0} (h : H) (of : H × F → R) (make : R → Q) (found : Option (F × List ℕ))
-    → (((found >>= join_with h) >>= made_with of) >>= made_with make) ≡ ((found >>= made_with (λ (f : F). of (h, f))) >>= made_with make)
-fields_first h of make None = refl
-fields_first h of make (Some y) = refl
-
-header_first : {H F R Q : Type 0} (of : H × F → R) (make : R → Q) (read : List ℕ → Option (F × List ℕ)) (found : Option (H × List ℕ))
-    → (((found >>= λ x. read x.1 >>= join_with x.0) >>= made_with of) >>= made_with make) ≡ (found >>= λ x. (read x.1 >>= made_with (λ (f : F). of (x.0, f))) >>= made_with make)
-header_first of make read None = refl
-header_first of make read (Some x) = fields_first x.0 of make (read x.1)
-
--- reading a request of a kind is reading its header, and then what the header leaves
-kind-behind : (k : RequestKind) (levels : ℕ) (octets : List ℕ) → kind_at requests levels (Some k) octets ≡ (request_header.decode levels octets >>= λ h. behind_header k h.0 levels h.1)
-unfolding get_endpoints_request create_session_request activate_session_request close_session_request read_request write_request
-kind-behind GetEndpoints levels octets = header_first get_endpoints_request_of GetEndpointsMessage (get_endpoints_request_fields.decode levels) (request_header.decode levels octets)
-kind-behind CreateSession levels octets = header_first create_session_request_of CreateSessionMessage (create_session_request_fields.decode levels) (request_header.decode levels octets)
-kind-behind ActivateSession levels octets = header_first activate_session_request_of ActivateSessionMessage (activate_session_request_fields.decode levels) (request_header.decode levels octets)
-kind-behind CloseSession levels octets = header_first close_session_request_of CloseSessionMessage (close_session_request_fields.decode levels) (request_header.decode levels octets)
-kind-behind Read levels octets = header_first read_request_of ReadMessage (read_request_fields.decode levels) (request_header.decode levels octets)
-kind-behind Write levels octets = header_first write_request_of WriteMessage (write_request_fields.decode levels) (request_header.decode levels octets)
-
 -- ---- a request of a known kind
 
--- what a body of this kind is read as, by the header that was found
-abbrev read_found : RequestKind → Option (RequestHeader × List ℕ) → Result Request RequestFault
-read_found k o = found_or ((o >>= λ h. behind_header k h.0 most_levels h.1) >>= λ x. if_last x.0 x.1) (Unreadable (header_handle o))
+-- what answers that it cannot be read: with the handle behind these octets, or that memory was refused
+abbrev pub IsUnread : List ℕ → ReadFault → RequestFault → Type 0
+IsUnread octets e fault = (fault ≡ unread_with (handle_behind octets) e) ⊎ (fault ≡ OutOfMemory)
 
-kind_read-found : (k : RequestKind) (old : List ℕ) → kind_read k old ≡ read_found k (request_header.decode most_levels old)
-kind_read-found k old = ap (λ o. found_or (o >>= λ x. if_last x.0 x.1) (Unreadable (handle_behind old))) (kind-behind k most_levels old)
+unread_is : (head old : List ℕ) (e : ReadFault) (fault : RequestFault) → head ≡ old → IsUnread head e fault → IsUnread old e fault
+unread_is head old e fault same is = subst (λ (t : List ℕ). IsUnread t e fault) same is
 
-pub header_fails : (k : RequestKind) (old new : List ℕ) (e : ReadFault) → Gives (request_header.decode most_levels) old new (Err e)
-    → Reads (Err (unread_with 0 e)) (kind_read k old)
-header_fails k old new NoValue h = inl (sym (kind_read-found k old ∙ ap (read_found k) h))
-header_fails k old new NoMemory h = inr refl
+fails_by : (k : RequestKind) (old new : List ℕ) (e : ReadFault) (fault : RequestFault) → Gives (kind_at requests most_levels (Some k)) old new (Err e) → IsUnread old e fault → Reads (Err fault) (kind_read k old)
+fails_by k old new NoValue fault h (inl is) = inl (ap Err is ∙ sym (ap (λ o. found_or (o >>= λ x. if_last x.0 x.1) (Unreadable (handle_behind old))) h))
+fails_by k old new NoValue fault h (inr is) = inr (ap Err is)
+fails_by k old new NoMemory fault h (inl is) = inr (ap Err is)
+fails_by k old new NoMemory fault h (inr is) = inr (ap Err is)
 
-pub behind_fails : (k : RequestKind) (old rest new : List ℕ) (header : RequestHeader) (e : ReadFault) → request_header.decode most_levels old ≡ Some (header, rest) → Gives (behind_header k header most_levels) rest new (Err e)
-    → Reads (Err (unread_with header.request_handle e)) (kind_read k old)
-behind_fails k old rest new header NoValue found h = inl (sym (kind_read-found k old ∙ ap (read_found k) found ∙ ap (λ o. found_or (o >>= λ x. if_last x.0 x.1) (Unreadable header.request_handle)) h))
-behind_fails k old rest new header NoMemory found h = inr refl
+pub kind_fails : (k : RequestKind) (head old new : List ℕ) (e : ReadFault) (fault : RequestFault) → head ≡ old → Gives (kind_at requests most_levels (Some k)) old new (Err e) → IsUnread head e fault
+    → Reads (Err fault) (kind_read k old)
+kind_fails k head old new e fault same h is = fails_by k old new e fault h (unread_is head old e fault same is)
 
-behind_gives : (k : RequestKind) (old rest new : List ℕ) (header : RequestHeader) (m : Request) → request_header.decode most_levels old ≡ Some (header, rest) → behind_header k header most_levels rest ≡ Some (m, new)
-    → kind_read k old ≡ found_or (if_last m new) (Unreadable header.request_handle)
-behind_gives k old rest new header m found e = kind_read-found k old ∙ ap (read_found k) found ∙ ap (λ o. found_or (o >>= λ x. if_last x.0 x.1) (Unreadable header.request_handle)) e
+kind_gives : (k : RequestKind) (old new : List ℕ) (m : Request) → kind_at requests most_levels (Some k) old ≡ Some (m, new)
+    → kind_read k old ≡ found_or (if_last m new) (Unreadable (handle_behind old))
+kind_gives k old new m e = ap (λ o. found_or (o >>= λ x. if_last x.0 x.1) (Unreadable (handle_behind old))) e
 
-pub behind_left : (k : RequestKind) (old rest new : List ℕ) (header : RequestHeader) (m : Request) → request_header.decode most_levels old ≡ Some (header, rest) → behind_header k header most_levels rest ≡ Some (m, new) → 0 < length new
-    → Reads (Err (Unreadable header.request_handle)) (kind_read k old)
-behind_left k old rest new header m found e more = inl (sym (behind_gives k old rest new header m found e ∙ ap (λ o. found_or o (Unreadable header.request_handle)) (some_left m new more)))
+left_by : (k : RequestKind) (old new : List ℕ) (m : Request) (fault : RequestFault) → kind_at requests most_levels (Some k) old ≡ Some (m, new) → 0 < length new → IsUnread old NoValue fault → Reads (Err fault) (kind_read k old)
+left_by k old new m fault e more (inl is) = inl (ap Err is ∙ sym (kind_gives k old new m e ∙ ap (λ o. found_or o (Unreadable (handle_behind old))) (some_left m new more)))
+left_by k old new m fault e more (inr is) = inr (ap Err is)
 
-pub behind_read : (k : RequestKind) (old rest new : List ℕ) (header : RequestHeader) (m : Request) → request_header.decode most_levels old ≡ Some (header, rest) → behind_header k header most_levels rest ≡ Some (m, new) → length new ≤ 0
+pub kind_left : (k : RequestKind) (head old new : List ℕ) (m : Request) (fault : RequestFault) → head ≡ old → kind_at requests most_levels (Some k) old ≡ Some (m, new) → 0 < length new → IsUnread head NoValue fault
+    → Reads (Err fault) (kind_read k old)
+kind_left k head old new m fault same e more is = left_by k old new m fault e more (unread_is head old NoValue fault same is)
+
+pub kind_whole : (k : RequestKind) (old new : List ℕ) (m : Request) → kind_at requests most_levels (Some k) old ≡ Some (m, new) → length new ≤ 0
     → Reads (Ok m) (kind_read k old)
-behind_read k old rest new header m found e none = inl (sym (behind_gives k old rest new header m found e ∙ ap (λ o. found_or o (Unreadable header.request_handle)) (nothing_left m new none)))
+kind_whole k old new m e none = inl (sym (kind_gives k old new m e ∙ ap (λ o. found_or o (Unreadable (handle_behind old))) (nothing_left m new none)))
 
 -- ---- the whole body
 
@@ -118,28 +87,6 @@ pub kind_found : (k : RequestKind) (old rest : List ℕ) (id : NodeId) (r : Resu
     → Reads r (request_read old)
 kind_found k old rest id r found is (inl h) = inl (h ∙ sym (read-kind old rest id (Some k) found is))
 kind_found k old rest id r found is (inr h) = inr h
-
--- ---- the reader that tells no handle
-
-request-kind : (levels : ℕ) (old rest : List ℕ) (id : NodeId) (o : Option RequestKind) → node_id.decode old ≡ Some (id, rest) → request_kind id ≡ o → request.decode levels old ≡ kind_at requests levels o rest
-unfolding request
-request-kind levels old rest id o found is =
-    ap (λ (x : Option (NodeId × List ℕ)). x >>= λ y. kind_at requests levels (request_kind y.0) y.1) found ∙ ap (λ (k : Option RequestKind). kind_at requests levels k rest) is
-
-pub value_header_fails : (levels : ℕ) (k : RequestKind) (old rest new : List ℕ) (id : NodeId) (e : ReadFault) → node_id.decode old ≡ Some (id, rest) → request_kind id ≡ Some k → Gives (request_header.decode levels) rest new (Err e) → Gives (request.decode levels) old new (Err e)
-value_header_fails levels k old rest new id NoValue found is h = request-kind levels old rest id (Some k) found is ∙ kind-behind k levels rest ∙ ap (λ (o : Option (RequestHeader × List ℕ)). o >>= λ h. behind_header k h.0 levels h.1) h
-value_header_fails levels k old rest new id NoMemory found is h = tt
-
-same_gives : (f g : List ℕ → Option (Request × List ℕ)) (old rest new : List ℕ) (r : Result Request ReadFault) → f old ≡ g rest → Gives g rest new r → Gives f old new r
-same_gives f g old rest new (Ok m) e h = e ∙ h
-same_gives f g old rest new (Err NoValue) e h = e ∙ h
-same_gives f g old rest new (Err NoMemory) e h = tt
-
-pub value_behind : (levels : ℕ) (k : RequestKind) (old rest more new : List ℕ) (id : NodeId) (header : RequestHeader) (r : Result Request ReadFault) → node_id.decode old ≡ Some (id, rest) → request_kind id ≡ Some k → request_header.decode levels rest ≡ Some (header, more)
-    → Gives (behind_header k header levels) more new r → Gives (request.decode levels) old new r
-value_behind levels k old rest more new id header r found is head h =
-    same_gives (request.decode levels) (behind_header k header levels) old more new r
-    (request-kind levels old rest id (Some k) found is ∙ kind-behind k levels rest ∙ ap (λ (o : Option (RequestHeader × List ℕ)). o >>= λ h. behind_header k h.0 levels h.1) head) h
 
 -- ---- what was read, by the relations
 

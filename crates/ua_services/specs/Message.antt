@@ -28,6 +28,13 @@ standard n = record { namespace = 0; identifier = Numeric n }
 
 -- ---- messages of several kinds
 
+-- a kind of message: the number of its binary encoding (OPC 10000-6, A.3), the structure that it holds, how octets encode that, and the message that is made of it
+pub record Kind (V : Type 0) : Type 1 where
+  pub number : ℕ
+  pub structure : Type 0
+  pub format : Format structure
+  pub make : structure → V
+
 -- the kinds of a message: the structure that each holds, and how octets encode it; the number of its encoding; how a message is made of its kind and structure
 pub record Kinds (K V : Type 0) : Type 1 where
   pub structure : K → Type 0

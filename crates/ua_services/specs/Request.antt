@@ -1,11 +1,11 @@
 -- Requests: the kinds by the number of their encoding.
 use Rattle.std.specs.Prelude.{◌≡◌, ℕ, List, cond, nat_eq, Option, Some, None, Result, Ok, Err}
-use Rattle.ua_builtin.specs.Exact.{◌>>=◌, image_read}
+use Rattle.ua_builtin.specs.Exact.{◌>>=◌}
 use Rattle.ua_builtin.specs.Format.{Format, most_levels}
 use Rattle.ua_builtin.specs.declared.node_id.NodeId.{NodeId}
-use Rattle.ua_structures.specs.Attribute.{read_request, read_request_fields, read_request_of, write_request, write_request_fields, write_request_of}
-use Rattle.ua_structures.specs.Discovery.{get_endpoints_request, get_endpoints_request_fields, get_endpoints_request_of}
-use Rattle.ua_structures.specs.Session.{create_session_request, create_session_request_fields, create_session_request_of, activate_session_request, activate_session_request_fields, activate_session_request_of, close_session_request, close_session_request_fields, close_session_request_of}
+use Rattle.ua_structures.specs.Attribute.{read_request, write_request}
+use Rattle.ua_structures.specs.Discovery.{get_endpoints_request}
+use Rattle.ua_structures.specs.Session.{create_session_request, activate_session_request, close_session_request}
 use Rattle.ua_structures.specs.declared.discovery.GetEndpointsRequest.{GetEndpointsRequest}
 use Rattle.ua_structures.specs.declared.session.CreateSessionRequest.{CreateSessionRequest}
 use Rattle.ua_structures.specs.declared.session.ActivateSessionRequest.{ActivateSessionRequest}
@@ -15,7 +15,7 @@ use Rattle.ua_structures.specs.declared.attribute.WriteRequest.{WriteRequest}
 use Rattle.ua_structures.specs.declared.header.RequestHeader.{RequestHeader}
 use Rattle.ua_octets.specs.declared.fault.ReadFault.{ReadFault}
 use Rattle.ua_octets.specs.declared.fault.ReadFault.TheVariants.{NoValue}
-use Rattle.ua_services.specs.Message.{Kinds, announced, kind_at, message_of, IsNoBody, body_of, if_last, id_of, handle_of, handle_behind, found_or}
+use Rattle.ua_services.specs.Message.{Kind, Kinds, announced, kind_at, message_of, IsNoBody, body_of, if_last, id_of, handle_of, handle_behind, found_or}
 use Rattle.ua_services.specs.declared.request.Request.{Request}
 use Rattle.ua_services.specs.declared.request.Request.TheVariants.{GetEndpoints as GetEndpointsMessage, CreateSession as CreateSessionMessage, ActivateSession as ActivateSessionMessage, CloseSession as CloseSessionMessage, Read as ReadMessage, Write as WriteMessage}
 use Rattle.ua_services.specs.declared.request.RequestKind.{RequestKind}
@@ -25,14 +25,14 @@ use Rattle.ua_services.specs.declared.fault.RequestFault.TheVariants.{Unsupporte
 
 -- ---- the kinds
 
--- the number of each request's binary encoding (OPC 10000-6, A.3)
-abbrev pub request_number : RequestKind → ℕ
-request_number GetEndpoints = 428
-request_number CreateSession = 461
-request_number ActivateSession = 467
-request_number CloseSession = 473
-request_number Read = 631
-request_number Write = 673
+-- each kind of request (OPC 10000-6, A.3)
+abbrev pub request_row : RequestKind → Kind Request
+request_row GetEndpoints = record { number = 428; structure = GetEndpointsRequest; format = get_endpoints_request; make = GetEndpointsMessage }
+request_row CreateSession = record { number = 461; structure = CreateSessionRequest; format = create_session_request; make = CreateSessionMessage }
+request_row ActivateSession = record { number = 467; structure = ActivateSessionRequest; format = activate_session_request; make = ActivateSessionMessage }
+request_row CloseSession = record { number = 473; structure = CloseSessionRequest; format = close_session_request; make = CloseSessionMessage }
+request_row Read = record { number = 631; structure = ReadRequest; format = read_request; make = ReadMessage }
+request_row Write = record { number = 673; structure = WriteRequest; format = write_request; make = WriteMessage }
 
 -- the kind of request whose binary encoding has this number, if there is one (OPC 10000-6, A.3)
 abbrev pub numbered : ℕ → Option RequestKind
@@ -46,30 +46,7 @@ numbered n =
 
 -- the structure that a request of each kind holds
 abbrev pub Structure : RequestKind → Type 0
-Structure GetEndpoints = GetEndpointsRequest
-Structure CreateSession = CreateSessionRequest
-Structure ActivateSession = ActivateSessionRequest
-Structure CloseSession = CloseSessionRequest
-Structure Read = ReadRequest
-Structure Write = WriteRequest
-
--- how octets encode it
-abbrev pub structure_format : (k : RequestKind) → Format (Structure k)
-structure_format GetEndpoints = get_endpoints_request
-structure_format CreateSession = create_session_request
-structure_format ActivateSession = activate_session_request
-structure_format CloseSession = close_session_request
-structure_format Read = read_request
-structure_format Write = write_request
-
--- the request of a kind and its structure
-abbrev pub request_made : (k : RequestKind) → Structure k → Request
-request_made GetEndpoints m = GetEndpointsMessage m
-request_made CreateSession m = CreateSessionMessage m
-request_made ActivateSession m = ActivateSessionMessage m
-request_made CloseSession m = CloseSessionMessage m
-request_made Read m = ReadMessage m
-request_made Write m = WriteMessage m
+Structure k = (request_row k).structure
 
 -- the kind and the structure of a request
 abbrev pub request_parts : Request → (k : RequestKind) × Structure k
@@ -82,7 +59,14 @@ request_parts (WriteMessage m) = (Write, m)
 
 -- the kinds of request
 abbrev pub requests : Kinds RequestKind Request
-requests = record { structure = Structure; format = structure_format; number = request_number; numbered = numbered; make = request_made; parts = request_parts }
+requests = record {
+  structure = Structure;
+  format = λ k. (request_row k).format;
+  number = λ k. (request_row k).number;
+  numbered = numbered;
+  make = λ k. (request_row k).make;
+  parts = request_parts;
+}
 
 -- the kind of a request
 abbrev pub kind_of : Request → RequestKind
@@ -138,22 +122,13 @@ Misread octets (Unsupported handle) = AnnouncesNone octets × IsNoBody request o
 Misread octets (Unreadable handle) = (AnnouncesNone octets → ⊥) × IsNoBody request octets × (handle ≡ handle_of octets)
 Misread octets OutOfMemory = Unit {0}
 
--- ---- a structure behind its header
+-- ---- behind the NodeId
 
--- the fault of a request whose handle is this one, where reading it failed
+-- the fault of a request with this handle, where reading it failed
 abbrev pub unread_with : ℕ → ReadFault → RequestFault
 unread_with handle NoValue = Unreadable handle
 unread_with handle ReadFault.OutOfMemory = OutOfMemory
 
--- the request of this kind that octets give behind its header, if they give one, and the octets left behind it
-abbrev pub behind_header : RequestKind → RequestHeader → ℕ → List ℕ → Option (Request × List ℕ)
-behind_header GetEndpoints header levels = image_read GetEndpointsMessage (image_read (λ fields. get_endpoints_request_of (header, fields)) (get_endpoints_request_fields.decode levels))
-behind_header CreateSession header levels = image_read CreateSessionMessage (image_read (λ fields. create_session_request_of (header, fields)) (create_session_request_fields.decode levels))
-behind_header ActivateSession header levels = image_read ActivateSessionMessage (image_read (λ fields. activate_session_request_of (header, fields)) (activate_session_request_fields.decode levels))
-behind_header CloseSession header levels = image_read CloseSessionMessage (image_read (λ fields. close_session_request_of (header, fields)) (close_session_request_fields.decode levels))
-behind_header Read header levels = image_read ReadMessage (image_read (λ fields. read_request_of (header, fields)) (read_request_fields.decode levels))
-behind_header Write header levels = image_read WriteMessage (image_read (λ fields. write_request_of (header, fields)) (write_request_fields.decode levels))
-
--- the request of this kind that octets are behind its header; else the fault that says that they are none
+-- the request of this kind that octets are behind its NodeId; else the fault that says that they are none
 abbrev pub kind_read : (k : RequestKind) → List ℕ → Result Request RequestFault
 kind_read k octets = found_or (kind_at requests most_levels (Some k) octets >>= λ x. if_last x.0 x.1) (Unreadable (handle_behind octets))

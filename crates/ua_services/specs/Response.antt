@@ -17,7 +17,7 @@ use Rattle.ua_structures.specs.declared.header.ResponseHeader.{ResponseHeader}
 use Rattle.ua_structures.specs.declared.header.ServiceFault.{ServiceFault}
 use Rattle.ua_octets.specs.declared.fault.ReadFault.{ReadFault}
 use Rattle.ua_octets.specs.declared.fault.ReadFault.TheVariants.{NoValue}
-use Rattle.ua_services.specs.Message.{Kinds, announced, message_of, IsNoBody, body_of, id_of, found_or, kind_at, if_last}
+use Rattle.ua_services.specs.Message.{Kind, Kinds, announced, message_of, IsNoBody, body_of, id_of, found_or, kind_at, if_last}
 use Rattle.ua_services.specs.declared.request.RequestKind.{RequestKind}
 use Rattle.ua_services.specs.declared.response.Response.{Response}
 use Rattle.ua_services.specs.declared.response.Response.TheVariants.{GetEndpoints as GetEndpointsMessage, CreateSession as CreateSessionMessage, ActivateSession as ActivateSessionMessage, CloseSession as CloseSessionMessage, Read as ReadMessage, Write as WriteMessage, ServiceFault as ServiceFaultMessage}
@@ -26,15 +26,15 @@ use Rattle.ua_services.specs.declared.response.ResponseKind.TheVariants.{GetEndp
 use Rattle.ua_services.specs.declared.fault.ResponseFault.{ResponseFault}
 use Rattle.ua_services.specs.declared.fault.ResponseFault.TheVariants.{Unknown, Unreadable, OutOfMemory}
 
--- the number of each response's binary encoding (OPC 10000-6, A.3)
-abbrev pub response_number : ResponseKind → ℕ
-response_number GetEndpoints = 431
-response_number CreateSession = 464
-response_number ActivateSession = 470
-response_number CloseSession = 476
-response_number Read = 634
-response_number Write = 676
-response_number Fault = 397
+-- each kind of response (OPC 10000-6, A.3)
+abbrev pub response_row : ResponseKind → Kind Response
+response_row GetEndpoints = record { number = 431; structure = GetEndpointsResponse; format = get_endpoints_response; make = GetEndpointsMessage }
+response_row CreateSession = record { number = 464; structure = CreateSessionResponse; format = create_session_response; make = CreateSessionMessage }
+response_row ActivateSession = record { number = 470; structure = ActivateSessionResponse; format = activate_session_response; make = ActivateSessionMessage }
+response_row CloseSession = record { number = 476; structure = CloseSessionResponse; format = close_session_response; make = CloseSessionMessage }
+response_row Read = record { number = 634; structure = ReadResponse; format = read_response; make = ReadMessage }
+response_row Write = record { number = 676; structure = WriteResponse; format = write_response; make = WriteMessage }
+response_row Fault = record { number = 397; structure = ServiceFault; format = service_fault; make = ServiceFaultMessage }
 
 -- the kind of response whose binary encoding has this number, if there is one (OPC 10000-6, A.3)
 abbrev pub numbered : ℕ → Option ResponseKind
@@ -49,33 +49,7 @@ numbered n =
 
 -- the structure that a response of each kind holds
 abbrev pub Structure : ResponseKind → Type 0
-Structure GetEndpoints = GetEndpointsResponse
-Structure CreateSession = CreateSessionResponse
-Structure ActivateSession = ActivateSessionResponse
-Structure CloseSession = CloseSessionResponse
-Structure Read = ReadResponse
-Structure Write = WriteResponse
-Structure Fault = ServiceFault
-
--- how octets encode it
-abbrev pub structure_format : (k : ResponseKind) → Format (Structure k)
-structure_format GetEndpoints = get_endpoints_response
-structure_format CreateSession = create_session_response
-structure_format ActivateSession = activate_session_response
-structure_format CloseSession = close_session_response
-structure_format Read = read_response
-structure_format Write = write_response
-structure_format Fault = service_fault
-
--- the response of a kind and its structure
-abbrev pub response_made : (k : ResponseKind) → Structure k → Response
-response_made GetEndpoints m = GetEndpointsMessage m
-response_made CreateSession m = CreateSessionMessage m
-response_made ActivateSession m = ActivateSessionMessage m
-response_made CloseSession m = CloseSessionMessage m
-response_made Read m = ReadMessage m
-response_made Write m = WriteMessage m
-response_made Fault m = ServiceFaultMessage m
+Structure k = (response_row k).structure
 
 -- the kind and the structure of a response
 abbrev pub response_parts : Response → (k : ResponseKind) × Structure k
@@ -89,7 +63,14 @@ response_parts (ServiceFaultMessage m) = (Fault, m)
 
 -- the kinds of response
 abbrev pub responses : Kinds ResponseKind Response
-responses = record { structure = Structure; format = structure_format; number = response_number; numbered = numbered; make = response_made; parts = response_parts }
+responses = record {
+  structure = Structure;
+  format = λ k. (response_row k).format;
+  number = λ k. (response_row k).number;
+  numbered = numbered;
+  make = λ k. (response_row k).make;
+  parts = response_parts;
+}
 
 -- the kind of a response
 abbrev pub kind_of : Response → ResponseKind

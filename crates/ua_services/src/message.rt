@@ -1,7 +1,8 @@
 //! Messages: a structure behind the NodeId of its encoding.
 
-ghost use Rattle.std.specs.Prelude.{◌≡◌, ◌++◌, ◌<◌, ◌^◌, ◌↔◌, [], List, ℕ, IsTrue, IsFalse, IfOk, OnOk, OnErr, IsErrOf};
-ghost use Rattle.ua_builtin.specs.Format.{Extends};
+ghost use Rattle.std.specs.Prelude.{◌≡◌, ◌≤◌, ◌++◌, ◌<◌, ◌^◌, ◌↔◌, [], List, ℕ, IsTrue, IsFalse, IfOk, OnOk, OnErr, IsErrOf};
+ghost use Rattle.ua_builtin.specs.Exact.{image_read};
+ghost use Rattle.ua_builtin.specs.Format.{most_levels, Extends, Gives, StaysBehind};
 ghost use Rattle.ua_builtin.specs.NodeId.{node_id};
 ghost use Rattle.ua_octets.specs.declared.fault.ReadFault.TheVariants.{NoValue};
 ghost use Rattle.ua_octets.specs.declared.fault.WriteFault.TheVariants.{NotWritable};
@@ -39,6 +40,30 @@ pub fn empty_body(alloc: Global) -> Vec<u8>
     let mut body = Vec::new(alloc);
     let _has_room = body.reserve(BODY_ROOM).is_ok();
     body
+}
+
+/// A structure that messages of one kind hold.
+pub trait Held<M>: Wire + Drop {
+    /// The message that holds the structure.
+    ghost held: { Self → M };
+
+    /// The message that holds this structure.
+    fn hold(self) -> M
+        ensures { result ≡ held self };
+}
+
+/// Reads the structure of a message behind the NodeId of its kind, and makes the message of it.
+pub fn read_held<T: Held<M>, M, S: Source>(
+    alloc: Global,
+    src: &mut S,
+    depth: u32,
+) -> Result<M, ReadFault>
+    requires levels { depth ≤ most_levels }
+    ensures exact { Gives (image_read T.held (T.format.decode depth)) (S.octets src.old) (S.octets src.new) result }
+    ensures behind { StaysBehind (S.octets src.old) (S.octets src.new) }
+{
+    let structure = T::read_value(alloc, src, depth)?;
+    Ok(structure.hold())
 }
 
 /// Adds the canonical encoding of the NodeId of the standard's namespace with this number.

@@ -3,13 +3,14 @@
 ghost use Rattle.std.specs.Prelude.{◌≡◌, ◌≤◌, ◌++◌, ◌⊎◌, length, IfOk, IfErr, OnOk, OnErr, IsErrOf, IsFalse, ◌↔◌};
 ghost use Rattle.ua_builtin.specs.Format.{most_levels, Gives, StaysBehind};
 ghost use Rattle.ua_octets.specs.declared.fault.WriteFault.TheVariants.{NotWritable};
-ghost use Rattle.ua_services.specs.Message.{IsBody, handle_behind};
-ghost use Rattle.ua_services.specs.Request.{request, request_kind, behind_header, unread_with, kind_read, kind_alone, request_read, Misread};
+ghost use Rattle.ua_services.specs.Message.{IsBody, handle_behind, kind_at};
+ghost use Rattle.ua_services.specs.Request.{request, requests, request_kind, unread_with, kind_read, kind_alone, request_read, Misread};
+ghost use Rattle.ua_services.specs.declared.request.Request.TheVariants.{GetEndpoints, CreateSession, ActivateSession, CloseSession, Read, Write};
 
 use crate::fault::RequestFault;
-use crate::message::{append_message, empty_body, standard_number};
+use crate::message::{Held, append_message, empty_body, read_held, standard_number};
 use std::alloc::{AllocError, Global};
-use ua_builtin::{MOST_LEVELS, NodeId, ReadFault, Source, Wire, WriteFault};
+use ua_builtin::{MOST_LEVELS, NodeId, ReadFault, Skip, Source, Wire, WriteFault};
 use ua_structures::{
     ActivateSessionRequest, CloseSessionRequest, CreateSessionRequest, GetEndpointsRequest,
     ReadRequest, RequestHeader, WriteRequest,
@@ -53,7 +54,6 @@ impl Drop for Request {
 impl Request {
     ghost use Rattle.std.specs.Prelude.{◌≡◌, ◌≢◌, IfOk, IfErr};
     ghost use Rattle.ua_services.specs.Request.{kind_of, header_of};
-    ghost use Rattle.ua_services.specs.declared.request.Request.TheVariants.{Read, Write};
     ghost use Rattle.ua_services.specs.declared.request.RequestKind.TheVariants.{Read as ReadKind, Write as WriteKind};
 
     /// The Read, or the request itself where it is another one.
@@ -124,37 +124,74 @@ fn announced_kind(id: &NodeId) -> Option<RequestKind>
     }
 }
 
-// Reads the fields of a request behind its header.
-fn read_behind<S: Source>(
+impl Held<Request> for GetEndpointsRequest {
+    ghost held = { GetEndpoints };
+
+    fn hold(self) -> Request {
+        Request::GetEndpoints(self)
+    }
+}
+
+impl Held<Request> for CreateSessionRequest {
+    ghost held = { CreateSession };
+
+    fn hold(self) -> Request {
+        Request::CreateSession(self)
+    }
+}
+
+impl Held<Request> for ActivateSessionRequest {
+    ghost held = { ActivateSession };
+
+    fn hold(self) -> Request {
+        Request::ActivateSession(self)
+    }
+}
+
+impl Held<Request> for CloseSessionRequest {
+    ghost held = { CloseSession };
+
+    fn hold(self) -> Request {
+        Request::CloseSession(self)
+    }
+}
+
+impl Held<Request> for ReadRequest {
+    ghost held = { Read };
+
+    fn hold(self) -> Request {
+        Request::Read(self)
+    }
+}
+
+impl Held<Request> for WriteRequest {
+    ghost held = { Write };
+
+    fn hold(self) -> Request {
+        Request::Write(self)
+    }
+}
+
+// Reads the structure of a request of that kind.
+fn read_kind<S: Source>(
     alloc: Global,
     src: &mut S,
     depth: u32,
     kind: RequestKind,
-    header: RequestHeader,
 ) -> Result<Request, ReadFault>
     requires levels { depth ≤ most_levels }
-    ensures exact { Gives (behind_header kind header depth) (S.octets src.old) (S.octets src.new) result }
+    ensures exact { Gives (kind_at requests depth (Some kind)) (S.octets src.old) (S.octets src.new) result }
     ensures behind { StaysBehind (S.octets src.old) (S.octets src.new) }
 {
     match kind {
-        RequestKind::GetEndpoints => Ok(Request::GetEndpoints(GetEndpointsRequest::read_behind(
-            alloc, src, depth, header,
-        )?)),
-        RequestKind::CreateSession => Ok(Request::CreateSession(CreateSessionRequest::read_behind(
-            alloc, src, depth, header,
-        )?)),
-        RequestKind::ActivateSession => Ok(Request::ActivateSession(
-            ActivateSessionRequest::read_behind(alloc, src, depth, header)?,
-        )),
-        RequestKind::CloseSession => Ok(Request::CloseSession(CloseSessionRequest::read_behind(
-            alloc, src, depth, header,
-        )?)),
-        RequestKind::Read => Ok(Request::Read(ReadRequest::read_behind(
-            alloc, src, depth, header,
-        )?)),
-        RequestKind::Write => Ok(Request::Write(WriteRequest::read_behind(
-            alloc, src, depth, header,
-        )?)),
+        RequestKind::GetEndpoints => read_held::<GetEndpointsRequest, _, _>(alloc, src, depth),
+        RequestKind::CreateSession => read_held::<CreateSessionRequest, _, _>(alloc, src, depth),
+        RequestKind::ActivateSession => read_held::<ActivateSessionRequest, _, _>(
+            alloc, src, depth,
+        ),
+        RequestKind::CloseSession => read_held::<CloseSessionRequest, _, _>(alloc, src, depth),
+        RequestKind::Read => read_held::<ReadRequest, _, _>(alloc, src, depth),
+        RequestKind::Write => read_held::<WriteRequest, _, _>(alloc, src, depth),
     }
 }
 
@@ -173,8 +210,7 @@ impl Wire for Request {
         let Some(kind) = announced_kind(&id) else {
             return Err(ReadFault::NoValue);
         };
-        let header = RequestHeader::read_value(alloc, src, depth)?;
-        read_behind(alloc, src, depth, kind, header)
+        read_kind(alloc, src, depth, kind)
     }
 
     fn is_encodable(&self) -> bool {
@@ -202,7 +238,7 @@ impl Wire for Request {
 }
 
 // What a fault within a request whose handle is known means.
-fn unreadable(fault: ReadFault, handle: u32) -> RequestFault
+fn unread(fault: ReadFault, handle: u32) -> RequestFault
     ensures { result ≡ unread_with handle fault }
 {
     match fault {
@@ -211,58 +247,75 @@ fn unreadable(fault: ReadFault, handle: u32) -> RequestFault
     }
 }
 
-// Reads the header of a request that is not supported, for its handle.
+// The RequestHandle of the header that the source begins with, or 0 where no header reads whole.
+fn handle_ahead<S: Source>(alloc: Global, src: &mut S) -> Result<u32, RequestFault>
+    ensures { (result ≡ Ok (handle_behind (S.octets src.old))) ⊎ (result ≡ Err RequestFault.OutOfMemory) }
+{
+    match RequestHeader::skip_for_handle(alloc, src, MOST_LEVELS) {
+        Ok(handle) => Ok(handle),
+        Err(ReadFault::NoValue) => Ok(0),
+        Err(ReadFault::OutOfMemory) => Err(RequestFault::OutOfMemory),
+    }
+}
+
+// What a fault within a request means, whose header the source begins with.
+#[inline(never)]
+fn unreadable<S: Source>(alloc: Global, src: &mut S, fault: ReadFault) -> RequestFault
+    ensures { (result ≡ unread_with (handle_behind (S.octets src.old)) fault) ⊎ (result ≡ RequestFault.OutOfMemory) }
+{
+    if matches!(fault, ReadFault::OutOfMemory) {
+        return RequestFault::OutOfMemory;
+    }
+    match handle_ahead(alloc, src) {
+        Ok(handle) => unread(fault, handle),
+        Err(fault) => fault,
+    }
+}
+
+// What a request means that is not supported, whose header the source begins with.
 fn unsupported<S: Source>(alloc: Global, src: &mut S) -> RequestFault
     ensures { (result ≡ RequestFault.Unsupported (handle_behind (S.octets src.old))) ⊎ (result ≡ RequestFault.OutOfMemory) }
 {
-    match RequestHeader::read_value(alloc, src, MOST_LEVELS) {
-        Ok(header) => RequestFault::Unsupported(header.request_handle),
-        Err(ReadFault::NoValue) => RequestFault::Unsupported(0),
-        Err(ReadFault::OutOfMemory) => RequestFault::OutOfMemory,
+    match handle_ahead(alloc, src) {
+        Ok(handle) => RequestFault::Unsupported(handle),
+        Err(fault) => fault,
     }
 }
 
 // Reads a ReadRequest behind its NodeId, and nothing behind it: where it stands, so that it is moved
-// once.
+// once. Its header is read again for the handle where it is refused, from a fork.
 #[inline(never)]
 fn read_last<S: Source>(alloc: Global, src: &mut S) -> Result<Request, RequestFault>
     ensures { (result ≡ kind_read RequestKind.Read (S.octets src.old)) ⊎ (result ≡ Err RequestFault.OutOfMemory) }
 {
+    let mut head = src.fork();
     let mut message = ReadRequest::empty();
-    if let Err(fault) = message.request_header.read_into(alloc, src, MOST_LEVELS) {
-        return Err(unreadable(fault, 0));
-    }
-    let handle = message.request_header.request_handle;
-    if let Err(fault) = message.read_fields(alloc, src, MOST_LEVELS) {
-        return Err(unreadable(fault, handle));
+    if let Err(fault) = message.read_into(alloc, src, MOST_LEVELS) {
+        return Err(unreadable(alloc, &mut head, fault));
     }
     if src.left() > 0 {
-        return Err(RequestFault::Unreadable(handle));
+        return Err(unreadable(alloc, &mut head, ReadFault::NoValue));
     }
     Ok(Request::Read(message))
 }
 
-// Reads a request of that kind, and nothing behind it.
+// Reads a request of another kind behind its NodeId, and nothing behind it.
 #[inline(never)]
-fn read_announced<S: Source>(
+fn read_other<S: Source>(
     alloc: Global,
     src: &mut S,
     kind: RequestKind,
 ) -> Result<Request, RequestFault>
     ensures { (result ≡ kind_read kind (S.octets src.old)) ⊎ (result ≡ Err RequestFault.OutOfMemory) }
 {
-    let header = match RequestHeader::read_value(alloc, src, MOST_LEVELS) {
-        Ok(header) => header,
-        Err(fault) => return Err(unreadable(fault, 0)),
-    };
-    let handle = header.request_handle;
-    let request = match read_behind(alloc, src, MOST_LEVELS, kind, header) {
+    let mut head = src.fork();
+    let request = match read_kind(alloc, src, MOST_LEVELS, kind) {
         Ok(request) => request,
-        Err(fault) => return Err(unreadable(fault, handle)),
+        Err(fault) => return Err(unreadable(alloc, &mut head, fault)),
     };
     if src.left() > 0 {
         drop(request);
-        return Err(RequestFault::Unreadable(handle));
+        return Err(unreadable(alloc, &mut head, ReadFault::NoValue));
     }
     Ok(request)
 }
@@ -273,11 +326,11 @@ fn read_body<S: Source>(alloc: Global, src: &mut S) -> Result<Request, RequestFa
 {
     let id = match NodeId::read_value(alloc, src, MOST_LEVELS) {
         Ok(id) => id,
-        Err(fault) => return Err(unreadable(fault, 0)),
+        Err(fault) => return Err(unread(fault, 0)),
     };
     match announced_kind(&id) {
         Some(RequestKind::Read) => read_last(alloc, src),
-        Some(kind) => read_announced(alloc, src, kind),
+        Some(kind) => read_other(alloc, src, kind),
         None => Err(unsupported(alloc, src)),
     }
 }
@@ -298,28 +351,25 @@ pub fn read_request<S: Source>(alloc: Global, src: &mut S) -> Result<Request, Re
 fn skip_last<S: Source>(alloc: Global, src: &mut S) -> Result<RequestKind, RequestFault>
     ensures { (result ≡ kind_alone (kind_read RequestKind.Read (S.octets src.old))) ⊎ (result ≡ Err RequestFault.OutOfMemory) }
 {
-    let handle = match RequestHeader::skip_for_handle(alloc, src, MOST_LEVELS) {
-        Ok(handle) => handle,
-        Err(fault) => return Err(unreadable(fault, 0)),
-    };
-    if let Err(fault) = ReadRequest::skip_fields(alloc, src, MOST_LEVELS) {
-        return Err(unreadable(fault, handle));
+    let mut head = src.fork();
+    if let Err(fault) = ReadRequest::skip_value(alloc, src, MOST_LEVELS) {
+        return Err(unreadable(alloc, &mut head, fault));
     }
     if src.left() > 0 {
-        return Err(RequestFault::Unreadable(handle));
+        return Err(unreadable(alloc, &mut head, ReadFault::NoValue));
     }
     Ok(RequestKind::Read)
 }
 
-// Reads a request of that kind, and nothing behind it, and lets it go.
-fn skip_announced<S: Source>(
+// Reads a request of another kind behind its NodeId, and nothing behind it, and lets it go.
+fn skip_other<S: Source>(
     alloc: Global,
     src: &mut S,
     kind: RequestKind,
 ) -> Result<RequestKind, RequestFault>
     ensures { (result ≡ kind_alone (kind_read kind (S.octets src.old))) ⊎ (result ≡ Err RequestFault.OutOfMemory) }
 {
-    let request = read_announced(alloc, src, kind)?;
+    let request = read_other(alloc, src, kind)?;
     let found = request.kind();
     drop(request);
     Ok(found)
@@ -333,11 +383,11 @@ pub fn skip_request<S: Source>(alloc: Global, src: &mut S) -> Result<RequestKind
 {
     let id = match NodeId::read_value(alloc, src, MOST_LEVELS) {
         Ok(id) => id,
-        Err(fault) => return Err(unreadable(fault, 0)),
+        Err(fault) => return Err(unread(fault, 0)),
     };
     match announced_kind(&id) {
         Some(RequestKind::Read) => skip_last(alloc, src),
-        Some(kind) => skip_announced(alloc, src, kind),
+        Some(kind) => skip_other(alloc, src, kind),
         None => Err(unsupported(alloc, src)),
     }
 }

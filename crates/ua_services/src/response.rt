@@ -5,9 +5,10 @@ ghost use Rattle.ua_builtin.specs.Format.{most_levels, Gives, StaysBehind};
 ghost use Rattle.ua_octets.specs.declared.fault.WriteFault.TheVariants.{NotWritable};
 ghost use Rattle.ua_services.specs.Message.{IsBody, kind_at};
 ghost use Rattle.ua_services.specs.Response.{response, responses, response_kind, unread_by, kind_read, response_read, Misread};
+ghost use Rattle.ua_services.specs.declared.response.Response.TheVariants.{GetEndpoints, CreateSession, ActivateSession, CloseSession, Read, Write, ServiceFault};
 
 use crate::fault::ResponseFault;
-use crate::message::{append_message, empty_body, standard_number};
+use crate::message::{Held, append_message, empty_body, read_held, standard_number};
 use crate::request::RequestKind;
 use std::alloc::{AllocError, Global};
 use ua_builtin::{MOST_LEVELS, NodeId, ReadFault, Source, Wire, WriteFault};
@@ -57,7 +58,6 @@ impl Drop for Response {
 impl Response {
     ghost use Rattle.std.specs.Prelude.{◌≡◌, ◌≢◌, ◌↔◌, IsTrue, IfOk, IfErr};
     ghost use Rattle.ua_services.specs.Response.{kind_of, header_of, Answers};
-    ghost use Rattle.ua_services.specs.declared.response.Response.TheVariants.{CreateSession, Read};
     ghost use Rattle.ua_services.specs.declared.response.ResponseKind.TheVariants.{CreateSession as CreateSessionKind, Read as ReadKind};
 
     /// The answer to a Read, or the response itself where it is another one.
@@ -147,6 +147,62 @@ fn announced_kind(id: &NodeId) -> Option<ResponseKind>
     }
 }
 
+impl Held<Response> for GetEndpointsResponse {
+    ghost held = { GetEndpoints };
+
+    fn hold(self) -> Response {
+        Response::GetEndpoints(self)
+    }
+}
+
+impl Held<Response> for CreateSessionResponse {
+    ghost held = { CreateSession };
+
+    fn hold(self) -> Response {
+        Response::CreateSession(self)
+    }
+}
+
+impl Held<Response> for ActivateSessionResponse {
+    ghost held = { ActivateSession };
+
+    fn hold(self) -> Response {
+        Response::ActivateSession(self)
+    }
+}
+
+impl Held<Response> for CloseSessionResponse {
+    ghost held = { CloseSession };
+
+    fn hold(self) -> Response {
+        Response::CloseSession(self)
+    }
+}
+
+impl Held<Response> for ReadResponse {
+    ghost held = { Read };
+
+    fn hold(self) -> Response {
+        Response::Read(self)
+    }
+}
+
+impl Held<Response> for WriteResponse {
+    ghost held = { Write };
+
+    fn hold(self) -> Response {
+        Response::Write(self)
+    }
+}
+
+impl Held<Response> for ServiceFault {
+    ghost held = { ServiceFault };
+
+    fn hold(self) -> Response {
+        Response::ServiceFault(self)
+    }
+}
+
 // Reads the structure of a response of that kind.
 fn read_kind<S: Source>(
     alloc: Global,
@@ -159,23 +215,15 @@ fn read_kind<S: Source>(
     ensures behind { StaysBehind (S.octets src.old) (S.octets src.new) }
 {
     match kind {
-        ResponseKind::GetEndpoints => Ok(Response::GetEndpoints(Wire::read_value(
+        ResponseKind::GetEndpoints => read_held::<GetEndpointsResponse, _, _>(alloc, src, depth),
+        ResponseKind::CreateSession => read_held::<CreateSessionResponse, _, _>(alloc, src, depth),
+        ResponseKind::ActivateSession => read_held::<ActivateSessionResponse, _, _>(
             alloc, src, depth,
-        )?)),
-        ResponseKind::CreateSession => Ok(Response::CreateSession(Wire::read_value(
-            alloc, src, depth,
-        )?)),
-        ResponseKind::ActivateSession => Ok(Response::ActivateSession(Wire::read_value(
-            alloc, src, depth,
-        )?)),
-        ResponseKind::CloseSession => Ok(Response::CloseSession(Wire::read_value(
-            alloc, src, depth,
-        )?)),
-        ResponseKind::Read => Ok(Response::Read(Wire::read_value(alloc, src, depth)?)),
-        ResponseKind::Write => Ok(Response::Write(Wire::read_value(alloc, src, depth)?)),
-        ResponseKind::ServiceFault => Ok(Response::ServiceFault(Wire::read_value(
-            alloc, src, depth,
-        )?)),
+        ),
+        ResponseKind::CloseSession => read_held::<CloseSessionResponse, _, _>(alloc, src, depth),
+        ResponseKind::Read => read_held::<ReadResponse, _, _>(alloc, src, depth),
+        ResponseKind::Write => read_held::<WriteResponse, _, _>(alloc, src, depth),
+        ResponseKind::ServiceFault => read_held::<ServiceFault, _, _>(alloc, src, depth),
     }
 }
 

@@ -5,7 +5,7 @@ use Rattle.ua_services.proofs.RequestRead.{id_fails, not_supported, kind_found}
 use Rattle.ua_services.proofs.request.read_body.Goals as goal
 
 pub returns-in-Err : goal.returns-in-Err
-returns-in-Err g c = rw c.unreadable.ensures (id_fails (g.S.Source.octets c.args.src.now) (g.S.Source.octets c.read_value.new.src) c.in-Err.fault c.in-Err.ensures.exact)
+returns-in-Err g c = rw c.unread.ensures (id_fails (g.S.Source.octets c.args.src.now) (g.S.Source.octets c.read_value.new.src) c.in-Err.fault c.in-Err.ensures.exact)
 
 pub returns-in-Some-Read : goal.returns-in-Some-Read
 returns-in-Some-Read g c =
@@ -13,7 +13,7 @@ returns-in-Some-Read g c =
     kind_found Read (g.S.Source.octets c.args.src.now) (g.S.Source.octets c.read_value.new.src) c.in-Ok.id c.read_last.result c.in-Ok.ensures.exact is c.read_last.ensures
 
 pub returns-in-Some : goal.returns-in-Some
-returns-in-Some g c = kind_found c.in-Some.kind (g.S.Source.octets c.args.src.now) (g.S.Source.octets c.read_value.new.src) c.in-Ok.id c.read_announced.result c.in-Ok.ensures.exact (sym c.in-Some.ensures) c.read_announced.ensures
+returns-in-Some g c = kind_found c.in-Some.kind (g.S.Source.octets c.args.src.now) (g.S.Source.octets c.read_value.new.src) c.in-Ok.id c.read_other.result c.in-Ok.ensures.exact (sym c.in-Some.ensures) c.read_other.ensures
 
 pub returns : goal.returns
 returns g c = not_supported (g.S.Source.octets c.args.src.now) (g.S.Source.octets c.read_value.new.src) c.in-Ok.id c.unsupported.result c.in-Ok.ensures.exact (sym c.in-None.ensures) c.unsupported.ensures
