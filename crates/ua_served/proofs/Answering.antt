@@ -20,6 +20,7 @@ use Rattle.ua_channel.specs.ServerReads.{AtServer, with_message}
 use Rattle.ua_channel.specs.ServerSends.{replied}
 use Rattle.ua_channel.proofs.ClientReading.{reads_call, reads_replied}
 use Rattle.ua_channel.proofs.InStep.{in_step_call, in_step_reply, lane_from_server}
+use Rattle.ua_services.proofs.Lengths.{response_takes_some}
 use Rattle.ua_services.specs.Response.{response}
 use Rattle.ua_services.specs.declared.response.Response.{Response}
 use Rattle.ua_server.specs.Reply.{answered}
@@ -29,7 +30,6 @@ use Rattle.ua_server.proofs.SaidInParts.{course}
 use Rattle.ua_client.specs.Sent.{calls_at}
 use Rattle.ua_client.proofs.Askings.{next-calls}
 use Rattle.ua_served.specs.Together.{behind_calls, calls_told}
-use Rattle.ua_served.proofs.Bodies.{response_takes_some}
 use Rattle.ua_served.proofs.Ending.{LastChunk, replied_ends}
 
 -- ---- calls that are unanswered

@@ -4,7 +4,6 @@ mod Stepped
 mod Pieces
 mod Lines
 mod Reaching
-mod Bodies
 mod Ending
 mod Untaken
 mod Opened

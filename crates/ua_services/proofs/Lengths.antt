@@ -1,13 +1,17 @@
--- How many octets the bodies have that open and close a channel.
-use Rattle.std.specs.Prelude.{◌≡◌, ℕ, ℤ, ◌++◌, length}
+-- How many octets the bodies have that open and close a channel; and that none is empty.
+use Rattle.std.specs.Prelude.{◌≡◌, ◌<◌, ℕ, ℤ, List, ◌++◌, length}
+use Rattle.std.proofs.Common.{arith, length-append}
 use Rattle.ua_octets.proofs.NumbersRead.{length-number_octets}
-use Rattle.ua_builtin.specs.NodeId.{node_id}
+use Rattle.ua_builtin.specs.NodeId.{node_id, form_of, in_form}
 use Rattle.ua_builtin.specs.Number.{number_octets}
 use Rattle.ua_builtin.specs.declared.date_time.DateTime.{DateTime}
+use Rattle.ua_builtin.specs.declared.node_id.NodeId.{NodeId}
 use Rattle.ua_structures.specs.Plain.{open_request_of, open_response_of, close_request_of}
 use Rattle.ua_structures.specs.SecureChannel.{open_request, open_response, close_request}
 use Rattle.ua_structures.proofs.PlainLengths.{joined, open_request_length as request_length, open_response_length as response_length, close_request_length as close_length}
-use Rattle.ua_services.specs.Message.{message}
+use Rattle.ua_services.specs.Message.{message, message_id}
+use Rattle.ua_services.specs.Response.{response, responses, response_parts}
+use Rattle.ua_services.specs.declared.response.Response.{Response}
 
 -- the NodeId of a number from 256 on has four octets
 id_length : (number : ℕ) → length (number_octets 1 1 ++ (number_octets 1 0 ++ number_octets 2 number)) ≡ 4
@@ -24,3 +28,15 @@ open_response_length time handle channel token lifetime = joined _ _ 4 52 (id_le
 pub close_request_length : (time : DateTime) (handle : ℕ) → length ((message 452 close_request).canonical (close_request_of time handle)) ≡ 33
 unfolding node_id
 close_request_length time handle = joined _ _ 4 29 (id_length 452) (close_length time handle)
+
+-- ---- that no body is empty
+
+id_first : (id : NodeId) (b : List ℕ) → 0 < length (node_id.canonical id ++ b)
+unfolding node_id
+id_first id b =
+    omega (arith, length-append (node_id.canonical id) b, length-append (number_octets 1 (form_of id)) ((in_form (form_of id)).canonical id), length-number_octets 1 (form_of id))
+
+-- a body begins with the NodeId of its encoding
+pub response_takes_some : (r : Response) → 0 < length (response.canonical r)
+unfolding response
+response_takes_some r = id_first (message_id responses r) ((responses.format (response_parts r).0).canonical (response_parts r).1)
