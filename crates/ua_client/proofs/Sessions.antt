@@ -6,11 +6,15 @@ use Rattle.ua_builtin.specs.Reasons.{first_reason}
 use Rattle.ua_builtin.specs.declared.date_time.DateTime.{DateTime}
 use Rattle.ua_builtin.specs.declared.node_id.NodeId.{NodeId}
 use Rattle.ua_services.specs.Request.{request as message}
-use Rattle.ua_services.specs.Response.{Answers, kind_of}
+use Rattle.ua_services.specs.Response.{Answers, Structure, kind_of, responses, response_parts}
+use Rattle.ua_services.proofs.ResponseLawful.{are_responses}
 use Rattle.ua_services.specs.declared.request.Request.{Request}
 use Rattle.ua_services.specs.declared.request.RequestKind.TheVariants as request_kind
 use Rattle.ua_services.specs.declared.response.Response.{Response}
 use Rattle.ua_services.specs.declared.response.Response.TheVariants as response
+use Rattle.ua_services.specs.declared.response.ResponseKind.{ResponseKind}
+use Rattle.ua_structures.specs.declared.header.ServiceFault.{ServiceFault}
+use Rattle.ua_structures.specs.declared.session.CreateSessionResponse.{CreateSessionResponse}
 use Rattle.ua_frame.specs.declared.ack.Ack.{Ack}
 use Rattle.ua_channel.specs.Client.{SameClient, url_of}
 use Rattle.ua_channel.specs.ClientAsks.{is_too_large, no_id}
@@ -248,19 +252,21 @@ made-not made brings x t reads fault.TooManyTokens h = absurd h
 -- ---- CreateSession
 
 -- a response to CreateSession by which it did not fail brings a token
-has-token : (m : Response) → Answers (kind_of m) request_kind.CreateSession → reply_failure (Responds m) ≡ None → token_in (Responds m) ≡ None → ⊥
-has-token (response.CreateSession m) a good none = absurd cc
-has-token (response.ServiceFault m) a good none = absurd cc
-has-token (response.GetEndpoints m) (inl e) good none = absurd cc
-has-token (response.GetEndpoints m) (inr e) good none = absurd cc
-has-token (response.ActivateSession m) (inl e) good none = absurd cc
-has-token (response.ActivateSession m) (inr e) good none = absurd cc
-has-token (response.CloseSession m) (inl e) good none = absurd cc
-has-token (response.CloseSession m) (inr e) good none = absurd cc
-has-token (response.Read m) (inl e) good none = absurd cc
-has-token (response.Read m) (inr e) good none = absurd cc
-has-token (response.Write m) (inl e) good none = absurd cc
-has-token (response.Write m) (inr e) good none = absurd cc
+abbrev Brings : Response → Type 0
+Brings m = reply_failure (Responds m) ≡ None → token_in (Responds m) ≡ None → ⊥
+
+brings-session : (s : CreateSessionResponse) → Brings (response.CreateSession s)
+brings-session s good none = absurd cc
+
+brings-fault : (s : ServiceFault) → Brings (response.ServiceFault s)
+brings-fault s good none = absurd cc
+
+brings-of : (k : ResponseKind) (s : Structure k) → Answers k request_kind.CreateSession → Brings (responses.make k s)
+brings-of k s (inl e) = subst (λ (t : ResponseKind). (s : Structure t) → Brings (responses.make t s)) (sym e) brings-session s
+brings-of k s (inr e) = subst (λ (t : ResponseKind). (s : Structure t) → Brings (responses.make t s)) (sym e) brings-fault s
+
+has-token : (m : Response) → Answers (kind_of m) request_kind.CreateSession → Brings m
+has-token m a = subst Brings (sym (are_responses.back m)) (brings-of (kind_of m) (response_parts m).1 a)
 
 brings-some : (x : ClientChannel) (url : Option (List ℕ)) (moment : DateTime) (s t : Site) (sent taken : List ℕ) (reply : Reply) → IsReplied x (creating_at url moment s) s t sent taken reply
     → reply_failure reply ≡ None → token_in reply ≡ None → ⊥
