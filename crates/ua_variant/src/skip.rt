@@ -1,13 +1,16 @@
 //! Passes over Variants and DataValues. Of an array one scalar is made at a time, or a part of a packed
 //! one, and let go before the next, so that memory does not grow with the elements.
 
-ghost use Rattle.std.specs.Prelude.{◌≡◌, ◌<◌, ◌≤◌, true};
+ghost use Rattle.std.specs.Prelude.{◌≡◌, ◌<◌, ◌≤◌, ◌%◌, true, IsErrOf};
 ghost use Rattle.ua_builtin.specs.Counted.{first_negative};
 ghost use Rattle.ua_builtin.specs.Exact.{image_read, skipped};
 ghost use Rattle.ua_builtin.specs.Format.{most_levels, Gives, StaysBehind};
+ghost use Rattle.ua_octets.specs.declared.fault.ReadFault.TheVariants.{NoValue};
 ghost use Rattle.ua_parts.specs.Parts.{optional_read};
 ghost use Rattle.ua_variant.specs.Data.{leaf};
 ghost use Rattle.ua_variant.specs.Decoding.{variant_at, variant_step, variant_after, data_value_at, data_value_step, scalars_at, array_at, elements_at, row_at};
+ghost use Rattle.ua_variant.specs.Encodable.{is_read_kind as read_kind};
+ghost use Rattle.ua_variant.specs.Formats.{IsOverlongArray, IsOverlongRow};
 ghost use Rattle.ua_variant.specs.Leaf.{leaf_at};
 ghost use Rattle.ua_variant.specs.Packed.{is_packed_kind};
 
@@ -69,6 +72,7 @@ fn skip_variant<S: Source>(alloc: Global, src: &mut S, depth: u32) -> Result<(),
     requires levels { depth ≤ most_levels }
     ensures exact { Gives (skipped (variant_at depth)) (S.octets src.old) (S.octets src.new) result }
     ensures behind { StaysBehind (S.octets src.old) (S.octets src.new) }
+    ensures long { IsOverlongArray (S.octets src.old) → IsErrOf result NoValue }
 {
     if depth == 0 {
         return Err(ReadFault::NoValue);
@@ -83,6 +87,7 @@ fn skip_variant_level<S: Source>(alloc: Global, src: &mut S, depth: u32) -> Resu
     requires levels { depth ≤ most_levels }
     ensures exact { Gives (skipped (variant_step (scalars_at depth))) (S.octets src.old) (S.octets src.new) result }
     ensures behind { StaysBehind (S.octets src.old) (S.octets src.new) }
+    ensures long { IsOverlongArray (S.octets src.old) → IsErrOf result NoValue }
 {
     let tag = u8::read_value(alloc, src, 0)?;
     skip_tagged(alloc, src, depth, tag)
@@ -95,6 +100,7 @@ fn skip_tagged<S: Source>(alloc: Global, src: &mut S, depth: u32, tag: u8) -> Re
     requires levels { depth ≤ most_levels }
     ensures exact { Gives (skipped (variant_after (scalars_at depth) tag)) (S.octets src.old) (S.octets src.new) result }
     ensures behind { StaysBehind (S.octets src.old) (S.octets src.new) }
+    ensures long { 0x80 ≤ tag → read_kind (tag % 0x40) ≡ true → IsOverlongRow (tag % 0x40) (S.octets src.old) → IsErrOf result NoValue }
 {
     if tag == 0 {
         return Ok(());
@@ -123,8 +129,10 @@ fn skip_array<S: Source>(
     flagged: bool,
 ) -> Result<(), ReadFault>
     requires levels { depth ≤ most_levels }
+    requires read { read_kind kind ≡ true }
     ensures exact { Gives (skipped (array_at (scalars_at depth) kind flagged)) (S.octets src.old) (S.octets src.new) result }
     ensures behind { StaysBehind (S.octets src.old) (S.octets src.new) }
+    ensures long { IsOverlongRow kind (S.octets src.old) → IsErrOf result NoValue }
 {
     let count = u32::read_value(alloc, src, 0)?;
     if count >= FIRST_NEGATIVE {
