@@ -20,7 +20,7 @@ request_back (CloseSessionMessage m) = refl
 request_back (ReadMessage m) = refl
 request_back (WriteMessage m) = refl
 
-is_request : (k : RequestKind) → IsKind requests k
+pub is_request : (k : RequestKind) → IsKind requests k
 is_request GetEndpoints = record { forth = λ m. refl; numbers = refl; lawful = lawful_get_endpoints_request }
 is_request CreateSession = record { forth = λ m. refl; numbers = refl; lawful = lawful_create_session_request }
 is_request ActivateSession = record { forth = λ m. refl; numbers = refl; lawful = lawful_activate_session_request }

@@ -1,6 +1,6 @@
--- A Read that is passed over, against the reader on lists.
+-- A request that is passed over, against the reader on lists.
 use Rattle.std.specs.Prelude.{◌≡◌, ℕ, ◌<◌, ◌≤◌, List, length, Option, Some, None, Result, Ok, Err, ◌⊎◌}
-use Rattle.std.proofs.Common.{refl, sym, ◌∙◌, ap, inl, inr}
+use Rattle.std.proofs.Common.{refl, sym, ◌∙◌, ap, subst, inl, inr}
 use Rattle.ua_builtin.specs.Exact.{◌>>=◌, image_read, skipped}
 use Rattle.ua_builtin.specs.Format.{Gives, most_levels}
 use Rattle.ua_builtin.specs.NodeId.{node_id}
@@ -8,16 +8,13 @@ use Rattle.ua_builtin.specs.declared.node_id.NodeId.{NodeId}
 use Rattle.ua_octets.specs.declared.fault.ReadFault.{ReadFault}
 use Rattle.ua_octets.specs.declared.fault.ReadFault.TheVariants.{NoValue, OutOfMemory as NoMemory}
 use Rattle.ua_octets.proofs.Readers.{some_is}
-use Rattle.ua_structures.specs.Attribute.{read_request}
-use Rattle.ua_structures.specs.declared.attribute.ReadRequest.{ReadRequest}
-use Rattle.ua_services.specs.Request.{request_kind, kind_read, kind_alone, request_read}
+use Rattle.ua_services.specs.Message.{kind_at}
+use Rattle.ua_services.specs.Request.{requests, request_kind, kind_of, kind_read, kind_alone, request_read, Structure}
 use Rattle.ua_services.specs.declared.request.Request.{Request}
-use Rattle.ua_services.specs.declared.request.Request.TheVariants.{Read as ReadMessage}
 use Rattle.ua_services.specs.declared.request.RequestKind.{RequestKind}
-use Rattle.ua_services.specs.declared.request.RequestKind.TheVariants.{Read}
 use Rattle.ua_services.specs.declared.fault.RequestFault.{RequestFault}
 use Rattle.ua_services.specs.declared.fault.RequestFault.TheVariants.{OutOfMemory}
-use Rattle.ua_services.proofs.BodyRead.{image_found, image_fails}
+use Rattle.ua_services.proofs.RequestLawful.{is_request}
 use Rattle.ua_services.proofs.RequestRead.{Reads, IsUnread, kind_fails, kind_left, kind_whole, read-kind}
 
 -- what is passed over answers the kind of this, or that memory was refused
@@ -45,24 +42,39 @@ image_err : {A B : Type 0} (f : A → B) (r : List ℕ → Option (A × List ℕ
 image_err f r old new NoValue h = none_of f (r old) h
 image_err f r old new NoMemory h = tt
 
--- ---- a Read behind its NodeId
+-- ---- a request behind its NodeId
 
-pub skip_fails : (head old new : List ℕ) (e : ReadFault) (fault : RequestFault) → head ≡ old → Gives (skipped (read_request.decode most_levels)) old new (Err e) → IsUnread head e fault
-    → Skips (Err fault) (kind_read Read old)
-skip_fails head old new e fault same h is =
-    let read = image_err (λ (m : ReadRequest). tt) (read_request.decode most_levels) old new e h in
-    skips (Err fault) (kind_read Read old) (kind_fails Read head old new e fault same (image_fails ReadMessage (read_request.decode most_levels) old new e read) is)
+-- the reader of a kind that is passed over is that of its structure
+same_skip : {A : Type 0} (f : A → Request) (o : Option (A × List ℕ))
+    → ◌>>=◌ {B = (Unit {0}) × List ℕ} (◌>>=◌ {B = Request × List ℕ} o (λ x. Some (f x.0, x.1))) (λ x. Some (tt, x.1)) ≡ ◌>>=◌ {B = (Unit {0}) × List ℕ} o (λ x. Some (tt, x.1))
+same_skip f None = refl
+same_skip f (Some x) = refl
 
-pub skip_left : (head old new : List ℕ) (fault : RequestFault) → head ≡ old → skipped (read_request.decode most_levels) old ≡ Some (tt, new) → 0 < length new → IsUnread head NoValue fault
-    → Skips (Err fault) (kind_read Read old)
-skip_left head old new fault same h more is =
-    let w = made_of (λ (m : ReadRequest). tt) (read_request.decode most_levels old) tt new h in
-    skips (Err fault) (kind_read Read old) (kind_left Read head old new (ReadMessage w.0) fault same (image_found ReadMessage (read_request.decode most_levels) old new w.0 w.1) more is)
+pub skips_made : {A : Type 0} (f : A → Request) (r : List ℕ → Option (A × List ℕ)) (old new : List ℕ) (result : Result (Unit {0}) ReadFault) → Gives (skipped r) old new result → Gives (skipped (image_read f r)) old new result
+skips_made f r old new (Ok done) h = same_skip f (r old) ∙ h
+skips_made f r old new (Err NoValue) h = same_skip f (r old) ∙ h
+skips_made f r old new (Err NoMemory) h = tt
 
-pub skip_whole : (old new : List ℕ) → skipped (read_request.decode most_levels) old ≡ Some (tt, new) → length new ≤ 0 → Skips (Ok Read) (kind_read Read old)
-skip_whole old new h none =
-    let w = made_of (λ (m : ReadRequest). tt) (read_request.decode most_levels old) tt new h in
-    skips (Ok (ReadMessage w.0)) (kind_read Read old) (kind_whole Read old new (ReadMessage w.0) (image_found ReadMessage (read_request.decode most_levels) old new w.0 w.1) none)
+kind_made : (k : RequestKind) (old new : List ℕ) (m : Request) → kind_at requests most_levels (Some k) old ≡ Some (m, new) → kind_of m ≡ k
+kind_made k old new m e =
+    let s = made_of (requests.make k) ((requests.format k).decode most_levels old) m new e in
+    sym (ap kind_of s.2) ∙ ap (λ (p : (j : RequestKind) × Structure j). p.0) ((is_request k).forth s.0)
+
+pub skip_fails : (k : RequestKind) (head old new : List ℕ) (e : ReadFault) (fault : RequestFault) → head ≡ old → Gives (skipped (kind_at requests most_levels (Some k))) old new (Err e) → IsUnread head e fault
+    → Skips (Err fault) (kind_read k old)
+skip_fails k head old new e fault same h is =
+    skips (Err fault) (kind_read k old) (kind_fails k head old new e fault same (image_err (λ (m : Request). tt) (kind_at requests most_levels (Some k)) old new e h) is)
+
+pub skip_left : (k : RequestKind) (head old new : List ℕ) (fault : RequestFault) → head ≡ old → skipped (kind_at requests most_levels (Some k)) old ≡ Some (tt, new) → 0 < length new → IsUnread head NoValue fault
+    → Skips (Err fault) (kind_read k old)
+skip_left k head old new fault same h more is =
+    let w = made_of (λ (m : Request). tt) (kind_at requests most_levels (Some k) old) tt new h in
+    skips (Err fault) (kind_read k old) (kind_left k head old new w.0 fault same w.1 more is)
+
+pub skip_whole : (k : RequestKind) (old new : List ℕ) → skipped (kind_at requests most_levels (Some k)) old ≡ Some (tt, new) → length new ≤ 0 → Skips (Ok k) (kind_read k old)
+skip_whole k old new h none =
+    let w = made_of (λ (m : Request). tt) (kind_at requests most_levels (Some k) old) tt new h in
+    subst (λ (j : RequestKind). Skips (Ok j) (kind_read k old)) (kind_made k old new w.0 w.1) (skips (Ok w.0) (kind_read k old) (kind_whole k old new w.0 w.1 none))
 
 -- ---- the whole body
 

@@ -1,6 +1,7 @@
 //! Requests.
 
 ghost use Rattle.std.specs.Prelude.{◌≡◌, ◌≤◌, ◌++◌, ◌⊎◌, length, IfOk, IfErr, OnOk, OnErr, IsErrOf, IsFalse, ◌↔◌};
+ghost use Rattle.ua_builtin.specs.Exact.{skipped};
 ghost use Rattle.ua_builtin.specs.Format.{most_levels, Gives, StaysBehind};
 ghost use Rattle.ua_octets.specs.declared.fault.WriteFault.TheVariants.{NotWritable};
 ghost use Rattle.ua_services.specs.Message.{IsBody, handle_behind, kind_at};
@@ -347,37 +348,49 @@ pub fn read_request<S: Source>(alloc: Global, src: &mut S) -> Result<Request, Re
     read_body(alloc, src)
 }
 
-// Passes over a ReadRequest behind its NodeId, and nothing behind it.
-fn skip_last<S: Source>(alloc: Global, src: &mut S) -> Result<RequestKind, RequestFault>
-    ensures { (result ≡ kind_alone (kind_read RequestKind.Read (S.octets src.old))) ⊎ (result ≡ Err RequestFault.OutOfMemory) }
+// Passes over the structure of a request of that kind. Of a Read and a Write no item is kept.
+fn skip_kind<S: Source>(
+    alloc: Global,
+    src: &mut S,
+    depth: u32,
+    kind: RequestKind,
+) -> Result<(), ReadFault>
+    requires levels { depth ≤ most_levels }
+    ensures exact { Gives (skipped (kind_at requests depth (Some kind))) (S.octets src.old) (S.octets src.new) result }
+    ensures behind { StaysBehind (S.octets src.old) (S.octets src.new) }
 {
-    let mut head = src.fork();
-    if let Err(fault) = ReadRequest::skip_value(alloc, src, MOST_LEVELS) {
-        return Err(unreadable(alloc, &mut head, fault));
+    match kind {
+        RequestKind::Read => ReadRequest::skip_value(alloc, src, depth),
+        RequestKind::Write => WriteRequest::skip_value(alloc, src, depth),
+        _ => {
+            let request = read_kind(alloc, src, depth, kind)?;
+            drop(request);
+            Ok(())
+        }
     }
-    if src.left() > 0 {
-        return Err(unreadable(alloc, &mut head, ReadFault::NoValue));
-    }
-    Ok(RequestKind::Read)
 }
 
-// Reads a request of another kind behind its NodeId, and nothing behind it, and lets it go.
-fn skip_other<S: Source>(
+// Passes over a request of that kind behind its NodeId, and nothing behind it.
+fn skip_last<S: Source>(
     alloc: Global,
     src: &mut S,
     kind: RequestKind,
 ) -> Result<RequestKind, RequestFault>
     ensures { (result ≡ kind_alone (kind_read kind (S.octets src.old))) ⊎ (result ≡ Err RequestFault.OutOfMemory) }
 {
-    let request = read_other(alloc, src, kind)?;
-    let found = request.kind();
-    drop(request);
-    Ok(found)
+    let mut head = src.fork();
+    if let Err(fault) = skip_kind(alloc, src, MOST_LEVELS, kind) {
+        return Err(unreadable(alloc, &mut head, fault));
+    }
+    if src.left() > 0 {
+        return Err(unreadable(alloc, &mut head, ReadFault::NoValue));
+    }
+    Ok(kind)
 }
 
-/// The kind of the request that a body is, which [`read_request`] would read. Of a Read no item is made,
-/// so that it takes no memory but for a text of more than 30 octets, the octets of a ByteString or the
-/// XmlElement of an additional header, one at a time. After a fault the source is to be given up.
+/// The kind of the request that a body is, which [`read_request`] would read. Of a Read and a Write no item
+/// is kept, so that it takes no memory but for a text of more than 30 octets, the octets of a ByteString or
+/// an XmlElement, one at a time. After a fault the source is to be given up.
 pub fn skip_request<S: Source>(alloc: Global, src: &mut S) -> Result<RequestKind, RequestFault>
     ensures kind { (result ≡ kind_alone (request_read (S.octets src.old))) ⊎ (result ≡ Err RequestFault.OutOfMemory) }
 {
@@ -386,8 +399,7 @@ pub fn skip_request<S: Source>(alloc: Global, src: &mut S) -> Result<RequestKind
         Err(fault) => return Err(unread(fault, 0)),
     };
     match announced_kind(&id) {
-        Some(RequestKind::Read) => skip_last(alloc, src),
-        Some(kind) => skip_other(alloc, src, kind),
+        Some(kind) => skip_last(alloc, src, kind),
         None => Err(unsupported(alloc, src)),
     }
 }
