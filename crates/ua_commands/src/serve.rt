@@ -15,7 +15,7 @@ use crate::input::{parse_nodes, read_text};
 use crate::output::{Stop, say};
 use crate::reason::{blame_line, cannot_listen};
 use std::alloc::{AllocError, Global};
-use std::io::Write;
+use std::io::{Read, Write};
 use std::net::{Ipv4Addr, Net, OpenListener, TcpListener};
 use std::rt::Files;
 use std::time::Clock;
@@ -247,6 +247,27 @@ fn serve_client<'a, L: Line, M: Moments, O: Write>(
     }
 }
 
+/// Serves the client of a connection, which has ended then. What is answered to requests that came
+/// together is sent together. Gives the line of text that says what became of the connection.
+fn serve_stream<'a, S: Read + Write + Drop, M: Moments, O: Write>(
+    alloc: Global,
+    stream: S,
+    services: &mut Services,
+    number: u32,
+    requests: bool,
+    moments: &mut M,
+    out: &mut O,
+) -> Result<String, Stop<'a>>
+    ensures served { IfOk result (λ text. HasTold requests number (O.contents out.old) (O.contents out.new) × IsConnectionLine number (string_bytes text)) }
+    ensures stopped { IfErr result (λ stop. (stop ≡ Output) ⊎ HasTold requests number (O.contents out.old) (O.contents out.new)) }
+{
+    let mut line = GatheringLine::new(alloc, TcpLine::new(stream));
+    let served = serve_client(alloc, &mut line, services, number, requests, moments, out);
+    // the last answers, or the ERR frame: whether the client gets them no connection tells
+    let _ = line.flush();
+    served
+}
+
 /// Waits for the next connection, serves it and says what became of it.
 fn serve_next<'a, R: Net + Clock + AllocGlobal, O: Write>(
     rt: &R,
@@ -263,21 +284,17 @@ fn serve_next<'a, R: Net + Clock + AllocGlobal, O: Write>(
         Ok((stream, _)) => stream,
         Err(error) => return Err(cannot_listen(error)),
     };
-    let mut line = GatheringLine::new(rt.alloc(), TcpLine::new(without_delay(stream)));
     let mut moments = ClockMoments::new(rt);
-    let text = serve_client(
+    let text = serve_stream(
         rt.alloc(),
-        &mut line,
+        without_delay(stream),
         services,
         number,
         requests,
         &mut moments,
         out,
-    );
-    // the last answers, or the ERR frame; that the client gets them no connection tells
-    let _ = line.flush();
-    drop(line);
-    say(out, &text?)
+    )?;
+    say(out, &text)
 }
 
 /// The services over the nodes of a file.

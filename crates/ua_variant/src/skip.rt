@@ -25,8 +25,8 @@ use ua_builtin::{ReadFault, Skip, Source, Wire};
 use ua_octets::FIRST_NEGATIVE;
 use ua_parts::{read_no_dims, skip_diagnostic, skip_dims};
 
-/// At most so many elements of a packed array are read at a time, which take 8 KiB or less.
-const PART: u32 = 512;
+/// At most so many elements of a packed array are read at a time, which take 4 KiB or less.
+const PART: u32 = 256;
 
 impl Skip for Variant {
     #[tactic(auto, unfolding(crate::specs::Formats::variant_format))]
@@ -42,7 +42,9 @@ impl Skip for DataValue {
     }
 }
 
-/// Passes over a scalar that holds no further value: it is read, and let go.
+/// Passes over a scalar that holds no further value: it is read, and let go. Not inlined, so that the room
+/// for a scalar is not taken on the stack at each level.
+#[inline(never)]
 fn skip_leaf<S: Source>(alloc: Global, src: &mut S, kind: u8) -> Result<(), ReadFault>
     ensures exact { Gives (skipped (image_read leaf (leaf_at kind))) (S.octets src.old) (S.octets src.new) result }
     ensures behind { StaysBehind (S.octets src.old) (S.octets src.new) }
@@ -52,6 +54,7 @@ fn skip_leaf<S: Source>(alloc: Global, src: &mut S, kind: u8) -> Result<(), Read
 }
 
 /// Passes over so many elements of a type id whose arrays are packed, a part of them at a time.
+#[inline(never)]
 fn skip_packed<S: Source>(alloc: Global, src: &mut S, kind: u8, count: u32) -> Result<(), ReadFault>
     requires { is_packed_kind kind ≡ true }
     ensures exact { Gives (skipped (row_at count (image_read leaf (leaf_at kind)))) (S.octets src.old) (S.octets src.new) result }
