@@ -5,13 +5,13 @@ use crate::octets::octets_of;
 use crate::shown::{digits, named, written};
 use crate::values::read;
 use std::alloc::{AllocError, Global};
-use ua_builtin::Wire;
+use ua_builtin::{Octets, Skip, Source, Wire};
 use ua_variant::{
     BoxedVariant, DataValue, DiagnosticInfo, Dimensions, HeldVariant, Scalar, Scalars, Variant,
 };
 
 /// A value that may hold others.
-pub trait Tree: Wire + Drop {
+pub trait Tree: Skip {
     /// How many levels it has, how many values are in it, and whether it can be written.
     fn size(&self) -> (u32, u64, bool);
 
@@ -49,11 +49,39 @@ impl Tree for Variant {
 }
 
 /// What is printed of a tree: its levels, its values, how many octets are left, whether it can be
-/// written, and what is written for a copy of it.
+/// written, and what is written for a copy of it. Passing over it has to leave the same, else just what
+/// that leaves is printed.
 pub fn tree_text<T: Tree>(alloc: Global, words: &str) -> Result<String, Fault> {
     let octets = octets_of(alloc, words)?;
-    let (value, left) = read::<T>(alloc, octets.as_slice())?;
+    let skipped = skip::<T>(alloc, octets.as_slice());
+    let found = read::<T>(alloc, octets.as_slice());
+    if left_of(&found) != skipped {
+        return skipped_text(alloc, skipped);
+    }
+    let (value, left) = found?;
     sized_text(alloc, value, left, octets.as_slice())
+}
+
+/// How many octets are left where a value that octets begin with is passed over.
+fn skip<T: Skip>(alloc: Global, octets: &[u8]) -> Result<u64, Fault> {
+    let mut src = Octets::new(octets);
+    T::skip_value(alloc, &mut src, 100)?;
+    Ok(src.left() as u64)
+}
+
+/// How many octets are left where a value was read.
+fn left_of<T>(found: &Result<(T, u64), Fault>) -> Result<u64, Fault> {
+    match found {
+        Ok((_, left)) => Ok(*left),
+        Err(fault) => Err(*fault),
+    }
+}
+
+fn skipped_text(alloc: Global, skipped: Result<u64, Fault>) -> Result<String, Fault> {
+    match skipped {
+        Ok(left) => Ok(format!(in alloc; "skipped left {left}")?),
+        Err(fault) => named(alloc, fault.text()),
+    }
 }
 
 fn sized_text<T: Tree>(alloc: Global, value: T, left: u64, octets: &[u8]) -> Result<String, Fault> {
