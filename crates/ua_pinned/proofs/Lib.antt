@@ -9,6 +9,8 @@ pub mod AdvancesAlike
 pub mod NodesAlike
 pub mod StepsAlike
 pub mod FrontsAlike
+pub mod MomentsAlike
+pub mod BrokenAlike
 pub mod ServedAlike
 pub mod ExchangedAlike
 pub mod CallsAlike

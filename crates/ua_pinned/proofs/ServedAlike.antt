@@ -1,7 +1,7 @@
 -- Lines that are served twice.
-use Rattle.std.specs.Prelude.{◌≡◌, ℕ, ℤ, ◌<◌, min, false, List, [], ◌∷◌, ◌++◌, map, length, Option, Some, None, Result, Ok, Err, IsErrOf}
+use Rattle.std.specs.Prelude.{◌≡◌, ℕ, ℤ, ◌<◌, min, false, List, [], ◌++◌, map, length, Option, Some, None, Result, Ok, Err, IsErrOf}
 use Rattle.std.proofs.Common.{refl, sym, ◌∙◌, ap, subst, arith, append-nil, length-append}
-use Rattle.std.proofs.lemmas.List.{append_cancel_left, append_cancel_right, map-append}
+use Rattle.std.proofs.lemmas.List.{append_cancel_left, append_cancel_right}
 use Rattle.ua_builtin.specs.declared.date_time.DateTime.{DateTime}
 use Rattle.ua_builtin.specs.declared.status_code.StatusCode.{StatusCode}
 use Rattle.ua_frame.specs.Run.{Rules, Run, events, End, Going, Stopped, Over}
@@ -10,11 +10,10 @@ use Rattle.ua_frame.specs.declared.limits.Limits.{Limits}
 use Rattle.ua_frame.proofs.Ends.{ends_stay}
 use Rattle.ua_frame.proofs.Unique.{unique}
 use Rattle.ua_channel.specs.Line.{Traffic, WhereTold}
-use Rattle.ua_channel.specs.Moments.{Gives}
 use Rattle.ua_channel.specs.ServerRules.{server_rules}
 use Rattle.ua_channel.specs.ServerTold.{Told}
 use Rattle.ua_server.specs.Said.{left, said, Course}
-use Rattle.ua_server.specs.Serving.{Answered, AnsweredTo, AreAsked, IsClean, RanOut, Serves, ServesBy, greatest, moment_of}
+use Rattle.ua_server.specs.Serving.{Answered, AnsweredTo, AreAsked, FailsBy, IsClean, RanOut, Serves, ServesBy, greatest, moment_of}
 use Rattle.ua_server.specs.State.{State, begun}
 use Rattle.ua_server.specs.declared.serve_fault.ServeFault.{ServeFault}
 use Rattle.ua_server.specs.declared.serve_fault.ServeFault.TheVariants as fault
@@ -23,8 +22,11 @@ use Rattle.ua_server.specs.declared.step.End.TheVariants as ending
 use Rattle.ua_server.proofs.SaidInParts.{said-more, left-more}
 use Rattle.ua_pinned.specs.Lines.{ComeAlike, LinesAlike, Wrote, WroteAlike}
 use Rattle.ua_pinned.specs.Pinned.{HadMemory}
-use Rattle.ua_pinned.specs.Serving.{IsWriteFault, LeftServices, ServesAlike, line_failed}
+use Rattle.ua_pinned.specs.Serving.{IsWriteFault, ServesAlike, line_failed}
 use Rattle.ua_pinned.specs.Serving.ServesAlike.{NoFault, AtRead, AtWrite}
+use Rattle.ua_pinned.proofs.BrokenAlike.{broken_once}
+use Rattle.ua_pinned.proofs.MomentsAlike.{Begins, given_once, moments_begin}
+use Rattle.ua_pinned.proofs.MomentsAlike.Begins.{First, Second}
 use Rattle.ua_pinned.proofs.ServersAlike.{same_code}
 
 -- ---- lines
@@ -58,28 +60,6 @@ wrote_at line new before after sent p q h = subst (λ (z : Option Traffic). Wrot
 -- what was written is this
 pub wrote_same : (line new : Option Traffic) (before after : Traffic) (sent other : List ℕ) → line ≡ Some before → new ≡ Some after → after.written ≡ before.written ++ other → Wrote line new sent → other ≡ sent
 wrote_same line new before after sent other p q e h = append_cancel_left before.written other sent (sym e ∙ wrote_at line new before after sent p q h)
-
--- ---- moments
-
--- one list begins the other
-pub data Begins {A : Type 0} (us vs : List A) : Type 0 where
-  First : (more : List A) → vs ≡ us ++ more → Begins us vs
-  Second : (more : List A) → us ≡ vs ++ more → Begins us vs
-
-behind : {A : Type 0} (u v : A) (us vs : List A) → u ≡ v → Begins us vs → Begins (u ∷ us) (v ∷ vs)
-behind u v us vs e (First more p) = First more (let q : v ∷ vs ≡ u ∷ (us ++ more) = cc in q)
-behind u v us vs e (Second more p) = Second more (let q : u ∷ us ≡ v ∷ (vs ++ more) = cc in q)
-
-given_once : {M : Type 0} (gives : M → ℤ → M → Type 0) → ((m x y : M) (t u : ℤ) → gives m t x → gives m u y → (t ≡ u) × (x ≡ y)) → (before last other : M) (ts us : List ℤ) → Gives gives before ts last → Gives gives before us other → Begins ts us
-given_once gives once before last other [] us p q = First us refl
-given_once gives once before last other (t ∷ ts) [] p q = Second (t ∷ ts) refl
-given_once {M = M} gives once before last other (t ∷ ts) (u ∷ us) p q =
-    let same = once before p.0 q.0 t u p.1 q.1 in
-    behind t u ts us same.0 (given_once gives once p.0 last other ts us p.2 (subst (λ (m : M). Gives gives m us other) (sym same.1) q.2))
-
-moments_begin : (ts us : List ℤ) → Begins ts us → Begins (map moment_of ts) (map moment_of us)
-moments_begin ts us (First more e) = First (map moment_of more) (ap (map moment_of) e ∙ map-append moment_of ts more)
-moments_begin ts us (Second more e) = Second (map moment_of more) (ap (map moment_of) e ∙ map-append moment_of us more)
 
 -- ---- what is said
 
@@ -222,21 +202,11 @@ write_is (Err (fault.Write n)) h = (n, refl)
 write_is (Err fault.OutOfMemory) h = absurd h
 write_is (Err fault.TooLong) h = absurd h
 
-left_same : (a : Result Ending ServeFault) (now then : State) → now ≡ then → LeftServices a now then
-left_same (Ok end) now then e = e
-left_same (Err fault.Read) now then e = e
-left_same (Err (fault.Write n)) now then e = tt
-left_same (Err fault.OutOfMemory) now then e = e
-left_same (Err fault.TooLong) now then e = e
-
-left_any : (n : ℕ) (a : Result Ending ServeFault) (now then : State) → a ≡ Err (fault.Write n) → LeftServices a now then
-left_any n a now then e = subst (λ (z : Result Ending ServeFault). LeftServices z now then) (sym e) tt
-
 -- two services of alike lines are one
 pub record ServedOnce (a b : Result Ending ServeFault) (line after other later : Option Traffic) (now then : State) : Type 0 where
   pub answers : a ≡ b
   pub written : WroteAlike line after other later
-  pub state : LeftServices a now then
+  pub state : now ≡ then
 
 module _ {M : Type 0} (gives : M → ℤ → M → Type 0) (once : (m x y : M) (t u : ℤ) → gives m t x → gives m u y → (t ≡ u) × (x ≡ y))
     (limits : Limits) (channel : ℕ) (first : State) (before last other_last : M) (a b : Result Ending ServeFault) (now then : State)
@@ -263,7 +233,7 @@ module _ {M : Type 0} (gives : M → ℤ → M → Type 0) (once : (m x y : M) (
       let x = came limits channel first p.holds.read (p.after.coming []) coming p.holds.written (map moment_of p.holds.ticks) now a parts p.holds.comes_to f had.first lines.few in
       let y = came limits channel first q.holds.read (q.after.coming []) coming q.holds.written (map moment_of q.holds.ticks) then b parts_too q.holds.comes_to g had.second lines.few in
       let o = both limits channel first coming (map moment_of p.holds.ticks) (map moment_of q.holds.ticks) p.holds.written q.holds.written now then begin a b x y in
-      record { answers = o.answers; written = wrote_alike o.same.says; state = left_same a now then o.same.leaves }
+      record { answers = o.answers; written = wrote_alike o.same.says; state = o.same.leaves }
 
   at_read : IsErrOf a fault.Read → IsErrOf b fault.Read → ComeAlike after later → ServedOnce a b line after other later now then
   at_read f g c =
@@ -275,7 +245,7 @@ module _ {M : Type 0} (gives : M → ℤ → M → Type 0) (once : (m x y : M) (
       let r = of_answered limits channel first p.holds.read p.holds.written (map moment_of p.holds.ticks) now x.frames x.rest Going x.to in
       let t = of_answered limits channel first p.holds.read q.holds.written (map moment_of q.holds.ticks) then y.frames y.rest Going (subst (λ (o : List ℕ). AnsweredTo limits channel first o q.holds.written (map moment_of q.holds.ticks) then y.frames y.rest Going) (sym same) y.to) in
       let o = (reads_once limits channel first p.holds.read Going Going (map moment_of p.holds.ticks) (map moment_of q.holds.ticks) p.holds.written q.holds.written now then begin r t).1 in
-      record { answers = e ∙ sym d; written = wrote_alike o.says; state = left_same a now then o.leaves }
+      record { answers = e ∙ sym d; written = wrote_alike o.says; state = o.leaves }
 
   at_write : IsWriteFault a → IsWriteFault b → WroteAlike line after other later → ServedOnce a b line after other later now then
   at_write f g w =
@@ -286,7 +256,9 @@ module _ {M : Type 0} (gives : M → ℤ → M → Type 0) (once : (m x y : M) (
       let x = subst (λ (z : Result Ending ServeFault). ServesBy z limits channel first p.holds.read p.holds.written (map moment_of p.holds.ticks) now (p.after.coming [])) e.1 p.holds.comes_to in
       let y = subst (λ (z : Result Ending ServeFault). ServesBy z limits channel first q.holds.read q.holds.written (map moment_of q.holds.ticks) then (q.after.coming [])) d.1 q.holds.comes_to in
       let count : e.0 ≡ d.0 = x.2 ∙ (ap (λ (o : List ℕ). min (length o) greatest) (mine ∙ sym theirs) ∙ sym y.2) in
-      record { answers = e.1 ∙ (ap (λ (n : ℕ). Err (fault.Write n)) count ∙ sym d.1); written = w; state = left_any e.0 a now then e.1 }
+      let z = subst (λ (o : List ℕ). FailsBy (fault.Write d.0) limits channel first q.holds.read o (map moment_of q.holds.ticks) then) (theirs ∙ sym mine) y in
+      let same = broken_once limits channel first coming p.holds.written (map moment_of p.holds.ticks) (map moment_of q.holds.ticks) begin p.holds.read (p.after.coming []) q.holds.read (q.after.coming []) now then parts parts_too x.0 x.1 z.0 z.1 in
+      record { answers = e.1 ∙ (ap (λ (n : ℕ). Err (fault.Write n)) count ∙ sym d.1); written = w; state = same.1 }
 
   by_faults : ServesAlike a b line after other later → ServedOnce a b line after other later now then
   by_faults (NoFault f g) = unfailed f g

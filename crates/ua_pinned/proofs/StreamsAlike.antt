@@ -109,10 +109,10 @@ unfolding each_after
 events_on R fs gs = each_append R.tells [] fs gs
 
 -- what frames tell of which the first tell this, and the next one that
-told_behind : {E X : Type 0} (R : Rules E X) (fs : List Frame) (f : Frame) (told : List E) (e : E) → events R fs ≡ told → R.tells fs f ≡ e ∷ [] → events R (fs ++ f ∷ []) ≡ told ++ e ∷ []
+pub told_behind : {E X : Type 0} (R : Rules E X) (fs : List Frame) (f : Frame) (told : List E) (e : E) → events R fs ≡ told → R.tells fs f ≡ e ∷ [] → events R (fs ++ f ∷ []) ≡ told ++ e ∷ []
 told_behind {E = E} R fs f told e is tells = events-push R fs f ∙ (ap (λ (t : List E). events R fs ++ t) tells ∙ ap (λ (t : List E). t ++ e ∷ []) is)
 
-tells_more : {E X : Type 0} (R : Rules E X) (fs later gs : List Frame) (f : Frame) (told : List E) (e : E) → gs ≡ (fs ++ f ∷ []) ++ later → events R fs ≡ told → R.tells fs f ≡ e ∷ [] → events R gs ≡ (told ++ e ∷ []) ++ each_from R.tells (fs ++ f ∷ []) later
+pub tells_more : {E X : Type 0} (R : Rules E X) (fs later gs : List Frame) (f : Frame) (told : List E) (e : E) → gs ≡ (fs ++ f ∷ []) ++ later → events R fs ≡ told → R.tells fs f ≡ e ∷ [] → events R gs ≡ (told ++ e ∷ []) ++ each_from R.tells (fs ++ f ∷ []) later
 tells_more {E = E} R fs later gs f told e p is tells =
     ap (events R) p ∙ (events_on R (fs ++ f ∷ []) later ∙ ap (λ (t : List E). t ++ each_from R.tells (fs ++ f ∷ []) later) (told_behind R fs f told e is tells))
 

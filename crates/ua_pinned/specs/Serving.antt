@@ -1,7 +1,6 @@
 -- What it is for two lines to be served alike.
 use Rattle.std.specs.Prelude.{◌≡◌, Bool, true, false, Option, Result, Ok, Err, IsErrOf}
 use Rattle.ua_channel.specs.Line.{Traffic}
-use Rattle.ua_server.specs.State.{State}
 use Rattle.ua_server.specs.declared.serve_fault.ServeFault.{ServeFault}
 use Rattle.ua_server.specs.declared.serve_fault.ServeFault.TheVariants as fault
 use Rattle.ua_server.specs.declared.step.End.{End}
@@ -25,8 +24,3 @@ pub data ServesAlike (a b : Result End ServeFault) (line after other later : Opt
   NoFault : line_failed a ≡ false → line_failed b ≡ false → ServesAlike a b line after other later
   AtRead : IsErrOf a fault.Read → IsErrOf b fault.Read → ComeAlike after later → ServesAlike a b line after other later
   AtWrite : IsWriteFault a → IsWriteFault b → WroteAlike line after other later → ServesAlike a b line after other later
-
--- what is left of the services: one state, unless a write failed
-abbrev pub LeftServices : Result End ServeFault → State → State → Type 0
-LeftServices (Err (fault.Write n)) one two = Unit {0}
-LeftServices other one two = one ≡ two

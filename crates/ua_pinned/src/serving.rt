@@ -3,7 +3,7 @@
 ghost use Rattle.std.specs.Prelude.{◌≡◌, ℕ, ℤ, List};
 ghost use Rattle.ua_pinned.specs.Lines.{LinesAlike, WroteAlike};
 ghost use Rattle.ua_pinned.specs.Pinned.{HadMemory};
-ghost use Rattle.ua_pinned.specs.Serving.{LeftServices, ServesAlike};
+ghost use Rattle.ua_pinned.specs.Serving.{ServesAlike};
 ghost use Rattle.ua_server.specs.declared.serve_fault.ServeFault.TheVariants.{OutOfMemory};
 
 use std::alloc::Global;
@@ -33,7 +33,7 @@ pub fn serve_twice<L: Line, K: Line, M: Moments>(
     ensures written { (coming : List ℕ) → LinesAlike (L.traffic line.old) (K.traffic other.old) coming → HadMemory OutOfMemory result.0 result.1
         → ServesAlike result.0 result.1 (L.traffic line.old) (L.traffic line.new) (K.traffic other.old) (K.traffic other.new) → WroteAlike (L.traffic line.old) (L.traffic line.new) (K.traffic other.old) (K.traffic other.new) }
     ensures state { (coming : List ℕ) → LinesAlike (L.traffic line.old) (K.traffic other.old) coming → HadMemory OutOfMemory result.0 result.1
-        → ServesAlike result.0 result.1 (L.traffic line.old) (L.traffic line.new) (K.traffic other.old) (K.traffic other.new) → LeftServices result.0 services.new others.new }
+        → ServesAlike result.0 result.1 (L.traffic line.old) (L.traffic line.new) (K.traffic other.old) (K.traffic other.new) → services.new ≡ others.new }
 {
     let first = serve(alloc, line, services, limits, channel_id, moments);
     let second = serve(alloc, other, others, limits, channel_id, again);

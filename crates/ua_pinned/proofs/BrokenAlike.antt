@@ -1,0 +1,174 @@
+-- Two services of the same octets that broke off behind the same octets written stand at the same last word.
+use Rattle.std.specs.Prelude.{◌≡◌, ℕ, ◌<◌, ◌≤◌, List, [], ◌∷◌, ◌++◌, length}
+use Rattle.std.proofs.Common.{refl, sym, ◌∙◌, ap, subst, append_assoc, append-nil, arith, length-append}
+use Rattle.ua_builtin.specs.declared.date_time.DateTime.{DateTime}
+use Rattle.ua_frame.specs.After.{each_from}
+use Rattle.ua_frame.specs.Run.{Rules, Run, events, End, Going, Stopped}
+use Rattle.ua_frame.specs.declared.frame.Frame.{Frame}
+use Rattle.ua_frame.specs.declared.limits.Limits.{Limits}
+use Rattle.ua_frame.proofs.Readings.{reading}
+use Rattle.ua_channel.specs.ServerRules.{server_rules}
+use Rattle.ua_channel.specs.ServerTold.{Told}
+use Rattle.ua_server.specs.Said.{Course, last_words, left, said, said_of, used_in}
+use Rattle.ua_server.specs.Serving.{Answer, BrokenOff, EndsAt, LastWord, Nothing, Refusal, end_at, told_at}
+use Rattle.ua_server.specs.State.{State}
+use Rattle.ua_server.proofs.SaidInParts.{left-more, said-append, said-more, used_in-append}
+use Rattle.ua_pinned.proofs.FrontsAlike.{ReadsAll, all_once, stopped_all}
+use Rattle.ua_pinned.proofs.MomentsAlike.{Begins}
+use Rattle.ua_pinned.proofs.MomentsAlike.Begins.{First, Second}
+use Rattle.ua_pinned.proofs.StreamsAlike.{Splits, begins, split, tells_more, told_behind}
+use Rattle.ua_pinned.proofs.StreamsAlike.Splits.{Here, Later, Sooner}
+
+-- nothing is said of nothing
+said-nothing : (channel : ℕ) (first : State) (moments : List DateTime) → said channel first [] Going moments ≡ []
+unfolding said
+said-nothing channel first moments = refl
+
+module _ (limits : Limits) (channel : ℕ) (first : State) where
+  abbrev R : Rules Told ℕ
+  R = server_rules limits channel
+
+  -- a front of these octets that ends with a frame which told this, behind what the frames before it told
+  record AnswersAt (whole : List ℕ) (before : List Told) (t : Told) : Type 0 where
+    front : List ℕ
+    more : List ℕ
+    parts : front ++ more ≡ whole
+    frames : List Frame
+    frame : Frame
+    run : Run (server_rules limits channel) front (frames ++ frame ∷ []) [] Going
+    told_is : events (server_rules limits channel) frames ≡ before
+    tells : (server_rules limits channel).tells frames frame ≡ t ∷ []
+
+  -- where a last word was said, behind what was told before: all that was told with it is this
+  data SaidAt (whole : List ℕ) (before told : List Told) (end : End ℕ) : Type 0 where
+    Answers : (t : Told) → AnswersAt whole before t → told ≡ before ++ t ∷ [] → end ≡ Going → SaidAt whole before told end
+    Refuses : (code : ℕ) → ReadsAll (server_rules limits channel) whole before (Stopped code) → told ≡ before → SaidAt whole before told end
+
+  -- these octets were answered up to a last word, some octets of which are not written
+  record Breaks (whole written : List ℕ) (moments : List DateTime) (now : State) (told : List Told) : Type 0 where
+    before : List Told
+    end : End ℕ
+    place : SaidAt whole before told end
+    state_is : (left channel first told moments).state ≡ now
+    part : List ℕ
+    written_is : written ≡ said channel first before Going moments ++ part
+    unwritten : List ℕ
+    said_is : said channel first told end moments ≡ written ++ unwritten
+    some : 0 < length unwritten
+
+  -- ---- where it was said
+
+  -- nothing was said: then nothing is unwritten
+  no_word : (before : List Told) (moments : List DateTime) (written unwritten : List ℕ) → before ≡ [] → said channel first (before ++ []) Going moments ≡ written ++ unwritten → 0 < length unwritten → ⊥
+  no_word before moments written unwritten none said_is some =
+      let silent : said channel first (before ++ []) Going moments ≡ [] = ap (λ (t : List Told). said channel first (t ++ []) Going moments) none ∙ said-nothing channel first moments in
+      omega (arith, some, ap length said_is, ap length silent, length-append written unwritten)
+
+  said_at : (front more whole : List ℕ) (before : List Told) (word : LastWord) (moments : List DateTime) (written unwritten : List ℕ) → front ++ more ≡ whole → EndsAt limits channel front before word
+      → said channel first (before ++ told_at word) (end_at word) moments ≡ written ++ unwritten → 0 < length unwritten → SaidAt whole before (before ++ told_at word) (end_at word)
+  said_at front more whole before Nothing moments written unwritten parts ends said_is some = absurd (no_word before moments written unwritten ends.1 said_is some)
+  said_at front more whole before (Answer t) moments written unwritten parts ends said_is some =
+      Answers t (record { front = front; more = more; parts = parts; frames = ends.frames; frame = ends.frame; run = ends.run; told_is = ends.told_is; tells = ends.tells }) refl refl
+  said_at front more whole before (Refusal code) moments written unwritten parts ends said_is some =
+      Refuses code (stopped_all R whole front more ends.frames ends.rest before (Stopped code) (λ e. cc) parts ends.run ends.told_is) (append-nil before)
+
+  fewer : (before word : List Told) (n : ℕ) → used_in (before ++ word) ≤ n → used_in before ≤ n
+  fewer before word n h = omega (arith, h, used_in-append before word)
+
+  -- moments more are not used
+  breaks : (read ahead whole written : List ℕ) (used more moments : List DateTime) (now : State) → read ++ ahead ≡ whole → moments ≡ used ++ more → (b : BrokenOff limits channel first read written used now) → 0 < length b.unwritten
+      → Breaks whole written moments now (b.before ++ told_at b.word)
+  breaks read ahead whole written used more moments now e is b some =
+      let parts : b.front ++ (b.behind ++ ahead) ≡ whole = sym (append_assoc b.front b.behind ahead) ∙ (ap (λ (o : List ℕ). o ++ ahead) (sym b.front_is) ∙ e) in
+      subst (λ (ms : List DateTime). Breaks whole written ms now (b.before ++ told_at b.word)) (sym is) (record {
+        before = b.before;
+        end = end_at b.word;
+        place = said_at b.front (b.behind ++ ahead) whole b.before b.word used written b.unwritten parts b.ends b.said_is some;
+        state_is = ap (λ (c : Course). c.state) (left-more channel first (b.before ++ told_at b.word) used more b.asked.0) ∙ b.state_is;
+        part = b.part;
+        written_is = b.written_is ∙ ap (λ (o : List ℕ). o ++ b.part) (sym (said-more channel first b.before Going used more (fewer b.before (told_at b.word) (length used) b.asked.0)));
+        unwritten = b.unwritten;
+        said_is = said-more channel first (b.before ++ told_at b.word) (end_at b.word) used more b.asked.0 ∙ b.said_is;
+        some = some;
+      })
+
+  -- ---- it was said at one place
+
+  module _ (whole written : List ℕ) (moments : List DateTime) where
+    -- what is said with one last word is longer than what was written, and so than what is said before another
+    no_more : (now then : State) (told other more : List Told) (a : Breaks whole written moments now told) (b : Breaks whole written moments then other) → a.end ≡ Going → b.before ≡ told ++ more → ⊥
+    no_more now then told other more a b going is =
+        let all : said channel first told Going moments ≡ written ++ a.unwritten = ap (λ (e : End ℕ). said channel first told e moments) (sym going) ∙ a.said_is in
+        let on = ap (λ (t : List Told). said channel first t Going moments) is ∙ said-append channel first told more Going moments in
+        omega (
+          arith,
+          a.some,
+          ap length all,
+          ap length b.written_is,
+          ap length on,
+          length-append written a.unwritten,
+          length-append (said channel first b.before Going moments) b.part,
+          length-append (said channel first told Going moments) (said_of channel (left channel first told moments) more ++ last_words Going),
+        )
+
+    -- the frames of a longer reading go on behind the frame that is answered
+    ahead : (before : List Told) (t : Told) (a : AnswersAt whole before t) (gs : List Frame) (x : List ℕ) (end : End ℕ) → Run R whole gs x end → (later : List Frame) × (gs ≡ (a.frames ++ a.frame ∷ []) ++ later)
+    ahead before t a gs x end run = begins R a.front a.more whole (a.frames ++ a.frame ∷ []) gs [] x Going end a.parts a.run run
+
+    -- and so goes on what they tell
+    told_on : (before told other : List Told) (t : Told) (a : AnswersAt whole before t) → told ≡ before ++ t ∷ [] → (later gs : List Frame) → gs ≡ (a.frames ++ a.frame ∷ []) ++ later → events R gs ≡ other → (more : List Told) × (other ≡ told ++ more)
+    told_on before told other t a is later gs e tells =
+        let more = each_from R.tells (a.frames ++ a.frame ∷ []) later in
+        (more, sym tells ∙ (tells_more R a.frames later gs a.frame before t e a.told_is a.tells ∙ ap (λ (ts : List Told). ts ++ more) (sym is)))
+
+    module _ (now then : State) (told other : List Told) (a : Breaks whole written moments now told) (b : Breaks whole written moments then other) where
+      -- both answered a frame: it is one
+      both_answered : (t u : Told) (p : AnswersAt whole a.before t) (q : AnswersAt whole b.before u) → told ≡ a.before ++ t ∷ [] → other ≡ b.before ++ u ∷ [] → a.end ≡ Going → b.end ≡ Going → told ≡ other
+      both_answered t u p q is too going going_too = by_frames (split p.frames q.frames p.frame q.frame first_behind.0 second_behind.0 (sym first_behind.1 ∙ second_behind.1))
+        where
+          first_behind : (later : List Frame) × ((reading R whole).frames ≡ (p.frames ++ p.frame ∷ []) ++ later)
+          first_behind = ahead a.before t p (reading R whole).frames (reading R whole).rest (reading R whole).end (reading R whole).run
+
+          second_behind : (later : List Frame) × ((reading R whole).frames ≡ (q.frames ++ q.frame ∷ []) ++ later)
+          second_behind = ahead b.before u q (reading R whole).frames (reading R whole).rest (reading R whole).end (reading R whole).run
+
+          by_frames : Splits p.frames q.frames p.frame q.frame first_behind.0 second_behind.0 → told ≡ other
+          by_frames (Here e f) =
+              is ∙ (sym (told_behind R p.frames p.frame a.before t p.told_is p.tells)
+              ∙ (ap (λ (fs : List Frame). events R (fs ++ p.frame ∷ [])) e
+              ∙ (ap (λ (g : Frame). events R (q.frames ++ g ∷ [])) f
+              ∙ (told_behind R q.frames q.frame b.before u q.told_is q.tells ∙ sym too))))
+          by_frames (Later m e) =
+              let on = told_on a.before told b.before t p is m q.frames e q.told_is in
+              absurd (no_more now then told other on.0 a b going on.1)
+          by_frames (Sooner m e) =
+              let on = told_on b.before other a.before u q too m p.frames e p.told_is in
+              absurd (no_more then now other told on.0 b a going_too on.1)
+
+      told_once : SaidAt whole a.before told a.end → SaidAt whole b.before other b.end → told ≡ other
+      told_once (Answers t p is going) (Answers u q too going_too) = both_answered t u p q is too going going_too
+      told_once (Answers t p is going) (Refuses code q too) =
+          let behind = ahead a.before t p q.frames q.rest (Stopped code) q.run in
+          let on = told_on a.before told b.before t p is behind.0 q.frames behind.1 q.told_is in
+          absurd (no_more now then told other on.0 a b going on.1)
+      told_once (Refuses code p is) (Answers u q too going) =
+          let behind = ahead b.before u q p.frames p.rest (Stopped code) p.run in
+          let on = told_on b.before other a.before u q too behind.0 p.frames behind.1 p.told_is in
+          absurd (no_more then now other told on.0 b a going on.1)
+      told_once (Refuses code p is) (Refuses why q too) = is ∙ ((all_once R whole a.before b.before (Stopped code) (Stopped why) p q).0 ∙ sym too)
+
+      breaks_once : (told ≡ other) × (now ≡ then)
+      breaks_once =
+          let same = told_once a.place b.place in
+          (same, sym a.state_is ∙ (ap (λ (ts : List Told). (left channel first ts moments).state) same ∙ b.state_is))
+
+  -- at moments of which one list begins the other: what was told with the last word is one, and so is the state
+  pub broken_once : (whole written : List ℕ) (ms ns : List DateTime) → Begins ms ns → (read ahead other later : List ℕ) (now then : State) → read ++ ahead ≡ whole → other ++ later ≡ whole
+      → (a : BrokenOff limits channel first read written ms now) → 0 < length a.unwritten → (b : BrokenOff limits channel first other written ns then) → 0 < length b.unwritten
+      → (a.before ++ told_at a.word ≡ b.before ++ told_at b.word) × (now ≡ then)
+  broken_once whole written ms ns (First more e) read ahead other later now then p q a some b some_too =
+      breaks_once whole written ns now then (a.before ++ told_at a.word) (b.before ++ told_at b.word)
+      (breaks read ahead whole written ms more ns now p e a some) (breaks other later whole written ns [] ns then q (sym (append-nil ns)) b some_too)
+  broken_once whole written ms ns (Second more e) read ahead other later now then p q a some b some_too =
+      breaks_once whole written ms now then (a.before ++ told_at a.word) (b.before ++ told_at b.word)
+      (breaks read ahead whole written ms [] ms now p (sym (append-nil ms)) a some) (breaks other later whole written ns more ms then q e b some_too)
