@@ -9,9 +9,12 @@ use Rattle.ua_frame.specs.declared.limits.Limits.{Limits}
 use Rattle.ua_frame.proofs.Readings.{reading}
 use Rattle.ua_channel.specs.ServerRules.{server_rules}
 use Rattle.ua_channel.specs.ServerTold.{Told}
+use Rattle.ua_server.specs.Requests.{requests}
 use Rattle.ua_server.specs.Said.{Course, last_words, left, said, said_of, used_in}
 use Rattle.ua_server.specs.Serving.{Answer, BrokenOff, EndsAt, LastWord, Nothing, Refusal, end_at, told_at}
 use Rattle.ua_server.specs.State.{State}
+use Rattle.ua_server.specs.declared.watch.AnsweredRequest.{AnsweredRequest}
+use Rattle.ua_server.proofs.RequestsInParts.{requests-more}
 use Rattle.ua_server.proofs.SaidInParts.{left-more, said-append, said-more, used_in-append}
 use Rattle.ua_pinned.proofs.FrontsAlike.{ReadsAll, all_once, stopped_all}
 use Rattle.ua_pinned.proofs.MomentsAlike.{Begins}
@@ -44,12 +47,23 @@ module _ (limits : Limits) (channel : ℕ) (first : State) where
     Answers : (t : Told) → AnswersAt whole before t → told ≡ before ++ t ∷ [] → end ≡ Going → SaidAt whole before told end
     Refuses : (code : ℕ) → ReadsAll (server_rules limits channel) whole before (Stopped code) → told ≡ before → SaidAt whole before told end
 
-  -- these octets were answered up to a last word, some octets of which are not written
-  record Breaks (whole written : List ℕ) (moments : List DateTime) (now : State) (told : List Told) : Type 0 where
+  -- of these octets some were read, and what they ask was answered up to a last word, some octets of which are not written; these requests
+  -- are told of
+  pub record BrokeOff (whole written : List ℕ) (moments : List DateTime) (now : State) (asked : List AnsweredRequest) : Type 0 where
+    pub read : List ℕ
+    pub ahead : List ℕ
+    pub parts : read ++ ahead ≡ whole
+    pub broken : BrokenOff limits channel first read written moments now
+    pub some : 0 < length broken.unwritten
+    pub tells : asked ≡ requests channel first (broken.before ++ told_at broken.word) moments
+
+  -- the same without the octets that were read, and with moments that may be more than are used
+  record Breaks (whole written : List ℕ) (moments : List DateTime) (now : State) (asked : List AnsweredRequest) (told : List Told) : Type 0 where
     before : List Told
     end : End ℕ
     place : SaidAt whole before told end
     state_is : (left channel first told moments).state ≡ now
+    asked_is : asked ≡ requests channel first told moments
     part : List ℕ
     written_is : written ≡ said channel first before Going moments ++ part
     unwritten : List ℕ
@@ -76,28 +90,31 @@ module _ (limits : Limits) (channel : ℕ) (first : State) where
   fewer before word n h = omega (arith, h, used_in-append before word)
 
   -- moments more are not used
-  breaks : (read ahead whole written : List ℕ) (used more moments : List DateTime) (now : State) → read ++ ahead ≡ whole → moments ≡ used ++ more → (b : BrokenOff limits channel first read written used now) → 0 < length b.unwritten
-      → Breaks whole written moments now (b.before ++ told_at b.word)
-  breaks read ahead whole written used more moments now e is b some =
-      let parts : b.front ++ (b.behind ++ ahead) ≡ whole = sym (append_assoc b.front b.behind ahead) ∙ (ap (λ (o : List ℕ). o ++ ahead) (sym b.front_is) ∙ e) in
-      subst (λ (ms : List DateTime). Breaks whole written ms now (b.before ++ told_at b.word)) (sym is) (record {
-        before = b.before;
-        end = end_at b.word;
-        place = said_at b.front (b.behind ++ ahead) whole b.before b.word used written b.unwritten parts b.ends b.said_is some;
-        state_is = ap (λ (c : Course). c.state) (left-more channel first (b.before ++ told_at b.word) used more b.asked.0) ∙ b.state_is;
-        part = b.part;
-        written_is = b.written_is ∙ ap (λ (o : List ℕ). o ++ b.part) (sym (said-more channel first b.before Going used more (fewer b.before (told_at b.word) (length used) b.asked.0)));
-        unwritten = b.unwritten;
-        said_is = said-more channel first (b.before ++ told_at b.word) (end_at b.word) used more b.asked.0 ∙ b.said_is;
-        some = some;
+  breaks : (whole written : List ℕ) (used more moments : List DateTime) (now : State) (asked : List AnsweredRequest) → moments ≡ used ++ more → (b : BrokeOff whole written used now asked)
+      → Breaks whole written moments now asked (b.broken.before ++ told_at b.broken.word)
+  breaks whole written used more moments now asked is b =
+      let o = b.broken in
+      let told = o.before ++ told_at o.word in
+      let parts : o.front ++ (o.behind ++ b.ahead) ≡ whole = sym (append_assoc o.front o.behind b.ahead) ∙ (ap (λ (t : List ℕ). t ++ b.ahead) (sym o.front_is) ∙ b.parts) in
+      subst (λ (ms : List DateTime). Breaks whole written ms now asked (b.broken.before ++ told_at b.broken.word)) (sym is) (record {
+        before = o.before;
+        end = end_at o.word;
+        place = said_at o.front (o.behind ++ b.ahead) whole o.before o.word used written o.unwritten parts o.ends o.said_is b.some;
+        state_is = ap (λ (c : Course). c.state) (left-more channel first told used more o.asked.0) ∙ o.state_is;
+        asked_is = b.tells ∙ sym (requests-more channel first told used more o.asked.0);
+        part = o.part;
+        written_is = o.written_is ∙ ap (λ (t : List ℕ). t ++ o.part) (sym (said-more channel first o.before Going used more (fewer o.before (told_at o.word) (length used) o.asked.0)));
+        unwritten = o.unwritten;
+        said_is = said-more channel first told (end_at o.word) used more o.asked.0 ∙ o.said_is;
+        some = b.some;
       })
 
   -- ---- it was said at one place
 
   module _ (whole written : List ℕ) (moments : List DateTime) where
     -- what is said with one last word is longer than what was written, and so than what is said before another
-    no_more : (now then : State) (told other more : List Told) (a : Breaks whole written moments now told) (b : Breaks whole written moments then other) → a.end ≡ Going → b.before ≡ told ++ more → ⊥
-    no_more now then told other more a b going is =
+    no_more : (now then : State) (asked also : List AnsweredRequest) (told other more : List Told) (a : Breaks whole written moments now asked told) (b : Breaks whole written moments then also other) → a.end ≡ Going → b.before ≡ told ++ more → ⊥
+    no_more now then asked also told other more a b going is =
         let all : said channel first told Going moments ≡ written ++ a.unwritten = ap (λ (e : End ℕ). said channel first told e moments) (sym going) ∙ a.said_is in
         let on = ap (λ (t : List Told). said channel first t Going moments) is ∙ said-append channel first told more Going moments in
         omega (
@@ -121,7 +138,7 @@ module _ (limits : Limits) (channel : ℕ) (first : State) where
         let more = each_from R.tells (a.frames ++ a.frame ∷ []) later in
         (more, sym tells ∙ (tells_more R a.frames later gs a.frame before t e a.told_is a.tells ∙ ap (λ (ts : List Told). ts ++ more) (sym is)))
 
-    module _ (now then : State) (told other : List Told) (a : Breaks whole written moments now told) (b : Breaks whole written moments then other) where
+    module _ (now then : State) (asked also : List AnsweredRequest) (told other : List Told) (a : Breaks whole written moments now asked told) (b : Breaks whole written moments then also other) where
       -- both answered a frame: it is one
       both_answered : (t u : Told) (p : AnswersAt whole a.before t) (q : AnswersAt whole b.before u) → told ≡ a.before ++ t ∷ [] → other ≡ b.before ++ u ∷ [] → a.end ≡ Going → b.end ≡ Going → told ≡ other
       both_answered t u p q is too going going_too = by_frames (split p.frames q.frames p.frame q.frame first_behind.0 second_behind.0 (sym first_behind.1 ∙ second_behind.1))
@@ -140,35 +157,35 @@ module _ (limits : Limits) (channel : ℕ) (first : State) where
               ∙ (told_behind R q.frames q.frame b.before u q.told_is q.tells ∙ sym too))))
           by_frames (Later m e) =
               let on = told_on a.before told b.before t p is m q.frames e q.told_is in
-              absurd (no_more now then told other on.0 a b going on.1)
+              absurd (no_more now then asked also told other on.0 a b going on.1)
           by_frames (Sooner m e) =
               let on = told_on b.before other a.before u q too m p.frames e p.told_is in
-              absurd (no_more then now other told on.0 b a going_too on.1)
+              absurd (no_more then now also asked other told on.0 b a going_too on.1)
 
       told_once : SaidAt whole a.before told a.end → SaidAt whole b.before other b.end → told ≡ other
       told_once (Answers t p is going) (Answers u q too going_too) = both_answered t u p q is too going going_too
       told_once (Answers t p is going) (Refuses code q too) =
           let behind = ahead a.before t p q.frames q.rest (Stopped code) q.run in
           let on = told_on a.before told b.before t p is behind.0 q.frames behind.1 q.told_is in
-          absurd (no_more now then told other on.0 a b going on.1)
+          absurd (no_more now then asked also told other on.0 a b going on.1)
       told_once (Refuses code p is) (Answers u q too going) =
           let behind = ahead b.before u q p.frames p.rest (Stopped code) p.run in
           let on = told_on b.before other a.before u q too behind.0 p.frames behind.1 p.told_is in
-          absurd (no_more then now other told on.0 b a going on.1)
+          absurd (no_more then now also asked other told on.0 b a going on.1)
       told_once (Refuses code p is) (Refuses why q too) = is ∙ ((all_once R whole a.before b.before (Stopped code) (Stopped why) p q).0 ∙ sym too)
 
-      breaks_once : (told ≡ other) × (now ≡ then)
+      breaks_once : (asked ≡ also) × (now ≡ then)
       breaks_once =
-          let same = told_once a.place b.place in
-          (same, sym a.state_is ∙ (ap (λ (ts : List Told). (left channel first ts moments).state) same ∙ b.state_is))
+          let same = told_once a.place b.place in (
+            a.asked_is ∙ (ap (λ (ts : List Told). requests channel first ts moments) same ∙ sym b.asked_is),
+            sym a.state_is ∙ (ap (λ (ts : List Told). (left channel first ts moments).state) same ∙ b.state_is),
+          )
 
-  -- at moments of which one list begins the other: what was told with the last word is one, and so is the state
-  pub broken_once : (whole written : List ℕ) (ms ns : List DateTime) → Begins ms ns → (read ahead other later : List ℕ) (now then : State) → read ++ ahead ≡ whole → other ++ later ≡ whole
-      → (a : BrokenOff limits channel first read written ms now) → 0 < length a.unwritten → (b : BrokenOff limits channel first other written ns then) → 0 < length b.unwritten
-      → (a.before ++ told_at a.word ≡ b.before ++ told_at b.word) × (now ≡ then)
-  broken_once whole written ms ns (First more e) read ahead other later now then p q a some b some_too =
-      breaks_once whole written ns now then (a.before ++ told_at a.word) (b.before ++ told_at b.word)
-      (breaks read ahead whole written ms more ns now p e a some) (breaks other later whole written ns [] ns then q (sym (append-nil ns)) b some_too)
-  broken_once whole written ms ns (Second more e) read ahead other later now then p q a some b some_too =
-      breaks_once whole written ms now then (a.before ++ told_at a.word) (b.before ++ told_at b.word)
-      (breaks read ahead whole written ms [] ms now p (sym (append-nil ms)) a some) (breaks other later whole written ns more ms then q e b some_too)
+  -- at moments of which one list begins the other the requests that are told of are the same, and so are the states
+  pub broken_once : (whole written : List ℕ) (ms ns : List DateTime) (now then : State) (asked also : List AnsweredRequest) → Begins ms ns → BrokeOff whole written ms now asked → BrokeOff whole written ns then also → (asked ≡ also) × (now ≡ then)
+  broken_once whole written ms ns now then asked also (First more e) a b =
+      breaks_once whole written ns now then asked also (a.broken.before ++ told_at a.broken.word) (b.broken.before ++ told_at b.broken.word)
+      (breaks whole written ms more ns now asked e a) (breaks whole written ns [] ns then also (sym (append-nil ns)) b)
+  broken_once whole written ms ns now then asked also (Second more e) a b =
+      breaks_once whole written ms now then asked also (a.broken.before ++ told_at a.broken.word) (b.broken.before ++ told_at b.broken.word)
+      (breaks whole written ms [] ms now asked (sym (append-nil ms)) a) (breaks whole written ns more ms then also e b)

@@ -1,5 +1,5 @@
 -- Lines that are served twice.
-use Rattle.std.specs.Prelude.{◌≡◌, ℕ, ℤ, ◌<◌, min, false, List, [], ◌++◌, map, length, Option, Some, None, Result, Ok, Err, IsErrOf}
+use Rattle.std.specs.Prelude.{◌≡◌, ℕ, ℤ, ◌<◌, false, List, [], ◌∷◌, ◌++◌, map, length, Option, Some, None, Result, Ok, Err, IsErrOf}
 use Rattle.std.proofs.Common.{refl, sym, ◌∙◌, ap, subst, arith, append-nil, length-append}
 use Rattle.std.proofs.lemmas.List.{append_cancel_left, append_cancel_right}
 use Rattle.ua_builtin.specs.declared.date_time.DateTime.{DateTime}
@@ -10,21 +10,27 @@ use Rattle.ua_frame.specs.declared.limits.Limits.{Limits}
 use Rattle.ua_frame.proofs.Ends.{ends_stay}
 use Rattle.ua_frame.proofs.Unique.{unique}
 use Rattle.ua_channel.specs.Line.{Traffic, WhereTold}
+use Rattle.ua_channel.specs.Moments.{Gives}
 use Rattle.ua_channel.specs.ServerRules.{server_rules}
 use Rattle.ua_channel.specs.ServerTold.{Told}
+use Rattle.ua_server.specs.Happening.{Event, Given, Happens, Leads, Noted, noted_in, ticks_in}
+use Rattle.ua_server.specs.Requests.{requests}
 use Rattle.ua_server.specs.Said.{left, said, Course}
-use Rattle.ua_server.specs.Serving.{Answered, AnsweredTo, AreAsked, FailsBy, IsClean, RanOut, Serves, ServesBy, greatest, moment_of}
+use Rattle.ua_server.specs.Serving.{Answered, AnsweredTo, AreAsked, IsClean, Moves, RanOut, Serves, ServesBy, ServesTelling, TellsAll, TellsBy, moment_of, told_at}
 use Rattle.ua_server.specs.State.{State, begun}
 use Rattle.ua_server.specs.declared.serve_fault.ServeFault.{ServeFault}
 use Rattle.ua_server.specs.declared.serve_fault.ServeFault.TheVariants as fault
 use Rattle.ua_server.specs.declared.step.End.{End as Ending}
 use Rattle.ua_server.specs.declared.step.End.TheVariants as ending
+use Rattle.ua_server.specs.declared.watch.AnsweredRequest.{AnsweredRequest}
+use Rattle.ua_server.proofs.Happened.{given-led}
+use Rattle.ua_server.proofs.RequestsInParts.{requests-more}
 use Rattle.ua_server.proofs.SaidInParts.{said-more, left-more}
 use Rattle.ua_pinned.specs.Lines.{ComeAlike, LinesAlike, Wrote, WroteAlike}
 use Rattle.ua_pinned.specs.Pinned.{HadMemory}
-use Rattle.ua_pinned.specs.Serving.{IsWriteFault, ServesAlike, line_failed}
+use Rattle.ua_pinned.specs.Serving.{IsWriteFault, ServesAlike, ToldAlike, line_failed}
 use Rattle.ua_pinned.specs.Serving.ServesAlike.{NoFault, AtRead, AtWrite}
-use Rattle.ua_pinned.proofs.BrokenAlike.{broken_once}
+use Rattle.ua_pinned.proofs.BrokenAlike.{BrokeOff, broken_once}
 use Rattle.ua_pinned.proofs.MomentsAlike.{Begins, given_once, moments_begin}
 use Rattle.ua_pinned.proofs.MomentsAlike.Begins.{First, Second}
 use Rattle.ua_pinned.proofs.ServersAlike.{same_code}
@@ -63,62 +69,67 @@ wrote_same line new before after sent other p q e h = append_cancel_left before.
 
 -- ---- what is said
 
--- the same was told to the same end: what was written is the same, and so is the state
-record SaysOnce (written other : List ℕ) (now then : State) : Type 0 where
+-- the same was told to the same end: what was written is the same, and so are the state and the requests that are told of
+record SaysOnce (written other : List ℕ) (now then : State) (asked also : List AnsweredRequest) : Type 0 where
   says : written ≡ other
   leaves : now ≡ then
+  asks : asked ≡ also
 
 module _ (limits : Limits) (channel : ℕ) (first : State) where
   abbrev R : Rules Told ℕ
   R = server_rules limits channel
 
-  abbrev Says : List Told → End ℕ → List DateTime → List ℕ → State → Type 0
-  Says told end moments written now = (written ≡ said channel first told end moments) × ((left channel first told moments).state ≡ now) × AreAsked told moments
+  abbrev Says : List Told → End ℕ → List DateTime → List ℕ → State → List AnsweredRequest → Type 0
+  Says told end moments written now asked = (written ≡ said channel first told end moments) × ((left channel first told moments).state ≡ now) × (asked ≡ requests channel first told moments) × AreAsked told moments
 
-  says_more : (told : List Told) (end : End ℕ) (ms more : List DateTime) (written other : List ℕ) (now then : State) → Says told end ms written now → Says told end (ms ++ more) other then → SaysOnce written other now then
-  says_more told end ms more written other now then a b = record {
-    says = a.0 ∙ (sym (said-more channel first told end ms more a.2.0) ∙ sym b.0);
-    leaves = sym a.1 ∙ (sym (ap (λ (c : Course). c.state) (left-more channel first told ms more a.2.0)) ∙ b.1);
+  says_more : (told : List Told) (end : End ℕ) (ms more : List DateTime) (written other : List ℕ) (now then : State) (asked also : List AnsweredRequest) → Says told end ms written now asked → Says told end (ms ++ more) other then also → SaysOnce written other now then asked also
+  says_more told end ms more written other now then asked also a b = record {
+    says = a.0 ∙ (sym (said-more channel first told end ms more a.3.0) ∙ sym b.0);
+    leaves = sym a.1 ∙ (sym (ap (λ (c : Course). c.state) (left-more channel first told ms more a.3.0)) ∙ b.1);
+    asks = a.2 ∙ (sym (requests-more channel first told ms more a.3.0) ∙ sym b.2);
   }
 
-  says_once : (told : List Told) (end : End ℕ) (ms ns : List DateTime) (written other : List ℕ) (now then : State) → Begins ms ns → Says told end ms written now → Says told end ns other then → SaysOnce written other now then
-  says_once told end ms ns written other now then (First more e) a b = says_more told end ms more written other now then a (subst (λ (ts : List DateTime). Says told end ts other then) e b)
-  says_once told end ms ns written other now then (Second more e) a b =
-      let s = says_more told end ns more other written then now b (subst (λ (ts : List DateTime). Says told end ts written now) e a) in
-      record { says = sym s.says; leaves = sym s.leaves }
+  says_once : (told : List Told) (end : End ℕ) (ms ns : List DateTime) (written other : List ℕ) (now then : State) (asked also : List AnsweredRequest) → Begins ms ns → Says told end ms written now asked → Says told end ns other then also → SaysOnce written other now then asked also
+  says_once told end ms ns written other now then asked also (First more e) a b = says_more told end ms more written other now then asked also a (subst (λ (ts : List DateTime). Says told end ts other then also) e b)
+  says_once told end ms ns written other now then asked also (Second more e) a b =
+      let s = says_more told end ns more other written then now also asked b (subst (λ (ts : List DateTime). Says told end ts written now asked) e a) in
+      record { says = sym s.says; leaves = sym s.leaves; asks = sym s.asks }
 
   -- these octets are answered so, to this end
-  record Reads (whole : List ℕ) (end : End ℕ) (moments : List DateTime) (written : List ℕ) (now : State) : Type 0 where
+  record Reads (whole : List ℕ) (end : End ℕ) (moments : List DateTime) (written : List ℕ) (now : State) (asked : List AnsweredRequest) : Type 0 where
     frames : List Frame
     rest : List ℕ
     run : Run (server_rules limits channel) whole frames rest end
-    says : Says (events (server_rules limits channel) frames) end moments written now
+    says : Says (events (server_rules limits channel) frames) end moments written now asked
 
-  reads_once : (whole : List ℕ) (end last : End ℕ) (ms ns : List DateTime) (written other : List ℕ) (now then : State) → Begins ms ns → (a : Reads whole end ms written now) → (b : Reads whole last ns other then) → (end ≡ last) × SaysOnce written other now then
-  reads_once whole end last ms ns written other now then begin a b =
+  reads_once : (whole : List ℕ) (end last : End ℕ) (ms ns : List DateTime) (written other : List ℕ) (now then : State) (asked also : List AnsweredRequest) → Begins ms ns → (a : Reads whole end ms written now asked) → (b : Reads whole last ns other then also)
+      → (end ≡ last) × SaysOnce written other now then asked also
+  reads_once whole end last ms ns written other now then asked also begin a b =
       let same = unique R whole a.frames b.frames a.rest b.rest end last a.run b.run in (
         same.ends,
-        says_once (events R b.frames) last ms ns written other now then begin
-            (subst (λ (e : End ℕ). Says (events R b.frames) e ms written now) same.ends (subst (λ (fs : List Frame). Says (events R fs) end ms written now) same.frames a.says)) b.says,
+        says_once (events R b.frames) last ms ns written other now then asked also begin
+            (subst (λ (e : End ℕ). Says (events R b.frames) e ms written now asked) same.ends (subst (λ (fs : List Frame). Says (events R fs) end ms written now asked) same.frames a.says)) b.says,
       )
 
-  of_answered : (octets written : List ℕ) (moments : List DateTime) (now : State) (frames : List Frame) (rest : List ℕ) (end : End ℕ) → AnsweredTo limits channel first octets written moments now frames rest end → Reads octets end moments written now
-  of_answered octets written moments now frames rest end a = record { frames = frames; rest = rest; run = a.run; says = (a.written_is, a.state_is, a.asked) }
+  of_answered : (octets written : List ℕ) (moments : List DateTime) (now : State) (asked : List AnsweredRequest) (frames : List Frame) (rest : List ℕ) (end : End ℕ) → AnsweredTo limits channel first octets written moments now frames rest end
+      → TellsAll limits channel first moments frames asked → Reads octets end moments written now asked
+  of_answered octets written moments now asked frames rest end a tells = record { frames = frames; rest = rest; run = a.run; says = (a.written_is, a.state_is, tells, a.asked) }
 
-  of_ended : (octets more whole written : List ℕ) (moments : List DateTime) (now : State) (end : End ℕ) → (end ≡ Going → ⊥) → octets ++ more ≡ whole → Answered limits channel first octets written moments now end → Reads whole end moments written now
-  of_ended octets more whole written moments now end not_going e a = record {
+  of_ended : (octets more whole written : List ℕ) (moments : List DateTime) (now : State) (asked : List AnsweredRequest) (end : End ℕ) → (end ≡ Going → ⊥) → octets ++ more ≡ whole → (a : Answered limits channel first octets written moments now end)
+      → TellsAll limits channel first moments a.frames asked → Reads whole end moments written now asked
+  of_ended octets more whole written moments now asked end not_going e a tells = record {
     frames = a.frames;
     rest = a.rest ++ more;
     run = subst (λ (o : List ℕ). Run (server_rules limits channel) o a.frames (a.rest ++ more) end) e (ends_stay (server_rules limits channel) octets more a.frames a.rest end not_going a.to.run);
-    says = (a.to.written_is, a.to.state_is, a.to.asked);
+    says = (a.to.written_is, a.to.state_is, tells, a.to.asked);
   }
 
   -- what serving comes to, where no call of the line failed and memory was had
-  data Came (whole : List ℕ) (moments : List DateTime) (written : List ℕ) (now : State) (a : Result Ending ServeFault) : Type 0 where
-    Closes : a ≡ Ok ending.Closed → Reads whole Over moments written now → Came whole moments written now a
-    Refuses : (code : StatusCode) → a ≡ Ok (ending.Refused code) → Reads whole (Stopped code.code) moments written now → Came whole moments written now a
-    RunsOut : a ≡ Ok ending.NoClose → (r : Reads whole Going moments written now) → IsClean r.frames r.rest → Came whole moments written now a
-    IsCut : a ≡ Ok ending.Cut → (r : Reads whole Going moments written now) → (IsClean r.frames r.rest → ⊥) → Came whole moments written now a
+  data Came (whole : List ℕ) (moments : List DateTime) (written : List ℕ) (now : State) (asked : List AnsweredRequest) (a : Result Ending ServeFault) : Type 0 where
+    Closes : a ≡ Ok ending.Closed → Reads whole Over moments written now asked → Came whole moments written now asked a
+    Refuses : (code : StatusCode) → a ≡ Ok (ending.Refused code) → Reads whole (Stopped code.code) moments written now asked → Came whole moments written now asked a
+    RunsOut : a ≡ Ok ending.NoClose → (r : Reads whole Going moments written now asked) → IsClean r.frames r.rest → Came whole moments written now asked a
+    IsCut : a ≡ Ok ending.Cut → (r : Reads whole Going moments written now asked) → (IsClean r.frames r.rest → ⊥) → Came whole moments written now asked a
 
   over_not_going : ◌≡◌ {A = End ℕ} Over Going → ⊥
   over_not_going e = cc
@@ -126,35 +137,41 @@ module _ (limits : Limits) (channel : ℕ) (first : State) where
   stopped_not_going : (code : ℕ) → ◌≡◌ {A = End ℕ} (Stopped code) Going → ⊥
   stopped_not_going code e = cc
 
-  of_run_out : (octets more whole written : List ℕ) (moments : List DateTime) (now : State) (P : List Frame → List ℕ → Type 0) → octets ++ more ≡ whole → (r : RanOut limits channel first octets written moments now more P) → Reads whole Going moments written now
-  of_run_out octets more whole written moments now P e r = record {
+  of_run_out : (octets more whole written : List ℕ) (moments : List DateTime) (now : State) (asked : List AnsweredRequest) (P : List Frame → List ℕ → Type 0) → octets ++ more ≡ whole → (r : RanOut limits channel first octets written moments now more P)
+      → TellsAll limits channel first moments r.frames asked → Reads whole Going moments written now asked
+  of_run_out octets more whole written moments now asked P e r tells = record {
     frames = r.frames;
     rest = r.rest;
     run = subst (λ (o : List ℕ). Run (server_rules limits channel) o r.frames r.rest Going) (sym (append-nil octets) ∙ (ap (λ (t : List ℕ). octets ++ t) (sym r.none) ∙ e)) r.to.run;
-    says = (r.to.written_is, r.to.state_is, r.to.asked);
+    says = (r.to.written_is, r.to.state_is, tells, r.to.asked);
   }
 
-  came : (octets more whole written : List ℕ) (moments : List DateTime) (now : State) (a : Result Ending ServeFault) → octets ++ more ≡ whole → ServesBy a limits channel first octets written moments now more → line_failed a ≡ false → ¬ (IsErrOf a fault.OutOfMemory) → length whole < 0xFFFF_FFFF_FFFF_FFFF
-      → Came whole moments written now a
+  -- what serving comes to, and the requests that are told of
+  pub record Comes (a : Result Ending ServeFault) (octets written : List ℕ) (moments : List DateTime) (now : State) (more : List ℕ) (asked : List AnsweredRequest) : Type 0 where
+    pub to : ServesBy a limits channel first octets written moments now more
+    pub tells : TellsBy a limits channel first octets written moments now more to asked
+
+  came : (octets more whole written : List ℕ) (moments : List DateTime) (now : State) (asked : List AnsweredRequest) (a : Result Ending ServeFault) → octets ++ more ≡ whole → Comes a octets written moments now more asked → line_failed a ≡ false → ¬ (IsErrOf a fault.OutOfMemory)
+      → length whole < 0xFFFF_FFFF_FFFF_FFFF → Came whole moments written now asked a
   unfolding of_run_out
-  came octets more whole written moments now (Ok ending.Closed) e h unbroken had few = Closes refl (of_ended octets more whole written moments now Over over_not_going e h)
-  came octets more whole written moments now (Ok (ending.Refused code)) e h unbroken had few = Refuses code refl (of_ended octets more whole written moments now (Stopped code.code) (stopped_not_going code.code) e h)
-  came octets more whole written moments now (Ok ending.NoClose) e h unbroken had few = RunsOut refl (of_run_out octets more whole written moments now IsClean e h) h.stands
-  came octets more whole written moments now (Ok ending.Cut) e h unbroken had few = IsCut refl (of_run_out octets more whole written moments now (λ frames rest. IsClean frames rest → ⊥) e h) h.stands
-  came octets more whole written moments now (Err fault.Read) e h unbroken had few = absurd cc
-  came octets more whole written moments now (Err (fault.Write n)) e h unbroken had few = absurd cc
-  came octets more whole written moments now (Err fault.OutOfMemory) e h unbroken had few = absurd (had refl)
-  came octets more whole written moments now (Err fault.TooLong) e h unbroken had few = absurd (omega (arith, h.1, few, ap length e, length-append octets more))
+  came octets more whole written moments now asked (Ok ending.Closed) e h unbroken had few = Closes refl (of_ended octets more whole written moments now asked Over over_not_going e h.to h.tells)
+  came octets more whole written moments now asked (Ok (ending.Refused code)) e h unbroken had few = Refuses code refl (of_ended octets more whole written moments now asked (Stopped code.code) (stopped_not_going code.code) e h.to h.tells)
+  came octets more whole written moments now asked (Ok ending.NoClose) e h unbroken had few = RunsOut refl (of_run_out octets more whole written moments now asked IsClean e h.to h.tells) h.to.stands
+  came octets more whole written moments now asked (Ok ending.Cut) e h unbroken had few = IsCut refl (of_run_out octets more whole written moments now asked (λ frames rest. IsClean frames rest → ⊥) e h.to h.tells) h.to.stands
+  came octets more whole written moments now asked (Err fault.Read) e h unbroken had few = absurd cc
+  came octets more whole written moments now asked (Err (fault.Write n)) e h unbroken had few = absurd cc
+  came octets more whole written moments now asked (Err fault.OutOfMemory) e h unbroken had few = absurd (had refl)
+  came octets more whole written moments now asked (Err fault.TooLong) e h unbroken had few = absurd (omega (arith, h.to.1, few, ap length e, length-append octets more))
 
   -- ---- two answers are one
 
-  record Once (a b : Result Ending ServeFault) (written other : List ℕ) (now then : State) : Type 0 where
+  record Once (a b : Result Ending ServeFault) (written other : List ℕ) (now then : State) (asked also : List AnsweredRequest) : Type 0 where
     answers : a ≡ b
-    same : SaysOnce written other now then
+    same : SaysOnce written other now then asked also
 
-  module _ (whole : List ℕ) (ms ns : List DateTime) (written other : List ℕ) (now then : State) (begin : Begins ms ns) where
-    end_twice : (end last : End ℕ) → Reads whole end ms written now → Reads whole last ns other then → (end ≡ last) × SaysOnce written other now then
-    end_twice end last a b = reads_once whole end last ms ns written other now then begin a b
+  module _ (whole : List ℕ) (ms ns : List DateTime) (written other : List ℕ) (now then : State) (asked also : List AnsweredRequest) (begin : Begins ms ns) where
+    end_twice : (end last : End ℕ) → Reads whole end ms written now asked → Reads whole last ns other then also → (end ≡ last) × SaysOnce written other now then asked also
+    end_twice end last a b = reads_once whole end last ms ns written other now then asked also begin a b
 
     over_stopped : (code : ℕ) → ◌≡◌ {A = End ℕ} Over (Stopped code) → ⊥
     over_stopped code e = cc
@@ -162,17 +179,17 @@ module _ (limits : Limits) (channel : ℕ) (first : State) where
     one_code : (code why : StatusCode) → ◌≡◌ {A = End ℕ} (Stopped code.code) (Stopped why.code) → code ≡ why
     one_code code why e = same_code code why cc
 
-    clean_once : (a : Reads whole Going ms written now) (b : Reads whole Going ns other then) → IsClean a.frames a.rest → IsClean b.frames b.rest
+    clean_once : (a : Reads whole Going ms written now asked) (b : Reads whole Going ns other then also) → IsClean a.frames a.rest → IsClean b.frames b.rest
     clean_once a b h =
         let same = unique R whole a.frames b.frames a.rest b.rest Going Going a.run b.run in
         subst (λ (r : List ℕ). IsClean b.frames r) same.rests (subst (λ (fs : List Frame). IsClean fs a.rest) same.frames h)
 
-    clean_back : (a : Reads whole Going ms written now) (b : Reads whole Going ns other then) → IsClean b.frames b.rest → IsClean a.frames a.rest
+    clean_back : (a : Reads whole Going ms written now asked) (b : Reads whole Going ns other then also) → IsClean b.frames b.rest → IsClean a.frames a.rest
     clean_back a b h =
         let same = unique R whole a.frames b.frames a.rest b.rest Going Going a.run b.run in
         subst (λ (r : List ℕ). IsClean a.frames r) (sym same.rests) (subst (λ (fs : List Frame). IsClean fs b.rest) (sym same.frames) h)
 
-    both : (a b : Result Ending ServeFault) → Came whole ms written now a → Came whole ns other then b → Once a b written other now then
+    both : (a b : Result Ending ServeFault) → Came whole ms written now asked a → Came whole ns other then also b → Once a b written other now then asked also
     both a b (Closes p r) (Closes q t) = record { answers = p ∙ sym q; same = (end_twice Over Over r t).1 }
     both a b (Closes p r) (Refuses code q t) = absurd (over_stopped code.code (end_twice Over (Stopped code.code) r t).0)
     both a b (Closes p r) (RunsOut q t clean) = absurd (over_not_going (end_twice Over Going r t).0)
@@ -202,6 +219,17 @@ write_is (Err (fault.Write n)) h = (n, refl)
 write_is (Err fault.OutOfMemory) h = absurd h
 write_is (Err fault.TooLong) h = absurd h
 
+-- ---- two services
+
+-- a line was served so: what Serves says, and the requests that were told of
+pub record ServedSo {M : Type 0} (limits : Limits) (channel : ℕ) (gives : M → ℤ → M → Type 0) (first : State) (moments : M) (result : Result Ending ServeFault) (now : State) (later : M) (asked : List AnsweredRequest) (before after : Traffic) : Type 0 where
+  pub read : List ℕ
+  pub written : List ℕ
+  pub ticks : List ℤ
+  pub moved : Moves read written before after
+  pub given : Gives gives moments ticks later
+  pub comes : Comes limits channel first result read written (map moment_of ticks) now (after.coming []) asked
+
 -- two services of alike lines are one
 pub record ServedOnce (a b : Result Ending ServeFault) (line after other later : Option Traffic) (now then : State) : Type 0 where
   pub answers : a ≡ b
@@ -209,10 +237,19 @@ pub record ServedOnce (a b : Result Ending ServeFault) (line after other later :
   pub state : now ≡ then
 
 module _ {M : Type 0} (gives : M → ℤ → M → Type 0) (once : (m x y : M) (t u : ℤ) → gives m t x → gives m u y → (t ≡ u) × (x ≡ y))
-    (limits : Limits) (channel : ℕ) (first : State) (before last other_last : M) (a b : Result Ending ServeFault) (now then : State)
+    (limits : Limits) (channel : ℕ) (first : State) (before last other_last : M) (a b : Result Ending ServeFault) (now then : State) (asked also : List AnsweredRequest)
     (line after other later : Option Traffic) (coming : List ℕ) (lines : LinesAlike line other coming) (had : HadMemory fault.OutOfMemory a b)
-    (p : WasTold (Serves limits channel gives first before a now last) lines.first after) (q : WasTold (Serves limits channel gives first before b then other_last) lines.second later) where
-  begin : Begins (map moment_of p.holds.ticks) (map moment_of q.holds.ticks)
+    (p : WasTold (ServedSo limits channel gives first before a now last asked) lines.first after) (q : WasTold (ServedSo limits channel gives first before b then other_last also) lines.second later) where
+  abbrev Served : Type 0
+  Served = ServedOnce a b line after other later now then × (asked ≡ also)
+
+  abbrev ms : List DateTime
+  ms = map moment_of p.holds.ticks
+
+  abbrev ns : List DateTime
+  ns = map moment_of q.holds.ticks
+
+  begin : Begins ms ns
   begin = moments_begin p.holds.ticks q.holds.ticks (given_once gives once before last other_last p.holds.ticks q.holds.ticks p.holds.given q.holds.given)
 
   parts : p.holds.read ++ p.after.coming [] ≡ coming
@@ -228,55 +265,110 @@ module _ {M : Type 0} (gives : M → ℤ → M → Type 0) (once : (m x y : M) (
     second = wrote other later lines.second q.after p.holds.written lines.second_is q.is (q.holds.moved.1 ∙ ap (λ (t : List ℕ). lines.second.written ++ t) (sym e));
   }
 
-  unfailed : line_failed a ≡ false → line_failed b ≡ false → ServedOnce a b line after other later now then
+  unfailed : line_failed a ≡ false → line_failed b ≡ false → Served
   unfailed f g =
-      let x = came limits channel first p.holds.read (p.after.coming []) coming p.holds.written (map moment_of p.holds.ticks) now a parts p.holds.comes_to f had.first lines.few in
-      let y = came limits channel first q.holds.read (q.after.coming []) coming q.holds.written (map moment_of q.holds.ticks) then b parts_too q.holds.comes_to g had.second lines.few in
-      let o = both limits channel first coming (map moment_of p.holds.ticks) (map moment_of q.holds.ticks) p.holds.written q.holds.written now then begin a b x y in
-      record { answers = o.answers; written = wrote_alike o.same.says; state = o.same.leaves }
+      let x = came limits channel first p.holds.read (p.after.coming []) coming p.holds.written ms now asked a parts p.holds.comes f had.first lines.few in
+      let y = came limits channel first q.holds.read (q.after.coming []) coming q.holds.written ns then also b parts_too q.holds.comes g had.second lines.few in
+      let o = both limits channel first coming ms ns p.holds.written q.holds.written now then asked also begin a b x y in
+      (record { answers = o.answers; written = wrote_alike o.same.says; state = o.same.leaves }, o.same.asks)
 
-  at_read : IsErrOf a fault.Read → IsErrOf b fault.Read → ComeAlike after later → ServedOnce a b line after other later now then
+  -- the first of both was answered so
+  comes_by : (r : Result Ending ServeFault) → a ≡ r → Comes limits channel first r p.holds.read p.holds.written ms now (p.after.coming []) asked
+  comes_by r e = subst (λ (z : Result Ending ServeFault). Comes limits channel first z p.holds.read p.holds.written ms now (p.after.coming []) asked) e p.holds.comes
+
+  -- the second, of these octets read and these written
+  comes_too : (r : Result Ending ServeFault) (read written : List ℕ) → b ≡ r → q.holds.read ≡ read → q.holds.written ≡ written → Comes limits channel first r read written ns then (q.after.coming []) also
+  comes_too r read written e d w =
+      subst (λ (z : Result Ending ServeFault). Comes limits channel first z read written ns then (q.after.coming []) also) e
+      (subst (λ (o : List ℕ). Comes limits channel first b o written ns then (q.after.coming []) also) d
+      (subst (λ (o : List ℕ). Comes limits channel first b q.holds.read o ns then (q.after.coming []) also) w q.holds.comes))
+
+  at_read : IsErrOf a fault.Read → IsErrOf b fault.Read → ComeAlike after later → Served
   at_read f g c =
       let e = err_is a fault.Read f in
       let d = err_is b fault.Read g in
       let same : p.holds.read ≡ q.holds.read = append_cancel_right p.holds.read q.holds.read (p.after.coming []) (parts ∙ (sym parts_too ∙ ap (λ (t : List ℕ). q.holds.read ++ t) (sym (come after later p.after q.after p.is q.is c)))) in
-      let x : Answered limits channel first p.holds.read p.holds.written (map moment_of p.holds.ticks) now Going = subst (λ (z : Result Ending ServeFault). ServesBy z limits channel first p.holds.read p.holds.written (map moment_of p.holds.ticks) now (p.after.coming [])) e p.holds.comes_to in
-      let y : Answered limits channel first q.holds.read q.holds.written (map moment_of q.holds.ticks) then Going = subst (λ (z : Result Ending ServeFault). ServesBy z limits channel first q.holds.read q.holds.written (map moment_of q.holds.ticks) then (q.after.coming [])) d q.holds.comes_to in
-      let r = of_answered limits channel first p.holds.read p.holds.written (map moment_of p.holds.ticks) now x.frames x.rest Going x.to in
-      let t = of_answered limits channel first p.holds.read q.holds.written (map moment_of q.holds.ticks) then y.frames y.rest Going (subst (λ (o : List ℕ). AnsweredTo limits channel first o q.holds.written (map moment_of q.holds.ticks) then y.frames y.rest Going) (sym same) y.to) in
-      let o = (reads_once limits channel first p.holds.read Going Going (map moment_of p.holds.ticks) (map moment_of q.holds.ticks) p.holds.written q.holds.written now then begin r t).1 in
-      record { answers = e ∙ sym d; written = wrote_alike o.says; state = o.leaves }
+      let x = comes_by (Err fault.Read) e in
+      let y = comes_too (Err fault.Read) p.holds.read q.holds.written d (sym same) refl in
+      let r = of_answered limits channel first p.holds.read p.holds.written ms now asked x.to.frames x.to.rest Going x.to.to x.tells in
+      let t = of_answered limits channel first p.holds.read q.holds.written ns then also y.to.frames y.to.rest Going y.to.to y.tells in
+      let o = (reads_once limits channel first p.holds.read Going Going ms ns p.holds.written q.holds.written now then asked also begin r t).1 in
+      (record { answers = e ∙ sym d; written = wrote_alike o.says; state = o.leaves }, o.asks)
 
-  at_write : IsWriteFault a → IsWriteFault b → WroteAlike line after other later → ServedOnce a b line after other later now then
+  at_write : IsWriteFault a → IsWriteFault b → WroteAlike line after other later → Served
   at_write f g w =
       let e = write_is a f in
       let d = write_is b g in
       let mine : p.holds.written ≡ w.sent = wrote_same line after lines.first p.after w.sent p.holds.written lines.first_is p.is p.holds.moved.1 w.first in
       let theirs : q.holds.written ≡ w.sent = wrote_same other later lines.second q.after w.sent q.holds.written lines.second_is q.is q.holds.moved.1 w.second in
-      let x = subst (λ (z : Result Ending ServeFault). ServesBy z limits channel first p.holds.read p.holds.written (map moment_of p.holds.ticks) now (p.after.coming [])) e.1 p.holds.comes_to in
-      let y = subst (λ (z : Result Ending ServeFault). ServesBy z limits channel first q.holds.read q.holds.written (map moment_of q.holds.ticks) then (q.after.coming [])) d.1 q.holds.comes_to in
-      let count : e.0 ≡ d.0 = x.2 ∙ (ap (λ (o : List ℕ). min (length o) greatest) (mine ∙ sym theirs) ∙ sym y.2) in
-      let z = subst (λ (o : List ℕ). FailsBy (fault.Write d.0) limits channel first q.holds.read o (map moment_of q.holds.ticks) then) (theirs ∙ sym mine) y in
-      let same = broken_once limits channel first coming p.holds.written (map moment_of p.holds.ticks) (map moment_of q.holds.ticks) begin p.holds.read (p.after.coming []) q.holds.read (q.after.coming []) now then parts parts_too x.0 x.1 z.0 z.1 in
-      record { answers = e.1 ∙ (ap (λ (n : ℕ). Err (fault.Write n)) count ∙ sym d.1); written = w; state = same.1 }
+      let x = comes_by (Err (fault.Write e.0)) e.1 in
+      let y = comes_too (Err (fault.Write d.0)) q.holds.read p.holds.written d.1 refl (theirs ∙ sym mine) in
+      let r : BrokeOff limits channel first coming p.holds.written ms now asked = record { read = p.holds.read; ahead = p.after.coming []; parts = parts; broken = x.to.0; some = x.to.1; tells = x.tells } in
+      let t : BrokeOff limits channel first coming p.holds.written ns then also = record { read = q.holds.read; ahead = q.after.coming []; parts = parts_too; broken = y.to.0; some = y.to.1; tells = y.tells } in
+      let o = broken_once limits channel first coming p.holds.written ms ns now then asked also begin r t in
+      (record { answers = e.1 ∙ (ap (λ (n : ℕ). Err (fault.Write n)) (x.to.2 ∙ sym y.to.2) ∙ sym d.1); written = w; state = o.1 }, o.0)
 
-  by_faults : ServesAlike a b line after other later → ServedOnce a b line after other later now then
+  by_faults : ServesAlike a b line after other later → Served
   by_faults (NoFault f g) = unfailed f g
   by_faults (AtRead f g c) = at_read f g c
   by_faults (AtWrite f g w) = at_write f g w
 
-pub served_twice : {M : Type 0} (gives : M → ℤ → M → Type 0) → ((m x y : M) (t u : ℤ) → gives m t x → gives m u y → (t ≡ u) × (x ≡ y)) → (limits : Limits) (channel : ℕ) (first : State) (before last other_last : M) (a b : Result Ending ServeFault) (now then : State)
-    (line after other later : Option Traffic) (coming : List ℕ) → LinesAlike line other coming → HadMemory fault.OutOfMemory a b → ServesAlike a b line after other later
-    → WhereTold (Serves limits channel gives first before a now last) line after → WhereTold (Serves limits channel gives first before b then other_last) other later → ServedOnce a b line after other later now then
-served_twice gives once limits channel first before last other_last a b now then line after other later coming lines had faults h k =
-    by_faults gives once limits channel first before last other_last a b now then line after other later coming lines had
-    (where_told (Serves limits channel gives first before a now last) line after lines.first lines.first_is h)
-    (where_told (Serves limits channel gives first before b then other_last) other later lines.second lines.second_is k) faults
+-- ---- with a watch, and without
 
-pub served_alike : {M : Type 0} (gives : M → ℤ → M → Type 0) → ((m x y : M) (t u : ℤ) → gives m t x → gives m u y → (t ≡ u) × (x ≡ y)) → (limits : Limits) (channel : ℕ) (one two : State) (before again last other_last : M) (a b : Result Ending ServeFault) (now then : State)
-    (line after other later : Option Traffic) (coming : List ℕ) → one ≡ two → before ≡ again → LinesAlike line other coming → HadMemory fault.OutOfMemory a b → ServesAlike a b line after other later
-    → WhereTold (Serves limits channel gives (begun one) before a now last) line after → WhereTold (Serves limits channel gives (begun two) again b then other_last) other later → ServedOnce a b line after other later now then
-served_alike {M = M} gives once limits channel one two before again last other_last a b now then line after other later coming e d lines had faults h k =
-    served_twice gives once limits channel (begun one) before last other_last a b now then line after other later coming lines had faults h
-    (subst (λ (s : State). WhereTold (Serves limits channel gives (begun s) before b then other_last) other later) (sym e)
-    (subst (λ (m : M). WhereTold (Serves limits channel gives (begun two) m b then other_last) other later) (sym d) k))
+-- there are requests that serving tells of, where memory was had
+noted_of : (limits : Limits) (channel : ℕ) (first : State) (a : Result Ending ServeFault) (octets written : List ℕ) (moments : List DateTime) (now : State) (more : List ℕ) (h : ServesBy a limits channel first octets written moments now more) → ¬ (IsErrOf a fault.OutOfMemory)
+    → (asked : List AnsweredRequest) × TellsBy a limits channel first octets written moments now more h asked
+noted_of limits channel first (Ok ending.Closed) octets written moments now more h had = (requests channel first (events (server_rules limits channel) h.frames) moments, refl)
+noted_of limits channel first (Ok (ending.Refused code)) octets written moments now more h had = (requests channel first (events (server_rules limits channel) h.frames) moments, refl)
+noted_of limits channel first (Ok ending.NoClose) octets written moments now more h had = (requests channel first (events (server_rules limits channel) h.frames) moments, refl)
+noted_of limits channel first (Ok ending.Cut) octets written moments now more h had = (requests channel first (events (server_rules limits channel) h.frames) moments, refl)
+noted_of limits channel first (Err fault.Read) octets written moments now more h had = (requests channel first (events (server_rules limits channel) h.frames) moments, refl)
+noted_of limits channel first (Err (fault.Write n)) octets written moments now more h had = (requests channel first (h.0.before ++ told_at h.0.word) moments, refl)
+noted_of limits channel first (Err fault.OutOfMemory) octets written moments now more h had = absurd (had refl)
+noted_of limits channel first (Err fault.TooLong) octets written moments now more h had = (requests channel first (events (server_rules limits channel) h.0.frames) moments, refl)
+
+-- the requests are told in turn
+noted_led : {M W : Type 0} (gives : M → ℤ → M → Type 0) (notes : W → AnsweredRequest → W → Type 0) (a b : M × W) (es : List Event) → Leads (Happens gives notes) a es b → Leads notes a.1 (noted_in es) b.1
+noted_led {M = M} {W = W} gives notes a b [] l = ap (λ (x : M × W). x.1) l
+noted_led {W = W} gives notes a b (Given t ∷ es) l = subst (λ (w : W). Leads notes w (noted_in es) b.1) l.1.1 (noted_led gives notes l.0 b es l.2)
+noted_led gives notes a b (Noted r ∷ es) l = (l.0.1, l.1.0, noted_led gives notes l.0 b es l.2)
+
+module _ {M : Type 0} (gives : M → ℤ → M → Type 0) (limits : Limits) (channel : ℕ) (first : State) (a : Result Ending ServeFault) (now : State) (line after : Option Traffic) (traffic : Traffic) (is : line ≡ Some traffic) where
+  served_so : (before last : M) → ¬ (IsErrOf a fault.OutOfMemory) → WhereTold (Serves limits channel gives first before a now last) line after
+      → (asked : List AnsweredRequest) × WasTold (ServedSo limits channel gives first before a now last asked) traffic after
+  served_so before last had h =
+      let w = where_told (Serves limits channel gives first before a now last) line after traffic is h in
+      let s = w.holds in
+      let r = noted_of limits channel first a s.read s.written (map moment_of s.ticks) now (w.after.coming []) s.comes_to had in
+      (r.0, record { after = w.after; is = w.is; holds = record { read = s.read; written = s.written; ticks = s.ticks; moved = s.moved; given = s.given; comes = record { to = s.comes_to; tells = r.1 } } })
+
+  watched_so : {W : Type 0} (notes : W → AnsweredRequest → W → Type 0) (before last : M × W) → WhereTold (ServesTelling limits channel gives notes first before a now last) line after
+      → (asked : List AnsweredRequest) × WasTold (ServedSo limits channel gives first before.0 a now last.0 asked) traffic after × Leads notes before.1 asked last.1
+  watched_so notes before last h =
+      let w = where_told (ServesTelling limits channel gives notes first before a now last) line after traffic is h in
+      let s = w.holds in (
+        noted_in s.happened,
+        record { after = w.after; is = w.is; holds = record { read = s.read; written = s.written; ticks = ticks_in s.happened; moved = s.moved; given = given-led gives notes before last s.happened s.led; comes = record { to = s.comes_to; tells = s.tells } } },
+        noted_led gives notes before last s.happened s.led,
+      )
+
+module _ {M : Type 0} (gives : M → ℤ → M → Type 0) (once : (m x y : M) (t u : ℤ) → gives m t x → gives m u y → (t ≡ u) × (x ≡ y))
+    (limits : Limits) (channel : ℕ) (one two : State) (before again last other_last : M) (a b : Result Ending ServeFault) (now then : State)
+    (line after other later : Option Traffic) (coming : List ℕ) (same : one ≡ two) (alike : before ≡ again) (lines : LinesAlike line other coming) (had : HadMemory fault.OutOfMemory a b) (faults : ServesAlike a b line after other later) where
+  pub served_alike : WhereTold (Serves limits channel gives (begun one) before a now last) line after → WhereTold (Serves limits channel gives (begun two) again b then other_last) other later → ServedOnce a b line after other later now then
+  served_alike h k =
+      let p = served_so gives limits channel (begun one) a now line after lines.first lines.first_is before last had.first h in
+      let q = served_so gives limits channel (begun one) b then other later lines.second lines.second_is before other_last had.second
+      (subst (λ (s : State). WhereTold (Serves limits channel gives (begun s) before b then other_last) other later) (sym same)
+      (subst (λ (m : M). WhereTold (Serves limits channel gives (begun two) m b then other_last) other later) (sym alike) k)) in
+      (by_faults gives once limits channel (begun one) before last other_last a b now then p.0 q.0 line after other later coming lines had p.1 q.1 faults).0
+
+  pub watched_alike : {W V : Type 0} (notes : W → AnsweredRequest → W → Type 0) (others : V → AnsweredRequest → V → Type 0) (w x : W) (v y : V) → WhereTold (ServesTelling limits channel gives notes (begun one) (before, w) a now (last, x)) line after
+      → WhereTold (ServesTelling limits channel gives others (begun two) (again, v) b then (other_last, y)) other later → ServedOnce a b line after other later now then × ToldAlike notes others w x v y
+  watched_alike {V = V} notes others w x v y h k =
+      let p = watched_so gives limits channel (begun one) a now line after lines.first lines.first_is notes (before, w) (last, x) h in
+      let q = watched_so gives limits channel (begun one) b then other later lines.second lines.second_is others (before, v) (other_last, y)
+      (subst (λ (s : State). WhereTold (ServesTelling limits channel gives others (begun s) (before, v) b then (other_last, y)) other later) (sym same)
+      (subst (λ (m : M). WhereTold (ServesTelling limits channel gives others (begun two) (m, v) b then (other_last, y)) other later) (sym alike) k)) in
+      let o = by_faults gives once limits channel (begun one) before last other_last a b now then p.0 q.0 line after other later coming lines had p.1 q.1 faults in
+      (o.0, record { requests = p.0; first = p.2; second = subst (λ (rs : List AnsweredRequest). Leads others v rs y) (sym o.1) q.2 })

@@ -53,7 +53,7 @@ pub use scripts::parse_script_twice;
 pub use servers::{
     server_advance_twice, server_reply_twice, server_take_twice, server_tells_twice,
 };
-pub use serving::serve_twice;
+pub use serving::{serve_twice, serve_watched_twice};
 pub use shown::{
     code_name_twice, push_base64_twice, push_code_as_twice, push_code_twice, push_encoded_twice,
     push_string_twice, push_variant_twice, push_wide_pattern_twice, type_name_twice,

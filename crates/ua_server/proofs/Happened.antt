@@ -73,7 +73,7 @@ told-more notes w v u l m = (l.0 ++ m.0, leads-then notes w v u l.0 m.0 l.1 m.1)
 
 -- ---- the moments alone
 
-given-led : {M W : Type 0} (gives : M → ℤ → M → Type 0) (notes : W → AnsweredRequest → W → Type 0) (a b : M × W) (es : List Event) → Leads (Happens gives notes) a es b → Gives gives a.0 (ticks_in es) b.0
+pub given-led : {M W : Type 0} (gives : M → ℤ → M → Type 0) (notes : W → AnsweredRequest → W → Type 0) (a b : M × W) (es : List Event) → Leads (Happens gives notes) a es b → Gives gives a.0 (ticks_in es) b.0
 given-led {M = M} {W = W} gives notes a b [] l = ap (λ (x : M × W). x.0) l
 given-led gives notes a b (Given t ∷ es) l = (l.0.0, l.1.0, given-led gives notes l.0 b es l.2)
 given-led {M = M} gives notes a b (Noted r ∷ es) l = subst (λ (m : M). Gives gives m (ticks_in es) b.0) l.1.1 (given-led gives notes l.0 b es l.2)

@@ -18,6 +18,6 @@ mod Handling
 mod Stepped
 mod Clean
 mod Octets
-mod Happened
-mod RequestsInParts
+pub mod Happened
+pub mod RequestsInParts
 pub mod SaidInParts
