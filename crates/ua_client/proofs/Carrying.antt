@@ -6,7 +6,7 @@ use Rattle.std.proofs.lemmas.List.{length-append, length-drop, take-append-drop}
 use Rattle.ua_octets.specs.Format.{Extends}
 use Rattle.ua_channel.specs.Line.{Traffic, Hands, Takes, WhereTold}
 use Rattle.ua_channel.specs.declared.line.LineFault.{LineFault}
-use Rattle.ua_client.specs.Carried.{Carries, WritesFront, IsAtEnd}
+use Rattle.ua_client.specs.Carried.{Carries, IsAtEnd, IsPart, WritesFront}
 
 -- ---- nothing, and one behind another
 
@@ -106,6 +106,10 @@ pub sends-front : (octets : List ℕ) (a b : Option Traffic) → WhereTold (Writ
 sends-front octets (Some a) (Some b) h = (h.sent, h.front, h.carried, λ some. h.fewer)
 sends-front octets (Some a) None h = absurd h
 sends-front octets None b h = ([], record { more = octets; parts = refl }, h, λ some. some)
+
+-- a part of octets of which there are some was written
+pub sends-part : (octets : List ℕ) (a b : Option Traffic) → 0 < length octets → WhereTold (WritesFront octets) a b → (sent : List ℕ) × IsPart sent octets × WhereTold (Carries [] sent) a b
+sends-part octets a b some h = let front = sends-front octets a b h in (front.0, (front.1, front.3 some), front.2)
 
 -- ---- a whole write, part by part
 

@@ -1,6 +1,6 @@
 -- What a close sends.
-use Rattle.std.specs.Prelude.{◌≡◌, ℕ, List, [], Option, Ok, Err}
-use Rattle.std.proofs.Common.{refl, sym, ◌∙◌, ap}
+use Rattle.std.specs.Prelude.{◌≡◌, ℕ, ◌<◌, List, [], length, Option, Ok, Err}
+use Rattle.std.proofs.Common.{refl, sym, ◌∙◌, ap, subst}
 use Rattle.ua_builtin.specs.declared.date_time.DateTime.{DateTime}
 use Rattle.ua_chunk.specs.declared.lane.Lane.{Lane}
 use Rattle.ua_frame.specs.Frames.{frame_octets}
@@ -13,11 +13,11 @@ use Rattle.ua_channel.specs.Received.{Received, received}
 use Rattle.ua_channel.specs.declared.client.channel.ClientChannel.{ClientChannel}
 use Rattle.ua_channel.specs.declared.client.phase.Phase.{Phase}
 use Rattle.ua_channel.specs.declared.client.phase.Phase.TheVariants.{Waiting, Agreed, Open, Done}
-use Rattle.ua_client.specs.Carried.{Carries, WritesFront}
+use Rattle.ua_client.specs.Carried.{Carries, IsPart, WritesFront}
 use Rattle.ua_client.specs.Client.{closing_by, closing_at, Closes}
 use Rattle.ua_client.specs.Site.{Site, At, id_at, lane_behind}
 use Rattle.ua_client.specs.declared.fault.ClientFault.TheVariants as fault
-use Rattle.ua_client.proofs.Carrying.{carried-nothing, sends-front}
+use Rattle.ua_client.proofs.Carrying.{carried-nothing, sends-part}
 use Rattle.ua_client.proofs.Lanes.{lane-talks}
 
 closing-in : (limits : Limits) (p : Phase) (before : Received) (asked : List Asking) (number : ℕ) (moment : DateTime) (out : List ℕ)
@@ -39,14 +39,14 @@ pub closes-whole : {A : Type 0} (x : ClientChannel) (moment : DateTime) (out : L
     → Closes moment x before after (Ok done)
 closes-whole x moment out before after done h w = record { sent = out; carried = w; answers = λ s at. closing-is x s moment out at h }
 
-pub closes-front : {A : Type 0} (x : ClientChannel) (moment : DateTime) (out : List ℕ) (before after : Option Traffic) → IsClosing (phase_of x) (next_of x) moment out → WhereTold (WritesFront out) before after
+pub closes-front : {A : Type 0} (x : ClientChannel) (moment : DateTime) (out : List ℕ) (before after : Option Traffic) → IsClosing (phase_of x) (next_of x) moment out → 0 < length out → WhereTold (WritesFront out) before after
     → Closes {A = A} moment x before after (Err fault.Write)
-closes-front x moment out before after h w =
-    let front = sends-front out before after w in
+closes-front x moment out before after h some w =
+    let front = sends-part out before after some w in
     record {
       sent = front.0;
       carried = front.2;
-      answers = λ s at. record { more = front.1.more; parts = sym (closing-is x s moment out at h) ∙ front.1.parts };
+      answers = λ s at. subst (IsPart front.0) (closing-is x s moment out at h) front.1;
     }
 
 pub closes-nothing : {A : Type 0} (x : ClientChannel) (moment : DateTime) (t : Option Traffic) → Closes {A = A} moment x t t (Err fault.OutOfMemory)

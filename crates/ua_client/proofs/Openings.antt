@@ -1,5 +1,5 @@
 -- How a connection is opened.
-use Rattle.std.specs.Prelude.{◌≡◌, ℕ, ◌+◌, ◌≤◌, Bool, true, false, ◌||◌, List, [], ◌∷◌, ◌++◌, length, Option, Result, Ok, Err}
+use Rattle.std.specs.Prelude.{◌≡◌, ℕ, ◌<◌, ◌+◌, ◌≤◌, Bool, true, false, ◌||◌, List, [], ◌∷◌, ◌++◌, length, Option, Result, Ok, Err}
 use Rattle.std.proofs.Common.{refl, sym, ◌∙◌, ap, subst, inl, inr, append_assoc, append-nil, arith}
 use Rattle.std.proofs.lemmas.List.{length-append}
 use Rattle.std.specs.List.{list_any}
@@ -14,13 +14,13 @@ use Rattle.ua_channel.specs.Line.{Traffic, WhereTold}
 use Rattle.ua_channel.specs.declared.client.channel.ClientChannel.{ClientChannel}
 use Rattle.ua_channel.specs.declared.client.event.ClientEvent.{ClientEvent}
 use Rattle.ua_channel.specs.declared.client.event.ClientEvent.TheVariants as event
-use Rattle.ua_client.specs.Carried.{Carries, WritesFront}
+use Rattle.ua_client.specs.Carried.{Carries, IsPart, WritesFront}
 use Rattle.ua_client.specs.Hearing.{channel_of, BreaksOff, Keeps, Moves, Says, Starved, Hears, HearsAt, StopsAt, most_reads}
 use Rattle.ua_client.specs.Opening.{is_agreed, is_opened, EndsWithout, GoesWithout, GoesUntil, StarvesWithout, WaitsAt, Waits, any_done, hello_octets, open_octets, BreaksOpening, IsOpened, Opens}
 use Rattle.ua_client.specs.declared.connection.Connection.{Connection}
 use Rattle.ua_client.specs.declared.fault.ClientFault.{ClientFault}
 use Rattle.ua_client.specs.declared.fault.ClientFault.TheVariants as fault
-use Rattle.ua_client.proofs.Carrying.{carried-nothing, carried-then, carried-as, sends-front}
+use Rattle.ua_client.proofs.Carrying.{carried-nothing, carried-then, carried-as, sends-part}
 use Rattle.ua_client.proofs.Greetings.{IsGreeting, greeting}
 use Rattle.ua_client.proofs.Hearings.{keeps-all, keeps-then, moves-behind, moves-from, moves-writing, GoesOnBehind}
 
@@ -316,15 +316,15 @@ opens-nothing moment x t = record {
 }
 
 -- the HEL was not written whole
-pub opens-unwritten : {A : Type 0} (moment : DateTime) (x : Connection) (hello : List ℕ) (before after : Option Traffic) → hello ≡ hello_octets (limits_of (channel_of x)) (url_of (channel_of x)) → WhereTold (WritesFront hello) before after
+pub opens-unwritten : {A : Type 0} (moment : DateTime) (x : Connection) (hello : List ℕ) (before after : Option Traffic) → hello ≡ hello_octets (limits_of (channel_of x)) (url_of (channel_of x)) → 0 < length hello → WhereTold (WritesFront hello) before after
     → Opens {A = A} moment x x before after (Err fault.Write)
-opens-unwritten moment x hello before after is h =
-    let front = sends-front hello before after h in
+opens-unwritten moment x hello before after is some h =
+    let front = sends-part hello before after some h in
     record {
       sent = front.0;
       moves = moves-writing x x front.0 before after refl front.2;
       keeps = keeps-all x;
-      answers = λ g. inl (record { more = front.1.more; parts = sym is ∙ front.1.parts }, refl);
+      answers = λ g. inl (subst (IsPart front.0) is front.1, refl);
       stops = tt;
     }
 
@@ -391,9 +391,9 @@ module _ (moment : DateTime) (x mid : Connection) (hello : List ℕ) (a b c : Op
     both-sent g = ap (λ (o : List ℕ). o ++ opening) is ∙ ap (λ (o : List ℕ). hello_octets (limits_of (channel_of x)) (url_of (channel_of x)) ++ o) (opening-is g)
 
     -- the OPN was not written whole
-    pub opens-unasked : {A : Type 0} → GoesOnBehind → (d : Option Traffic) → WhereTold (WritesFront opening) c d → Opens {A = A} moment x mid a d (Err fault.Write)
-    opens-unasked goes_on d k =
-        let front = sends-front opening c d k in
+    pub opens-unasked : {A : Type 0} → GoesOnBehind → (d : Option Traffic) → 0 < length opening → WhereTold (WritesFront opening) c d → Opens {A = A} moment x mid a d (Err fault.Write)
+    opens-unasked goes_on d some k =
+        let front = sends-part opening c d some k in
         let m : Moves x mid (hello ++ front.0) a d = moves-behind x mid mid hello front.0 a c d (sent-first x mid hello a b c w h.moves)
         (moves-writing mid mid front.0 c d refl front.2) in
         record {
@@ -405,7 +405,7 @@ module _ (moment : DateTime) (x mid : Connection) (hello : List ℕ) (a b c : Op
               inr (
                 front.0,
                 ap (λ (o : List ℕ). o ++ front.0) is,
-                record { more = front.1.more; parts = sym (opening-is g) ∙ front.1.parts },
+                subst (IsPart front.0) (opening-is g) front.1,
                 (t.0, subst (λ (o : List ℕ). GoesTelling (channel_of mid) [] o [] (Agreed t.0)) (sym (append-nil h.moves.taken)) t.1),
               );
           stops = tt;

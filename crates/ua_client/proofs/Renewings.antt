@@ -1,5 +1,5 @@
 -- How the token of a channel is renewed.
-use Rattle.std.specs.Prelude.{◌≡◌, ◌⊎◌, ℕ, ◌+◌, ◌≤◌, nat_le, Bool, true, false, is_some, List, [], ◌∷◌, ◌++◌, length, Option, Some, None, Result, Ok, Err, IfErr}
+use Rattle.std.specs.Prelude.{◌≡◌, ◌⊎◌, ℕ, ◌<◌, ◌+◌, ◌≤◌, nat_le, Bool, true, false, is_some, List, [], ◌∷◌, ◌++◌, length, Option, Some, None, Result, Ok, Err, IfErr}
 use Rattle.std.proofs.Common.{refl, sym, ◌∙◌, ap, subst, inl, inr, append_assoc, arith}
 use Rattle.std.proofs.lemmas.List.{length-append}
 use Rattle.ua_builtin.specs.Reasons.{first_reason}
@@ -28,7 +28,7 @@ use Rattle.ua_channel.specs.declared.client.phase.Phase.{Phase}
 use Rattle.ua_channel.specs.declared.client.phase.Phase.TheVariants as phase
 use Rattle.ua_channel.proofs.Askings.{asked_in-push, renewals-push}
 use Rattle.ua_channel.proofs.ClientReadings.{stands_once}
-use Rattle.ua_client.specs.Carried.{Carries, WritesFront}
+use Rattle.ua_client.specs.Carried.{Carries, IsPart, WritesFront}
 use Rattle.ua_client.specs.Hearing.{channel_of, is_hearing_fault, untaken_of, most_reads, Keeps, Moves, StopsAt}
 use Rattle.ua_client.specs.Opening.{is_opened, any_done, GoesUntil, IsOpened, WaitsAt, Waits}
 use Rattle.ua_client.specs.Renewing.{is_renewed, IsSettled, IsRefusal, renewal_refusal, refused_by, of_renew_fault, renewal_by, renewal_at, asks_renewed, IsRenewed, RenewsAt, Renews}
@@ -36,7 +36,7 @@ use Rattle.ua_client.specs.Site.{Site, At, id_at, lane_behind}
 use Rattle.ua_client.specs.declared.connection.Connection.{Connection}
 use Rattle.ua_client.specs.declared.fault.ClientFault.{ClientFault}
 use Rattle.ua_client.specs.declared.fault.ClientFault.TheVariants as fault
-use Rattle.ua_client.proofs.Carrying.{carried-nothing, sends-front}
+use Rattle.ua_client.proofs.Carrying.{carried-nothing, sends-part}
 use Rattle.ua_client.proofs.Hearings.{moves-from, moves-writing, GoesOnBehind}
 use Rattle.ua_client.proofs.Lanes.{lane-talks}
 use Rattle.ua_client.proofs.Openings.{Tests, any-left, sent-first}
@@ -266,15 +266,15 @@ settled-more s heard token before octets number h =
 
 module _ (moment : DateTime) (x mid new : Connection) (id : ℕ) (out : List ℕ) (asked : Asks moment (channel_of x) (channel_of mid) id out) (untaken : untaken_of mid ≡ untaken_of x) (a b c : Option Traffic) where
   -- the OPN was not written whole
-  pub renews-unwritten : {A : Type 0} → new ≡ mid → WhereTold (WritesFront out) a c → Renews {A = A} moment x new a c (Err fault.Write)
-  renews-unwritten same h =
-      let front = sends-front out a c h in
+  pub renews-unwritten : {A : Type 0} → new ≡ mid → 0 < length out → WhereTold (WritesFront out) a c → Renews {A = A} moment x new a c (Err fault.Write)
+  renews-unwritten same some h =
+      let front = sends-part out a c some h in
       record {
         sent = front.0;
         moves = moves-writing x new front.0 a c (ap untaken_of same ∙ untaken) front.2;
         same = subst (λ (z : Connection). SameClient (channel_of x) (channel_of z)) (sym same) asked.same;
         judged = λ s at settled. sym (none-refused moment (channel_of x) (channel_of mid) id out asked s at settled);
-        answers = λ s at settled. (record { more = front.1.more; parts = sym (out-is moment (channel_of x) (channel_of mid) id out asked s at) ∙ front.1.parts }, refl);
+        answers = λ s at settled. (subst (IsPart front.0) (out-is moment (channel_of x) (channel_of mid) id out asked s at) front.1, refl);
         stops = tt;
       }
 

@@ -9,6 +9,10 @@ pub record Carries (got sent : List ℕ) (before after : Traffic) : Type 0 where
   pub coming : (more : List ℕ) → before.coming (sent ++ more) ≡ got ++ after.coming more
   pub written : after.written ≡ before.written ++ sent
 
+-- a beginning of these octets, and not all of them
+abbrev pub IsPart : List ℕ → List ℕ → Type 0
+IsPart sent octets = Extends sent octets × (length sent < length octets)
+
 -- nothing was read, and a beginning of these octets was written, not all of them
 pub record WritesFront (octets : List ℕ) (before after : Traffic) : Type 0 where
   pub sent : List ℕ

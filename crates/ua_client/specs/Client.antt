@@ -1,6 +1,5 @@
 -- A client: when it is done, where it stands, how it is opened and closed.
 use Rattle.std.specs.Prelude.{◌≡◌, ℕ, Bool, true, false, List, [], Option, Some, None, Result, Ok, Err}
-use Rattle.ua_octets.specs.Format.{Extends}
 use Rattle.ua_builtin.specs.declared.date_time.DateTime.{DateTime}
 use Rattle.ua_frame.specs.Frames.{frame_octets}
 use Rattle.ua_frame.specs.declared.limits.Limits.{Limits}
@@ -10,7 +9,7 @@ use Rattle.ua_channel.specs.ClientSends.{close_frame}
 use Rattle.ua_channel.specs.Line.{Traffic, WhereTold}
 use Rattle.ua_channel.specs.declared.client.channel.ClientChannel.{ClientChannel}
 use Rattle.ua_client.specs.Site.{Site, At, id_at, lane_behind}
-use Rattle.ua_client.specs.Carried.{Carries}
+use Rattle.ua_client.specs.Carried.{Carries, IsPart}
 use Rattle.ua_client.specs.Hearing.{channel_of, untaken_of}
 use Rattle.ua_client.specs.Opening.{Opens}
 use Rattle.ua_client.specs.declared.client.Client.{Client}
@@ -88,10 +87,10 @@ closing_by (Some lane) number id moment = frame_octets (close_frame lane.channel
 abbrev pub closing_at : Site → DateTime → List ℕ
 closing_at s moment = closing_by (lane_behind s.before) s.number (id_at s) moment
 
--- what a close writes: the CLO, or behind a fault a beginning of it
+-- what a close writes: the CLO, or behind a fault a part of it, or none of it
 abbrev pub ClosesAt : {A : Type 0} → Site → DateTime → List ℕ → Result A ClientFault → Type 0
 ClosesAt s moment sent (Ok done) = sent ≡ closing_at s moment
-ClosesAt s moment sent (Err fault.Write) = Extends sent (closing_at s moment)
+ClosesAt s moment sent (Err fault.Write) = IsPart sent (closing_at s moment)
 ClosesAt s moment sent (Err fault.OutOfMemory) = sent ≡ []
 ClosesAt s moment sent (Err other) = ⊥
 

@@ -2,7 +2,6 @@
 -- (OPC 10000-6, 6.7 and 7.1).
 use Rattle.std.specs.Prelude.{◌≡◌, ◌⊎◌, ◌++◌, ℕ, Bool, true, false, List, [], ◌∷◌, Option, Result, Ok, Err, IfErr}
 use Rattle.std.specs.List.{list_any}
-use Rattle.ua_octets.specs.Format.{Extends}
 use Rattle.ua_builtin.specs.declared.date_time.DateTime.{DateTime}
 use Rattle.ua_frame.specs.Frames.{frame_octets}
 use Rattle.ua_frame.specs.declared.ack.Ack.{Ack}
@@ -14,6 +13,7 @@ use Rattle.ua_channel.specs.ClientTold.{Told, Why, ours, peers}
 use Rattle.ua_channel.specs.ClientTold.Told.{Agreed, Opened, Answered, GaveUp, Renewed}
 use Rattle.ua_channel.specs.Line.{Traffic}
 use Rattle.ua_channel.specs.declared.client.channel.ClientChannel.{ClientChannel}
+use Rattle.ua_client.specs.Carried.{IsPart}
 use Rattle.ua_client.specs.Hearing.{channel_of, is_hearing_fault, most_reads, BreaksOff, Keeps, Moves, Starved, StopsAt}
 use Rattle.ua_client.specs.declared.connection.Connection.{Connection}
 use Rattle.ua_client.specs.declared.fault.ClientFault.{ClientFault}
@@ -110,12 +110,12 @@ BreaksWaiting hello opening new sent taken f =
     ((sent ≡ hello) × BreaksOff f new [] taken [])
     ⊎ ((sent ≡ hello ++ opening) × ((ack : Ack) × BreaksOff f new [] taken (Agreed ack ∷ [])))
 
--- a write failed: a beginning of the HEL was sent, and nothing was taken; or the HEL and a beginning of the OPN, behind the ACK, which is
--- all that was taken
+-- a write failed: a part of the HEL was sent, and nothing was taken; or the HEL and a part of the OPN, behind the ACK, which is all that was
+-- taken
 abbrev pub BreaksSending : List ℕ → List ℕ → ClientChannel → List ℕ → List ℕ → Type 0
 BreaksSending hello opening new sent taken =
-    (Extends sent hello × (taken ≡ []))
-    ⊎ ((part : List ℕ) × (sent ≡ hello ++ part) × Extends part opening × ((ack : Ack) × GoesTelling new [] taken [] (Agreed ack)))
+    (IsPart sent hello × (taken ≡ []))
+    ⊎ ((part : List ℕ) × (sent ≡ hello ++ part) × IsPart part opening × ((ack : Ack) × GoesTelling new [] taken [] (Agreed ack)))
 
 -- a connection was not opened: the line failed to write; or memory was refused for the HEL, when nothing was sent and taken; or the wait
 -- broke off

@@ -2,7 +2,6 @@
 -- 6.7.2).
 use Rattle.std.specs.Prelude.{◌≡◌, ◌⊎◌, ◌<◌, ◌≤◌, ◌++◌, nat_le, ℕ, Bool, true, false, List, [], ◌∷◌, length, Option, Some, None, Result, Ok, Err}
 use Rattle.std.specs.List.{AllByRecursion, filter, list_any}
-use Rattle.ua_octets.specs.Format.{Extends}
 use Rattle.ua_builtin.specs.Reasons.{first_reason}
 use Rattle.ua_builtin.specs.declared.date_time.DateTime.{DateTime}
 use Rattle.ua_frame.specs.Frames.{frame_octets}
@@ -21,6 +20,7 @@ use Rattle.ua_channel.specs.Received.{latest}
 use Rattle.ua_channel.specs.declared.client.channel.ClientChannel.{ClientChannel}
 use Rattle.ua_channel.specs.declared.client.fault.AskFault.{AskFault}
 use Rattle.ua_channel.specs.declared.client.fault.AskFault.TheVariants as ask_fault
+use Rattle.ua_client.specs.Carried.{IsPart}
 use Rattle.ua_client.specs.Hearing.{channel_of, most_reads, Moves, StopsAt}
 use Rattle.ua_client.specs.Opening.{is_opened, any_done, WaitsAt}
 use Rattle.ua_client.specs.Site.{Site, At, id_at, lane_behind}
@@ -117,7 +117,7 @@ BreaksRenewing s moment new sent taken f = (sent ≡ renewal_at s moment) × Wai
 -- what becomes of a renewal there: what was sent and taken, and where the channel then stands
 abbrev pub RenewsAt : {A : Type 0} → Site → DateTime → ClientChannel → List ℕ → List ℕ → Result A ClientFault → Type 0
 RenewsAt s moment new sent taken (Ok done) = (sent ≡ renewal_at s moment) × ((t : Site) × IsRenewed new s t taken)
-RenewsAt s moment new sent taken (Err fault.Write) = Extends sent (renewal_at s moment) × (taken ≡ [])
+RenewsAt s moment new sent taken (Err fault.Write) = IsPart sent (renewal_at s moment) × (taken ≡ [])
 RenewsAt s moment new sent taken (Err fault.OutOfMemory) = ((sent ≡ []) × (taken ≡ [])) ⊎ BreaksRenewing s moment new sent taken fault.OutOfMemory
 RenewsAt s moment new sent taken (Err fault.TooManyTokens) = (sent ≡ []) × (taken ≡ [])
 RenewsAt s moment new sent taken (Err fault.Exhausted) = (sent ≡ []) × (taken ≡ [])

@@ -15,7 +15,7 @@ returns-in_default-clause-renews g c =
     renews-unwritten c.args.moment c.args.self.now mid mid c.in-Ok.asked.0 c.deref.result.now
     (asks-as c.args.moment c.args.self.now.channel c.renew.new.self c.in-Ok.asked.0 c.in-Ok.asked.1.items c.deref.result.now c.deref.ensures.value
     (record { refused = c.in-Ok.ensures.answers; sends = c.in-Ok.ensures.sent; stands = c.in-Ok.ensures.stands; same = c.in-Ok.ensures.same })) refl
-    (g.L.Line.traffic c.args.line.now) (g.L.Line.traffic c.args.line.now) (g.L.Line.traffic c.write_whole.new.line) refl c.in_default.ensures.written
+    (g.L.Line.traffic c.args.line.now) (g.L.Line.traffic c.args.line.now) (g.L.Line.traffic c.write_whole.new.line) refl c.in_default.ensures.some c.in_default.ensures.written
 
 pub returns-clause-renews : goal.returns-clause-renews
 returns-clause-renews g c =
