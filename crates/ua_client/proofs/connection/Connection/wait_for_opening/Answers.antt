@@ -42,24 +42,3 @@ loop-octets-preserved-in_default g c = record {
       c.args.reads.now c.loop-octets.reads c.hear.new.reads c.args.moment c.loop-octets.invariant.lacks c.client_goes_on.ensures c.in_ok-octets.field-0 (not-send c.in_ok-octets.field-0 c.in_default.not-Send) c.in_ok-octets.ensures.hears;
   same = c.in_ok-octets.ensures.failed ∙ c.loop-octets.invariant.same;
 }
-
-pub loop-octets-preserved-in_default-2 : goal.loop-octets-preserved-in_default-2
-loop-octets-preserved-in_default-2 g c = record {
-  lacks = lacks-more is_send is_agreed tests-agreed c.args.self.now c.loop-octets.self c.hear.new.self (g.L.Line.traffic c.args.line.now) (g.L.Line.traffic c.loop-octets.line) (g.L.Line.traffic c.hear.new.line)
-      c.args.reads.now c.loop-octets.reads c.hear.new.reads c.args.moment c.loop-octets.invariant.lacks c.client_goes_on.ensures c.in_ok-octets.field-0 (not-send c.in_ok-octets.field-0 c.in_default.not-Send) c.in_ok-octets.ensures.hears;
-  same = c.in_ok-octets.ensures.failed ∙ c.loop-octets.invariant.same;
-}
-
-pub loop-octets-preserved-in_default-3 : goal.loop-octets-preserved-in_default-3
-loop-octets-preserved-in_default-3 g c = record {
-  lacks = lacks-more is_send is_agreed tests-agreed c.args.self.now c.loop-octets.self c.hear.new.self (g.L.Line.traffic c.args.line.now) (g.L.Line.traffic c.loop-octets.line) (g.L.Line.traffic c.hear.new.line)
-      c.args.reads.now c.loop-octets.reads c.hear.new.reads c.args.moment c.loop-octets.invariant.lacks c.client_goes_on.ensures c.in_ok-octets.field-0 (not-send c.in_ok-octets.field-0 c.in_default.not-Send) c.in_ok-octets.ensures.hears;
-  same = c.in_ok-octets.ensures.failed ∙ c.loop-octets.invariant.same;
-}
-
-pub loop-octets-preserved-in_default-4 : goal.loop-octets-preserved-in_default-4
-loop-octets-preserved-in_default-4 g c = record {
-  lacks = lacks-more is_send is_agreed tests-agreed c.args.self.now c.loop-octets.self c.hear.new.self (g.L.Line.traffic c.args.line.now) (g.L.Line.traffic c.loop-octets.line) (g.L.Line.traffic c.hear.new.line)
-      c.args.reads.now c.loop-octets.reads c.hear.new.reads c.args.moment c.loop-octets.invariant.lacks c.client_goes_on.ensures c.in_ok-octets.field-0 (not-send c.in_ok-octets.field-0 c.in_default.not-Send) c.in_ok-octets.ensures.hears;
-  same = c.in_ok-octets.ensures.failed ∙ c.loop-octets.invariant.same;
-}

@@ -51,24 +51,3 @@ loop-preserved-in_default-2 g c = record {
       c.args.reads.now c.loop.reads c.hear.new.reads c.args.moment c.loop.invariant.lacks c.client_goes_on.ensures c.in_ok-hear.field-0 (not-token c.in_ok-hear.field-0 c.in_default.not-Renewed) c.in_ok-hear.ensures.hears;
   same = c.in_ok-hear.ensures.failed ∙ c.loop.invariant.same;
 }
-
-pub loop-preserved-in_default-3 : goal.loop-preserved-in_default-3
-loop-preserved-in_default-3 g c = record {
-  lacks = lacks-more is_token is_renewed tests-renewed c.args.self.now c.loop.self c.hear.new.self (g.L.Line.traffic c.args.line.now) (g.L.Line.traffic c.loop.line) (g.L.Line.traffic c.hear.new.line)
-      c.args.reads.now c.loop.reads c.hear.new.reads c.args.moment c.loop.invariant.lacks c.client_goes_on.ensures c.in_ok-hear.field-0 (not-token c.in_ok-hear.field-0 c.in_default.not-Renewed) c.in_ok-hear.ensures.hears;
-  same = c.in_ok-hear.ensures.failed ∙ c.loop.invariant.same;
-}
-
-pub loop-preserved-in_default-4 : goal.loop-preserved-in_default-4
-loop-preserved-in_default-4 g c = record {
-  lacks = lacks-more is_token is_renewed tests-renewed c.args.self.now c.loop.self c.hear.new.self (g.L.Line.traffic c.args.line.now) (g.L.Line.traffic c.loop.line) (g.L.Line.traffic c.hear.new.line)
-      c.args.reads.now c.loop.reads c.hear.new.reads c.args.moment c.loop.invariant.lacks c.client_goes_on.ensures c.in_ok-hear.field-0 (not-token c.in_ok-hear.field-0 c.in_default.not-Renewed) c.in_ok-hear.ensures.hears;
-  same = c.in_ok-hear.ensures.failed ∙ c.loop.invariant.same;
-}
-
-pub loop-preserved-in_default-5 : goal.loop-preserved-in_default-5
-loop-preserved-in_default-5 g c = record {
-  lacks = lacks-more is_token is_renewed tests-renewed c.args.self.now c.loop.self c.hear.new.self (g.L.Line.traffic c.args.line.now) (g.L.Line.traffic c.loop.line) (g.L.Line.traffic c.hear.new.line)
-      c.args.reads.now c.loop.reads c.hear.new.reads c.args.moment c.loop.invariant.lacks c.client_goes_on.ensures c.in_ok-hear.field-0 (not-token c.in_ok-hear.field-0 c.in_default.not-Renewed) c.in_ok-hear.ensures.hears;
-  same = c.in_ok-hear.ensures.failed ∙ c.loop.invariant.same;
-}
