@@ -1,12 +1,13 @@
 -- That a client reads what a server answers to its requests.
-use Rattle.std.proofs.Common.{◌≡◌, ◌⊎◌, inl, inr, ℕ, ◌+◌, ◌<◌, ◌≤◌, ◌^◌, Bool, true, false, not, ◌||◌, ◌&&◌, eqb, List, [], ◌∷◌, ◌++◌, Option, Some, length, refl, sym, ◌∙◌, ap, subst, arith, append-nil, append_assoc}
-use Rattle.std.specs.Prelude.{if◌then◌else◌}
+use Rattle.std.proofs.Common.{◌≡◌, ◌⊎◌, inl, inr, ℕ, ◌+◌, ◌<◌, ◌≤◌, ◌^◌, Bool, true, false, not, ◌||◌, ◌&&◌, eqb, List, [], ◌∷◌, ◌++◌, Option, Some, None, length, refl, sym, ◌∙◌, ap, subst, arith, append-nil, append_assoc}
+use Rattle.std.specs.Prelude.{cond, if◌then◌else◌}
 use Rattle.std.specs.List.{AllByRecursion}
 use Rattle.std.proofs.lemmas.Bool.{cases_lt, eq-eqb, eqb-true, ne_eqb}
 use Rattle.std.proofs.lemmas.List.Folds.{list_any-append}
 use Rattle.ua_builtin.specs.declared.date_time.DateTime.{DateTime}
 use Rattle.ua_frame.specs.declared.limits.Limits.{Limits}
 use Rattle.ua_chunk.specs.Cutting.{cut_refusal}
+use Rattle.ua_chunk.specs.declared.fault.CutFault.{CutFault}
 use Rattle.ua_chunk.specs.declared.lane.Lane.{Lane}
 use Rattle.ua_channel.specs.Agreement.{Agreement, agreement_of, lane_of}
 use Rattle.ua_channel.specs.Asks.{Placed, asked_in, is_in, next_id}
@@ -28,8 +29,10 @@ use Rattle.ua_server.specs.Said.{Course, behind_first, first_of, left_by, said_o
 use Rattle.ua_server.specs.State.{State}
 use Rattle.ua_server.proofs.SaidInParts.{course}
 use Rattle.ua_client.specs.Sent.{calls_at}
+use Rattle.ua_client.specs.Told.{is_told_of, told_of}
 use Rattle.ua_client.proofs.Askings.{next-calls}
-use Rattle.ua_served.specs.Together.{behind_calls, calls_told}
+use Rattle.ua_served.specs.Together.{behind_calls}
+use Rattle.ua_served.specs.Turns.{calls_told}
 use Rattle.ua_served.proofs.Ending.{LastChunk, replied_ends}
 
 -- ---- calls that are unanswered
@@ -122,10 +125,39 @@ all_held P n (m ∷ ms) h = all_by P (eqb m n && not (is_in n ms)) m ms (from_la
 
 -- ---- replies, one behind the other
 
--- what is said of so many calls is read, by a client whose calls go under this token
-pub record AreHeard (server client : Limits) (url : Option (List ℕ)) (channel : ℕ) (s : AtServer) (count token : ℕ) (asks : List Placed) (octets : List ℕ) (number : ℕ) (agreement : Option Agreement) : Type 0 where
+-- what a client is told of the answer to a call
+abbrev pub answer_told : Lane → ℕ → Response → Heard
+answer_told back id m = told_reply (cut_refusal back (response.canonical m)) id (response.canonical m)
+
+-- what it is told of the answers to calls of these bodies, under request ids from this one on: each in the state that those before it left
+abbrev pub answers_told : Lane → State → List DateTime → ℕ → List (List ℕ) → List Heard
+answers_told back state moments id [] = []
+answers_told back state moments id (body ∷ bodies) =
+    answer_told back id (answered state (first_of moments) body).1 ∷ answers_told back (answered state (first_of moments) body).0 (behind_first moments) (id + 1) bodies
+
+cond_some : (b : Bool) (t : Heard) (ts : List Heard) → 0 < length ts → 0 < length (cond b (t ∷ ts) ts)
+cond_some true t ts some = omega arith
+cond_some false t ts some = some
+
+first_told : (o : Option CutFault) (id k : ℕ) (body : List ℕ) (ts : List Heard) → k ≡ id → 0 < length (told_of k (told_reply o id body ∷ ts))
+first_told None id k body ts same = subst (λ (b : Bool). 0 < length (cond b (told_reply None id body ∷ told_of k ts) (told_of k ts))) (sym (eq-eqb id k (sym same))) (omega arith)
+first_told (Some fault) id k body ts same = subst (λ (b : Bool). 0 < length (cond b (told_reply (Some fault) id body ∷ told_of k ts) (told_of k ts))) (sym (eq-eqb id k (sym same))) (omega arith)
+
+-- something of each of the calls
+pub told_each : (back : Lane) (state : State) (moments : List DateTime) (id : ℕ) (bodies : List (List ℕ)) (k : ℕ) → id ≤ k → k < id + length bodies → 0 < length (told_of k (answers_told back state moments id bodies))
+told_each back state moments id [] k from to = absurd (omega (arith, from, to))
+told_each back state moments id (body ∷ bodies) k from to = by (λ later. told_each back given.0 (behind_first moments) (id + 1) bodies k (omega (arith, later)) (omega (arith, to))) (cases_lt id k)
+  where
+    given : State × Response
+    given = answered state (first_of moments) body
+
+    by : (id < k → 0 < length (told_of k (answers_told back given.0 (behind_first moments) (id + 1) bodies))) → ((id < k) ⊎ (k ≤ id)) → 0 < length (told_of k (answers_told back state moments id (body ∷ bodies)))
+    by rest (inl later) = cond_some (is_told_of k (answer_told back id given.1)) (answer_told back id given.1) (told_of k (answers_told back given.0 (behind_first moments) (id + 1) bodies)) (rest later)
+    by rest (inr here) = first_told (cut_refusal back (response.canonical given.1)) id k (response.canonical given.1) (answers_told back given.0 (behind_first moments) (id + 1) bodies) (omega (arith, from, here))
+
+-- what is said of so many calls is read, by a client whose calls go under this token, and tells it this
+pub record AreHeard (server client : Limits) (url : Option (List ℕ)) (channel : ℕ) (s : AtServer) (count token : ℕ) (asks : List Placed) (octets : List ℕ) (heard : List Heard) (number : ℕ) (agreement : Option Agreement) : Type 0 where
   pub at : AtClient
-  pub heard : List Heard
   pub reads : ClientReads client asks octets heard at
   pub in_step : AreInStep server client url channel s at
   pub number_is : number ≡ at.next
@@ -135,7 +167,7 @@ pub record AreHeard (server client : Limits) (url : Option (List ℕ)) (channel 
   pub ends : 0 < count → LastChunk client asks octets
 
 ends_behind : (client : Limits) (asks : List Placed) (octets : List ℕ) (channel : ℕ) (k : Course) (lane : Lane) (id : ℕ) (bodies : List (List ℕ)) → LastChunk client asks octets
-    → (0 < length bodies → LastChunk client asks (octets ++ said_of channel k (calls_told lane id bodies))) → LastChunk client asks (octets ++ said_of channel k (calls_told lane id bodies))
+    → (0 < length bodies → LastChunk client asks (octets ++ said_of channel k (calls_told lane.token id bodies))) → LastChunk client asks (octets ++ said_of channel k (calls_told lane.token id bodies))
 ends_behind client asks octets channel k lane id [] one rest = subst (LastChunk client asks) (sym (append-nil octets)) one
 ends_behind client asks octets channel k lane id (body ∷ bodies) one rest = rest (omega arith)
 
@@ -154,15 +186,15 @@ module _ (server client : Limits) (url : Option (List ℕ)) (channel : ℕ) (on 
 
   pub replies_read : (asks : List Placed) (octets : List ℕ) (told : List Heard) (c : AtClient) (state : State) (n : ℕ) (moments : List DateTime) (id : ℕ) (bodies : List (List ℕ))
       → ClientReads client asks octets told c → AreInStep server client url channel s c → n ≡ c.next → ((k : ℕ) → id ≤ k → k < id + length bodies → is_in k c.pending ≡ true) → id + length bodies ≤ 4294967295 → AllByRecursion (λ (token : ℕ). token ≤ s.issued) c.tokens
-      → AreHeard server client url channel s (length bodies) c.newest asks (octets ++ said_of channel (course state n moments (Some g)) (calls_told lane id bodies))
-      (left_by channel (course state n moments (Some g)) (calls_told lane id bodies)).number (left_by channel (course state n moments (Some g)) (calls_told lane id bodies)).agreement
+      → AreHeard server client url channel s (length bodies) c.newest asks (octets ++ said_of channel (course state n moments (Some g)) (calls_told lane.token id bodies)) (told ++ answers_told back state moments id bodies)
+      (left_by channel (course state n moments (Some g)) (calls_told lane.token id bodies)).number (left_by channel (course state n moments (Some g)) (calls_told lane.token id bodies)).agreement
   replies_read asks octets told c state n moments id [] r h next waiting few issued =
-      record { at = c; heard = told; reads = subst (λ (o : List ℕ). ClientReads client asks o told c) (sym (append-nil octets)) r; in_step = h; number_is = next; agreed = refl; issued = issued; newest = refl; ends = λ some. absurd (omega (arith, some)) }
+      record { at = c; reads = subst (λ (o : List ℕ). ClientReads client asks o (told ++ []) c) (sym (append-nil octets)) (subst (λ (t : List Heard). ClientReads client asks octets t c) (sym (append-nil told)) r); in_step = h; number_is = next; agreed = refl; issued = issued; newest = refl; ends = λ some. absurd (omega (arith, some)) }
   replies_read asks octets told c state n moments id (body ∷ bodies) r h next waiting few issued =
       let given : State × Response = answered state (first_of moments) body in
       let reply : List ℕ = response.canonical given.1 in
       let out : List ℕ × ℕ = replied back reply n id in
-      let heard : List Heard = told ++ told_reply (cut_refusal back reply) id reply ∷ [] in
+      let heard : List Heard = told ++ answer_told back id given.1 ∷ [] in
       let now : AtClient = with_reply c lane.token id out.1 in
       let one : ClientReads client asks (octets ++ out.0) heard now =
       subst (λ (m : ℕ). ClientReads client asks (octets ++ (replied back reply m id).0) heard (with_reply c lane.token id (replied back reply m id).1)) (sym next)
@@ -175,14 +207,16 @@ module _ (server client : Limits) (url : Option (List ℕ)) (channel : ℕ) (on 
       (λ k from to. kept_in id k c.pending (omega (arith, from)) (waiting k (omega (arith, from)) (omega (arith, to)))) (omega (arith, few)) (all_held (λ (token : ℕ). token ≤ s.issued) lane.token c.tokens issued) in
       record {
         at = rest.at;
-        heard = rest.heard;
-        reads = subst (λ (o : List ℕ). ClientReads client asks o rest.heard rest.at)
-            (append_assoc octets out.0 (said_of channel (course given.0 out.1 (behind_first moments) (Some g)) (calls_told lane (id + 1) bodies))) rest.reads;
+        reads =
+            subst (λ (t : List Heard). ClientReads client asks (octets ++ said_of channel (course state n moments (Some g)) (calls_told lane.token id (body ∷ bodies))) t rest.at)
+            (append_assoc told (answer_told back id given.1 ∷ []) (answers_told back given.0 (behind_first moments) (id + 1) bodies))
+            (subst (λ (o : List ℕ). ClientReads client asks o (heard ++ answers_told back given.0 (behind_first moments) (id + 1) bodies) rest.at)
+            (append_assoc octets out.0 (said_of channel (course given.0 out.1 (behind_first moments) (Some g)) (calls_told lane.token (id + 1) bodies))) rest.reads);
         in_step = rest.in_step;
         number_is = rest.number_is;
         agreed = rest.agreed;
         issued = rest.issued;
         newest = rest.newest;
-        ends = λ some. subst (LastChunk client asks) (append_assoc octets out.0 (said_of channel (course given.0 out.1 (behind_first moments) (Some g)) (calls_told lane (id + 1) bodies)))
+        ends = λ some. subst (LastChunk client asks) (append_assoc octets out.0 (said_of channel (course given.0 out.1 (behind_first moments) (Some g)) (calls_told lane.token (id + 1) bodies)))
             (ends_behind client asks (octets ++ out.0) channel (course given.0 out.1 (behind_first moments) (Some g)) lane (id + 1) bodies last rest.ends);
       }

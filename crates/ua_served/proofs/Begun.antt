@@ -40,10 +40,11 @@ use Rattle.ua_served.specs.Beginning.{Beginning}
 use Rattle.ua_served.specs.Course.Course.{Begun}
 use Rattle.ua_served.specs.Course.{opening_octets}
 use Rattle.ua_served.specs.Says.{said_to}
-use Rattle.ua_served.specs.Talking.{AreTalking, CanOpen, StaysTalking, Went, line_to}
+use Rattle.ua_served.specs.inside.Talking.{AreTalking, CanOpen, StaysTalking, Went, line_to}
 use Rattle.ua_served.specs.Together.{AreServing, opening_answer}
 use Rattle.ua_served.specs.Turns.{opening_told}
 use Rattle.ua_served.proofs.Ending.{frames_behind}
+use Rattle.ua_served.proofs.Lists.{no_more, split_last}
 use Rattle.ua_served.proofs.Opened.{answer_read, begin_together, opening_said}
 use Rattle.ua_served.proofs.Refused.{short_url}
 use Rattle.ua_served.proofs.Talks.{fronts, talking_as}
@@ -57,22 +58,6 @@ unfolding asked_in
 no_asks = refl
 
 -- ---- it took all that the server says of the opening
-
-no_more : (more : List ℕ) → length more ≡ 0 → more ≡ []
-no_more [] e = refl
-no_more (x ∷ more) e = absurd (omega (arith, e))
-
-same_next : {A : Type 0} (x y : A) (xs ys : List A) → x ∷ xs ≡ y ∷ ys → (x ≡ y) × (xs ≡ ys)
-same_next x y xs ys e = (cc, cc)
-
--- all but the last of a list, where something stands behind another
-split_last : {A : Type 0} (front fs gs : List A) (x g : A) → front ++ x ∷ [] ≡ fs ++ (g ∷ gs) → (middle : List A) × (front ≡ fs ++ middle)
-split_last front [] gs x g e = (front, refl)
-split_last [] (f ∷ fs) gs x g e = absurd (omega (arith, ap length e, length-append fs (g ∷ gs)))
-split_last (y ∷ front) (f ∷ fs) gs x g e =
-    let parts = same_next y f (front ++ x ∷ []) (fs ++ (g ∷ gs)) e in
-    let rest = split_last front fs gs x g parts.1 in
-    (rest.0, ap (λ z. z ∷ front) parts.0 ∙ ap (λ zs. f ∷ zs) rest.1)
 
 module _ (b : Beginning) (url : Option (List ℕ)) (x : ClientChannel) (octets : List ℕ) (moment : DateTime) (o : IsOpened x octets) (can : CanOpen b (limits_of x) url moment) (front : Extends octets (opening_answer b (limits_of x) url)) where
   abbrev opn : Frame
@@ -186,16 +171,18 @@ module _ (b : Beginning) (limits : Limits) (url : Option (List ℕ)) (moment : D
     got = o.opens.moves.got;
     carried = carried_so (opening_octets l url moment) sent_by;
     got_is = got_is;
-    limits_are = refl;
-    on = can.on;
-    settled = there.4;
-    at_server = with_token (greeted_at (hello_to l url));
-    at_client = opened_at (ack_to (hello_to l url) b.limits) b.channel 1 (next_number 1);
-    serving = serves;
-    tokens_are = refl;
-    newest_is = refl;
-    id_is = first_id;
-    few = omega arith;
+    served = record {
+      limits_are = refl;
+      on = can.on;
+      settled = there.4;
+      at_server = with_token (greeted_at (hello_to l url));
+      at_client = opened_at (ack_to (hello_to l url) b.limits) b.channel 1 (next_number 1);
+      serving = serves;
+      tokens_are = refl;
+      newest_is = refl;
+      id_is = first_id;
+      few = omega arith;
+    };
   }
 
   talks : AreTalking b limits url (opening_octets limits url moment ++ []) (opening_told b.limits limits url ++ []) 1 2 there.0 o.last first after

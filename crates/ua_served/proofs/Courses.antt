@@ -8,16 +8,14 @@ use Rattle.ua_frame.specs.declared.limits.Limits.{Limits}
 use Rattle.ua_channel.specs.Line.{Traffic, WhereTold}
 use Rattle.ua_channel.specs.ServerReads.{ServerCloses}
 use Rattle.ua_channel.specs.ServerTold.{Told, Opened, Closed}
-use Rattle.ua_channel.specs.declared.client.channel.ClientChannel.{ClientChannel}
 use Rattle.ua_services.specs.declared.request.Request.{Request}
 use Rattle.ua_server.specs.Said.{said}
 use Rattle.ua_server.specs.State.{State}
 use Rattle.ua_server.proofs.SaidInParts.{said-append, said-more}
-use Rattle.ua_client.specs.Calls.{Rounds}
-use Rattle.ua_client.specs.Calls.Rounds.{NoRound, OneRound}
 use Rattle.ua_client.specs.Carried.{Carries}
 use Rattle.ua_client.specs.Client.{Closes, IsReady, OpensClient, OpensNothing, closing_at, connection_of}
 use Rattle.ua_client.specs.Hearing.{channel_of, untaken_of}
+use Rattle.ua_client.specs.Kept.{CallsInto}
 use Rattle.ua_client.specs.Renewing.{IsRenewed, Renews, renewal_at}
 use Rattle.ua_client.specs.Site.{Site, id_at}
 use Rattle.ua_client.specs.declared.client.Client.{Client}
@@ -26,26 +24,20 @@ use Rattle.ua_client.specs.declared.fault.ClientFault.{ClientFault}
 use Rattle.ua_client.specs.declared.fault.ClientFault.TheVariants.{OutOfMemory}
 use Rattle.ua_client.specs.declared.reply.Reply.{Reply}
 use Rattle.ua_client.proofs.Carrying.{carried-as, carried-then}
+use Rattle.ua_client.proofs.Settled.{NonePending}
 use Rattle.ua_served.specs.Beginning.{Beginning}
 use Rattle.ua_served.specs.Course.{Converses, Course, Stays, asked_by, opening_octets}
 use Rattle.ua_served.specs.Course.Course.{Asked, Renewed}
 use Rattle.ua_served.specs.Kept.{Served, traffic_of}
 use Rattle.ua_served.specs.Says.{said_to, spent}
-use Rattle.ua_served.specs.Talking.{AreTalking, AsksAll, CanOpen, StaysTalking, Talked, Went, line_to}
+use Rattle.ua_served.specs.inside.Talking.{AreTalking, CanOpen, StaysTalking, Talked, Went, line_to}
 use Rattle.ua_served.specs.Turns.{conversation_told, id_behind, ids_behind, opening_told, token_behind, tokens_behind, turn_told, turns_told}
 use Rattle.ua_served.specs.declared.turn.Turn.{Turn}
 use Rattle.ua_served.proofs.Begun.{SettlesOpened, went_first}
 use Rattle.ua_served.proofs.Reaching.{closing_read}
 use Rattle.ua_served.proofs.Saying.{said_by_run, spent-append, spent-enough}
 use Rattle.ua_served.proofs.Staying.{said_there}
-use Rattle.ua_served.proofs.Talks.{got_on, talking_as, talks_renewed}
-
--- ---- octets
-
--- what rounds took
-rounds_octets : {c : ClientChannel} {s t : Site} {groups : List (List Request)} {sent taken : List ℕ} {replies : List Reply} → Rounds c s groups t sent taken replies → t.octets ≡ s.octets ++ taken
-rounds_octets {s = s} NoRound = sym (append-nil s.octets)
-rounds_octets {s = s} (OneRound {taken = taken} {part = part} group x r at a) = a.octets ∙ (ap (λ (o : List ℕ). o ++ part) (rounds_octets r) ∙ append_assoc s.octets taken part)
+use Rattle.ua_served.proofs.Talks.{got_on, rounds_octets, talking_as, talks_asked, talks_renewed}
 
 -- ---- what turns tell, with one turn more
 
@@ -92,8 +84,8 @@ module _ (b : Beginning) (limits : Limits) (url : Option (List ℕ)) (moment : D
       (carried-then was.got (opening ++ was.sent) got sent first now after was.carried carried)
 
   -- requests are asked
-  pub stays_asked : (t : Turn) (requests : List Request) → asked_by t ≡ Some requests → AsksAll requests x y now after had have → StaysTalking b limits url moment opened (turns ++ t ∷ []) y first after have
-  stays_asked t requests is c =
+  pub stays_asked : NonePending → (t : Turn) (requests : List Request) (done : Unit {0}) → asked_by t ≡ Some requests → CallsInto {A = Unit {0}} requests x y now after (Ok done) had have → StaysTalking b limits url moment opened (turns ++ t ∷ []) y first after have
+  stays_asked law t requests done is c =
       let a = c.answers was.site was.at was.settled in
       record {
         able = s.able;
@@ -109,7 +101,7 @@ module _ (b : Beginning) (limits : Limits) (url : Option (List ℕ)) (moment : D
           got_is = got_on was.got c.moves.got was.site.octets (untaken_of x) c.moves.taken (untaken_of y) was.got_is c.moves.parts ∙ ap (λ (o : List ℕ). o ++ untaken_of y) (sym (rounds_octets a.rounds));
         };
         talking = more_talking t (Some requests) is c.sent a.behind
-            (c.talking b limits url (opening ++ was.sent) (opening_told b.limits limits url ++ turns_told 1 2 turns) (tokens_behind 1 turns) (ids_behind 2 turns) was.site was.at was.settled first s.talking);
+            (talks_asked b limits url (opening ++ was.sent) (opening_told b.limits limits url ++ turns_told 1 2 turns) (tokens_behind 1 turns) (ids_behind 2 turns) was.site x first now s.talking y after c.sent c.moves c.same law requests c.added a);
       }
 
   -- the token is renewed
@@ -132,8 +124,8 @@ module _ (b : Beginning) (limits : Limits) (url : Option (List ℕ)) (moment : D
         };
         talking = more_talking t None is (renewal_at was.site moment) u
             (subst (λ (o : List ℕ). AreTalking b limits url ((opening ++ was.sent) ++ o) ((opening_told b.limits limits url ++ turns_told 1 2 turns) ++ Opened (ids_behind 2 turns) 0 (tokens_behind 1 turns + 1) 3600000 ∷ []) (tokens_behind 1 turns + 1) (ids_behind 2 turns + 1) u y first after) a.0
-            (talks_renewed b limits url (opening ++ was.sent) (opening_told b.limits limits url ++ turns_told 1 2 turns) (tokens_behind 1 turns) (ids_behind 2 turns) was.site x first now s.talking y after c.sent c.moves c.same u renewed.settled renewed.octets
-            moment s.able.dated s.able.answered (sym (c.judged was.site was.at was.settled)) a.0 renewed));
+            (talks_renewed b limits url (opening ++ was.sent) (opening_told b.limits limits url ++ turns_told 1 2 turns) (tokens_behind 1 turns) (ids_behind 2 turns) was.site x first now s.talking y after c.sent c.moves c.same
+            moment s.able.dated s.able.answered (sym (c.judged was.site was.at was.settled)) a.0 u renewed));
       }
 
 -- ---- the end
@@ -157,7 +149,7 @@ pub talked_all : (b : Beginning) (limits : Limits) (url : Option (List ℕ)) (mo
 talked_all b limits url moment turns x first now after replies w y later done s c =
     let opening : List ℕ = opening_octets limits url moment in
     let was = s.stays in
-    let t = s.talking in
+    let t = s.talking.served in
     let told : List Told = opening_told b.limits limits url ++ turns_told 1 2 turns in
     let sent_is : c.sent ≡ closing_at was.site moment = c.answers was.site was.at in
     let all : (opening ++ was.sent) ++ closing_at was.site moment ≡ opening ++ (was.sent ++ closing_at was.site moment) = append_assoc opening was.sent (closing_at was.site moment) in

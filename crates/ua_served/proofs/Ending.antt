@@ -95,7 +95,7 @@ last_of {A = A} x (y ∷ ys) =
     let l = last_of y ys in
     record { front = x ∷ l.front; last = l.last; parts = ap (λ (zs : List A). x ∷ zs) l.parts }
 
-all_last : {A : Type 0} (P : A → Type 0) (xs : List A) (y : A) → AllByRecursion P (xs ++ y ∷ []) → P y
+pub all_last : {A : Type 0} (P : A → Type 0) (xs : List A) (y : A) → AllByRecursion P (xs ++ y ∷ []) → P y
 all_last P [] y h = h.0
 all_last P (x ∷ xs) y h = all_last P xs y h.1
 

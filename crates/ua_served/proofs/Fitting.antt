@@ -13,7 +13,7 @@ use Rattle.ua_builtin.specs.declared.date_time.DateTime.{DateTime}
 use Rattle.ua_frame.specs.Messages.{ack, hello}
 use Rattle.ua_frame.specs.declared.limits.Limits.{Limits}
 use Rattle.ua_server.specs.State.{State}
-use Rattle.ua_served.specs.Talking.{CanOpen}
+use Rattle.ua_served.specs.inside.Talking.{CanOpen}
 
 -- ---- moments
 

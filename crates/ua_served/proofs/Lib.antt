@@ -1,4 +1,5 @@
 mod Further
+mod Lists
 mod Saying
 mod Stepped
 mod Pieces
@@ -11,8 +12,8 @@ mod Answering
 mod Staying
 mod RenewedTaken
 mod Renewed
+mod Rounds
 mod Talks
-mod Groups
 mod Refused
 mod Begun
 mod Courses

@@ -35,7 +35,8 @@ use Rattle.ua_client.specs.Renewing.{renewal_at, renewal_by, renewal_refusal}
 use Rattle.ua_client.specs.Sent.{bodies_of, calls_octets, group_reasons, numbers_behind}
 use Rattle.ua_client.specs.Site.{Site, At, id_at, lane_behind, lane_by}
 use Rattle.ua_served.specs.Course.{opening_octets}
-use Rattle.ua_served.specs.Together.{AreTogether, behind_calls, calls_told}
+use Rattle.ua_served.specs.Together.{AreTogether, behind_calls}
+use Rattle.ua_served.specs.Turns.{calls_told}
 
 -- ---- where a client stands
 
@@ -99,7 +100,7 @@ module _ (limits client : Limits) (url : Option (List ℕ)) (channel : ℕ) (on 
 
   calls_read : (octets : List ℕ) (told : List Told) (s : AtServer) (id : ℕ) (ms : List Request) → ((body : List ℕ) → 0 < length body → is_too_large c.ack body ≡ false → IsBodyFor limits (room_of c.ack) body)
       → ServerReads limits channel octets told s → IsLaneTo limits channel s (lane_from c) → AreAsked c.ack id ms
-      → ServerReads limits channel (octets ++ calls_octets (Some (lane_from c)) s.next id (bodies_of ms)) (told ++ calls_told (lane_from c) id (bodies_of ms)) (behind_calls s (lane_from c) (bodies_of ms))
+      → ServerReads limits channel (octets ++ calls_octets (Some (lane_from c)) s.next id (bodies_of ms)) (told ++ calls_told c.newest id (bodies_of ms)) (behind_calls s (lane_from c) (bodies_of ms))
   calls_read octets told s id [] fit r to asked =
       subst (λ (o : List ℕ). ServerReads limits channel o (told ++ []) s) (sym (append-nil octets)) (subst (λ (t : List Told). ServerReads limits channel octets t s) (sym (append-nil told)) r)
   calls_read octets told s id (m ∷ ms) fit r to asked =
@@ -108,7 +109,7 @@ module _ (limits client : Limits) (url : Option (List ℕ)) (channel : ℕ) (on 
       let now : AtServer = with_message s lane body in
       let chunks : List ℕ = chunks_octets (chunks_of lane body s.next id) in
       let others : List ℕ = calls_octets (Some lane) now.next (id + 1) (bodies_of ms) in
-      let later : List Told = calls_told lane (id + 1) (bodies_of ms) in
+      let later : List Told = calls_told lane.token (id + 1) (bodies_of ms) in
       let one : ServerReads limits channel (octets ++ chunks) (told ++ Asked id lane.token body ∷ []) now =
       reads_message limits channel octets told s lane body id on (omega (arith, asked.0)) r to (fit body asked.1 asked.2) in
       subst (λ (o : List ℕ). ServerReads limits channel o (told ++ (Asked id lane.token body ∷ later)) (behind_calls now lane (bodies_of ms))) (append_assoc octets chunks others)
@@ -136,9 +137,9 @@ module _ (limits : Limits) (url : Option (List ℕ)) (channel : ℕ) (octets : L
       not_refused c.ack (id_at site) requests (ap (λ (a : Option Ack). first_reason (group_reasons a (id_at site) requests)) (sym (acked_here x site c t.stands t.client_reads)) ∙ judged)
 
   pub requests_read : (requests : List Request) → refusal_at site requests ≡ None
-      → ServerReads limits channel (octets ++ sent_at site requests) (told ++ calls_told (lane_from c) (id_at site) (bodies_of requests)) (behind_calls s (lane_from c) (bodies_of requests))
+      → ServerReads limits channel (octets ++ sent_at site requests) (told ++ calls_told c.newest (id_at site) (bodies_of requests)) (behind_calls s (lane_from c) (bodies_of requests))
   requests_read requests judged =
-      subst (λ (o : List ℕ). ServerReads limits channel (octets ++ o) (told ++ calls_told (lane_from c) (id_at site) (bodies_of requests)) (behind_calls s (lane_from c) (bodies_of requests)))
+      subst (λ (o : List ℕ). ServerReads limits channel (octets ++ o) (told ++ calls_told c.newest (id_at site) (bodies_of requests)) (behind_calls s (lane_from c) (bodies_of requests)))
       (ap (λ (n : ℕ). calls_octets (Some (lane_from c)) n (id_at site) (bodies_of requests)) (sym t.number_is)
       ∙ ap (λ (l : Option Lane). calls_octets l site.number (id_at site) (bodies_of requests)) (sym (lane_here x site c t.stands t.client_reads)))
       (calls_read limits (limits_of x) url channel on c octets told s (id_at site) requests (body_for limits (limits_of x) url channel s c t.in_step) t.server_reads (lane_to limits (limits_of x) url channel s c t.in_step) (requests_asked requests judged))

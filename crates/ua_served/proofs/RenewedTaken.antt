@@ -1,5 +1,5 @@
 -- What was taken where the frame of one answer is told, and nothing that is told before it is like it.
-use Rattle.std.proofs.Common.{◌≡◌, ℕ, Bool, true, false, ◌||◌, List, [], ◌∷◌, ◌++◌, length, refl, sym, ◌∙◌, ap, subst, arith, append-nil, append_assoc, length-append}
+use Rattle.std.proofs.Common.{◌≡◌, ℕ, Bool, true, false, ◌||◌, List, [], ◌∷◌, ◌++◌, length, sym, ◌∙◌, ap, subst, arith, append-nil, append_assoc, length-append}
 use Rattle.std.specs.List.{list_any}
 use Rattle.std.proofs.lemmas.List.{append_cancel_left}
 use Rattle.ua_frame.specs.declared.frame.Frame.{Frame}
@@ -9,23 +9,12 @@ use Rattle.ua_frame.specs.Run.{Fits, Going, Rules, Run, events}
 use Rattle.ua_frame.proofs.Unique.{front_frame, front_none, one_frame}
 use Rattle.ua_channel.proofs.AskedLater.{frames_octets-append}
 use Rattle.ua_channel.proofs.ReadOn.{begins_run, events_on, told_behind}
+use Rattle.ua_served.proofs.Lists.{split_last}
 
 -- ---- lists
 
 true_not_false : true ≡ false → ⊥
 true_not_false e = cc
-
-same_next : {A : Type 0} (x y : A) (xs ys : List A) → x ∷ xs ≡ y ∷ ys → (x ≡ y) × (xs ≡ ys)
-same_next x y xs ys e = (cc, cc)
-
--- all but the last of a list, where something stands behind another
-split_last : {A : Type 0} (front fs gs : List A) (x g : A) → front ++ x ∷ [] ≡ fs ++ (g ∷ gs) → (middle : List A) × (front ≡ fs ++ middle)
-split_last front [] gs x g e = (front, refl)
-split_last [] (f ∷ fs) gs x g e = absurd (omega (arith, ap length e, length-append fs (g ∷ gs)))
-split_last (y ∷ front) (f ∷ fs) gs x g e =
-    let parts = same_next y f (front ++ x ∷ []) (fs ++ (g ∷ gs)) e in
-    let rest = split_last front fs gs x g parts.1 in
-    (rest.0, ap (λ z. z ∷ front) parts.0 ∙ ap (λ zs. f ∷ zs) rest.1)
 
 -- ---- frames
 

@@ -1,5 +1,5 @@
 -- That both ends in one process stay in step.
-use Rattle.std.proofs.Common.{◌≡◌, ℕ, ◌+◌, ◌<◌, ◌≤◌, ◌^◌, List, [], ◌∷◌, ◌++◌, Option, Some, length, refl, sym, ◌∙◌, ap, subst, arith, append-nil}
+use Rattle.std.proofs.Common.{◌≡◌, ◌⊎◌, inl, inr, ℕ, ◌+◌, ◌<◌, ◌≤◌, ◌^◌, List, [], ◌∷◌, ◌++◌, Option, Some, length, refl, sym, ◌∙◌, ap, subst, arith, append-nil, length-append}
 use Rattle.std.specs.List.{AllByRecursion}
 use Rattle.ua_octets.specs.Format.{Extends}
 use Rattle.ua_builtin.specs.declared.date_time.DateTime.{DateTime}
@@ -7,7 +7,8 @@ use Rattle.ua_frame.specs.Run.{Going}
 use Rattle.ua_frame.specs.declared.limits.Limits.{Limits}
 use Rattle.ua_frame.specs.declared.hello.Hello.{Hello}
 use Rattle.ua_chunk.specs.declared.lane.Lane.{Lane}
-use Rattle.ua_channel.specs.Agreement.{Agreement, agreement_of}
+use Rattle.ua_chunk.proofs.Lists.{filter_append}
+use Rattle.ua_channel.specs.Agreement.{Agreement, agreement_of, lane_of}
 use Rattle.ua_channel.specs.Asks.{Placed, asked_in, next_id}
 use Rattle.ua_channel.specs.Client.{limits_of}
 use Rattle.ua_channel.specs.ClientReads.{AtClient, ClientReads, lane_from}
@@ -20,21 +21,24 @@ use Rattle.ua_channel.proofs.Following.{client_told}
 use Rattle.ua_services.specs.declared.request.Request.{Request}
 use Rattle.ua_server.specs.Said.{Course, left, left_by, said, said_of, with_more}
 use Rattle.ua_server.proofs.SaidInParts.{course, left-append, left-more, said-append, said-more}
-use Rattle.ua_client.specs.Calls.{Answered, asked_at, sent_at}
+use Rattle.ua_client.specs.Calls.{Answered, LastCame, asked_at, sent_at}
 use Rattle.ua_client.specs.Renewing.{IsSettled}
 use Rattle.ua_client.specs.Sent.{bodies_of}
 use Rattle.ua_client.specs.Site.{Site, At, id_at}
+use Rattle.ua_client.specs.Told.{is_told_of, told_of}
 use Rattle.ua_client.specs.declared.reply.Reply.{Reply}
 use Rattle.ua_client.proofs.Askings.{next-calls}
 use Rattle.ua_client.proofs.Settled.{NonePending}
 use Rattle.ua_served.specs.Beginning.{Beginning}
 use Rattle.ua_served.specs.Says.{said_to, spent}
-use Rattle.ua_served.specs.Together.{AreServing, behind_calls, calls_told}
-use Rattle.ua_served.proofs.Answering.{AreHeard, calls_asked, calls_in_step, hello_stays, issued_stays, replies_read, tokens_stay, used_last, waits, with_calls}
+use Rattle.ua_served.specs.Together.{AreServing, behind_calls}
+use Rattle.ua_served.specs.Turns.{calls_told}
+use Rattle.ua_served.proofs.Answering.{AreHeard, answers_told, calls_asked, calls_in_step, hello_stays, issued_stays, replies_read, told_each, tokens_stay, used_last, waits, with_calls}
 use Rattle.ua_served.proofs.Ending.{LastChunk}
+use Rattle.ua_served.proofs.Lists.{meets}
 use Rattle.ua_served.proofs.Reaching.{few_ids, numbers_read, requests_asked, requests_read}
 use Rattle.ua_served.proofs.Saying.{said_by_run, spent-append, spent-enough}
-use Rattle.ua_served.proofs.Untaken.{took_all}
+use Rattle.ua_served.proofs.Untaken.{took_all, took_no_more}
 
 -- ---- what a server says of more
 
@@ -66,9 +70,12 @@ module _ (b : Beginning) (octets : List ℕ) (told : List Told) (s : AtServer) (
       ∙ (ap (λ (o : List ℕ). said_to b octets ++ o) (append-nil (said_of b.channel (left b.channel b.first told ms) more))
       ∙ ap (λ (k : Course). said_to b octets ++ said_of b.channel k more) (left_then more)))))
 
+pub bodies_count : (requests : List Request) → length (bodies_of requests) ≡ length requests
+bodies_count [] = refl
+bodies_count (m ∷ ms) = let more = bodies_count ms in omega (arith, more)
+
 some_bodies : (requests : List Request) → 0 < length requests → 0 < length (bodies_of requests)
-some_bodies [] some = absurd (omega (arith, some))
-some_bodies (m ∷ ms) some = omega arith
+some_bodies requests some = omega (arith, some, bodies_count requests)
 
 -- ---- a turn
 
@@ -81,7 +88,7 @@ module _ (b : Beginning) (url : Option (List ℕ)) (octets : List ℕ) (told : L
   bodies = bodies_of requests
 
   abbrev calls : List Told
-  calls = calls_told lane (id_at site) bodies
+  calls = calls_told lane.token (id_at site) bodies
 
   abbrev then_at : AtServer
   then_at = behind_calls s lane bodies
@@ -120,7 +127,10 @@ module _ (b : Beginning) (url : Option (List ℕ)) (octets : List ℕ) (told : L
       let ids : id_at behind ≡ id_at site + length bodies = ap (λ (p : List Placed). next_id (asked_in p)) a.asks ∙ next-calls site.asks (length site.octets) (id_at site) bodies in
       omega (arith, ids, issued_stays s lane bodies, t.spare)
 
-  heard_then : AreHeard b.limits (limits_of x) url b.channel then_at (length bodies) (with_calls c (id_at site) bodies).newest (asked_at site requests) (site.octets ++ said_of b.channel (course before.state before.number moments (Some g)) calls)
+  abbrev told_then : List Heard
+  told_then = site.told ++ answers_told (lane_of b.channel lane.token g) before.state moments (id_at site) bodies
+
+  heard_then : AreHeard b.limits (limits_of x) url b.channel then_at (length bodies) (with_calls c (id_at site) bodies).newest (asked_at site requests) (site.octets ++ said_of b.channel (course before.state before.number moments (Some g)) calls) told_then
       (left_by b.channel (course before.state before.number moments (Some g)) calls).number (left_by b.channel (course before.state before.number moments (Some g)) calls).agreement
   heard_then =
       replies_read b.limits (limits_of x) url b.channel on then_at few_used lane (used_last s lane bodies (some_bodies requests some))
@@ -150,11 +160,11 @@ module _ (b : Beginning) (url : Option (List ℕ)) (octets : List ℕ) (told : L
 
   module _ (y : ClientChannel) (stands : At y behind) (same : limits_of y ≡ limits_of x) where
     -- the client reads what the server says of it
-    reads_then : ClientReads (limits_of y) behind.asks (said_to b (octets ++ sent_at site requests)) heard_then.heard heard_then.at
+    reads_then : ClientReads (limits_of y) behind.asks (said_to b (octets ++ sent_at site requests)) told_then heard_then.at
     reads_then =
-        subst (λ (l : Limits). ClientReads l behind.asks (said_to b (octets ++ sent_at site requests)) heard_then.heard heard_then.at) (sym same)
-        (subst (λ (p : List Placed). ClientReads (limits_of x) p (said_to b (octets ++ sent_at site requests)) heard_then.heard heard_then.at) (sym a.asks)
-        (subst (λ (o : List ℕ). ClientReads (limits_of x) (asked_at site requests) o heard_then.heard heard_then.at) (sym said_then) heard_then.reads))
+        subst (λ (l : Limits). ClientReads l behind.asks (said_to b (octets ++ sent_at site requests)) told_then heard_then.at) (sym same)
+        (subst (λ (p : List Placed). ClientReads (limits_of x) p (said_to b (octets ++ sent_at site requests)) told_then heard_then.at) (sym a.asks)
+        (subst (λ (o : List ℕ). ClientReads (limits_of x) (asked_at site requests) o told_then heard_then.at) (sym said_then) heard_then.reads))
 
     -- which ends with the chunk of a reply
     ends_then : LastChunk (limits_of y) behind.asks (said_to b (octets ++ sent_at site requests))
@@ -168,16 +178,32 @@ module _ (b : Beginning) (url : Option (List ℕ)) (octets : List ℕ) (told : L
     answered_took law settled front =
         took_all law y behind stands settled (said_to b (octets ++ sent_at site requests)) reads_then.frames reads_then.run (ends_then reads_then.frames reads_then.run) front
 
+    -- something was told of each call there
+    each_told : (k : ℕ) → id_at site ≤ k → k < id_at site + length requests → 0 < length (told_of k told_then)
+    each_told k from to =
+        let some_told = told_each (lane_of b.channel lane.token g) before.state moments (id_at site) bodies k from (omega (arith, to, bodies_count requests)) in
+        let answers : List Heard = answers_told (lane_of b.channel lane.token g) before.state moments (id_at site) bodies in
+        omega (arith, some_told, ap length (filter_append (is_told_of k) site.told answers), length-append (told_of k site.told) (told_of k answers))
+
+    -- where octets begin with what it took, and with what the server says, it took just that
+    pub answered_taken : NonePending → IsSettled behind → LastCame y requests (id_at site) behind.asks behind.octets behind.told → (down : List ℕ) → Extends behind.octets down → Extends (said_to b (octets ++ sent_at site requests)) down
+        → behind.octets ≡ said_to b (octets ++ sent_at site requests)
+    answered_taken law settled came down got said = by (meets behind.octets (said_to b (octets ++ sent_at site requests)) got.more said.more (sym got.parts ∙ said.parts))
+      where
+        by : (((more : List ℕ) × (said_to b (octets ++ sent_at site requests) ≡ behind.octets ++ more)) ⊎ ((more : List ℕ) × (behind.octets ≡ said_to b (octets ++ sent_at site requests) ++ more))) → behind.octets ≡ said_to b (octets ++ sent_at site requests)
+        by (inl p) = answered_took law settled (record { more = p.0; parts = p.1 })
+        by (inr p) = took_no_more y requests (id_at site) behind came (said_to b (octets ++ sent_at site requests)) told_then heard_then.at reads_then each_told p.0 p.1
+
     module _ (took : behind.octets ≡ said_to b (octets ++ sent_at site requests)) where
-      here : ClientReads (limits_of y) behind.asks behind.octets heard_then.heard heard_then.at
-      here = subst (λ (o : List ℕ). ClientReads (limits_of y) behind.asks o heard_then.heard heard_then.at) (sym took) reads_then
+      here : ClientReads (limits_of y) behind.asks behind.octets told_then heard_then.at
+      here = subst (λ (o : List ℕ). ClientReads (limits_of y) behind.asks o told_then heard_then.at) (sym took) reads_then
 
       serving_then : AreServing b url (octets ++ sent_at site requests) (told ++ calls) then_at y behind heard_then.at
       serving_then = record {
         together = record {
           server_reads = server_then;
           stands = stands;
-          client_reads = subst (λ (h : List Heard). ClientReads (limits_of y) behind.asks behind.octets h heard_then.at) (sym (client_told y behind.asks behind.octets behind.told heard_then.heard heard_then.at stands.goes here)) here;
+          client_reads = subst (λ (h : List Heard). ClientReads (limits_of y) behind.asks behind.octets h heard_then.at) (sym (client_told y behind.asks behind.octets behind.told told_then heard_then.at stands.goes here)) here;
           in_step = subst (λ (l : Limits). AreInStep b.limits l url b.channel then_at heard_then.at) (sym same) heard_then.in_step;
           number_is = a.number ∙ numbers_read b.limits url b.channel octets told s x site c on t.together requests;
         };

@@ -1,13 +1,13 @@
--- That a client which may be called takes no chunk, so that it took all of what ends with one.
-use Rattle.std.proofs.Common.{◌≡◌, ℕ, Bool, true, false, not, ltb, List, [], ◌∷◌, ◌++◌, None, length, map, refl, sym, ◌∙◌, ap, subst, arith, append-nil, append_assoc, length-append}
-use Rattle.std.specs.Prelude.{cond}
-use Rattle.std.specs.List.{filter, flat_map}
+-- That a client which may be called takes no chunk, so that it took all of what ends with one; and that it took nothing behind the last reply.
+use Rattle.std.proofs.Common.{◌≡◌, ℕ, ◌+◌, ◌<◌, ◌≤◌, Bool, true, false, not, ltb, List, [], ◌∷◌, ◌++◌, Option, Some, None, length, map, refl, sym, ◌∙◌, ap, subst, arith, append-nil, append_assoc, length-append}
+use Rattle.std.specs.Prelude.{cond, is_none}
+use Rattle.std.specs.List.{filter, flat_map, list_any}
 use Rattle.std.proofs.lemmas.Grind.{flat_map-append}
 use Rattle.ua_octets.specs.Format.{Extends}
 use Rattle.ua_builtin.specs.Reasons.{first_reason}
-use Rattle.ua_frame.specs.After.{AllAfter, AllFrom}
+use Rattle.ua_frame.specs.After.{AllAfter, AllFrom, each_from}
 use Rattle.ua_frame.specs.Frames.{frames_octets}
-use Rattle.ua_frame.specs.Run.{Fits, Going, Rules, Run}
+use Rattle.ua_frame.specs.Run.{Fits, Going, Rules, Run, events}
 use Rattle.ua_frame.specs.declared.frame.Frame.{Frame}
 use Rattle.ua_frame.specs.declared.limits.Limits.{Limits}
 use Rattle.ua_chunk.specs.Gathered.{ends}
@@ -15,19 +15,27 @@ use Rattle.ua_chunk.specs.declared.chunk.Chunk.{Chunk}
 use Rattle.ua_chunk.proofs.Lists.{filter_append}
 use Rattle.ua_channel.specs.Asks.{Asking, Placed, asked_before, asked_in, call_in, calls, end_of, is_finished, is_in, pending_calls}
 use Rattle.ua_channel.specs.Client.{limits_of, rules_of}
+use Rattle.ua_channel.specs.ClientReads.{AtClient, ClientReads}
 use Rattle.ua_channel.specs.ClientTable.{client_reasons, client_rules}
+use Rattle.ua_channel.specs.ClientTold.{Told}
 use Rattle.ua_channel.specs.Content.{Content, content}
 use Rattle.ua_channel.specs.Content.Content.{Sends}
 use Rattle.ua_channel.specs.Received.{Received, chunks_in, messages, received}
 use Rattle.ua_channel.specs.declared.client.channel.ClientChannel.{ClientChannel}
 use Rattle.ua_channel.specs.inside.ClientParts.{left_behind, left_pending}
 use Rattle.ua_channel.proofs.Askings.{pending_calls-more}
-use Rattle.ua_channel.proofs.ReadOn.{begins_run}
+use Rattle.ua_channel.proofs.ReadOn.{begins_run, events_on}
+use Rattle.ua_services.specs.declared.request.Request.{Request}
+use Rattle.ua_client.specs.Calls.{LastCame}
 use Rattle.ua_client.specs.Renewing.{IsSettled}
+use Rattle.ua_client.specs.Replies.{AreSlots}
 use Rattle.ua_client.specs.Site.{Site, At}
+use Rattle.ua_client.specs.Told.{is_told_of, told_of}
+use Rattle.ua_client.specs.declared.reply.Reply.{Reply}
 use Rattle.ua_client.proofs.Renewals.{none-holds}
 use Rattle.ua_client.proofs.Settled.{NonePending}
 use Rattle.ua_served.proofs.Ending.{EndsInChunk}
+use Rattle.ua_served.proofs.Lists.{no_more, split_last}
 
 -- ---- calls of which none is unanswered
 
@@ -82,18 +90,6 @@ fits_last : {E X : Type 0} (R : Rules E X) (fs : List Frame) (f : Frame) → All
 unfolding AllAfter
 fits_last R fs f h = fits_from R [] fs f h
 
-same_next : {A : Type 0} (x y : A) (xs ys : List A) → x ∷ xs ≡ y ∷ ys → (x ≡ y) × (xs ≡ ys)
-same_next x y xs ys e = (cc, cc)
-
--- all but the last of a list, where something stands behind another
-split_last : {A : Type 0} (front fs gs : List A) (x g : A) → front ++ x ∷ [] ≡ fs ++ (g ∷ gs) → (middle : List A) × (front ≡ fs ++ middle)
-split_last front [] gs x g e = (front, refl)
-split_last [] (f ∷ fs) gs x g e = absurd (omega (arith, ap length e, length-append fs (g ∷ gs)))
-split_last (y ∷ front) (f ∷ fs) gs x g e =
-    let parts = same_next y f (front ++ x ∷ []) (fs ++ (g ∷ gs)) e in
-    let rest = split_last front fs gs x g parts.1 in
-    (rest.0, ap (λ z. z ∷ front) parts.0 ∙ ap (λ zs. f ∷ zs) rest.1)
-
 -- ---- a chunk is refused where no call is unanswered
 
 chunk_refused : (limits : Limits) (b : Received) (asked : List Asking) (c : Chunk) → pending_calls b.messages asked ≡ [] → first_reason (client_reasons limits b asked (Sends c)) ≡ None → ⊥
@@ -102,10 +98,6 @@ chunk_refused limits b asked c none e =
     let waits : not (is_in c.request (pending_calls b.messages asked)) ≡ false = all.1.1.1.1.1.1.1.1.1.1.1.1.0 in
     let waits_nowhere : not (is_in c.request []) ≡ false = subst (λ (ids : List ℕ). not (is_in c.request ids) ≡ false) none waits in
     absurd cc
-
-no_more : (more : List ℕ) → length more ≡ 0 → more ≡ []
-no_more [] e = refl
-no_more (x ∷ more) e = absurd (omega (arith, e))
 
 module _ (law : NonePending) (y : ClientChannel) (s : Site) (at : At y s) (settled : IsSettled s) (all : List ℕ) (frames : List Frame) (run : Run (client_rules (limits_of y) s.asks) all frames [] Going) (last : EndsInChunk frames) (front : Extends s.octets all) where
   abbrev here : List Frame
@@ -144,3 +136,50 @@ module _ (law : NonePending) (y : ClientChannel) (s : Site) (at : At y s) (settl
   took_all =
       let later = begins_run (rules_of y s.asks) s.octets front.more here frames at.goes.rest Going at.goes.stands.run (subst (λ (o : List ℕ). Run (rules_of y s.asks) o frames [] Going) front.parts run) in
       took_by later.0 later.1
+
+-- ---- nothing is taken behind the last reply
+
+false_not_true : false ≡ true → ⊥
+false_not_true e = cc
+
+told_further : (id : ℕ) (us vs : List Told) → 0 < length (told_of id us) → 0 < length (told_of id (us ++ vs))
+told_further id us vs some = omega (arith, some, ap length (filter_append (is_told_of id) us vs), length-append (told_of id us) (told_of id vs))
+
+-- where something was told of each call no reply is missing
+never_missing : (requests : List Request) (id : ℕ) (told : List Told) (slots : List (Option Reply)) → AreSlots requests id told slots → ((k : ℕ) → id ≤ k → k < id + length requests → 0 < length (told_of k told)) → list_any is_none slots ≡ true → ⊥
+never_missing [] id told [] h each e = false_not_true e
+never_missing [] id told (slot ∷ slots) h each e = h
+never_missing (r ∷ rs) id told [] h each e = h
+never_missing (r ∷ rs) id told (None ∷ slots) h each e = let some = each id (omega arith) (omega arith) in omega (arith, some, ap length h.0)
+never_missing (r ∷ rs) id told (Some reply ∷ slots) h each e = never_missing rs (id + 1) told slots h.1 (λ k from to. each k (omega (arith, from)) (omega (arith, to))) e
+
+module _ (y : ClientChannel) (requests : List Request) (id : ℕ) (s : Site) (came : LastCame y requests id s.asks s.octets s.told) (all : List ℕ) (told : List Told) (at : AtClient) (r : ClientReads (limits_of y) s.asks all told at)
+    (each : (k : ℕ) → id ≤ k → k < id + length requests → 0 < length (told_of k told)) (more : List ℕ) (is : s.octets ≡ all ++ more) where
+  abbrev taken : List Frame
+  taken = came.tells.frames ++ came.tells.frame ∷ []
+
+  run_on : Run (rules_of y s.asks) (all ++ more) taken [] Going
+  run_on = subst (λ (o : List ℕ). Run (rules_of y s.asks) o taken [] Going) is came.tells.stands.run
+
+  none_behind_it : (later : List Frame) → taken ≡ r.frames ++ later → s.octets ≡ all
+  none_behind_it [] e =
+      let whole = ap length run_on.whole in
+      let part = ap length r.run.whole in
+      let same = ap (λ (fs : List Frame). length (frames_octets fs)) (e ∙ append-nil r.frames) in
+      is
+      ∙ (ap (λ (o : List ℕ). all ++ o)
+      (no_more more (omega (arith, whole, part, same, length-append all more, length-append (frames_octets taken) [], length-append (frames_octets r.frames) [])))
+      ∙ append-nil all)
+  none_behind_it (g ∷ gs) e =
+      let middle = split_last came.tells.frames r.frames gs came.tells.frame g e in
+      let later : List Told = each_from (rules_of y s.asks).tells r.frames middle.0 in
+      let before : came.before ≡ told ++ later =
+      sym came.tells.told_is ∙ (ap (events (rules_of y s.asks)) middle.1 ∙ (events_on (rules_of y s.asks) r.frames middle.0 ∙ ap (λ (ts : List Told). ts ++ later) r.told_is)) in
+      absurd (never_missing requests id came.before came.awaited.slots came.awaited.slots_are
+      (λ k from to. subst (λ (ts : List Told). 0 < length (told_of k ts)) (sym before) (told_further k told later (each k from to))) came.awaited.missing)
+
+  -- where the other end said all that is waited for in a front of what was taken, just that was taken
+  pub took_no_more : s.octets ≡ all
+  took_no_more =
+      let later = begins_run (rules_of y s.asks) all more r.frames taken [] Going r.run run_on in
+      none_behind_it later.0 later.1

@@ -1,5 +1,5 @@
--- Where both ends of a connection are between two turns of a client over a line, and what its requests tell the server.
-use Rattle.std.specs.Prelude.{◌≡◌, ◌<◌, ◌≤◌, ℕ, ◌+◌, List, [], ◌∷◌, ◌++◌, Option, Some}
+-- Where both ends of a connection are between two turns of a client over a line.
+use Rattle.std.specs.Prelude.{◌≡◌, ◌<◌, ◌≤◌, ℕ, List, [], ◌∷◌, ◌++◌, Option, Some}
 use Rattle.std.specs.List.{AllByRecursion}
 use Rattle.ua_frame.specs.Agreement.{ack_to}
 use Rattle.ua_frame.specs.Frames.{frame_octets}
@@ -13,7 +13,7 @@ use Rattle.ua_channel.specs.ClientSends.{hello_to}
 use Rattle.ua_channel.specs.InStep.{AreInStep}
 use Rattle.ua_channel.specs.ServerReads.{AtServer, ServerReads, with_message}
 use Rattle.ua_channel.specs.ServerSends.{opened_frame}
-use Rattle.ua_channel.specs.ServerTold.{Told, Asked}
+use Rattle.ua_channel.specs.ServerTold.{Told}
 use Rattle.ua_channel.specs.declared.client.channel.ClientChannel.{ClientChannel}
 use Rattle.ua_client.specs.Site.{Site, At, id_at}
 use Rattle.ua_server.specs.Said.{left}
@@ -49,12 +49,7 @@ opening_answer b client url = frame_octets (ack_frame (ack_to (hello_to client u
 abbrev pub renewal_answer : Beginning → ℕ → ℕ → ℕ → List ℕ
 renewal_answer b number id token = frame_octets (opened_frame b.channel number id 0 token 3600000 b.moment)
 
--- what calls of these bodies in a lane tell a server, under request ids from this one on: each body whole and once, in order
-abbrev pub calls_told : Lane → ℕ → List (List ℕ) → List Told
-calls_told lane id [] = []
-calls_told lane id (body ∷ bodies) = Asked id lane.token body ∷ calls_told lane (id + 1) bodies
-
--- where the server then is
+-- where a server is behind calls of these bodies in a lane
 abbrev pub behind_calls : AtServer → Lane → List (List ℕ) → AtServer
 behind_calls s lane [] = s
 behind_calls s lane (body ∷ bodies) = behind_calls (with_message s lane body) lane bodies

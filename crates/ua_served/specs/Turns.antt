@@ -4,22 +4,22 @@ use Rattle.ua_frame.specs.declared.limits.Limits.{Limits}
 use Rattle.ua_channel.specs.Agreement.{agreement_of}
 use Rattle.ua_channel.specs.ClientSends.{hello_to}
 use Rattle.ua_channel.specs.ServerTold.{Told, Agreed, Opened, Asked, Closed}
-use Rattle.ua_services.specs.Request.{request}
 use Rattle.ua_services.specs.declared.request.Request.{Request}
+use Rattle.ua_client.specs.Sent.{bodies_of}
 use Rattle.ua_served.specs.Course.{asked_by}
 use Rattle.ua_served.specs.declared.turn.Turn.{Turn}
 
 -- ---- one turn, by the requests that are asked in it; none where it is a renewal
 
--- requests under this token and request ids from this one on: each whole and once, its body the canonical encoding, in order
--- (OPC 10000-6, 6.7.2)
-abbrev pub requests_told : ℕ → ℕ → List Request → List Told
-requests_told token id [] = []
-requests_told token id (m ∷ ms) = Asked id token (request.canonical m) ∷ requests_told token (id + 1) ms
+-- calls of these bodies under this token and request ids from this one on: each body whole and once, in order (OPC 10000-6, 6.7.2)
+abbrev pub calls_told : ℕ → ℕ → List (List ℕ) → List Told
+calls_told token id [] = []
+calls_told token id (body ∷ bodies) = Asked id token body ∷ calls_told token (id + 1) bodies
 
--- where this is the newest token: the requests under it; or that the next token is issued, for an hour (OPC 10000-4, 5.6.2)
+-- where this is the newest token: the requests under it, each by its canonical encoding; or that the next token is issued, for an hour
+-- (OPC 10000-4, 5.6.2)
 abbrev pub turn_told : ℕ → ℕ → Option (List Request) → List Told
-turn_told token id (Some requests) = requests_told token id requests
+turn_told token id (Some requests) = calls_told token id (bodies_of requests)
 turn_told token id None = Opened id 0 (token + 1) 3600000 ∷ []
 
 -- the newest token behind it

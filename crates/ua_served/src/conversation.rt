@@ -1,6 +1,6 @@
 //! A client and a server that talk to each other.
 
-ghost use Rattle.std.specs.Prelude.{◌≡◌, ◌<◌, ◌≤◌, ◌+◌, ◌∷◌, ◌++◌, [], ℕ, List, Option, Some, IsTrue, IfOk, OnOk};
+ghost use Rattle.std.specs.Prelude.{◌≡◌, ◌∷◌, ◌++◌, [], ℕ, List, Option, Some, IsTrue, IfOk, OnOk};
 ghost use Rattle.ua_octets.specs.Counted.{text};
 ghost use Rattle.ua_frame.specs.declared.limits.Limits.{Limits};
 ghost use Rattle.ua_channel.specs.Line.{Traffic};
@@ -10,10 +10,10 @@ ghost use Rattle.ua_client.specs.Site.{Site};
 ghost use Rattle.ua_served.specs.Beginning.{Beginning};
 ghost use Rattle.ua_served.specs.Course.{Converses};
 ghost use Rattle.ua_served.specs.Kept.{LeavesAt};
-ghost use Rattle.ua_served.specs.Says.{left_by, said_to};
-ghost use Rattle.ua_served.specs.Talking.{AsksAll, CanOpen, StaysTalking, Talked, Went, line_to};
+ghost use Rattle.ua_served.specs.Says.{said_to};
 ghost use Rattle.ua_served.specs.Turns.{conversation_told};
 ghost use Rattle.ua_served.specs.declared.turn.Turn.{Turn};
+ghost use Rattle.ua_served.specs.inside.Talking.{CanOpen, StaysTalking, Talked, Went, line_to};
 
 use crate::served_line::{Began, ServedLine};
 use crate::stage::Stage;
@@ -26,10 +26,6 @@ use ua_client::laws::clients_are_settled;
 use ua_client::{Client, ClientFault, Reply};
 use ua_frame::Limits;
 use ua_server::Services;
-use ua_services::Request;
-
-/// The most requests of a group.
-const MOST_CALLS: usize = 64;
 
 /// What went over a connection, and what is left behind it.
 #[derive(Drop)]
@@ -67,45 +63,6 @@ fn begin<L: Line>(
     }
 }
 
-/// Where the group of requests that begins at a place ends, among so many.
-fn group_end(start: usize, count: usize) -> usize
-    requires { start < count }
-    ensures some { start < result }
-    ensures few { result ≤ start + 64 }
-    ensures full { result < count → result ≡ start + 64 }
-    ensures within { result ≤ count }
-{
-    if count - start <= MOST_CALLS {
-        return count;
-    }
-    start + MOST_CALLS
-}
-
-/// Asks requests, one group behind the other, and adds the replies.
-fn ask_all<L: Line>(
-    client: &mut Client,
-    line: &mut L,
-    requests: &[Request],
-    moment: DateTime,
-    replies: &mut Vec<Reply>,
-) -> Result<(), ClientFault>
-    requires { IsReady client.old }
-    ensures asks { OnOk result (AsksAll requests.now (connection_of client.old) (connection_of client.new) (L.traffic line.old) (L.traffic line.new) replies.old.items replies.new.items) }
-    ensures ready { OnOk result (IsReady client.new) }
-{
-    clients_are_settled();
-    let mut start = 0;
-    while start < requests.len() {
-        let end = group_end(start, requests.len());
-        let group = &requests[start..end];
-        match client.call_into(line, group, moment, replies) {
-            Ok(()) => start = end,
-            Err(calls) => return Err(calls.fault),
-        }
-    }
-    Ok(())
-}
-
 /// Takes a turn, and adds the replies.
 fn take_turn<L: Line>(
     client: &mut Client,
@@ -119,10 +76,11 @@ fn take_turn<L: Line>(
         → StaysTalking b limits url moment opened (turns ++ turn.now ∷ []) (connection_of client.new) first (L.traffic line.new) replies.new.items) }
     ensures ready { OnOk result (IsReady client.new) }
 {
+    clients_are_settled();
     match turn {
-        Turn::Ask(requests) => match ask_all(client, line, requests, moment, replies) {
+        Turn::Ask(requests) => match client.call_into(line, requests, moment, replies) {
             Ok(()) => Ok(()),
-            Err(fault) => Err(fault),
+            Err(calls) => Err(calls.fault),
         },
         Turn::Renew => match client.renew(line, moment) {
             Ok(()) => Ok(()),

@@ -30,7 +30,8 @@ ghost use Rattle.ua_client.specs.declared.reply.Reply.{Reply};
 ghost use Rattle.ua_served.specs.Beginning.{Beginning};
 ghost use Rattle.ua_served.specs.Course.{opening_octets};
 ghost use Rattle.ua_served.specs.Says.{said_to};
-ghost use Rattle.ua_served.specs.Together.{AreServing, AreTogether, behind_calls, calls_told, opening_answer, renewal_answer};
+ghost use Rattle.ua_served.specs.Together.{AreServing, AreTogether, behind_calls, opening_answer, renewal_answer};
+ghost use Rattle.ua_served.specs.Turns.{calls_told};
 
 use ua_client::laws::clients_are_settled;
 
@@ -60,7 +61,7 @@ pub fn ends_begin_together()
 pub fn requests_reach_the_server()
     ensures { (limits : Limits) (url : Option (List ℕ)) (channel : ℕ) (octets : List ℕ) (told : List Told) (s : AtServer) (x : ClientChannel) (site behind : Site) (c : AtClient) (requests : List Request) (taken : List ℕ) (replies : List Reply) →
         channel < 2 ^ 32 → AreTogether limits url channel octets told s x site c → Answered requests site behind taken replies →
-        ServerReads limits channel (octets ++ sent_at site requests) (told ++ calls_told (lane_from c) (id_at site) (bodies_of requests)) (behind_calls s (lane_from c) (bodies_of requests))
+        ServerReads limits channel (octets ++ sent_at site requests) (told ++ calls_told c.newest (id_at site) (bodies_of requests)) (behind_calls s (lane_from c) (bodies_of requests))
         × (behind.number ≡ (behind_calls s (lane_from c) (bodies_of requests)).next)
         × AreReplies requests (id_at site) behind.told replies }
 {}
@@ -74,7 +75,7 @@ pub fn ends_stay_together()
     ensures serving { (b : Beginning) (url : Option (List ℕ)) (octets : List ℕ) (told : List Told) (s : AtServer) (x y : ClientChannel) (site behind : Site) (c : AtClient) (requests : List Request) (taken : List ℕ) (replies : List Reply) →
         b.channel < 2 ^ 32 → AreServing b url octets told s x site c → 0 < length requests → Answered requests site behind taken replies →
         At y behind → limits_of y ≡ limits_of x → behind.octets ≡ said_to b (octets ++ sent_at site requests) →
-        (d : AtClient) × AreServing b url (octets ++ sent_at site requests) (told ++ calls_told (lane_from c) (id_at site) (bodies_of requests)) (behind_calls s (lane_from c) (bodies_of requests)) y behind d × (d.newest ≡ c.newest) }
+        (d : AtClient) × AreServing b url (octets ++ sent_at site requests) (told ++ calls_told c.newest (id_at site) (bodies_of requests)) (behind_calls s (lane_from c) (bodies_of requests)) y behind d × (d.newest ≡ c.newest) }
 {
     clients_are_settled();
 }

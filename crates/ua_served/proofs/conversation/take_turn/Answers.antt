@@ -8,8 +8,9 @@ use Rattle.ua_served.proofs.conversation.take_turn.Goals as goal
 
 pub returns-in-Ok-clause-stays : goal.returns-in-Ok-clause-stays
 returns-in-Ok-clause-stays g c = λ b limits url opened turns first s.
-    stays_asked b limits url c.args.moment opened turns (connection_of c.args.client.now) (connection_of c.ask_all.new.client) first (g.L.Line.traffic c.args.line.now) (g.L.Line.traffic c.ask_all.new.line)
-    c.args.replies.now.items c.ask_all.new.replies.items s c.args.turn.now c.deref.result.now (ap asked_by c.in-Ask.is ∙ ap (λ (rs : List Request). Some rs) (sym c.deref.ensures.value)) c.in-Ok.ensures.asks
+    stays_asked b limits url c.args.moment opened turns (connection_of c.args.client.now) (connection_of c.call_into.new.self) first (g.L.Line.traffic c.args.line.now) (g.L.Line.traffic c.call_into.new.line)
+    c.args.replies.now.items c.call_into.new.replies.items s c.clients_are_settled.ensures.none_pending c.args.turn.now c.deref.result.now c.in-Ok.field-0
+    (ap asked_by c.in-Ask.is ∙ ap (λ (rs : List Request). Some rs) (sym c.deref.ensures.value)) (c.in-Ok.ensures.calls c.requires)
 
 pub returns-in-Ok-renew-clause-stays : goal.returns-in-Ok-renew-clause-stays
 returns-in-Ok-renew-clause-stays g c = λ b limits url opened turns first s.

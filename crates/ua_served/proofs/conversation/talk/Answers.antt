@@ -2,7 +2,7 @@ use Rattle.std.proofs.Common.{[], subst, sym}
 use Rattle.std.specs.Prelude.{List}
 use Rattle.ua_client.specs.Client.{connection_of}
 use Rattle.ua_client.specs.declared.reply.Reply.{Reply}
-use Rattle.ua_served.specs.Talking.{StaysTalking}
+use Rattle.ua_served.specs.inside.Talking.{StaysTalking}
 use Rattle.ua_served.proofs.Courses.{talked_all}
 use Rattle.ua_served.proofs.conversation.talk.Goals as goal
 

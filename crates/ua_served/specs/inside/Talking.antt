@@ -1,23 +1,21 @@
 -- A client over a line to a server, turn by turn: what it sent, what that told the server, and where both ends then are.
-use Rattle.std.specs.Prelude.{◌≡◌, ℕ, ◌+◌, ◌<◌, ◌≤◌, ◌^◌, ◌++◌, IsTrue, List, [], length, Option, Some}
+use Rattle.std.specs.Prelude.{◌≡◌, ℕ, ◌<◌, ◌≤◌, ◌^◌, ◌++◌, IsTrue, List, [], Option, Some}
 use Rattle.ua_octets.specs.Counted.{text}
 use Rattle.ua_builtin.specs.DateTime.{date_time}
 use Rattle.ua_builtin.specs.declared.date_time.DateTime.{DateTime}
 use Rattle.ua_frame.specs.Agreement.{ack_to}
 use Rattle.ua_frame.specs.Messages.{ack, hello}
 use Rattle.ua_frame.specs.declared.limits.Limits.{Limits}
-use Rattle.ua_channel.specs.Client.{SameClient, limits_of}
+use Rattle.ua_channel.specs.Client.{limits_of}
 use Rattle.ua_channel.specs.ClientReads.{AtClient}
 use Rattle.ua_channel.specs.ClientSends.{hello_to}
 use Rattle.ua_channel.specs.Line.{Traffic, WhereTold}
 use Rattle.ua_channel.specs.ServerReads.{AtServer, ServerCloses}
 use Rattle.ua_channel.specs.ServerTold.{Told}
 use Rattle.ua_channel.specs.declared.client.channel.ClientChannel.{ClientChannel}
-use Rattle.ua_services.specs.declared.request.Request.{Request}
-use Rattle.ua_client.specs.Calls.{AnsweredAll}
 use Rattle.ua_client.specs.Carried.{Carries}
 use Rattle.ua_client.specs.Client.{closing_at}
-use Rattle.ua_client.specs.Hearing.{Moves, channel_of, untaken_of}
+use Rattle.ua_client.specs.Hearing.{channel_of, untaken_of}
 use Rattle.ua_client.specs.Opening.{IsOpened}
 use Rattle.ua_client.specs.Renewing.{IsSettled}
 use Rattle.ua_client.specs.Site.{Site, At, id_at}
@@ -27,7 +25,7 @@ use Rattle.ua_served.specs.Beginning.{Beginning}
 use Rattle.ua_served.specs.Course.{Course, Stays, opening_octets}
 use Rattle.ua_served.specs.Says.{said_to}
 use Rattle.ua_served.specs.Together.{AreServing}
-use Rattle.ua_served.specs.Turns.{conversation_told, ids_behind, opening_told, requests_told, tokens_behind, turns_told}
+use Rattle.ua_served.specs.Turns.{conversation_told, ids_behind, opening_told, tokens_behind, turns_told}
 use Rattle.ua_served.specs.declared.turn.Turn.{Turn}
 
 -- the octets of a line to a server that began so, before any are written: to come is what it says of all that is then written
@@ -43,36 +41,27 @@ pub record CanOpen (b : Beginning) (limits : Limits) (url : Option (List ℕ)) (
   pub dated : IsTrue (date_time.encodable moment)
   pub answered : IsTrue (date_time.encodable b.moment)
 
--- a client with these limits over a line to such a server sent these octets, which told the server this, and may be called: it took all that
--- the server says of them, and both are in step; this is the newest token, and this the next request id
-pub record AreTalking (b : Beginning) (limits : Limits) (url : Option (List ℕ)) (octets : List ℕ) (told : List Told) (token id : ℕ) (site : Site) (x : Connection) (first now : Option Traffic) : Type 0 where
-  pub line : first ≡ Some (line_to b)
-  pub got : List ℕ
-  pub carried : WhereTold (Carries got octets) first now
-  pub got_is : got ≡ site.octets ++ untaken_of x
-  pub limits_are : limits_of (channel_of x) ≡ limits
+-- a client with these limits stands here and may be called: of these octets, which told such a server this, it took all that the server says,
+-- and both are in step; this is the newest token, and this the next request id
+pub record IsServed (b : Beginning) (limits : Limits) (url : Option (List ℕ)) (octets : List ℕ) (told : List Told) (token id : ℕ) (site : Site) (x : ClientChannel) : Type 0 where
+  pub limits_are : limits_of x ≡ limits
   pub on : b.channel < 2 ^ 32
   pub settled : IsSettled site
   pub at_server : AtServer
   pub at_client : AtClient
-  pub serving : AreServing b url octets told at_server (channel_of x) site at_client
+  pub serving : AreServing b url octets told at_server x site at_client
   pub tokens_are : at_server.issued ≡ token
   pub newest_is : at_client.newest ≡ token
   pub id_is : id_at site ≡ id
   pub few : id ≤ 4294967295
 
--- requests were called in groups, and answered; and where both ends were in step, they are behind them
-pub record AsksAll (requests : List Request) (old new : Connection) (before after : Option Traffic) (had have : List Reply) : Type 0 where
-  pub sent : List ℕ
-  pub moves : Moves old new sent before after
-  pub same : SameClient (channel_of old) (channel_of new)
-  -- these replies are added
-  pub added : List Reply
-  pub have_is : have ≡ had ++ added
-  pub answers : (s : Site) → At (channel_of old) s → IsSettled s → AnsweredAll requests s (channel_of new) sent moves.taken added
-  pub talking : (b : Beginning) (limits : Limits) (url : Option (List ℕ)) (octets : List ℕ) (told : List Told) (token id : ℕ) (s : Site) (at : At (channel_of old) s) (settled : IsSettled s) (first : Option Traffic)
-      → AreTalking b limits url octets told token id s old first before
-      → AreTalking b limits url (octets ++ sent) (told ++ requests_told token id requests) token (id + length requests) (answers s at settled).behind new first after
+-- the same of a client over a line to such a server, which sent just these octets
+pub record AreTalking (b : Beginning) (limits : Limits) (url : Option (List ℕ)) (octets : List ℕ) (told : List Told) (token id : ℕ) (site : Site) (x : Connection) (first now : Option Traffic) : Type 0 where
+  pub line : first ≡ Some (line_to b)
+  pub got : List ℕ
+  pub carried : WhereTold (Carries got octets) first now
+  pub got_is : got ≡ site.octets ++ untaken_of x
+  pub served : IsServed b limits url octets told token id site (channel_of x)
 
 -- a client did these turns over a line to such a server, and both are in step behind them
 pub record StaysTalking (b : Beginning) (limits : Limits) (url : Option (List ℕ)) (moment : DateTime) (opened : Site) (turns : List Turn) (x : Connection) (first now : Option Traffic) (replies : List Reply) : Type 0 where
