@@ -3,7 +3,7 @@ use Rattle.std.proofs.Common.{◌≡◌, ◌⊎◌, inl, inr, ℕ, ◌+◌, ◌<
 use Rattle.std.specs.Prelude.{OnOk}
 use Rattle.std.proofs.lemmas.List.{take_all, take_more}
 use Rattle.ua_builtin.specs.declared.date_time.DateTime.{DateTime}
-use Rattle.ua_frame.specs.Run.{Going, Over}
+use Rattle.ua_frame.specs.Run.{End, Going, Over, Stopped}
 use Rattle.ua_frame.specs.declared.limits.Limits.{Limits}
 use Rattle.ua_channel.specs.Line.{Traffic, WhereTold}
 use Rattle.ua_channel.specs.ServerReads.{ServerCloses}
@@ -11,6 +11,7 @@ use Rattle.ua_channel.specs.ServerTold.{Told, Opened, Closed}
 use Rattle.ua_services.specs.declared.request.Request.{Request}
 use Rattle.ua_server.specs.Said.{said}
 use Rattle.ua_server.specs.State.{State}
+use Rattle.ua_server.specs.declared.step.End.TheVariants as ending
 use Rattle.ua_server.proofs.SaidInParts.{said-append, said-more}
 use Rattle.ua_client.specs.Carried.{Carries}
 use Rattle.ua_client.specs.Client.{Closes, IsReady, OpensClient, OpensNothing, closing_at, connection_of}
@@ -28,14 +29,16 @@ use Rattle.ua_client.proofs.Settled.{NonePending}
 use Rattle.ua_served.specs.Beginning.{Beginning}
 use Rattle.ua_served.specs.Course.{Converses, Course, Stays, asked_by, opening_octets}
 use Rattle.ua_served.specs.Course.Course.{Asked, Renewed}
-use Rattle.ua_served.specs.Kept.{Served, traffic_of}
-use Rattle.ua_served.specs.Says.{said_to, spent}
+use Rattle.ua_served.specs.Kept.{EndsAt, LeavesAt, Served, traffic_of}
+use Rattle.ua_served.specs.Says.{end_by, left_by, said_to, spent}
 use Rattle.ua_served.specs.inside.Talking.{AreTalking, CanOpen, StaysTalking, Talked, Went, line_to}
 use Rattle.ua_served.specs.Turns.{conversation_told, id_behind, ids_behind, opening_told, token_behind, tokens_behind, turn_told, turns_told}
+use Rattle.ua_served.specs.declared.stage.Stage.{Stage}
+use Rattle.ua_served.specs.declared.stage.Stage.TheVariants as stage
 use Rattle.ua_served.specs.declared.turn.Turn.{Turn}
 use Rattle.ua_served.proofs.Begun.{SettlesOpened, went_first}
 use Rattle.ua_served.proofs.Reaching.{closing_read}
-use Rattle.ua_served.proofs.Saying.{said_by_run, spent-append, spent-enough}
+use Rattle.ua_served.proofs.Saying.{end_is, said_by_run, spent-append, spent-enough}
 use Rattle.ua_served.proofs.Staying.{said_there}
 use Rattle.ua_served.proofs.Talks.{got_on, rounds_octets, talking_as, talks_asked, talks_renewed}
 
@@ -247,6 +250,29 @@ pub ready_by : (limits : Limits) (url : Option (List ℕ)) (moment : DateTime) (
     → (OpensNothing before after (Ok client) ⊎ OpensClient limits url moment before after (Ok client)) → IsReady client
 ready_by limits url moment before after client (inl nothing) = let none : ◌≡◌ {A = Result Client ClientFault} (Ok client) (Err OutOfMemory) = nothing.0 in absurd cc
 ready_by limits url moment before after client (inr o) = o.over.1
+
+-- ---- how the server saw it end
+
+ends_closed : (b : Beginning) (s : Stage) (up : List ℕ) → EndsAt s b up → end_by b up ≡ Over → s ≡ stage.Ended ending.Closed
+ends_closed b stage.Going up e over = let no : ◌≡◌ {A = End ℕ} Going Over = sym e ∙ over in absurd cc
+ends_closed b (stage.Ended ending.Closed) up e over = refl
+ends_closed b (stage.Ended (ending.Refused code)) up e over = let no : ◌≡◌ {A = End ℕ} (Stopped code.code) Over = sym e ∙ over in absurd cc
+ends_closed b (stage.Ended ending.NoClose) up e over = absurd e
+ends_closed b (stage.Ended ending.Cut) up e over = absurd e
+ends_closed b stage.Broken up e over = let no : ◌≡◌ {A = End ℕ} Going Over = sym e ∙ over in absurd cc
+
+-- where a CLO closed its channel, by that
+pub closed_well : (r : Result (Unit {0}) ClientFault) (b : Beginning) (limits : Limits) (channel : ℕ) (first : State) (moment : DateTime) (s : Stage) (up : List ℕ) (told : List Told) → b ≡ record { limits = limits; channel = channel; first = first; moment = moment }
+    → EndsAt s b up → OnOk r (ServerCloses limits channel up told) → OnOk r (s ≡ stage.Ended ending.Closed)
+closed_well (Err f) b limits channel first moment s up told is e q = tt
+closed_well (Ok done) b limits channel first moment s up told is e q =
+    let here : ServerCloses b.limits b.channel up told = subst (λ (d : Beginning). ServerCloses d.limits d.channel up told) (sym is) q in
+    ends_closed b s up e (end_is b up here.frames [] Over here.run)
+
+-- and the services are what it left
+pub left_well : (r : Result (Unit {0}) ClientFault) (b : Beginning) (s : Stage) (up : List ℕ) (now : State) → LeavesAt s b up now → OnOk r (s ≡ stage.Ended ending.Closed) → OnOk r (now ≡ left_by b up)
+left_well (Err f) b s up now leaves closed = tt
+left_well (Ok done) b s up now leaves closed = subst (λ (t : Stage). LeavesAt t b up now) closed leaves
 
 -- ---- where it did all
 

@@ -26,7 +26,7 @@ module _ (b : Beginning) (octets : List ℕ) (fs : List Frame) (rest : List ℕ)
   told_is : told_by b octets ≡ events (rules_by b) fs
   told_is = ap (events (rules_by b)) (unique (rules_by b) octets (read_by b octets).frames fs (read_by b octets).rest rest (read_by b octets).end end (read_by b octets).run run).frames
 
-  end_is : end_by b octets ≡ end
+  pub end_is : end_by b octets ≡ end
   end_is = (unique (rules_by b) octets (read_by b octets).frames fs (read_by b octets).rest rest (read_by b octets).end end (read_by b octets).run run).ends
 
   pub said_by_run : said_to b octets ≡ said b.channel b.first (events (rules_by b) fs) end (spent (events (rules_by b) fs) b.moment)

@@ -2,6 +2,7 @@
 use Rattle.std.proofs.Common.{◌≡◌, ℕ, zero, suc, ◌+◌, ◌<◌, ◌≤◌, List, [], ◌∷◌, ◌++◌, Option, Some, None, Ok, length, take, replicate, refl, sym, ◌∙◌, ap, subst, arith, append-nil, length-append}
 use Rattle.std.proofs.lemmas.List.{replicate-append-replicate}
 use Rattle.ua_builtin.specs.declared.date_time.DateTime.{DateTime}
+use Rattle.ua_builtin.specs.declared.status_code.StatusCode.{StatusCode}
 use Rattle.ua_frame.specs.declared.frame.Frame.{Frame}
 use Rattle.ua_frame.specs.declared.limits.Limits.{Limits}
 use Rattle.ua_frame.specs.Run.{Rules, End, Going, Stopped, Over, Run, events}
@@ -21,10 +22,10 @@ use Rattle.ua_server.specs.declared.step.Step.{Step}
 use Rattle.ua_server.proofs.SaidInParts.{used_in-append}
 use Rattle.ua_served.specs.Beginning.{Beginning}
 use Rattle.ua_served.specs.Kept.{Keeps}
-use Rattle.ua_served.specs.Says.{left_by, said_to, spent}
+use Rattle.ua_served.specs.Says.{end_by, left_by, said_to, spent}
 use Rattle.ua_served.specs.declared.stage.Stage.{Stage}
 use Rattle.ua_served.specs.declared.stage.Stage.TheVariants as stage
-use Rattle.ua_served.proofs.Saying.{left_by_run, rules_by, said_by_run}
+use Rattle.ua_served.proofs.Saying.{end_is, left_by_run, rules_by, said_by_run}
 
 -- ---- moments
 
@@ -62,6 +63,9 @@ module _ (b : Beginning) (x : ServerChannel) (limits_are : limits_of x ≡ b.lim
 
   left_at : left_by b octets ≡ (left b.channel b.first told (spent told b.moment)).state
   left_at = left_by_run b octets fs rest end run_at ∙ ap (λ (t : List Told). (left b.channel b.first t (spent t b.moment)).state) told_at
+
+  end_at : end_by b octets ≡ end
+  end_at = end_is b octets fs rest end run_at
 
 -- ---- a step
 
@@ -116,11 +120,12 @@ module _ (b : Beginning) (old new : Server) (before now : State) (moment : DateT
         within = more_within;
         serves = record { told = all; stands = stands; limits_are = limits_are; channel_is = channel_is };
         leaves = more_left all stands.goes.frames stands.goes.rest Going (channel_of (channel_in new)) (spent all b.moment) stands.goes.stands.run stands.goes.told_is refl channel_is stands.state_is;
+        ends = end_at b (channel_in new) limits_are channel_is (up ++ take n piece) stands.goes.frames stands.goes.rest Going all stands.goes.stands.run stands.goes.told_is;
       }
 
   -- it closed
-  closes_keeps : (end : Ending) → StepCloses (channel_of (channel_in old)) piece n out (channel_in new) up told b.first (spent told b.moment) before now → Keeps b new now moment (up ++ take n piece) (down ++ out) read (stage.Ended end)
-  closes_keeps end c =
+  closes_keeps : StepCloses (channel_of (channel_in old)) piece n out (channel_in new) up told b.first (spent told b.moment) before now → Keeps b new now moment (up ++ take n piece) (down ++ out) read (stage.Ended ending.Closed)
+  closes_keeps c =
       let all : List Told = (told ++ given_up c.quiet) ++ Closed ∷ [] in
       let moments : spent told b.moment ≡ spent all b.moment = sym (append-nil (spent told b.moment)) ∙ spent-more told c.quiet (Closed ∷ []) b.moment in
       record {
@@ -129,26 +134,28 @@ module _ (b : Beginning) (old new : Server) (before now : State) (moment : DateT
         within = more_within;
         serves = tt;
         leaves = more_left all c.closed.frames [] Over (channel_of (channel_in old)) (spent told b.moment) c.closed.run c.closed.told_is moments k.serves.channel_is c.left_is;
+        ends = end_at b (channel_in new) limits_are channel_is (up ++ take n piece) c.closed.frames [] Over all c.closed.run c.closed.told_is;
       }
 
   -- it refused what stands there
-  refuses_keeps : (end : Ending) (code : ℕ) → StepRefuses (channel_of (channel_in old)) code piece n out (channel_in new) up told b.first (spent told b.moment) before now
-      → Keeps b new now moment (up ++ take n piece) (down ++ out) read (stage.Ended end)
-  refuses_keeps end code c =
+  refuses_keeps : (code : StatusCode) → StepRefuses (channel_of (channel_in old)) code.code piece n out (channel_in new) up told b.first (spent told b.moment) before now
+      → Keeps b new now moment (up ++ take n piece) (down ++ out) read (stage.Ended (ending.Refused code))
+  refuses_keeps code c =
       let all : List Told = told ++ given_up c.quiet in
       let moments : spent told b.moment ≡ spent all b.moment = sym (quiet-spent told c.quiet b.moment) in
       record {
         moment_is = k.moment_is;
-        down_is = more_said all c.refused.frames c.refused.rest (Stopped code) (spent told b.moment) c.refused.run c.refused.told_is moments c.out_is;
+        down_is = more_said all c.refused.frames c.refused.rest (Stopped code.code) (spent told b.moment) c.refused.run c.refused.told_is moments c.out_is;
         within = more_within;
         serves = tt;
-        leaves = more_left all c.refused.frames c.refused.rest (Stopped code) (channel_of (channel_in old)) (spent told b.moment) c.refused.run c.refused.told_is moments k.serves.channel_is c.left_is;
+        leaves = more_left all c.refused.frames c.refused.rest (Stopped code.code) (channel_of (channel_in old)) (spent told b.moment) c.refused.run c.refused.told_is moments k.serves.channel_is c.left_is;
+        ends = end_at b (channel_in new) limits_are channel_is (up ++ take n piece) c.refused.frames c.refused.rest (Stopped code.code) all c.refused.run c.refused.told_is;
       }
 
   -- it ended
   ends_keeps : (end : Ending) → StepBy (channel_of (channel_in old)) b.moment piece (Some end) n out (channel_in new) up told b.first (spent told b.moment) before now → Keeps b new now moment (up ++ take n piece) (down ++ out) read (stage.Ended end)
-  ends_keeps ending.Closed s = closes_keeps ending.Closed s
-  ends_keeps (ending.Refused code) s = refuses_keeps (ending.Refused code) code.code s
+  ends_keeps ending.Closed s = closes_keeps s
+  ends_keeps (ending.Refused code) s = refuses_keeps code s
   ends_keeps ending.NoClose s = absurd s
   ends_keeps ending.Cut s = absurd s
 
@@ -201,8 +208,8 @@ module _ (b : Beginning) (old new : Server) (before now : State) (moment : DateT
   takes_some takes some = taken_by step.end refl takes some
 
 -- where memory is refused, what was said before stays
-pub keeps_broken : (b : Beginning) (old new : Server) (before now : State) (moment : DateTime) (up down : List ℕ) (read : ℕ) (s : Stage) → Keeps b old before moment up down read s → Keeps b new now moment up down read stage.Broken
-keeps_broken b old new before now moment up down read s k = record { moment_is = k.moment_is; down_is = k.down_is; within = k.within; serves = tt; leaves = tt }
+pub keeps_broken : (b : Beginning) (old new : Server) (before now : State) (moment : DateTime) (up down : List ℕ) (read : ℕ) → Keeps b old before moment up down read stage.Going → Keeps b new now moment up down read stage.Broken
+keeps_broken b old new before now moment up down read k = record { moment_is = k.moment_is; down_is = k.down_is; within = k.within; serves = tt; leaves = tt; ends = k.ends }
 
 -- ---- as it begins
 
@@ -225,6 +232,7 @@ keeps_first b server limits channel first moment is stands limits_are channel_is
           sym stands.state_is
           ∙ (ap (λ (c : ℕ). (left c first [] []).state) channel_is
           ∙ sym (left_at here (channel_in server) limits_are channel_is [] stands.goes.frames stands.goes.rest Going [] stands.goes.stands.run stands.goes.told_is));
+      ends = end_at here (channel_in server) limits_are channel_is [] stands.goes.frames stands.goes.rest Going [] stands.goes.stands.run stands.goes.told_is;
     })
   where
     here : Beginning

@@ -2,14 +2,16 @@
 use Rattle.std.specs.Prelude.{◌≡◌, ◌≤◌, ◌++◌, ℕ, List, length, drop}
 use Rattle.ua_builtin.specs.declared.date_time.DateTime.{DateTime}
 use Rattle.ua_channel.specs.Line.{Traffic}
+use Rattle.ua_frame.specs.Run.{End as run}
 use Rattle.ua_channel.specs.ServerStands.{channel_of, limits_of}
 use Rattle.ua_channel.specs.ServerTold.{Told}
 use Rattle.ua_server.specs.Served.{channel_in}
 use Rattle.ua_server.specs.State.{State}
 use Rattle.ua_server.specs.Stepping.{Stands}
 use Rattle.ua_server.specs.declared.server.Server.{Server}
+use Rattle.ua_server.specs.declared.step.End.TheVariants as ending
 use Rattle.ua_served.specs.Beginning.{Beginning}
-use Rattle.ua_served.specs.Says.{left_by, said_to, spent}
+use Rattle.ua_served.specs.Says.{end_by, left_by, said_to, spent}
 use Rattle.ua_served.specs.declared.stage.Stage.{Stage}
 use Rattle.ua_served.specs.declared.stage.Stage.TheVariants.{Going, Ended, Broken}
 
@@ -46,6 +48,16 @@ LeavesAt Going b up now = now ≡ left_by b up
 LeavesAt (Ended end) b up now = now ≡ left_by b up
 LeavesAt Broken b up now = Unit {0}
 
+-- how what was written ends at such a server, where the connection is so far: nothing of it is refused and nothing closed the channel, and it
+-- goes on, or memory was refused; or a CLO closed the channel; or what stands there is refused with this code
+abbrev pub EndsAt : Stage → Beginning → List ℕ → Type 0
+EndsAt Going b up = end_by b up ≡ run.Going
+EndsAt (Ended ending.Closed) b up = end_by b up ≡ run.Over
+EndsAt (Ended (ending.Refused code)) b up = end_by b up ≡ run.Stopped code.code
+EndsAt (Ended ending.NoClose) b up = ⊥
+EndsAt (Ended ending.Cut) b up = ⊥
+EndsAt Broken b up = end_by b up ≡ run.Going
+
 -- what a line to a server that began so keeps
 pub record Keeps (b : Beginning) (server : Server) (now : State) (moment : DateTime) (up down : List ℕ) (read : ℕ) (stage : Stage) : Type 0 where
   pub moment_is : moment ≡ b.moment
@@ -53,3 +65,4 @@ pub record Keeps (b : Beginning) (server : Server) (now : State) (moment : DateT
   pub within : read ≤ length down
   pub serves : ServesAt stage b server now up
   pub leaves : LeavesAt stage b up now
+  pub ends : EndsAt stage b up

@@ -9,9 +9,11 @@ ghost use Rattle.ua_client.specs.Client.{IsReady, connection_of};
 ghost use Rattle.ua_client.specs.Site.{Site};
 ghost use Rattle.ua_served.specs.Beginning.{Beginning};
 ghost use Rattle.ua_served.specs.Course.{Converses};
-ghost use Rattle.ua_served.specs.Kept.{LeavesAt};
-ghost use Rattle.ua_served.specs.Says.{said_to};
+ghost use Rattle.ua_server.specs.declared.step.End.TheVariants.{Closed};
+ghost use Rattle.ua_served.specs.Kept.{EndsAt, LeavesAt};
+ghost use Rattle.ua_served.specs.Says.{left_by, said_to};
 ghost use Rattle.ua_served.specs.Turns.{conversation_told};
+ghost use Rattle.ua_served.specs.declared.stage.Stage.TheVariants.{Ended};
 ghost use Rattle.ua_served.specs.declared.turn.Turn.{Turn};
 ghost use Rattle.ua_served.specs.inside.Talking.{CanOpen, StaysTalking, Talked, Went, line_to};
 
@@ -155,8 +157,11 @@ fn converse_with<W: Began>(
     requires began { W.beginning ≡ record { limits = limits; channel = channel_id; first = services; moment = moment } }
     ensures down { result.down.items ≡ said_to W.beginning result.up.items }
     ensures services { LeavesAt result.stage W.beginning result.up.items result.services }
+    ensures ends { EndsAt result.stage W.beginning result.up.items }
     ensures converses { OnOk result.outcome (Converses limits url moment turns.now result.up.items result.down.items result.replies.items) }
     ensures heard { OnOk result.outcome (ServerCloses limits channel_id result.up.items (conversation_told limits limits url turns.now)) }
+    ensures closed { OnOk result.outcome (result.stage ≡ Ended Closed) }
+    ensures left { OnOk result.outcome (result.services ≡ left_by W.beginning result.up.items) }
 {
     let mut line: ServedLine<W> = ServedLine::new(
         alloc, limits, channel_id, services, moment, writes, reads,
@@ -196,14 +201,18 @@ pub fn converse(
 
     // What the server said is what is said of what the client wrote, and the services are what that leaves.
     ensures down { result.down.items ≡ said_to (record { limits = limits; channel = channel_id; first = services; moment = moment }) result.up.items }
+    // How far the connection is says how it ends there.
     ensures services { LeavesAt result.stage (record { limits = limits; channel = channel_id; first = services; moment = moment }) result.up.items result.services }
+    ensures ends { EndsAt result.stage (record { limits = limits; channel = channel_id; first = services; moment = moment }) result.up.items }
 
     // The client sent just its turns and took all that the server said, and each request has its own reply.
     ensures converses { OnOk result.outcome (Converses limits url moment turns.now result.up.items result.down.items result.replies.items) }
 
     // The server refused none of it, and was told just these turns: each request once, in order, under its own request id; and the
-    // next token at each renewal. The CLO closed the channel.
+    // next token at each renewal. The CLO closed the channel, and the services are what all of that leaves.
     ensures heard { OnOk result.outcome (ServerCloses limits channel_id result.up.items (conversation_told limits limits url turns.now)) }
+    ensures closed { OnOk result.outcome (result.stage ≡ Ended Closed) }
+    ensures left { OnOk result.outcome (result.services ≡ left_by (record { limits = limits; channel = channel_id; first = services; moment = moment }) result.up.items) }
 {
     converse_with::<Brand>(
         alloc, services, limits, channel_id, url, turns, moment, writes, reads,

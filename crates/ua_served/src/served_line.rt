@@ -2,7 +2,7 @@
 
 ghost use Rattle.std.specs.Prelude.{◌≡◌, ◌++◌, ◌<◌, ◌≤◌, [], None, Some, IfOk, IfSome, OnErr, length, take};
 ghost use Rattle.ua_served.specs.Beginning.{Beginning, nobody};
-ghost use Rattle.ua_served.specs.Kept.{Keeps, LeavesAt, Served, traffic_of};
+ghost use Rattle.ua_served.specs.Kept.{EndsAt, Keeps, LeavesAt, Served, traffic_of};
 ghost use Rattle.ua_served.specs.Says.{said_to};
 ghost use Rattle.ua_served.specs.declared.stage.Stage.TheVariants.{Going};
 
@@ -141,6 +141,7 @@ impl<W: Began> ServedLine<W> {
         ensures up { result.0.items ≡ self.up }
         ensures down { result.1.items ≡ said_to W.beginning self.up }
         ensures services { LeavesAt self.stage W.beginning self.up result.2 }
+        ensures ends { EndsAt self.stage W.beginning self.up }
     {
         let ServedLine {
             services,

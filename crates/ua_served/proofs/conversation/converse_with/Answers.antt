@@ -1,8 +1,9 @@
 use Rattle.std.proofs.Common.{Fits, FitsSigned, ap, rules, subst, sym, w32, w64}
 use Rattle.std.specs.Prelude.{List, ℕ}
-use Rattle.ua_served.specs.Kept.{LeavesAt, Served}
+use Rattle.ua_served.specs.Kept.{EndsAt, LeavesAt, Served}
+use Rattle.ua_served.specs.Turns.{conversation_told}
 use Rattle.ua_served.specs.declared.stage.Stage.{Stage}
-use Rattle.ua_served.proofs.Courses.{closed_on, conversed_on}
+use Rattle.ua_served.proofs.Courses.{closed_on, closed_well, conversed_on, left_well}
 use Rattle.ua_served.proofs.Fitting.{can_open}
 use Rattle.ua_served.proofs.conversation.converse_with.Goals as goal
 
@@ -12,6 +13,13 @@ returns-clause-services g c =
     let parts = c.into_parts-up.result in
     subst (λ (s : Stage). LeavesAt s b parts.0.items parts.2) (sym c.stage-stage.ensures)
     (subst (λ (u : List ℕ). LeavesAt c.talk-outcome.new.line.stage b u parts.2) (sym c.into_parts-up.ensures.up) c.into_parts-up.ensures.services)
+
+pub returns-clause-ends : goal.returns-clause-ends
+returns-clause-ends g c =
+    let b = g.W.Began.beginning in
+    let parts = c.into_parts-up.result in
+    subst (λ (s : Stage). EndsAt s b parts.0.items) (sym c.stage-stage.ensures)
+    (subst (λ (u : List ℕ). EndsAt c.talk-outcome.new.line.stage b u) (sym c.into_parts-up.ensures.up) c.into_parts-up.ensures.ends)
 
 pub returns-clause-converses : goal.returns-clause-converses
 returns-clause-converses g c =
@@ -36,3 +44,12 @@ returns-clause-heard g c =
     closed_on c.talk-outcome.result g.W.Began.beginning c.args.limits c.args.channel_id c.args.services c.args.url c.args.moment c.args.turns.now c.new-line.result c.talk-outcome.new.line c.talk-outcome.new.replies.items c.into_parts-up.result.0.items
     c.requires.began (can_open c.args.limits c.args.channel_id c.args.services c.args.url c.args.moment receive send octets chunks channel dated c.requires.url)
     (ap (λ (l : Served). l.up) c.new-line.ensures) (ap (λ (l : Served). l.read) c.new-line.ensures) c.talk-outcome.ensures c.into_parts-up.ensures.up
+
+pub returns-clause-closed : goal.returns-clause-closed
+returns-clause-closed g c =
+    closed_well c.talk-outcome.result g.W.Began.beginning c.args.limits c.args.channel_id c.args.services c.args.moment c.stage-stage.result c.into_parts-up.result.0.items
+    (conversation_told c.args.limits c.args.limits c.args.url c.args.turns.now) c.requires.began (returns-clause-ends g c) (returns-clause-heard g c)
+
+pub returns-clause-left : goal.returns-clause-left
+returns-clause-left g c =
+    left_well c.talk-outcome.result g.W.Began.beginning c.stage-stage.result c.into_parts-up.result.0.items c.into_parts-up.result.2 (returns-clause-services g c) (returns-clause-closed g c)
