@@ -1,9 +1,10 @@
 -- That a client reads what a server answers to its requests.
-use Rattle.std.proofs.Common.{◌≡◌, ◌⊎◌, inl, inr, ℕ, ◌+◌, ◌<◌, ◌≤◌, ◌^◌, Bool, true, false, not, ◌||◌, ◌&&◌, eqb, List, [], ◌∷◌, ◌++◌, Option, Some, None, length, refl, sym, ◌∙◌, ap, subst, arith, append-nil, append_assoc}
+use Rattle.std.proofs.Common.{◌≡◌, ◌⊎◌, inl, inr, ℕ, zero, suc, ◌+◌, ◌<◌, ◌≤◌, ◌^◌, Bool, true, false, not, ◌||◌, ◌&&◌, eqb, List, [], ◌∷◌, ◌++◌, Option, Some, None, length, refl, sym, ◌∙◌, ap, subst, arith, append-nil, append_assoc}
 use Rattle.std.specs.Prelude.{cond, if◌then◌else◌}
 use Rattle.std.specs.List.{AllByRecursion}
 use Rattle.std.proofs.lemmas.Bool.{cases_lt, eq-eqb, eqb-true, ne_eqb}
 use Rattle.std.proofs.lemmas.List.Folds.{list_any-append}
+use Rattle.ua_octets.proofs.Readers.{some_is}
 use Rattle.ua_builtin.specs.declared.date_time.DateTime.{DateTime}
 use Rattle.ua_frame.specs.declared.limits.Limits.{Limits}
 use Rattle.ua_chunk.specs.Cutting.{cut_refusal}
@@ -31,6 +32,7 @@ use Rattle.ua_server.proofs.SaidInParts.{course}
 use Rattle.ua_client.specs.Sent.{calls_at}
 use Rattle.ua_client.specs.Told.{is_told_of, told_of}
 use Rattle.ua_client.proofs.Askings.{next-calls}
+use Rattle.ua_served.specs.Accepted.{held_behind_calls}
 use Rattle.ua_served.specs.Together.{behind_calls}
 use Rattle.ua_served.specs.Turns.{calls_told}
 use Rattle.ua_served.proofs.Ending.{LastChunk, replied_ends}
@@ -110,6 +112,10 @@ pub issued_stays : (s : AtServer) (lane : Lane) (bodies : List (List ℕ)) → (
 issued_stays s lane [] = refl
 issued_stays s lane (body ∷ bodies) = issued_stays (with_message s lane body) lane bodies
 
+pub newest_stays : (c : AtClient) (id : ℕ) (bodies : List (List ℕ)) → (with_calls c id bodies).newest ≡ c.newest
+newest_stays c id [] = refl
+newest_stays c id (body ∷ bodies) = newest_stays (with_call c id) (id + 1) bodies
+
 pub tokens_stay : (c : AtClient) (id : ℕ) (bodies : List (List ℕ)) → (with_calls c id bodies).tokens ≡ c.tokens
 tokens_stay c id [] = refl
 tokens_stay c id (body ∷ bodies) = tokens_stay (with_call c id) (id + 1) bodies
@@ -122,6 +128,31 @@ all_by P false m ms from one h k = k
 all_held : (P : ℕ → Type 0) (n : ℕ) (ms : List ℕ) → AllByRecursion P ms → AllByRecursion P (from_last n ms)
 all_held P n [] h = tt
 all_held P n (m ∷ ms) h = all_by P (eqb m n && not (is_in n ms)) m ms (from_last n ms) h.0 h.1 (all_held P n ms h.1)
+
+-- ---- the tokens that are held behind a reply
+
+latest_in : (n k : ℕ) (ks : List ℕ) → latest (k ∷ ks) ≡ Some n → is_in n (k ∷ ks) ≡ true
+latest_in n k [] e = ap (λ (b : Bool). b || false) (eq-eqb k n (some_is k n e))
+latest_in n k (j ∷ ks) e = ap (λ (b : Bool). eqb k n || b) (latest_in n j ks e) ∙ or_true (eqb k n)
+
+from_by : (same more : Bool) (n m : ℕ) (ms : List ℕ) → more ≡ true → from_last n ms ≡ n ∷ [] → (if same && not more then m ∷ ms else from_last n ms) ≡ n ∷ []
+from_by true true n m ms there e = e
+from_by false true n m ms there e = e
+from_by same false n m ms there e = let no : false ≡ true = there in absurd cc
+
+one_from : (same : Bool) (n m : ℕ) → m ≡ n → same ≡ true → (if same && not false then m ∷ [] else []) ≡ n ∷ []
+one_from true n m is e = ap (λ (k : ℕ). k ∷ []) is
+one_from false n m is e = let no : false ≡ true = e in absurd cc
+
+-- from the last of a list on there is just that
+from_latest : (n : ℕ) (ms : List ℕ) → latest ms ≡ Some n → from_last n ms ≡ n ∷ []
+from_latest n [] e = absurd cc
+from_latest n (m ∷ []) e = let is = some_is m n e in one_from (eqb m n) n m is (eq-eqb m n is)
+from_latest n (m ∷ (k ∷ ks)) e = from_by (eqb m n) (is_in n (k ∷ ks)) n m (k ∷ ks) (latest_in n k ks e) (from_latest n (k ∷ ks) e)
+
+one_held : (n : ℕ) → held_behind_calls 1 n ≡ 1
+one_held zero = refl
+one_held (suc n) = refl
 
 -- ---- replies, one behind the other
 
@@ -155,8 +186,8 @@ told_each back state moments id (body ∷ bodies) k from to = by (λ later. told
     by rest (inl later) = cond_some (is_told_of k (answer_told back id given.1)) (answer_told back id given.1) (told_of k (answers_told back given.0 (behind_first moments) (id + 1) bodies)) (rest later)
     by rest (inr here) = first_told (cut_refusal back (response.canonical given.1)) id k (response.canonical given.1) (answers_told back given.0 (behind_first moments) (id + 1) bodies) (omega (arith, from, here))
 
--- what is said of so many calls is read, by a client whose calls go under this token, and tells it this
-pub record AreHeard (server client : Limits) (url : Option (List ℕ)) (channel : ℕ) (s : AtServer) (count token : ℕ) (asks : List Placed) (octets : List ℕ) (heard : List Heard) (number : ℕ) (agreement : Option Agreement) : Type 0 where
+-- what is said of so many calls is read, by a client that held so many tokens and whose calls go under this one, and tells it this
+pub record AreHeard (server client : Limits) (url : Option (List ℕ)) (channel : ℕ) (s : AtServer) (count had token : ℕ) (asks : List Placed) (octets : List ℕ) (heard : List Heard) (number : ℕ) (agreement : Option Agreement) : Type 0 where
   pub at : AtClient
   pub reads : ClientReads client asks octets heard at
   pub in_step : AreInStep server client url channel s at
@@ -164,6 +195,7 @@ pub record AreHeard (server client : Limits) (url : Option (List ℕ)) (channel 
   pub agreed : agreement ≡ Some (agreement_of server s.hello)
   pub issued : AllByRecursion (λ (token : ℕ). token ≤ s.issued) at.tokens
   pub newest : at.newest ≡ token
+  pub held : length at.tokens ≡ held_behind_calls had count
   pub ends : 0 < count → LastChunk client asks octets
 
 ends_behind : (client : Limits) (asks : List Placed) (octets : List ℕ) (channel : ℕ) (k : Course) (lane : Lane) (id : ℕ) (bodies : List (List ℕ)) → LastChunk client asks octets
@@ -185,12 +217,12 @@ module _ (server client : Limits) (url : Option (List ℕ)) (channel : ℕ) (on 
   step_here c h id next = subst (λ (t : ℕ). AreInStep server client url channel s (with_reply c t id next)) used_is (in_step_reply server client url channel s c h id next)
 
   pub replies_read : (asks : List Placed) (octets : List ℕ) (told : List Heard) (c : AtClient) (state : State) (n : ℕ) (moments : List DateTime) (id : ℕ) (bodies : List (List ℕ))
-      → ClientReads client asks octets told c → AreInStep server client url channel s c → n ≡ c.next → ((k : ℕ) → id ≤ k → k < id + length bodies → is_in k c.pending ≡ true) → id + length bodies ≤ 4294967295 → AllByRecursion (λ (token : ℕ). token ≤ s.issued) c.tokens
-      → AreHeard server client url channel s (length bodies) c.newest asks (octets ++ said_of channel (course state n moments (Some g)) (calls_told lane.token id bodies)) (told ++ answers_told back state moments id bodies)
+      → ClientReads client asks octets told c → AreInStep server client url channel s c → n ≡ c.next → ((k : ℕ) → id ≤ k → k < id + length bodies → is_in k c.pending ≡ true) → id + length bodies ≤ 4294967295 → AllByRecursion (λ (token : ℕ). token ≤ s.issued) c.tokens → c.newest ≡ lane.token
+      → AreHeard server client url channel s (length bodies) (length c.tokens) c.newest asks (octets ++ said_of channel (course state n moments (Some g)) (calls_told lane.token id bodies)) (told ++ answers_told back state moments id bodies)
       (left_by channel (course state n moments (Some g)) (calls_told lane.token id bodies)).number (left_by channel (course state n moments (Some g)) (calls_told lane.token id bodies)).agreement
-  replies_read asks octets told c state n moments id [] r h next waiting few issued =
-      record { at = c; reads = subst (λ (o : List ℕ). ClientReads client asks o (told ++ []) c) (sym (append-nil octets)) (subst (λ (t : List Heard). ClientReads client asks octets t c) (sym (append-nil told)) r); in_step = h; number_is = next; agreed = refl; issued = issued; newest = refl; ends = λ some. absurd (omega (arith, some)) }
-  replies_read asks octets told c state n moments id (body ∷ bodies) r h next waiting few issued =
+  replies_read asks octets told c state n moments id [] r h next waiting few issued newest =
+      record { at = c; reads = subst (λ (o : List ℕ). ClientReads client asks o (told ++ []) c) (sym (append-nil octets)) (subst (λ (t : List Heard). ClientReads client asks octets t c) (sym (append-nil told)) r); in_step = h; number_is = next; agreed = refl; issued = issued; newest = refl; held = refl; ends = λ some. absurd (omega (arith, some)) }
+  replies_read asks octets told c state n moments id (body ∷ bodies) r h next waiting few issued newest =
       let given : State × Response = answered state (first_of moments) body in
       let reply : List ℕ = response.canonical given.1 in
       let out : List ℕ × ℕ = replied back reply n id in
@@ -204,7 +236,7 @@ module _ (server client : Limits) (url : Option (List ℕ)) (channel : ℕ) (on 
       (replied_ends client asks octets told c back id r (lane_here c h) (omega (arith, few)) reply (response_takes_some given.1)) in
       let rest =
       replies_read asks (octets ++ out.0) heard now given.0 out.1 (behind_first moments) (id + 1) bodies one (step_here c h id out.1) refl
-      (λ k from to. kept_in id k c.pending (omega (arith, from)) (waiting k (omega (arith, from)) (omega (arith, to)))) (omega (arith, few)) (all_held (λ (token : ℕ). token ≤ s.issued) lane.token c.tokens issued) in
+      (λ k from to. kept_in id k c.pending (omega (arith, from)) (waiting k (omega (arith, from)) (omega (arith, to)))) (omega (arith, few)) (all_held (λ (token : ℕ). token ≤ s.issued) lane.token c.tokens issued) newest in
       record {
         at = rest.at;
         reads =
@@ -217,6 +249,7 @@ module _ (server client : Limits) (url : Option (List ℕ)) (channel : ℕ) (on 
         agreed = rest.agreed;
         issued = rest.issued;
         newest = rest.newest;
+        held = rest.held ∙ (ap (λ (n : ℕ). held_behind_calls n (length bodies)) (ap length (from_latest lane.token c.tokens (r.newest_is ∙ ap (λ (n : ℕ). Some n) newest))) ∙ one_held (length bodies));
         ends = λ some. subst (LastChunk client asks) (append_assoc octets out.0 (said_of channel (course given.0 out.1 (behind_first moments) (Some g)) (calls_told lane.token (id + 1) bodies)))
             (ends_behind client asks (octets ++ out.0) channel (course given.0 out.1 (behind_first moments) (Some g)) lane (id + 1) bodies last rest.ends);
       }

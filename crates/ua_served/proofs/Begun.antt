@@ -14,6 +14,7 @@ use Rattle.ua_services.specs.Message.{message}
 use Rattle.ua_services.proofs.Lengths.{open_response_length}
 use Rattle.ua_structures.specs.Plain.{open_response_of}
 use Rattle.ua_structures.specs.SecureChannel.{open_response}
+use Rattle.ua_frame.proofs.Afters.{AllAfter-nil}
 use Rattle.ua_channel.specs.Asks.{Placed, asked_in, next_id}
 use Rattle.ua_channel.specs.Client.{limits_of, rules_of, url_of}
 use Rattle.ua_channel.specs.ClientReads.{ClientAgrees, ClientReads, opened_at}
@@ -36,6 +37,7 @@ use Rattle.ua_client.specs.Site.{Site, At, id_at}
 use Rattle.ua_client.specs.declared.client.Client.{Client}
 use Rattle.ua_client.specs.declared.connection.Connection.{Connection}
 use Rattle.ua_client.proofs.Carrying.{carried-as}
+use Rattle.ua_served.specs.Accepted.{IsAccepted, acknowledged}
 use Rattle.ua_served.specs.Beginning.{Beginning}
 use Rattle.ua_served.specs.Course.Course.{Begun}
 use Rattle.ua_served.specs.Course.{opening_octets}
@@ -165,7 +167,7 @@ module _ (b : Beginning) (limits : Limits) (url : Option (List ℕ)) (moment : D
   first_id : id_at there.0 ≡ 2
   first_id = ap (λ (p : List Placed). next_id (asked_in p)) there.2 ∙ ap next_id no_asks
 
-  talks_by : AreTalking b l url (opening_octets l url moment) (opening_told b.limits l url) 1 2 there.0 o.last first after
+  talks_by : AreTalking b l url (opening_octets l url moment) (opening_told b.limits l url) 1 2 1 there.0 o.last first after
   talks_by = record {
     line = line;
     got = o.opens.moves.got;
@@ -182,14 +184,15 @@ module _ (b : Beginning) (limits : Limits) (url : Option (List ℕ)) (moment : D
       newest_is = refl;
       id_is = first_id;
       few = omega arith;
+      held_is = refl;
     };
   }
 
-  talks : AreTalking b limits url (opening_octets limits url moment ++ []) (opening_told b.limits limits url ++ []) 1 2 there.0 o.last first after
+  talks : AreTalking b limits url (opening_octets limits url moment ++ []) (opening_told b.limits limits url ++ []) 1 2 1 there.0 o.last first after
   talks =
-      talking_as b limits url (opening_octets limits url moment) (opening_octets limits url moment ++ []) (opening_told b.limits limits url) (opening_told b.limits limits url ++ []) 1 1 2 2 there.0 o.last first after
-      (sym (append-nil (opening_octets limits url moment))) (sym (append-nil (opening_told b.limits limits url))) refl refl
-      (subst (λ (m : Limits). AreTalking b m url (opening_octets m url moment) (opening_told b.limits m url) 1 2 there.0 o.last first after) limits_are talks_by)
+      talking_as b limits url (opening_octets limits url moment) (opening_octets limits url moment ++ []) (opening_told b.limits limits url) (opening_told b.limits limits url ++ []) 1 1 2 2 1 1 there.0 o.last first after
+      (sym (append-nil (opening_octets limits url moment))) (sym (append-nil (opening_told b.limits limits url))) refl refl refl
+      (subst (λ (m : Limits). AreTalking b m url (opening_octets m url moment) (opening_told b.limits m url) 1 2 1 there.0 o.last first after) limits_are talks_by)
 
   pub went_first : Went b limits url moment (connection_of client) first after
   went_first = record {
@@ -199,6 +202,7 @@ module _ (b : Beginning) (limits : Limits) (url : Option (List ℕ)) (moment : D
     opened_at = there.3;
     stays = subst (λ (c : Connection). StaysTalking b limits url moment there.0 [] c first after []) (sym o.over.0) (record {
       able = able;
+      accepted = AllAfter-nil (IsAccepted (acknowledged b.limits limits url));
       stays = record {
         site = there.0;
         at = there.3;

@@ -1,20 +1,24 @@
 -- A client's turns over a line, one behind the other.
-use Rattle.std.proofs.Common.{◌≡◌, ◌⊎◌, inl, inr, ℕ, ◌+◌, ◌<◌, ◌≤◌, List, [], ◌∷◌, ◌++◌, Option, Some, None, Result, Ok, Err, get_or, length, take, refl, sym, ◌∙◌, ap, subst, append-nil, append_assoc, arith}
-use Rattle.std.specs.Prelude.{OnOk}
-use Rattle.std.proofs.lemmas.List.{take_all, take_more}
+use Rattle.std.proofs.Common.{◌≡◌, ◌⊎◌, inl, inr, ℕ, ◌+◌, ◌<◌, ◌≤◌, List, [], ◌∷◌, ◌++◌, Option, Some, None, Result, Ok, Err, get_or, length, take, drop, refl, sym, ◌∙◌, ap, subst, append-nil, append_assoc, arith}
+use Rattle.std.specs.Prelude.{IfErr, OnOk}
+use Rattle.std.proofs.lemmas.List.{length-take-le, take-append-drop, take_all, take_more}
+use Rattle.ua_builtin.specs.Reasons.{first_reason}
 use Rattle.ua_builtin.specs.declared.date_time.DateTime.{DateTime}
 use Rattle.ua_frame.specs.Run.{End, Going, Over, Stopped}
+use Rattle.ua_frame.specs.declared.ack.Ack.{Ack}
 use Rattle.ua_frame.specs.declared.limits.Limits.{Limits}
+use Rattle.ua_frame.proofs.Afters.{AllAfter-push}
 use Rattle.ua_channel.specs.Line.{Traffic, WhereTold}
 use Rattle.ua_channel.specs.ServerReads.{ServerCloses}
 use Rattle.ua_channel.specs.ServerTold.{Told, Opened, Closed}
+use Rattle.ua_channel.specs.declared.client.channel.ClientChannel.{ClientChannel}
 use Rattle.ua_services.specs.declared.request.Request.{Request}
 use Rattle.ua_server.specs.Said.{said}
 use Rattle.ua_server.specs.State.{State}
 use Rattle.ua_server.specs.declared.step.End.TheVariants as ending
 use Rattle.ua_server.proofs.SaidInParts.{said-append, said-more}
 use Rattle.ua_client.specs.Carried.{Carries}
-use Rattle.ua_client.specs.Client.{Closes, IsReady, OpensClient, OpensNothing, closing_at, connection_of}
+use Rattle.ua_client.specs.Client.{Closes, ClosesAt, IsReady, OpensClient, OpensNothing, closing_at, connection_of}
 use Rattle.ua_client.specs.Hearing.{channel_of, untaken_of}
 use Rattle.ua_client.specs.Kept.{CallsInto}
 use Rattle.ua_client.specs.Renewing.{IsRenewed, Renews, renewal_at}
@@ -22,10 +26,14 @@ use Rattle.ua_client.specs.Site.{Site, id_at}
 use Rattle.ua_client.specs.declared.client.Client.{Client}
 use Rattle.ua_client.specs.declared.connection.Connection.{Connection}
 use Rattle.ua_client.specs.declared.fault.ClientFault.{ClientFault}
+use Rattle.ua_client.specs.Opening.{BreaksOpening}
+use Rattle.ua_client.specs.declared.fault.CallsFault.{CallsFault}
+use Rattle.ua_client.specs.declared.fault.ClientFault.TheVariants as fault
 use Rattle.ua_client.specs.declared.fault.ClientFault.TheVariants.{OutOfMemory}
 use Rattle.ua_client.specs.declared.reply.Reply.{Reply}
 use Rattle.ua_client.proofs.Carrying.{carried-as, carried-then}
 use Rattle.ua_client.proofs.Settled.{NonePending}
+use Rattle.ua_served.specs.Accepted.{AreAccepted, FirstRefused, IsAccepted, IsTurnFault, acknowledged, held_behind, tokens_held, turn_reasons, turn_refusal}
 use Rattle.ua_served.specs.Beginning.{Beginning}
 use Rattle.ua_served.specs.Course.{Converses, Course, Stays, asked_by, opening_octets}
 use Rattle.ua_served.specs.Course.Course.{Asked, Renewed}
@@ -40,7 +48,7 @@ use Rattle.ua_served.proofs.Begun.{SettlesOpened, went_first}
 use Rattle.ua_served.proofs.Reaching.{closing_read}
 use Rattle.ua_served.proofs.Saying.{end_is, said_by_run, spent-append, spent-enough}
 use Rattle.ua_served.proofs.Staying.{said_there}
-use Rattle.ua_served.proofs.Talks.{got_on, rounds_octets, talking_as, talks_asked, talks_renewed}
+use Rattle.ua_served.proofs.Talks.{asked_judged, asked_refused, got_on, renewed_judged, renewing_refused, rounds_octets, talking_as, talks_asked, talks_renewed}
 
 -- ---- what turns tell, with one turn more
 
@@ -59,27 +67,43 @@ ids_push : (id : ℕ) (turns : List Turn) (t : Turn) → ids_behind id (turns ++
 ids_push id [] t = refl
 ids_push id (u ∷ us) t = ids_push (id_behind id (asked_by u)) us t
 
+held_push : (held : ℕ) (turns : List Turn) (t : Turn) → tokens_held held (turns ++ t ∷ []) ≡ held_behind (tokens_held held turns) (asked_by t)
+held_push held [] t = refl
+held_push held (u ∷ us) t = held_push (held_behind held (asked_by u)) us t
+
 -- ---- a turn
 
 module _ (b : Beginning) (limits : Limits) (url : Option (List ℕ)) (moment : DateTime) (opened : Site) (turns : List Turn) (x y : Connection) (first now after : Option Traffic) (had have : List Reply) (s : StaysTalking b limits url moment opened turns x first now had) where
   abbrev opening : List ℕ
   opening = opening_octets limits url moment
 
+  abbrev acked : Ack
+  acked = acknowledged b.limits limits url
+
   abbrev was : Stays moment (opening_octets limits url moment) opened turns x first now had
   was = s.stays
 
   -- both are in step behind one turn more, which was sent and told this
   more_talking : (t : Turn) (asked : Option (List Request)) (is : asked_by t ≡ asked) (sent : List ℕ) (site : Site)
-      → AreTalking b limits url ((opening ++ was.sent) ++ sent) ((opening_told b.limits limits url ++ turns_told 1 2 turns) ++ turn_told (tokens_behind 1 turns) (ids_behind 2 turns) asked) (token_behind (tokens_behind 1 turns) asked) (id_behind (ids_behind 2 turns) asked) site y first after
-      → AreTalking b limits url (opening ++ (was.sent ++ sent)) (opening_told b.limits limits url ++ turns_told 1 2 (turns ++ t ∷ [])) (tokens_behind 1 (turns ++ t ∷ [])) (ids_behind 2 (turns ++ t ∷ [])) site y first after
+      → AreTalking b limits url ((opening ++ was.sent) ++ sent) ((opening_told b.limits limits url ++ turns_told 1 2 turns) ++ turn_told (tokens_behind 1 turns) (ids_behind 2 turns) asked) (token_behind (tokens_behind 1 turns) asked) (id_behind (ids_behind 2 turns) asked) (held_behind (tokens_held 1 turns) asked) site y first after
+      → AreTalking b limits url (opening ++ (was.sent ++ sent)) (opening_told b.limits limits url ++ turns_told 1 2 (turns ++ t ∷ [])) (tokens_behind 1 (turns ++ t ∷ [])) (ids_behind 2 (turns ++ t ∷ [])) (tokens_held 1 (turns ++ t ∷ [])) site y first after
   more_talking t asked is sent site talks =
       talking_as b limits url ((opening ++ was.sent) ++ sent) (opening ++ (was.sent ++ sent)) ((opening_told b.limits limits url ++ turns_told 1 2 turns) ++ turn_told (tokens_behind 1 turns) (ids_behind 2 turns) asked)
-      (opening_told b.limits limits url ++ turns_told 1 2 (turns ++ t ∷ [])) (token_behind (tokens_behind 1 turns) asked) (tokens_behind 1 (turns ++ t ∷ [])) (id_behind (ids_behind 2 turns) asked) (ids_behind 2 (turns ++ t ∷ [])) site y first after
+      (opening_told b.limits limits url ++ turns_told 1 2 (turns ++ t ∷ [])) (token_behind (tokens_behind 1 turns) asked) (tokens_behind 1 (turns ++ t ∷ [])) (id_behind (ids_behind 2 turns) asked) (ids_behind 2 (turns ++ t ∷ []))
+      (held_behind (tokens_held 1 turns) asked) (tokens_held 1 (turns ++ t ∷ [])) site y first after
       (append_assoc opening was.sent sent)
       (append_assoc (opening_told b.limits limits url) (turns_told 1 2 turns) (turn_told (tokens_behind 1 turns) (ids_behind 2 turns) asked)
       ∙ ap (λ (ts : List Told). opening_told b.limits limits url ++ ts) (sym (told_push 1 2 turns t ∙ ap (λ (o : Option (List Request)). turns_told 1 2 turns ++ turn_told (tokens_behind 1 turns) (ids_behind 2 turns) o) is)))
       (sym (tokens_push 1 turns t ∙ ap (λ (o : Option (List Request)). token_behind (tokens_behind 1 turns) o) is))
-      (sym (ids_push 2 turns t ∙ ap (λ (o : Option (List Request)). id_behind (ids_behind 2 turns) o) is)) talks
+      (sym (ids_push 2 turns t ∙ ap (λ (o : Option (List Request)). id_behind (ids_behind 2 turns) o) is))
+      (sym (held_push 1 turns t ∙ ap (λ (o : Option (List Request)). held_behind (tokens_held 1 turns) o) is)) talks
+
+  -- why it is refused
+  refused_as : (t : Turn) (asked : Option (List Request)) → asked_by t ≡ asked → turn_refusal acked turns t ≡ first_reason (turn_reasons acked (tokens_held 1 turns) (ids_behind 2 turns) asked)
+  refused_as t asked is = ap (λ (o : Option (List Request)). first_reason (turn_reasons acked (tokens_held 1 turns) (ids_behind 2 turns) o)) is
+
+  more_accepted : (t : Turn) → turn_refusal acked turns t ≡ None → AreAccepted acked (turns ++ t ∷ [])
+  more_accepted t none = AllAfter-push (IsAccepted acked) turns t s.accepted none
 
   carried_on : (got sent : List ℕ) → WhereTold (Carries got sent) now after → WhereTold (Carries (was.got ++ got) (opening ++ (was.sent ++ sent))) first after
   carried_on got sent carried =
@@ -92,6 +116,11 @@ module _ (b : Beginning) (limits : Limits) (url : Option (List ℕ)) (moment : D
       let a = c.answers was.site was.at was.settled in
       record {
         able = s.able;
+        accepted =
+            more_accepted t
+            (refused_as t (Some requests) is
+            ∙ asked_judged b limits url (opening ++ was.sent) (opening_told b.limits limits url ++ turns_told 1 2 turns) (tokens_behind 1 turns) (ids_behind 2 turns) (tokens_held 1 turns) was.site x first now s.talking y after c.sent c.moves c.same
+            law requests c.added a);
         stays = record {
           site = a.behind;
           at = a.at;
@@ -104,7 +133,7 @@ module _ (b : Beginning) (limits : Limits) (url : Option (List ℕ)) (moment : D
           got_is = got_on was.got c.moves.got was.site.octets (untaken_of x) c.moves.taken (untaken_of y) was.got_is c.moves.parts ∙ ap (λ (o : List ℕ). o ++ untaken_of y) (sym (rounds_octets a.rounds));
         };
         talking = more_talking t (Some requests) is c.sent a.behind
-            (talks_asked b limits url (opening ++ was.sent) (opening_told b.limits limits url ++ turns_told 1 2 turns) (tokens_behind 1 turns) (ids_behind 2 turns) was.site x first now s.talking y after c.sent c.moves c.same law requests c.added a);
+            (talks_asked b limits url (opening ++ was.sent) (opening_told b.limits limits url ++ turns_told 1 2 turns) (tokens_behind 1 turns) (ids_behind 2 turns) (tokens_held 1 turns) was.site x first now s.talking y after c.sent c.moves c.same law requests c.added a);
       }
 
   -- the token is renewed
@@ -115,6 +144,11 @@ module _ (b : Beginning) (limits : Limits) (url : Option (List ℕ)) (moment : D
       let renewed : IsRenewed (channel_of y) was.site u c.moves.taken = a.1.1 in
       record {
         able = s.able;
+        accepted =
+            more_accepted t
+            (refused_as t None is
+            ∙ renewed_judged b limits url (opening ++ was.sent) (opening_told b.limits limits url ++ turns_told 1 2 turns) (tokens_behind 1 turns) (ids_behind 2 turns) (tokens_held 1 turns) was.site x first now s.talking y after c.sent c.moves c.same
+            moment (sym (c.judged was.site was.at was.settled)));
         stays = record {
           site = u;
           at = renewed.at;
@@ -126,10 +160,24 @@ module _ (b : Beginning) (limits : Limits) (url : Option (List ℕ)) (moment : D
           got_is = got_on was.got c.moves.got was.site.octets (untaken_of x) c.moves.taken (untaken_of y) was.got_is c.moves.parts ∙ ap (λ (o : List ℕ). o ++ untaken_of y) (sym renewed.octets);
         };
         talking = more_talking t None is (renewal_at was.site moment) u
-            (subst (λ (o : List ℕ). AreTalking b limits url ((opening ++ was.sent) ++ o) ((opening_told b.limits limits url ++ turns_told 1 2 turns) ++ Opened (ids_behind 2 turns) 0 (tokens_behind 1 turns + 1) 3600000 ∷ []) (tokens_behind 1 turns + 1) (ids_behind 2 turns + 1) u y first after) a.0
-            (talks_renewed b limits url (opening ++ was.sent) (opening_told b.limits limits url ++ turns_told 1 2 turns) (tokens_behind 1 turns) (ids_behind 2 turns) was.site x first now s.talking y after c.sent c.moves c.same
+            (subst (λ (o : List ℕ). AreTalking b limits url ((opening ++ was.sent) ++ o) ((opening_told b.limits limits url ++ turns_told 1 2 turns) ++ Opened (ids_behind 2 turns) 0 (tokens_behind 1 turns + 1) 3600000 ∷ []) (tokens_behind 1 turns + 1) (ids_behind 2 turns + 1) (tokens_held 1 turns + 1) u y first after) a.0
+            (talks_renewed b limits url (opening ++ was.sent) (opening_told b.limits limits url ++ turns_told 1 2 turns) (tokens_behind 1 turns) (ids_behind 2 turns) (tokens_held 1 turns) was.site x first now s.talking y after c.sent c.moves c.same
             moment s.able.dated s.able.answered (sym (c.judged was.site was.at was.settled)) a.0 u renewed));
       }
+
+  -- or it is not taken, by the first reason against it
+
+  pub asked_not : NonePending → (t : Turn) (requests : List Request) (f : CallsFault) → asked_by t ≡ Some requests → CallsInto {A = Unit {0}} requests x y now after (Err f) had have → IsTurnFault f.fault → turn_refusal acked turns t ≡ Some f.fault
+  asked_not law t requests f is c reason =
+      refused_as t (Some requests) is
+      ∙ asked_refused b limits url (opening ++ was.sent) (opening_told b.limits limits url ++ turns_told 1 2 turns) (tokens_behind 1 turns) (ids_behind 2 turns) (tokens_held 1 turns) was.site x first now s.talking y after c.sent c.moves c.same
+      law requests f.fault reason (c.answers was.site was.at was.settled).broken
+
+  pub renewed_not : (t : Turn) (f : ClientFault) → asked_by t ≡ None → Renews {A = Unit {0}} moment x y now after (Err f) → IsTurnFault f → turn_refusal acked turns t ≡ Some f
+  renewed_not t f is c reason =
+      refused_as t None is
+      ∙ renewing_refused b limits url (opening ++ was.sent) (opening_told b.limits limits url ++ turns_told 1 2 turns) (tokens_behind 1 turns) (ids_behind 2 turns) (tokens_held 1 turns) was.site x first now s.talking y after c.sent c.moves c.same
+      moment f reason (c.answers was.site was.at was.settled) (c.judged was.site was.at was.settled)
 
 -- ---- the end
 
@@ -171,6 +219,7 @@ talked_all b limits url moment turns x first now after replies w y later done s 
       got = was.got;
       carried = carried-as (was.got ++ []) ((opening ++ was.sent) ++ c.sent) was.got (opening ++ (was.sent ++ closing_at was.site moment)) first after (append-nil was.got)
           (ap (λ (o : List ℕ). (opening ++ was.sent) ++ o) sent_is ∙ all) (carried-then was.got (opening ++ was.sent) [] c.sent first later after was.carried c.carried);
+      accepted = s.accepted;
       took = t.serving.taken ∙ sym (closing_said b (opening ++ was.sent) (opening ++ (was.sent ++ closing_at was.site moment)) told closes (said_there b (opening ++ was.sent) told t.at_server t.serving.together.server_reads));
       closes = closes;
     }
@@ -232,6 +281,25 @@ taken_more moment turns index x y z before now after had have later t so less is
   ready = ready;
 }
 
+-- the next one is not taken
+pub refused_next : (moment : DateTime) (turns : List Turn) (index : ℕ) (x y : Client) (before now : Option Traffic) (had have : List Reply) (t : Turn) (f : ClientFault) → TakenSoFar moment turns index x y before now had have
+    → index < length turns → t ≡ get_or turns index t
+    → ((b : Beginning) (limits : Limits) (url : Option (List ℕ)) (opened : Site) (done : List Turn) (first : Option Traffic) → StaysTalking b limits url moment opened done (connection_of y) first now have → turn_refusal (acknowledged b.limits limits url) done t ≡ Some f)
+    → (b : Beginning) (limits : Limits) (url : Option (List ℕ)) (opened : Site) (first : Option Traffic) → StaysTalking b limits url moment opened [] (connection_of x) first before had → FirstRefused (acknowledged b.limits limits url) turns index f
+refused_next moment turns index x y before now had have t f so less is refused b limits url opened first s =
+    let done = so.stays b limits url opened first s in
+    record {
+      before = take index turns;
+      turn = t;
+      behind = drop (index + 1) turns;
+      parts =
+          sym (take-append-drop (index + 1) turns)
+          ∙ (ap (λ (ts : List Turn). ts ++ drop (index + 1) turns) (take_more turns index t less ∙ ap (λ (u : Turn). take index turns ++ u ∷ []) (sym is)) ∙ append_assoc (take index turns) (t ∷ []) (drop (index + 1) turns));
+      place_is = length-take-le index turns (omega (arith, less));
+      accepted = done.accepted;
+      refused = refused b limits url opened (take index turns) first done;
+    }
+
 pub taken_all : (moment : DateTime) (turns : List Turn) (index : ℕ) (x y : Client) (before now : Option Traffic) (had have : List Reply) → TakenSoFar moment turns index x y before now had have → length turns ≤ index
     → (b : Beginning) (limits : Limits) (url : Option (List ℕ)) (opened : Site) (first : Option Traffic) → StaysTalking b limits url moment opened [] (connection_of x) first before had
     → StaysTalking b limits url moment opened turns (connection_of y) first now have
@@ -250,6 +318,50 @@ pub ready_by : (limits : Limits) (url : Option (List ℕ)) (moment : DateTime) (
     → (OpensNothing before after (Ok client) ⊎ OpensClient limits url moment before after (Ok client)) → IsReady client
 ready_by limits url moment before after client (inl nothing) = let none : ◌≡◌ {A = Result Client ClientFault} (Ok client) (Err OutOfMemory) = nothing.0 in absurd cc
 ready_by limits url moment before after client (inr o) = o.over.1
+
+-- neither its opening nor its close fails for a reason against a turn
+
+pub opens_by : (limits : Limits) (url : Option (List ℕ)) (moment : DateTime) (before after : Option Traffic) (f : ClientFault) → IsTurnFault f → (OpensNothing before after (Err f) ⊎ OpensClient limits url moment before after (Err f)) → ⊥
+opens_by limits url moment before after f is (inl nothing) = memory_not f is (err_is f OutOfMemory nothing.0)
+  where
+    err_is : (g h : ClientFault) → ◌≡◌ {A = Result Client ClientFault} (Err g) (Err h) → g ≡ h
+    err_is g h e = cc
+
+    memory_not : (g : ClientFault) → IsTurnFault g → g ≡ OutOfMemory → ⊥
+    memory_not g reason e = subst IsTurnFault e reason
+opens_by limits url moment before after f is (inr o) = by _ _ _ _ _ f is (o.opens.answers o.fresh.goes)
+  where
+    by : (hello opening : List ℕ) (x : ClientChannel) (sent taken : List ℕ) (g : ClientFault) → IsTurnFault g → BreaksOpening hello opening x sent taken g → ⊥
+    by _ _ _ _ _ fault.NotWritable reason k = k
+    by _ _ _ _ _ fault.Exhausted reason k = k
+    by _ _ _ _ _ fault.TooLarge reason k = k
+    by _ _ _ _ _ fault.TooManyTokens reason k = k
+    by _ _ _ _ _ (fault.Peer code) reason k = reason
+    by _ _ _ _ _ (fault.Refused code) reason k = reason
+    by _ _ _ _ _ (fault.Service code) reason k = reason
+    by _ _ _ _ _ fault.Ended reason k = reason
+    by _ _ _ _ _ fault.Read reason k = reason
+    by _ _ _ _ _ fault.Write reason k = reason
+    by _ _ _ _ _ fault.TooLong reason k = reason
+    by _ _ _ _ _ fault.UnknownResponse reason k = reason
+    by _ _ _ _ _ fault.OutOfMemory reason k = reason
+    by _ _ _ _ _ fault.Closed reason k = reason
+
+pub closes_by : (s : Site) (moment : DateTime) (sent : List ℕ) (f : ClientFault) → IsTurnFault f → ClosesAt {A = Unit {0}} s moment sent (Err f) → ⊥
+closes_by s moment sent fault.NotWritable is k = k
+closes_by s moment sent fault.Exhausted is k = k
+closes_by s moment sent fault.TooLarge is k = k
+closes_by s moment sent fault.TooManyTokens is k = k
+closes_by s moment sent (fault.Peer code) is k = is
+closes_by s moment sent (fault.Refused code) is k = is
+closes_by s moment sent (fault.Service code) is k = is
+closes_by s moment sent fault.Ended is k = is
+closes_by s moment sent fault.Read is k = is
+closes_by s moment sent fault.Write is k = is
+closes_by s moment sent fault.TooLong is k = is
+closes_by s moment sent fault.UnknownResponse is k = is
+closes_by s moment sent fault.OutOfMemory is k = is
+closes_by s moment sent fault.Closed is k = is
 
 -- ---- how the server saw it end
 
@@ -287,6 +399,9 @@ module _ (b : Beginning) (limits : Limits) (channel : ℕ) (services : State) (u
       subst (λ (u : List ℕ). Converses limits url moment turns u down replies) (sym p)
       (subst (λ (d : List ℕ). Converses limits url moment turns new.up d replies) (sym q) (conversed b limits url moment turns old new replies none talked))
 
+  all_accepted : AreAccepted (acknowledged limits limits url) turns
+  all_accepted = subst (λ (d : Beginning). AreAccepted (acknowledged d.limits limits url) turns) is talked.accepted
+
   all_closed : (up : List ℕ) → up ≡ new.up → ServerCloses limits channel up (conversation_told limits limits url turns)
   all_closed up p =
       subst (λ (d : Beginning). ServerCloses d.limits d.channel up (conversation_told d.limits limits url turns)) is
@@ -309,3 +424,20 @@ pub closed_on : (r : Result (Unit {0}) ClientFault) (b : Beginning) (limits : Li
 closed_on (Err f) b limits channel services url moment turns old new replies up is able none nothing_read t p = tt
 closed_on (Ok found) b limits channel services url moment turns old new replies up is able none nothing_read t p =
     all_closed b limits channel services url moment turns old new replies is able none nothing_read t up p
+
+-- and each turn was accepted
+pub accepted_on : (r : Result (Unit {0}) ClientFault) (b : Beginning) (limits : Limits) (channel : ℕ) (services : State) (url : Option (List ℕ)) (moment : DateTime) (turns : List Turn) (old new : Served) (replies : List Reply)
+    → b ≡ record { limits = limits; channel = channel; first = services; moment = moment } → CanOpen (record { limits = limits; channel = channel; first = services; moment = moment }) limits url moment → old.up ≡ [] → old.read ≡ 0
+    → OnOk r ((b' : Beginning) → CanOpen b' limits url moment → ◌≡◌ {A = Option Traffic} (Some (traffic_of b old)) (Some (line_to b')) → Talked b' limits url moment turns (Some (traffic_of b old)) (Some (traffic_of b new)) replies)
+    → OnOk r (AreAccepted (acknowledged limits limits url) turns)
+accepted_on (Err f) b limits channel services url moment turns old new replies is able none nothing_read t = tt
+accepted_on (Ok found) b limits channel services url moment turns old new replies is able none nothing_read t = all_accepted b limits channel services url moment turns old new replies is able none nothing_read t
+
+-- or the first that is not is named
+pub refused_on : (r : Result (Unit {0}) ClientFault) (b : Beginning) (limits : Limits) (channel : ℕ) (services : State) (url : Option (List ℕ)) (moment : DateTime) (turns : List Turn) (old : Served) (place : ℕ)
+    → b ≡ record { limits = limits; channel = channel; first = services; moment = moment } → CanOpen (record { limits = limits; channel = channel; first = services; moment = moment }) limits url moment → old.up ≡ [] → old.read ≡ 0
+    → IfErr r (λ f. IsTurnFault f → (b' : Beginning) → CanOpen b' limits url moment → ◌≡◌ {A = Option Traffic} (Some (traffic_of b old)) (Some (line_to b')) → FirstRefused (acknowledged b'.limits limits url) turns place f)
+    → IfErr r (λ f. IsTurnFault f → FirstRefused (acknowledged limits limits url) turns place f)
+refused_on (Ok found) b limits channel services url moment turns old place is able none nothing_read t = tt
+refused_on (Err f) b limits channel services url moment turns old place is able none nothing_read t = λ reason.
+    subst (λ (d : Beginning). FirstRefused (acknowledged d.limits limits url) turns place f) is (t reason b (subst (λ (d : Beginning). CanOpen d limits url moment) (sym is) able) (line_begins b old none nothing_read))

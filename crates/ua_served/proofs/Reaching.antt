@@ -48,6 +48,10 @@ module _ (x : ClientChannel) (s : Site) (c : AtClient) (at : At x s) (r : Client
   pub acked_here : s.before.ack ≡ Some c.ack
   acked_here = ap (λ (b : Received). b.ack) before_is ∙ r.ack_is
 
+  -- it holds these tokens
+  pub tokens_here : held_tokens s.before ≡ c.tokens
+  tokens_here = ap held_tokens before_is ∙ r.tokens_are
+
   -- and its calls go out in this lane
   pub lane_here : lane_behind s.before ≡ Some (lane_from c)
   lane_here =

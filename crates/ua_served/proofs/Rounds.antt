@@ -1,15 +1,19 @@
 -- That both ends stay in step behind groups of calls that are answered, one behind another, and behind a renewal.
-use Rattle.std.proofs.Common.{◌≡◌, ℕ, ◌+◌, ◌<◌, IsTrue, List, [], ◌∷◌, ◌++◌, Option, None, length, suc, sym, ◌∙◌, ap, subst, arith, append-nil, append_assoc, length-append, add-zero}
+use Rattle.std.proofs.Common.{◌≡◌, ℕ, ◌+◌, ◌<◌, Bool, IsTrue, List, [], ◌∷◌, ◌++◌, Option, Some, None, length, zero, suc, refl, sym, ◌∙◌, ap, subst, arith, append-nil, append_assoc, length-append, add-zero}
 use Rattle.std.specs.List.{AllByRecursion}
 use Rattle.ua_octets.specs.Format.{Extends}
 use Rattle.ua_builtin.specs.DateTime.{date_time}
+use Rattle.ua_builtin.specs.Reasons.{first_reason}
+use Rattle.ua_builtin.proofs.FirstReasons.{first_among, first_behind}
 use Rattle.ua_builtin.specs.declared.date_time.DateTime.{DateTime}
+use Rattle.ua_frame.specs.declared.ack.Ack.{Ack}
 use Rattle.ua_frame.specs.declared.limits.Limits.{Limits}
 use Rattle.ua_chunk.specs.Sequence.{next_number}
 use Rattle.ua_channel.specs.Asks.{Placed, asked_in, next_id}
 use Rattle.ua_channel.specs.Asks.Asking.{Renewal}
 use Rattle.ua_channel.specs.Client.{limits_of}
 use Rattle.ua_channel.specs.ClientReads.{AtClient, ClientReads, lane_from, with_answer, with_renewal}
+use Rattle.ua_channel.specs.ClientTokens.{held_tokens}
 use Rattle.ua_channel.specs.InStep.{AreInStep}
 use Rattle.ua_channel.specs.ServerReads.{AtServer, with_token}
 use Rattle.ua_channel.specs.ServerTold.{Told, Asked, Opened}
@@ -17,14 +21,16 @@ use Rattle.ua_channel.specs.declared.client.channel.ClientChannel.{ClientChannel
 use Rattle.ua_channel.proofs.Askings.{asked_in-push}
 use Rattle.ua_services.specs.Request.{request}
 use Rattle.ua_services.specs.declared.request.Request.{Request}
-use Rattle.ua_client.specs.Calls.{Answered, AreGroups, LastCame, Rounds, all_of, sent_at}
+use Rattle.ua_client.specs.Calls.{Answered, AreGroups, LastCame, Rounds, all_of, refusal_at, sent_at}
 use Rattle.ua_client.specs.Calls.Rounds.{NoRound, OneRound}
 use Rattle.ua_client.specs.Renewing.{IsRenewed, IsSettled, asks_renewed, renewal_at, renewal_refusal}
-use Rattle.ua_client.specs.Sent.{bodies_of}
+use Rattle.ua_client.specs.Sent.{bodies_of, group_reasons, request_reasons}
 use Rattle.ua_client.specs.Site.{Site, At, id_at}
+use Rattle.ua_client.specs.declared.fault.ClientFault.{ClientFault}
 use Rattle.ua_client.specs.declared.reply.Reply.{Reply}
 use Rattle.ua_client.proofs.Askings.{next-calls}
 use Rattle.ua_client.proofs.Settled.{NonePending, answered-settled}
+use Rattle.ua_served.specs.Accepted.{acknowledged, held_behind_calls, turn_reasons}
 use Rattle.ua_served.specs.Beginning.{Beginning}
 use Rattle.ua_served.specs.Says.{said_to}
 use Rattle.ua_served.specs.Together.{AreServing, behind_calls}
@@ -32,7 +38,7 @@ use Rattle.ua_served.specs.Turns.{calls_told}
 use Rattle.ua_served.specs.inside.Talking.{IsServed}
 use Rattle.ua_served.proofs.Answering.{issued_stays}
 use Rattle.ua_served.proofs.Ending.{all_last}
-use Rattle.ua_served.proofs.Reaching.{few_ids, not_exhausted, requests_asked}
+use Rattle.ua_served.proofs.Reaching.{acked_here, few_ids, not_exhausted, requests_asked, tokens_here}
 use Rattle.ua_served.proofs.Renewed.{renewal_taken, renewed_together}
 use Rattle.ua_served.proofs.Saying.{said_further}
 use Rattle.ua_served.proofs.Staying.{answered_taken, bodies_count, stay_together}
@@ -53,7 +59,7 @@ told_push token id (m ∷ ms) ns =
     on : (a b : ℕ) → (a + 1) + b ≡ a + suc b
     on a b = omega arith
 
-all_front : {A : Type 0} (P : A → Type 0) (xs : List A) (y : A) → AllByRecursion P (xs ++ y ∷ []) → AllByRecursion P xs
+pub all_front : {A : Type 0} (P : A → Type 0) (xs : List A) (y : A) → AllByRecursion P (xs ++ y ∷ []) → AllByRecursion P xs
 all_front P [] y h = tt
 all_front P (x ∷ xs) y h = (h.0, all_front P xs y h.1)
 
@@ -68,16 +74,17 @@ some_in (g ∷ groups) h = (h.0, some_in groups h.3)
 -- ---- the same, by other names
 
 module _ (b : Beginning) (limits : Limits) (url : Option (List ℕ)) where
-  pub served_as : (octets others : List ℕ) (told more : List Told) (token id n : ℕ) (site : Site) (x : ClientChannel) → octets ≡ others → told ≡ more → id ≡ n → IsServed b limits url octets told token id site x
-      → IsServed b limits url others more token n site x
-  served_as octets others told more token id n site x p q r t =
-      subst (λ (o : List ℕ). IsServed b limits url o more token n site x) p
-      (subst (λ (ts : List Told). IsServed b limits url octets ts token n site x) q (subst (λ (m : ℕ). IsServed b limits url octets told token m site x) r t))
+  pub served_as : (octets others : List ℕ) (told more : List Told) (token id n held h : ℕ) (site : Site) (x : ClientChannel) → octets ≡ others → told ≡ more → id ≡ n → held ≡ h → IsServed b limits url octets told token id held site x
+      → IsServed b limits url others more token n h site x
+  served_as octets others told more token id n held h site x p q r e t =
+      subst (λ (o : List ℕ). IsServed b limits url o more token n h site x) p
+      (subst (λ (ts : List Told). IsServed b limits url octets ts token n h site x) q
+      (subst (λ (m : ℕ). IsServed b limits url octets told token m h site x) r (subst (λ (k : ℕ). IsServed b limits url octets told token id k site x) e t)))
 
   -- by another channel that stands there
-  pub served_by : (octets : List ℕ) (told : List Told) (token id : ℕ) (site : Site) (x y : ClientChannel) → At y site → limits_of y ≡ limits → IsServed b limits url octets told token id site x
-      → IsServed b limits url octets told token id site y
-  served_by octets told token id site x y at same t =
+  pub served_by : (octets : List ℕ) (told : List Told) (token id held : ℕ) (site : Site) (x y : ClientChannel) → At y site → limits_of y ≡ limits → IsServed b limits url octets told token id held site x
+      → IsServed b limits url octets told token id held site y
+  served_by octets told token id held site x y at same t =
       let s = t.serving in
       let limits_same : limits_of x ≡ limits_of y = t.limits_are ∙ sym same in
       record {
@@ -104,11 +111,31 @@ module _ (b : Beginning) (limits : Limits) (url : Option (List ℕ)) where
         newest_is = t.newest_is;
         id_is = t.id_is;
         few = t.few;
+        held_is = t.held_is;
       }
+
+  -- ---- what is refused there
+
+  pub refused_there : (octets : List ℕ) (told : List Told) (token id held : ℕ) (site : Site) (x : ClientChannel) → IsServed b limits url octets told token id held site x
+      → (requests : List Request) → refusal_at site requests ≡ first_reason (group_reasons (Some (acknowledged b.limits limits url)) id requests)
+  refused_there octets told token id held site x t requests =
+      let together = t.serving.together in
+      let acked : site.before.ack ≡ Some (acknowledged b.limits limits url) =
+      acked_here x site t.at_client together.stands together.client_reads
+      ∙ (ap (λ (a : Ack). Some a) together.in_step.ack_is ∙ ap (λ (l : Limits). Some (acknowledged b.limits l url)) t.limits_are) in
+      ap (λ (a : Option Ack). first_reason (group_reasons a (id_at site) requests)) acked
+      ∙ ap (λ (n : ℕ). first_reason (group_reasons (Some (acknowledged b.limits limits url)) n requests)) t.id_is
+
+  pub renewal_refused_there : (octets : List ℕ) (told : List Told) (token id held : ℕ) (site : Site) (x : ClientChannel) → IsServed b limits url octets told token id held site x
+      → renewal_refusal site ≡ first_reason (turn_reasons (acknowledged b.limits limits url) held id None)
+  renewal_refused_there octets told token id held site x t =
+      let a : Ack = acknowledged b.limits limits url in
+      let tokens : length (held_tokens site.before) ≡ held = ap length (tokens_here x site t.at_client t.serving.together.stands t.serving.together.client_reads) ∙ t.held_is in
+      ap (λ (k : ℕ). first_reason (turn_reasons a k (id_at site) None)) tokens ∙ ap (λ (n : ℕ). first_reason (turn_reasons a held n None)) t.id_is
 
 -- ---- one turn
 
-module _ (b : Beginning) (limits : Limits) (url : Option (List ℕ)) (octets : List ℕ) (told : List Told) (token id : ℕ) (site : Site) (x : ClientChannel) (t : IsServed b limits url octets told token id site x)
+module _ (b : Beginning) (limits : Limits) (url : Option (List ℕ)) (octets : List ℕ) (told : List Told) (token id held : ℕ) (site : Site) (x : ClientChannel) (t : IsServed b limits url octets told token id held site x)
     (y : ClientChannel) (behind : Site) (taken : List ℕ) (same : limits_of y ≡ limits) (down : List ℕ) (front : Extends behind.octets down) where
   abbrev s : AtServer
   s = t.at_server
@@ -136,7 +163,7 @@ module _ (b : Beginning) (limits : Limits) (url : Option (List ℕ)) (octets : L
     told_is : calls_told c.newest (id_at site) (bodies_of requests) ≡ calls_told token id (bodies_of requests)
     told_is = ap (λ (k : ℕ). calls_told k (id_at site) (bodies_of requests)) t.newest_is ∙ ap (λ (n : ℕ). calls_told token n (bodies_of requests)) t.id_is
 
-    pub group_served : IsServed b limits url (octets ++ sent_at site requests) (told ++ calls_told token id (bodies_of requests)) token (id + length requests) behind y
+    pub group_served : IsServed b limits url (octets ++ sent_at site requests) (told ++ calls_told token id (bodies_of requests)) token (id + length requests) (held_behind_calls held (length requests)) behind y
     group_served =
         let d = stay_together b url octets told s x site behind c requests taken replies t.on t.serving some a y at same_limits took_group in
         let most = few_ids c.ack (id_at site) requests (requests_asked b.limits url b.channel octets told s x site c t.on t.serving.together requests a.judged) some in
@@ -151,6 +178,7 @@ module _ (b : Beginning) (limits : Limits) (url : Option (List ℕ)) (octets : L
           newest_is = d.2 ∙ t.newest_is;
           id_is = ids_then;
           few = omega (arith, most, bodies_count requests, t.id_is);
+          held_is = d.3 ∙ ap (λ (k : ℕ). held_behind_calls k (length requests)) t.held_is;
         }
 
   -- the token is renewed
@@ -170,7 +198,7 @@ module _ (b : Beginning) (limits : Limits) (url : Option (List ℕ)) (octets : L
     opened_is : Opened (id_at site) 0 (s.issued + 1) 3600000 ≡ Opened id 0 (token + 1) 3600000
     opened_is = ap (λ (n : ℕ). Opened n 0 (s.issued + 1) 3600000) t.id_is ∙ ap (λ (k : ℕ). Opened id 0 (k + 1) 3600000) t.tokens_are
 
-    pub renewal_served : IsServed b limits url (octets ++ renewal_at site moment) (told ++ Opened id 0 (token + 1) 3600000 ∷ []) (token + 1) (id + 1) behind y
+    pub renewal_served : IsServed b limits url (octets ++ renewal_at site moment) (told ++ Opened id 0 (token + 1) 3600000 ∷ []) (token + 1) (id + 1) (held + 1) behind y
     renewal_served =
         let serving = renewed_together b url octets told s x site c moment t.on t.serving judged dated t.settled answered y behind taken r same_limits took_renewal in
         let more : s.issued + 1 ≡ token + 1 = ap (λ (k : ℕ). k + 1) t.tokens_are in
@@ -186,40 +214,80 @@ module _ (b : Beginning) (limits : Limits) (url : Option (List ℕ)) (octets : L
           newest_is = more;
           id_is = id_then;
           few = omega (arith, used, t.id_is);
+          held_is = length-append c.tokens ((s.issued + 1) ∷ []) ∙ ap (λ (k : ℕ). k + 1) t.held_is;
         }
 
 -- ---- groups, one behind another
 
-module _ (b : Beginning) (limits : Limits) (url : Option (List ℕ)) (octets : List ℕ) (told : List Told) (token id : ℕ) (law : NonePending) where
-  -- where a channel of the client stands behind groups, and both are in step
-  abbrev pub Behind : List ℕ → List Request → Site → Type 0
-  Behind sent requests t = (y : ClientChannel) × IsServed b limits url (octets ++ sent) (told ++ calls_told token id (bodies_of requests)) token (id + length requests) t y
+group_reasons-append : (a : Option Ack) (id : ℕ) (ms ns : List Request) → group_reasons a id (ms ++ ns) ≡ group_reasons a id ms ++ group_reasons a (id + length ms) ns
+group_reasons-append a id [] ns = ap (λ (n : ℕ). group_reasons a n ns) (sym (add-zero id))
+group_reasons-append a id (m ∷ ms) ns =
+    ap (λ (rs : List (ClientFault × Bool)). request_reasons a id m ++ rs) (group_reasons-append a (id + 1) ms ns ∙ ap (λ (n : ℕ). group_reasons a (id + 1) ms ++ group_reasons a n ns) (on id (length ms)))
+    ∙ sym (append_assoc (request_reasons a id m) (group_reasons a (id + 1) ms) (group_reasons a (id + length (m ∷ ms)) ns))
+  where
+    on : (c d : ℕ) → (c + 1) + d ≡ c + suc d
+    on c d = omega arith
 
-  pub rounds_served : {c : ClientChannel} {s t : Site} {groups : List (List Request)} {sent taken : List ℕ} {replies : List Reply} (x : ClientChannel) → IsServed b limits url octets told token id s x → limits_of c ≡ limits
-      → Rounds c s groups t sent taken replies → AreSome groups → (down : List ℕ) → Extends t.octets down → Extends (said_to b (octets ++ sent)) down → Behind sent (all_of groups) t
-  rounds_served {s = s} x served same NoRound some down front said =
-      (x, served_as b limits url octets (octets ++ []) told (told ++ []) token id (id + 0) s x (sym (append-nil octets)) (sym (append-nil told)) (sym (add-zero id)) served)
-  rounds_served {c = c} {s = s} {t = t} x served same (OneRound {groups = groups} {m = m} {sent = sent} {taken = taken} {part = part} {added = added} group z r stands a) some down front said =
+-- why requests behind others are refused, of which none was
+pub refused_behind : (a : Option Ack) (id : ℕ) (ms ns : List Request) → first_reason (group_reasons a id ms) ≡ None → first_reason (group_reasons a id (ms ++ ns)) ≡ first_reason (group_reasons a (id + length ms) ns)
+refused_behind a id ms ns none = ap first_reason (group_reasons-append a id ms ns) ∙ first_behind (group_reasons a id ms) (group_reasons a (id + length ms) ns) none
+
+-- and why those are of which the first are refused
+pub refused_among : (a : Option Ack) (id : ℕ) (ms ns : List Request) (f : ClientFault) → first_reason (group_reasons a id ms) ≡ Some f → first_reason (group_reasons a id (ms ++ ns)) ≡ Some f
+refused_among a id ms ns f some = ap first_reason (group_reasons-append a id ms ns) ∙ first_among (group_reasons a id ms) (group_reasons a (id + length ms) ns) f some
+
+held_some : (held n : ℕ) → 0 < n → held_behind_calls held n ≡ 1
+held_some held zero some = absurd (omega (arith, some))
+held_some held (suc n) some = refl
+
+held_twice : (held m n : ℕ) → 0 < n → held_behind_calls (held_behind_calls held m) n ≡ held_behind_calls held (m + n)
+held_twice held m n some = held_some (held_behind_calls held m) n some ∙ sym (held_some held (m + n) (omega (arith, some)))
+
+-- where a channel of the client stands behind requests of which none was refused, and both are in step
+pub record Behind (b : Beginning) (limits : Limits) (url : Option (List ℕ)) (octets : List ℕ) (told : List Told) (token id held : ℕ) (requests : List Request) (site : Site) : Type 0 where
+  pub channel : ClientChannel
+  pub judged : first_reason (group_reasons (Some (acknowledged b.limits limits url)) id requests) ≡ None
+  pub served : IsServed b limits url octets (told ++ calls_told token id (bodies_of requests)) token (id + length requests) (held_behind_calls held (length requests)) site channel
+
+module _ (b : Beginning) (limits : Limits) (url : Option (List ℕ)) (octets : List ℕ) (told : List Told) (token id held : ℕ) (law : NonePending) where
+  abbrev a : Option Ack
+  a = Some (acknowledged b.limits limits url)
+
+  pub rounds_served : {c : ClientChannel} {s t : Site} {groups : List (List Request)} {sent taken : List ℕ} {replies : List Reply} (x : ClientChannel) → IsServed b limits url octets told token id held s x → limits_of c ≡ limits
+      → Rounds c s groups t sent taken replies → AreSome groups → (down : List ℕ) → Extends t.octets down → Extends (said_to b (octets ++ sent)) down → Behind b limits url (octets ++ sent) told token id held (all_of groups) t
+  rounds_served {s = s} x served same NoRound some down front said = record {
+    channel = x;
+    judged = refl;
+    served = served_as b limits url octets (octets ++ []) told (told ++ []) token id (id + 0) held held s x (sym (append-nil octets)) (sym (append-nil told)) (sym (add-zero id)) refl served;
+  }
+  rounds_served {c = c} {s = s} {t = t} x served same (OneRound {groups = groups} {m = m} {sent = sent} {taken = taken} {part = part} {added = added} group z r stands answered) some down front said =
       let all : List Request = all_of groups in
       let more : List ℕ = sent_at m group in
       let further = said_further b (octets ++ sent) more in
       let whole : (octets ++ sent) ++ more ≡ octets ++ (sent ++ more) = append_assoc octets sent more in
       let said_here : Extends (said_to b ((octets ++ sent) ++ more)) down = subst (λ (o : List ℕ). Extends (said_to b o) down) (sym whole) said in
-      let before : Behind sent all m =
+      let before : Behind b limits url (octets ++ sent) told token id held all m =
       rounds_served x served same r (all_front (λ (g : List Request). 0 < length g) groups group some) down
-      (record { more = part ++ front.more; parts = front.parts ∙ (ap (λ (o : List ℕ). o ++ front.more) a.octets ∙ append_assoc m.octets part front.more) })
+      (record { more = part ++ front.more; parts = front.parts ∙ (ap (λ (o : List ℕ). o ++ front.more) answered.octets ∙ append_assoc m.octets part front.more) })
       (record { more = further.further ++ said_here.more; parts = said_here.parts ∙ (ap (λ (o : List ℕ). o ++ said_here.more) further.parts ∙ append_assoc (said_to b (octets ++ sent)) further.further said_here.more) }) in
       let told_before : List Told = told ++ calls_told token id (bodies_of all) in
+      let some_here : 0 < length group = all_last (λ (g : List Request). 0 < length g) groups group some in
       let one =
-      group_served b limits url (octets ++ sent) told_before token (id + length all) m before.0 before.1 z t part (stands.same.limits ∙ same) down front law group added
-      (all_last (λ (g : List Request). 0 < length g) groups group some) stands.at stands.came a said_here in (
-        z,
-        served_as b limits url ((octets ++ sent) ++ more) (octets ++ (sent ++ more)) (told_before ++ calls_told token (id + length all) (bodies_of group)) (told ++ calls_told token id (bodies_of (all_of (groups ++ group ∷ [])))) token
-            ((id + length all) + length group) (id + length (all_of (groups ++ group ∷ []))) t z whole
-            (append_assoc told (calls_told token id (bodies_of all)) (calls_told token (id + length all) (bodies_of group))
-            ∙ ap (λ (ts : List Told). told ++ ts) (sym (told_push token id all group) ∙ ap (λ (ms : List Request). calls_told token id (bodies_of ms)) (sym (all_push groups group))))
-            (counted id (length all) (length group) (length (all_of (groups ++ group ∷ []))) (ap length (all_push groups group) ∙ length-append all group)) one,
-      )
+      group_served b limits url (octets ++ sent) told_before token (id + length all) (held_behind_calls held (length all)) m before.channel before.served z t part (stands.same.limits ∙ same) down front law group added
+      some_here stands.at stands.came answered said_here in
+      let judged : first_reason (group_reasons a (id + length all) group) ≡ None =
+      sym (refused_there b limits url (octets ++ sent) told_before token (id + length all) (held_behind_calls held (length all)) m before.channel before.served group) ∙ answered.judged in
+      let pushed : all ++ group ≡ all_of (groups ++ group ∷ []) = sym (all_push groups group) in
+      subst (λ (ms : List Request). Behind b limits url (octets ++ (sent ++ more)) told token id held ms t) pushed (record {
+        channel = z;
+        judged = refused_behind a id all group before.judged ∙ judged;
+        served =
+            served_as b limits url ((octets ++ sent) ++ more) (octets ++ (sent ++ more)) (told_before ++ calls_told token (id + length all) (bodies_of group)) (told ++ calls_told token id (bodies_of (all ++ group))) token
+            ((id + length all) + length group) (id + length (all ++ group)) (held_behind_calls (held_behind_calls held (length all)) (length group)) (held_behind_calls held (length (all ++ group))) t z whole
+            (append_assoc told (calls_told token id (bodies_of all)) (calls_told token (id + length all) (bodies_of group)) ∙ ap (λ (ts : List Told). told ++ ts) (sym (told_push token id all group)))
+            (counted id (length all) (length group) (length (all ++ group)) (length-append all group))
+            (held_twice held (length all) (length group) some_here ∙ ap (λ (n : ℕ). held_behind_calls held n) (sym (length-append all group))) one;
+      })
     where
       counted : (i m n k : ℕ) → k ≡ m + n → (i + m) + n ≡ i + k
       counted i m n k e = omega (arith, e)

@@ -29,11 +29,12 @@ use Rattle.ua_client.specs.Told.{is_told_of, told_of}
 use Rattle.ua_client.specs.declared.reply.Reply.{Reply}
 use Rattle.ua_client.proofs.Askings.{next-calls}
 use Rattle.ua_client.proofs.Settled.{NonePending}
+use Rattle.ua_served.specs.Accepted.{held_behind_calls}
 use Rattle.ua_served.specs.Beginning.{Beginning}
 use Rattle.ua_served.specs.Says.{said_to, spent}
 use Rattle.ua_served.specs.Together.{AreServing, behind_calls}
 use Rattle.ua_served.specs.Turns.{calls_told}
-use Rattle.ua_served.proofs.Answering.{AreHeard, answers_told, calls_asked, calls_in_step, hello_stays, issued_stays, replies_read, told_each, tokens_stay, used_last, waits, with_calls}
+use Rattle.ua_served.proofs.Answering.{AreHeard, answers_told, calls_asked, calls_in_step, hello_stays, issued_stays, newest_stays, replies_read, told_each, tokens_stay, used_last, waits, with_calls}
 use Rattle.ua_served.proofs.Ending.{LastChunk}
 use Rattle.ua_served.proofs.Lists.{meets}
 use Rattle.ua_served.proofs.Reaching.{few_ids, numbers_read, requests_asked, requests_read}
@@ -130,13 +131,13 @@ module _ (b : Beginning) (url : Option (List ℕ)) (octets : List ℕ) (told : L
   abbrev told_then : List Heard
   told_then = site.told ++ answers_told (lane_of b.channel lane.token g) before.state moments (id_at site) bodies
 
-  heard_then : AreHeard b.limits (limits_of x) url b.channel then_at (length bodies) (with_calls c (id_at site) bodies).newest (asked_at site requests) (site.octets ++ said_of b.channel (course before.state before.number moments (Some g)) calls) told_then
+  heard_then : AreHeard b.limits (limits_of x) url b.channel then_at (length bodies) (length (with_calls c (id_at site) bodies).tokens) (with_calls c (id_at site) bodies).newest (asked_at site requests) (site.octets ++ said_of b.channel (course before.state before.number moments (Some g)) calls) told_then
       (left_by b.channel (course before.state before.number moments (Some g)) calls).number (left_by b.channel (course before.state before.number moments (Some g)) calls).agreement
   heard_then =
       replies_read b.limits (limits_of x) url b.channel on then_at few_used lane (used_last s lane bodies (some_bodies requests some))
       (asked_at site requests) site.octets site.told (with_calls c (id_at site) bodies) before.state before.number moments (id_at site) bodies
       (calls_asked (limits_of x) site.asks site.octets site.told c t.together.client_reads bodies) step_then (t.says_next ∙ sym (next_stays c (id_at site) bodies))
-      (waits c (id_at site) bodies) (few_ids c.ack (id_at site) requests (requests_asked b.limits url b.channel octets told s x site c on t.together requests a.judged) some) tokens_then
+      (waits c (id_at site) bodies) (few_ids c.ack (id_at site) requests (requests_asked b.limits url b.channel octets told s x site c on t.together requests a.judged) some) tokens_then (newest_stays c (id_at site) bodies)
     where
       next_stays : (d : AtClient) (id : ℕ) (bs : List (List ℕ)) → (with_calls d id bs).next ≡ d.next
       next_stays d id [] = refl
@@ -153,10 +154,11 @@ module _ (b : Beginning) (url : Option (List ℕ)) (octets : List ℕ) (told : L
 
   newest_then : heard_then.at.newest ≡ c.newest
   newest_then = heard_then.newest ∙ newest_stays c (id_at site) bodies
-    where
-      newest_stays : (d : AtClient) (id : ℕ) (bs : List (List ℕ)) → (with_calls d id bs).newest ≡ d.newest
-      newest_stays d id [] = refl
-      newest_stays d id (body ∷ bs) = newest_stays (record d { pending = d.pending ++ id ∷ [] }) (id + 1) bs
+
+  held_then : length heard_then.at.tokens ≡ held_behind_calls (length c.tokens) (length requests)
+  held_then =
+      heard_then.held
+      ∙ (ap (λ (ks : List ℕ). held_behind_calls (length ks) (length bodies)) (tokens_stay c (id_at site) bodies) ∙ ap (λ (n : ℕ). held_behind_calls (length c.tokens) n) (bodies_count requests))
 
   module _ (y : ClientChannel) (stands : At y behind) (same : limits_of y ≡ limits_of x) where
     -- the client reads what the server says of it
@@ -215,5 +217,5 @@ module _ (b : Beginning) (url : Option (List ℕ)) (octets : List ℕ) (told : L
       }
 
       -- both are in step behind requests that are answered, and the client's calls go under the token that they went under
-      pub stay_together : (d : AtClient) × AreServing b url (octets ++ sent_at site requests) (told ++ calls) then_at y behind d × (d.newest ≡ c.newest)
-      stay_together = (heard_then.at, serving_then, newest_then)
+      pub stay_together : (d : AtClient) × AreServing b url (octets ++ sent_at site requests) (told ++ calls) then_at y behind d × (d.newest ≡ c.newest) × (length d.tokens ≡ held_behind_calls (length c.tokens) (length requests))
+      stay_together = (heard_then.at, serving_then, newest_then, held_then)

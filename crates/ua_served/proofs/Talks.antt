@@ -1,31 +1,36 @@
 -- That a client over a line to a server stays in step with it, by its requests and by renewals.
-use Rattle.std.proofs.Common.{◌≡◌, ℕ, ◌+◌, IsTrue, List, [], ◌∷◌, ◌++◌, Option, Some, None, length, sym, ◌∙◌, ap, subst, append-nil, append_assoc}
+use Rattle.std.proofs.Common.{◌≡◌, ℕ, ◌+◌, ◌<◌, IsTrue, List, [], ◌∷◌, ◌++◌, Option, Some, None, Err, length, refl, sym, ◌∙◌, ap, subst, append-nil, append_assoc}
 use Rattle.ua_octets.specs.Format.{Extends}
 use Rattle.ua_octets.proofs.Readers.{some_is}
 use Rattle.ua_builtin.specs.DateTime.{date_time}
+use Rattle.ua_builtin.specs.Reasons.{first_reason}
 use Rattle.ua_builtin.specs.declared.date_time.DateTime.{DateTime}
+use Rattle.ua_frame.specs.declared.ack.Ack.{Ack}
 use Rattle.ua_frame.specs.declared.limits.Limits.{Limits}
 use Rattle.ua_channel.specs.Client.{SameClient, limits_of}
 use Rattle.ua_channel.specs.Line.{Traffic, WhereTold}
 use Rattle.ua_channel.specs.ServerTold.{Told, Opened}
 use Rattle.ua_channel.specs.declared.client.channel.ClientChannel.{ClientChannel}
 use Rattle.ua_services.specs.declared.request.Request.{Request}
-use Rattle.ua_client.specs.Calls.{AnsweredAll, Rounds, all_of}
+use Rattle.ua_client.specs.Calls.{AnsweredAll, BreaksAt, BrokenAll, Rounds, all_of, refusal_at}
 use Rattle.ua_client.specs.Calls.Rounds.{NoRound, OneRound}
 use Rattle.ua_client.specs.Carried.{Carries}
 use Rattle.ua_client.specs.Hearing.{Moves, channel_of, untaken_of}
-use Rattle.ua_client.specs.Renewing.{IsRenewed, renewal_at, renewal_refusal}
-use Rattle.ua_client.specs.Sent.{bodies_of}
+use Rattle.ua_client.specs.Renewing.{IsRenewed, RenewsAt, refused_by, renewal_at, renewal_refusal}
+use Rattle.ua_client.specs.Sent.{bodies_of, group_reasons}
 use Rattle.ua_client.specs.Site.{Site}
 use Rattle.ua_client.specs.declared.connection.Connection.{Connection}
+use Rattle.ua_client.specs.declared.fault.ClientFault.{ClientFault}
+use Rattle.ua_client.specs.declared.fault.ClientFault.TheVariants as fault
 use Rattle.ua_client.specs.declared.reply.Reply.{Reply}
 use Rattle.ua_client.proofs.Carrying.{carried-then}
 use Rattle.ua_client.proofs.Settled.{NonePending}
+use Rattle.ua_served.specs.Accepted.{IsTurnFault, acknowledged, held_behind_calls, turn_reasons}
 use Rattle.ua_served.specs.Beginning.{Beginning}
 use Rattle.ua_served.specs.Says.{said_to}
 use Rattle.ua_served.specs.Turns.{calls_told}
 use Rattle.ua_served.specs.inside.Talking.{AreTalking, IsServed, line_to}
-use Rattle.ua_served.proofs.Rounds.{renewal_served, rounds_served, served_by, some_in}
+use Rattle.ua_served.proofs.Rounds.{AreSome, Behind, all_front, refused_among, refused_behind, refused_there, renewal_refused_there, renewal_served, rounds_served, served_by, some_in}
 
 -- ---- octets
 
@@ -52,17 +57,55 @@ fronts b (Some f) (Some g) got sent taken untaken line carried is = record {
 }
 
 -- the same, named in another way
-pub talking_as : (b : Beginning) (limits : Limits) (url : Option (List ℕ)) (octets others : List ℕ) (told more : List Told) (token k id n : ℕ) (site : Site) (x : Connection) (first now : Option Traffic)
-    → octets ≡ others → told ≡ more → token ≡ k → id ≡ n → AreTalking b limits url octets told token id site x first now → AreTalking b limits url others more k n site x first now
-talking_as b limits url octets others told more token k id n site x first now p q r s t =
-    subst (λ (o : List ℕ). AreTalking b limits url o more k n site x first now) p
-    (subst (λ (ts : List Told). AreTalking b limits url octets ts k n site x first now) q
-    (subst (λ (m : ℕ). AreTalking b limits url octets told m n site x first now) r (subst (λ (m : ℕ). AreTalking b limits url octets told token m site x first now) s t)))
+pub talking_as : (b : Beginning) (limits : Limits) (url : Option (List ℕ)) (octets others : List ℕ) (told more : List Told) (token k id n held h : ℕ) (site : Site) (x : Connection) (first now : Option Traffic)
+    → octets ≡ others → told ≡ more → token ≡ k → id ≡ n → held ≡ h → AreTalking b limits url octets told token id held site x first now → AreTalking b limits url others more k n h site x first now
+talking_as b limits url octets others told more token k id n held h site x first now p q r s e t =
+    subst (λ (o : List ℕ). AreTalking b limits url o more k n h site x first now) p
+    (subst (λ (ts : List Told). AreTalking b limits url octets ts k n h site x first now) q
+    (subst (λ (m : ℕ). AreTalking b limits url octets told m n h site x first now) r
+    (subst (λ (m : ℕ). AreTalking b limits url octets told token m h site x first now) s (subst (λ (m : ℕ). AreTalking b limits url octets told token id m site x first now) e t))))
 
 -- ---- a turn
 
-module _ (b : Beginning) (limits : Limits) (url : Option (List ℕ)) (octets : List ℕ) (told : List Told) (token id : ℕ) (site : Site) (x : Connection) (first before : Option Traffic) (t : AreTalking b limits url octets told token id site x first before)
+-- a group that is refused for such a fault was not asked
+breaks_refused : (group : List Request) (s : Site) (new : Connection) (sent taken : List ℕ) (f : ClientFault) → IsTurnFault f → BreaksAt group s new sent taken f → (sent ≡ []) × (taken ≡ []) × (refusal_at s group ≡ Some f)
+breaks_refused group s new sent taken fault.NotWritable h k = (k.0, k.1, k.3)
+breaks_refused group s new sent taken fault.Exhausted h k = (k.0, k.1, k.3)
+breaks_refused group s new sent taken fault.TooLarge h k = (k.0, k.1, k.3)
+breaks_refused group s new sent taken fault.TooManyTokens h k = absurd k
+breaks_refused group s new sent taken (fault.Peer code) h k = absurd h
+breaks_refused group s new sent taken (fault.Refused code) h k = absurd h
+breaks_refused group s new sent taken (fault.Service code) h k = absurd h
+breaks_refused group s new sent taken fault.Ended h k = absurd h
+breaks_refused group s new sent taken fault.Read h k = absurd h
+breaks_refused group s new sent taken fault.Write h k = absurd h
+breaks_refused group s new sent taken fault.TooLong h k = absurd h
+breaks_refused group s new sent taken fault.UnknownResponse h k = absurd h
+breaks_refused group s new sent taken fault.OutOfMemory h k = absurd h
+breaks_refused group s new sent taken fault.Closed h k = absurd h
+
+-- a renewal that is refused for one is refused for it where the client stands
+renewal_refused : (s : Site) (moment : DateTime) (new : ClientChannel) (sent taken : List ℕ) (f : ClientFault) → IsTurnFault f → RenewsAt {A = Unit {0}} s moment new sent taken (Err f) → refused_by {A = Unit {0}} (Err f) ≡ renewal_refusal s → renewal_refusal s ≡ Some f
+renewal_refused s moment new sent taken fault.NotWritable h k e = absurd k
+renewal_refused s moment new sent taken fault.Exhausted h k e = sym e
+renewal_refused s moment new sent taken fault.TooLarge h k e = absurd k
+renewal_refused s moment new sent taken fault.TooManyTokens h k e = sym e
+renewal_refused s moment new sent taken (fault.Peer code) h k e = absurd h
+renewal_refused s moment new sent taken (fault.Refused code) h k e = absurd h
+renewal_refused s moment new sent taken (fault.Service code) h k e = absurd h
+renewal_refused s moment new sent taken fault.Ended h k e = absurd h
+renewal_refused s moment new sent taken fault.Read h k e = absurd h
+renewal_refused s moment new sent taken fault.Write h k e = absurd h
+renewal_refused s moment new sent taken fault.TooLong h k e = absurd h
+renewal_refused s moment new sent taken fault.UnknownResponse h k e = absurd h
+renewal_refused s moment new sent taken fault.OutOfMemory h k e = absurd h
+renewal_refused s moment new sent taken fault.Closed h k e = absurd h
+
+module _ (b : Beginning) (limits : Limits) (url : Option (List ℕ)) (octets : List ℕ) (told : List Told) (token id held : ℕ) (site : Site) (x : Connection) (first before : Option Traffic) (t : AreTalking b limits url octets told token id held site x first before)
     (y : Connection) (after : Option Traffic) (sent : List ℕ) (moves : Moves x y sent before after) (same : SameClient (channel_of x) (channel_of y)) where
+  abbrev a : Ack
+  a = acknowledged b.limits limits url
+
   limits_then : limits_of (channel_of y) ≡ limits
   limits_then = sym same.limits ∙ t.served.limits_are
 
@@ -77,29 +120,68 @@ module _ (b : Beginning) (limits : Limits) (url : Option (List ℕ)) (octets : L
     front_then : Extends behind.octets (said_to b (octets ++ sent))
     front_then = fronts b first after (t.got ++ moves.got) (octets ++ sent) behind.octets (untaken_of y) t.line carried_then got_then
 
-    talking_then : (more : List Told) (k n : ℕ) → IsServed b limits url (octets ++ sent) (told ++ more) k n behind (channel_of y) → AreTalking b limits url (octets ++ sent) (told ++ more) k n behind y first after
-    talking_then more k n served = record { line = t.line; got = t.got ++ moves.got; carried = carried_then; got_is = got_then; served = served }
+    talking_then : (more : List Told) (k n h : ℕ) → IsServed b limits url (octets ++ sent) (told ++ more) k n h behind (channel_of y) → AreTalking b limits url (octets ++ sent) (told ++ more) k n h behind y first after
+    talking_then more k n h served = record { line = t.line; got = t.got ++ moves.got; carried = carried_then; got_is = got_then; served = served }
 
   whole : (octets : List ℕ) → Extends octets octets
   whole octets = record { more = []; parts = sym (append-nil octets) }
 
-  -- requests are answered
-  pub talks_asked : NonePending → (requests : List Request) (replies : List Reply) (a : AnsweredAll requests site (channel_of y) sent moves.taken replies)
-      → AreTalking b limits url (octets ++ sent) (told ++ calls_told token id (bodies_of requests)) token (id + length requests) a.behind y first after
-  talks_asked law requests replies a =
-      let taken = rounds_octets a.rounds in
-      let d =
-      rounds_served b limits url octets told token id law (channel_of x) t.served limits_then a.rounds (some_in a.groups a.sized) (said_to b (octets ++ sent)) (front_then a.behind taken) (whole (said_to b (octets ++ sent))) in
-      talking_then a.behind taken (calls_told token id (bodies_of requests)) token (id + length requests)
-      (subst (λ (ms : List Request). IsServed b limits url (octets ++ sent) (told ++ calls_told token id (bodies_of ms)) token (id + length ms) a.behind (channel_of y)) (sym a.parts)
-      (served_by b limits url (octets ++ sent) (told ++ calls_told token id (bodies_of (all_of a.groups))) token (id + length (all_of a.groups)) a.behind d.0 (channel_of y) a.at limits_then d.1))
+  -- groups of requests are answered, behind which nothing more is sent or taken
+  asked_behind : NonePending → {groups : List (List Request)} {sent_there taken_there : List ℕ} {replies : List Reply} (behind : Site) → Rounds (channel_of y) site groups behind sent_there taken_there replies → AreSome groups
+      → sent ≡ sent_there → moves.taken ≡ taken_there → Behind b limits url (octets ++ sent) told token id held (all_of groups) behind
+  asked_behind law {groups = groups} {sent_there = sent_there} behind rounds some sent_is taken_is =
+      let front : Extends behind.octets (said_to b (octets ++ sent)) = front_then behind (rounds_octets rounds ∙ ap (λ (o : List ℕ). site.octets ++ o) (sym taken_is)) in
+      let said : Extends (said_to b (octets ++ sent_there)) (said_to b (octets ++ sent)) =
+      subst (λ (o : List ℕ). Extends (said_to b (octets ++ o)) (said_to b (octets ++ sent))) sent_is (whole (said_to b (octets ++ sent))) in
+      subst (λ (o : List ℕ). Behind b limits url (octets ++ o) told token id held (all_of groups) behind) (sym sent_is)
+      (rounds_served b limits url octets told token id held law (channel_of x) t.served limits_then rounds some (said_to b (octets ++ sent)) front said)
+
+  module _ (law : NonePending) (requests : List Request) (replies : List Reply) (q : AnsweredAll requests site (channel_of y) sent moves.taken replies) where
+    there : Behind b limits url (octets ++ sent) told token id held requests q.behind
+    there =
+        subst (λ (ms : List Request). Behind b limits url (octets ++ sent) told token id held ms q.behind) (sym q.parts)
+        (asked_behind law q.behind q.rounds (some_in q.groups q.sized) refl refl)
+
+    -- requests are answered
+    pub talks_asked : AreTalking b limits url (octets ++ sent) (told ++ calls_told token id (bodies_of requests)) token (id + length requests) (held_behind_calls held (length requests)) q.behind y first after
+    talks_asked =
+        talking_then q.behind (rounds_octets q.rounds) (calls_told token id (bodies_of requests)) token (id + length requests) (held_behind_calls held (length requests))
+        (served_by b limits url (octets ++ sent) (told ++ calls_told token id (bodies_of requests)) token (id + length requests) (held_behind_calls held (length requests)) q.behind there.channel (channel_of y) q.at limits_then there.served)
+
+    -- none of them was refused
+    pub asked_judged : first_reason (turn_reasons a held id (Some requests)) ≡ None
+    asked_judged = there.judged
+
+  -- or one was, and this is the first reason
+  pub asked_refused : NonePending → (requests : List Request) (f : ClientFault) → IsTurnFault f → BrokenAll requests site y sent moves.taken f → first_reason (turn_reasons a held id (Some requests)) ≡ Some f
+  asked_refused law requests f is q =
+      let none = breaks_refused q.group q.behind y q.sent_then q.taken_then f is q.breaks in
+      let there =
+      asked_behind law q.behind q.rounds (all_front (λ (g : List Request). 0 < length g) q.groups q.group (some_in (q.groups ++ q.group ∷ []) q.sized))
+      (q.sent_parts ∙ (ap (λ (o : List ℕ). q.sent_before ++ o) none.0 ∙ append-nil q.sent_before))
+      (q.taken_parts ∙ (ap (λ (o : List ℕ). q.taken_before ++ o) none.1 ∙ append-nil q.taken_before)) in
+      let all : List Request = all_of q.groups in
+      ap (λ (ms : List Request). first_reason (group_reasons (Some a) id ms)) q.parts
+      ∙ (refused_behind (Some a) id all (q.group ++ q.others) there.judged
+      ∙ refused_among (Some a) (id + length all) q.group q.others f
+      (sym (refused_there b limits url (octets ++ sent) (told ++ calls_told token id (bodies_of all)) token (id + length all) (held_behind_calls held (length all)) q.behind there.channel there.served q.group) ∙ none.2))
 
   -- the token is renewed
-  pub talks_renewed : (moment : DateTime) → IsTrue (date_time.encodable moment) → IsTrue (date_time.encodable b.moment) → renewal_refusal site ≡ None → sent ≡ renewal_at site moment → (behind : Site) → IsRenewed (channel_of y) site behind moves.taken
-      → AreTalking b limits url (octets ++ sent) (told ++ Opened id 0 (token + 1) 3600000 ∷ []) (token + 1) (id + 1) behind y first after
-  talks_renewed moment dated answered judged sent_is behind r =
-      let front : Extends behind.octets (said_to b (octets ++ renewal_at site moment)) = subst (λ (o : List ℕ). Extends behind.octets (said_to b (octets ++ o))) sent_is (front_then behind r.octets) in
-      talking_then behind r.octets (Opened id 0 (token + 1) 3600000 ∷ []) (token + 1) (id + 1)
-      (subst (λ (o : List ℕ). IsServed b limits url (octets ++ o) (told ++ Opened id 0 (token + 1) 3600000 ∷ []) (token + 1) (id + 1) behind (channel_of y)) (sym sent_is)
-      (renewal_served b limits url octets told token id site (channel_of x) t.served (channel_of y) behind moves.taken limits_then (said_to b (octets ++ renewal_at site moment)) front moment dated answered judged r
-      (whole (said_to b (octets ++ renewal_at site moment)))))
+  module _ (moment : DateTime) where
+    judged_here : renewal_refusal site ≡ first_reason (turn_reasons a held id None)
+    judged_here = renewal_refused_there b limits url octets told token id held site (channel_of x) t.served
+
+    pub talks_renewed : IsTrue (date_time.encodable moment) → IsTrue (date_time.encodable b.moment) → renewal_refusal site ≡ None → sent ≡ renewal_at site moment → (behind : Site) → IsRenewed (channel_of y) site behind moves.taken
+        → AreTalking b limits url (octets ++ sent) (told ++ Opened id 0 (token + 1) 3600000 ∷ []) (token + 1) (id + 1) (held + 1) behind y first after
+    talks_renewed dated answered judged sent_is behind r =
+        let front : Extends behind.octets (said_to b (octets ++ renewal_at site moment)) = subst (λ (o : List ℕ). Extends behind.octets (said_to b (octets ++ o))) sent_is (front_then behind r.octets) in
+        talking_then behind r.octets (Opened id 0 (token + 1) 3600000 ∷ []) (token + 1) (id + 1) (held + 1)
+        (subst (λ (o : List ℕ). IsServed b limits url (octets ++ o) (told ++ Opened id 0 (token + 1) 3600000 ∷ []) (token + 1) (id + 1) (held + 1) behind (channel_of y)) (sym sent_is)
+        (renewal_served b limits url octets told token id held site (channel_of x) t.served (channel_of y) behind moves.taken limits_then (said_to b (octets ++ renewal_at site moment)) front moment dated answered judged r
+        (whole (said_to b (octets ++ renewal_at site moment)))))
+
+    pub renewed_judged : renewal_refusal site ≡ None → first_reason (turn_reasons a held id None) ≡ None
+    renewed_judged judged = sym judged_here ∙ judged
+
+    pub renewing_refused : (f : ClientFault) → IsTurnFault f → RenewsAt {A = Unit {0}} site moment (channel_of y) sent moves.taken (Err f) → refused_by {A = Unit {0}} (Err f) ≡ renewal_refusal site → first_reason (turn_reasons a held id None) ≡ Some f
+    renewing_refused f is k e = sym judged_here ∙ renewal_refused site moment (channel_of y) sent moves.taken f is k e

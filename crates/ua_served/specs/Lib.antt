@@ -1,9 +1,11 @@
 -- The definitions, in the order in which they are best read: how the server of a line began; what it says of octets, and what they leave
--- of its services; what its line keeps; what comes of turns over it; where both ends are between two turns; what turns tell the server.
+-- of its services; what its line keeps; what comes of turns over it; where both ends are between two turns; what turns tell the server; and
+-- which turns are taken.
 pub mod Beginning
 pub mod Says
 pub mod Kept
 pub mod Course
 pub mod Together
 pub mod Turns
+pub mod Accepted
 pub mod inside

@@ -1,12 +1,13 @@
 //! A client and a server that talk to each other.
 
-ghost use Rattle.std.specs.Prelude.{◌≡◌, ◌∷◌, ◌++◌, [], ℕ, List, Option, Some, IsTrue, IfOk, OnOk};
+ghost use Rattle.std.specs.Prelude.{◌≡◌, ◌∷◌, ◌++◌, [], ℕ, List, Option, Some, IsTrue, IfErr, IfOk, OnOk, length};
 ghost use Rattle.ua_octets.specs.Counted.{text};
 ghost use Rattle.ua_frame.specs.declared.limits.Limits.{Limits};
 ghost use Rattle.ua_channel.specs.Line.{Traffic};
 ghost use Rattle.ua_channel.specs.ServerReads.{ServerCloses};
 ghost use Rattle.ua_client.specs.Client.{IsReady, connection_of};
 ghost use Rattle.ua_client.specs.Site.{Site};
+ghost use Rattle.ua_served.specs.Accepted.{AreAccepted, FirstRefused, IsTurnFault, acknowledged, turn_refusal};
 ghost use Rattle.ua_served.specs.Beginning.{Beginning};
 ghost use Rattle.ua_served.specs.Course.{Converses};
 ghost use Rattle.ua_server.specs.declared.step.End.TheVariants.{Closed};
@@ -36,6 +37,8 @@ pub struct Transcript {
     pub up: Vec<u8>,
     /// The octets that the server wrote.
     pub down: Vec<u8>,
+    /// How many of its turns the client took.
+    pub taken: usize,
     /// The replies to the requests, in their order, as far as they came.
     pub replies: Vec<Reply>,
     /// Why the client did not do all that it was to do, if it did not.
@@ -57,6 +60,7 @@ fn begin<L: Line>(
     requires { IsTrue (text.encodable url) }
     ensures went { IfOk result (λ client. (b : Beginning) → CanOpen b limits url moment → L.traffic line.old ≡ Some (line_to b) → Went b limits url moment (connection_of client) (L.traffic line.old) (L.traffic line.new)) }
     ensures ready { IfOk result (λ client. IsReady client) }
+    ensures faults { IfErr result (λ fault. IsTurnFault fault → ⊥) }
 {
     clients_are_settled();
     match Client::open(alloc, line, limits, url, moment) {
@@ -76,6 +80,8 @@ fn take_turn<L: Line>(
     requires { IsReady client.old }
     ensures stays { OnOk result ((b : Beginning) (limits : Limits) (url : Option (List ℕ)) (opened : Site) (turns : List Turn) (first : Option Traffic) → StaysTalking b limits url moment opened turns (connection_of client.old) first (L.traffic line.old) replies.old.items
         → StaysTalking b limits url moment opened (turns ++ turn.now ∷ []) (connection_of client.new) first (L.traffic line.new) replies.new.items) }
+    ensures refused { IfErr result (λ fault. IsTurnFault fault → (b : Beginning) (limits : Limits) (url : Option (List ℕ)) (opened : Site) (turns : List Turn) (first : Option Traffic) → StaysTalking b limits url moment opened turns (connection_of client.old) first (L.traffic line.old) replies.old.items
+        → turn_refusal (acknowledged b.limits limits url) turns turn.now ≡ Some fault) }
     ensures ready { OnOk result (IsReady client.new) }
 {
     clients_are_settled();
@@ -91,29 +97,34 @@ fn take_turn<L: Line>(
     }
 }
 
-/// Takes all turns, and adds the replies.
+/// Takes all turns, adds the replies, and counts the turns.
 fn take_turns<L: Line>(
     client: &mut Client,
     line: &mut L,
     turns: &[Turn],
     moment: DateTime,
     replies: &mut Vec<Reply>,
+    taken: &mut usize,
 ) -> Result<(), ClientFault>
-    requires { IsReady client.old }
+    requires ready { IsReady client.old }
+    requires none { taken.old ≡ 0 }
     ensures stays { OnOk result ((b : Beginning) (limits : Limits) (url : Option (List ℕ)) (opened : Site) (first : Option Traffic) → StaysTalking b limits url moment opened [] (connection_of client.old) first (L.traffic line.old) replies.old.items
         → StaysTalking b limits url moment opened turns.now (connection_of client.new) first (L.traffic line.new) replies.new.items) }
+    ensures taken { OnOk result (taken.new ≡ length turns.now) }
+    ensures refused { IfErr result (λ fault. IsTurnFault fault → (b : Beginning) (limits : Limits) (url : Option (List ℕ)) (opened : Site) (first : Option Traffic) → StaysTalking b limits url moment opened [] (connection_of client.old) first (L.traffic line.old) replies.old.items
+        → FirstRefused (acknowledged b.limits limits url) turns.now taken.new fault) }
     ensures ready { OnOk result (IsReady client.new) }
 {
     for turn in turns {
         match take_turn(client, line, turn, moment, replies) {
-            Ok(()) => {}
+            Ok(()) => *taken += 1,
             Err(fault) => return Err(fault),
         }
     }
     Ok(())
 }
 
-/// Opens a client, takes all turns and closes it; adds the replies.
+/// Opens a client, takes all turns and closes it; adds the replies, and counts the turns.
 fn talk<L: Line>(
     alloc: Global,
     line: &mut L,
@@ -122,16 +133,20 @@ fn talk<L: Line>(
     turns: &[Turn],
     moment: DateTime,
     replies: &mut Vec<Reply>,
+    taken: &mut usize,
 ) -> Result<(), ClientFault>
     requires url { IsTrue (text.encodable url) }
     requires none { replies.old.items ≡ [] }
-    ensures { OnOk result ((b : Beginning) → CanOpen b limits url moment → L.traffic line.old ≡ Some (line_to b) → Talked b limits url moment turns.now (L.traffic line.old) (L.traffic line.new) replies.new.items) }
+    requires first { taken.old ≡ 0 }
+    ensures talked { OnOk result ((b : Beginning) → CanOpen b limits url moment → L.traffic line.old ≡ Some (line_to b) → Talked b limits url moment turns.now (L.traffic line.old) (L.traffic line.new) replies.new.items) }
+    ensures taken { OnOk result (taken.new ≡ length turns.now) }
+    ensures refused { IfErr result (λ fault. IsTurnFault fault → (b : Beginning) → CanOpen b limits url moment → L.traffic line.old ≡ Some (line_to b) → FirstRefused (acknowledged b.limits limits url) turns.now taken.new fault) }
 {
     let mut client = match begin(alloc, line, limits, url, moment) {
         Ok(client) => client,
         Err(fault) => return Err(fault),
     };
-    match take_turns(&mut client, line, turns, moment, replies) {
+    match take_turns(&mut client, line, turns, moment, replies, taken) {
         Ok(()) => {}
         Err(fault) => return Err(fault),
     }
@@ -162,17 +177,31 @@ fn converse_with<W: Began>(
     ensures heard { OnOk result.outcome (ServerCloses limits channel_id result.up.items (conversation_told limits limits url turns.now)) }
     ensures closed { OnOk result.outcome (result.stage ≡ Ended Closed) }
     ensures left { OnOk result.outcome (result.services ≡ left_by W.beginning result.up.items) }
+    ensures accepted { OnOk result.outcome (AreAccepted (acknowledged limits limits url) turns.now) }
+    ensures taken { OnOk result.outcome (result.taken ≡ length turns.now) }
+    ensures refused { IfErr result.outcome (λ fault. IsTurnFault fault → FirstRefused (acknowledged limits limits url) turns.now result.taken fault) }
 {
     let mut line: ServedLine<W> = ServedLine::new(
         alloc, limits, channel_id, services, moment, writes, reads,
     );
     let mut replies = Vec::new(alloc);
-    let outcome = talk(alloc, &mut line, limits, url, turns, moment, &mut replies);
+    let mut taken = 0;
+    let outcome = talk(
+        alloc,
+        &mut line,
+        limits,
+        url,
+        turns,
+        moment,
+        &mut replies,
+        &mut taken,
+    );
     let stage = line.stage();
     let (up, down, services) = line.into_parts();
     Transcript {
         up,
         down,
+        taken,
         replies,
         outcome,
         stage,
@@ -213,6 +242,11 @@ pub fn converse(
     ensures heard { OnOk result.outcome (ServerCloses limits channel_id result.up.items (conversation_told limits limits url turns.now)) }
     ensures closed { OnOk result.outcome (result.stage ≡ Ended Closed) }
     ensures left { OnOk result.outcome (result.services ≡ left_by (record { limits = limits; channel = channel_id; first = services; moment = moment }) result.up.items) }
+
+    // Each turn was accepted; or the client did not take the first that is not, and its fault is the first reason against it.
+    ensures accepted { OnOk result.outcome (AreAccepted (acknowledged limits limits url) turns.now) }
+    ensures taken { OnOk result.outcome (result.taken ≡ length turns.now) }
+    ensures refused { IfErr result.outcome (λ fault. IsTurnFault fault → FirstRefused (acknowledged limits limits url) turns.now result.taken fault) }
 {
     converse_with::<Brand>(
         alloc, services, limits, channel_id, url, turns, moment, writes, reads,

@@ -1,5 +1,5 @@
 -- A client over a line to a server, turn by turn: what it sent, what that told the server, and where both ends then are.
-use Rattle.std.specs.Prelude.{◌≡◌, ℕ, ◌<◌, ◌≤◌, ◌^◌, ◌++◌, IsTrue, List, [], Option, Some}
+use Rattle.std.specs.Prelude.{◌≡◌, ℕ, ◌<◌, ◌≤◌, ◌^◌, ◌++◌, IsTrue, List, [], length, Option, Some}
 use Rattle.ua_octets.specs.Counted.{text}
 use Rattle.ua_builtin.specs.DateTime.{date_time}
 use Rattle.ua_builtin.specs.declared.date_time.DateTime.{DateTime}
@@ -21,6 +21,7 @@ use Rattle.ua_client.specs.Renewing.{IsSettled}
 use Rattle.ua_client.specs.Site.{Site, At, id_at}
 use Rattle.ua_client.specs.declared.connection.Connection.{Connection}
 use Rattle.ua_client.specs.declared.reply.Reply.{Reply}
+use Rattle.ua_served.specs.Accepted.{AreAccepted, acknowledged, tokens_held}
 use Rattle.ua_served.specs.Beginning.{Beginning}
 use Rattle.ua_served.specs.Course.{Course, Stays, opening_octets}
 use Rattle.ua_served.specs.Says.{said_to}
@@ -42,8 +43,8 @@ pub record CanOpen (b : Beginning) (limits : Limits) (url : Option (List ℕ)) (
   pub answered : IsTrue (date_time.encodable b.moment)
 
 -- a client with these limits stands here and may be called: of these octets, which told such a server this, it took all that the server says,
--- and both are in step; this is the newest token, and this the next request id
-pub record IsServed (b : Beginning) (limits : Limits) (url : Option (List ℕ)) (octets : List ℕ) (told : List Told) (token id : ℕ) (site : Site) (x : ClientChannel) : Type 0 where
+-- and both are in step; this is the newest token, this the next request id, and it holds so many tokens
+pub record IsServed (b : Beginning) (limits : Limits) (url : Option (List ℕ)) (octets : List ℕ) (told : List Told) (token id held : ℕ) (site : Site) (x : ClientChannel) : Type 0 where
   pub limits_are : limits_of x ≡ limits
   pub on : b.channel < 2 ^ 32
   pub settled : IsSettled site
@@ -54,20 +55,22 @@ pub record IsServed (b : Beginning) (limits : Limits) (url : Option (List ℕ)) 
   pub newest_is : at_client.newest ≡ token
   pub id_is : id_at site ≡ id
   pub few : id ≤ 4294967295
+  pub held_is : length at_client.tokens ≡ held
 
 -- the same of a client over a line to such a server, which sent just these octets
-pub record AreTalking (b : Beginning) (limits : Limits) (url : Option (List ℕ)) (octets : List ℕ) (told : List Told) (token id : ℕ) (site : Site) (x : Connection) (first now : Option Traffic) : Type 0 where
+pub record AreTalking (b : Beginning) (limits : Limits) (url : Option (List ℕ)) (octets : List ℕ) (told : List Told) (token id held : ℕ) (site : Site) (x : Connection) (first now : Option Traffic) : Type 0 where
   pub line : first ≡ Some (line_to b)
   pub got : List ℕ
   pub carried : WhereTold (Carries got octets) first now
   pub got_is : got ≡ site.octets ++ untaken_of x
-  pub served : IsServed b limits url octets told token id site (channel_of x)
+  pub served : IsServed b limits url octets told token id held site (channel_of x)
 
--- a client did these turns over a line to such a server, and both are in step behind them
+-- a client did these turns over a line to such a server, each of which was accepted, and both are in step behind them
 pub record StaysTalking (b : Beginning) (limits : Limits) (url : Option (List ℕ)) (moment : DateTime) (opened : Site) (turns : List Turn) (x : Connection) (first now : Option Traffic) (replies : List Reply) : Type 0 where
   pub able : CanOpen b limits url moment
+  pub accepted : AreAccepted (acknowledged b.limits limits url) turns
   pub stays : Stays moment (opening_octets limits url moment) opened turns x first now replies
-  pub talking : AreTalking b limits url (opening_octets limits url moment ++ stays.sent) (opening_told b.limits limits url ++ turns_told 1 2 turns) (tokens_behind 1 turns) (ids_behind 2 turns) stays.site x first now
+  pub talking : AreTalking b limits url (opening_octets limits url moment ++ stays.sent) (opening_told b.limits limits url ++ turns_told 1 2 turns) (tokens_behind 1 turns) (ids_behind 2 turns) (tokens_held 1 turns) stays.site x first now
 
 -- a client opened its channel over a line to such a server
 pub record Went (b : Beginning) (limits : Limits) (url : Option (List ℕ)) (moment : DateTime) (x : Connection) (first now : Option Traffic) : Type 0 where
@@ -88,5 +91,6 @@ pub record Talked (b : Beginning) (limits : Limits) (url : Option (List ℕ)) (m
   pub course : Course moment opened turns last sent replies
   pub got : List ℕ
   pub carried : WhereTold (Carries got (opening_octets limits url moment ++ (sent ++ closing_at last moment))) first now
+  pub accepted : AreAccepted (acknowledged b.limits limits url) turns
   pub took : last.octets ≡ said_to b (opening_octets limits url moment ++ (sent ++ closing_at last moment))
   pub closes : ServerCloses b.limits b.channel (opening_octets limits url moment ++ (sent ++ closing_at last moment)) (conversation_told b.limits limits url turns)

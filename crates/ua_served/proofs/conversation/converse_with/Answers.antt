@@ -3,7 +3,7 @@ use Rattle.std.specs.Prelude.{List, ℕ}
 use Rattle.ua_served.specs.Kept.{EndsAt, LeavesAt, Served}
 use Rattle.ua_served.specs.Turns.{conversation_told}
 use Rattle.ua_served.specs.declared.stage.Stage.{Stage}
-use Rattle.ua_served.proofs.Courses.{closed_on, closed_well, conversed_on, left_well}
+use Rattle.ua_served.proofs.Courses.{accepted_on, closed_on, closed_well, conversed_on, left_well, refused_on}
 use Rattle.ua_served.proofs.Fitting.{can_open}
 use Rattle.ua_served.proofs.conversation.converse_with.Goals as goal
 
@@ -31,7 +31,7 @@ returns-clause-converses g c =
     let chunks : Fits w32 c.args.limits.max_chunk_count = search rules in
     conversed_on c.talk-outcome.result g.W.Began.beginning c.args.limits c.args.channel_id c.args.services c.args.url c.args.moment c.args.turns.now c.new-line.result c.talk-outcome.new.line c.talk-outcome.new.replies.items c.into_parts-up.result.0.items c.into_parts-up.result.1.items
     c.requires.began (can_open c.args.limits c.args.channel_id c.args.services c.args.url c.args.moment receive send octets chunks channel dated c.requires.url)
-    (ap (λ (l : Served). l.up) c.new-line.ensures) (ap (λ (l : Served). l.read) c.new-line.ensures) c.talk-outcome.ensures c.into_parts-up.ensures.up c.into_parts-up.ensures.down
+    (ap (λ (l : Served). l.up) c.new-line.ensures) (ap (λ (l : Served). l.read) c.new-line.ensures) c.talk-outcome.ensures.talked c.into_parts-up.ensures.up c.into_parts-up.ensures.down
 
 pub returns-clause-heard : goal.returns-clause-heard
 returns-clause-heard g c =
@@ -43,7 +43,7 @@ returns-clause-heard g c =
     let chunks : Fits w32 c.args.limits.max_chunk_count = search rules in
     closed_on c.talk-outcome.result g.W.Began.beginning c.args.limits c.args.channel_id c.args.services c.args.url c.args.moment c.args.turns.now c.new-line.result c.talk-outcome.new.line c.talk-outcome.new.replies.items c.into_parts-up.result.0.items
     c.requires.began (can_open c.args.limits c.args.channel_id c.args.services c.args.url c.args.moment receive send octets chunks channel dated c.requires.url)
-    (ap (λ (l : Served). l.up) c.new-line.ensures) (ap (λ (l : Served). l.read) c.new-line.ensures) c.talk-outcome.ensures c.into_parts-up.ensures.up
+    (ap (λ (l : Served). l.up) c.new-line.ensures) (ap (λ (l : Served). l.read) c.new-line.ensures) c.talk-outcome.ensures.talked c.into_parts-up.ensures.up
 
 pub returns-clause-closed : goal.returns-clause-closed
 returns-clause-closed g c =
@@ -53,3 +53,27 @@ returns-clause-closed g c =
 pub returns-clause-left : goal.returns-clause-left
 returns-clause-left g c =
     left_well c.talk-outcome.result g.W.Began.beginning c.stage-stage.result c.into_parts-up.result.0.items c.into_parts-up.result.2 (returns-clause-services g c) (returns-clause-closed g c)
+
+pub returns-clause-accepted : goal.returns-clause-accepted
+returns-clause-accepted g c =
+    let dated : FitsSigned w64 c.args.moment.ticks = search rules in
+    let channel : Fits w32 c.args.channel_id = search rules in
+    let receive : Fits w32 c.args.limits.receive_buffer_size = search rules in
+    let send : Fits w32 c.args.limits.send_buffer_size = search rules in
+    let octets : Fits w32 c.args.limits.max_message_size = search rules in
+    let chunks : Fits w32 c.args.limits.max_chunk_count = search rules in
+    accepted_on c.talk-outcome.result g.W.Began.beginning c.args.limits c.args.channel_id c.args.services c.args.url c.args.moment c.args.turns.now c.new-line.result c.talk-outcome.new.line c.talk-outcome.new.replies.items
+    c.requires.began (can_open c.args.limits c.args.channel_id c.args.services c.args.url c.args.moment receive send octets chunks channel dated c.requires.url)
+    (ap (λ (l : Served). l.up) c.new-line.ensures) (ap (λ (l : Served). l.read) c.new-line.ensures) c.talk-outcome.ensures.talked
+
+pub returns-clause-refused : goal.returns-clause-refused
+returns-clause-refused g c =
+    let dated : FitsSigned w64 c.args.moment.ticks = search rules in
+    let channel : Fits w32 c.args.channel_id = search rules in
+    let receive : Fits w32 c.args.limits.receive_buffer_size = search rules in
+    let send : Fits w32 c.args.limits.send_buffer_size = search rules in
+    let octets : Fits w32 c.args.limits.max_message_size = search rules in
+    let chunks : Fits w32 c.args.limits.max_chunk_count = search rules in
+    refused_on c.talk-outcome.result g.W.Began.beginning c.args.limits c.args.channel_id c.args.services c.args.url c.args.moment c.args.turns.now c.new-line.result c.talk-outcome.new.taken
+    c.requires.began (can_open c.args.limits c.args.channel_id c.args.services c.args.url c.args.moment receive send octets chunks channel dated c.requires.url)
+    (ap (λ (l : Served). l.up) c.new-line.ensures) (ap (λ (l : Served). l.read) c.new-line.ensures) c.talk-outcome.ensures.refused
