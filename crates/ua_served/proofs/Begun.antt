@@ -213,6 +213,8 @@ module _ (b : Beginning) (limits : Limits) (url : Option (List ℕ)) (moment : D
         carried = carried_so (opening_octets limits url moment ++ []) (sent_is ∙ sym (append-nil (opening_octets limits url moment)));
         got_is = got_is;
       };
+      sent_is = refl;
+      number_is = sym there.3.number_is ∙ (o.opens.keeps.next ∙ o.fresh.next_is);
       talking = talks;
     });
   }

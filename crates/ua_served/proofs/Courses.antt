@@ -8,6 +8,8 @@ use Rattle.ua_frame.specs.Run.{End, Going, Over, Stopped}
 use Rattle.ua_frame.specs.declared.ack.Ack.{Ack}
 use Rattle.ua_frame.specs.declared.limits.Limits.{Limits}
 use Rattle.ua_frame.proofs.Afters.{AllAfter-push}
+use Rattle.ua_chunk.specs.declared.lane.Lane.{Lane}
+use Rattle.ua_channel.specs.ClientAsks.{call_lane}
 use Rattle.ua_channel.specs.Line.{Traffic, WhereTold}
 use Rattle.ua_channel.specs.ServerReads.{ServerCloses}
 use Rattle.ua_channel.specs.ServerTold.{Told, Opened, Closed}
@@ -18,7 +20,7 @@ use Rattle.ua_server.specs.State.{State}
 use Rattle.ua_server.specs.declared.step.End.TheVariants as ending
 use Rattle.ua_server.proofs.SaidInParts.{said-append, said-more}
 use Rattle.ua_client.specs.Carried.{Carries}
-use Rattle.ua_client.specs.Client.{Closes, ClosesAt, IsReady, OpensClient, OpensNothing, closing_at, connection_of}
+use Rattle.ua_client.specs.Client.{Closes, ClosesAt, IsReady, OpensClient, OpensNothing, closing_at, closing_by, connection_of}
 use Rattle.ua_client.specs.Hearing.{channel_of, untaken_of}
 use Rattle.ua_client.specs.Kept.{CallsInto}
 use Rattle.ua_client.specs.Renewing.{IsRenewed, Renews, renewal_at}
@@ -38,6 +40,7 @@ use Rattle.ua_served.specs.Beginning.{Beginning}
 use Rattle.ua_served.specs.Course.{Converses, Course, Stays, asked_by, opening_octets}
 use Rattle.ua_served.specs.Course.Course.{Asked, Renewed}
 use Rattle.ua_served.specs.Kept.{EndsAt, LeavesAt, Served, traffic_of}
+use Rattle.ua_served.specs.Sends.{conversation_octets, turn_number, turn_octets, turns_number, turns_octets}
 use Rattle.ua_served.specs.Says.{end_by, left_by, said_to, spent}
 use Rattle.ua_served.specs.inside.Talking.{AreTalking, CanOpen, StaysTalking, Talked, Went, line_to}
 use Rattle.ua_served.specs.Turns.{conversation_told, id_behind, ids_behind, opening_told, token_behind, tokens_behind, turn_told, turns_told}
@@ -46,9 +49,10 @@ use Rattle.ua_served.specs.declared.stage.Stage.TheVariants as stage
 use Rattle.ua_served.specs.declared.turn.Turn.{Turn}
 use Rattle.ua_served.proofs.Begun.{SettlesOpened, went_first}
 use Rattle.ua_served.proofs.Reaching.{closing_read}
+use Rattle.ua_served.proofs.Rounds.{closing_there}
 use Rattle.ua_served.proofs.Saying.{end_is, said_by_run, spent-append, spent-enough}
 use Rattle.ua_served.proofs.Staying.{said_there}
-use Rattle.ua_served.proofs.Talks.{asked_judged, asked_refused, got_on, renewed_judged, renewing_refused, rounds_octets, talking_as, talks_asked, talks_renewed}
+use Rattle.ua_served.proofs.Talks.{asked_judged, asked_number, asked_refused, asked_sent, got_on, renewal_sent, renewed_judged, renewing_refused, rounds_octets, talking_as, talks_asked, talks_renewed}
 
 -- ---- what turns tell, with one turn more
 
@@ -70,6 +74,26 @@ ids_push id (u ∷ us) t = ids_push (id_behind id (asked_by u)) us t
 held_push : (held : ℕ) (turns : List Turn) (t : Turn) → tokens_held held (turns ++ t ∷ []) ≡ held_behind (tokens_held held turns) (asked_by t)
 held_push held [] t = refl
 held_push held (u ∷ us) t = held_push (held_behind held (asked_by u)) us t
+
+-- what turns send, with one turn more
+
+octets_push : (a : Ack) (channel : ℕ) (moment : DateTime) (token number id : ℕ) (turns : List Turn) (t : Turn)
+    → turns_octets a channel moment token number id (turns ++ t ∷ [])
+    ≡ turns_octets a channel moment token number id turns ++ turn_octets (call_lane a channel (tokens_behind token turns)) (turns_number a channel token number turns) (ids_behind id turns) moment (asked_by t)
+octets_push a channel moment token number id [] t = append-nil (turn_octets (call_lane a channel token) number id moment (asked_by t))
+octets_push a channel moment token number id (u ∷ us) t =
+    let lane : Lane = call_lane a channel token in
+    let one : List ℕ = turn_octets lane number id moment (asked_by u) in
+    let k : ℕ = token_behind token (asked_by u) in
+    let n : ℕ = turn_number lane number (asked_by u) in
+    let i : ℕ = id_behind id (asked_by u) in
+    ap (λ (o : List ℕ). one ++ o) (octets_push a channel moment k n i us t)
+    ∙ sym (append_assoc one (turns_octets a channel moment k n i us) (turn_octets (call_lane a channel (tokens_behind k us)) (turns_number a channel k n us) (ids_behind i us) moment (asked_by t)))
+
+number_push : (a : Ack) (channel token number : ℕ) (turns : List Turn) (t : Turn)
+    → turns_number a channel token number (turns ++ t ∷ []) ≡ turn_number (call_lane a channel (tokens_behind token turns)) (turns_number a channel token number turns) (asked_by t)
+number_push a channel token number [] t = refl
+number_push a channel token number (u ∷ us) t = number_push a channel (token_behind token (asked_by u)) (turn_number (call_lane a channel token) number (asked_by u)) us t
 
 -- ---- a turn
 
@@ -98,6 +122,26 @@ module _ (b : Beginning) (limits : Limits) (url : Option (List ℕ)) (moment : D
       (sym (ids_push 2 turns t ∙ ap (λ (o : Option (List Request)). id_behind (ids_behind 2 turns) o) is))
       (sym (held_push 1 turns t ∙ ap (λ (o : Option (List Request)). held_behind (tokens_held 1 turns) o) is)) talks
 
+  -- the lane of its calls there
+  abbrev lane_then : Lane
+  lane_then = call_lane acked b.channel (tokens_behind 1 turns)
+
+  -- what was sent with this turn, and the number behind it
+  more_sent : (t : Turn) (asked : Option (List Request)) → asked_by t ≡ asked → (sent : List ℕ) → sent ≡ turn_octets lane_then was.site.number (ids_behind 2 turns) moment asked → was.sent ++ sent ≡ turns_octets acked b.channel moment 1 2 2 (turns ++ t ∷ [])
+  more_sent t asked is sent sent_is =
+      ap (λ (o : List ℕ). o ++ sent) s.sent_is
+      ∙ (ap (λ (o : List ℕ). turns_octets acked b.channel moment 1 2 2 turns ++ o)
+      (sent_is
+      ∙ (ap (λ (n : ℕ). turn_octets lane_then n (ids_behind 2 turns) moment asked) s.number_is
+      ∙ ap (λ (o : Option (List Request)). turn_octets lane_then (turns_number acked b.channel 1 2 turns) (ids_behind 2 turns) moment o) (sym is)))
+      ∙ sym (octets_push acked b.channel moment 1 2 2 turns t))
+
+  more_number : (t : Turn) (asked : Option (List Request)) → asked_by t ≡ asked → (number : ℕ) → number ≡ turn_number lane_then was.site.number asked → number ≡ turns_number acked b.channel 1 2 (turns ++ t ∷ [])
+  more_number t asked is number number_is =
+      number_is
+      ∙ (ap (λ (n : ℕ). turn_number lane_then n asked) s.number_is
+      ∙ (ap (λ (o : Option (List Request)). turn_number lane_then (turns_number acked b.channel 1 2 turns) o) (sym is) ∙ sym (number_push acked b.channel 1 2 turns t)))
+
   -- why it is refused
   refused_as : (t : Turn) (asked : Option (List Request)) → asked_by t ≡ asked → turn_refusal acked turns t ≡ first_reason (turn_reasons acked (tokens_held 1 turns) (ids_behind 2 turns) asked)
   refused_as t asked is = ap (λ (o : Option (List Request)). first_reason (turn_reasons acked (tokens_held 1 turns) (ids_behind 2 turns) o)) is
@@ -120,7 +164,7 @@ module _ (b : Beginning) (limits : Limits) (url : Option (List ℕ)) (moment : D
             more_accepted t
             (refused_as t (Some requests) is
             ∙ asked_judged b limits url (opening ++ was.sent) (opening_told b.limits limits url ++ turns_told 1 2 turns) (tokens_behind 1 turns) (ids_behind 2 turns) (tokens_held 1 turns) was.site x first now s.talking y after c.sent c.moves c.same
-            law requests c.added a);
+            law moment requests c.added a);
         stays = record {
           site = a.behind;
           at = a.at;
@@ -132,8 +176,16 @@ module _ (b : Beginning) (limits : Limits) (url : Option (List ℕ)) (moment : D
           carried = carried_on c.moves.got c.sent c.moves.carried;
           got_is = got_on was.got c.moves.got was.site.octets (untaken_of x) c.moves.taken (untaken_of y) was.got_is c.moves.parts ∙ ap (λ (o : List ℕ). o ++ untaken_of y) (sym (rounds_octets a.rounds));
         };
+        sent_is =
+            more_sent t (Some requests) is c.sent
+            (asked_sent b limits url (opening ++ was.sent) (opening_told b.limits limits url ++ turns_told 1 2 turns) (tokens_behind 1 turns) (ids_behind 2 turns) (tokens_held 1 turns) was.site x first now s.talking y after c.sent c.moves c.same
+            law moment requests c.added a);
+        number_is =
+            more_number t (Some requests) is a.behind.number
+            (asked_number b limits url (opening ++ was.sent) (opening_told b.limits limits url ++ turns_told 1 2 turns) (tokens_behind 1 turns) (ids_behind 2 turns) (tokens_held 1 turns) was.site x first now s.talking y after c.sent c.moves c.same
+            law moment requests c.added a);
         talking = more_talking t (Some requests) is c.sent a.behind
-            (talks_asked b limits url (opening ++ was.sent) (opening_told b.limits limits url ++ turns_told 1 2 turns) (tokens_behind 1 turns) (ids_behind 2 turns) (tokens_held 1 turns) was.site x first now s.talking y after c.sent c.moves c.same law requests c.added a);
+            (talks_asked b limits url (opening ++ was.sent) (opening_told b.limits limits url ++ turns_told 1 2 turns) (tokens_behind 1 turns) (ids_behind 2 turns) (tokens_held 1 turns) was.site x first now s.talking y after c.sent c.moves c.same law moment requests c.added a);
       }
 
   -- the token is renewed
@@ -159,6 +211,10 @@ module _ (b : Beginning) (limits : Limits) (url : Option (List ℕ)) (moment : D
           carried = subst (λ (o : List ℕ). WhereTold (Carries (was.got ++ c.moves.got) (opening ++ (was.sent ++ o))) first after) a.0 (carried_on c.moves.got c.sent c.moves.carried);
           got_is = got_on was.got c.moves.got was.site.octets (untaken_of x) c.moves.taken (untaken_of y) was.got_is c.moves.parts ∙ ap (λ (o : List ℕ). o ++ untaken_of y) (sym renewed.octets);
         };
+        sent_is =
+            more_sent t None is (renewal_at was.site moment)
+            (renewal_sent b limits url (opening ++ was.sent) (opening_told b.limits limits url ++ turns_told 1 2 turns) (tokens_behind 1 turns) (ids_behind 2 turns) (tokens_held 1 turns) was.site x first now s.talking y after c.sent c.moves c.same moment);
+        number_is = more_number t None is u.number renewed.number;
         talking = more_talking t None is (renewal_at was.site moment) u
             (subst (λ (o : List ℕ). AreTalking b limits url ((opening ++ was.sent) ++ o) ((opening_told b.limits limits url ++ turns_told 1 2 turns) ++ Opened (ids_behind 2 turns) 0 (tokens_behind 1 turns + 1) 3600000 ∷ []) (tokens_behind 1 turns + 1) (ids_behind 2 turns + 1) (tokens_held 1 turns + 1) u y first after) a.0
             (talks_renewed b limits url (opening ++ was.sent) (opening_told b.limits limits url ++ turns_told 1 2 turns) (tokens_behind 1 turns) (ids_behind 2 turns) (tokens_held 1 turns) was.site x first now s.talking y after c.sent c.moves c.same
@@ -204,6 +260,9 @@ talked_all b limits url moment turns x first now after replies w y later done s 
     let told : List Told = opening_told b.limits limits url ++ turns_told 1 2 turns in
     let sent_is : c.sent ≡ closing_at was.site moment = c.answers was.site was.at in
     let all : (opening ++ was.sent) ++ closing_at was.site moment ≡ opening ++ (was.sent ++ closing_at was.site moment) = append_assoc opening was.sent (closing_at was.site moment) in
+    let acked : Ack = acknowledged b.limits limits url in
+    let lane_closing : closing_at was.site moment ≡ closing_by (Some (call_lane acked b.channel (tokens_behind 1 turns))) was.site.number (ids_behind 2 turns) moment =
+    closing_there b limits url (opening ++ was.sent) told (tokens_behind 1 turns) (ids_behind 2 turns) (tokens_held 1 turns) was.site (channel_of y) s.talking.served moment in
     let used : id_at was.site < 4294967296 = omega (arith, t.id_is, t.few) in
     let closes : ServerCloses b.limits b.channel (opening ++ (was.sent ++ closing_at was.site moment)) (conversation_told b.limits limits url turns) =
     subst (λ (o : List ℕ). ServerCloses b.limits b.channel o (told ++ Closed ∷ [])) all
@@ -220,6 +279,10 @@ talked_all b limits url moment turns x first now after replies w y later done s 
       carried = carried-as (was.got ++ []) ((opening ++ was.sent) ++ c.sent) was.got (opening ++ (was.sent ++ closing_at was.site moment)) first after (append-nil was.got)
           (ap (λ (o : List ℕ). (opening ++ was.sent) ++ o) sent_is ∙ all) (carried-then was.got (opening ++ was.sent) [] c.sent first later after was.carried c.carried);
       accepted = s.accepted;
+      up_is =
+          ap (λ (o : List ℕ). opening ++ (o ++ closing_at was.site moment)) s.sent_is
+          ∙ ap (λ (o : List ℕ). opening ++ (turns_octets acked b.channel moment 1 2 2 turns ++ o))
+          (lane_closing ∙ ap (λ (n : ℕ). closing_by (Some (call_lane acked b.channel (tokens_behind 1 turns))) n (ids_behind 2 turns) moment) s.number_is);
       took = t.serving.taken ∙ sym (closing_said b (opening ++ was.sent) (opening ++ (was.sent ++ closing_at was.site moment)) told closes (said_there b (opening ++ was.sent) told t.at_server t.serving.together.server_reads));
       closes = closes;
     }
@@ -399,6 +462,13 @@ module _ (b : Beginning) (limits : Limits) (channel : ℕ) (services : State) (u
       subst (λ (u : List ℕ). Converses limits url moment turns u down replies) (sym p)
       (subst (λ (d : List ℕ). Converses limits url moment turns new.up d replies) (sym q) (conversed b limits url moment turns old new replies none talked))
 
+  all_sent : (up : List ℕ) → up ≡ new.up → up ≡ conversation_octets limits limits url channel moment turns
+  all_sent up p =
+      p
+      ∙ (talked.carried.written
+      ∙ (ap (λ (o : List ℕ). o ++ (opening_octets limits url moment ++ (talked.sent ++ closing_at talked.last moment))) none
+      ∙ (talked.up_is ∙ ap (λ (d : Beginning). conversation_octets d.limits limits url d.channel moment turns) is)))
+
   all_accepted : AreAccepted (acknowledged limits limits url) turns
   all_accepted = subst (λ (d : Beginning). AreAccepted (acknowledged d.limits limits url) turns) is talked.accepted
 
@@ -441,3 +511,11 @@ pub refused_on : (r : Result (Unit {0}) ClientFault) (b : Beginning) (limits : L
 refused_on (Ok found) b limits channel services url moment turns old place is able none nothing_read t = tt
 refused_on (Err f) b limits channel services url moment turns old place is able none nothing_read t = λ reason.
     subst (λ (d : Beginning). FirstRefused (acknowledged d.limits limits url) turns place f) is (t reason b (subst (λ (d : Beginning). CanOpen d limits url moment) (sym is) able) (line_begins b old none nothing_read))
+
+-- and the client sent just these octets
+pub sent_on : (r : Result (Unit {0}) ClientFault) (b : Beginning) (limits : Limits) (channel : ℕ) (services : State) (url : Option (List ℕ)) (moment : DateTime) (turns : List Turn) (old new : Served) (replies : List Reply) (up : List ℕ)
+    → b ≡ record { limits = limits; channel = channel; first = services; moment = moment } → CanOpen (record { limits = limits; channel = channel; first = services; moment = moment }) limits url moment → old.up ≡ [] → old.read ≡ 0
+    → OnOk r ((b' : Beginning) → CanOpen b' limits url moment → ◌≡◌ {A = Option Traffic} (Some (traffic_of b old)) (Some (line_to b')) → Talked b' limits url moment turns (Some (traffic_of b old)) (Some (traffic_of b new)) replies)
+    → up ≡ new.up → OnOk r (up ≡ conversation_octets limits limits url channel moment turns)
+sent_on (Err f) b limits channel services url moment turns old new replies up is able none nothing_read t p = tt
+sent_on (Ok found) b limits channel services url moment turns old new replies up is able none nothing_read t p = all_sent b limits channel services url moment turns old new replies is able none nothing_read t up p

@@ -9,6 +9,8 @@ use Rattle.ua_builtin.specs.declared.date_time.DateTime.{DateTime}
 use Rattle.ua_frame.specs.declared.ack.Ack.{Ack}
 use Rattle.ua_frame.specs.declared.limits.Limits.{Limits}
 use Rattle.ua_chunk.specs.Sequence.{next_number}
+use Rattle.ua_chunk.specs.declared.lane.Lane.{Lane}
+use Rattle.ua_channel.specs.ClientAsks.{call_lane}
 use Rattle.ua_channel.specs.Asks.{Placed, asked_in, next_id}
 use Rattle.ua_channel.specs.Asks.Asking.{Renewal}
 use Rattle.ua_channel.specs.Client.{limits_of}
@@ -23,9 +25,10 @@ use Rattle.ua_services.specs.Request.{request}
 use Rattle.ua_services.specs.declared.request.Request.{Request}
 use Rattle.ua_client.specs.Calls.{Answered, AreGroups, LastCame, Rounds, all_of, refusal_at, sent_at}
 use Rattle.ua_client.specs.Calls.Rounds.{NoRound, OneRound}
+use Rattle.ua_client.specs.Client.{closing_at, closing_by}
 use Rattle.ua_client.specs.Renewing.{IsRenewed, IsSettled, asks_renewed, renewal_at, renewal_refusal}
-use Rattle.ua_client.specs.Sent.{bodies_of, group_reasons, request_reasons}
-use Rattle.ua_client.specs.Site.{Site, At, id_at}
+use Rattle.ua_client.specs.Sent.{bodies_of, call_octets, calls_octets, group_reasons, number_behind, numbers_behind, request_reasons}
+use Rattle.ua_client.specs.Site.{Site, At, id_at, lane_behind}
 use Rattle.ua_client.specs.declared.fault.ClientFault.{ClientFault}
 use Rattle.ua_client.specs.declared.reply.Reply.{Reply}
 use Rattle.ua_client.proofs.Askings.{next-calls}
@@ -38,7 +41,7 @@ use Rattle.ua_served.specs.Turns.{calls_told}
 use Rattle.ua_served.specs.inside.Talking.{IsServed}
 use Rattle.ua_served.proofs.Answering.{issued_stays}
 use Rattle.ua_served.proofs.Ending.{all_last}
-use Rattle.ua_served.proofs.Reaching.{acked_here, few_ids, not_exhausted, requests_asked, tokens_here}
+use Rattle.ua_served.proofs.Reaching.{acked_here, few_ids, lane_here, not_exhausted, requests_asked, tokens_here}
 use Rattle.ua_served.proofs.Renewed.{renewal_taken, renewed_together}
 use Rattle.ua_served.proofs.Saying.{said_further}
 use Rattle.ua_served.proofs.Staying.{answered_taken, bodies_count, stay_together}
@@ -125,6 +128,25 @@ module _ (b : Beginning) (limits : Limits) (url : Option (List ℕ)) where
       ∙ (ap (λ (a : Ack). Some a) together.in_step.ack_is ∙ ap (λ (l : Limits). Some (acknowledged b.limits l url)) t.limits_are) in
       ap (λ (a : Option Ack). first_reason (group_reasons a (id_at site) requests)) acked
       ∙ ap (λ (n : ℕ). first_reason (group_reasons (Some (acknowledged b.limits limits url)) n requests)) t.id_is
+
+  -- ---- where its calls go from there
+
+  pub lane_there : (octets : List ℕ) (told : List Told) (token id held : ℕ) (site : Site) (x : ClientChannel) → IsServed b limits url octets told token id held site x
+      → lane_behind site.before ≡ Some (call_lane (acknowledged b.limits limits url) b.channel token)
+  lane_there octets told token id held site x t =
+      let together = t.serving.together in
+      let c : AtClient = t.at_client in
+      lane_here x site c together.stands together.client_reads
+      ∙ (ap (λ (a : Ack). Some (call_lane a c.channel c.newest)) (together.in_step.ack_is ∙ ap (λ (l : Limits). acknowledged b.limits l url) t.limits_are)
+      ∙ (ap (λ (n : ℕ). Some (call_lane (acknowledged b.limits limits url) n c.newest)) together.in_step.channel_is
+      ∙ ap (λ (k : ℕ). Some (call_lane (acknowledged b.limits limits url) b.channel k)) t.newest_is))
+
+  -- the CLO of a client there
+  pub closing_there : (octets : List ℕ) (told : List Told) (token id held : ℕ) (site : Site) (x : ClientChannel) → IsServed b limits url octets told token id held site x → (moment : DateTime)
+      → closing_at site moment ≡ closing_by (Some (call_lane (acknowledged b.limits limits url) b.channel token)) site.number id moment
+  closing_there octets told token id held site x t moment =
+      let lane : Lane = call_lane (acknowledged b.limits limits url) b.channel token in
+      ap (λ (l : Option Lane). closing_by l site.number (id_at site) moment) (lane_there octets told token id held site x t) ∙ ap (λ (n : ℕ). closing_by (Some lane) site.number n moment) t.id_is
 
   pub renewal_refused_there : (octets : List ℕ) (told : List Told) (token id held : ℕ) (site : Site) (x : ClientChannel) → IsServed b limits url octets told token id held site x
       → renewal_refusal site ≡ first_reason (turn_reasons (acknowledged b.limits limits url) held id None)
@@ -236,6 +258,25 @@ refused_behind a id ms ns none = ap first_reason (group_reasons-append a id ms n
 pub refused_among : (a : Option Ack) (id : ℕ) (ms ns : List Request) (f : ClientFault) → first_reason (group_reasons a id ms) ≡ Some f → first_reason (group_reasons a id (ms ++ ns)) ≡ Some f
 refused_among a id ms ns f some = ap first_reason (group_reasons-append a id ms ns) ∙ first_among (group_reasons a id ms) (group_reasons a (id + length ms) ns) f some
 
+calls_octets-append : (lane : Option Lane) (number id : ℕ) (bs cs : List (List ℕ)) → calls_octets lane number id (bs ++ cs) ≡ calls_octets lane number id bs ++ calls_octets lane (numbers_behind lane number bs) (id + length bs) cs
+calls_octets-append lane number id [] cs = ap (λ (n : ℕ). calls_octets lane number n cs) (sym (add-zero id))
+calls_octets-append lane number id (body ∷ bs) cs =
+    let next : ℕ = number_behind lane number body in
+    ap (λ (o : List ℕ). call_octets lane number id body ++ o)
+    (calls_octets-append lane next (id + 1) bs cs ∙ ap (λ (n : ℕ). calls_octets lane next (id + 1) bs ++ calls_octets lane (numbers_behind lane next bs) n cs) (on id (length bs)))
+    ∙ sym (append_assoc (call_octets lane number id body) (calls_octets lane next (id + 1) bs) (calls_octets lane (numbers_behind lane next bs) (id + length (body ∷ bs)) cs))
+  where
+    on : (c d : ℕ) → (c + 1) + d ≡ c + suc d
+    on c d = omega arith
+
+numbers_behind-append : (lane : Option Lane) (number : ℕ) (bs cs : List (List ℕ)) → numbers_behind lane number (bs ++ cs) ≡ numbers_behind lane (numbers_behind lane number bs) cs
+numbers_behind-append lane number [] cs = refl
+numbers_behind-append lane number (body ∷ bs) cs = numbers_behind-append lane (number_behind lane number body) bs cs
+
+bodies_of-append : (ms ns : List Request) → bodies_of (ms ++ ns) ≡ bodies_of ms ++ bodies_of ns
+bodies_of-append [] ns = refl
+bodies_of-append (m ∷ ms) ns = ap (λ (bs : List (List ℕ)). request.canonical m ∷ bs) (bodies_of-append ms ns)
+
 held_some : (held n : ℕ) → 0 < n → held_behind_calls held n ≡ 1
 held_some held zero some = absurd (omega (arith, some))
 held_some held (suc n) some = refl
@@ -243,20 +284,24 @@ held_some held (suc n) some = refl
 held_twice : (held m n : ℕ) → 0 < n → held_behind_calls (held_behind_calls held m) n ≡ held_behind_calls held (m + n)
 held_twice held m n some = held_some (held_behind_calls held m) n some ∙ sym (held_some held (m + n) (omega (arith, some)))
 
--- where a channel of the client stands behind requests of which none was refused, and both are in step
-pub record Behind (b : Beginning) (limits : Limits) (url : Option (List ℕ)) (octets : List ℕ) (told : List Told) (token id held : ℕ) (requests : List Request) (site : Site) : Type 0 where
+-- where a channel of the client stands behind requests of which none was refused, and both are in step; this was sent of them, from this number on
+pub record Behind (b : Beginning) (limits : Limits) (url : Option (List ℕ)) (octets : List ℕ) (told : List Told) (token id held number : ℕ) (sent : List ℕ) (requests : List Request) (site : Site) : Type 0 where
   pub channel : ClientChannel
+  pub sent_is : sent ≡ calls_octets (Some (call_lane (acknowledged b.limits limits url) b.channel token)) number id (bodies_of requests)
+  pub number_is : site.number ≡ numbers_behind (Some (call_lane (acknowledged b.limits limits url) b.channel token)) number (bodies_of requests)
   pub judged : first_reason (group_reasons (Some (acknowledged b.limits limits url)) id requests) ≡ None
-  pub served : IsServed b limits url octets (told ++ calls_told token id (bodies_of requests)) token (id + length requests) (held_behind_calls held (length requests)) site channel
+  pub served : IsServed b limits url (octets ++ sent) (told ++ calls_told token id (bodies_of requests)) token (id + length requests) (held_behind_calls held (length requests)) site channel
 
 module _ (b : Beginning) (limits : Limits) (url : Option (List ℕ)) (octets : List ℕ) (told : List Told) (token id held : ℕ) (law : NonePending) where
   abbrev a : Option Ack
   a = Some (acknowledged b.limits limits url)
 
   pub rounds_served : {c : ClientChannel} {s t : Site} {groups : List (List Request)} {sent taken : List ℕ} {replies : List Reply} (x : ClientChannel) → IsServed b limits url octets told token id held s x → limits_of c ≡ limits
-      → Rounds c s groups t sent taken replies → AreSome groups → (down : List ℕ) → Extends t.octets down → Extends (said_to b (octets ++ sent)) down → Behind b limits url (octets ++ sent) told token id held (all_of groups) t
+      → Rounds c s groups t sent taken replies → AreSome groups → (down : List ℕ) → Extends t.octets down → Extends (said_to b (octets ++ sent)) down → Behind b limits url octets told token id held s.number sent (all_of groups) t
   rounds_served {s = s} x served same NoRound some down front said = record {
     channel = x;
+    sent_is = refl;
+    number_is = refl;
     judged = refl;
     served = served_as b limits url octets (octets ++ []) told (told ++ []) token id (id + 0) held held s x (sym (append-nil octets)) (sym (append-nil told)) (sym (add-zero id)) refl served;
   }
@@ -266,7 +311,7 @@ module _ (b : Beginning) (limits : Limits) (url : Option (List ℕ)) (octets : L
       let further = said_further b (octets ++ sent) more in
       let whole : (octets ++ sent) ++ more ≡ octets ++ (sent ++ more) = append_assoc octets sent more in
       let said_here : Extends (said_to b ((octets ++ sent) ++ more)) down = subst (λ (o : List ℕ). Extends (said_to b o) down) (sym whole) said in
-      let before : Behind b limits url (octets ++ sent) told token id held all m =
+      let before : Behind b limits url octets told token id held s.number sent all m =
       rounds_served x served same r (all_front (λ (g : List Request). 0 < length g) groups group some) down
       (record { more = part ++ front.more; parts = front.parts ∙ (ap (λ (o : List ℕ). o ++ front.more) answered.octets ∙ append_assoc m.octets part front.more) })
       (record { more = further.further ++ said_here.more; parts = said_here.parts ∙ (ap (λ (o : List ℕ). o ++ said_here.more) further.parts ∙ append_assoc (said_to b (octets ++ sent)) further.further said_here.more) }) in
@@ -278,8 +323,25 @@ module _ (b : Beginning) (limits : Limits) (url : Option (List ℕ)) (octets : L
       let judged : first_reason (group_reasons a (id + length all) group) ≡ None =
       sym (refused_there b limits url (octets ++ sent) told_before token (id + length all) (held_behind_calls held (length all)) m before.channel before.served group) ∙ answered.judged in
       let pushed : all ++ group ≡ all_of (groups ++ group ∷ []) = sym (all_push groups group) in
-      subst (λ (ms : List Request). Behind b limits url (octets ++ (sent ++ more)) told token id held ms t) pushed (record {
+      let there = before.served in
+      let lane : Option Lane = Some (call_lane (acknowledged b.limits limits url) b.channel token) in
+      let lane_is : lane_behind m.before ≡ lane = lane_there b limits url (octets ++ sent) told_before token (id + length all) (held_behind_calls held (length all)) m before.channel there in
+      let numbers : List (List ℕ) → ℕ = λ (bs : List (List ℕ)). numbers_behind lane s.number bs in
+      let more_is : more ≡ calls_octets lane (numbers (bodies_of all)) (id + length (bodies_of all)) (bodies_of group) =
+      ap (λ (l : Option Lane). calls_octets l m.number (id_at m) (bodies_of group)) lane_is
+      ∙ (ap (λ (n : ℕ). calls_octets lane n (id_at m) (bodies_of group)) before.number_is
+      ∙ ap (λ (n : ℕ). calls_octets lane (numbers (bodies_of all)) n (bodies_of group)) (there.id_is ∙ ap (λ (n : ℕ). id + n) (sym (bodies_count all)))) in
+      subst (λ (ms : List Request). Behind b limits url octets told token id held s.number (sent ++ more) ms t) pushed (record {
         channel = z;
+        sent_is =
+            ap (λ (o : List ℕ). o ++ more) before.sent_is
+            ∙ (ap (λ (o : List ℕ). calls_octets lane s.number id (bodies_of all) ++ o) more_is
+            ∙ (sym (calls_octets-append lane s.number id (bodies_of all) (bodies_of group)) ∙ ap (λ (bs : List (List ℕ)). calls_octets lane s.number id bs) (sym (bodies_of-append all group))));
+        number_is =
+            answered.number
+            ∙ (ap (λ (l : Option Lane). numbers_behind l m.number (bodies_of group)) lane_is
+            ∙ (ap (λ (n : ℕ). numbers_behind lane n (bodies_of group)) before.number_is
+            ∙ (sym (numbers_behind-append lane s.number (bodies_of all) (bodies_of group)) ∙ ap numbers (sym (bodies_of-append all group)))));
         judged = refused_behind a id all group before.judged ∙ judged;
         served =
             served_as b limits url ((octets ++ sent) ++ more) (octets ++ (sent ++ more)) (told_before ++ calls_told token (id + length all) (bodies_of group)) (told ++ calls_told token id (bodies_of (all ++ group))) token

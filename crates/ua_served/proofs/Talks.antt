@@ -7,7 +7,9 @@ use Rattle.ua_builtin.specs.Reasons.{first_reason}
 use Rattle.ua_builtin.specs.declared.date_time.DateTime.{DateTime}
 use Rattle.ua_frame.specs.declared.ack.Ack.{Ack}
 use Rattle.ua_frame.specs.declared.limits.Limits.{Limits}
+use Rattle.ua_chunk.specs.declared.lane.Lane.{Lane}
 use Rattle.ua_channel.specs.Client.{SameClient, limits_of}
+use Rattle.ua_channel.specs.ClientAsks.{call_lane}
 use Rattle.ua_channel.specs.Line.{Traffic, WhereTold}
 use Rattle.ua_channel.specs.ServerTold.{Told, Opened}
 use Rattle.ua_channel.specs.declared.client.channel.ClientChannel.{ClientChannel}
@@ -16,9 +18,9 @@ use Rattle.ua_client.specs.Calls.{AnsweredAll, BreaksAt, BrokenAll, Rounds, all_
 use Rattle.ua_client.specs.Calls.Rounds.{NoRound, OneRound}
 use Rattle.ua_client.specs.Carried.{Carries}
 use Rattle.ua_client.specs.Hearing.{Moves, channel_of, untaken_of}
-use Rattle.ua_client.specs.Renewing.{IsRenewed, RenewsAt, refused_by, renewal_at, renewal_refusal}
+use Rattle.ua_client.specs.Renewing.{IsRenewed, RenewsAt, refused_by, renewal_at, renewal_by, renewal_refusal}
 use Rattle.ua_client.specs.Sent.{bodies_of, group_reasons}
-use Rattle.ua_client.specs.Site.{Site}
+use Rattle.ua_client.specs.Site.{Site, id_at}
 use Rattle.ua_client.specs.declared.connection.Connection.{Connection}
 use Rattle.ua_client.specs.declared.fault.ClientFault.{ClientFault}
 use Rattle.ua_client.specs.declared.fault.ClientFault.TheVariants as fault
@@ -28,9 +30,10 @@ use Rattle.ua_client.proofs.Settled.{NonePending}
 use Rattle.ua_served.specs.Accepted.{IsTurnFault, acknowledged, held_behind_calls, turn_reasons}
 use Rattle.ua_served.specs.Beginning.{Beginning}
 use Rattle.ua_served.specs.Says.{said_to}
+use Rattle.ua_served.specs.Sends.{turn_number, turn_octets}
 use Rattle.ua_served.specs.Turns.{calls_told}
 use Rattle.ua_served.specs.inside.Talking.{AreTalking, IsServed, line_to}
-use Rattle.ua_served.proofs.Rounds.{AreSome, Behind, all_front, refused_among, refused_behind, refused_there, renewal_refused_there, renewal_served, rounds_served, served_by, some_in}
+use Rattle.ua_served.proofs.Rounds.{AreSome, Behind, all_front, lane_there, refused_among, refused_behind, refused_there, renewal_refused_there, renewal_served, rounds_served, served_by, some_in}
 
 -- ---- octets
 
@@ -128,18 +131,18 @@ module _ (b : Beginning) (limits : Limits) (url : Option (List ℕ)) (octets : L
 
   -- groups of requests are answered, behind which nothing more is sent or taken
   asked_behind : NonePending → {groups : List (List Request)} {sent_there taken_there : List ℕ} {replies : List Reply} (behind : Site) → Rounds (channel_of y) site groups behind sent_there taken_there replies → AreSome groups
-      → sent ≡ sent_there → moves.taken ≡ taken_there → Behind b limits url (octets ++ sent) told token id held (all_of groups) behind
+      → sent ≡ sent_there → moves.taken ≡ taken_there → Behind b limits url octets told token id held site.number sent (all_of groups) behind
   asked_behind law {groups = groups} {sent_there = sent_there} behind rounds some sent_is taken_is =
       let front : Extends behind.octets (said_to b (octets ++ sent)) = front_then behind (rounds_octets rounds ∙ ap (λ (o : List ℕ). site.octets ++ o) (sym taken_is)) in
       let said : Extends (said_to b (octets ++ sent_there)) (said_to b (octets ++ sent)) =
       subst (λ (o : List ℕ). Extends (said_to b (octets ++ o)) (said_to b (octets ++ sent))) sent_is (whole (said_to b (octets ++ sent))) in
-      subst (λ (o : List ℕ). Behind b limits url (octets ++ o) told token id held (all_of groups) behind) (sym sent_is)
+      subst (λ (o : List ℕ). Behind b limits url octets told token id held site.number o (all_of groups) behind) (sym sent_is)
       (rounds_served b limits url octets told token id held law (channel_of x) t.served limits_then rounds some (said_to b (octets ++ sent)) front said)
 
-  module _ (law : NonePending) (requests : List Request) (replies : List Reply) (q : AnsweredAll requests site (channel_of y) sent moves.taken replies) where
-    there : Behind b limits url (octets ++ sent) told token id held requests q.behind
+  module _ (law : NonePending) (moment : DateTime) (requests : List Request) (replies : List Reply) (q : AnsweredAll requests site (channel_of y) sent moves.taken replies) where
+    there : Behind b limits url octets told token id held site.number sent requests q.behind
     there =
-        subst (λ (ms : List Request). Behind b limits url (octets ++ sent) told token id held ms q.behind) (sym q.parts)
+        subst (λ (ms : List Request). Behind b limits url octets told token id held site.number sent ms q.behind) (sym q.parts)
         (asked_behind law q.behind q.rounds (some_in q.groups q.sized) refl refl)
 
     -- requests are answered
@@ -147,6 +150,13 @@ module _ (b : Beginning) (limits : Limits) (url : Option (List ℕ)) (octets : L
     talks_asked =
         talking_then q.behind (rounds_octets q.rounds) (calls_told token id (bodies_of requests)) token (id + length requests) (held_behind_calls held (length requests))
         (served_by b limits url (octets ++ sent) (told ++ calls_told token id (bodies_of requests)) token (id + length requests) (held_behind_calls held (length requests)) q.behind there.channel (channel_of y) q.at limits_then there.served)
+
+    -- what was sent of them, and the number behind it
+    pub asked_sent : sent ≡ turn_octets (call_lane a b.channel token) site.number id moment (Some requests)
+    asked_sent = there.sent_is
+
+    pub asked_number : q.behind.number ≡ turn_number (call_lane a b.channel token) site.number (Some requests)
+    asked_number = there.number_is
 
     -- none of them was refused
     pub asked_judged : first_reason (turn_reasons a held id (Some requests)) ≡ None
@@ -179,6 +189,12 @@ module _ (b : Beginning) (limits : Limits) (url : Option (List ℕ)) (octets : L
         (subst (λ (o : List ℕ). IsServed b limits url (octets ++ o) (told ++ Opened id 0 (token + 1) 3600000 ∷ []) (token + 1) (id + 1) (held + 1) behind (channel_of y)) (sym sent_is)
         (renewal_served b limits url octets told token id held site (channel_of x) t.served (channel_of y) behind moves.taken limits_then (said_to b (octets ++ renewal_at site moment)) front moment dated answered judged r
         (whole (said_to b (octets ++ renewal_at site moment)))))
+
+    -- what is sent of that
+    pub renewal_sent : renewal_at site moment ≡ turn_octets (call_lane a b.channel token) site.number id moment None
+    renewal_sent =
+        ap (λ (l : Option Lane). renewal_by l site.number (id_at site) moment) (lane_there b limits url octets told token id held site (channel_of x) t.served)
+        ∙ ap (λ (n : ℕ). renewal_by (Some (call_lane a b.channel token)) site.number n moment) t.served.id_is
 
     pub renewed_judged : renewal_refusal site ≡ None → first_reason (turn_reasons a held id None) ≡ None
     renewed_judged judged = sym judged_here ∙ judged

@@ -13,6 +13,7 @@ ghost use Rattle.ua_served.specs.Course.{Converses};
 ghost use Rattle.ua_server.specs.declared.step.End.TheVariants.{Closed};
 ghost use Rattle.ua_served.specs.Kept.{EndsAt, LeavesAt};
 ghost use Rattle.ua_served.specs.Says.{left_by, said_to};
+ghost use Rattle.ua_served.specs.Sends.{conversation_octets};
 ghost use Rattle.ua_served.specs.Turns.{conversation_told};
 ghost use Rattle.ua_served.specs.declared.stage.Stage.TheVariants.{Ended};
 ghost use Rattle.ua_served.specs.declared.turn.Turn.{Turn};
@@ -177,6 +178,7 @@ fn converse_with<W: Began>(
     ensures heard { OnOk result.outcome (ServerCloses limits channel_id result.up.items (conversation_told limits limits url turns.now)) }
     ensures closed { OnOk result.outcome (result.stage ≡ Ended Closed) }
     ensures left { OnOk result.outcome (result.services ≡ left_by W.beginning result.up.items) }
+    ensures sent { OnOk result.outcome (result.up.items ≡ conversation_octets limits limits url channel_id moment turns.now) }
     ensures accepted { OnOk result.outcome (AreAccepted (acknowledged limits limits url) turns.now) }
     ensures taken { OnOk result.outcome (result.taken ≡ length turns.now) }
     ensures refused { IfErr result.outcome (λ fault. IsTurnFault fault → FirstRefused (acknowledged limits limits url) turns.now result.taken fault) }
@@ -187,14 +189,7 @@ fn converse_with<W: Began>(
     let mut replies = Vec::new(alloc);
     let mut taken = 0;
     let outcome = talk(
-        alloc,
-        &mut line,
-        limits,
-        url,
-        turns,
-        moment,
-        &mut replies,
-        &mut taken,
+        alloc, &mut line, limits, url, turns, moment, &mut replies, &mut taken,
     );
     let stage = line.stage();
     let (up, down, services) = line.into_parts();
@@ -242,6 +237,9 @@ pub fn converse(
     ensures heard { OnOk result.outcome (ServerCloses limits channel_id result.up.items (conversation_told limits limits url turns.now)) }
     ensures closed { OnOk result.outcome (result.stage ≡ Ended Closed) }
     ensures left { OnOk result.outcome (result.services ≡ left_by (record { limits = limits; channel = channel_id; first = services; moment = moment }) result.up.items) }
+
+    // What the client wrote is a function of the turns.
+    ensures sent { OnOk result.outcome (result.up.items ≡ conversation_octets limits limits url channel_id moment turns.now) }
 
     // Each turn was accepted; or the client did not take the first that is not, and its fault is the first reason against it.
     ensures accepted { OnOk result.outcome (AreAccepted (acknowledged limits limits url) turns.now) }
