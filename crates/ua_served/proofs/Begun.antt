@@ -24,6 +24,8 @@ use Rattle.ua_channel.specs.ClientTold.{Told as Heard, Told as heard}
 use Rattle.ua_channel.specs.Line.{Traffic, WhereTold}
 use Rattle.ua_channel.specs.ServerReads.{greeted_at, with_token}
 use Rattle.ua_channel.specs.ServerSends.{opened_frame}
+use Rattle.ua_channel.specs.ServerTold.{Told}
+use Rattle.ua_channel.specs.Agreement.{agreement_of}
 use Rattle.ua_channel.specs.declared.client.channel.ClientChannel.{ClientChannel}
 use Rattle.ua_channel.proofs.ClientReading.{reads_ack}
 use Rattle.ua_channel.proofs.ReadOn.{begins_run, events_on, one_octets, told_behind}
@@ -41,13 +43,13 @@ use Rattle.ua_served.specs.Accepted.{IsAccepted, acknowledged}
 use Rattle.ua_served.specs.Beginning.{Beginning}
 use Rattle.ua_served.specs.Course.Course.{Begun}
 use Rattle.ua_served.specs.Course.{opening_octets}
-use Rattle.ua_served.specs.Says.{said_to}
+use Rattle.ua_served.specs.Says.{said_to, state_told}
 use Rattle.ua_served.specs.inside.Talking.{AreTalking, CanOpen, StaysTalking, Went, line_to}
 use Rattle.ua_served.specs.Together.{AreServing, opening_answer}
 use Rattle.ua_served.specs.Turns.{opening_told}
 use Rattle.ua_served.proofs.Ending.{frames_behind}
 use Rattle.ua_served.proofs.Lists.{no_more, split_last}
-use Rattle.ua_served.proofs.Opened.{answer_read, begin_together, opening_said}
+use Rattle.ua_served.proofs.Opened.{answer_read, begin_together, opening_said, state_first_two}
 use Rattle.ua_served.proofs.Refused.{short_url}
 use Rattle.ua_served.proofs.Talks.{fronts, talking_as}
 
@@ -214,6 +216,8 @@ module _ (b : Beginning) (limits : Limits) (url : Option (List ℕ)) (moment : D
         got_is = got_is;
       };
       sent_is = refl;
+      replied = refl;
+      state_is = ap (λ (ts : List Told). state_told b ts) (append-nil (opening_told b.limits limits url)) ∙ state_first_two b (agreement_of b.limits (hello_to limits url));
       number_is = sym there.3.number_is ∙ (o.opens.keeps.next ∙ o.fresh.next_is);
       talking = talks;
     });

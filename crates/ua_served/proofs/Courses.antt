@@ -1,5 +1,5 @@
 -- A client's turns over a line, one behind the other.
-use Rattle.std.proofs.Common.{◌≡◌, ◌⊎◌, inl, inr, ℕ, ◌+◌, ◌<◌, ◌≤◌, List, [], ◌∷◌, ◌++◌, Option, Some, None, Result, Ok, Err, get_or, length, take, drop, refl, sym, ◌∙◌, ap, subst, append-nil, append_assoc, arith}
+use Rattle.std.proofs.Common.{◌≡◌, ◌⊎◌, inl, inr, ℕ, ◌+◌, ◌<◌, ◌≤◌, List, [], ◌∷◌, ◌++◌, Option, Some, None, Result, Ok, Err, get_or, length, map, take, drop, refl, sym, ◌∙◌, ap, subst, append-nil, append_assoc, arith}
 use Rattle.std.specs.Prelude.{IfErr, OnOk}
 use Rattle.std.proofs.lemmas.List.{length-take-le, take-append-drop, take_all, take_more}
 use Rattle.ua_builtin.specs.Reasons.{first_reason}
@@ -40,8 +40,9 @@ use Rattle.ua_served.specs.Beginning.{Beginning}
 use Rattle.ua_served.specs.Course.{Converses, Course, Stays, asked_by, opening_octets}
 use Rattle.ua_served.specs.Course.Course.{Asked, Renewed}
 use Rattle.ua_served.specs.Kept.{EndsAt, LeavesAt, Served, traffic_of}
+use Rattle.ua_served.specs.Replies.{lane_back, turn_replies, turn_state, turns_replies, turns_state}
 use Rattle.ua_served.specs.Sends.{conversation_octets, turn_number, turn_octets, turns_number, turns_octets}
-use Rattle.ua_served.specs.Says.{end_by, left_by, said_to, spent}
+use Rattle.ua_served.specs.Says.{end_by, left_by, said_to, spent, state_told}
 use Rattle.ua_served.specs.inside.Talking.{AreTalking, CanOpen, StaysTalking, Talked, Went, line_to}
 use Rattle.ua_served.specs.Turns.{conversation_told, id_behind, ids_behind, opening_told, token_behind, tokens_behind, turn_told, turns_told}
 use Rattle.ua_served.specs.declared.stage.Stage.{Stage}
@@ -49,10 +50,11 @@ use Rattle.ua_served.specs.declared.stage.Stage.TheVariants as stage
 use Rattle.ua_served.specs.declared.turn.Turn.{Turn}
 use Rattle.ua_served.proofs.Begun.{SettlesOpened, went_first}
 use Rattle.ua_served.proofs.Reaching.{closing_read}
+use Rattle.ua_served.proofs.Replying.{some-append, state_closed, state_renewal}
 use Rattle.ua_served.proofs.Rounds.{closing_there}
-use Rattle.ua_served.proofs.Saying.{end_is, said_by_run, spent-append, spent-enough}
+use Rattle.ua_served.proofs.Saying.{end_is, left_by_run, said_by_run, spent-append, spent-enough}
 use Rattle.ua_served.proofs.Staying.{said_there}
-use Rattle.ua_served.proofs.Talks.{asked_judged, asked_number, asked_refused, asked_sent, got_on, renewal_sent, renewed_judged, renewing_refused, rounds_octets, talking_as, talks_asked, talks_renewed}
+use Rattle.ua_served.proofs.Talks.{asked_judged, asked_number, asked_refused, asked_replied, asked_sent, asked_state, got_on, renewal_sent, renewed_judged, renewing_refused, rounds_octets, talking_as, talks_asked, talks_renewed}
 
 -- ---- what turns tell, with one turn more
 
@@ -94,6 +96,22 @@ number_push : (a : Ack) (channel token number : ℕ) (turns : List Turn) (t : Tu
     → turns_number a channel token number (turns ++ t ∷ []) ≡ turn_number (call_lane a channel (tokens_behind token turns)) (turns_number a channel token number turns) (asked_by t)
 number_push a channel token number [] t = refl
 number_push a channel token number (u ∷ us) t = number_push a channel (token_behind token (asked_by u)) (turn_number (call_lane a channel token) number (asked_by u)) us t
+
+-- what comes of turns, with one turn more
+
+state_push : (s : State) (moment : DateTime) (turns : List Turn) (t : Turn) → turns_state s moment (turns ++ t ∷ []) ≡ turn_state (turns_state s moment turns) moment (asked_by t)
+state_push s moment [] t = refl
+state_push s moment (u ∷ us) t = state_push (turn_state s moment (asked_by u)) moment us t
+
+replies_push : (b : Beginning) (client : Limits) (url : Option (List ℕ)) (s : State) (token : ℕ) (turns : List Turn) (t : Turn)
+    → turns_replies b client url s token (turns ++ t ∷ []) ≡ turns_replies b client url s token turns ++ turn_replies (lane_back b client url (tokens_behind token turns)) (turns_state s b.moment turns) b.moment (asked_by t)
+replies_push b client url s token [] t = append-nil (turn_replies (lane_back b client url token) s b.moment (asked_by t))
+replies_push b client url s token (u ∷ us) t =
+    let one : List (Option Reply) = turn_replies (lane_back b client url token) s b.moment (asked_by u) in
+    let next : State = turn_state s b.moment (asked_by u) in
+    let k : ℕ = token_behind token (asked_by u) in
+    ap (λ (os : List (Option Reply)). one ++ os) (replies_push b client url next k us t)
+    ∙ sym (append_assoc one (turns_replies b client url next k us) (turn_replies (lane_back b client url (tokens_behind k us)) (turns_state next b.moment us) b.moment (asked_by t)))
 
 -- ---- a turn
 
@@ -142,6 +160,31 @@ module _ (b : Beginning) (limits : Limits) (url : Option (List ℕ)) (moment : D
       ∙ (ap (λ (n : ℕ). turn_number lane_then n asked) s.number_is
       ∙ (ap (λ (o : Option (List Request)). turn_number lane_then (turns_number acked b.channel 1 2 turns) o) (sym is) ∙ sym (number_push acked b.channel 1 2 turns t)))
 
+  -- the replies with this turn, and the state behind it
+  more_replied : (t : Turn) (asked : Option (List Request)) → asked_by t ≡ asked → (added : List Reply) → have ≡ had ++ added
+      → map (λ (r : Reply). Some r) added ≡ turn_replies (lane_back b limits url (tokens_behind 1 turns)) (state_told b (opening_told b.limits limits url ++ turns_told 1 2 turns)) b.moment asked
+      → map (λ (r : Reply). Some r) have ≡ turns_replies b limits url b.first 1 (turns ++ t ∷ [])
+  more_replied t asked is added have_is replied =
+      let back : Lane = lane_back b limits url (tokens_behind 1 turns) in
+      ap (λ (rs : List Reply). map (λ (r : Reply). Some r) rs) have_is
+      ∙ (some-append had added
+      ∙ (ap (λ (os : List (Option Reply)). os ++ map (λ (r : Reply). Some r) added) s.replied
+      ∙ (ap (λ (os : List (Option Reply)). turns_replies b limits url b.first 1 turns ++ os)
+      (replied
+      ∙ (ap (λ (st : State). turn_replies back st b.moment asked) s.state_is ∙ ap (λ (o : Option (List Request)). turn_replies back (turns_state b.first b.moment turns) b.moment o) (sym is)))
+      ∙ sym (replies_push b limits url b.first 1 turns t))))
+
+  more_state : (t : Turn) (asked : Option (List Request)) → asked_by t ≡ asked
+      → state_told b ((opening_told b.limits limits url ++ turns_told 1 2 turns) ++ turn_told (tokens_behind 1 turns) (ids_behind 2 turns) asked) ≡ turn_state (state_told b (opening_told b.limits limits url ++ turns_told 1 2 turns)) b.moment asked
+      → state_told b (opening_told b.limits limits url ++ turns_told 1 2 (turns ++ t ∷ [])) ≡ turns_state b.first b.moment (turns ++ t ∷ [])
+  more_state t asked is state =
+      ap (λ (ts : List Told). state_told b ts)
+      (ap (λ (ts : List Told). opening_told b.limits limits url ++ ts) (told_push 1 2 turns t ∙ ap (λ (o : Option (List Request)). turns_told 1 2 turns ++ turn_told (tokens_behind 1 turns) (ids_behind 2 turns) o) is)
+      ∙ sym (append_assoc (opening_told b.limits limits url) (turns_told 1 2 turns) (turn_told (tokens_behind 1 turns) (ids_behind 2 turns) asked)))
+      ∙ (state
+      ∙ (ap (λ (st : State). turn_state st b.moment asked) s.state_is
+      ∙ (ap (λ (o : Option (List Request)). turn_state (turns_state b.first b.moment turns) b.moment o) (sym is) ∙ sym (state_push b.first b.moment turns t))))
+
   -- why it is refused
   refused_as : (t : Turn) (asked : Option (List Request)) → asked_by t ≡ asked → turn_refusal acked turns t ≡ first_reason (turn_reasons acked (tokens_held 1 turns) (ids_behind 2 turns) asked)
   refused_as t asked is = ap (λ (o : Option (List Request)). first_reason (turn_reasons acked (tokens_held 1 turns) (ids_behind 2 turns) o)) is
@@ -180,6 +223,14 @@ module _ (b : Beginning) (limits : Limits) (url : Option (List ℕ)) (moment : D
             more_sent t (Some requests) is c.sent
             (asked_sent b limits url (opening ++ was.sent) (opening_told b.limits limits url ++ turns_told 1 2 turns) (tokens_behind 1 turns) (ids_behind 2 turns) (tokens_held 1 turns) was.site x first now s.talking y after c.sent c.moves c.same
             law moment requests c.added a);
+        replied =
+            more_replied t (Some requests) is c.added c.have_is
+            (asked_replied b limits url (opening ++ was.sent) (opening_told b.limits limits url ++ turns_told 1 2 turns) (tokens_behind 1 turns) (ids_behind 2 turns) (tokens_held 1 turns) was.site x first now s.talking y after c.sent c.moves c.same
+            law moment requests c.added a);
+        state_is =
+            more_state t (Some requests) is
+            (asked_state b limits url (opening ++ was.sent) (opening_told b.limits limits url ++ turns_told 1 2 turns) (tokens_behind 1 turns) (ids_behind 2 turns) (tokens_held 1 turns) was.site x first now s.talking y after c.sent c.moves c.same
+            law moment requests c.added a);
         number_is =
             more_number t (Some requests) is a.behind.number
             (asked_number b limits url (opening ++ was.sent) (opening_told b.limits limits url ++ turns_told 1 2 turns) (tokens_behind 1 turns) (ids_behind 2 turns) (tokens_held 1 turns) was.site x first now s.talking y after c.sent c.moves c.same
@@ -215,6 +266,8 @@ module _ (b : Beginning) (limits : Limits) (url : Option (List ℕ)) (moment : D
             more_sent t None is (renewal_at was.site moment)
             (renewal_sent b limits url (opening ++ was.sent) (opening_told b.limits limits url ++ turns_told 1 2 turns) (tokens_behind 1 turns) (ids_behind 2 turns) (tokens_held 1 turns) was.site x first now s.talking y after c.sent c.moves c.same moment);
         number_is = more_number t None is u.number renewed.number;
+        replied = more_replied t None is [] (same ∙ sym (append-nil had)) refl;
+        state_is = more_state t None is (state_renewal b (opening_told b.limits limits url ++ turns_told 1 2 turns) (ids_behind 2 turns) 0 (tokens_behind 1 turns + 1) 3600000);
         talking = more_talking t None is (renewal_at was.site moment) u
             (subst (λ (o : List ℕ). AreTalking b limits url ((opening ++ was.sent) ++ o) ((opening_told b.limits limits url ++ turns_told 1 2 turns) ++ Opened (ids_behind 2 turns) 0 (tokens_behind 1 turns + 1) 3600000 ∷ []) (tokens_behind 1 turns + 1) (ids_behind 2 turns + 1) (tokens_held 1 turns + 1) u y first after) a.0
             (talks_renewed b limits url (opening ++ was.sent) (opening_told b.limits limits url ++ turns_told 1 2 turns) (tokens_behind 1 turns) (ids_behind 2 turns) (tokens_held 1 turns) was.site x first now s.talking y after c.sent c.moves c.same
@@ -279,6 +332,8 @@ talked_all b limits url moment turns x first now after replies w y later done s 
       carried = carried-as (was.got ++ []) ((opening ++ was.sent) ++ c.sent) was.got (opening ++ (was.sent ++ closing_at was.site moment)) first after (append-nil was.got)
           (ap (λ (o : List ℕ). (opening ++ was.sent) ++ o) sent_is ∙ all) (carried-then was.got (opening ++ was.sent) [] c.sent first later after was.carried c.carried);
       accepted = s.accepted;
+      replied = s.replied;
+      state_is = s.state_is;
       up_is =
           ap (λ (o : List ℕ). opening ++ (o ++ closing_at was.site moment)) s.sent_is
           ∙ ap (λ (o : List ℕ). opening ++ (turns_octets acked b.channel moment 1 2 2 turns ++ o))
@@ -469,13 +524,26 @@ module _ (b : Beginning) (limits : Limits) (channel : ℕ) (services : State) (u
       ∙ (ap (λ (o : List ℕ). o ++ (opening_octets limits url moment ++ (talked.sent ++ closing_at talked.last moment))) none
       ∙ (talked.up_is ∙ ap (λ (d : Beginning). conversation_octets d.limits limits url d.channel moment turns) is)))
 
+  all_closed_there : (up : List ℕ) → up ≡ new.up → ServerCloses b.limits b.channel up (conversation_told b.limits limits url turns)
+  all_closed_there up p = subst (λ (u : List ℕ). ServerCloses b.limits b.channel u (conversation_told b.limits limits url turns)) (sym p) (closed_by b limits url moment turns old new replies none talked)
+
+  all_replied : map (λ (r : Reply). Some r) replies ≡ turns_replies (record { limits = limits; channel = channel; first = services; moment = moment }) limits url services 1 turns
+  all_replied = talked.replied ∙ ap (λ (d : Beginning). turns_replies d limits url d.first 1 turns) is
+
+  -- the state that all of it leaves
+  all_left : (up : List ℕ) → up ≡ new.up → left_by b up ≡ turns_state services moment turns
+  all_left up p =
+      let q = all_closed_there up p in
+      left_by_run b up q.frames [] Over q.run
+      ∙ (ap (λ (ts : List Told). state_told b ts) q.told_is
+      ∙ (state_closed b (opening_told b.limits limits url ++ turns_told 1 2 turns) ∙ (talked.state_is ∙ ap (λ (d : Beginning). turns_state d.first d.moment turns) is)))
+
   all_accepted : AreAccepted (acknowledged limits limits url) turns
   all_accepted = subst (λ (d : Beginning). AreAccepted (acknowledged d.limits limits url) turns) is talked.accepted
 
   all_closed : (up : List ℕ) → up ≡ new.up → ServerCloses limits channel up (conversation_told limits limits url turns)
   all_closed up p =
-      subst (λ (d : Beginning). ServerCloses d.limits d.channel up (conversation_told d.limits limits url turns)) is
-      (subst (λ (u : List ℕ). ServerCloses b.limits b.channel u (conversation_told b.limits limits url turns)) (sym p) (closed_by b limits url moment turns old new replies none talked))
+      subst (λ (d : Beginning). ServerCloses d.limits d.channel up (conversation_told d.limits limits url turns)) is (all_closed_there up p)
 
 -- what went over the line
 pub conversed_on : (r : Result (Unit {0}) ClientFault) (b : Beginning) (limits : Limits) (channel : ℕ) (services : State) (url : Option (List ℕ)) (moment : DateTime) (turns : List Turn) (old new : Served) (replies : List Reply) (up down : List ℕ)
@@ -519,3 +587,19 @@ pub sent_on : (r : Result (Unit {0}) ClientFault) (b : Beginning) (limits : Limi
     → up ≡ new.up → OnOk r (up ≡ conversation_octets limits limits url channel moment turns)
 sent_on (Err f) b limits channel services url moment turns old new replies up is able none nothing_read t p = tt
 sent_on (Ok found) b limits channel services url moment turns old new replies up is able none nothing_read t p = all_sent b limits channel services url moment turns old new replies is able none nothing_read t up p
+
+-- each request has the reply that is worked out of the services
+pub replied_on : (r : Result (Unit {0}) ClientFault) (b : Beginning) (limits : Limits) (channel : ℕ) (services : State) (url : Option (List ℕ)) (moment : DateTime) (turns : List Turn) (old new : Served) (replies : List Reply)
+    → b ≡ record { limits = limits; channel = channel; first = services; moment = moment } → CanOpen (record { limits = limits; channel = channel; first = services; moment = moment }) limits url moment → old.up ≡ [] → old.read ≡ 0
+    → OnOk r ((b' : Beginning) → CanOpen b' limits url moment → ◌≡◌ {A = Option Traffic} (Some (traffic_of b old)) (Some (line_to b')) → Talked b' limits url moment turns (Some (traffic_of b old)) (Some (traffic_of b new)) replies)
+    → OnOk r (map (λ (x : Reply). Some x) replies ≡ turns_replies (record { limits = limits; channel = channel; first = services; moment = moment }) limits url services 1 turns)
+replied_on (Err f) b limits channel services url moment turns old new replies is able none nothing_read t = tt
+replied_on (Ok found) b limits channel services url moment turns old new replies is able none nothing_read t = all_replied b limits channel services url moment turns old new replies is able none nothing_read t
+
+-- and the services are as the turns leave them
+pub state_on : (r : Result (Unit {0}) ClientFault) (b : Beginning) (limits : Limits) (channel : ℕ) (services : State) (url : Option (List ℕ)) (moment : DateTime) (turns : List Turn) (old new : Served) (replies : List Reply) (up : List ℕ) (now : State)
+    → b ≡ record { limits = limits; channel = channel; first = services; moment = moment } → CanOpen (record { limits = limits; channel = channel; first = services; moment = moment }) limits url moment → old.up ≡ [] → old.read ≡ 0
+    → OnOk r ((b' : Beginning) → CanOpen b' limits url moment → ◌≡◌ {A = Option Traffic} (Some (traffic_of b old)) (Some (line_to b')) → Talked b' limits url moment turns (Some (traffic_of b old)) (Some (traffic_of b new)) replies)
+    → up ≡ new.up → OnOk r (now ≡ left_by b up) → OnOk r (now ≡ turns_state services moment turns)
+state_on (Err f) b limits channel services url moment turns old new replies up now is able none nothing_read t p q = tt
+state_on (Ok found) b limits channel services url moment turns old new replies up now is able none nothing_read t p q = q ∙ all_left b limits channel services url moment turns old new replies is able none nothing_read t up p

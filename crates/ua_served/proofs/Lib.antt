@@ -10,6 +10,7 @@ mod Untaken
 mod Opened
 mod Answering
 mod Staying
+mod Replying
 mod RenewedTaken
 mod Renewed
 mod Rounds

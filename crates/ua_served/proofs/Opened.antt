@@ -25,7 +25,7 @@ use Rattle.ua_server.specs.Said.{left, said}
 use Rattle.ua_client.specs.Site.{Site, At}
 use Rattle.ua_served.specs.Beginning.{Beginning}
 use Rattle.ua_served.specs.Course.{opening_octets}
-use Rattle.ua_served.specs.Says.{said_to, spent}
+use Rattle.ua_served.specs.Says.{said_to, spent, state_told}
 use Rattle.ua_served.specs.Together.{AreServing, opening_answer}
 use Rattle.ua_served.proofs.Reaching.{opening_read}
 use Rattle.ua_served.proofs.Saying.{said_by_run}
@@ -55,6 +55,11 @@ left_first_two : (b : Beginning) (g : Agreement)
     × ((left b.channel b.first (Agreed g ∷ (Opened 1 0 1 3600000 ∷ [])) (spent (Agreed g ∷ (Opened 1 0 1 3600000 ∷ [])) b.moment)).number ≡ next_number 1)
 unfolding left
 left_first_two b g = (refl, refl)
+
+-- they leave the services as they were
+pub state_first_two : (b : Beginning) (g : Agreement) → state_told b (Agreed g ∷ (Opened 1 0 1 3600000 ∷ [])) ≡ b.first
+unfolding left
+state_first_two b g = refl
 
 -- a client reads that
 pub answer_read : (b : Beginning) (client : Limits) (url : Option (List ℕ)) → IsTrue (ack.encodable (ack_to (hello_to client url) b.limits)) → b.channel < 2 ^ 32 → IsTrue (date_time.encodable b.moment)

@@ -1,6 +1,7 @@
 -- That what a client over a line sends is what a server reads.
 use Rattle.std.proofs.Common.{◌≡◌, ℕ, ◌+◌, ◌<◌, ◌≤◌, ◌^◌, Bool, true, false, not, leb, IsTrue, List, [], ◌∷◌, ◌++◌, Option, Some, None, length, refl, sym, ◌∙◌, ap, subst, arith, append-nil, append_assoc}
 use Rattle.std.specs.Prelude.{if◌then◌else◌}
+use Rattle.std.specs.List.{AllByRecursion}
 use Rattle.std.proofs.lemmas.Bool.{leb-false, not-false}
 use Rattle.ua_builtin.specs.DateTime.{date_time}
 use Rattle.ua_builtin.specs.Reasons.{first_reason}
@@ -82,6 +83,15 @@ not_refused a id (m ∷ ms) h =
     let two = none_parts (leb no_id id) _ _ one.1 in
     let three = none_parts (is_too_large a (request.canonical m)) _ _ two.1 in
     (leb-false no_id id two.0, some_octets m (request.canonical m) (lawful_request.canonical_encodes m (not-false (request.encodable m) one.0)), three.0, not_refused a (id + 1) ms three.1)
+
+-- each can be encoded
+pub writable : (a : Ack) (id : ℕ) (ms : List Request) → first_reason (group_reasons (Some a) id ms) ≡ None → AllByRecursion (λ (m : Request). IsTrue (request.encodable m)) ms
+writable a id [] h = tt
+writable a id (m ∷ ms) h =
+    let one = none_parts (not (request.encodable m)) _ _ h in
+    let two = none_parts (leb no_id id) _ _ one.1 in
+    let three = none_parts (is_too_large a (request.canonical m)) _ _ two.1 in
+    (not-false (request.encodable m) one.0, writable a (id + 1) ms three.1)
 
 -- no request id is past the last
 pub few_ids : (a : Ack) (id : ℕ) (ms : List Request) → AreAsked a id ms → 0 < length ms → id + length (bodies_of ms) ≤ no_id

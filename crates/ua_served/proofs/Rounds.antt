@@ -1,5 +1,5 @@
 -- That both ends stay in step behind groups of calls that are answered, one behind another, and behind a renewal.
-use Rattle.std.proofs.Common.{◌≡◌, ℕ, ◌+◌, ◌<◌, Bool, IsTrue, List, [], ◌∷◌, ◌++◌, Option, Some, None, length, zero, suc, refl, sym, ◌∙◌, ap, subst, arith, append-nil, append_assoc, length-append, add-zero}
+use Rattle.std.proofs.Common.{◌≡◌, ℕ, ◌+◌, ◌<◌, Bool, IsTrue, List, [], ◌∷◌, ◌++◌, Option, Some, None, length, map, replicate, zero, suc, refl, sym, ◌∙◌, ap, subst, arith, append-nil, append_assoc, length-append, add-zero}
 use Rattle.std.specs.List.{AllByRecursion}
 use Rattle.ua_octets.specs.Format.{Extends}
 use Rattle.ua_builtin.specs.DateTime.{date_time}
@@ -7,6 +7,7 @@ use Rattle.ua_builtin.specs.Reasons.{first_reason}
 use Rattle.ua_builtin.proofs.FirstReasons.{first_among, first_behind}
 use Rattle.ua_builtin.specs.declared.date_time.DateTime.{DateTime}
 use Rattle.ua_frame.specs.declared.ack.Ack.{Ack}
+use Rattle.ua_frame.specs.declared.hello.Hello.{Hello}
 use Rattle.ua_frame.specs.declared.limits.Limits.{Limits}
 use Rattle.ua_chunk.specs.Sequence.{next_number}
 use Rattle.ua_chunk.specs.declared.lane.Lane.{Lane}
@@ -16,12 +17,16 @@ use Rattle.ua_channel.specs.Asks.Asking.{Renewal}
 use Rattle.ua_channel.specs.Client.{limits_of}
 use Rattle.ua_channel.specs.ClientReads.{AtClient, ClientReads, lane_from, with_answer, with_renewal}
 use Rattle.ua_channel.specs.ClientTokens.{held_tokens}
+use Rattle.ua_channel.specs.ClientSends.{hello_to}
+use Rattle.ua_channel.specs.Agreement.{agreement_of, lane_of}
 use Rattle.ua_channel.specs.InStep.{AreInStep}
 use Rattle.ua_channel.specs.ServerReads.{AtServer, with_token}
 use Rattle.ua_channel.specs.ServerTold.{Told, Asked, Opened}
 use Rattle.ua_channel.specs.declared.client.channel.ClientChannel.{ClientChannel}
 use Rattle.ua_channel.proofs.Askings.{asked_in-push}
 use Rattle.ua_services.specs.Request.{request}
+use Rattle.ua_server.specs.Said.{left}
+use Rattle.ua_server.specs.State.{State}
 use Rattle.ua_services.specs.declared.request.Request.{Request}
 use Rattle.ua_client.specs.Calls.{Answered, AreGroups, LastCame, Rounds, all_of, refusal_at, sent_at}
 use Rattle.ua_client.specs.Calls.Rounds.{NoRound, OneRound}
@@ -35,16 +40,18 @@ use Rattle.ua_client.proofs.Askings.{next-calls}
 use Rattle.ua_client.proofs.Settled.{NonePending, answered-settled}
 use Rattle.ua_served.specs.Accepted.{acknowledged, held_behind_calls, turn_reasons}
 use Rattle.ua_served.specs.Beginning.{Beginning}
-use Rattle.ua_served.specs.Says.{said_to}
+use Rattle.ua_served.specs.Replies.{lane_back, requests_replies}
+use Rattle.ua_served.specs.Says.{said_to, spent, state_told}
 use Rattle.ua_served.specs.Together.{AreServing, behind_calls}
 use Rattle.ua_served.specs.Turns.{calls_told}
 use Rattle.ua_served.specs.inside.Talking.{IsServed}
 use Rattle.ua_served.proofs.Answering.{issued_stays}
 use Rattle.ua_served.proofs.Ending.{all_last}
-use Rattle.ua_served.proofs.Reaching.{acked_here, few_ids, lane_here, not_exhausted, requests_asked, tokens_here}
+use Rattle.ua_served.proofs.Reaching.{acked_here, few_ids, lane_here, not_exhausted, requests_asked, tokens_here, writable}
 use Rattle.ua_served.proofs.Renewed.{renewal_taken, renewed_together}
 use Rattle.ua_served.proofs.Saying.{said_further}
-use Rattle.ua_served.proofs.Staying.{answered_taken, bodies_count, stay_together}
+use Rattle.ua_served.proofs.Replying.{AreWritable, moments_there, replies-append, replies_are, some-append, state_calls}
+use Rattle.ua_served.proofs.Staying.{answered_taken, bodies_count, stay_together, told_together}
 
 -- ---- lists
 
@@ -203,6 +210,18 @@ module _ (b : Beginning) (limits : Limits) (url : Option (List ℕ)) (octets : L
           held_is = d.3 ∙ ap (λ (k : ℕ). held_behind_calls k (length requests)) t.held_is;
         }
 
+    -- the replies
+    pub group_replied : AreWritable requests → map (λ (r : Reply). Some r) replies ≡ requests_replies (lane_back b limits url token) (state_told b told) b.moment requests
+    group_replied fits =
+        let hello_is : s.hello ≡ hello_to limits url = t.serving.together.in_step.hello_is ∙ ap (λ (l : Limits). hello_to l url) t.limits_are in
+        let all = told_together b url octets told s x site behind c requests taken replies t.on t.serving some a y at same_limits took_group in
+        let moments = moments_there b told c.newest (id_at site) (bodies_of requests) ∙ ap (λ (n : ℕ). replicate n b.moment ++ []) (bodies_count requests) in
+        replies_are (lane_of b.channel c.newest (agreement_of b.limits s.hello)) (state_told b told)
+        ((left b.channel b.first told (spent told b.moment)).moments ++ spent (calls_told c.newest (id_at site) (bodies_of requests)) b.moment) (id_at site) requests b.moment [] site.told behind.told replies
+        fits moments all a.replies_are
+        ∙ (ap (λ (k : ℕ). requests_replies (lane_of b.channel k (agreement_of b.limits s.hello)) (state_told b told) b.moment requests) t.newest_is
+        ∙ ap (λ (h : Hello). requests_replies (lane_of b.channel token (agreement_of b.limits h)) (state_told b told) b.moment requests) hello_is)
+
   -- the token is renewed
   module _ (moment : DateTime) (dated : IsTrue (date_time.encodable moment)) (answered : IsTrue (date_time.encodable b.moment)) (judged : renewal_refusal site ≡ None) (r : IsRenewed y site behind taken)
       (said : Extends (said_to b (octets ++ renewal_at site moment)) down) where
@@ -284,9 +303,10 @@ held_some held (suc n) some = refl
 held_twice : (held m n : ℕ) → 0 < n → held_behind_calls (held_behind_calls held m) n ≡ held_behind_calls held (m + n)
 held_twice held m n some = held_some (held_behind_calls held m) n some ∙ sym (held_some held (m + n) (omega (arith, some)))
 
--- where a channel of the client stands behind requests of which none was refused, and both are in step; this was sent of them, from this number on
-pub record Behind (b : Beginning) (limits : Limits) (url : Option (List ℕ)) (octets : List ℕ) (told : List Told) (token id held number : ℕ) (sent : List ℕ) (requests : List Request) (site : Site) : Type 0 where
+-- where a channel of the client stands behind requests of which none was refused, and both are in step; this was sent of them, from this number on, and these are the replies
+pub record Behind (b : Beginning) (limits : Limits) (url : Option (List ℕ)) (octets : List ℕ) (told : List Told) (token id held number : ℕ) (sent : List ℕ) (replies : List Reply) (requests : List Request) (site : Site) : Type 0 where
   pub channel : ClientChannel
+  pub replies_are : map (λ (r : Reply). Some r) replies ≡ requests_replies (lane_back b limits url token) (state_told b told) b.moment requests
   pub sent_is : sent ≡ calls_octets (Some (call_lane (acknowledged b.limits limits url) b.channel token)) number id (bodies_of requests)
   pub number_is : site.number ≡ numbers_behind (Some (call_lane (acknowledged b.limits limits url) b.channel token)) number (bodies_of requests)
   pub judged : first_reason (group_reasons (Some (acknowledged b.limits limits url)) id requests) ≡ None
@@ -297,21 +317,22 @@ module _ (b : Beginning) (limits : Limits) (url : Option (List ℕ)) (octets : L
   a = Some (acknowledged b.limits limits url)
 
   pub rounds_served : {c : ClientChannel} {s t : Site} {groups : List (List Request)} {sent taken : List ℕ} {replies : List Reply} (x : ClientChannel) → IsServed b limits url octets told token id held s x → limits_of c ≡ limits
-      → Rounds c s groups t sent taken replies → AreSome groups → (down : List ℕ) → Extends t.octets down → Extends (said_to b (octets ++ sent)) down → Behind b limits url octets told token id held s.number sent (all_of groups) t
+      → Rounds c s groups t sent taken replies → AreSome groups → (down : List ℕ) → Extends t.octets down → Extends (said_to b (octets ++ sent)) down → Behind b limits url octets told token id held s.number sent replies (all_of groups) t
   rounds_served {s = s} x served same NoRound some down front said = record {
     channel = x;
+    replies_are = refl;
     sent_is = refl;
     number_is = refl;
     judged = refl;
     served = served_as b limits url octets (octets ++ []) told (told ++ []) token id (id + 0) held held s x (sym (append-nil octets)) (sym (append-nil told)) (sym (add-zero id)) refl served;
   }
-  rounds_served {c = c} {s = s} {t = t} x served same (OneRound {groups = groups} {m = m} {sent = sent} {taken = taken} {part = part} {added = added} group z r stands answered) some down front said =
+  rounds_served {c = c} {s = s} {t = t} x served same (OneRound {groups = groups} {m = m} {sent = sent} {taken = taken} {part = part} {replies = replies} {added = added} group z r stands answered) some down front said =
       let all : List Request = all_of groups in
       let more : List ℕ = sent_at m group in
       let further = said_further b (octets ++ sent) more in
       let whole : (octets ++ sent) ++ more ≡ octets ++ (sent ++ more) = append_assoc octets sent more in
       let said_here : Extends (said_to b ((octets ++ sent) ++ more)) down = subst (λ (o : List ℕ). Extends (said_to b o) down) (sym whole) said in
-      let before : Behind b limits url octets told token id held s.number sent all m =
+      let before : Behind b limits url octets told token id held s.number sent replies all m =
       rounds_served x served same r (all_front (λ (g : List Request). 0 < length g) groups group some) down
       (record { more = part ++ front.more; parts = front.parts ∙ (ap (λ (o : List ℕ). o ++ front.more) answered.octets ∙ append_assoc m.octets part front.more) })
       (record { more = further.further ++ said_here.more; parts = said_here.parts ∙ (ap (λ (o : List ℕ). o ++ said_here.more) further.parts ∙ append_assoc (said_to b (octets ++ sent)) further.further said_here.more) }) in
@@ -322,6 +343,11 @@ module _ (b : Beginning) (limits : Limits) (url : Option (List ℕ)) (octets : L
       some_here stands.at stands.came answered said_here in
       let judged : first_reason (group_reasons a (id + length all) group) ≡ None =
       sym (refused_there b limits url (octets ++ sent) told_before token (id + length all) (held_behind_calls held (length all)) m before.channel before.served group) ∙ answered.judged in
+      let acked : Ack = acknowledged b.limits limits url in
+      let back : Lane = lane_back b limits url token in
+      let replied =
+      group_replied b limits url (octets ++ sent) told_before token (id + length all) (held_behind_calls held (length all)) m before.channel before.served z t part (stands.same.limits ∙ same) down front law group added
+      some_here stands.at stands.came answered said_here (writable acked (id + length all) group judged) in
       let pushed : all ++ group ≡ all_of (groups ++ group ∷ []) = sym (all_push groups group) in
       let there = before.served in
       let lane : Option Lane = Some (call_lane (acknowledged b.limits limits url) b.channel token) in
@@ -331,8 +357,14 @@ module _ (b : Beginning) (limits : Limits) (url : Option (List ℕ)) (octets : L
       ap (λ (l : Option Lane). calls_octets l m.number (id_at m) (bodies_of group)) lane_is
       ∙ (ap (λ (n : ℕ). calls_octets lane n (id_at m) (bodies_of group)) before.number_is
       ∙ ap (λ (n : ℕ). calls_octets lane (numbers (bodies_of all)) n (bodies_of group)) (there.id_is ∙ ap (λ (n : ℕ). id + n) (sym (bodies_count all)))) in
-      subst (λ (ms : List Request). Behind b limits url octets told token id held s.number (sent ++ more) ms t) pushed (record {
+      subst (λ (ms : List Request). Behind b limits url octets told token id held s.number (sent ++ more) (replies ++ added) ms t) pushed (record {
         channel = z;
+        replies_are =
+            some-append replies added
+            ∙ (ap (λ (os : List (Option Reply)). os ++ map (λ (r : Reply). Some r) added) before.replies_are
+            ∙ (ap (λ (os : List (Option Reply)). requests_replies back (state_told b told) b.moment all ++ os)
+            (replied ∙ ap (λ (st : State). requests_replies back st b.moment group) (state_calls b told token id all (writable acked id all before.judged)))
+            ∙ sym (replies-append back (state_told b told) b.moment all group)));
         sent_is =
             ap (λ (o : List ℕ). o ++ more) before.sent_is
             ∙ (ap (λ (o : List ℕ). calls_octets lane s.number id (bodies_of all) ++ o) more_is

@@ -200,6 +200,12 @@ module _ (b : Beginning) (url : Option (List ℕ)) (octets : List ℕ) (told : L
       here : ClientReads (limits_of y) behind.asks behind.octets told_then heard_then.at
       here = subst (λ (o : List ℕ). ClientReads (limits_of y) behind.asks o told_then heard_then.at) (sym took) reads_then
 
+      -- what the client was told by then
+      pub told_together : behind.told ≡ site.told ++ answers_told (lane_of b.channel c.newest (agreement_of b.limits s.hello)) before.state moments (id_at site) bodies
+      told_together =
+          client_told y behind.asks behind.octets behind.told told_then heard_then.at stands.goes here
+          ∙ ap (λ (h : Hello). site.told ++ answers_told (lane_of b.channel c.newest (agreement_of b.limits h)) before.state moments (id_at site) bodies) (hello_stays s lane bodies)
+
       serving_then : AreServing b url (octets ++ sent_at site requests) (told ++ calls) then_at y behind heard_then.at
       serving_then = record {
         together = record {

@@ -1,5 +1,5 @@
 -- That a client over a line to a server stays in step with it, by its requests and by renewals.
-use Rattle.std.proofs.Common.{◌≡◌, ℕ, ◌+◌, ◌<◌, IsTrue, List, [], ◌∷◌, ◌++◌, Option, Some, None, Err, length, refl, sym, ◌∙◌, ap, subst, append-nil, append_assoc}
+use Rattle.std.proofs.Common.{◌≡◌, ℕ, ◌+◌, ◌<◌, IsTrue, List, [], ◌∷◌, ◌++◌, Option, Some, None, Err, length, map, refl, sym, ◌∙◌, ap, subst, append-nil, append_assoc}
 use Rattle.ua_octets.specs.Format.{Extends}
 use Rattle.ua_octets.proofs.Readers.{some_is}
 use Rattle.ua_builtin.specs.DateTime.{date_time}
@@ -29,10 +29,13 @@ use Rattle.ua_client.proofs.Carrying.{carried-then}
 use Rattle.ua_client.proofs.Settled.{NonePending}
 use Rattle.ua_served.specs.Accepted.{IsTurnFault, acknowledged, held_behind_calls, turn_reasons}
 use Rattle.ua_served.specs.Beginning.{Beginning}
-use Rattle.ua_served.specs.Says.{said_to}
+use Rattle.ua_served.specs.Replies.{lane_back, turn_replies, turn_state}
+use Rattle.ua_served.specs.Says.{said_to, state_told}
 use Rattle.ua_served.specs.Sends.{turn_number, turn_octets}
 use Rattle.ua_served.specs.Turns.{calls_told}
 use Rattle.ua_served.specs.inside.Talking.{AreTalking, IsServed, line_to}
+use Rattle.ua_served.proofs.Reaching.{writable}
+use Rattle.ua_served.proofs.Replying.{state_calls}
 use Rattle.ua_served.proofs.Rounds.{AreSome, Behind, all_front, lane_there, refused_among, refused_behind, refused_there, renewal_refused_there, renewal_served, rounds_served, served_by, some_in}
 
 -- ---- octets
@@ -131,18 +134,18 @@ module _ (b : Beginning) (limits : Limits) (url : Option (List ℕ)) (octets : L
 
   -- groups of requests are answered, behind which nothing more is sent or taken
   asked_behind : NonePending → {groups : List (List Request)} {sent_there taken_there : List ℕ} {replies : List Reply} (behind : Site) → Rounds (channel_of y) site groups behind sent_there taken_there replies → AreSome groups
-      → sent ≡ sent_there → moves.taken ≡ taken_there → Behind b limits url octets told token id held site.number sent (all_of groups) behind
-  asked_behind law {groups = groups} {sent_there = sent_there} behind rounds some sent_is taken_is =
+      → sent ≡ sent_there → moves.taken ≡ taken_there → Behind b limits url octets told token id held site.number sent replies (all_of groups) behind
+  asked_behind law {groups = groups} {sent_there = sent_there} {replies = replies} behind rounds some sent_is taken_is =
       let front : Extends behind.octets (said_to b (octets ++ sent)) = front_then behind (rounds_octets rounds ∙ ap (λ (o : List ℕ). site.octets ++ o) (sym taken_is)) in
       let said : Extends (said_to b (octets ++ sent_there)) (said_to b (octets ++ sent)) =
       subst (λ (o : List ℕ). Extends (said_to b (octets ++ o)) (said_to b (octets ++ sent))) sent_is (whole (said_to b (octets ++ sent))) in
-      subst (λ (o : List ℕ). Behind b limits url octets told token id held site.number o (all_of groups) behind) (sym sent_is)
+      subst (λ (o : List ℕ). Behind b limits url octets told token id held site.number o replies (all_of groups) behind) (sym sent_is)
       (rounds_served b limits url octets told token id held law (channel_of x) t.served limits_then rounds some (said_to b (octets ++ sent)) front said)
 
   module _ (law : NonePending) (moment : DateTime) (requests : List Request) (replies : List Reply) (q : AnsweredAll requests site (channel_of y) sent moves.taken replies) where
-    there : Behind b limits url octets told token id held site.number sent requests q.behind
+    there : Behind b limits url octets told token id held site.number sent replies requests q.behind
     there =
-        subst (λ (ms : List Request). Behind b limits url octets told token id held site.number sent ms q.behind) (sym q.parts)
+        subst (λ (ms : List Request). Behind b limits url octets told token id held site.number sent replies ms q.behind) (sym q.parts)
         (asked_behind law q.behind q.rounds (some_in q.groups q.sized) refl refl)
 
     -- requests are answered
@@ -157,6 +160,14 @@ module _ (b : Beginning) (limits : Limits) (url : Option (List ℕ)) (octets : L
 
     pub asked_number : q.behind.number ≡ turn_number (call_lane a b.channel token) site.number (Some requests)
     asked_number = there.number_is
+
+    -- the replies
+    pub asked_replied : map (λ (r : Reply). Some r) replies ≡ turn_replies (lane_back b limits url token) (state_told b told) b.moment (Some requests)
+    asked_replied = there.replies_are
+
+    -- and the state that they leave
+    pub asked_state : state_told b (told ++ calls_told token id (bodies_of requests)) ≡ turn_state (state_told b told) b.moment (Some requests)
+    asked_state = state_calls b told token id requests (writable a id requests there.judged)
 
     -- none of them was refused
     pub asked_judged : first_reason (turn_reasons a held id (Some requests)) ≡ None

@@ -33,3 +33,7 @@ said_to b octets = said b.channel b.first (told_by b octets) (end_by b octets) (
 -- the state in which octets leave its services
 unfoldable pub left_by : Beginning → List ℕ → State
 left_by b octets = (left b.channel b.first (told_by b octets) (spent (told_by b octets) b.moment)).state
+
+-- the state in which what is told leaves its services
+abbrev pub state_told : Beginning → List Told → State
+state_told b told = (left b.channel b.first told (spent told b.moment)).state

@@ -1,6 +1,6 @@
 //! A client and a server that talk to each other.
 
-ghost use Rattle.std.specs.Prelude.{◌≡◌, ◌∷◌, ◌++◌, [], ℕ, List, Option, Some, IsTrue, IfErr, IfOk, OnOk, length};
+ghost use Rattle.std.specs.Prelude.{◌≡◌, ◌∷◌, ◌++◌, [], ℕ, List, Option, Some, IsTrue, IfErr, IfOk, OnOk, length, map};
 ghost use Rattle.ua_octets.specs.Counted.{text};
 ghost use Rattle.ua_frame.specs.declared.limits.Limits.{Limits};
 ghost use Rattle.ua_channel.specs.Line.{Traffic};
@@ -13,6 +13,7 @@ ghost use Rattle.ua_served.specs.Course.{Converses};
 ghost use Rattle.ua_server.specs.declared.step.End.TheVariants.{Closed};
 ghost use Rattle.ua_served.specs.Kept.{EndsAt, LeavesAt};
 ghost use Rattle.ua_served.specs.Says.{left_by, said_to};
+ghost use Rattle.ua_served.specs.Replies.{turns_replies, turns_state};
 ghost use Rattle.ua_served.specs.Sends.{conversation_octets};
 ghost use Rattle.ua_served.specs.Turns.{conversation_told};
 ghost use Rattle.ua_served.specs.declared.stage.Stage.TheVariants.{Ended};
@@ -179,6 +180,8 @@ fn converse_with<W: Began>(
     ensures closed { OnOk result.outcome (result.stage ≡ Ended Closed) }
     ensures left { OnOk result.outcome (result.services ≡ left_by W.beginning result.up.items) }
     ensures sent { OnOk result.outcome (result.up.items ≡ conversation_octets limits limits url channel_id moment turns.now) }
+    ensures replied { OnOk result.outcome (map Some result.replies.items ≡ turns_replies (record { limits = limits; channel = channel_id; first = services; moment = moment }) limits url services 1 turns.now) }
+    ensures state { OnOk result.outcome (result.services ≡ turns_state services moment turns.now) }
     ensures accepted { OnOk result.outcome (AreAccepted (acknowledged limits limits url) turns.now) }
     ensures taken { OnOk result.outcome (result.taken ≡ length turns.now) }
     ensures refused { IfErr result.outcome (λ fault. IsTurnFault fault → FirstRefused (acknowledged limits limits url) turns.now result.taken fault) }
@@ -189,7 +192,14 @@ fn converse_with<W: Began>(
     let mut replies = Vec::new(alloc);
     let mut taken = 0;
     let outcome = talk(
-        alloc, &mut line, limits, url, turns, moment, &mut replies, &mut taken,
+        alloc,
+        &mut line,
+        limits,
+        url,
+        turns,
+        moment,
+        &mut replies,
+        &mut taken,
     );
     let stage = line.stage();
     let (up, down, services) = line.into_parts();
@@ -238,8 +248,10 @@ pub fn converse(
     ensures closed { OnOk result.outcome (result.stage ≡ Ended Closed) }
     ensures left { OnOk result.outcome (result.services ≡ left_by (record { limits = limits; channel = channel_id; first = services; moment = moment }) result.up.items) }
 
-    // What the client wrote is a function of the turns.
+    // What the client wrote, the replies and the services are functions of the turns.
     ensures sent { OnOk result.outcome (result.up.items ≡ conversation_octets limits limits url channel_id moment turns.now) }
+    ensures replied { OnOk result.outcome (map Some result.replies.items ≡ turns_replies (record { limits = limits; channel = channel_id; first = services; moment = moment }) limits url services 1 turns.now) }
+    ensures state { OnOk result.outcome (result.services ≡ turns_state services moment turns.now) }
 
     // Each turn was accepted; or the client did not take the first that is not, and its fault is the first reason against it.
     ensures accepted { OnOk result.outcome (AreAccepted (acknowledged limits limits url) turns.now) }

@@ -1,5 +1,5 @@
 -- A client over a line to a server, turn by turn: what it sent, what that told the server, and where both ends then are.
-use Rattle.std.specs.Prelude.{◌≡◌, ℕ, ◌<◌, ◌≤◌, ◌^◌, ◌++◌, IsTrue, List, [], length, Option, Some}
+use Rattle.std.specs.Prelude.{◌≡◌, ℕ, ◌<◌, ◌≤◌, ◌^◌, ◌++◌, IsTrue, List, [], length, map, Option, Some}
 use Rattle.ua_octets.specs.Counted.{text}
 use Rattle.ua_builtin.specs.DateTime.{date_time}
 use Rattle.ua_builtin.specs.declared.date_time.DateTime.{DateTime}
@@ -24,7 +24,8 @@ use Rattle.ua_client.specs.declared.reply.Reply.{Reply}
 use Rattle.ua_served.specs.Accepted.{AreAccepted, acknowledged, tokens_held}
 use Rattle.ua_served.specs.Beginning.{Beginning}
 use Rattle.ua_served.specs.Course.{Course, Stays, opening_octets}
-use Rattle.ua_served.specs.Says.{said_to}
+use Rattle.ua_served.specs.Replies.{turns_replies, turns_state}
+use Rattle.ua_served.specs.Says.{said_to, state_told}
 use Rattle.ua_served.specs.Sends.{conversation_octets, turns_number, turns_octets}
 use Rattle.ua_served.specs.Together.{AreServing}
 use Rattle.ua_served.specs.Turns.{conversation_told, ids_behind, opening_told, tokens_behind, turns_told}
@@ -73,6 +74,8 @@ pub record StaysTalking (b : Beginning) (limits : Limits) (url : Option (List �
   pub stays : Stays moment (opening_octets limits url moment) opened turns x first now replies
   pub sent_is : stays.sent ≡ turns_octets (acknowledged b.limits limits url) b.channel moment 1 2 2 turns
   pub number_is : stays.site.number ≡ turns_number (acknowledged b.limits limits url) b.channel 1 2 turns
+  pub replied : map (λ (r : Reply). Some r) replies ≡ turns_replies b limits url b.first 1 turns
+  pub state_is : state_told b (opening_told b.limits limits url ++ turns_told 1 2 turns) ≡ turns_state b.first b.moment turns
   pub talking : AreTalking b limits url (opening_octets limits url moment ++ stays.sent) (opening_told b.limits limits url ++ turns_told 1 2 turns) (tokens_behind 1 turns) (ids_behind 2 turns) (tokens_held 1 turns) stays.site x first now
 
 -- a client opened its channel over a line to such a server
@@ -96,5 +99,7 @@ pub record Talked (b : Beginning) (limits : Limits) (url : Option (List ℕ)) (m
   pub carried : WhereTold (Carries got (opening_octets limits url moment ++ (sent ++ closing_at last moment))) first now
   pub accepted : AreAccepted (acknowledged b.limits limits url) turns
   pub up_is : opening_octets limits url moment ++ (sent ++ closing_at last moment) ≡ conversation_octets b.limits limits url b.channel moment turns
+  pub replied : map (λ (r : Reply). Some r) replies ≡ turns_replies b limits url b.first 1 turns
+  pub state_is : state_told b (opening_told b.limits limits url ++ turns_told 1 2 turns) ≡ turns_state b.first b.moment turns
   pub took : last.octets ≡ said_to b (opening_octets limits url moment ++ (sent ++ closing_at last moment))
   pub closes : ServerCloses b.limits b.channel (opening_octets limits url moment ++ (sent ++ closing_at last moment)) (conversation_told b.limits limits url turns)
