@@ -1,10 +1,13 @@
 //! A client and a server in one process.
 
-ghost use Rattle.std.specs.Prelude.{◌≡◌, IsTrue, Some};
+ghost use Rattle.std.specs.Prelude.{◌≡◌, IsTrue, OnOk, Some};
 ghost use Rattle.ua_octets.specs.Counted.{text};
 ghost use Rattle.ua_channel.specs.Line.{Takes, WhereTold};
 ghost use Rattle.ua_served.specs.Beginning.{Beginning};
 ghost use Rattle.ua_served.specs.Kept.{LeavesAt, traffic_of};
+ghost use Rattle.ua_served.specs.Says.{left_by};
+ghost use Rattle.ua_served.specs.declared.stage.Stage.TheVariants.{Ended};
+ghost use Rattle.ua_server.specs.declared.step.End.TheVariants.{Closed};
 
 use std::alloc::Global;
 use ua_builtin::{DateTime, UaString};
@@ -37,6 +40,8 @@ pub fn converse_over(
     requires url { IsTrue (text.encodable url) }
     requires same { before.old ≡ services }
     ensures services { LeavesAt result.stage (record { limits = limits; channel = channel_id; first = services; moment = moment }) result.up.items result.services }
+    ensures closed { OnOk result.outcome (result.stage ≡ Ended Closed) }
+    ensures left { OnOk result.outcome (result.services ≡ left_by (record { limits = limits; channel = channel_id; first = services; moment = moment }) result.up.items) }
 {
     let _before = before;
     converse(
