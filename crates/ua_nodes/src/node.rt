@@ -3,7 +3,7 @@
 use std::alloc::{AllocError, Global};
 use std::marker::Model;
 use ua_builtin::{DateTime, NodeId, StatusCode, UaString};
-use ua_variant::Variant;
+use ua_variant::{Scalar, Variant};
 
 /// What may be done with the value of a node (OPC 10000-3, 8.57).
 #[derive(Clone, Copy, PartialEq, Eq, Debug)]
@@ -128,9 +128,13 @@ impl NodeValue {
     }
 
     /// A value of its own, equal to this one.
+    #[inline(always)]
     pub fn try_clone(&self, alloc: Global) -> Result<Variant, AllocError>
         ensures { IfOk result (λ v. variant_of v ≡ self.now) }
     {
-        self.inner.try_clone(alloc)
+        match &self.inner {
+            Variant::One(Scalar::Int32(number)) => Ok(Variant::One(Scalar::Int32(*number))),
+            other => other.try_clone(alloc),
+        }
     }
 }

@@ -120,6 +120,22 @@ impl Variable {
         ensures { IfOk result (λ v. variant_of v ≡ attribute_value id.now self.now attribute) }
     {
         match attribute {
+            Attribute::Value => self.value.try_clone(alloc),
+            other => self.described(alloc, id, other),
+        }
+    }
+
+    /// The same, of any attribute.
+    #[inline(never)]
+    fn described(
+        &self,
+        alloc: Global,
+        id: &NodeId,
+        attribute: Attribute,
+    ) -> Result<Variant, AllocError>
+        ensures { IfOk result (λ v. variant_of v ≡ attribute_value id.now self.now attribute) }
+    {
+        match attribute {
             Attribute::NodeId => Ok(Variant::One(Scalar::NodeId(id.try_clone()?))),
             Attribute::NodeClass => Ok(Variant::One(Scalar::Int32(2))),
             Attribute::BrowseName => Ok(Variant::One(Scalar::QualifiedName(QualifiedName {
