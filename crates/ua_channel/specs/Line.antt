@@ -19,8 +19,8 @@ abbrev pub one_more : ℕ → ℕ
 one_more n = cond (nat_eq n most_failures) 0 (n + 1)
 
 -- the count after a call: an Err is one failure more
-abbrev pub failures_after : ℕ → Result ℕ LineFault → ℕ
-failures_after before (Ok n) = before
+abbrev pub failures_after : {A E : Type 0} → ℕ → Result A E → ℕ
+failures_after before (Ok found) = before
 failures_after before (Err fault) = one_more before
 
 -- ---- octets

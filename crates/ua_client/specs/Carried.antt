@@ -1,7 +1,7 @@
 -- What calls of a client read from a line and write to it.
 use Rattle.std.specs.Prelude.{◌≡◌, ◌<◌, ◌++◌, ℕ, List, [], length, Option, Some, None, Result, Ok, Err}
 use Rattle.ua_octets.specs.Format.{Extends}
-use Rattle.ua_channel.specs.Line.{Traffic, one_more}
+use Rattle.ua_channel.specs.Line.{Traffic}
 
 -- these octets were read and these were written, between two moments
 pub record Carries (got sent : List ℕ) (before after : Traffic) : Type 0 where
@@ -29,8 +29,3 @@ Writes (Err fault) octets before after = WritesFront octets before after
 abbrev pub IsAtEnd : Option Traffic → Type 0
 IsAtEnd None = Unit {0}
 IsAtEnd (Some traffic) = traffic.coming [] ≡ []
-
--- the count of a line's failures behind a call that fails where the line does
-abbrev pub counted_by : {A E : Type 0} → ℕ → Result A E → ℕ
-counted_by before (Ok found) = before
-counted_by before (Err fault) = one_more before

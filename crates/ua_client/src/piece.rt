@@ -1,8 +1,8 @@
 //! What was read from a line and is not taken yet.
 
 ghost use Rattle.std.specs.Prelude.{◌≡◌, ◌≤◌, ◌-◌, ◌↔◌, ℕ, List, [], length, take, drop, IsTrue, OnOk, OnErr, Ok, Err};
-ghost use Rattle.ua_channel.specs.Line.{WhereTold};
-ghost use Rattle.ua_client.specs.Carried.{Carries, IsAtEnd, counted_by};
+ghost use Rattle.ua_channel.specs.Line.{WhereTold, failures_after};
+ghost use Rattle.ua_client.specs.Carried.{Carries, IsAtEnd};
 
 use std::alloc::{AllocError, Global};
 use std::marker::Model;
@@ -77,7 +77,7 @@ impl Piece {
         ensures end { OnOk result (self.new ≡ [] → IsAtEnd (L.traffic line.new)) }
         ensures none { OnErr result ((self.new ≡ []) × (L.traffic line.new ≡ L.traffic line.old)) }
         ensures few { length self.new ≤ 4096 }
-        ensures failed { L.failures line.new ≡ counted_by (L.failures line.old) result }
+        ensures failed { L.failures line.new ≡ failures_after (L.failures line.old) result }
     {
         self.start = 0;
         self.end = 0;

@@ -1,8 +1,8 @@
 //! Octets that go to a line whole.
 
 ghost use Rattle.std.specs.Prelude.{◌≡◌, ◌<◌, ◌≤◌, length, OnErr};
-ghost use Rattle.ua_channel.specs.Line.{WhereTold};
-ghost use Rattle.ua_client.specs.Carried.{Writes, counted_by};
+ghost use Rattle.ua_channel.specs.Line.{WhereTold, failures_after};
+ghost use Rattle.ua_client.specs.Carried.{Writes};
 
 use ua_channel::{Line, LineFault};
 use ua_frame::HEADER_LEN;
@@ -13,7 +13,7 @@ use ua_octets::front_number;
 pub fn write_whole<L: Line>(line: &mut L, octets: &[u8]) -> Result<(), LineFault>
     ensures written { WhereTold (Writes result octets.now) (L.traffic line.old) (L.traffic line.new) }
     ensures some { OnErr result (0 < length octets.now) }
-    ensures failed { L.failures line.new ≡ counted_by (L.failures line.old) result }
+    ensures failed { L.failures line.new ≡ failures_after (L.failures line.old) result }
 {
     let mut at = 0;
     while at < octets.len() {
@@ -43,7 +43,7 @@ fn frame_len(octets: &[u8]) -> usize
 pub fn write_frames<L: Line>(line: &mut L, octets: &[u8]) -> Result<(), LineFault>
     ensures written { WhereTold (Writes result octets.now) (L.traffic line.old) (L.traffic line.new) }
     ensures some { OnErr result (0 < length octets.now) }
-    ensures failed { L.failures line.new ≡ counted_by (L.failures line.old) result }
+    ensures failed { L.failures line.new ≡ failures_after (L.failures line.old) result }
 {
     let mut at = 0;
     while at < octets.len() {

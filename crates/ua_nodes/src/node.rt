@@ -127,13 +127,25 @@ impl NodeValue {
         &self.inner
     }
 
-    /// A value of its own, equal to this one.
+    /// A value of its own, equal to this one. Numbers, times and codes are copied where they stand.
     #[inline(always)]
     pub fn try_clone(&self, alloc: Global) -> Result<Variant, AllocError>
         ensures { IfOk result (λ v. variant_of v ≡ self.now) }
     {
         match &self.inner {
+            Variant::One(Scalar::Boolean(truth)) => Ok(Variant::One(Scalar::Boolean(*truth))),
+            Variant::One(Scalar::SByte(number)) => Ok(Variant::One(Scalar::SByte(*number))),
+            Variant::One(Scalar::Byte(number)) => Ok(Variant::One(Scalar::Byte(*number))),
+            Variant::One(Scalar::Int16(number)) => Ok(Variant::One(Scalar::Int16(*number))),
+            Variant::One(Scalar::UInt16(number)) => Ok(Variant::One(Scalar::UInt16(*number))),
             Variant::One(Scalar::Int32(number)) => Ok(Variant::One(Scalar::Int32(*number))),
+            Variant::One(Scalar::UInt32(number)) => Ok(Variant::One(Scalar::UInt32(*number))),
+            Variant::One(Scalar::Int64(number)) => Ok(Variant::One(Scalar::Int64(*number))),
+            Variant::One(Scalar::UInt64(number)) => Ok(Variant::One(Scalar::UInt64(*number))),
+            Variant::One(Scalar::Float(number)) => Ok(Variant::One(Scalar::Float(*number))),
+            Variant::One(Scalar::Double(number)) => Ok(Variant::One(Scalar::Double(*number))),
+            Variant::One(Scalar::DateTime(time)) => Ok(Variant::One(Scalar::DateTime(*time))),
+            Variant::One(Scalar::StatusCode(code)) => Ok(Variant::One(Scalar::StatusCode(*code))),
             other => other.try_clone(alloc),
         }
     }

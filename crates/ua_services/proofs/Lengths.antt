@@ -1,4 +1,4 @@
--- How many octets the bodies have that open and close a channel; and that none is empty.
+-- How many octets the bodies have that open and close a channel; and that no response is empty.
 use Rattle.std.specs.Prelude.{◌≡◌, ◌<◌, ℕ, ℤ, List, ◌++◌, length}
 use Rattle.std.proofs.Common.{arith, length-append}
 use Rattle.ua_octets.proofs.NumbersRead.{length-number_octets}

@@ -1,6 +1,5 @@
 -- Lines over connections.
-use Rattle.std.specs.Prelude.{ℕ, List, Result, Ok, Err, drop}
-use Rattle.ua_channel.specs.Line.{one_more}
+use Rattle.std.specs.Prelude.{ℕ, List, drop}
 use Rattle.ua_tcp.specs.declared.gathering_line.GatheringLine.{GatheringLine}
 use Rattle.ua_tcp.specs.declared.tcp_line.TcpLine.{TcpLine}
 
@@ -15,8 +14,3 @@ beneath line = line.line
 -- what was written to it and did not go out
 abbrev pub gathered_in : {L : Type 0} → GatheringLine L → List ℕ
 gathered_in line = drop line.gone line.gathered.items
-
--- the count of a line's failures behind a call that fails where the line does
-abbrev pub counted_by : {A E : Type 0} → ℕ → Result A E → ℕ
-counted_by before (Ok found) = before
-counted_by before (Err fault) = one_more before

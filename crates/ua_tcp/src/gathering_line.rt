@@ -22,8 +22,8 @@ pub struct GatheringLine<L> {
 }
 
 impl<L: Line> GatheringLine<L> {
-    ghost use Rattle.ua_channel.specs.Line.{one_more};
-    ghost use Rattle.ua_tcp.specs.Lines.{beneath, counted_by, gathered_in};
+    ghost use Rattle.ua_channel.specs.Line.{failures_after};
+    ghost use Rattle.ua_tcp.specs.Lines.{beneath, gathered_in};
 
     /// A line over this one, of which nothing is gathered.
     pub fn new(alloc: Global, line: L) -> GatheringLine<L>
@@ -47,7 +47,7 @@ impl<L: Line> GatheringLine<L> {
     /// Writes what is gathered to the line beneath. Where that fails what did not go out stays gathered.
     pub fn flush(&mut self) -> Result<(), LineFault>
         ensures gathered { OnOk result (gathered_in self.new ≡ []) }
-        ensures failed { L.failures (beneath self.new) ≡ counted_by (L.failures (beneath self.old)) result }
+        ensures failed { L.failures (beneath self.new) ≡ failures_after (L.failures (beneath self.old)) result }
     {
         while self.gone < self.gathered.len() {
             self.gone += self.line.write(&self.gathered[self.gone..])?;
