@@ -1,7 +1,7 @@
 -- Lines that are served twice.
 use Rattle.std.specs.Prelude.{◌≡◌, ℕ, ℤ, ◌<◌, false, List, [], ◌∷◌, ◌++◌, map, length, Option, Some, None, Result, Ok, Err, IsErrOf}
 use Rattle.std.proofs.Common.{refl, sym, ◌∙◌, ap, subst, arith, append-nil, length-append}
-use Rattle.std.proofs.lemmas.List.{append_cancel_left, append_cancel_right}
+use Rattle.std.proofs.lemmas.List.{append_cancel_left, append_cancel_right, length-map}
 use Rattle.ua_builtin.specs.declared.date_time.DateTime.{DateTime}
 use Rattle.ua_builtin.specs.declared.status_code.StatusCode.{StatusCode}
 use Rattle.ua_frame.specs.Run.{Rules, Run, events, End, Going, Stopped, Over}
@@ -24,6 +24,7 @@ use Rattle.ua_server.specs.declared.step.End.{End as Ending}
 use Rattle.ua_server.specs.declared.step.End.TheVariants as ending
 use Rattle.ua_server.specs.declared.watch.AnsweredRequest.{AnsweredRequest}
 use Rattle.ua_server.proofs.Happened.{given-led}
+use Rattle.ua_server.proofs.LeftOver.{all-asked, as-many, asked-over}
 use Rattle.ua_server.proofs.RequestsInParts.{requests-more}
 use Rattle.ua_server.proofs.SaidInParts.{said-more, left-more}
 use Rattle.ua_pinned.specs.Lines.{ComeAlike, LinesAlike, Wrote, WroteAlike}
@@ -31,7 +32,7 @@ use Rattle.ua_pinned.specs.Pinned.{HadMemory}
 use Rattle.ua_pinned.specs.Serving.{IsWriteFault, ServesAlike, ToldAlike, line_failed}
 use Rattle.ua_pinned.specs.Serving.ServesAlike.{NoFault, AtRead, AtWrite}
 use Rattle.ua_pinned.proofs.BrokenAlike.{BrokeOff, broken_once}
-use Rattle.ua_pinned.proofs.MomentsAlike.{Begins, given_once, moments_begin}
+use Rattle.ua_pinned.proofs.MomentsAlike.{Begins, given_once, left_once, moments_begin}
 use Rattle.ua_pinned.proofs.MomentsAlike.Begins.{First, Second}
 use Rattle.ua_pinned.proofs.ServersAlike.{same_code}
 
@@ -79,20 +80,20 @@ module _ (limits : Limits) (channel : ℕ) (first : State) where
   abbrev R : Rules Told ℕ
   R = server_rules limits channel
 
-  abbrev Says : List Told → End ℕ → List DateTime → List ℕ → State → List AnsweredRequest → Type 0
-  Says told end moments written now asked = (written ≡ said channel first told end moments) × ((left channel first told moments).state ≡ now) × (asked ≡ requests channel first told moments) × AreAsked told moments
+  abbrev Says : List ℕ → List Told → End ℕ → List DateTime → List ℕ → State → List AnsweredRequest → Type 0
+  Says whole told end moments written now asked = (written ≡ said channel first told end moments) × ((left channel first told moments).state ≡ now) × (asked ≡ requests channel first told moments) × AreAsked limits channel whole told moments
 
-  says_more : (told : List Told) (end : End ℕ) (ms more : List DateTime) (written other : List ℕ) (now then : State) (asked also : List AnsweredRequest) → Says told end ms written now asked → Says told end (ms ++ more) other then also → SaysOnce written other now then asked also
-  says_more told end ms more written other now then asked also a b = record {
-    says = a.0 ∙ (sym (said-more channel first told end ms more a.3.0) ∙ sym b.0);
-    leaves = sym a.1 ∙ (sym (ap (λ (c : Course). c.state) (left-more channel first told ms more a.3.0)) ∙ b.1);
-    asks = a.2 ∙ (sym (requests-more channel first told ms more a.3.0) ∙ sym b.2);
+  says_more : (whole : List ℕ) (told : List Told) (end : End ℕ) (ms more : List DateTime) (written other : List ℕ) (now then : State) (asked also : List AnsweredRequest) → Says whole told end ms written now asked → Says whole told end (ms ++ more) other then also → SaysOnce written other now then asked also
+  says_more whole told end ms more written other now then asked also a b = let enough = all-asked limits channel whole told ms a.3 in record {
+    says = a.0 ∙ (sym (said-more channel first told end ms more enough) ∙ sym b.0);
+    leaves = sym a.1 ∙ (sym (ap (λ (c : Course). c.state) (left-more channel first told ms more enough)) ∙ b.1);
+    asks = a.2 ∙ (sym (requests-more channel first told ms more enough) ∙ sym b.2);
   }
 
-  says_once : (told : List Told) (end : End ℕ) (ms ns : List DateTime) (written other : List ℕ) (now then : State) (asked also : List AnsweredRequest) → Begins ms ns → Says told end ms written now asked → Says told end ns other then also → SaysOnce written other now then asked also
-  says_once told end ms ns written other now then asked also (First more e) a b = says_more told end ms more written other now then asked also a (subst (λ (ts : List DateTime). Says told end ts other then also) e b)
-  says_once told end ms ns written other now then asked also (Second more e) a b =
-      let s = says_more told end ns more other written then now also asked b (subst (λ (ts : List DateTime). Says told end ts written now asked) e a) in
+  says_once : (whole : List ℕ) (told : List Told) (end : End ℕ) (ms ns : List DateTime) (written other : List ℕ) (now then : State) (asked also : List AnsweredRequest) → Begins ms ns → Says whole told end ms written now asked → Says whole told end ns other then also → SaysOnce written other now then asked also
+  says_once whole told end ms ns written other now then asked also (First more e) a b = says_more whole told end ms more written other now then asked also a (subst (λ (ts : List DateTime). Says whole told end ts other then also) e b)
+  says_once whole told end ms ns written other now then asked also (Second more e) a b =
+      let s = says_more whole told end ns more other written then now also asked b (subst (λ (ts : List DateTime). Says whole told end ts written now asked) e a) in
       record { says = sym s.says; leaves = sym s.leaves; asks = sym s.asks }
 
   -- these octets are answered so, to this end
@@ -100,16 +101,22 @@ module _ (limits : Limits) (channel : ℕ) (first : State) where
     frames : List Frame
     rest : List ℕ
     run : Run (server_rules limits channel) whole frames rest end
-    says : Says (events (server_rules limits channel) frames) end moments written now asked
+    says : Says whole (events (server_rules limits channel) frames) end moments written now asked
 
   reads_once : (whole : List ℕ) (end last : End ℕ) (ms ns : List DateTime) (written other : List ℕ) (now then : State) (asked also : List AnsweredRequest) → Begins ms ns → (a : Reads whole end ms written now asked) → (b : Reads whole last ns other then also)
       → (end ≡ last) × SaysOnce written other now then asked also
   reads_once whole end last ms ns written other now then asked also begin a b =
       let same = unique R whole a.frames b.frames a.rest b.rest end last a.run b.run in (
         same.ends,
-        says_once (events R b.frames) last ms ns written other now then asked also begin
-            (subst (λ (e : End ℕ). Says (events R b.frames) e ms written now asked) same.ends (subst (λ (fs : List Frame). Says (events R fs) end ms written now asked) same.frames a.says)) b.says,
+        says_once whole (events R b.frames) last ms ns written other now then asked also begin
+            (subst (λ (e : End ℕ). Says whole (events R b.frames) e ms written now asked) same.ends (subst (λ (fs : List Frame). Says whole (events R fs) end ms written now asked) same.frames a.says)) b.says,
       )
+
+  -- and the moments are as many
+  many_once : (whole : List ℕ) (end last : End ℕ) (ms ns : List DateTime) (written other : List ℕ) (now then : State) (asked also : List AnsweredRequest) → Reads whole end ms written now asked → Reads whole last ns other then also → length ms ≡ length ns
+  many_once whole end last ms ns written other now then asked also a b =
+      let same = unique R whole a.frames b.frames a.rest b.rest end last a.run b.run in
+      as-many limits channel whole (events R b.frames) ms ns (subst (λ (fs : List Frame). AreAsked limits channel whole (events R fs) ms) same.frames a.says.3) b.says.3
 
   of_answered : (octets written : List ℕ) (moments : List DateTime) (now : State) (asked : List AnsweredRequest) (frames : List Frame) (rest : List ℕ) (end : End ℕ) → AnsweredTo limits channel first octets written moments now frames rest end
       → TellsAll limits channel first moments frames asked → Reads octets end moments written now asked
@@ -121,7 +128,13 @@ module _ (limits : Limits) (channel : ℕ) (first : State) where
     frames = a.frames;
     rest = a.rest ++ more;
     run = subst (λ (o : List ℕ). Run (server_rules limits channel) o a.frames (a.rest ++ more) end) e (ends_stay (server_rules limits channel) octets more a.frames a.rest end not_going a.to.run);
-    says = (a.to.written_is, a.to.state_is, tells, a.to.asked);
+    says = (
+      a.to.written_is,
+      a.to.state_is,
+      tells,
+      subst (λ (o : List ℕ). AreAsked limits channel o (events (server_rules limits channel) a.frames) moments) e
+          (asked-over limits channel octets more a.frames a.rest end (events (server_rules limits channel) a.frames) moments not_going a.to.run a.to.asked),
+    );
   }
 
   -- what serving comes to, where no call of the line failed and memory was had
@@ -143,7 +156,7 @@ module _ (limits : Limits) (channel : ℕ) (first : State) where
     frames = r.frames;
     rest = r.rest;
     run = subst (λ (o : List ℕ). Run (server_rules limits channel) o r.frames r.rest Going) (sym (append-nil octets) ∙ (ap (λ (t : List ℕ). octets ++ t) (sym r.none) ∙ e)) r.to.run;
-    says = (r.to.written_is, r.to.state_is, tells, r.to.asked);
+    says = (r.to.written_is, r.to.state_is, tells, subst (λ (o : List ℕ). AreAsked limits channel o (events (server_rules limits channel) r.frames) moments) (sym (append-nil octets) ∙ (ap (λ (t : List ℕ). octets ++ t) (sym r.none) ∙ e)) r.to.asked);
   }
 
   -- what serving comes to, and the requests that are told of
@@ -165,13 +178,17 @@ module _ (limits : Limits) (channel : ℕ) (first : State) where
 
   -- ---- two answers are one
 
-  record Once (a b : Result Ending ServeFault) (written other : List ℕ) (now then : State) (asked also : List AnsweredRequest) : Type 0 where
+  record Once (a b : Result Ending ServeFault) (written other : List ℕ) (ms ns : List DateTime) (now then : State) (asked also : List AnsweredRequest) : Type 0 where
     answers : a ≡ b
+    counts : length ms ≡ length ns
     same : SaysOnce written other now then asked also
 
   module _ (whole : List ℕ) (ms ns : List DateTime) (written other : List ℕ) (now then : State) (asked also : List AnsweredRequest) (begin : Begins ms ns) where
     end_twice : (end last : End ℕ) → Reads whole end ms written now asked → Reads whole last ns other then also → (end ≡ last) × SaysOnce written other now then asked also
     end_twice end last a b = reads_once whole end last ms ns written other now then asked also begin a b
+
+    many : (end last : End ℕ) → Reads whole end ms written now asked → Reads whole last ns other then also → length ms ≡ length ns
+    many end last a b = many_once whole end last ms ns written other now then asked also a b
 
     over_stopped : (code : ℕ) → ◌≡◌ {A = End ℕ} Over (Stopped code) → ⊥
     over_stopped code e = cc
@@ -189,25 +206,25 @@ module _ (limits : Limits) (channel : ℕ) (first : State) where
         let same = unique R whole a.frames b.frames a.rest b.rest Going Going a.run b.run in
         subst (λ (r : List ℕ). IsClean a.frames r) (sym same.rests) (subst (λ (fs : List Frame). IsClean fs b.rest) (sym same.frames) h)
 
-    both : (a b : Result Ending ServeFault) → Came whole ms written now asked a → Came whole ns other then also b → Once a b written other now then asked also
-    both a b (Closes p r) (Closes q t) = record { answers = p ∙ sym q; same = (end_twice Over Over r t).1 }
+    both : (a b : Result Ending ServeFault) → Came whole ms written now asked a → Came whole ns other then also b → Once a b written other ms ns now then asked also
+    both a b (Closes p r) (Closes q t) = record { answers = p ∙ sym q; counts = many Over Over r t; same = (end_twice Over Over r t).1 }
     both a b (Closes p r) (Refuses code q t) = absurd (over_stopped code.code (end_twice Over (Stopped code.code) r t).0)
     both a b (Closes p r) (RunsOut q t clean) = absurd (over_not_going (end_twice Over Going r t).0)
     both a b (Closes p r) (IsCut q t cut) = absurd (over_not_going (end_twice Over Going r t).0)
     both a b (Refuses code p r) (Closes q t) = absurd (over_stopped code.code (sym (end_twice (Stopped code.code) Over r t).0))
     both a b (Refuses code p r) (Refuses why q t) =
         let s = end_twice (Stopped code.code) (Stopped why.code) r t in
-        record { answers = p ∙ (ap (λ (c : StatusCode). Ok (ending.Refused c)) (one_code code why s.0) ∙ sym q); same = s.1 }
+        record { answers = p ∙ (ap (λ (c : StatusCode). Ok (ending.Refused c)) (one_code code why s.0) ∙ sym q); counts = many (Stopped code.code) (Stopped why.code) r t; same = s.1 }
     both a b (Refuses code p r) (RunsOut q t clean) = absurd (stopped_not_going code.code (end_twice (Stopped code.code) Going r t).0)
     both a b (Refuses code p r) (IsCut q t cut) = absurd (stopped_not_going code.code (end_twice (Stopped code.code) Going r t).0)
     both a b (RunsOut p r clean) (Closes q t) = absurd (over_not_going (sym (end_twice Going Over r t).0))
     both a b (RunsOut p r clean) (Refuses code q t) = absurd (stopped_not_going code.code (sym (end_twice Going (Stopped code.code) r t).0))
-    both a b (RunsOut p r clean) (RunsOut q t also) = record { answers = p ∙ sym q; same = (end_twice Going Going r t).1 }
+    both a b (RunsOut p r clean) (RunsOut q t also) = record { answers = p ∙ sym q; counts = many Going Going r t; same = (end_twice Going Going r t).1 }
     both a b (RunsOut p r clean) (IsCut q t cut) = absurd (cut (clean_once r t clean))
     both a b (IsCut p r cut) (Closes q t) = absurd (over_not_going (sym (end_twice Going Over r t).0))
     both a b (IsCut p r cut) (Refuses code q t) = absurd (stopped_not_going code.code (sym (end_twice Going (Stopped code.code) r t).0))
     both a b (IsCut p r cut) (RunsOut q t clean) = absurd (cut (clean_back r t clean))
-    both a b (IsCut p r cut) (IsCut q t also) = record { answers = p ∙ sym q; same = (end_twice Going Going r t).1 }
+    both a b (IsCut p r cut) (IsCut q t also) = record { answers = p ∙ sym q; counts = many Going Going r t; same = (end_twice Going Going r t).1 }
 
 err_is : {A E : Type 0} (a : Result A E) (e : E) → IsErrOf a e → a ≡ Err e
 err_is a e h = h
@@ -241,7 +258,7 @@ module _ {M : Type 0} (gives : M → ℤ → M → Type 0) (once : (m x y : M) (
     (line after other later : Option Traffic) (coming : List ℕ) (lines : LinesAlike line other coming) (had : HadMemory fault.OutOfMemory a b)
     (p : WasTold (ServedSo limits channel gives first before a now last asked) lines.first after) (q : WasTold (ServedSo limits channel gives first before b then other_last also) lines.second later) where
   abbrev Served : Type 0
-  Served = ServedOnce a b line after other later now then × (asked ≡ also)
+  Served = ServedOnce a b line after other later now then × (asked ≡ also) × (last ≡ other_last)
 
   abbrev ms : List DateTime
   ms = map moment_of p.holds.ticks
@@ -251,6 +268,11 @@ module _ {M : Type 0} (gives : M → ℤ → M → Type 0) (once : (m x y : M) (
 
   begin : Begins ms ns
   begin = moments_begin p.holds.ticks q.holds.ticks (given_once gives once before last other_last p.holds.ticks q.holds.ticks p.holds.given q.holds.given)
+
+  -- as many moments were given, so what gives them is left in one state
+  left_alike : length ms ≡ length ns → last ≡ other_last
+  left_alike e =
+      left_once gives once before last other_last p.holds.ticks q.holds.ticks (sym (length-map p.holds.ticks moment_of) ∙ (e ∙ length-map q.holds.ticks moment_of)) p.holds.given q.holds.given
 
   parts : p.holds.read ++ p.after.coming [] ≡ coming
   parts = sym (p.holds.moved.0 []) ∙ lines.brings (p.holds.written ++ [])
@@ -270,7 +292,7 @@ module _ {M : Type 0} (gives : M → ℤ → M → Type 0) (once : (m x y : M) (
       let x = came limits channel first p.holds.read (p.after.coming []) coming p.holds.written ms now asked a parts p.holds.comes f had.first lines.few in
       let y = came limits channel first q.holds.read (q.after.coming []) coming q.holds.written ns then also b parts_too q.holds.comes g had.second lines.few in
       let o = both limits channel first coming ms ns p.holds.written q.holds.written now then asked also begin a b x y in
-      (record { answers = o.answers; written = wrote_alike o.same.says; state = o.same.leaves }, o.same.asks)
+      (record { answers = o.answers; written = wrote_alike o.same.says; state = o.same.leaves }, o.same.asks, left_alike o.counts)
 
   -- the first of both was answered so
   comes_by : (r : Result Ending ServeFault) → a ≡ r → Comes limits channel first r p.holds.read p.holds.written ms now (p.after.coming []) asked
@@ -292,8 +314,11 @@ module _ {M : Type 0} (gives : M → ℤ → M → Type 0) (once : (m x y : M) (
       let y = comes_too (Err fault.Read) p.holds.read q.holds.written d (sym same) refl in
       let r = of_answered limits channel first p.holds.read p.holds.written ms now asked x.to.frames x.to.rest Going x.to.to x.tells in
       let t = of_answered limits channel first p.holds.read q.holds.written ns then also y.to.frames y.to.rest Going y.to.to y.tells in
-      let o = (reads_once limits channel first p.holds.read Going Going ms ns p.holds.written q.holds.written now then asked also begin r t).1 in
-      (record { answers = e ∙ sym d; written = wrote_alike o.says; state = o.leaves }, o.asks)
+      let o = (reads_once limits channel first p.holds.read Going Going ms ns p.holds.written q.holds.written now then asked also begin r t).1 in (
+        record { answers = e ∙ sym d; written = wrote_alike o.says; state = o.leaves },
+        o.asks,
+        left_alike (many_once limits channel first p.holds.read Going Going ms ns p.holds.written q.holds.written now then asked also r t),
+      )
 
   at_write : IsWriteFault a → IsWriteFault b → WroteAlike line after other later → Served
   at_write f g w =
@@ -303,10 +328,10 @@ module _ {M : Type 0} (gives : M → ℤ → M → Type 0) (once : (m x y : M) (
       let theirs : q.holds.written ≡ w.sent = wrote_same other later lines.second q.after w.sent q.holds.written lines.second_is q.is q.holds.moved.1 w.second in
       let x = comes_by (Err (fault.Write e.0)) e.1 in
       let y = comes_too (Err (fault.Write d.0)) q.holds.read p.holds.written d.1 refl (theirs ∙ sym mine) in
-      let r : BrokeOff limits channel first coming p.holds.written ms now asked = record { read = p.holds.read; ahead = p.after.coming []; parts = parts; broken = x.to.0; some = x.to.1; tells = x.tells } in
-      let t : BrokeOff limits channel first coming p.holds.written ns then also = record { read = q.holds.read; ahead = q.after.coming []; parts = parts_too; broken = y.to.0; some = y.to.1; tells = y.tells } in
+      let r : BrokeOff limits channel first coming p.holds.written ms now asked = record { read = p.holds.read; ahead = p.after.coming []; parts = parts; broken = x.to.0; some = x.to.1; tells = x.tells; counts = x.to.3 } in
+      let t : BrokeOff limits channel first coming p.holds.written ns then also = record { read = q.holds.read; ahead = q.after.coming []; parts = parts_too; broken = y.to.0; some = y.to.1; tells = y.tells; counts = y.to.3 } in
       let o = broken_once limits channel first coming p.holds.written ms ns now then asked also begin r t in
-      (record { answers = e.1 ∙ (ap (λ (n : ℕ). Err (fault.Write n)) (x.to.2 ∙ sym y.to.2) ∙ sym d.1); written = w; state = o.1 }, o.0)
+      (record { answers = e.1 ∙ (ap (λ (n : ℕ). Err (fault.Write n)) (x.to.2 ∙ sym y.to.2) ∙ sym d.1); written = w; state = o.1 }, o.0, left_alike o.2)
 
   by_faults : ServesAlike a b line after other later → Served
   by_faults (NoFault f g) = unfailed f g
@@ -355,20 +380,21 @@ module _ {M : Type 0} (gives : M → ℤ → M → Type 0) (limits : Limits) (ch
 module _ {M : Type 0} (gives : M → ℤ → M → Type 0) (once : (m x y : M) (t u : ℤ) → gives m t x → gives m u y → (t ≡ u) × (x ≡ y))
     (limits : Limits) (channel : ℕ) (one two : State) (before again last other_last : M) (a b : Result Ending ServeFault) (now then : State)
     (line after other later : Option Traffic) (coming : List ℕ) (same : one ≡ two) (alike : before ≡ again) (lines : LinesAlike line other coming) (had : HadMemory fault.OutOfMemory a b) (faults : ServesAlike a b line after other later) where
-  pub served_alike : WhereTold (Serves limits channel gives (begun one) before a now last) line after → WhereTold (Serves limits channel gives (begun two) again b then other_last) other later → ServedOnce a b line after other later now then
+  pub served_alike : WhereTold (Serves limits channel gives (begun one) before a now last) line after → WhereTold (Serves limits channel gives (begun two) again b then other_last) other later → ServedOnce a b line after other later now then × (last ≡ other_last)
   served_alike h k =
       let p = served_so gives limits channel (begun one) a now line after lines.first lines.first_is before last had.first h in
       let q = served_so gives limits channel (begun one) b then other later lines.second lines.second_is before other_last had.second
       (subst (λ (s : State). WhereTold (Serves limits channel gives (begun s) before b then other_last) other later) (sym same)
       (subst (λ (m : M). WhereTold (Serves limits channel gives (begun two) m b then other_last) other later) (sym alike) k)) in
-      (by_faults gives once limits channel (begun one) before last other_last a b now then p.0 q.0 line after other later coming lines had p.1 q.1 faults).0
+      let o = by_faults gives once limits channel (begun one) before last other_last a b now then p.0 q.0 line after other later coming lines had p.1 q.1 faults in
+      (o.0, o.2)
 
   pub watched_alike : {W V : Type 0} (notes : W → AnsweredRequest → W → Type 0) (others : V → AnsweredRequest → V → Type 0) (w x : W) (v y : V) → WhereTold (ServesTelling limits channel gives notes (begun one) (before, w) a now (last, x)) line after
-      → WhereTold (ServesTelling limits channel gives others (begun two) (again, v) b then (other_last, y)) other later → ServedOnce a b line after other later now then × ToldAlike notes others w x v y
+      → WhereTold (ServesTelling limits channel gives others (begun two) (again, v) b then (other_last, y)) other later → ServedOnce a b line after other later now then × (last ≡ other_last) × ToldAlike notes others w x v y
   watched_alike {V = V} notes others w x v y h k =
       let p = watched_so gives limits channel (begun one) a now line after lines.first lines.first_is notes (before, w) (last, x) h in
       let q = watched_so gives limits channel (begun one) b then other later lines.second lines.second_is others (before, v) (other_last, y)
       (subst (λ (s : State). WhereTold (ServesTelling limits channel gives others (begun s) (before, v) b then (other_last, y)) other later) (sym same)
       (subst (λ (m : M). WhereTold (ServesTelling limits channel gives others (begun two) (m, v) b then (other_last, y)) other later) (sym alike) k)) in
       let o = by_faults gives once limits channel (begun one) before last other_last a b now then p.0 q.0 line after other later coming lines had p.1 q.1 faults in
-      (o.0, record { requests = p.0; first = p.2; second = subst (λ (rs : List AnsweredRequest). Leads others v rs y) (sym o.1) q.2 })
+      (o.0, o.2, record { requests = p.0; first = p.2; second = subst (λ (rs : List AnsweredRequest). Leads others v rs y) (sym o.1) q.2 })

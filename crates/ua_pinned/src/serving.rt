@@ -12,8 +12,8 @@ use ua_frame::Limits;
 use ua_server::{End, ServeFault, Services, Watch, serve, serve_watched};
 
 /// Serves two lines that bring the same octets and fail alike, from services in the same state, at the
-/// same moments: the answers are one, the same octets are written, and the services are left in one
-/// state.
+/// same moments: the answers are one, the same octets are written, the services are left in one state,
+/// and as many moments were asked for.
 pub fn serve_twice<L: Line, K: Line, M: Moments>(
     alloc: Global,
     line: &mut L,
@@ -34,6 +34,8 @@ pub fn serve_twice<L: Line, K: Line, M: Moments>(
         → ServesAlike result.0 result.1 (L.traffic line.old) (L.traffic line.new) (K.traffic other.old) (K.traffic other.new) → WroteAlike (L.traffic line.old) (L.traffic line.new) (K.traffic other.old) (K.traffic other.new) }
     ensures state { (coming : List ℕ) → LinesAlike (L.traffic line.old) (K.traffic other.old) coming → HadMemory OutOfMemory result.0 result.1
         → ServesAlike result.0 result.1 (L.traffic line.old) (L.traffic line.new) (K.traffic other.old) (K.traffic other.new) → services.new ≡ others.new }
+    ensures left { (coming : List ℕ) → LinesAlike (L.traffic line.old) (K.traffic other.old) coming → HadMemory OutOfMemory result.0 result.1
+        → ServesAlike result.0 result.1 (L.traffic line.old) (L.traffic line.new) (K.traffic other.old) (K.traffic other.new) → moments.new ≡ again.new }
 {
     let first = serve(alloc, line, services, limits, channel_id, moments);
     let second = serve(alloc, other, others, limits, channel_id, again);
@@ -64,6 +66,8 @@ pub fn serve_watched_twice<L: Line, K: Line, M: Moments, W: Watch, V: Watch>(
         → ServesAlike result.0 result.1 (L.traffic line.old) (L.traffic line.new) (K.traffic other.old) (K.traffic other.new) → WroteAlike (L.traffic line.old) (L.traffic line.new) (K.traffic other.old) (K.traffic other.new) }
     ensures state { (coming : List ℕ) → LinesAlike (L.traffic line.old) (K.traffic other.old) coming → HadMemory OutOfMemory result.0 result.1
         → ServesAlike result.0 result.1 (L.traffic line.old) (L.traffic line.new) (K.traffic other.old) (K.traffic other.new) → services.new ≡ others.new }
+    ensures left { (coming : List ℕ) → LinesAlike (L.traffic line.old) (K.traffic other.old) coming → HadMemory OutOfMemory result.0 result.1
+        → ServesAlike result.0 result.1 (L.traffic line.old) (L.traffic line.new) (K.traffic other.old) (K.traffic other.new) → moments.new ≡ again.new }
     ensures told { (coming : List ℕ) → LinesAlike (L.traffic line.old) (K.traffic other.old) coming → HadMemory OutOfMemory result.0 result.1
         → ServesAlike result.0 result.1 (L.traffic line.old) (L.traffic line.new) (K.traffic other.old) (K.traffic other.new) → ToldAlike W.notes V.notes watch.old watch.new beside.old beside.new }
 {

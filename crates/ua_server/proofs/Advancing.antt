@@ -1,6 +1,7 @@
 -- What a step makes of a connection that is served.
-use Rattle.std.specs.Prelude.{◌≡◌, ◌⊎◌, ℕ, ◌+◌, ◌≤◌, ◌<◌, Bool, true, false, IsTrue, List, [], ◌∷◌, ◌++◌, cond, take, drop, length, Option, None, Some, Err}
+use Rattle.std.specs.Prelude.{◌≡◌, ℕ, ◌≤◌, ◌<◌, Bool, true, false, IsTrue, List, [], ◌∷◌, ◌++◌, cond, take, drop, length, Option, None, Some, Err}
 use Rattle.std.proofs.Common.{refl, sym, ◌∙◌, ap, subst, inl, inr, append_assoc, append-nil, length-append, take-append-drop, arith}
+use Rattle.std.proofs.lemmas.List.{length-take-le}
 use Rattle.ua_builtin.specs.declared.date_time.DateTime.{DateTime}
 use Rattle.ua_frame.specs.Run.{End, Rules, Run, Going, Stopped, Over, events}
 use Rattle.ua_frame.specs.declared.frame.Frame.{Frame}
@@ -18,10 +19,10 @@ use Rattle.ua_server.specs.Said.{Course, say, left, said, used_in, is_answered}
 use Rattle.ua_server.specs.Served.{channel_in}
 use Rattle.ua_server.specs.Happening.{Event, noted_in}
 use Rattle.ua_server.specs.Requests.{requests}
-use Rattle.ua_server.specs.Serving.{moments_in, Answer, BrokenOff, Refusal}
+use Rattle.ua_server.specs.Serving.{moments_in, Answer, AreAsked, AreUsed, BrokenOff, Refusal, IsUsedUp}
 use Rattle.ua_server.specs.ServingParts.{AdvancesTo, Ends, FailsTelling, Keeps, Owes, Pending, is_there, noted}
 use Rattle.ua_server.specs.State.{State}
-use Rattle.ua_server.specs.Stepping.{AdvanceBy, Stands, StepAnswers, StepBy, Stops, Tells, given_up, spent}
+use Rattle.ua_server.specs.Stepping.{AdvanceBy, Stands, StepAnswers, StepBy, Stops, given_up, spent}
 use Rattle.ua_server.specs.declared.serve_fault.ServeFault.TheVariants as serve_fault
 use Rattle.ua_server.specs.declared.server.Server.{Server}
 use Rattle.ua_server.specs.declared.serving.Serving.{Serving}
@@ -31,6 +32,7 @@ use Rattle.ua_server.specs.declared.step.StepFault.{StepFault}
 use Rattle.ua_server.specs.declared.step.StepFault.TheVariants as step_fault
 use Rattle.ua_server.specs.declared.watch.AnsweredRequest.{AnsweredRequest}
 use Rattle.ua_server.proofs.Happened.{moments-append, noted-append}
+use Rattle.ua_server.proofs.LeftOver.{answer-kept, asked-by, no-words, over-left, quiet-left}
 use Rattle.ua_server.proofs.Pendings.{pending-on, pending-unwritten, answered-as, requests-as}
 use Rattle.ua_server.proofs.RequestsInParts.{requests-silent, requests-closed, requests-more}
 use Rattle.ua_server.proofs.SaidInParts.{used_in-append, left-append, said-more}
@@ -84,14 +86,13 @@ close-used told n e = omega (arith, e, used_in-append told (Closed ∷ []))
 plain-used : (told : List Told) (n : ℕ) → n ≡ used_in told → n ≡ used_in (told ++ [])
 plain-used told n e = e ∙ ap used_in (sym (append-nil told))
 
-asked-used : (told : List Told) (id token : ℕ) (octets : List ℕ) (used : List DateTime) (m : DateTime) → length used ≡ used_in told
-    → (used_in (told ++ Asked id token octets ∷ []) ≤ length (used ++ m ∷ [])) × (length (used ++ m ∷ []) ≤ used_in (told ++ Asked id token octets ∷ []) + 1)
+asked-used : (told : List Told) (id token : ℕ) (octets : List ℕ) (used : List DateTime) (m : DateTime) → length used ≡ used_in told → AreUsed (told ++ Asked id token octets ∷ []) (used ++ m ∷ [])
 asked-used told id token octets used m e =
     let u = used_in-append told (Asked id token octets ∷ []) in
     let l = length-append used (m ∷ []) in
     (omega (arith, e, u, l), omega (arith, e, u, l))
 
-module _ (x : Serving) (server : Server) (m : DateTime) (piece read written : List ℕ) (given ts : List Event) (first now0 now1 : State)
+module _ (x : Serving) (server : Server) (m : DateTime) (piece read written : List ℕ) (given ts : List Event) (first now0 now1 : State) (some : 0 < length piece)
     (lim : limits_of (channel_in server) ≡ limits_of (channel_in x.server)) (chan : channel_of (channel_in server) ≡ channel_of (channel_in x.server))
     (asked : listed x.moment ++ moments_in ts ≡ m ∷ [])
     (o : Keeps x (limits_of (channel_in x.server)) (channel_of (channel_in x.server)) first read written given now0) where
@@ -133,6 +134,9 @@ module _ (x : Serving) (server : Server) (m : DateTime) (piece read written : Li
   said-more-here : (out said_now : List ℕ) → said_now ≡ said c first o.told Going o.used ++ out → said_now ≡ written ++ out
   said-more-here out said_now e = e ∙ ap (λ (w : List ℕ). w ++ out) all-said
 
+  enough-taken : (n : ℕ) → n ≡ length piece → n ≤ length piece
+  enough-taken n all = omega (arith, all)
+
   used-here : (q : List ℕ) → length o.used ≡ used_in (o.told ++ given_up q)
   used-here q = o.stands.used ∙ sym (used-quiet o.told q)
 
@@ -158,6 +162,21 @@ module _ (x : Serving) (server : Server) (m : DateTime) (piece read written : Li
   noted-told : noted_in ts ≡ [] → noted_in (given ++ ts) ≡ requests c first o.told o.used
   noted-told none = noted-before none ∙ o.requests_are
 
+  taken : (n : ℕ) → n ≡ length piece → 0 < length (take n piece)
+  taken n all = let l = length-take-le n piece (enough-taken n all) in omega (arith, l, all, some)
+
+  -- a moment is left over behind a piece of which nothing is answered
+  silent-left : (n : ℕ) (q : List ℕ) → n ≡ length piece → (frames : List Frame) (rest : List ℕ) → Run (server_rules l c) (read ++ take n piece) frames rest Going
+      → events (server_rules l c) frames ≡ (o.told ++ given_up q) ++ [] → IsUsedUp l c (read ++ take n piece) → ⊥
+  silent-left n q all frames rest run told_is =
+      let g = o.stands.goes in
+      quiet-left l c read (take n piece) g.frames frames g.rest rest (taken n all) g.stands.run run
+      (ap used_in (told_is ∙ append-nil (o.told ++ given_up q)) ∙ (used-quiet o.told q ∙ ap used_in (sym g.told_is)))
+
+  -- and behind what is refused
+  refused-left : (n code : ℕ) (frames : List Frame) (rest : List ℕ) → Run (rules_of ch) (read ++ take n piece) frames rest (Stopped code) → IsUsedUp l c (read ++ take n piece) → ⊥
+  refused-left n code frames rest run = over-left l c (read ++ take n piece) frames rest (Stopped code) (λ e. absurd cc) (run-here (read ++ take n piece) frames rest (Stopped code) run)
+
   -- nothing is answered
   on-silent : noted_in ts ≡ [] → (n : ℕ) (out q : List ℕ) (more : List Told) → false ≡ has_some more → Stops ch read piece n out (o.told ++ given_up q) more
       → Stands ch (read ++ take n piece) ((o.told ++ given_up q) ++ more) first (o.used ++ spent more m) now1
@@ -177,6 +196,7 @@ module _ (x : Serving) (server : Server) (m : DateTime) (piece read written : Li
         used = o.used ++ [];
         moments_are = moments-are ∙ ap (λ (u : List DateTime). u ++ m ∷ []) (sym us);
         stands = stands;
+        kept_is = silent-left n q stops.0 stands.goes.frames stands.goes.rest (run-here (read ++ take n piece) stands.goes.frames stands.goes.rest Going stands.goes.stands.run) (events-here stands.goes.frames _ stands.goes.told_is);
         greeted_is = o.greeted_is ∙ ap is_there (sym (ap agreed_by ds ∙ agreed-quiet c first o.told q o.used));
         count_is = o.count_is;
         said_is = said-more-here out _ said_is;
@@ -189,6 +209,7 @@ module _ (x : Serving) (server : Server) (m : DateTime) (piece read written : Li
             (subst (λ (s : State). Pending (noted_in given) l c first (read ++ take n piece) out written o.used s) same
             (subst (λ (w : List ℕ). Pending (noted_in given) l c first (read ++ take n piece) w written o.used now0) (sym stops.1)
             (pending-on l c first (noted_in given) read (take n piece) [] written o.used now0 o.pending))));
+        asked = λ words. absurd (no-words out stops.1 words);
       }
   on-silent no_request n out q (t ∷ more) none stops stands said_is = absurd cc
 
@@ -208,6 +229,9 @@ module _ (x : Serving) (server : Server) (m : DateTime) (piece read written : Li
       let greeted : (x.greeted ≡ true → (a : Agreement) → t ≡ Agreed a → ⊥) =
       λ e a is. let b = there (agreed_by o.told) (sym o.greeted_is ∙ e) in agrees_once ch (read ++ take n piece) (o.told ++ given_up q) t g b.0 a (before ∙ b.1) is in
       let kept = kept-by x.greeted t m stops.2 greets greeted in
+      let kept_here = answer-kept l c x.greeted t m (read ++ take n piece) g.frames g.frame stops.2 greets greeted (run-here (read ++ take n piece) (g.frames ++ g.frame ∷ []) [] Going g.stands.run)
+      (ap (λ (R : Rules Told ℕ). R.tells g.frames g.frame) (sym rules-here) ∙ g.tells) in
+      let moments_now = moments-are ∙ (ap (λ (a : List DateTime). o.used ++ a) (sym kept) ∙ sym (append_assoc o.used (spent (t ∷ []) m) (listed (cond x.greeted None (Some m))))) in
       let agreed : is_there (agreed_by ((o.told ++ given_up q) ++ t ∷ [])) ≡ true =
       ap is_there (sym (left-agreement c first ((o.told ++ given_up q) ++ t ∷ []) o.used) ∙ ap (λ (d : Course). d.agreement) (left-append c first (o.told ++ given_up q) (t ∷ []) o.used))
       ∙ agreed-behind c (left c first (o.told ++ given_up q) o.used) t x.greeted greets (o.greeted_is ∙ ap is_there (sym (left-agreement c first (o.told ++ given_up q) o.used ∙ before))) in
@@ -216,8 +240,9 @@ module _ (x : Serving) (server : Server) (m : DateTime) (piece read written : Li
         channel_is = chan;
         told = (o.told ++ given_up q) ++ t ∷ [];
         used = o.used ++ spent (t ∷ []) m;
-        moments_are = moments-are ∙ (ap (λ (a : List DateTime). o.used ++ a) (sym kept) ∙ sym (append_assoc o.used (spent (t ∷ []) m) (listed (cond x.greeted None (Some m)))));
+        moments_are = moments_now;
         stands = stands;
+        kept_is = kept_here;
         greeted_is = sym agreed;
         count_is = o.count_is;
         said_is = said-more-here out _ said_is;
@@ -243,6 +268,8 @@ module _ (x : Serving) (server : Server) (m : DateTime) (piece read written : Li
           written_is = said-before q (spent (t ∷ []) m);
           said_is = said-more-here out _ said_is;
         };
+        asked = λ words. subst (λ (ms : List DateTime). AreAsked l c (read ++ take n piece) ((o.told ++ given_up q) ++ t ∷ []) ms) (sym moments_now)
+            (asked-by l c (read ++ take n piece) ((o.told ++ given_up q) ++ t ∷ []) (o.used ++ spent (t ∷ []) m) (cond x.greeted None (Some m)) stands.used kept_here);
       }
 
   -- the connection ends
@@ -252,8 +279,8 @@ module _ (x : Serving) (server : Server) (m : DateTime) (piece read written : Li
     ends = record {
       frames = s.closed.frames;
       rest = [];
-      to = answered-as l c first (read ++ take n piece) (written ++ out) s.closed.frames [] Over ((o.told ++ given_up s.quiet) ++ Closed ∷ []) o.used (m ∷ []) (moments_in (given ++ ts)) now1
-          moments-are one-kept (run-here (read ++ take n piece) s.closed.frames [] Over s.closed.run) (events-here s.closed.frames _ s.closed.told_is)
+      to = answered-as l c first (read ++ take n piece) (written ++ out) s.closed.frames [] Over ((o.told ++ given_up s.quiet) ++ Closed ∷ []) o.used (Some m) (moments_in (given ++ ts)) now1
+          moments-are (over-left l c (read ++ take n piece) s.closed.frames [] Over (λ e. absurd cc) (run-here (read ++ take n piece) s.closed.frames [] Over s.closed.run)) (run-here (read ++ take n piece) s.closed.frames [] Over s.closed.run) (events-here s.closed.frames _ s.closed.told_is)
           (sym (said-more-here out _ s.out_is)) s.left_is (close-used (o.told ++ given_up s.quiet) (length o.used) (used-here s.quiet));
     };
     tells = requests-as l c first (noted_in (given ++ ts)) s.closed.frames ((o.told ++ given_up s.quiet) ++ Closed ∷ []) o.used (m ∷ []) (moments_in (given ++ ts)) moments-are (events-here s.closed.frames _ s.closed.told_is)
@@ -268,14 +295,15 @@ module _ (x : Serving) (server : Server) (m : DateTime) (piece read written : Li
         (subst (λ (z : State). Pending (noted_in given) l c first (read ++ take n piece) out written o.used z) (sym s.state_is)
         (subst (λ (w : List ℕ). Pending (noted_in given) l c first (read ++ take n piece) w written o.used now0) (sym s.silent)
         (pending-on l c first (noted_in given) read (take n piece) [] written o.used now0 o.pending)));
+    asked = λ words. absurd (no-words out s.silent words);
   }
   on-end no_request (ending.Refused code) n out s = record {
     count_is = o.count_is;
     ends = record {
       frames = s.refused.frames;
       rest = s.refused.rest;
-      to = answered-as l c first (read ++ take n piece) (written ++ out) s.refused.frames s.refused.rest (Stopped code.code) (o.told ++ given_up s.quiet) o.used (m ∷ []) (moments_in (given ++ ts)) now1
-          moments-are one-kept (run-here (read ++ take n piece) s.refused.frames s.refused.rest (Stopped code.code) s.refused.run) (events-here s.refused.frames _ s.refused.told_is)
+      to = answered-as l c first (read ++ take n piece) (written ++ out) s.refused.frames s.refused.rest (Stopped code.code) (o.told ++ given_up s.quiet) o.used (Some m) (moments_in (given ++ ts)) now1
+          moments-are (refused-left n code.code s.refused.frames s.refused.rest s.refused.run) (run-here (read ++ take n piece) s.refused.frames s.refused.rest (Stopped code.code) s.refused.run) (events-here s.refused.frames _ s.refused.told_is)
           (sym (said-more-here out _ s.out_is)) s.left_is (used-here s.quiet);
     };
     tells = requests-as l c first (noted_in (given ++ ts)) s.refused.frames (o.told ++ given_up s.quiet) o.used (m ∷ []) (moments_in (given ++ ts)) moments-are (events-here s.refused.frames _ s.refused.told_is)
@@ -304,6 +332,9 @@ module _ (x : Serving) (server : Server) (m : DateTime) (piece read written : Li
       written_is = said-before s.quiet [] ∙ ap (λ (u : List DateTime). said c first (o.told ++ given_up s.quiet) Going u ++ []) (append-nil o.used);
       said_is = ap (λ (d : List Told). said c first d (Stopped code.code) o.used) (append-nil (o.told ++ given_up s.quiet)) ∙ said-more-here out _ s.out_is;
     };
+    asked = λ words. subst (λ (ms : List DateTime). AreAsked l c (read ++ take n piece) ((o.told ++ given_up s.quiet) ++ []) ms) (sym moments-are)
+        (asked-by l c (read ++ take n piece) ((o.told ++ given_up s.quiet) ++ []) o.used (Some m) (plain-used (o.told ++ given_up s.quiet) (length o.used) (used-here s.quiet))
+        (refused-left n code.code s.refused.frames s.refused.rest s.refused.run));
   }
   on-end no_request ending.NoClose n out s = absurd s
   on-end no_request ending.Cut n out s = absurd s
@@ -343,7 +374,7 @@ module _ (x : Serving) (server : Server) (m : DateTime) (piece read written : Li
           word = Answer t;
           ends = record { frames = w.frames; frame = w.frame; run = w.run; told_is = w.told_is; tells = w.tells; answered = refl };
           state_is = ap (λ (d : Course). d.state) (left-one c first before t o.used (m ∷ []) (course now0 (next_of (channel_in x.server)) [] (agreed_by o.told)) behind (room w.quiet)) ∙ sym by.now_is;
-          asked = asked-used before w.id w.token by.message o.used m (used-here w.quiet);
+          used = asked-used before w.id w.token by.message o.used m (used-here w.quiet);
           part = [];
           written_is = said-before w.quiet (m ∷ []);
           unwritten = (say c (course now0 (next_of (channel_in x.server)) (m ∷ []) (agreed_by o.told)) t).0;

@@ -1,9 +1,7 @@
 -- Each response can be written.
-use Rattle.std.specs.Prelude.{◌≡◌, ◌<◌, ◌^◌, ℕ, List, [], ◌∷◌, Bool, true, false, ◌&&◌, IsTrue, Option, Some, None, length}
-use Rattle.std.specs.List.{list_all}
-use Rattle.std.proofs.Common.{refl, sym, ◌∙◌, ap, arith, lit<}
+use Rattle.std.specs.Prelude.{◌≡◌, ◌<◌, ◌^◌, ℕ, [], ◌∷◌, Bool, true, false, IsTrue, Option, Some, None}
+use Rattle.std.proofs.Common.{refl, ◌∙◌, ap, arith, lit<}
 use Rattle.std.proofs.lemmas.Bool.{lt-ltb}
-use Rattle.ua_builtin.specs.Counted.{first_negative}
 use Rattle.ua_builtin.specs.DoubleBits.{double_bits}
 use Rattle.ua_builtin.specs.Format.{flat}
 use Rattle.ua_builtin.specs.NodeId.{node_id}
@@ -22,13 +20,12 @@ use Rattle.ua_services.specs.declared.response.ResponseKind.TheVariants.{GetEndp
 use Rattle.ua_structures.specs.Array.{array}
 use Rattle.ua_structures.specs.Attribute.{read_response, write_response}
 use Rattle.ua_structures.specs.Discovery.{endpoint_description, get_endpoints_response}
-use Rattle.ua_structures.specs.Field.{byte_string, string, uint32}
+use Rattle.ua_structures.specs.Field.{byte_string, string}
 use Rattle.ua_structures.specs.Header.{response_header, service_fault}
 use Rattle.ua_structures.specs.Plain.{null_signature, session_of, activated_of}
 use Rattle.ua_structures.specs.Session.{create_session_response, activate_session_response, close_session_response, signature_data, signed_software_certificate}
 use Rattle.ua_structures.specs.declared.attribute.ReadResponse.{ReadResponse}
 use Rattle.ua_structures.specs.declared.attribute.WriteResponse.{WriteResponse}
-use Rattle.ua_structures.specs.declared.discovery.EndpointDescription.{EndpointDescription}
 use Rattle.ua_structures.specs.declared.header.ResponseHeader.{ResponseHeader}
 use Rattle.ua_structures.specs.declared.header.ServiceFault.{ServiceFault}
 use Rattle.ua_variant.specs.Data.{VariantData, DataValueData}

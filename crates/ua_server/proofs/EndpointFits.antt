@@ -1,5 +1,5 @@
 -- What a server says of itself can be written, where the texts of its endpoint can.
-use Rattle.std.specs.Prelude.{◌≡◌, ℕ, zero, suc, pos, nat_lt, length, List, [], ◌∷◌, Bool, true, false, ◌&&◌, IsTrue, Option, Some, None, codes}
+use Rattle.std.specs.Prelude.{◌≡◌, ℕ, zero, suc, pos, nat_lt, length, List, [], ◌∷◌, Bool, true, IsTrue, Option, Some, None, codes}
 use Rattle.std.specs.List.{list_all}
 use Rattle.std.specs.Str.{is_utf8, IsAscii}
 use Rattle.std.proofs.Common.{refl, lit<}
@@ -13,7 +13,6 @@ use Rattle.ua_octets.proofs.Readers.{both_true}
 use Rattle.ua_structures.specs.Array.{array}
 use Rattle.ua_structures.specs.Discovery.{application_description, user_token_policy, endpoint_description}
 use Rattle.ua_structures.specs.Field.{byte_string, int32, string}
-use Rattle.ua_structures.specs.Plain.{application_of}
 use Rattle.ua_server.specs.Endpoint.{none_policy, transport_profile, anonymous, description_of, Fits}
 use Rattle.ua_server.specs.declared.endpoint.Endpoint.{Endpoint}
 

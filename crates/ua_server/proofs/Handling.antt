@@ -1,5 +1,5 @@
 -- What becomes of pieces, one turn after the other, and of a line, one read after the other.
-use Rattle.std.specs.Prelude.{◌≡◌, ℕ, ◌+◌, ◌-◌, ◌≤◌, ◌<◌, ℤ, List, [], ◌∷◌, ◌++◌, take, drop, length, Option, None, Some, Result, Ok, Err}
+use Rattle.std.specs.Prelude.{◌≡◌, ℕ, ◌+◌, ◌-◌, ◌≤◌, ◌<◌, ℤ, List, [], ◌++◌, take, drop, length, Option, None, Some, Result, Ok, Err}
 use Rattle.std.proofs.Common.{refl, sym, ◌∙◌, ap, subst, inr, append_assoc, append-nil, length-append, take-append-drop, arith}
 use Rattle.std.proofs.Math.Seq.{take-length}
 use Rattle.std.proofs.lemmas.List.{length-take-le}
@@ -19,7 +19,7 @@ use Rattle.ua_server.specs.Said.{left}
 use Rattle.ua_server.specs.Served.{channel_in}
 use Rattle.ua_server.specs.Happening.{Event, Happens, noted_in}
 use Rattle.ua_server.specs.Requests.{requests}
-use Rattle.ua_server.specs.Serving.{moments_in, greatest, Answered, AnsweredTo, IsClean, Moves, ServesTelling, ServesBy, TellsAll, TellsBy}
+use Rattle.ua_server.specs.Serving.{moments_in, greatest, Answered, AnsweredTo, Moves, ServesTelling, ServesBy, TellsAll, TellsBy}
 use Rattle.ua_server.specs.ServingParts.{EndsTelling, Exchanged, FailsTelling, Finishes, Handles, Keeps, Reads, Turns, TurnsTo}
 use Rattle.ua_server.specs.State.{State}
 use Rattle.ua_server.specs.declared.serve_fault.ServeFault.{ServeFault}
@@ -29,6 +29,7 @@ use Rattle.ua_server.specs.declared.step.End.{End as Ending}
 use Rattle.ua_server.specs.declared.step.End.TheVariants as ending
 use Rattle.ua_server.specs.declared.watch.AnsweredRequest.{AnsweredRequest}
 use Rattle.ua_server.proofs.Exchanges.{told-then, told-nothing, gives-then, exchanged-then}
+use Rattle.ua_server.proofs.LeftOver.{asked-over}
 use Rattle.ua_server.proofs.Passing.{rest_of, rest-is, rest-length, joined, fewer}
 use Rattle.ua_server.proofs.Pendings.{pending-unwritten, answered-as, requests-as}
 use Rattle.ua_server.proofs.Turning.{listed-one}
@@ -50,7 +51,7 @@ module _ (limits : Limits) (channel : ℕ) (first : State) where
         run = ends_stay (server_rules limits channel) read more a.frames a.rest end over a.to.run;
         written_is = a.to.written_is;
         state_is = a.to.state_is;
-        asked = a.to.asked;
+        asked = asked-over limits channel read more a.frames a.rest end (events (server_rules limits channel) a.frames) moments over a.to.run a.to.asked;
       };
     },
     refl,
@@ -169,7 +170,7 @@ module _ (limits : Limits) (channel : ℕ) (first : State) where
   keeps-answered x read written given now k =
       let g = k.stands.goes in
       let run = run-of x read written given now k in
-      answered-as limits channel first read written g.frames g.rest Going k.told k.used (listed x.moment) (moments_in given) now k.moments_are (listed-one limits channel first x.moment)
+      answered-as limits channel first read written g.frames g.rest Going k.told k.used x.moment (moments_in given) now k.moments_are k.kept_is
       run.0
       run.1
       (sym (k.said_is ∙ append-nil written))

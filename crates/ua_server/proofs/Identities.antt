@@ -1,6 +1,6 @@
 -- Who one is, in the object that carries it.
 use Rattle.std.specs.Prelude.{◌≡◌, ℕ, List, Bool, true, false, not, ◌&&◌, nat_eq, is_none, Option, Some, None}
-use Rattle.std.proofs.Common.{refl, sym, ◌∙◌, ap, subst}
+use Rattle.std.proofs.Common.{refl, sym, ◌∙◌, ap}
 use Rattle.std.proofs.lemmas.Bool.{eqb-true}
 use Rattle.ua_builtin.specs.NodeId.{node}
 use Rattle.ua_builtin.specs.declared.extension_object.ExtensionBody.{ExtensionBody}
@@ -13,7 +13,7 @@ use Rattle.ua_builtin.specs.NodeId.{null_id}
 use Rattle.ua_structures.specs.Session.{anonymous_identity_token}
 use Rattle.ua_structures.specs.declared.session.AnonymousIdentityToken.{AnonymousIdentityToken}
 use Rattle.ua_structures.proofs.SessionLawful.{lawful_anonymous_identity_token}
-use Rattle.ua_services.specs.Identity.{identity_object, Carries, CarriesNone}
+use Rattle.ua_services.specs.Identity.{Carries, CarriesNone}
 use Rattle.ua_services.specs.Message.{IsBody, body_of, standard, standard_number}
 use Rattle.ua_services.proofs.BodyRead.{body_found, body_is}
 use Rattle.ua_server.specs.Sessions.{is_token, is_anonymous_by, is_anonymous}

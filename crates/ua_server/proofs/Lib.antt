@@ -11,6 +11,7 @@ mod Bounds
 mod Events
 mod Standing
 mod Exchanges
+pub mod LeftOver
 mod Pendings
 mod Advancing
 mod Turning

@@ -1,15 +1,12 @@
 -- Which replies are aborts, by their octets.
-use Rattle.std.specs.Prelude.{◌≡◌, ℕ, zero, suc, ◌<◌, Bool, true, false, nat_lt, nat_eq, if◌then◌else◌, List, [], ◌∷◌, ◌++◌, map, take, drop, length, Option, Some, None}
+use Rattle.std.specs.Prelude.{◌≡◌, ℕ, suc, ◌<◌, Bool, true, false, nat_lt, if◌then◌else◌, List, [], ◌∷◌, take, drop, length, Option, Some, None}
 use Rattle.std.specs.Option.{is_some}
 use Rattle.std.proofs.Common.{refl, sym, ◌∙◌, ap, arith}
 use Rattle.ua_builtin.specs.Status.{of_code}
 use Rattle.ua_frame.specs.Frames.{frame_octets, frames_octets}
-use Rattle.ua_chunk.specs.Cutting.{abort_chunk, chunks_of, chunks_octets, chunk_of, cut_refusal, flag_before, number_after, numbered, pieces, pieces_in}
-use Rattle.ua_chunk.specs.Flag.{flag_octet}
+use Rattle.ua_chunk.specs.Cutting.{abort_chunk, chunks_of, chunks_octets, cut_refusal, numbered, pieces, pieces_in}
 use Rattle.ua_chunk.specs.Layout.{frame_of}
-use Rattle.ua_chunk.specs.Sequence.{next_number}
 use Rattle.ua_chunk.specs.declared.fault.CutFault.{CutFault}
-use Rattle.ua_chunk.specs.declared.flag.Flag.{Flag}
 use Rattle.ua_chunk.specs.declared.lane.Lane.{Lane}
 use Rattle.ua_channel.specs.ServerSends.{IsReply, replied_by, replied}
 use Rattle.ua_builtin.specs.declared.status_code.StatusCode.{StatusCode}

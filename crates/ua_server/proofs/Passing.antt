@@ -1,10 +1,9 @@
 -- Messages that were given up are passed over.
-use Rattle.std.specs.Prelude.{◌≡◌, ℕ, ◌+◌, ◌-◌, ◌≤◌, ◌<◌, Bool, true, false, List, [], ◌∷◌, ◌++◌, map, take, drop, length, Result, Ok, Err}
+use Rattle.std.specs.Prelude.{◌≡◌, ℕ, ◌+◌, ◌-◌, ◌≤◌, ◌<◌, true, false, List, [], ◌∷◌, ◌++◌, take, drop, length, Result, Ok, Err}
 use Rattle.std.proofs.Common.{refl, sym, ◌∙◌, ap, subst, append_assoc, append-nil, arith}
 use Rattle.std.proofs.Math.Seq.{take-add, take-length}
 use Rattle.std.proofs.lemmas.List.{length-drop}
 use Rattle.ua_builtin.specs.declared.date_time.DateTime.{DateTime}
-use Rattle.ua_frame.specs.declared.limits.Limits.{Limits}
 use Rattle.ua_channel.proofs.ServerReadings.{goes_behind}
 use Rattle.ua_channel.specs.ServerAnswers.{Counts, Hands, AnswersAt, Progress}
 use Rattle.ua_channel.specs.ServerStands.{limits_of, channel_of, next_of, IsDone, Goes, RefusedAt}

@@ -1,6 +1,6 @@
 -- No reply is empty.
-use Rattle.std.specs.Prelude.{◌≡◌, ◌<◌, ℕ, List, [], ◌∷◌, length, IsTrue}
-use Rattle.std.proofs.Common.{refl, subst, arith}
+use Rattle.std.specs.Prelude.{◌<◌, ℕ, List, [], ◌∷◌, length, IsTrue}
+use Rattle.std.proofs.Common.{arith}
 use Rattle.ua_services.proofs.ResponseLawful.{lawful_response}
 use Rattle.ua_services.specs.Response.{response}
 use Rattle.ua_services.specs.declared.response.Response.{Response}

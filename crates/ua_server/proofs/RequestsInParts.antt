@@ -1,6 +1,6 @@
 -- The requests that are answered of what is told in two parts, and with moments that come later.
 use Rattle.std.specs.Prelude.{◌≡◌, ℕ, ◌≤◌, List, [], ◌∷◌, ◌++◌, length, Option, Some, None}
-use Rattle.std.proofs.Common.{refl, sym, ◌∙◌, ap, append-nil, arith}
+use Rattle.std.proofs.Common.{refl, ◌∙◌, ap, append-nil, arith}
 use Rattle.ua_builtin.specs.declared.date_time.DateTime.{DateTime}
 use Rattle.ua_channel.specs.Agreement.{Agreement}
 use Rattle.ua_channel.specs.Received.{listed}

@@ -1,12 +1,12 @@
 -- The answers to the items of a Write can be written.
-use Rattle.std.specs.Prelude.{◌≡◌, ℕ, suc, List, [], ◌∷◌, map, length, Bool, true, false, cond, nat_lt, IsTrue, Option, Some, None}
+use Rattle.std.specs.Prelude.{◌≡◌, suc, List, [], ◌∷◌, length, Bool, true, false, cond, IsTrue, Option, Some, None}
 use Rattle.std.specs.List.{list_all}
 use Rattle.std.proofs.Common.{refl, sym, ◌∙◌, ap}
 use Rattle.ua_builtin.specs.Reasons.{first_reason}
 use Rattle.ua_builtin.specs.Status.{status_code}
 use Rattle.ua_builtin.specs.declared.status_code.StatusCode.{StatusCode}
 use Rattle.ua_nodes.proofs.Fits.{both_are}
-use Rattle.ua_nodes.specs.Status.{bad_node_id_unknown, bad_attribute_id_invalid, bad_not_writable, bad_write_not_supported, bad_type_mismatch}
+use Rattle.ua_nodes.specs.Status.{bad_attribute_id_invalid, bad_not_writable, bad_write_not_supported, bad_type_mismatch}
 use Rattle.ua_nodes.specs.Table.{Nodes, node_at}
 use Rattle.ua_nodes.specs.Write.{good_or, write_item_reasons, write_answer, write_answers}
 use Rattle.ua_nodes.specs.declared.node.Variable.{Variable}

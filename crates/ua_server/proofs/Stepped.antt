@@ -1,5 +1,5 @@
 -- What a step makes of a connection that is served, whatever moment it is given.
-use Rattle.std.specs.Prelude.{◌≡◌, ℕ, ℤ, Bool, true, false, List, [], ◌∷◌, ◌++◌, map, take, Option, None, Some, Result, Ok, Err}
+use Rattle.std.specs.Prelude.{◌≡◌, ℕ, ◌<◌, ℤ, Bool, true, false, List, [], ◌∷◌, ◌++◌, length, map, take, Option, None, Some, Result, Ok, Err}
 use Rattle.std.proofs.Common.{refl, sym, ◌∙◌, ap, subst}
 use Rattle.ua_builtin.specs.declared.date_time.DateTime.{DateTime}
 use Rattle.ua_frame.specs.declared.limits.Limits.{Limits}
@@ -32,7 +32,7 @@ pub noted-first : (server : Server) (m : Option DateTime) (greeted : Bool) (n : 
 noted-first server m false n e = refl
 noted-first server m true n e = absurd cc
 
-module _ {M W : Type 0} (gives : M → ℤ → M → Type 0) (notes : W → AnsweredRequest → W → Type 0) (m0 m1 : M) (limits : Limits) (channel : ℕ) (first : State) (x mid : Serving) (server : Server) (mom : DateTime) (piece read written : List ℕ) (given : List Event) (now0 now1 : State)
+module _ {M W : Type 0} (gives : M → ℤ → M → Type 0) (notes : W → AnsweredRequest → W → Type 0) (m0 m1 : M) (limits : Limits) (channel : ℕ) (first : State) (x mid : Serving) (server : Server) (mom : DateTime) (piece read written : List ℕ) (given : List Event) (now0 now1 : State) (some : 0 < length piece)
     (kept : mid ≡ record x { moment = Some mom }) (a : Asked gives m0 m1 (λ ts. listed x.moment ++ map moment_of ts ≡ mom ∷ []))
     (lim : limits_of (channel_in server) ≡ limits_of (channel_in mid.server)) (chan : channel_of (channel_in server) ≡ channel_of (channel_in mid.server)) (result : Result (Step × Bool × Option AnsweredRequest) StepFault)
     (answers : (octets : List ℕ) (told : List Told) (f : State) (moments : List DateTime) → Stands (channel_in mid.server) octets told f moments now0
@@ -80,7 +80,7 @@ module _ {M W : Type 0} (gives : M → ℤ → M → Type 0) (notes : W → Answ
         given = meeting-led gives notes m0 m1 w w a.ticks None a.given refl;
         holds = subst (λ (z : Serving). AdvancesTo found.0.end (record z { server = server }) limits channel first (read ++ take found.0.taken piece) found.0.out.items written (given ++ ts) now1) (sym kept)
             (there (λ v n. AdvancesTo found.0.end (record x { server = server; moment = Some mom }) v n first (read ++ take found.0.taken piece) found.0.out.items written (given ++ ts) now1)
-            (advanced-quiet x server mom piece read written given ts first now0 now1 lim-here chan-here (kept-moment None) own found.2 (meeting-noted a.ticks None) found.0.end found.0.taken found.0.out.items
+            (advanced-quiet x server mom piece read written given ts first now0 now1 some lim-here chan-here (kept-moment None) own found.2 (meeting-noted a.ticks None) found.0.end found.0.taken found.0.out.items
             (subst (λ (b : Bool). AdvanceBy b found.2 c mom piece found.0.end found.0.taken found.0.out.items (channel_in server) read own.told first own.used now0 now1) quiet (advanced-at (Ok found) is))));
       }
 
@@ -93,7 +93,7 @@ module _ {M W : Type 0} (gives : M → ℤ → M → Type 0) (notes : W → Answ
         given = meeting-led gives notes m0 m1 w w' a.ticks found.2 a.given led;
         holds = subst (λ (z : Serving). AdvancesTo found.0.end (noted (record z { server = server })) limits channel first (read ++ take found.0.taken piece) found.0.out.items written (given ++ ts) now1) (sym kept)
             (there (λ v n. AdvancesTo found.0.end (noted (record x { server = server; moment = Some mom })) v n first (read ++ take found.0.taken piece) found.0.out.items written (given ++ ts) now1)
-            (advanced-saying x server mom piece read written given ts first now0 now1 lim-here chan-here (kept-moment found.2) own found.2 (meeting-noted a.ticks found.2) found.0.end found.0.taken found.0.out.items
+            (advanced-saying x server mom piece read written given ts first now0 now1 some lim-here chan-here (kept-moment found.2) own found.2 (meeting-noted a.ticks found.2) found.0.end found.0.taken found.0.out.items
             (subst (λ (b : Bool). AdvanceBy b found.2 c mom piece found.0.end found.0.taken found.0.out.items (channel_in server) read own.told first own.used now0 now1) said (advanced-at (Ok found) is))));
       }
 
@@ -104,5 +104,5 @@ module _ {M W : Type 0} (gives : M → ℤ → M → Type 0) (notes : W → Answ
         ticks = ts;
         given = meeting-led gives notes m0 m1 w w a.ticks None a.given refl;
         holds = there (λ v n. FailsTelling serve_fault.OutOfMemory v n first (read ++ piece) written (given ++ ts) now1)
-            (advanced-broken x server mom piece read written given ts first now0 now1 lim-here chan-here (kept-moment None) own (meeting-noted a.ticks None) f (advanced-at (Err f) is));
+            (advanced-broken x server mom piece read written given ts first now0 now1 some lim-here chan-here (kept-moment None) own (meeting-noted a.ticks None) f (advanced-at (Err f) is));
       }

@@ -1,9 +1,8 @@
 -- What is said and left, a step further.
-use Rattle.std.specs.Prelude.{◌≡◌, ℕ, zero, suc, ◌+◌, ◌≤◌, ◌<◌, true, false, IsTrue, List, [], ◌∷◌, ◌++◌, map, replicate, take, length, Option, None, Some}
+use Rattle.std.specs.Prelude.{◌≡◌, ℕ, zero, suc, ◌+◌, ◌≤◌, ◌<◌, true, false, IsTrue, List, [], ◌∷◌, ◌++◌, replicate, take, length, Option, None, Some}
 use Rattle.std.specs.List.{flat_map}
-use Rattle.std.proofs.Common.{refl, sym, ◌∙◌, ap, subst, append_assoc, append-nil, length-append, arith}
+use Rattle.std.proofs.Common.{refl, sym, ◌∙◌, ap, subst, append-nil, length-append, arith}
 use Rattle.ua_builtin.specs.declared.date_time.DateTime.{DateTime}
-use Rattle.ua_chunk.specs.Sequence.{next_number}
 use Rattle.ua_frame.specs.Run.{End, Going, Stopped, Over}
 use Rattle.ua_services.specs.Response.{response}
 use Rattle.ua_channel.proofs.ServerReadings.{goes_behind}

@@ -1,5 +1,5 @@
 -- What a turn makes of a connection that is served: a step, and its answer written.
-use Rattle.std.specs.Prelude.{◌≡◌, ◌⊎◌, ℕ, ◌+◌, ◌<◌, ◌≤◌, List, [], ◌++◌, map, min, take, drop, length, Option, None, Some, Ok, Err}
+use Rattle.std.specs.Prelude.{◌≡◌, ◌⊎◌, ℕ, ◌+◌, ◌<◌, ◌≤◌, List, [], ◌++◌, min, take, drop, length, Option, None, Some, Ok, Err}
 use Rattle.std.proofs.Common.{refl, sym, ◌∙◌, ap, subst, inl, inr, append_assoc, append-nil, length-append, take-append-drop, arith}
 use Rattle.std.proofs.lemmas.List.{length-drop, length-take-le}
 use Rattle.ua_builtin.specs.declared.date_time.DateTime.{DateTime}
@@ -9,7 +9,7 @@ use Rattle.ua_channel.specs.Received.{listed}
 use Rattle.ua_channel.specs.ServerTold.{Told}
 use Rattle.ua_server.specs.Happening.{Event, noted_in}
 use Rattle.ua_server.specs.Requests.{requests}
-use Rattle.ua_server.specs.Serving.{moments_in, greatest, BrokenOff, LastWord, told_at, Moves}
+use Rattle.ua_server.specs.Serving.{AreAsked, moments_in, greatest, BrokenOff, LastWord, told_at, Moves}
 use Rattle.ua_server.specs.ServingParts.{AdvancesTo, Exchanged, FailsTelling, Met, Owes, Says, Steps, Turns, TurnsTo, counted}
 use Rattle.ua_server.specs.State.{State}
 use Rattle.ua_server.specs.declared.serve_fault.ServeFault.{ServeFault}
@@ -20,6 +20,7 @@ use Rattle.ua_server.specs.declared.step.Step.{Step}
 use Rattle.ua_server.specs.declared.step.StepFault.{StepFault}
 use Rattle.ua_server.specs.declared.watch.AnsweredRequest.{AnsweredRequest}
 use Rattle.ua_server.proofs.Exchanges.{told-nothing}
+use Rattle.ua_server.proofs.LeftOver.{no-words}
 use Rattle.ua_server.proofs.Pendings.{pending-written, pending-unwritten}
 
 -- ---- counting what is written
@@ -48,11 +49,13 @@ module _ (limits : Limits) (channel : ℕ) (first : State) where
     used = o.used;
     moments_are = o.moments_are;
     stands = o.stands;
+    kept_is = o.kept_is;
     greeted_is = o.greeted_is;
     count_is = count-all x.written written out o.count_is;
     said_is = o.said_is ∙ sym (append-nil (written ++ out));
     requests_are = o.requests_are;
     pending = pending-written limits channel first (noted_in ticks) read out written o.used now out [] (sym (append-nil out)) o.pending;
+    asked = λ some. absurd (no-words [] refl some);
   }
 
   turned : (end : Option Ending) (x : Serving) (read out written : List ℕ) (ticks : List Event) (now : State) → AdvancesTo end x limits channel first read out written ticks now
@@ -66,6 +69,9 @@ module _ (limits : Limits) (channel : ℕ) (first : State) where
   not-more : (k n : ℕ) → k < n → k ≤ n
   not-more k n h = omega (arith, h)
 
+  above : (k n : ℕ) → k < n → 0 < n
+  above k n h = omega (arith, h)
+
   -- the first of it is written
   unwritten : (end : Option Ending) (x : Serving) (read out written : List ℕ) (ticks : List Event) (now : State) (k : ℕ) → k < length out → AdvancesTo end x limits channel first read out written ticks now
       → FailsTelling (fault.Write (counted x.written k)) limits channel first read (written ++ take k out) ticks now
@@ -73,20 +79,21 @@ module _ (limits : Limits) (channel : ℕ) (first : State) where
       let broken = pending-unwritten limits channel first (noted_in ticks) read (drop k out) (written ++ take k out) o.used (listed x.moment) (moments_in ticks) now o.moments_are (listed-one x.moment)
       (pending-written limits channel first (noted_in ticks) read out written o.used now (take k out) (drop k out) (sym (take-append-drop k out)) o.pending) in
       record {
-        fails = (broken.0, some-left k out broken.0.unwritten broken.1 h, count-some x.written k written out o.count_is (not-more k (length out) h));
+        fails = (broken.0, some-left k out broken.0.unwritten broken.1 h, count-some x.written k written out o.count_is (not-more k (length out) h), broken.3 (o.asked (above k (length out) h)));
         tells = broken.2;
       }
   unwritten (Some end) x read out written ticks now k h e =
       let broken = pending-unwritten limits channel first (noted_in ticks) read (drop k out) (written ++ take k out) e.used e.kept (moments_in ticks) now e.moments_are e.one
       (pending-written limits channel first (noted_in ticks) read out written e.used now (take k out) (drop k out) (sym (take-append-drop k out)) e.pending) in
       record {
-        fails = (broken.0, some-left k out broken.0.unwritten broken.1 h, count-some x.written k written out e.count_is (not-more k (length out) h));
+        fails = (broken.0, some-left k out broken.0.unwritten broken.1 h, count-some x.written k written out e.count_is (not-more k (length out) h), broken.3 (e.asked (above k (length out) h)));
         tells = broken.2;
       }
 
   -- more octets are read
   broken-more : (read more written : List ℕ) (moments : List DateTime) (now : State) (b : BrokenOff limits channel first read written moments now)
       → (broken : BrokenOff limits channel first (read ++ more) written moments now) × (broken.part ≡ b.part) × (broken.unwritten ≡ b.unwritten) × (b.before ≡ broken.before) × (b.word ≡ broken.word)
+      × (AreAsked limits channel b.front (b.before ++ told_at b.word) moments → AreAsked limits channel broken.front (broken.before ++ told_at broken.word) moments)
   broken-more read more written moments now b = (
     record {
       front = b.front;
@@ -96,7 +103,7 @@ module _ (limits : Limits) (channel : ℕ) (first : State) where
       word = b.word;
       ends = b.ends;
       state_is = b.state_is;
-      asked = b.asked;
+      used = b.used;
       part = b.part;
       written_is = b.written_is;
       unwritten = b.unwritten;
@@ -106,6 +113,7 @@ module _ (limits : Limits) (channel : ℕ) (first : State) where
     refl,
     refl,
     refl,
+    λ asked. asked,
   )
 
   still-whole : (part part' left left' : List ℕ) → part' ≡ part → left' ≡ left → (part ≡ []) ⊎ (left ≡ []) → (part' ≡ []) ⊎ (left' ≡ [])
@@ -128,7 +136,7 @@ module _ (limits : Limits) (channel : ℕ) (first : State) where
       let b = t.fails in
       let broken = broken-more read more written (moments_in ticks) now b.0 in
       record {
-        fails = (broken.0, subst (λ (u : List ℕ). 0 < length u) (sym broken.2) b.1, b.2);
+        fails = (broken.0, subst (λ (u : List ℕ). 0 < length u) (sym broken.2) b.1, b.2, broken.5 b.3);
         tells = t.tells ∙ ap (λ (d : List Told). requests channel first d (moments_in ticks)) (told-then b.0.before broken.0.before (told_at b.0.word) (told_at broken.0.word) broken.3 (ap told_at broken.4));
       }
   fails-on fault.OutOfMemory read more written ticks now t =

@@ -1,5 +1,5 @@
 -- What a server answers to a request at a moment, and the state that this leaves.
-use Rattle.std.specs.Prelude.{ℕ, List, Bool, Option, Some, None}
+use Rattle.std.specs.Prelude.{ℕ, Option, Some, None}
 use Rattle.ua_builtin.specs.Reasons.{first_reason}
 use Rattle.ua_builtin.specs.Status.{of_code}
 use Rattle.ua_builtin.specs.declared.date_time.DateTime.{DateTime}

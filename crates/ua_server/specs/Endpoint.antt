@@ -1,5 +1,5 @@
 -- What a server says of itself (OPC 10000-4, 5.5.4 and 7.14).
-use Rattle.std.specs.Prelude.{◌≡◌, ℕ, pos, List, [], ◌∷◌, Bool, true, false, ◌||◌, IsTrue, Option, Some, None, codes}
+use Rattle.std.specs.Prelude.{ℕ, pos, List, [], ◌∷◌, Bool, true, false, ◌||◌, IsTrue, Option, Some, None, codes}
 use Rattle.std.specs.List.{list_any}
 use Rattle.std.specs.Str.{bytes_eq}
 use Rattle.ua_builtin.specs.Counted.{text}

@@ -1,5 +1,5 @@
 -- The reply to a message, whatever its body is (OPC 10000-4, 7.35; OPC 10000-6, 6.7.2).
-use Rattle.std.specs.Prelude.{◌≡◌, ◌⊎◌, ℕ, length, List, Option, Some, None, Result, Ok, Err}
+use Rattle.std.specs.Prelude.{◌≡◌, ◌⊎◌, ℕ, length, List, Option, Result, Ok, Err}
 use Rattle.ua_builtin.specs.declared.date_time.DateTime.{DateTime}
 use Rattle.ua_nodes.specs.Within.{Passes}
 use Rattle.ua_services.specs.Request.{request_read}

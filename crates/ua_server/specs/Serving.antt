@@ -31,9 +31,25 @@ moment_of ticks = record { ticks = ticks }
 abbrev pub moments_in : List Event → List DateTime
 moments_in events = map moment_of (ticks_in events)
 
+-- these octets end with a frame whose answer uses a moment
+pub record EndsUsing (limits : Limits) (channel : ℕ) (octets : List ℕ) : Type 0 where
+  pub frames : List Frame
+  pub frame : Frame
+  pub run : Run (server_rules limits channel) octets (frames ++ frame ∷ []) [] Going
+  pub uses_one : used_in ((server_rules limits channel).tells frames frame) ≡ 1
+
+-- no moment that was asked for is left over behind these octets: there are none of them, or they end with a frame whose answer uses one
+abbrev pub IsUsedUp : Limits → ℕ → List ℕ → Type 0
+IsUsedUp limits channel octets = (octets ≡ []) ⊎ EndsUsing limits channel octets
+
+-- the moments that are asked for over octets which told this: those that were used, and one more exactly where one is left over
+abbrev pub AreAsked : Limits → ℕ → List ℕ → List Told → List DateTime → Type 0
+AreAsked limits channel octets told moments =
+    (IsUsedUp limits channel octets × (length moments ≡ used_in told)) ⊎ ((IsUsedUp limits channel octets → ⊥) × (length moments ≡ used_in told + 1))
+
 -- each of the moments is used by what was told, but perhaps the last one
-abbrev pub AreAsked : List Told → List DateTime → Type 0
-AreAsked told moments = (used_in told ≤ length moments) × (length moments ≤ used_in told + 1)
+abbrev pub AreUsed : List Told → List DateTime → Type 0
+AreUsed told moments = (used_in told ≤ length moments) × (length moments ≤ used_in told + 1)
 
 -- ---- all that was read is answered
 
@@ -42,7 +58,7 @@ pub record AnsweredTo (limits : Limits) (channel : ℕ) (first : State) (read wr
   pub run : Run (server_rules limits channel) read frames rest end
   pub written_is : written ≡ said channel first (events (server_rules limits channel) frames) end moments
   pub state_is : (left channel first (events (server_rules limits channel) frames) moments).state ≡ now
-  pub asked : AreAsked (events (server_rules limits channel) frames) moments
+  pub asked : AreAsked limits channel read (events (server_rules limits channel) frames) moments
 
 -- the same of some frames, behind which the connection stands so
 pub record Answered (limits : Limits) (channel : ℕ) (first : State) (read written : List ℕ) (moments : List DateTime) (now : State) (end : End ℕ) : Type 0 where
@@ -115,7 +131,7 @@ pub record BrokenOff (limits : Limits) (channel : ℕ) (first : State) (read wri
   pub word : LastWord
   pub ends : EndsAt limits channel front before word
   pub state_is : (left channel first (before ++ told_at word) moments).state ≡ now
-  pub asked : AreAsked (before ++ told_at word) moments
+  pub used : AreUsed (before ++ told_at word) moments
   pub part : List ℕ
   pub written_is : written ≡ said channel first before Going moments ++ part
   pub unwritten : List ℕ
@@ -135,10 +151,10 @@ EndsBy ending.NoClose limits channel first read written moments now = ⊥
 EndsBy ending.Cut limits channel first read written moments now = ⊥
 
 -- how an answer failed; a failed write says how many octets were written in all, up to the greatest number, and leaves some octets of the last word
--- unwritten; where memory is refused the last word is written whole or not at all
+-- unwritten, and no moment was asked for behind that word; where memory is refused the last word is written whole or not at all
 abbrev pub FailsBy : ServeFault → Limits → ℕ → State → List ℕ → List ℕ → List DateTime → State → Type 0
 FailsBy fault.Read limits channel first read written moments now = ⊥
-FailsBy (fault.Write n) limits channel first read written moments now = (broken : BrokenOff limits channel first read written moments now) × (0 < length broken.unwritten) × (n ≡ min (length written) greatest)
+FailsBy (fault.Write n) limits channel first read written moments now = (broken : BrokenOff limits channel first read written moments now) × (0 < length broken.unwritten) × (n ≡ min (length written) greatest) × AreAsked limits channel broken.front (broken.before ++ told_at broken.word) moments
 FailsBy fault.OutOfMemory limits channel first read written moments now = (broken : BrokenOff limits channel first read written moments now) × ((broken.part ≡ []) ⊎ (broken.unwritten ≡ []))
 FailsBy fault.TooLong limits channel first read written moments now = ⊥
 

@@ -1,5 +1,5 @@
 -- What the parts of serving make of octets.
-use Rattle.std.specs.Prelude.{◌≡◌, ℕ, ◌+◌, ◌<◌, ◌≤◌, ℤ, Bool, true, false, List, [], ◌∷◌, ◌++◌, cond, map, min, take, length, Option, Some, None, Result, Ok, Err}
+use Rattle.std.specs.Prelude.{◌≡◌, ℕ, ◌+◌, ◌<◌, ◌≤◌, ℤ, Bool, true, false, List, [], ◌++◌, cond, min, take, length, Option, Some, None, Result, Ok, Err}
 use Rattle.ua_builtin.specs.declared.date_time.DateTime.{DateTime}
 use Rattle.ua_frame.specs.Run.{Going}
 use Rattle.ua_frame.specs.declared.frame.Frame.{Frame}
@@ -15,7 +15,7 @@ use Rattle.ua_server.specs.Happening.{Event, Leads, noted_in}
 use Rattle.ua_server.specs.Requests.{requests}
 use Rattle.ua_server.specs.Said.{left, said, used_in}
 use Rattle.ua_server.specs.Served.{channel_in}
-use Rattle.ua_server.specs.Serving.{moments_in, LastWord, told_at, end_at, EndsAt, IsClean, EndsBy, EndTells, FailsBy, FailTells, Moves, greatest}
+use Rattle.ua_server.specs.Serving.{moments_in, LastWord, told_at, end_at, EndsAt, IsClean, IsUsedUp, AreAsked, EndsBy, EndTells, FailsBy, FailTells, Moves, greatest}
 use Rattle.ua_server.specs.State.{State}
 use Rattle.ua_server.specs.Stepping.{Stands}
 use Rattle.ua_server.specs.declared.serve_fault.ServeFault.{ServeFault}
@@ -94,6 +94,15 @@ pub record Pending (requested : List AnsweredRequest) (limits : Limits) (channel
   pub written_is : written ≡ said channel first before Going used ++ part
   pub said_is : said channel first (before ++ told_at word) (end_at word) used ≡ written ++ out
 
+-- a moment is kept exactly where one that was asked for is left over behind these octets
+abbrev pub IsKept : Limits → ℕ → List ℕ → Option DateTime → Type 0
+IsKept limits channel read None = IsUsedUp limits channel read
+IsKept limits channel read (Some moment) = IsUsedUp limits channel read → ⊥
+
+-- where something is to be written, these moments were asked for up to the last word
+abbrev pub AreAskedBy : List ℕ → Limits → ℕ → List ℕ → List Told → List DateTime → Type 0
+AreAskedBy out limits channel front told moments = 0 < length out → AreAsked limits channel front told moments
+
 -- a connection that is served goes on: of what is said of the octets read, these are written and these are not yet; and of the moments given
 -- all are used, but the one that is kept, if there is one
 pub record Owes (x : Serving) (limits : Limits) (channel : ℕ) (first : State) (read out written : List ℕ) (ticks : List Event) (now : State) : Type 0 where
@@ -103,11 +112,13 @@ pub record Owes (x : Serving) (limits : Limits) (channel : ℕ) (first : State) 
   pub used : List DateTime
   pub moments_are : moments_in ticks ≡ used ++ listed x.moment
   pub stands : Stands (channel_in x.server) read told first used now
+  pub kept_is : IsKept limits channel read x.moment
   pub greeted_is : x.greeted ≡ is_there (agreed_by told)
   pub count_is : x.written ≡ min (length written) greatest
   pub said_is : said channel first told Going used ≡ written ++ out
   pub requests_are : noted_in ticks ≡ requests channel first told used
   pub pending : Pending (noted_in ticks) limits channel first read out written used now
+  pub asked : AreAskedBy out limits channel pending.front (pending.before ++ told_at pending.word) (moments_in ticks)
 
 -- all that is said is written
 abbrev pub Keeps : Serving → Limits → ℕ → State → List ℕ → List ℕ → List Event → State → Type 0
@@ -123,6 +134,7 @@ pub record Ends (x : Serving) (end : Ending) (limits : Limits) (channel : ℕ) (
   pub moments_are : moments_in ticks ≡ used ++ kept
   pub one : length kept ≤ 1
   pub pending : Pending (noted_in ticks) limits channel first read out written used now
+  pub asked : AreAskedBy out limits channel pending.front (pending.before ++ told_at pending.word) (moments_in ticks)
 
 -- how a connection ended, and which requests are told of
 pub record EndsTelling (end : Ending) (limits : Limits) (channel : ℕ) (first : State) (read written : List ℕ) (ticks : List Event) (now : State) : Type 0 where

@@ -5,7 +5,6 @@ use Rattle.ua_builtin.specs.declared.date_time.DateTime.{DateTime}
 use Rattle.ua_builtin.specs.declared.extension_object.ExtensionBody.{ExtensionBody}
 use Rattle.ua_builtin.specs.declared.extension_object.ExtensionBody.TheVariants.{Absent, ByteString, Xml}
 use Rattle.ua_builtin.specs.declared.extension_object.ExtensionObject.{ExtensionObject}
-use Rattle.ua_builtin.specs.declared.status_code.StatusCode.{StatusCode}
 use Rattle.ua_services.specs.Message.{body_of, standard_number}
 use Rattle.ua_services.specs.declared.response.Response.{Response}
 use Rattle.ua_services.specs.declared.response.Response.TheVariants.{GetEndpoints, CreateSession, ActivateSession, CloseSession}
@@ -19,7 +18,7 @@ use Rattle.ua_structures.specs.declared.session.ActivateSessionRequest.{Activate
 use Rattle.ua_structures.specs.declared.session.CloseSessionRequest.{CloseSessionRequest}
 use Rattle.ua_structures.specs.declared.session.CreateSessionRequest.{CreateSessionRequest}
 use Rattle.ua_server.specs.Endpoint.{description_of, are_served}
-use Rattle.ua_server.specs.State.{State, begun, with_next_session, session_id, session_token, is_own, activated}
+use Rattle.ua_server.specs.State.{State, session_id, session_token, is_own, activated}
 
 -- the header of a good response
 abbrev pub good_header : DateTime → RequestHeader → ResponseHeader

@@ -173,6 +173,7 @@ impl Serving {
         watch: &mut W,
         piece: &[u8],
     ) -> Result<Step, StepFault>
+        requires { 0 < length piece.now }
         ensures steps { (limits : Limits) (channel : ℕ) (first : State) (read written : List ℕ) (given : List Event) → Keeps self.old limits channel first read written given services.old
             → Met (Happens M.gives W.notes) (moments.old, watch.old) (moments.new, watch.new) (λ events. Steps result self.new limits channel first piece.now read written (given ++ events) services.new) }
         ensures told { WasTold W.notes watch.old watch.new }
@@ -226,6 +227,7 @@ impl Serving {
         watch: &mut W,
         piece: &[u8],
     ) -> Result<(usize, Option<End>), ServeFault>
+        requires { 0 < length piece.now }
         ensures turns { (limits : Limits) (channel : ℕ) (first : State) (read written : List ℕ) (given : List Event) → Keeps self.old limits channel first read written given services.old
             → Exchanged (Happens M.gives W.notes) (moments.old, watch.old) (moments.new, watch.new) [] (L.traffic line.old) (L.traffic line.new)
             (λ more events. Turns result self.new limits channel first piece.now read (written ++ more) (given ++ events) services.new) }

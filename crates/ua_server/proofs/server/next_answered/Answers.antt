@@ -1,7 +1,7 @@
 use Rattle.std.proofs.Common.{rules, ◌≡◌, ◌∙◌, true}
 use Rattle.ua_server.specs.Stepping.{is_given_up}
 use Rattle.ua_server.proofs.Bounds.{passed-bound}
-use Rattle.ua_server.proofs.Passing.{first-passed, next-passed, at-first, at-last, all-passed, progress-on, all-progress}
+use Rattle.ua_server.proofs.Passing.{first-passed, next-passed, at-last, all-passed, progress-on, all-progress}
 use Rattle.ua_server.proofs.server.next_answered.Goals as goal
 
 pub loop-taken-init : goal.loop-taken-init

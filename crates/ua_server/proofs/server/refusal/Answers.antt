@@ -1,8 +1,8 @@
-use Rattle.std.proofs.Common.{◌≡◌, ◌++◌, ℕ, List, ◌∙◌, ap}
+use Rattle.std.proofs.Common.{◌++◌, ℕ, List, ◌∙◌, ap}
 use Rattle.ua_channel.specs.ServerStands.{channel_of, next_of}
 use Rattle.ua_channel.specs.declared.server_fault.ChannelFault.TheVariants as channel_fault
 use Rattle.ua_server.proofs.Events.{at-fault, on-refusal}
-use Rattle.ua_server.proofs.Standing.{fault-as, stands-refused, stands-starved}
+use Rattle.ua_server.proofs.Standing.{fault-as, stands-refused}
 use Rattle.ua_server.proofs.server.refusal.Goals as goal
 
 pub returns-in-Ok-clause-answers : goal.returns-in-Ok-clause-answers

@@ -1,4 +1,4 @@
-use Rattle.std.proofs.Common.{◌≡◌, Ok, Err}
+use Rattle.std.proofs.Common.{Ok, Err}
 use Rattle.ua_channel.specs.ServerStands.{channel_of, next_of}
 use Rattle.ua_server.specs.Served.{channel_in}
 use Rattle.ua_server.proofs.Bounds.{fault-bound}

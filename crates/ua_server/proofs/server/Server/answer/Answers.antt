@@ -1,4 +1,4 @@
-use Rattle.std.proofs.Common.{◌≡◌, ◌++◌, ◌∙◌, ℕ, List, None, Some, Ok, refl, take}
+use Rattle.std.proofs.Common.{◌++◌, ◌∙◌, None, Some, refl, take}
 use Rattle.ua_channel.specs.declared.server_event.ServerEvent.TheVariants as event
 use Rattle.ua_channel.specs.ServerStands.{limits_of, channel_of, next_of}
 use Rattle.ua_server.specs.Served.{channel_in}

@@ -1,4 +1,4 @@
-use Rattle.std.proofs.Common.{arith, ◌≡◌, ◌++◌, ℕ, ℤ, List, Option, Err, take, length, refl, ◌∙◌, subst}
+use Rattle.std.proofs.Common.{arith, ◌++◌, ℕ, Option, Err, take, refl, ◌∙◌, subst}
 use Rattle.ua_server.specs.Happening.{Happens}
 use Rattle.ua_server.specs.Serving.{LineFailed}
 use Rattle.ua_server.specs.declared.step.End.{End}

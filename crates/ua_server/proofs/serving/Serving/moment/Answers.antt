@@ -1,9 +1,8 @@
-use Rattle.std.proofs.Common.{arith, ◌≡◌, ◌++◌, ◌∷◌, [], List, ℤ, Option, Some, None, refl, sym, ◌∙◌, ap, w64, to_z, of_z, map}
+use Rattle.std.proofs.Common.{arith, ◌≡◌, ◌++◌, ◌∷◌, [], ℤ, Option, refl, ◌∙◌, ap, w64, to_z, of_z}
 use Rattle.std.proofs.lemmas.Int.{to_z-of_z}
 use Rattle.ua_builtin.specs.declared.date_time.DateTime.{DateTime}
 use Rattle.ua_channel.specs.Received.{listed}
 use Rattle.ua_server.specs.Serving.{moment_of}
-use Rattle.ua_server.specs.declared.serving.Serving.{Serving}
 use Rattle.ua_server.proofs.serving.Serving.moment.Goals as goal
 
 pub returns-in-Some-clause-asked : goal.returns-in-Some-clause-asked

@@ -1,4 +1,4 @@
-use Rattle.std.proofs.Common.{arith, Option, ◌≡◌, ◌-◌, ◌++◌, [], ℕ, ℤ, List, None, Some, Ok, Err, take, length, refl, ◌∙◌, ap, subst}
+use Rattle.std.proofs.Common.{arith, Option, ◌++◌, [], ℕ, Ok, Err, take, refl, ◌∙◌, ap, subst}
 use Rattle.ua_channel.specs.Line.{one_more}
 use Rattle.ua_server.specs.Happening.{Happens}
 use Rattle.ua_server.specs.Serving.{LineFailed}
