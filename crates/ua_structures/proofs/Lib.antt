@@ -10,3 +10,8 @@ pub mod DiscoveryLawful
 pub mod SecureChannelLawful
 pub mod SessionLawful
 pub mod PlainLengths
+mod FlatsBack
+mod DiagnosticsBack
+mod VariantsBack
+pub mod FormatsBack
+pub mod StructuresBack

@@ -6,5 +6,6 @@ pub mod Header
 pub mod Plain
 pub mod SecureChannel
 pub mod Session
+pub mod WrittenBack
 -- Words that only contracts within this crate cite.
 pub mod inside

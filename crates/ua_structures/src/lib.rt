@@ -21,6 +21,7 @@ mod attribute;
 mod data_values;
 mod discovery;
 mod header;
+pub mod laws;
 mod secure_channel;
 mod session;
 mod signature;
