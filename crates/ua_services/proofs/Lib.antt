@@ -4,6 +4,7 @@ pub mod ResponseLawful
 pub mod BodyLaws
 pub mod BodyRead
 pub mod ByKind
+mod MessagesBack
 pub mod MessageRead
 pub mod RequestRead
 pub mod ResponseRead

@@ -1,25 +1,32 @@
 //! Laws of the bodies of messages, each carried by a function without a body.
 
-ghost use Rattle.std.specs.Prelude.{◌≡◌, ◌++◌, ◌↔◌, ℕ, ℤ, List, length, Some, Ok, Err};
+ghost use Rattle.std.specs.Prelude.{◌≡◌, ◌≢◌, ◌++◌, ◌↔◌, ℕ, ℤ, IsTrue, List, length, Some, Ok, Err};
 ghost use Rattle.ua_builtin.specs.NodeId.{node_id};
 ghost use Rattle.ua_builtin.specs.declared.date_time.DateTime.{DateTime};
 ghost use Rattle.ua_services.specs.Laws.{BodyReadsBack, OneMessage};
 ghost use Rattle.ua_services.specs.Message.{message, standard, body_of, IsBody};
 ghost use Rattle.ua_services.specs.Open.{IsAnswer, answer_read};
-ghost use Rattle.ua_services.specs.Request.{request, requests, Structure as RequestStructure, request_read, Misread as MisreadRequest};
-ghost use Rattle.ua_services.specs.Response.{response, responses, Structure as ResponseStructure, response_read, Misread as MisreadResponse};
+ghost use Rattle.ua_services.specs.Request.{request, requests, Structure as RequestStructure, kind_of as request_kind, request_read, Misread as MisreadRequest};
+ghost use Rattle.ua_services.specs.Response.{response, responses, Structure as ResponseStructure, kind_of as response_kind, response_read, Misread as MisreadResponse};
 ghost use Rattle.ua_services.specs.declared.fault.RequestFault.TheVariants.{OutOfMemory as no_request_memory};
 ghost use Rattle.ua_services.specs.declared.fault.RequestFault.{RequestFault};
 ghost use Rattle.ua_services.specs.declared.fault.ResponseFault.TheVariants.{OutOfMemory as no_response_memory};
 ghost use Rattle.ua_services.specs.declared.fault.ResponseFault.{ResponseFault};
 ghost use Rattle.ua_services.specs.declared.open.OpenAnswer.{OpenAnswer};
+ghost use Rattle.ua_services.specs.declared.request.Request.TheVariants.{Write as WriteRead};
 ghost use Rattle.ua_services.specs.declared.request.Request.{Request};
+ghost use Rattle.ua_services.specs.declared.request.RequestKind.TheVariants.{Write};
 ghost use Rattle.ua_services.specs.declared.request.RequestKind.{RequestKind};
+ghost use Rattle.ua_services.specs.declared.response.Response.TheVariants.{Read as ReadAnswered};
 ghost use Rattle.ua_services.specs.declared.response.Response.{Response};
+ghost use Rattle.ua_services.specs.declared.response.ResponseKind.TheVariants.{Read};
 ghost use Rattle.ua_services.specs.declared.response.ResponseKind.{ResponseKind};
 ghost use Rattle.ua_structures.specs.Header.{service_fault};
 ghost use Rattle.ua_structures.specs.Plain.{open_request_of, open_response_of, close_request_of};
 ghost use Rattle.ua_structures.specs.SecureChannel.{open_request, open_response, close_request};
+ghost use Rattle.ua_structures.specs.WrittenBack.{results_unreserved, write_unreserved};
+ghost use Rattle.ua_structures.specs.declared.attribute.ReadResponse.{ReadResponse};
+ghost use Rattle.ua_structures.specs.declared.attribute.WriteRequest.{WriteRequest};
 ghost use Rattle.ua_structures.specs.declared.secure_channel.OpenRequest.{OpenRequest};
 
 /// Reading the canonical body of a request gives back that request.
@@ -105,4 +112,18 @@ pub fn responses_are_read()
 pub fn channel_messages_are_read()
     ensures request { (octets : List ℕ) (m : OpenRequest) → ((body_of (message 446 open_request) octets ≡ Some m) ↔ IsBody (message 446 open_request) m octets) }
     ensures answer { (octets : List ℕ) (a : OpenAnswer) → ((answer_read octets ≡ Some a) ↔ IsAnswer a octets) }
+{}
+
+/// A request that was read can be written, of each kind but Write; a Write just where no value of its
+/// items names a reserved type id.
+pub fn requests_read_are_writable()
+    ensures each { (octets : List ℕ) (m : Request) → request_read octets ≡ Ok m → request_kind m ≢ Write → IsTrue (request.encodable m) }
+    ensures write { (octets : List ℕ) (m : WriteRequest) → request_read octets ≡ Ok (WriteRead m) → request.encodable (WriteRead m) ≡ write_unreserved m }
+{}
+
+/// A response that was read can be written, of each kind but that of Read; that one just where no
+/// value of its results names a reserved type id.
+pub fn responses_read_are_writable()
+    ensures each { (octets : List ℕ) (m : Response) → response_read octets ≡ Ok m → response_kind m ≢ Read → IsTrue (response.encodable m) }
+    ensures read { (octets : List ℕ) (m : ReadResponse) → response_read octets ≡ Ok (ReadAnswered m) → response.encodable (ReadAnswered m) ≡ results_unreserved m }
 {}

@@ -1,5 +1,4 @@
-use Rattle.std.proofs.Common.{ap, arith, List, ℕ, Option, Some}
-use Rattle.ua_builtin.specs.Exact.{◌>>=◌}
+use Rattle.std.proofs.Common.{ap, arith}
 use Rattle.ua_structures.proofs.ItemsRead.{claims_more}
 use Rattle.ua_structures.proofs.ItemsSkipped.{rest}
 use Rattle.ua_structures.proofs.array.UaArraySkip.skip_value.Goals as goal
