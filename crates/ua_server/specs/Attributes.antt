@@ -1,5 +1,5 @@
 -- The answers of Read and Write (OPC 10000-4, 5.11).
-use Rattle.std.specs.Prelude.{ℕ, Bool, nat_eq, nat_lt, not, is_none, map, length, List, [], ◌∷◌, Option, Some, None}
+use Rattle.std.specs.Prelude.{ℕ, Bool, nat_eq, nat_lt, is_none, map, length, List, [], ◌∷◌, ◌++◌, Option, Some, None}
 use Rattle.ua_builtin.specs.declared.date_time.DateTime.{DateTime}
 use Rattle.ua_nodes.specs.Read.{read_answer, stamps_numbered}
 use Rattle.ua_nodes.specs.Table.{Nodes, node_at}
@@ -12,11 +12,10 @@ use Rattle.ua_structures.specs.Plain.{values_of, statuses_of}
 use Rattle.ua_structures.specs.declared.attribute.ReadRequest.{ReadRequest}
 use Rattle.ua_structures.specs.declared.attribute.ReadValueId.{ReadValueId}
 use Rattle.ua_structures.specs.declared.attribute.WriteRequest.{WriteRequest}
-use Rattle.ua_structures.specs.declared.header.RequestHeader.{RequestHeader}
 use Rattle.ua_variant.specs.Data.{DataFields, DataValueData, VariantData, bare, valued}
 use Rattle.ua_variant.specs.declared.values.DataValue.{DataValue}
-use Rattle.ua_server.specs.Sessions.{good_header}
-use Rattle.ua_server.specs.State.{State, is_own, is_activated, with_nodes}
+use Rattle.ua_server.specs.Sessions.{good_header, session_reasons}
+use Rattle.ua_server.specs.State.{State, with_nodes}
 
 -- the items of an array, none of null
 abbrev pub items_of : {A : Type 0} → Option (List A) → List A
@@ -32,32 +31,22 @@ most_items = 1000
 abbrev pub most_age : ℕ
 most_age = 0x8000_0000_0000_0000
 
--- why no item is looked at
---   Bad_SessionIdInvalid               there is no session, or the token is not its own
---   Bad_SessionNotActivated            it is not activated
-abbrev pub session_reasons : State → RequestHeader → List (ℕ × Bool)
-session_reasons s asking =
-    (0x8025_0000, not (is_own asking.authentication_token s.session))
-    ∷ (0x8027_0000, not (is_activated s.session))
-    ∷ []
-
+-- why the items are not looked at, for how many they are
 --   Bad_NothingToDo                    there are no items
 --   Bad_TooManyOperations              there are more than 1000
 abbrev pub count_reasons : ℕ → List (ℕ × Bool)
 count_reasons n = (0x800F_0000, nat_eq n 0) ∷ (0x8010_0000, nat_lt most_items n) ∷ []
 
--- why a Read is refused, in the order in which it is judged (OPC 10000-4, 5.11.2)
---   Bad_SessionIdInvalid, Bad_SessionNotActivated
+-- why a Read is refused, in the order in which it is judged (OPC 10000-4, 5.11.2): for its session, and then
 --   Bad_TimestampsToReturnInvalid      the number names no times
 --   Bad_MaxAgeInvalid                  the pattern of the age is above that of -0
 --   Bad_NothingToDo, Bad_TooManyOperations
 abbrev pub read_reasons : State → ReadRequest → List (ℕ × Bool)
 read_reasons s m =
-    (0x8025_0000, not (is_own m.request_header.authentication_token s.session))
-    ∷ (0x8027_0000, not (is_activated s.session))
-    ∷ (0x802B_0000, is_none (stamps_numbered m.timestamps_to_return))
+    session_reasons s m.request_header
+    ++ ((0x802B_0000, is_none (stamps_numbered m.timestamps_to_return))
     ∷ (0x8070_0000, nat_lt most_age m.max_age.bits)
-    ∷ count_reasons (length (items_of m.nodes_to_read))
+    ∷ count_reasons (length (items_of m.nodes_to_read)))
 
 -- the times that are asked for; none where the number names none
 abbrev pub stamps_or : Option Stamps → Stamps
@@ -79,13 +68,9 @@ read_answers nodes items stamps moment = map (λ item. value_from (read_answer (
 abbrev pub values_given : State → DateTime → ReadRequest → Response
 values_given s moment m = Read (values_of (good_header moment m.request_header) (read_answers s.nodes (items_of m.nodes_to_read) (stamps_or (stamps_numbered m.timestamps_to_return)) moment))
 
--- why a Write is refused, in the order in which it is judged (OPC 10000-4, 5.11.4)
---   Bad_SessionIdInvalid, Bad_SessionNotActivated, Bad_NothingToDo, Bad_TooManyOperations
+-- why a Write is refused, in the order in which it is judged (OPC 10000-4, 5.11.4): for its session, and then for how many items it has
 abbrev pub write_reasons : State → WriteRequest → List (ℕ × Bool)
-write_reasons s m =
-    (0x8025_0000, not (is_own m.request_header.authentication_token s.session))
-    ∷ (0x8027_0000, not (is_activated s.session))
-    ∷ count_reasons (length (items_of m.nodes_to_write))
+write_reasons s m = session_reasons s m.request_header ++ count_reasons (length (items_of m.nodes_to_write))
 
 -- the state with what the items of a Write leave of its nodes
 abbrev pub with_written : State → DateTime → WriteRequest → State

@@ -1,5 +1,5 @@
 -- The answers of the services of endpoints and sessions, and the states that they leave (OPC 10000-4, 5.5 and 5.7).
-use Rattle.std.specs.Prelude.{ℕ, ◌+◌, nat_eq, Bool, true, false, not, ◌&&◌, ◌||◌, List, [], ◌∷◌, Option, Some, None, is_none}
+use Rattle.std.specs.Prelude.{ℕ, ◌+◌, nat_eq, Bool, true, false, not, ◌&&◌, ◌||◌, List, [], ◌∷◌, ◌++◌, Option, Some, None, is_none}
 use Rattle.ua_builtin.specs.Status.{of_code}
 use Rattle.ua_builtin.specs.declared.date_time.DateTime.{DateTime}
 use Rattle.ua_builtin.specs.declared.extension_object.ExtensionBody.{ExtensionBody}
@@ -18,11 +18,29 @@ use Rattle.ua_structures.specs.declared.session.ActivateSessionRequest.{Activate
 use Rattle.ua_structures.specs.declared.session.CloseSessionRequest.{CloseSessionRequest}
 use Rattle.ua_structures.specs.declared.session.CreateSessionRequest.{CreateSessionRequest}
 use Rattle.ua_server.specs.Endpoint.{description_of, are_served}
-use Rattle.ua_server.specs.State.{State, session_id, session_token, is_own, activated}
+use Rattle.ua_server.specs.State.{State, session_id, session_token, is_own, is_activated, activated}
 
 -- the header of a good response
 abbrev pub good_header : DateTime → RequestHeader → ResponseHeader
 good_header moment asking = response_header_of moment asking.request_handle (of_code 0)
+
+-- ---- requests under a session (OPC 10000-4, 5.7.1)
+
+-- there is no session, or the token is not its own
+abbrev pub bad_session_id_invalid : ℕ
+bad_session_id_invalid = 0x8025_0000
+
+-- the session is not activated
+abbrev pub bad_session_not_activated : ℕ
+bad_session_not_activated = 0x8027_0000
+
+-- why a request under a session is refused for its token: these stand before any other reason
+abbrev pub token_reasons : State → RequestHeader → List (ℕ × Bool)
+token_reasons s asking = (bad_session_id_invalid, not (is_own asking.authentication_token s.session)) ∷ []
+
+-- the same of a request that needs an activated session
+abbrev pub session_reasons : State → RequestHeader → List (ℕ × Bool)
+session_reasons s asking = token_reasons s asking ++ ((bad_session_not_activated, not (is_activated s.session)) ∷ [])
 
 -- ---- GetEndpoints (OPC 10000-4, 5.5.4)
 
@@ -70,14 +88,10 @@ is_anonymous_by (Some n) (Xml text) = false
 abbrev pub is_anonymous : ExtensionObject → Bool
 is_anonymous object = is_anonymous_by (standard_number object.type_id) object.body
 
--- why a session is not activated, in the order in which it is judged
---   Bad_SessionIdInvalid               there is no session, or the token is not its own
+-- why a session is not activated, in the order in which it is judged: for the token, and then
 --   Bad_IdentityTokenRejected          the identity is neither none nor anonymous
 abbrev pub activate_reasons : State → ActivateSessionRequest → List (ℕ × Bool)
-activate_reasons s m =
-    (0x8025_0000, not (is_own m.request_header.authentication_token s.session))
-    ∷ (0x8021_0000, not (is_anonymous m.user_identity_token))
-    ∷ []
+activate_reasons s m = token_reasons s m.request_header ++ ((0x8021_0000, not (is_anonymous m.user_identity_token)) ∷ [])
 
 -- the state with its session activated
 abbrev pub with_activated : State → State
@@ -88,10 +102,9 @@ activation_given moment m = ActivateSession (activated_of (good_header moment m.
 
 -- ---- CloseSession (OPC 10000-4, 5.7.4)
 
--- why a session is not closed
---   Bad_SessionIdInvalid               there is no session, or the token is not its own
+-- why a session is not closed: for the token alone
 abbrev pub close_reasons : State → CloseSessionRequest → List (ℕ × Bool)
-close_reasons s m = (0x8025_0000, not (is_own m.request_header.authentication_token s.session)) ∷ []
+close_reasons s m = token_reasons s m.request_header
 
 abbrev pub close_given : DateTime → CloseSessionRequest → Response
 close_given moment m = CloseSession (record { response_header = good_header moment m.request_header })

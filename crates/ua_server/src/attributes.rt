@@ -18,7 +18,8 @@ ghost use Rattle.ua_variant.specs.Formats.{data_value_format};
 ghost use Rattle.ua_server.specs.State.{with_nodes};
 ghost use Rattle.ua_server.specs.Answer.{read_items, write_items};
 ghost use Rattle.ua_server.specs.Reply.{IsBodyWithin};
-ghost use Rattle.ua_server.specs.Attributes.{items_of, most_items, value_from, session_reasons, count_reasons, read_reasons, read_answers, values_given, write_reasons, with_written, statuses_given};
+ghost use Rattle.ua_server.specs.Sessions.{session_reasons};
+ghost use Rattle.ua_server.specs.Attributes.{items_of, most_items, value_from, count_reasons, read_reasons, read_answers, values_given, write_reasons, with_written, statuses_given};
 
 use crate::reply::body_of;
 use crate::services::Services;
