@@ -18,7 +18,6 @@ ghost use Rattle.ua_variant.specs.Formats.{data_value_format};
 ghost use Rattle.ua_server.specs.State.{with_nodes};
 ghost use Rattle.ua_server.specs.Answer.{read_items, write_items};
 ghost use Rattle.ua_server.specs.Reply.{IsBodyWithin};
-ghost use Rattle.ua_server.specs.Sessions.{session_reasons};
 ghost use Rattle.ua_server.specs.Attributes.{items_of, most_items, value_from, count_reasons, read_reasons, read_answers, values_given, write_reasons, with_written, statuses_given};
 
 use crate::reply::body_of;
@@ -43,7 +42,7 @@ const READ_RESPONSE: u32 = 634;
 const MOST_AGE: u64 = 0x8000_0000_0000_0000;
 
 /// Why so many items are not looked at.
-fn count_refusal(items: usize) -> Option<StatusCode>
+pub(crate) fn count_refusal(items: usize) -> Option<StatusCode>
     ensures refusal { option_map (λ s. s.code) result ≡ first_reason (count_reasons items) }
     ensures few { result ≡ None → items ≤ most_items }
 {
@@ -70,19 +69,6 @@ fn append_front(header: &ResponseHeader, results: u32, out: &mut Vec<u8>) -> Res
 }
 
 impl Services {
-    /// Why the items of a request are not looked at: for its session.
-    fn session_refusal(&self, asking: &RequestHeader) -> Option<StatusCode>
-        ensures { option_map (λ s. s.code) result ≡ first_reason (session_reasons self.now asking.now) }
-    {
-        if !self.is_own(&asking.authentication_token) {
-            return Some(StatusCode::BAD_SESSION_ID_INVALID);
-        }
-        if !self.is_activated() {
-            return Some(StatusCode::BAD_SESSION_NOT_ACTIVATED);
-        }
-        None
-    }
-
     /// Why a Read is refused.
     fn read_refusal(&self, request: &ReadRequest) -> Option<StatusCode>
         ensures refusal { option_map (λ s. s.code) result ≡ first_reason (read_reasons self.now request.now) }

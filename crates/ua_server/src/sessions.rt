@@ -8,7 +8,7 @@ ghost use Rattle.ua_builtin.specs.Status.{of_code};
 ghost use Rattle.ua_structures.specs.Header.{response_header};
 ghost use Rattle.ua_structures.specs.Plain.{response_header_of};
 ghost use Rattle.ua_server.specs.Answer.{activate_session, close_session, create_session};
-ghost use Rattle.ua_server.specs.Sessions.{endpoints_given, create_reasons, session_given, is_anonymous, activate_reasons, with_activated, activation_given, close_reasons, close_given};
+ghost use Rattle.ua_server.specs.Sessions.{endpoints_given, session_reasons, create_reasons, session_given, is_anonymous, activate_reasons, with_activated, activation_given, close_reasons, close_given};
 ghost use Rattle.ua_server.specs.State.{begun, with_next_session, is_own, is_activated};
 
 use crate::endpoint::serves;
@@ -19,7 +19,7 @@ use ua_builtin::{DateTime, ExtensionBody, ExtensionObject, NodeId, ReadFault, St
 use ua_services::{
     ActivateSessionRequest, ActivateSessionResponse, CloseSessionRequest, CloseSessionResponse,
     CreateSessionRequest, CreateSessionResponse, GetEndpointsRequest, GetEndpointsResponse,
-    Response, ResponseHeader, UaArray, read_identity,
+    RequestHeader, Response, ResponseHeader, UaArray, read_identity,
 };
 
 /// The header of a good response.
@@ -73,6 +73,20 @@ impl Services {
             Some(session) => session.activated,
             None => false,
         }
+    }
+
+    /// Why a request that needs an activated session is refused for it, before anything else of it is
+    /// judged.
+    pub(crate) fn session_refusal(&self, asking: &RequestHeader) -> Option<StatusCode>
+        ensures { option_map (λ s. s.code) result ≡ first_reason (session_reasons self.now asking.now) }
+    {
+        if !self.is_own(&asking.authentication_token) {
+            return Some(StatusCode::BAD_SESSION_ID_INVALID);
+        }
+        if !self.is_activated() {
+            return Some(StatusCode::BAD_SESSION_NOT_ACTIVATED);
+        }
+        None
     }
 
     /// GetEndpoints (OPC 10000-4, 5.5.4).
