@@ -392,7 +392,7 @@ tokens_left lane s id p (q ∷ qs) b held =
     tokens_left lane (next_number s) id q qs (after b (Sends c)) (ap (is_in lane.token) same ∙ stays_in lane.token (held_tokens b) held)
     ∙ (ap (from_last lane.token) same ∙ from_last-again lane.token lane.token (held_tokens b) (stays_in lane.token (held_tokens b) held))
 
-all_append : {X : Type 0} (P : X → Type 0) (xs ys : List X) → AllByRecursion P xs → AllByRecursion P ys → AllByRecursion P (xs ++ ys)
+pub all_append : {X : Type 0} (P : X → Type 0) (xs ys : List X) → AllByRecursion P xs → AllByRecursion P ys → AllByRecursion P (xs ++ ys)
 all_append P [] ys h k = k
 all_append P (x ∷ xs) ys h k = (h.0, all_append P xs ys h.1 k)
 

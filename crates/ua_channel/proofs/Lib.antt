@@ -49,3 +49,8 @@ mod Conversing
 mod ServerConversing
 mod ClientConversing
 mod ReplyLimits
+mod MergedChunks
+mod MergedFrames
+mod ServerMerges
+mod ClientMerges
+mod MergedFollowing

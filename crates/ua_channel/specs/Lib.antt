@@ -34,6 +34,8 @@ pub mod InStep
 -- What a conversation is, in plain words.
 pub mod Conversation
 pub mod ClientConversation
+-- Messages that come merged, with renewals among them.
+pub mod Merges
 -- The line under a connection, and moments.
 pub mod Line
 pub mod MemoryLine

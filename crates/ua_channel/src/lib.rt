@@ -24,6 +24,7 @@ pub mod client_laws;
 pub mod laws;
 mod line;
 mod memory_line;
+pub mod merge_laws;
 mod moments;
 mod numbers;
 mod running;
