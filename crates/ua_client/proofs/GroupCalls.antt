@@ -21,7 +21,7 @@ use Rattle.ua_client.specs.Calls.{asked_at, sent_at, refusal_at, AreUntold, Coll
 use Rattle.ua_client.specs.Carried.{Carries, WritesFront}
 use Rattle.ua_client.specs.Hearing.{channel_of, untaken_of, Moves, StopsAt, is_line_fault}
 use Rattle.ua_client.specs.Kept.{CallsGroup, IsRefusedFor, KeepsAt, named}
-use Rattle.ua_client.specs.Renewing.{IsSettled}
+use Rattle.ua_client.specs.Renewing.{IsIdle}
 use Rattle.ua_client.specs.Replies.{front_of}
 use Rattle.ua_client.specs.Told.{told_of}
 use Rattle.ua_client.specs.Sent.{calls_octets, numbers_behind, bodies_of, of_ask, refusal_by, request_refusal, group_refusal, AnswersBy, AsksFrom, RefusesBy}
@@ -35,7 +35,6 @@ use Rattle.ua_client.proofs.Hearings.{moves-from, moves-writing}
 use Rattle.ua_client.proofs.Fronts.{front-all, front-fewer, front-untold, front-whole}
 use Rattle.ua_client.proofs.Incoming.{collects-none, told-whole}
 use Rattle.ua_client.proofs.Judging.{group-judged, is_reason, refused-for}
-use Rattle.ua_client.proofs.Settled.{NonePending}
 
 -- ---- refusals to ask
 
@@ -131,26 +130,26 @@ few-taken (suc n) [] = omega arith
 few-taken (suc n) (m ∷ ms) = let h = few-taken n ms in omega (arith, h)
 
 -- before anything is asked
-pub group-refused : {A : Type 0} → NonePending → (requests : List Request) → length requests ≤ 64 → (x : Connection) (t : Option Traffic) (reads : ℕ) (c : CallsFault) (replies : List Reply)
+pub group-refused : {A : Type 0} → (requests : List Request) → length requests ≤ 64 → (x : Connection) (t : Option Traffic) (reads : ℕ) (c : CallsFault) (replies : List Reply)
     → AnswersBy {A = Unit {0}} (group_refusal (phase_of (channel_of x)) 0 requests) (Err c.fault) → RefusesBy (phase_of (channel_of x)) requests c.request c.fault
     → CallsGroup {A = A} requests x x t t reads reads (Err c) replies replies
-group-refused {A} law requests few x t reads c replies h place = record {
+group-refused {A} requests few x t reads c replies h place = record {
   sent = [];
   moves = moves-nothing x x t refl;
   same = record { limits = refl; url = refl };
   added = [];
   have_is = sym (append-nil replies);
-  answers = λ s at settled. (breaks c.fault h s at (group-judged law (channel_of x) requests few s at settled), keeps c.fault c.request h place s at settled);
+  answers = λ s at idle. (breaks c.fault h s at (group-judged (channel_of x) requests few s at idle), keeps c.fault c.request h place s at idle);
   stops = stops c.fault h;
 }
   where
-    refused : (y : ClientFault) (n : ℕ) (s : Site) → At (channel_of x) s → IsSettled s
+    refused : (y : ClientFault) (n : ℕ) (s : Site) → At (channel_of x) s → IsIdle (channel_of x) s
         → (group_refusal (phase_of (channel_of x)) 0 (take n requests) ≡ None) × (group_refusal (phase_of (channel_of x)) 0 (take (n + 1) requests) ≡ Some y) → IsRefusedFor requests s y n
-    refused y n s at settled k =
+    refused y n s at idle k =
         let before = few-taken n requests in
         let with = few-taken (n + 1) requests in (
-          sym (group-judged law (channel_of x) (take n requests) (omega (arith, before, few)) s at settled) ∙ k.0,
-          sym (group-judged law (channel_of x) (take (n + 1) requests) (omega (arith, with, few)) s at settled) ∙ k.1,
+          sym (group-judged (channel_of x) (take n requests) (omega (arith, before, few)) s at idle) ∙ k.0,
+          sym (group-judged (channel_of x) (take (n + 1) requests) (omega (arith, with, few)) s at idle) ∙ k.1,
         )
 
     breaks : (y : ClientFault) → AnswersBy {A = Unit {0}} (group_refusal (phase_of (channel_of x)) 0 requests) (Err y) → (s : Site) → At (channel_of x) s
@@ -170,22 +169,22 @@ group-refused {A} law requests few x t reads c replies h place = record {
     breaks fault.TooLong e s at there = let no : is_asking_fault fault.TooLong ≡ true = by-group (phase_of (channel_of x)) 0 requests fault.TooLong e in absurd cc
     breaks fault.TooManyTokens e s at there = let no : is_asking_fault fault.TooManyTokens ≡ true = by-group (phase_of (channel_of x)) 0 requests fault.TooManyTokens e in absurd cc
 
-    keeps : (y : ClientFault) (n : ℕ) → AnswersBy {A = Unit {0}} (group_refusal (phase_of (channel_of x)) 0 requests) (Err y) → RefusesBy (phase_of (channel_of x)) requests n y → (s : Site) → At (channel_of x) s → IsSettled s
+    keeps : (y : ClientFault) (n : ℕ) → AnswersBy {A = Unit {0}} (group_refusal (phase_of (channel_of x)) 0 requests) (Err y) → RefusesBy (phase_of (channel_of x)) requests n y → (s : Site) → At (channel_of x) s → IsIdle (channel_of x) s
         → KeepsAt requests s x [] y n []
-    keeps fault.TooLarge n e k s at settled = (refused fault.TooLarge n s at settled k, refl)
-    keeps fault.NotWritable n e k s at settled = (refused fault.NotWritable n s at settled k, refl)
-    keeps fault.Exhausted n e k s at settled = (refused fault.Exhausted n s at settled k, refl)
-    keeps fault.Closed n e k s at settled = let no : is_reason fault.Closed ≡ true = refused-for s requests fault.Closed (sym (group-judged law (channel_of x) requests few s at settled) ∙ e) in absurd cc
-    keeps fault.OutOfMemory n e k s at settled = (k, inl (refl, refl))
-    keeps fault.Read n e k s at settled = let no : is_asking_fault fault.Read ≡ true = by-group (phase_of (channel_of x)) 0 requests fault.Read e in absurd cc
-    keeps fault.Write n e k s at settled = let no : is_asking_fault fault.Write ≡ true = by-group (phase_of (channel_of x)) 0 requests fault.Write e in absurd cc
-    keeps fault.Ended n e k s at settled = let no : is_asking_fault fault.Ended ≡ true = by-group (phase_of (channel_of x)) 0 requests fault.Ended e in absurd cc
-    keeps (fault.Peer code) n e k s at settled = let no : is_asking_fault (fault.Peer code) ≡ true = by-group (phase_of (channel_of x)) 0 requests (fault.Peer code) e in absurd cc
-    keeps (fault.Refused code) n e k s at settled = let no : is_asking_fault (fault.Refused code) ≡ true = by-group (phase_of (channel_of x)) 0 requests (fault.Refused code) e in absurd cc
-    keeps fault.UnknownResponse n e k s at settled = let no : is_asking_fault fault.UnknownResponse ≡ true = by-group (phase_of (channel_of x)) 0 requests fault.UnknownResponse e in absurd cc
-    keeps (fault.Service code) n e k s at settled = let no : is_asking_fault (fault.Service code) ≡ true = by-group (phase_of (channel_of x)) 0 requests (fault.Service code) e in absurd cc
-    keeps fault.TooLong n e k s at settled = let no : is_asking_fault fault.TooLong ≡ true = by-group (phase_of (channel_of x)) 0 requests fault.TooLong e in absurd cc
-    keeps fault.TooManyTokens n e k s at settled = let no : is_asking_fault fault.TooManyTokens ≡ true = by-group (phase_of (channel_of x)) 0 requests fault.TooManyTokens e in absurd cc
+    keeps fault.TooLarge n e k s at idle = (refused fault.TooLarge n s at idle k, refl)
+    keeps fault.NotWritable n e k s at idle = (refused fault.NotWritable n s at idle k, refl)
+    keeps fault.Exhausted n e k s at idle = (refused fault.Exhausted n s at idle k, refl)
+    keeps fault.Closed n e k s at idle = let no : is_reason fault.Closed ≡ true = refused-for s requests fault.Closed (sym (group-judged (channel_of x) requests few s at idle) ∙ e) in absurd cc
+    keeps fault.OutOfMemory n e k s at idle = (k, inl (refl, refl))
+    keeps fault.Read n e k s at idle = let no : is_asking_fault fault.Read ≡ true = by-group (phase_of (channel_of x)) 0 requests fault.Read e in absurd cc
+    keeps fault.Write n e k s at idle = let no : is_asking_fault fault.Write ≡ true = by-group (phase_of (channel_of x)) 0 requests fault.Write e in absurd cc
+    keeps fault.Ended n e k s at idle = let no : is_asking_fault fault.Ended ≡ true = by-group (phase_of (channel_of x)) 0 requests fault.Ended e in absurd cc
+    keeps (fault.Peer code) n e k s at idle = let no : is_asking_fault (fault.Peer code) ≡ true = by-group (phase_of (channel_of x)) 0 requests (fault.Peer code) e in absurd cc
+    keeps (fault.Refused code) n e k s at idle = let no : is_asking_fault (fault.Refused code) ≡ true = by-group (phase_of (channel_of x)) 0 requests (fault.Refused code) e in absurd cc
+    keeps fault.UnknownResponse n e k s at idle = let no : is_asking_fault fault.UnknownResponse ≡ true = by-group (phase_of (channel_of x)) 0 requests fault.UnknownResponse e in absurd cc
+    keeps (fault.Service code) n e k s at idle = let no : is_asking_fault (fault.Service code) ≡ true = by-group (phase_of (channel_of x)) 0 requests (fault.Service code) e in absurd cc
+    keeps fault.TooLong n e k s at idle = let no : is_asking_fault fault.TooLong ≡ true = by-group (phase_of (channel_of x)) 0 requests fault.TooLong e in absurd cc
+    keeps fault.TooManyTokens n e k s at idle = let no : is_asking_fault fault.TooManyTokens ≡ true = by-group (phase_of (channel_of x)) 0 requests fault.TooManyTokens e in absurd cc
 
     stops : (y : ClientFault) → AnswersBy {A = Unit {0}} (group_refusal (phase_of (channel_of x)) 0 requests) (Err y) → StopsAt {A = A} reads reads [] x t (Err y)
     stops fault.TooLarge e = tt
@@ -237,19 +236,19 @@ group-unasked {A} requests old new t reads had have f none piece same e = subst 
   same = same;
   added = [];
   have_is = none ∙ sym (append-nil had);
-  answers = λ s at settled. (inl (refl, refl), (added-count had have [] (none ∙ sym (append-nil had)), inl (refl, refl)));
+  answers = λ s at idle. (inl (refl, refl), (added-count had have [] (none ∙ sym (append-nil had)), inl (refl, refl)));
   stops = tt;
 })
 
 -- nothing was against a group that a channel would ask
-pub none-refused : NonePending → (requests : List Request) → length requests ≤ 64 → (x : ClientChannel) → group_refusal (phase_of x) 0 requests ≡ None → (s : Site) → At x s → IsSettled s → refusal_at s requests ≡ None
-none-refused law requests few x none s at settled = sym (group-judged law x requests few s at settled) ∙ none
+pub none-refused : (requests : List Request) → length requests ≤ 64 → (x : ClientChannel) → group_refusal (phase_of x) 0 requests ≡ None → (s : Site) → At x s → IsIdle x s → refusal_at s requests ≡ None
+none-refused requests few x none s at idle = sym (group-judged x requests few s at idle) ∙ none
 
 -- these requests were asked: the channel then, the request id of the first, and what is to be sent
 pub record IsAsked (requests : List Request) (old mid : Connection) (first : ℕ) (out : List ℕ) : Type 0 where
   pub bodies : List (List ℕ)
   pub bodies_are : bodies ≡ bodies_of requests
-  pub judged : (s : Site) → At (channel_of old) s → IsSettled s → refusal_at s requests ≡ None
+  pub judged : (s : Site) → At (channel_of old) s → IsIdle (channel_of old) s → refusal_at s requests ≡ None
   pub piece : untaken_of mid ≡ untaken_of old
   pub same : SameClient (channel_of old) (channel_of mid)
   pub some : 0 < length requests
@@ -301,7 +300,7 @@ module _ (requests : List Request) (old mid : Connection) (first : ℕ) (out : L
         same = q.same;
         added = [];
         have_is = kept;
-        answers = λ s at settled. ((q.judged s at settled, record { more = front.1.more; parts = sym (sent-asked s at) ∙ front.1.parts }, refl, subst (λ (o : List ℕ). length front.0 < length o) (sent-asked s at) (front.3 some)), (added-count had have [] kept, refl));
+        answers = λ s at idle. ((q.judged s at idle, record { more = front.1.more; parts = sym (sent-asked s at) ∙ front.1.parts }, refl, subst (λ (o : List ℕ). length front.0 < length o) (sent-asked s at) (front.3 some)), (added-count had have [] kept, refl));
         stops = tt;
       }
 
@@ -329,9 +328,9 @@ module _ (requests : List Request) (old mid : Connection) (first : ℕ) (out : L
         same = same-then c.keeps.same;
         added = front_of slots;
         have_is = kept;
-        answers = λ s at settled.
+        answers = λ s at idle.
             let h = collected (Err f) c s at in (
-              breaks f s (q.judged s at settled, sent-asked s at) h,
+              breaks f s (q.judged s at idle, sent-asked s at) h,
               keeps f s h,
             );
         stops = stops f c.stops;
@@ -398,7 +397,7 @@ module _ (requests : List Request) (old mid : Connection) (first : ℕ) (out : L
         same = same-then c.keeps.same;
         added = front_of slots;
         have_is = kept;
-        answers = λ s at settled.
+        answers = λ s at idle.
             let h = collected (Ok done) c s at in (
               sent-asked s at,
               (
@@ -406,7 +405,7 @@ module _ (requests : List Request) (old mid : Connection) (first : ℕ) (out : L
                 record { goes = h.1; before_is = refl; number_is = refl },
                 h.2.2,
                 record {
-                  judged = q.judged s at settled;
+                  judged = q.judged s at idle;
                   asks = refl;
                   octets = refl;
                   whole = told-whole (channel_of new) (asked_at s requests) (s.octets ++ c.moves.taken) h.2.2.before h.2.2.last h.2.2.tells;

@@ -2,6 +2,7 @@
 use Rattle.std.specs.Prelude.{◌≡◌, ℕ, ◌+◌, ◌-◌, ◌≤◌, ◌<◌, List, [], ◌∷◌, ◌++◌, length, take, drop, Option, Ok, Err}
 use Rattle.std.specs.List.{AllByRecursion}
 use Rattle.std.proofs.Common.{refl, sym, ◌∙◌, ap, subst, append_assoc, append-nil, arith, zero, suc}
+use Rattle.std.proofs.Math.Logic.{∥∥₁_map}
 use Rattle.std.proofs.Math.Seq.{take-add}
 use Rattle.std.proofs.lemmas.List.{length-append, length-drop, take-append-drop}
 use Rattle.ua_services.specs.declared.request.Request.{Request}
@@ -13,7 +14,7 @@ use Rattle.ua_client.specs.Calls.{Rounds, all_of, AreGroups, AnsweredAll}
 use Rattle.ua_client.specs.Calls.Rounds.{NoRound, OneRound}
 use Rattle.ua_client.specs.Hearing.{channel_of, most_reads, Moves, StopsAt}
 use Rattle.ua_client.specs.Kept.{CallsGroup, CallsInto}
-use Rattle.ua_client.specs.Renewing.{IsSettled}
+use Rattle.ua_client.specs.Renewing.{IsSettled, StandsSettled}
 use Rattle.ua_client.specs.declared.connection.Connection.{Connection}
 use Rattle.ua_client.specs.declared.fault.CallsFault.{CallsFault}
 use Rattle.ua_client.specs.declared.fault.ClientFault.{ClientFault}
@@ -21,6 +22,7 @@ use Rattle.ua_client.specs.declared.fault.ClientFault.TheVariants as fault
 use Rattle.ua_client.specs.declared.reply.Reply.{Reply}
 use Rattle.ua_client.proofs.Hearings.{moves-behind}
 use Rattle.ua_client.proofs.GroupCalls.{moves-nothing}
+use Rattle.ua_client.proofs.Idle.{IdleStanding}
 use Rattle.ua_client.proofs.Settled.{answered-settled}
 
 -- ---- lists of groups
@@ -83,22 +85,25 @@ pub record Called (requests : List Request) (more : Type 0) (old now : Connectio
   -- these replies are added
   pub added : List Reply
   pub have_is : have ≡ had ++ added
-  pub answers : (s : Site) → At (channel_of old) s → IsSettled s → (a : AnsweredAll requests s (channel_of now) sent moves.taken added) × (more → AreFull a.groups)
+  -- it may be called again
+  pub settled : StandsSettled (channel_of now)
+  pub answers : (s : Site) → At (channel_of old) s → (a : AnsweredAll requests s (channel_of now) sent moves.taken added) × (more → AreFull a.groups)
   pub spent : most_reads ≤ left + length moves.got
 
-pub called-nothing : (more : Type 0) (x : Connection) (t : Option Traffic) (had : List Reply) → Called [] more x x t t most_reads had had
-called-nothing more x t had = record {
+pub called-nothing : (more : Type 0) (x : Connection) (t : Option Traffic) (had : List Reply) → StandsSettled (channel_of x) → Called [] more x x t t most_reads had had
+called-nothing more x t had settled = record {
   sent = [];
   moves = moves-nothing x x t refl;
   same = record { limits = refl; url = refl };
   added = [];
   have_is = sym (append-nil had);
-  answers = λ s at settled. (record { groups = []; parts = refl; sized = tt; behind = s; at = at; settled = settled; rounds = NoRound }, λ goes. tt);
+  settled = settled;
+  answers = λ s at. (record { groups = []; parts = refl; sized = tt; behind = s; at = at; settled = λ h. h; rounds = NoRound }, λ goes. tt);
   spent = omega arith;
 }
 
 module _ (requests group : List Request) (old now new : Connection) (before at then : Option Traffic) (left less : ℕ) (had replies next : List Reply)
-    (some : 0 < length group) (few : length group ≤ 64) (more : Type 0) (goes : more) (c : Called requests more old now before at left had replies) where
+    (some : 0 < length group) (few : length group ≤ 64) (more : Type 0) (goes : more) (idle : IdleStanding) (c : Called requests more old now before at left had replies) where
   same-then : SameClient (channel_of now) (channel_of new) → SameClient (channel_of old) (channel_of new)
   same-then k = record { limits = c.same.limits ∙ k.limits; url = c.same.url ∙ k.url }
 
@@ -116,17 +121,20 @@ module _ (requests group : List Request) (old now new : Connection) (before at t
     same = same-then g.same;
     added = c.added ++ g.added;
     have_is = added-then g.added g.have_is;
-    answers = λ s h settled.
-        let known = c.answers s h settled in
+    settled = ∥∥₁_map c.settled (λ (w : (s : Site) × At (channel_of now) s × IsSettled s).
+        let b = g.answers w.0 w.1 (idle (channel_of now) w.0 c.settled w.1) in
+        (b.1.0, b.1.1, answered-settled group w.0 b.1.0 g.moves.taken g.added w.2 b.1.3));
+    answers = λ s h.
+        let known = c.answers s h in
         let a = known.0 in
-        let b = g.answers a.behind a.at a.settled in (
+        let b = g.answers a.behind a.at (idle (channel_of now) a.behind c.settled a.at) in (
           record {
             groups = a.groups ++ group ∷ [];
             parts = ap (λ (ms : List Request). ms ++ group) a.parts ∙ sym (concat-push a.groups group);
             sized = groups-push a.groups group (known.1 goes) some few;
             behind = b.1.0;
             at = b.1.1;
-            settled = answered-settled group a.behind b.1.0 g.moves.taken g.added a.settled b.1.3;
+            settled = λ settled. answered-settled group a.behind b.1.0 g.moves.taken g.added (a.settled settled) b.1.3;
             rounds = subst (λ (o : List ℕ). Rounds (channel_of new) s (a.groups ++ group ∷ []) b.1.0 (c.sent ++ o) (c.moves.taken ++ g.moves.taken) (c.added ++ g.added)) (sym b.0)
                 (OneRound group (channel_of new) (rounds-same (channel_of now) (channel_of new) g.same a.rounds) (record { same = record { limits = refl; url = refl }; at = b.1.1; came = b.1.2 }) b.1.3);
           },
@@ -143,10 +151,10 @@ module _ (requests group : List Request) (old now new : Connection) (before at t
     same = same-then g.same;
     added = c.added ++ g.added;
     have_is = added-then g.added g.have_is;
-    answers = λ s h settled.
-        let known = c.answers s h settled in
+    answers = λ s h.
+        let known = c.answers s h in
         let a = known.0 in
-        let b = g.answers a.behind a.at a.settled in
+        let b = g.answers a.behind a.at (idle (channel_of now) a.behind c.settled a.at) in
         record {
           broken = record {
             groups = a.groups;
@@ -200,7 +208,7 @@ calls-all requests done more old now before at left had have found c e = record 
   same = c.same;
   added = c.added;
   have_is = c.have_is;
-  answers = λ s h settled. subst (λ (ms : List Request). AnsweredAll ms s (channel_of now) c.sent c.moves.taken c.added) e (c.answers s h settled).0;
+  answers = λ s h. subst (λ (ms : List Request). AnsweredAll ms s (channel_of now) c.sent c.moves.taken c.added) e (c.answers s h).0;
   stops = omega arith;
 }
 

@@ -20,12 +20,12 @@ use Rattle.ua_channel.specs.declared.client.phase.Phase.{Phase}
 use Rattle.ua_channel.specs.declared.client.phase.Phase.TheVariants as phase
 use Rattle.ua_channel.specs.declared.client.talking.Talking.{Talking}
 use Rattle.ua_client.specs.Calls.{refusal_at}
-use Rattle.ua_client.specs.Renewing.{IsSettled}
+use Rattle.ua_client.specs.Renewing.{IsIdle}
 use Rattle.ua_client.specs.Sent.{of_ask, refusal_by, request_refusal, group_refusal, request_reasons, group_reasons, AnswersBy, RefusesBy, bodies_of, place_by}
 use Rattle.ua_client.specs.Site.{Site, At, id_at}
 use Rattle.ua_client.specs.declared.fault.ClientFault.{ClientFault}
 use Rattle.ua_client.specs.declared.fault.ClientFault.TheVariants as fault
-use Rattle.ua_client.proofs.Settled.{NonePending, is-open, phase-there}
+use Rattle.ua_client.proofs.Settled.{phase-there}
 
 -- ---- one request
 
@@ -81,9 +81,9 @@ judged-in limits (phase.Open t) before asked h some none requests more few = by 
         ∙ sym (first_reason-append (request_reasons before.ack (next_id asked + n) m) (group_reasons before.ack ((next_id asked + n) + 1) ms)))
 
 -- a channel refuses a group just for the first reason that holds where the client stands
-pub group-judged : NonePending → (x : ClientChannel) (requests : List Request) → length requests ≤ 64 → (s : Site) → At x s → IsSettled s → group_refusal (phase_of x) 0 requests ≡ refusal_at s requests
-group-judged law x requests few s at settled =
-    judged-in (limits_of x) (phase_of x) s.before (asked_in s.asks) (phase-there x s at settled) (is-open x s at settled) (law x s at settled) requests 0 (omega (arith, few))
+pub group-judged : (x : ClientChannel) (requests : List Request) → length requests ≤ 64 → (s : Site) → At x s → IsIdle x s → group_refusal (phase_of x) 0 requests ≡ refusal_at s requests
+group-judged x requests few s at idle =
+    judged-in (limits_of x) (phase_of x) s.before (asked_in s.asks) (phase-there x s at) idle.opened idle.calls_answered requests 0 (omega (arith, few))
     ∙ ap (λ (id : ℕ). first_reason (group_reasons s.before.ack id requests)) (add-zero (id_at s))
 
 -- ---- which reasons there are

@@ -7,6 +7,7 @@ pub mod Lanes
 pub mod Closings
 pub mod Renewals
 pub mod Settled
+pub mod Idle
 pub mod Renewings
 pub mod Requests
 pub mod Askings
@@ -19,4 +20,5 @@ pub mod GroupCalls
 pub mod Grouping
 pub mod Ones
 pub mod Sessions
+pub mod Standing
 pub mod Tokens

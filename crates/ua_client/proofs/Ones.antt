@@ -36,9 +36,9 @@ calls-one view requests request old new before after found reply e k c = record 
   sent = c.sent;
   moves = c.moves;
   same = c.same;
-  answers = λ s at settled.
+  answers = λ s at.
       subst (λ (rs : List Reply). AnsweredAll (request ∷ []) s (channel_of new) c.sent c.moves.taken rs) k
-      (subst (λ (ms : List Request). AnsweredAll ms s (channel_of new) c.sent c.moves.taken (view found)) e (c.answers s at settled));
+      (subst (λ (ms : List Request). AnsweredAll ms s (channel_of new) c.sent c.moves.taken (view found)) e (c.answers s at));
   stops = c.stops;
 }
 
@@ -49,7 +49,7 @@ breaks-one {A} {B} view other requests request old new before after f e c = reco
   sent = c.sent;
   moves = c.moves;
   same = c.same;
-  answers = λ s at settled. subst (λ (ms : List Request). BrokenAll ms s new c.sent c.moves.taken f) e (c.answers s at settled);
+  answers = λ s at. subst (λ (ms : List Request). BrokenAll ms s new c.sent c.moves.taken f) e (c.answers s at);
   stops = stops-as A B most_reads most_reads c.moves.got new after f c.stops;
 }
 
@@ -74,7 +74,7 @@ all-answered view requests old new before after done found had have none same c 
   sent = c.sent;
   moves = c.moves;
   same = c.same;
-  answers = λ s at settled. subst (λ (rs : List Reply). AnsweredAll requests s (channel_of new) c.sent c.moves.taken rs) (sym (sym same ∙ (c.have_is ∙ ap (λ (rs : List Reply). rs ++ c.added) none))) (c.answers s at settled);
+  answers = λ s at. subst (λ (rs : List Reply). AnsweredAll requests s (channel_of new) c.sent c.moves.taken rs) (sym (sym same ∙ (c.have_is ∙ ap (λ (rs : List Reply). rs ++ c.added) none))) (c.answers s at);
   stops = c.stops;
 }
 
@@ -85,6 +85,6 @@ all-broken {A} view requests old new before after f had have c = record {
   sent = c.sent;
   moves = c.moves;
   same = c.same;
-  answers = λ s at settled. (c.answers s at settled).broken;
+  answers = λ s at. (c.answers s at).broken;
   stops = stops-as (Unit {0}) A most_reads most_reads c.moves.got new after f.fault c.stops;
 }

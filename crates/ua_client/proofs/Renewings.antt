@@ -1,7 +1,9 @@
 -- How the token of a channel is renewed.
 use Rattle.std.specs.Prelude.{◌≡◌, ◌⊎◌, ℕ, ◌<◌, ◌+◌, ◌≤◌, nat_le, Bool, true, false, is_some, List, [], ◌∷◌, ◌++◌, length, Option, Some, None, Result, Ok, Err, IfErr}
 use Rattle.std.proofs.Common.{refl, sym, ◌∙◌, ap, subst, inl, inr, append_assoc, arith}
+use Rattle.std.proofs.Math.Logic.{∥∥₁_elim}
 use Rattle.std.proofs.lemmas.List.{length-append}
+use mathlib.Core.HLevel.{⊥_prop}
 use Rattle.ua_builtin.specs.Reasons.{first_reason}
 use Rattle.ua_builtin.specs.declared.date_time.DateTime.{DateTime}
 use Rattle.ua_frame.specs.Frames.{frame_octets}
@@ -11,7 +13,7 @@ use Rattle.ua_chunk.specs.Sequence.{next_number}
 use Rattle.ua_chunk.specs.declared.lane.Lane.{Lane}
 use Rattle.ua_channel.specs.Asks.{Asking, Placed, asked_in, calls, next_id, pending_renewals, renewals}
 use Rattle.ua_channel.specs.Asks.Asking.{Renewal}
-use Rattle.ua_channel.specs.Client.{Goes, GoesTelling, InPhase, IsNotOpen, IsRenewal, SameClient, SendsRenewal, Stands, limits_of, next_of, phase_of, renew_refusal, renewal_refused}
+use Rattle.ua_channel.specs.Client.{Goes, GoesTelling, HasNoChannel, InPhase, IsNotOpen, IsRenewal, SameClient, SendsRenewal, Stands, limits_of, next_of, phase_of, renew_refusal, renewal_refused}
 use Rattle.ua_channel.specs.ClientAsks.{IsFor, most_tokens, no_id}
 use Rattle.ua_channel.specs.ClientSends.{renewal_frame}
 use Rattle.ua_channel.specs.ClientTokens.{held_tokens, opened_ids}
@@ -31,7 +33,7 @@ use Rattle.ua_channel.proofs.ClientReadings.{stands_once}
 use Rattle.ua_client.specs.Carried.{Carries, IsPart, WritesFront}
 use Rattle.ua_client.specs.Hearing.{channel_of, is_hearing_fault, untaken_of, most_reads, Keeps, Moves, StopsAt}
 use Rattle.ua_client.specs.Opening.{is_opened, any_done, GoesUntil, IsOpened, WaitsAt, Waits}
-use Rattle.ua_client.specs.Renewing.{is_renewed, IsSettled, IsRefusal, renewal_refusal, refused_by, of_renew_fault, renewal_by, renewal_at, asks_renewed, IsRenewed, RenewsAt, Renews}
+use Rattle.ua_client.specs.Renewing.{is_renewed, IsIdle, IsSettled, IsRefusal, StandsSettled, renewal_refusal, refused_by, of_renew_fault, renewal_by, renewal_at, asks_renewed, IsRenewed, RenewsAt, Renews}
 use Rattle.ua_client.specs.Site.{Site, At, id_at, lane_behind}
 use Rattle.ua_client.specs.declared.connection.Connection.{Connection}
 use Rattle.ua_client.specs.declared.fault.ClientFault.{ClientFault}
@@ -40,8 +42,8 @@ use Rattle.ua_client.proofs.Carrying.{carried-nothing, sends-part}
 use Rattle.ua_client.proofs.Hearings.{moves-from, moves-writing, GoesOnBehind}
 use Rattle.ua_client.proofs.Lanes.{lane-talks}
 use Rattle.ua_client.proofs.Openings.{Tests, any-left, sent-first}
-use Rattle.ua_client.proofs.Renewals.{newest-renewed, tokens-answer, tokens-told, tokens-append}
-use Rattle.ua_client.proofs.Settled.{AreTold, is-open, told-longer, told-renewed}
+use Rattle.ua_client.proofs.Renewals.{newest-renewed, tokens-told, tokens-append}
+use Rattle.ua_client.proofs.Settled.{AreTold, is-open, phase-there, told-longer, told-renewed}
 
 -- ---- events
 
@@ -104,23 +106,9 @@ judging-in limits (phase.Open t) before asked h some none =
     ∙ ap (λ (n : ℕ). asked-reasons (nat_le most_tokens (length (held_tokens before))) (nat_le no_id n)) h.next_is)
 judging-in limits phase.Done before asked h some none = absurd (some tt)
 
-no-length : (ids : List ℕ) → length ids ≤ 0 → ids ≡ []
-no-length [] h = refl
-no-length (id ∷ ids) h = absurd (omega (arith, h))
-
-module _ (x : ClientChannel) (s : Site) (at : At x s) (settled : IsSettled s) where
-  renewals-answered : pending_renewals (opened_ids (received at.goes.frames).openings) (asked_in s.asks) ≡ []
-  renewals-answered =
-      let few = tokens-answer (limits_of x) s.asks at.goes.frames at.goes.stands.run.good in
-      let all : length (renewals (asked_in s.asks)) ≤ tokens-told s.told = settled.renewed in
-      let told = ap tokens-told at.goes.told_is in
-      no-length (pending_renewals (opened_ids (received at.goes.frames).openings) (asked_in s.asks)) (omega (arith, few, all, told))
-
-  -- why the channel refuses, by where the client stands
-  pub channel-refuses : renewal_refused x ≡ asked-reasons (nat_le most_tokens (length (held_tokens s.before))) (nat_le no_id (id_at s))
-  channel-refuses =
-      judging-in (limits_of x) (phase_of x) (received at.goes.frames) (asked_in s.asks) at.goes.stands.phase_is (is-open x s at settled) renewals-answered
-      ∙ ap (λ (b : Received). asked-reasons (nat_le most_tokens (length (held_tokens b))) (nat_le no_id (id_at s))) at.before_is
+-- why the channel refuses, by where the client stands
+channel-refuses : (x : ClientChannel) (s : Site) → At x s → IsIdle x s → renewal_refused x ≡ asked-reasons (nat_le most_tokens (length (held_tokens s.before))) (nat_le no_id (id_at s))
+channel-refuses x s at idle = judging-in (limits_of x) (phase_of x) s.before (asked_in s.asks) (phase-there x s at) idle.opened idle.renewals_answered
 
 newest-in : (limits : Limits) (p : Phase) (before : Received) (asked : List Asking) → InPhase limits p before asked → (IsNotOpen p → ⊥) → (k : ℕ) × (latest (held_tokens before) ≡ Some k)
 newest-in limits phase.Waiting before asked h some = absurd (some tt)
@@ -129,9 +117,9 @@ newest-in limits (phase.Open t) before asked h some = (t.newest, h.newest_is)
 newest-in limits phase.Done before asked h some = absurd (some tt)
 
 -- a further token that was told last is the newest
-newest-at : (x : ClientChannel) (s : Site) (at : At x s) → IsSettled s → (told : List Told) (token : ℕ) → GoesTelling x s.asks s.octets told (Renewed token) → latest (held_tokens s.before) ≡ Some token
-newest-at x s at settled told token g =
-    let found = newest-in (limits_of x) (phase_of x) (received at.goes.frames) (asked_in s.asks) at.goes.stands.phase_is (is-open x s at settled) in
+newest-at : (x : ClientChannel) (s : Site) (at : At x s) → (HasNoChannel x → ⊥) → (told : List Told) (token : ℕ) → GoesTelling x s.asks s.octets told (Renewed token) → latest (held_tokens s.before) ≡ Some token
+newest-at x s at opened told token g =
+    let found = newest-in (limits_of x) (phase_of x) (received at.goes.frames) (asked_in s.asks) at.goes.stands.phase_is opened in
     let frames : at.goes.frames ≡ g.frames ++ g.frame ∷ [] = (stands_once x s.asks s.octets at.goes.frames (g.frames ++ g.frame ∷ []) at.goes.rest [] at.goes.stands g.stands).0 in
     let same : found.0 ≡ token = newest-renewed g.frames g.frame token found.0 g.tells (ap (λ (fs : List Frame). latest (held_tokens (received fs))) (sym frames) ∙ found.1) in
     ap (λ (b : Received). latest (held_tokens b)) (sym at.before_is) ∙ (found.1 ∙ ap (λ (k : ℕ). Some k) same)
@@ -168,10 +156,10 @@ module _ (A : Type 0) (s : Site) (moment : DateTime) (new : ClientChannel) where
   refuses-by false true f (inr e) = absurd cc
   refuses-by false false f (inr e) = subst (λ (g : AskFault). Refuses None g) (sym e.0) (refl, inl (refl, refl))
 
-  refuses-at : (x : ClientChannel) → At x s → IsSettled s → (f : AskFault) → IsFor (renewal_refused x) f → Refuses (renewal_refusal s) f
-  refuses-at x at settled f h =
+  refuses-at : (x : ClientChannel) → At x s → IsIdle x s → (f : AskFault) → IsFor (renewal_refused x) f → Refuses (renewal_refusal s) f
+  refuses-at x at idle f h =
       refuses-by (nat_le most_tokens (length (held_tokens s.before))) (nat_le no_id (id_at s)) f
-      (either-for f (asked-reasons (nat_le most_tokens (length (held_tokens s.before))) (nat_le no_id (id_at s))) (subst (λ (r : Option AskFault). IsFor r f) (channel-refuses x s at settled) h))
+      (either-for f (asked-reasons (nat_le most_tokens (length (held_tokens s.before))) (nat_le no_id (id_at s))) (subst (λ (r : Option AskFault). IsFor r f) (channel-refuses x s at idle) h))
 
 -- a refusal does not stop what is read
 refusal-stops : (A : Type 0) (f : AskFault) (x : Connection) (t : Option Traffic) → StopsAt {A = A} most_reads most_reads [] x t (Err (of_renew_fault f))
@@ -184,13 +172,14 @@ refusal-stops A ask_fault.RequestTooLarge x t = tt
 refusal-stops A ask_fault.OutOfMemory x t = tt
 
 -- it was not asked
-pub renews-refused : {A : Type 0} (moment : DateTime) (x y : Connection) (t : Option Traffic) (f : AskFault) → y ≡ x → IsFor (renewal_refused (channel_of x)) f → Renews {A = A} moment x y t t (Err (of_renew_fault f))
-renews-refused {A} moment x y t f same h = record {
+pub renews-refused : {A : Type 0} (moment : DateTime) (x y : Connection) (t : Option Traffic) (f : AskFault) → y ≡ x → IsFor (renewal_refused (channel_of x)) f
+    → ((s : Site) → At (channel_of x) s → IsIdle (channel_of x) s) → Renews {A = A} moment x y t t (Err (of_renew_fault f))
+renews-refused {A} moment x y t f same h idle = record {
   sent = [];
   moves = moves-writing x y [] t t (ap untaken_of same) (carried-nothing t);
   same = record { limits = ap (λ (z : Connection). limits_of (channel_of z)) (sym same); url = ap (λ (z : Connection). (channel_of z).address.url) (sym same) };
-  judged = λ s at settled. (refuses-at A s moment (channel_of y) (channel_of x) at settled f h).0;
-  answers = λ s at settled. (refuses-at A s moment (channel_of y) (channel_of x) at settled f h).1;
+  judged = λ s at. (refuses-at A s moment (channel_of y) (channel_of x) at (idle s at) f h).0;
+  answers = λ s at. (refuses-at A s moment (channel_of y) (channel_of x) at (idle s at) f h).1;
   stops = refusal-stops A f y t;
 }
 
@@ -241,9 +230,9 @@ module _ (moment : DateTime) (x y : ClientChannel) (id : ℕ) (out : List ℕ) (
     told_is = at.goes.told_is;
   }
 
-  pub none-refused : IsSettled s → renewal_refusal s ≡ None
-  none-refused settled =
-      nothing-refused (nat_le most_tokens (length (held_tokens s.before))) (nat_le no_id (id_at s)) (sym (channel-refuses x s at settled) ∙ asked.refused)
+  pub none-refused : IsIdle x s → renewal_refusal s ≡ None
+  none-refused idle =
+      nothing-refused (nat_le most_tokens (length (held_tokens s.before))) (nat_le no_id (id_at s)) (sym (channel-refuses x s at idle) ∙ asked.refused)
 
 -- ---- one more renewal, and one more token
 
@@ -264,7 +253,8 @@ settled-more s heard token before octets number h =
 
 -- ---- what comes of it
 
-module _ (moment : DateTime) (x mid new : Connection) (id : ℕ) (out : List ℕ) (asked : Asks moment (channel_of x) (channel_of mid) id out) (untaken : untaken_of mid ≡ untaken_of x) (a b c : Option Traffic) where
+module _ (moment : DateTime) (x mid new : Connection) (id : ℕ) (out : List ℕ) (asked : Asks moment (channel_of x) (channel_of mid) id out) (untaken : untaken_of mid ≡ untaken_of x) (a b c : Option Traffic)
+    (stands : StandsSettled (channel_of x)) (idle : (s : Site) → At (channel_of x) s → IsIdle (channel_of x) s) where
   -- the OPN was not written whole
   pub renews-unwritten : {A : Type 0} → new ≡ mid → 0 < length out → WhereTold (WritesFront out) a c → Renews {A = A} moment x new a c (Err fault.Write)
   renews-unwritten same some h =
@@ -273,8 +263,8 @@ module _ (moment : DateTime) (x mid new : Connection) (id : ℕ) (out : List ℕ
         sent = front.0;
         moves = moves-writing x new front.0 a c (ap untaken_of same ∙ untaken) front.2;
         same = subst (λ (z : Connection). SameClient (channel_of x) (channel_of z)) (sym same) asked.same;
-        judged = λ s at settled. sym (none-refused moment (channel_of x) (channel_of mid) id out asked s at settled);
-        answers = λ s at settled. (subst (IsPart front.0) (out-is moment (channel_of x) (channel_of mid) id out asked s at) front.1, refl);
+        judged = λ s at. sym (none-refused moment (channel_of x) (channel_of mid) id out asked s at (idle s at));
+        answers = λ s at. (subst (IsPart front.0) (out-is moment (channel_of x) (channel_of mid) id out asked s at) front.1, refl);
         stops = tt;
       }
 
@@ -285,53 +275,70 @@ module _ (moment : DateTime) (x mid new : Connection) (id : ℕ) (out : List ℕ
     same-behind : Keeps mid new → SameClient (channel_of x) (channel_of new)
     same-behind k = record { limits = asked.same.limits ∙ k.same.limits; url = asked.same.url ∙ k.same.url }
 
-    renewed-at : (taken : List ℕ) → Keeps mid new → (s : Site) → At (channel_of x) s → IsSettled s → GoesUntil is_renewed (channel_of new) (asks_renewed s) (s.octets ++ taken) s.told → (t : Site) × IsRenewed (channel_of new) s t taken
-    renewed-at taken k s at settled u =
-        let token = the-token u.last u.is_wanted in
-        let tells : GoesTelling (channel_of new) (asks_renewed s) (s.octets ++ taken) (s.told ++ u.heard) (Renewed token.0) =
-        subst (λ (e : Told). GoesTelling (channel_of new) (asks_renewed s) (s.octets ++ taken) (s.told ++ u.heard) e) token.1 u.tells in
-        let goes : Goes (channel_of new) (asks_renewed s) (s.octets ++ taken) (s.told ++ (u.heard ++ Renewed token.0 ∷ [])) =
-        subst (λ (all : List Told). Goes (channel_of new) (asks_renewed s) (s.octets ++ taken) all) (append_assoc s.told u.heard (Renewed token.0 ∷ []))
-        (goes_on (channel_of new) (asks_renewed s) (s.octets ++ taken) (s.told ++ u.heard) (Renewed token.0) tells) in
-        let t : Site = record { asks = asks_renewed s; octets = s.octets ++ taken; before = received goes.frames; told = s.told ++ (u.heard ++ Renewed token.0 ∷ []); number = next_number s.number } in
-        let at-last : At (channel_of new) t = record { goes = goes; before_is = refl; number_is = k.next ∙ next-is moment (channel_of x) (channel_of mid) id out asked s at } in
-        let still : IsSettled t = settled-more s u.heard token.0 (received goes.frames) (s.octets ++ taken) (next_number s.number) settled in (
-          t,
-          record {
-            at = at-last;
-            asks = refl;
-            octets = refl;
-            number = refl;
-            heard = u.heard;
-            token = token.0;
-            none_before = u.none;
-            tells = tells;
-            told = refl;
-            newest = newest-at (channel_of new) t at-last still (s.told ++ u.heard) token.0 tells;
-            settled = still;
-          },
-        )
+    -- where a further token came
+    module _ (taken : List ℕ) (k : Keeps mid new) (s : Site) (at : At (channel_of x) s) (u : GoesUntil is_renewed (channel_of new) (asks_renewed s) (s.octets ++ taken) s.told) where
+      token-told : (token : ℕ) × (u.last ≡ Renewed token)
+      token-told = the-token u.last u.is_wanted
+
+      tells-token : GoesTelling (channel_of new) (asks_renewed s) (s.octets ++ taken) (s.told ++ u.heard) (Renewed token-told.0)
+      tells-token = subst (λ (e : Told). GoesTelling (channel_of new) (asks_renewed s) (s.octets ++ taken) (s.told ++ u.heard) e) token-told.1 u.tells
+
+      goes-behind : Goes (channel_of new) (asks_renewed s) (s.octets ++ taken) (s.told ++ (u.heard ++ Renewed token-told.0 ∷ []))
+      goes-behind =
+          subst (λ (all : List Told). Goes (channel_of new) (asks_renewed s) (s.octets ++ taken) all) (append_assoc s.told u.heard (Renewed token-told.0 ∷ []))
+          (goes_on (channel_of new) (asks_renewed s) (s.octets ++ taken) (s.told ++ u.heard) (Renewed token-told.0) tells-token)
+
+      abbrev behind : Site
+      behind = record { asks = asks_renewed s; octets = s.octets ++ taken; before = received goes-behind.frames; told = s.told ++ (u.heard ++ Renewed token-told.0 ∷ []); number = next_number s.number }
+
+      at-behind : At (channel_of new) behind
+      at-behind = record { goes = goes-behind; before_is = refl; number_is = k.next ∙ next-is moment (channel_of x) (channel_of mid) id out asked s at }
+
+      settled-behind : IsSettled s → IsSettled behind
+      settled-behind settled = settled-more s u.heard token-told.0 (received goes-behind.frames) (s.octets ++ taken) (next_number s.number) settled
+
+      renewed-behind : (HasNoChannel (channel_of new) → ⊥) → IsRenewed (channel_of new) s behind taken
+      renewed-behind opened = record {
+        at = at-behind;
+        asks = refl;
+        octets = refl;
+        number = refl;
+        heard = u.heard;
+        token = token-told.0;
+        none_before = u.none;
+        tells = tells-token;
+        told = refl;
+        newest = newest-at (channel_of new) behind at-behind opened (s.told ++ u.heard) token-told.0 tells-token;
+        settled = settled-behind;
+      }
 
     pub renews-last : (r : Result (Unit {0}) ClientFault) → Waits is_renewed any_done mid new b c most_reads left r → Renews moment x new a c r
     renews-last (Ok done) h = record {
       sent = out;
       moves = sent-from h.moves;
       same = same-behind h.keeps;
-      judged = λ s at settled. sym (none-refused moment (channel_of x) (channel_of mid) id out asked s at settled);
-      answers = λ s at settled. (
+      judged = λ s at. sym (none-refused moment (channel_of x) (channel_of mid) id out asked s at (idle s at));
+      answers = λ s at. (
         out-is moment (channel_of x) (channel_of mid) id out asked s at,
-        renewed-at h.moves.taken h.keeps s at settled (h.answers (asks_renewed s) s.octets s.told (goes-asked moment (channel_of x) (channel_of mid) id out asked s at)).0,
+        (behind h.moves.taken h.keeps s at (until s at), renewed-behind h.moves.taken h.keeps s at (until s at) opened),
       );
       stops = omega arith;
     }
+      where
+        until : (s : Site) → At (channel_of x) s → GoesUntil is_renewed (channel_of new) (asks_renewed s) (s.octets ++ h.moves.taken) s.told
+        until s at = (h.answers (asks_renewed s) s.octets s.told (goes-asked moment (channel_of x) (channel_of mid) id out asked s at)).0
+
+        opened : HasNoChannel (channel_of new) → ⊥
+        opened n = ∥∥₁_elim stands ⊥_prop (λ (w : (s : Site) × At (channel_of x) s × IsSettled s).
+            is-open (channel_of new) (behind h.moves.taken h.keeps w.0 w.1 (until w.0 w.1)) (at-behind h.moves.taken h.keeps w.0 w.1 (until w.0 w.1)) (settled-behind h.moves.taken h.keeps w.0 w.1 (until w.0 w.1) w.2) n)
     renews-last (Err f) h = record {
       sent = out;
       moves = sent-from h.moves;
       same = same-behind h.keeps;
-      judged = λ s at settled.
+      judged = λ s at.
           unrefused f s h.moves.taken (h.answers (asks_renewed s) s.octets s.told (goes-asked moment (channel_of x) (channel_of mid) id out asked s at))
-          ∙ sym (none-refused moment (channel_of x) (channel_of mid) id out asked s at settled);
-      answers = λ s at settled.
+          ∙ sym (none-refused moment (channel_of x) (channel_of mid) id out asked s at (idle s at));
+      answers = λ s at.
           by f s h.moves.taken (out-is moment (channel_of x) (channel_of mid) id out asked s at)
           (h.answers (asks_renewed s) s.octets s.told (goes-asked moment (channel_of x) (channel_of mid) id out asked s at));
       stops = stops f h.stops;

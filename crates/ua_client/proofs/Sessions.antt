@@ -1,6 +1,7 @@
 -- How a session begins: one service, and another behind it.
 use Rattle.std.specs.Prelude.{◌≡◌, ℕ, Bool, true, false, nat_le, not, IsFalse, Some, ◌+◌, ◌≤◌, List, [], ◌∷◌, ◌++◌, length, Option, None, Result, Ok, Err, IfOk, IfErr}
 use Rattle.std.proofs.Common.{refl, sym, ◌∙◌, ap, subst, arith, inl, inr}
+use Rattle.std.proofs.Math.Logic.{∥∥₁_map}
 use Rattle.std.proofs.lemmas.List.{length-append}
 use Rattle.ua_builtin.specs.Reasons.{first_reason}
 use Rattle.ua_builtin.specs.declared.date_time.DateTime.{DateTime}
@@ -24,8 +25,8 @@ use Rattle.ua_channel.specs.declared.client.channel.ClientChannel.{ClientChannel
 use Rattle.ua_client.specs.Calls.{Answered, BreaksAt}
 use Rattle.ua_client.specs.Kept.{CallsGroup, GroupAt}
 use Rattle.ua_client.specs.Hearing.{channel_of, most_reads, StopsAt}
-use Rattle.ua_client.specs.Session.{ActivatesBehind, BeginsSessionAs, CallsOneAt, Does, IsFailure, IsReplied, LacksToken, MakesRequest, Replies, ServesAt, activating_at, brings_any, brings_token, creating_at, is_reply, reply_failure, token_in}
-use Rattle.ua_client.specs.Renewing.{IsSettled}
+use Rattle.ua_client.specs.Session.{ActivatesBehind, BeginsSessionAs, CallsOneAt, DoesIdle, IsFailure, IsReplied, LacksToken, MakesRequest, Replies, ServesAt, activating_at, brings_any, brings_token, creating_at, is_reply, reply_failure, token_in}
+use Rattle.ua_client.specs.Renewing.{IsIdle, IsSettled, StandsSettled}
 use Rattle.ua_client.specs.Site.{Site, At, id_at}
 use Rattle.ua_client.specs.declared.connection.Connection.{Connection}
 use Rattle.ua_client.specs.declared.fault.CallsFault.{CallsFault}
@@ -35,6 +36,7 @@ use Rattle.ua_client.specs.declared.reply.Reply.{Reply}
 use Rattle.ua_client.specs.declared.reply.Reply.TheVariants.{Response as Responds, Aborted}
 use Rattle.ua_client.proofs.GroupCalls.{moves-nothing}
 use Rattle.ua_client.proofs.Hearings.{moves-behind}
+use Rattle.ua_client.proofs.Idle.{IdleStanding}
 use Rattle.ua_client.proofs.Settled.{answered-settled}
 
 -- ---- reads, one call behind another
@@ -65,22 +67,22 @@ stops-as A B reads left more got new after f h = stops-then A B reads reads left
 
 pub one-replied : (request : Request) (requests : List Request) (old new : Connection) (before after : Option Traffic) (reads left : ℕ) (had have : List Reply) (reply : Reply)
     → requests ≡ request ∷ [] → had ≡ [] → have ≡ reply ∷ [] → CallsGroup {A = Unit {0}} requests old new before after reads left (Ok tt) had have
-    → Does {A = Reply} (λ s sent taken. CallsOneAt request s new sent taken (Ok reply)) old new before after reads left (Ok reply)
+    → DoesIdle {A = Reply} (λ s sent taken. CallsOneAt request s new sent taken (Ok reply)) old new before after reads left (Ok reply)
 one-replied request requests old new before after reads left had have reply e none one g = record {
   sent = g.sent;
   moves = g.moves;
   same = g.same;
-  answers = λ s at settled. replied s settled (subst (λ (ms : List Request). GroupAt {A = Unit {0}} ms s new g.sent g.moves.taken (Ok tt) g.added) e (g.answers s at settled));
+  answers = λ s at idle. replied s (subst (λ (ms : List Request). GroupAt {A = Unit {0}} ms s new g.sent g.moves.taken (Ok tt) g.added) e (g.answers s at idle));
   stops = g.stops;
 }
   where
-    replied : (s : Site) → IsSettled s → GroupAt {A = Unit {0}} (request ∷ []) s new g.sent g.moves.taken (Ok tt) g.added → Replies request s (channel_of new) g.sent g.moves.taken (is_reply reply)
-    replied s settled a =
+    replied : (s : Site) → GroupAt {A = Unit {0}} (request ∷ []) s new g.sent g.moves.taken (Ok tt) g.added → Replies request s (channel_of new) g.sent g.moves.taken (is_reply reply)
+    replied s a =
         let alone : g.added ≡ reply ∷ [] = sym (sym one ∙ (g.have_is ∙ ap (λ (rs : List Reply). rs ++ g.added) none)) in
         record {
           behind = a.1.0;
           at = a.1.1;
-          settled = answered-settled (request ∷ []) s a.1.0 g.moves.taken g.added settled a.1.3;
+          settled = λ settled. answered-settled (request ∷ []) s a.1.0 g.moves.taken g.added settled a.1.3;
           reply = reply;
           replied = record { sent_is = a.0; came = a.1.2; answered = subst (λ (rs : List Reply). Answered (request ∷ []) s a.1.0 g.moves.taken rs) alone a.1.3 };
           says = refl;
@@ -88,12 +90,12 @@ one-replied request requests old new before after reads left had have reply e no
 
 pub one-broken : (request : Request) (requests : List Request) (old new : Connection) (before after : Option Traffic) (reads left : ℕ) (had have : List Reply) (c : CallsFault)
     → requests ≡ request ∷ [] → CallsGroup {A = Unit {0}} requests old new before after reads left (Err c) had have
-    → Does {A = Reply} (λ s sent taken. CallsOneAt request s new sent taken (Err c.fault)) old new before after reads left (Err c.fault)
+    → DoesIdle {A = Reply} (λ s sent taken. CallsOneAt request s new sent taken (Err c.fault)) old new before after reads left (Err c.fault)
 one-broken request requests old new before after reads left had have c e g = record {
   sent = g.sent;
   moves = g.moves;
   same = g.same;
-  answers = λ s at settled. subst (λ (ms : List Request). BreaksAt ms s new g.sent g.moves.taken c.fault) e (g.answers s at settled).0;
+  answers = λ s at idle. subst (λ (ms : List Request). BreaksAt ms s new g.sent g.moves.taken c.fault) e (g.answers s at idle).0;
   stops = stops-as (Unit {0}) Reply reads left left g.moves.got new after c.fault g.stops;
 }
 
@@ -136,36 +138,36 @@ faulted request brings other s new sent taken fault.TooLong h = h
 faulted request brings other s new sent taken fault.TooManyTokens h = h
 
 module _ (request : Request) (old new : Connection) (before after : Option Traffic) (reads left : ℕ) where
-  pub serves-broken : (f : ClientFault) → Does {A = Reply} (λ s sent taken. CallsOneAt request s new sent taken (Err f)) old new before after reads left (Err f)
-      → Does {A = Reply} (λ s sent taken. ServesAt request is_reply s new sent taken (Err f)) old new before after reads left (Err f)
+  pub serves-broken : (f : ClientFault) → DoesIdle {A = Reply} (λ s sent taken. CallsOneAt request s new sent taken (Err f)) old new before after reads left (Err f)
+      → DoesIdle {A = Reply} (λ s sent taken. ServesAt request is_reply s new sent taken (Err f)) old new before after reads left (Err f)
   serves-broken f d = record {
     sent = d.sent;
     moves = d.moves;
     same = d.same;
-    answers = λ s at settled. broken request is_reply s new d.sent d.moves.taken f (d.answers s at settled);
+    answers = λ s at idle. broken request is_reply s new d.sent d.moves.taken f (d.answers s at idle);
     stops = d.stops;
   }
 
   -- the reply is judged
-  pub serves-judged : (reply : Reply) (result : Result Reply ClientFault) → Does {A = Reply} (λ s sent taken. CallsOneAt request s new sent taken (Ok reply)) old new before after reads left (Ok reply)
+  pub serves-judged : (reply : Reply) (result : Result Reply ClientFault) → DoesIdle {A = Reply} (λ s sent taken. CallsOneAt request s new sent taken (Ok reply)) old new before after reads left (Ok reply)
       → IfOk result (λ r. (r ≡ reply) × (reply_failure reply ≡ None)) → IfErr result (λ f. IsFailure reply f)
-      → Does {A = Reply} (λ s sent taken. ServesAt request is_reply s new sent taken result) old new before after reads left result
+      → DoesIdle {A = Reply} (λ s sent taken. ServesAt request is_reply s new sent taken result) old new before after reads left result
   serves-judged reply (Ok r) d good bad = record {
     sent = d.sent;
     moves = d.moves;
     same = d.same;
-    answers = λ s at settled.
-        let a = d.answers s at settled in
+    answers = λ s at idle.
+        let a = d.answers s at idle in
         record { behind = a.behind; at = a.at; settled = a.settled; reply = a.reply; replied = a.replied; says = (sym (ap reply_failure a.says) ∙ good.1, good.0 ∙ a.says) };
     stops = d.stops;
   }
   serves-judged reply (Err f) d good bad =
-      subst (λ (x : ClientFault). Does {A = Reply} (λ s sent taken. ServesAt request is_reply s new sent taken (Err x)) old new before after reads left (Err x)) (sym bad.1) (record {
+      subst (λ (x : ClientFault). DoesIdle {A = Reply} (λ s sent taken. ServesAt request is_reply s new sent taken (Err x)) old new before after reads left (Err x)) (sym bad.1) (record {
         sent = d.sent;
         moves = d.moves;
         same = d.same;
-        answers = λ s at settled.
-            let a = d.answers s at settled in
+        answers = λ s at idle.
+            let a = d.answers s at idle in
             record { behind = a.behind; at = a.at; settled = a.settled; reply = a.reply; replied = a.replied; says = sym (ap reply_failure a.says) ∙ bad.2 };
         stops = tt;
       })
@@ -174,27 +176,27 @@ module _ (request : Request) (old new : Connection) (before after : Option Traff
   module _ (made : Site → Request) (is : (s : Site) → At (channel_of old) s → request ≡ made s) where
     -- the fault of its service
     pub made-broken : {A : Type 0} (brings : A → Reply → Type 0) (f : ClientFault)
-        → Does {A = Reply} (λ s sent taken. ServesAt request is_reply s new sent taken (Err f)) old new before after reads left (Err f)
-        → Does {A = A} (λ s sent taken. ServesAt (made s) brings s new sent taken (Err f)) old new before after reads left (Err f)
+        → DoesIdle {A = Reply} (λ s sent taken. ServesAt request is_reply s new sent taken (Err f)) old new before after reads left (Err f)
+        → DoesIdle {A = A} (λ s sent taken. ServesAt (made s) brings s new sent taken (Err f)) old new before after reads left (Err f)
     made-broken {A} brings f d = record {
       sent = d.sent;
       moves = d.moves;
       same = d.same;
-      answers = λ s at settled.
-          subst (λ (r : Request). ServesAt {A = A} r brings s new d.sent d.moves.taken (Err f)) (is s at) (faulted request is_reply brings s new d.sent d.moves.taken f (d.answers s at settled));
+      answers = λ s at idle.
+          subst (λ (r : Request). ServesAt {A = A} r brings s new d.sent d.moves.taken (Err f)) (is s at) (faulted request is_reply brings s new d.sent d.moves.taken f (d.answers s at idle));
       stops = stops-as Reply A reads left left d.moves.got new after f d.stops;
     }
 
     -- the reply by which its service did not fail, and what that brings
     pub made-served : {A : Type 0} (brings : A → Reply → Type 0) (reply : Reply) (found : A) → brings found reply
-        → Does {A = Reply} (λ s sent taken. ServesAt request is_reply s new sent taken (Ok reply)) old new before after reads left (Ok reply)
-        → Does {A = A} (λ s sent taken. ServesAt (made s) brings s new sent taken (Ok found)) old new before after reads left (Ok found)
+        → DoesIdle {A = Reply} (λ s sent taken. ServesAt request is_reply s new sent taken (Ok reply)) old new before after reads left (Ok reply)
+        → DoesIdle {A = A} (λ s sent taken. ServesAt (made s) brings s new sent taken (Ok found)) old new before after reads left (Ok found)
     made-served {A} brings reply found b d = record {
       sent = d.sent;
       moves = d.moves;
       same = d.same;
-      answers = λ s at settled.
-          let a = d.answers s at settled in
+      answers = λ s at idle.
+          let a = d.answers s at idle in
           subst (λ (r : Request). Replies r s (channel_of new) d.sent d.moves.taken (λ x. (reply_failure x ≡ None) × brings found x)) (is s at)
           (record { behind = a.behind; at = a.at; settled = a.settled; reply = a.reply; replied = a.replied; says = (a.says.0, subst (λ (x : Reply). brings found x) a.says.1 b) });
       stops = d.stops;
@@ -202,24 +204,24 @@ module _ (request : Request) (old new : Connection) (before after : Option Traff
 
 -- no memory to ask
 pub made-unasked : {A : Type 0} (made : Site → Request) (brings : A → Reply → Type 0) (x : Connection) (t : Option Traffic) (reads : ℕ)
-    → Does {A = A} (λ s sent taken. ServesAt (made s) brings s x sent taken (Err fault.OutOfMemory)) x x t t reads reads (Err fault.OutOfMemory)
+    → DoesIdle {A = A} (λ s sent taken. ServesAt (made s) brings s x sent taken (Err fault.OutOfMemory)) x x t t reads reads (Err fault.OutOfMemory)
 made-unasked made brings x t reads = record {
   sent = [];
   moves = moves-nothing x x t refl;
   same = record { limits = refl; url = refl };
-  answers = λ s at settled. inl (refl, refl);
+  answers = λ s at idle. inl (refl, refl);
   stops = tt;
 }
 
 -- a request that cannot be encoded
 made-unwritable : {A : Type 0} (made : Site → Request) (brings : A → Reply → Type 0) (x : Connection) (t : Option Traffic) (reads : ℕ)
     → ((s : Site) → At (channel_of x) s → IsFalse (message.encodable (made s)))
-    → Does {A = A} (λ s sent taken. ServesAt (made s) brings s x sent taken (Err fault.NotWritable)) x x t t reads reads (Err fault.NotWritable)
+    → DoesIdle {A = A} (λ s sent taken. ServesAt (made s) brings s x sent taken (Err fault.NotWritable)) x x t t reads reads (Err fault.NotWritable)
 made-unwritable made brings x t reads unfit = record {
   sent = [];
   moves = moves-nothing x x t refl;
   same = record { limits = refl; url = refl };
-  answers = λ s at settled. (refl, refl, at, first-reason (message.encodable (made s)) fault.NotWritable (reasons-behind (made s) s) (unfit s at));
+  answers = λ s at idle. (refl, refl, at, first-reason (message.encodable (made s)) fault.NotWritable (reasons-behind (made s) s) (unfit s at));
   stops = tt;
 }
   where
@@ -233,7 +235,7 @@ made-unwritable made brings x t reads unfit = record {
 
 -- a request that was not made
 pub made-not : {A : Type 0} (made : Site → Request) (brings : A → Reply → Type 0) (x : Connection) (t : Option Traffic) (reads : ℕ) (f : ClientFault) → MakesRequest made (channel_of x) (Err f)
-    → Does {A = A} (λ s sent taken. ServesAt (made s) brings s x sent taken (Err f)) x x t t reads reads (Err f)
+    → DoesIdle {A = A} (λ s sent taken. ServesAt (made s) brings s x sent taken (Err f)) x x t t reads reads (Err f)
 made-not made brings x t reads fault.NotWritable h = made-unwritable made brings x t reads h
 made-not made brings x t reads fault.OutOfMemory h = made-unasked made brings x t reads
 made-not made brings x t reads fault.Read h = absurd h
@@ -275,18 +277,18 @@ brings-some x url moment s t sent taken (Responds m) h good none = has-token m h
 
 module _ (url : Option (List ℕ)) (moment : DateTime) (request : Request) (old new : Connection) (before after : Option Traffic) (reads left : ℕ)
     (is : (s : Site) → At (channel_of old) s → request ≡ creating_at url moment s) (reply : Reply)
-    (d : Does {A = Reply} (λ s sent taken. ServesAt request is_reply s new sent taken (Ok reply)) old new before after reads left (Ok reply)) where
+    (d : DoesIdle {A = Reply} (λ s sent taken. ServesAt request is_reply s new sent taken (Ok reply)) old new before after reads left (Ok reply)) where
   -- what becomes of it by the reply
   pub created : (result : Result NodeId ClientFault) → IfOk result (λ token. brings_token token reply) → IfErr result (λ f. LacksToken reply f)
-      → Does {A = NodeId} (λ s sent taken. ServesAt (creating_at url moment s) brings_token s new sent taken result) old new before after reads left result
+      → DoesIdle {A = NodeId} (λ s sent taken. ServesAt (creating_at url moment s) brings_token s new sent taken result) old new before after reads left result
   created (Ok token) found lacks = made-served request old new before after reads left (creating_at url moment) is brings_token reply token found d
   created (Err f) found (e, none) =
-      subst (λ (x : ClientFault). Does {A = NodeId} (λ s sent taken. ServesAt (creating_at url moment s) brings_token s new sent taken (Err x)) old new before after reads left (Err x)) (sym e) (record {
+      subst (λ (x : ClientFault). DoesIdle {A = NodeId} (λ s sent taken. ServesAt (creating_at url moment s) brings_token s new sent taken (Err x)) old new before after reads left (Err x)) (sym e) (record {
         sent = d.sent;
         moves = d.moves;
         same = d.same;
-        answers = λ s at settled.
-            let a = d.answers s at settled in
+        answers = λ s at idle.
+            let a = d.answers s at idle in
             absurd (brings-some (channel_of new) url moment s a.behind d.sent d.moves.taken a.reply
             (subst (λ (r : Request). IsReplied (channel_of new) r s a.behind d.sent d.moves.taken a.reply) (is s at) a.replied) a.says.0 (sym (ap token_in a.says.1) ∙ none));
         stops = tt;
@@ -296,28 +298,41 @@ module _ (url : Option (List ℕ)) (moment : DateTime) (request : Request) (old 
 
 -- CreateSession failed
 pub begins-first : (policy_id : Option (List ℕ)) (moment : DateTime) (old new : Connection) (before after : Option Traffic) (left : ℕ) (f : ClientFault)
-    → Does {A = NodeId} (λ s sent taken. ServesAt (creating_at (url_of (channel_of old)) moment s) brings_token s new sent taken (Err f)) old new before after most_reads left (Err f)
-    → BeginsSessionAs policy_id moment old new before after (Err f)
-begins-first policy_id moment old new before after left f d = record {
+    → DoesIdle {A = NodeId} (λ s sent taken. ServesAt (creating_at (url_of (channel_of old)) moment s) brings_token s new sent taken (Err f)) old new before after most_reads left (Err f)
+    → ((s : Site) → At (channel_of old) s → IsIdle (channel_of old) s) → BeginsSessionAs policy_id moment old new before after (Err f)
+begins-first policy_id moment old new before after left f d idle = record {
   sent = d.sent;
   moves = d.moves;
   same = d.same;
-  answers = λ s at settled. inl (d.answers s at settled);
+  answers = λ s at. inl (d.answers s at (idle s at));
   stops = stops-as NodeId NodeId most_reads left most_reads d.moves.got new after f d.stops;
 }
 
 -- no memory before anything is asked
 pub begins-unasked : (policy_id : Option (List ℕ)) (moment : DateTime) (x : Connection) (t : Option Traffic) → BeginsSessionAs policy_id moment x x t t (Err fault.OutOfMemory)
-begins-unasked policy_id moment x t = begins-first policy_id moment x x t t most_reads fault.OutOfMemory (made-unasked (creating_at (url_of (channel_of x)) moment) brings_token x t most_reads)
+begins-unasked policy_id moment x t = record {
+  sent = [];
+  moves = moves-nothing x x t refl;
+  same = record { limits = refl; url = refl };
+  answers = λ s at. inl (inl (refl, refl));
+  stops = tt;
+}
 
 module _ (policy_id : Option (List ℕ)) (moment : DateTime) (old mid new : Connection) (before between after : Option Traffic) (left less : ℕ) (token : NodeId)
-    (d : Does {A = NodeId} (λ s sent taken. ServesAt (creating_at (url_of (channel_of old)) moment s) brings_token s mid sent taken (Ok token)) old mid before between most_reads left (Ok token)) where
+    (d : DoesIdle {A = NodeId} (λ s sent taken. ServesAt (creating_at (url_of (channel_of old)) moment s) brings_token s mid sent taken (Ok token)) old mid before between most_reads left (Ok token))
+    (stands : StandsSettled (channel_of old)) (idle : IdleStanding) where
+  -- behind CreateSession it may be called again
+  stands-between : StandsSettled (channel_of mid)
+  stands-between = ∥∥₁_map stands (λ (w : (s : Site) × At (channel_of old) s × IsSettled s).
+      let a = d.answers w.0 w.1 (idle (channel_of old) w.0 stands w.1) in
+      (a.behind, a.at, a.settled w.2))
+
   -- what becomes of ActivateSession
   second : (result : Result (Unit {0}) ClientFault) (P : NodeId → Type 0) → P token
-      → (e : Does {A = Unit {0}} (λ s sent taken. ServesAt (activating_at policy_id token moment s) brings_any s new sent taken result) mid new between after left less result)
-      → (s : Site) → At (channel_of old) s → IsSettled s → ActivatesBehind (url_of (channel_of old)) policy_id moment s new (d.sent ++ e.sent) (d.moves.taken ++ e.moves.taken) P result
-  second result P p e s at settled =
-      let a = d.answers s at settled in
+      → (e : DoesIdle {A = Unit {0}} (λ s sent taken. ServesAt (activating_at policy_id token moment s) brings_any s new sent taken result) mid new between after left less result)
+      → (s : Site) → At (channel_of old) s → ActivatesBehind (url_of (channel_of old)) policy_id moment s new (d.sent ++ e.sent) (d.moves.taken ++ e.moves.taken) P result
+  second result P p e s at =
+      let a = d.answers s at (idle (channel_of old) s stands at) in
       record {
         token = token;
         between = a.behind;
@@ -335,30 +350,30 @@ module _ (policy_id : Option (List ℕ)) (moment : DateTime) (old mid new : Conn
         created = a.replied;
         good = a.says.0;
         brought = a.says.1;
-        further = (p, e.answers a.behind a.at a.settled);
+        further = (p, e.answers a.behind a.at (idle (channel_of mid) a.behind stands-between a.at));
       }
 
   same-then : SameClient (channel_of mid) (channel_of new) → SameClient (channel_of old) (channel_of new)
   same-then k = record { limits = d.same.limits ∙ k.limits; url = d.same.url ∙ k.url }
 
   -- both are done
-  pub begins-both : Does {A = Unit {0}} (λ s sent taken. ServesAt (activating_at policy_id token moment s) brings_any s new sent taken (Ok tt)) mid new between after left less (Ok tt)
+  pub begins-both : DoesIdle {A = Unit {0}} (λ s sent taken. ServesAt (activating_at policy_id token moment s) brings_any s new sent taken (Ok tt)) mid new between after left less (Ok tt)
       → BeginsSessionAs policy_id moment old new before after (Ok token)
   begins-both e = record {
     sent = d.sent ++ e.sent;
     moves = moves-behind old mid new d.sent e.sent before between after d.moves e.moves;
     same = same-then e.same;
-    answers = λ s at settled. second (Ok tt) (λ given. given ≡ token) refl e s at settled;
+    answers = λ s at. second (Ok tt) (λ given. given ≡ token) refl e s at;
     stops = omega arith;
   }
 
   -- ActivateSession failed
-  pub begins-second : (f : ClientFault) → Does {A = Unit {0}} (λ s sent taken. ServesAt (activating_at policy_id token moment s) brings_any s new sent taken (Err f)) mid new between after left less (Err f)
+  pub begins-second : (f : ClientFault) → DoesIdle {A = Unit {0}} (λ s sent taken. ServesAt (activating_at policy_id token moment s) brings_any s new sent taken (Err f)) mid new between after left less (Err f)
       → BeginsSessionAs policy_id moment old new before after (Err f)
   begins-second f e = record {
     sent = d.sent ++ e.sent;
     moves = moves-behind old mid new d.sent e.sent before between after d.moves e.moves;
     same = same-then e.same;
-    answers = λ s at settled. inr (second (Err f) (λ given. Unit {0}) tt e s at settled);
+    answers = λ s at. inr (second (Err f) (λ given. Unit {0}) tt e s at);
     stops = stops-then (Unit {0}) NodeId most_reads left less most_reads d.moves.got e.moves.got new after f d.stops e.stops;
   }

@@ -1,4 +1,4 @@
--- Where a client may be called: its channel is open, and none of its calls is pending.
+-- Where a place is settled: the channel is open, and none of its calls is pending.
 use Rattle.std.specs.Prelude.{◌≡◌, ℕ, ◌+◌, ◌≤◌, ◌<◌, Bool, true, false, cond, not, ◌&&◌, List, [], ◌∷◌, ◌++◌, length, map, Option, Some, None}
 use Rattle.std.proofs.Common.{refl, sym, ◌∙◌, ap, subst, eqb, arith}
 use Rattle.std.specs.List.{AllByRecursion, filter, list_any}
@@ -154,14 +154,14 @@ none-left told cs (id ∷ ids) finished h =
 abbrev pub NonePending : Type 0
 NonePending = (x : ClientChannel) (s : Site) → At x s → IsSettled s → pending_calls s.before.messages (asked_in s.asks) ≡ []
 
+pub phase-there : (x : ClientChannel) (s : Site) → At x s → InPhase (limits_of x) (phase_of x) s.before (asked_in s.asks)
+phase-there x s at = subst (λ (b : Received). InPhase (limits_of x) (phase_of x) b (asked_in s.asks)) at.before_is at.goes.stands.phase_is
+
 module _ (x : ClientChannel) (s : Site) (at : At x s) (settled : IsSettled s) where
   pub is-open : IsNotOpen (phase_of x) → ⊥
   is-open n =
       told-opened (limits_of x) s.asks at.goes.frames (ap (list_any is_opened) at.goes.told_is ∙ settled.opened)
       ((client_open x s.asks s.octets at.goes.frames at.goes.rest at.goes.stands).0 n)
-
-  pub phase-there : InPhase (limits_of x) (phase_of x) s.before (asked_in s.asks)
-  phase-there = subst (λ (b : Received). InPhase (limits_of x) (phase_of x) b (asked_in s.asks)) at.before_is at.goes.stands.phase_is
 
   finished : TellsDelivered → (id : ℕ) → 0 < length (told_of id s.told) → is_finished s.before.messages id ≡ true
   finished tells id some = by (is_finished s.before.messages id) refl
@@ -189,4 +189,4 @@ lane-in limits phase.Done before asked h some = absurd (some tt)
 
 -- there is a lane
 pub settled-lane : (x : ClientChannel) (s : Site) → At x s → IsSettled s → (lane : Lane) × (lane_behind s.before ≡ Some lane)
-settled-lane x s at settled = lane-in (limits_of x) (phase_of x) s.before (asked_in s.asks) (phase-there x s at settled) (is-open x s at settled)
+settled-lane x s at settled = lane-in (limits_of x) (phase_of x) s.before (asked_in s.asks) (phase-there x s at) (is-open x s at settled)

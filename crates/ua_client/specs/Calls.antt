@@ -164,8 +164,8 @@ pub record AnsweredAll (requests : List Request) (s : Site) (x : ClientChannel) 
   pub sized : AreGroups groups
   pub behind : Site
   pub at : At x behind
-  -- it may be called again
-  pub settled : IsSettled behind
+  -- a settled place stays so
+  pub settled : IsSettled s → IsSettled behind
   pub rounds : Rounds x s groups behind sent taken replies
 
 -- behind groups that are answered, the next one is not
@@ -178,7 +178,7 @@ pub record BrokenAll (requests : List Request) (s : Site) (new : Connection) (se
   -- where more requests stand behind it, it has just 64
   pub full : 0 < length others → length group ≡ 64
   pub behind : Site
-  pub settled : IsSettled behind
+  pub settled : IsSettled s → IsSettled behind
   pub sent_before : List ℕ
   pub sent_then : List ℕ
   pub sent_parts : sent ≡ sent_before ++ sent_then
@@ -189,7 +189,7 @@ pub record BrokenAll (requests : List Request) (s : Site) (new : Connection) (se
   pub rounds : Rounds (channel_of new) s groups behind sent_before taken_before replies
   pub breaks : BreaksAt group behind new sent_then taken_then f
 
--- what becomes of requests that are called where a client may be
+-- what becomes of requests that are called there
 abbrev pub AllAt : {A : Type 0} → (A → List Reply) → List Request → Site → Connection → List ℕ → List ℕ → Result A ClientFault → Type 0
 AllAt view requests s new sent taken (Ok found) = AnsweredAll requests s (channel_of new) sent taken (view found)
 AllAt view requests s new sent taken (Err f) = BrokenAll requests s new sent taken f
@@ -199,5 +199,5 @@ pub record CallsAll {A : Type 0} (view : A → List Reply) (requests : List Requ
   pub sent : List ℕ
   pub moves : Moves old new sent before after
   pub same : SameClient (channel_of old) (channel_of new)
-  pub answers : (s : Site) → At (channel_of old) s → IsSettled s → AllAt view requests s new sent moves.taken result
+  pub answers : (s : Site) → At (channel_of old) s → AllAt view requests s new sent moves.taken result
   pub stops : StopsAt most_reads most_reads moves.got new after result

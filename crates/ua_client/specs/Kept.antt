@@ -6,7 +6,7 @@ use Rattle.ua_channel.specs.Line.{Traffic}
 use Rattle.ua_services.specs.declared.request.Request.{Request}
 use Rattle.ua_client.specs.Calls.{Answered, AnsweredAll, BreaksAt, BrokenAll, EndsOn, GoesOn, LacksMemory, LastCame, all_of, asked_at, refusal_at, sent_at}
 use Rattle.ua_client.specs.Hearing.{channel_of, fault_alone, most_reads, Moves, StopsAt}
-use Rattle.ua_client.specs.Renewing.{IsSettled}
+use Rattle.ua_client.specs.Renewing.{IsIdle}
 use Rattle.ua_client.specs.Replies.{IsFront, IsUntold, IsUntoldBefore, LacksAnswer}
 use Rattle.ua_client.specs.Site.{Site, At, id_at}
 use Rattle.ua_client.specs.declared.connection.Connection.{Connection}
@@ -55,14 +55,14 @@ abbrev pub GroupAt : {A : Type 0} → List Request → Site → Connection → L
 GroupAt requests s new sent taken (Ok done) added = (sent ≡ sent_at s requests) × ((t : Site) × At (channel_of new) t × LastCame (channel_of new) requests (id_at s) t.asks t.octets t.told × Answered requests s t taken added)
 GroupAt requests s new sent taken (Err c) added = BreaksAt requests s new sent taken c.fault × KeepsAt requests s new taken c.fault c.request added
 
--- a group of calls, whose replies are added to those that were there
+-- a group of calls, whose replies are added to those that were there, of a channel that is idle
 pub record CallsGroup {A : Type 0} (requests : List Request) (old new : Connection) (before after : Option Traffic) (reads left : ℕ) (result : Result A CallsFault) (had have : List Reply) : Type 0 where
   pub sent : List ℕ
   pub moves : Moves old new sent before after
   pub same : SameClient (channel_of old) (channel_of new)
   pub added : List Reply
   pub have_is : have ≡ had ++ added
-  pub answers : (s : Site) → At (channel_of old) s → IsSettled s → GroupAt requests s new sent moves.taken result added
+  pub answers : (s : Site) → At (channel_of old) s → IsIdle (channel_of old) s → GroupAt requests s new sent moves.taken result added
   pub stops : StopsAt reads left moves.got new after (fault_alone result)
 
 -- ---- all calls
@@ -78,7 +78,7 @@ pub record BrokenInto (requests : List Request) (s : Site) (new : Connection) (s
   pub added_is : added ≡ broken.replies ++ kept
   pub request_is : c.request ≡ length (all_of broken.groups) + place
 
--- what becomes of requests that are called where a client may be, with the replies that are added
+-- what becomes of requests that are called there, with the replies that are added
 abbrev pub IntoAt : {A : Type 0} → List Request → Site → Connection → List ℕ → List ℕ → Result A CallsFault → List Reply → Type 0
 IntoAt requests s new sent taken (Ok done) added = AnsweredAll requests s (channel_of new) sent taken added
 IntoAt requests s new sent taken (Err c) added = BrokenInto requests s new sent taken c added
@@ -90,5 +90,5 @@ pub record CallsInto {A : Type 0} (requests : List Request) (old new : Connectio
   pub same : SameClient (channel_of old) (channel_of new)
   pub added : List Reply
   pub have_is : have ≡ had ++ added
-  pub answers : (s : Site) → At (channel_of old) s → IsSettled s → IntoAt requests s new sent moves.taken result added
+  pub answers : (s : Site) → At (channel_of old) s → IntoAt requests s new sent moves.taken result added
   pub stops : StopsAt most_reads most_reads moves.got new after (fault_alone result)

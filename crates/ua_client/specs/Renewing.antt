@@ -7,12 +7,12 @@ use Rattle.ua_builtin.specs.declared.date_time.DateTime.{DateTime}
 use Rattle.ua_frame.specs.Frames.{frame_octets}
 use Rattle.ua_chunk.specs.Sequence.{next_number}
 use Rattle.ua_chunk.specs.declared.lane.Lane.{Lane}
-use Rattle.ua_channel.specs.Asks.{Placed, asked_in, calls, renewals}
+use Rattle.ua_channel.specs.Asks.{Placed, asked_in, calls, pending_calls, pending_renewals, renewals}
 use Rattle.ua_channel.specs.Asks.Asking.{Renewal}
-use Rattle.ua_channel.specs.Client.{GoesTelling, SameClient}
+use Rattle.ua_channel.specs.Client.{GoesTelling, HasNoChannel, SameClient}
 use Rattle.ua_channel.specs.ClientAsks.{most_tokens, no_id}
 use Rattle.ua_channel.specs.ClientSends.{renewal_frame}
-use Rattle.ua_channel.specs.ClientTokens.{held_tokens}
+use Rattle.ua_channel.specs.ClientTokens.{held_tokens, opened_ids}
 use Rattle.ua_channel.specs.ClientTold.{Told}
 use Rattle.ua_channel.specs.ClientTold.Told.{Agreed, Opened, Answered, GaveUp, Renewed}
 use Rattle.ua_channel.specs.Line.{Traffic}
@@ -39,12 +39,22 @@ is_renewed (Answered id octets) = false
 is_renewed (GaveUp id code) = false
 is_renewed (Renewed token) = true
 
--- a client may be called there: its channel is open, and all that it asked is answered: something was told of each call, and no fewer
--- further tokens came than it asked for
+-- a place is settled: the channel is open there, and all that was asked is answered: something was told of each call, and no fewer further
+-- tokens came than were asked for
 pub record IsSettled (s : Site) : Type 0 where
   pub opened : list_any is_opened s.told ≡ true
   pub answered : AllByRecursion (λ (id : ℕ). 0 < length (told_of id s.told)) (calls (asked_in s.asks))
   pub renewed : length (renewals (asked_in s.asks)) ≤ length (filter is_renewed s.told)
+
+-- a channel stands somewhere, and its place is settled: which place that is no channel keeps
+abbrev pub StandsSettled : ClientChannel → Type 0
+StandsSettled x = ∥ ((s : Site) × At x s × IsSettled s) ∥₁
+
+-- a channel is open, and nothing that it asked is pending where it stands
+pub record IsIdle (x : ClientChannel) (s : Site) : Type 0 where
+  pub opened : HasNoChannel x → ⊥
+  pub calls_answered : pending_calls s.before.messages (asked_in s.asks) ≡ []
+  pub renewals_answered : pending_renewals (opened_ids s.before.openings) (asked_in s.asks) ≡ []
 
 -- ---- why it is not asked
 
@@ -71,7 +81,7 @@ IsRefusal (Err fault.TooManyTokens) = Unit {0}
 IsRefusal (Err fault.Exhausted) = Unit {0}
 IsRefusal (Err other) = ⊥
 
--- what a refusal of the channel comes to; where a client may be called, it meets no other than these three
+-- what a refusal of the channel comes to; an idle channel meets no other than these three
 abbrev pub of_renew_fault : AskFault → ClientFault
 of_renew_fault ask_fault.TooManyTokens = fault.TooManyTokens
 of_renew_fault ask_fault.Exhausted = fault.Exhausted
@@ -108,7 +118,8 @@ pub record IsRenewed (new : ClientChannel) (s t : Site) (taken : List ℕ) : Typ
   pub told : t.told ≡ s.told ++ (heard ++ Renewed token ∷ [])
   -- calls go out under it
   pub newest : latest (held_tokens t.before) ≡ Some token
-  pub settled : IsSettled t
+  -- a settled place stays so
+  pub settled : IsSettled s → IsSettled t
 
 -- a renewal that was asked there is not answered
 abbrev pub BreaksRenewing : Site → DateTime → ClientChannel → List ℕ → List ℕ → ClientFault → Type 0
@@ -134,8 +145,8 @@ pub record Renews {A : Type 0} (moment : DateTime) (old new : Connection) (befor
   pub moves : Moves old new sent before after
   pub same : SameClient (channel_of old) (channel_of new)
   -- it is refused just for the first reason that holds where the client stands
-  pub judged : (s : Site) → At (channel_of old) s → IsSettled s → refused_by result ≡ renewal_refusal s
-  pub answers : (s : Site) → At (channel_of old) s → IsSettled s → RenewsAt s moment (channel_of new) sent moves.taken result
+  pub judged : (s : Site) → At (channel_of old) s → refused_by result ≡ renewal_refusal s
+  pub answers : (s : Site) → At (channel_of old) s → RenewsAt s moment (channel_of new) sent moves.taken result
   pub stops : StopsAt most_reads most_reads moves.got new after result
 
 -- ---- the client behind it

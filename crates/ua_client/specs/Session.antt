@@ -17,7 +17,7 @@ use Rattle.ua_channel.specs.Line.{Traffic}
 use Rattle.ua_channel.specs.declared.client.channel.ClientChannel.{ClientChannel}
 use Rattle.ua_client.specs.Calls.{Answered, BreaksAt, LastCame, sent_at}
 use Rattle.ua_client.specs.Hearing.{channel_of, most_reads, Moves, StopsAt}
-use Rattle.ua_client.specs.Renewing.{IsSettled}
+use Rattle.ua_client.specs.Renewing.{IsIdle, IsSettled}
 use Rattle.ua_client.specs.Site.{Site, At, id_at}
 use Rattle.ua_client.specs.declared.connection.Connection.{Connection}
 use Rattle.ua_client.specs.declared.fault.ClientFault.{ClientFault}
@@ -96,11 +96,11 @@ pub record IsReplied (x : ClientChannel) (request : Request) (s t : Site) (sent 
   pub came : LastCame x (request ∷ []) (id_at s) t.asks t.octets t.told
   pub answered : Answered (request ∷ []) s t taken (reply ∷ [])
 
--- the same, where the channel stands behind it and may be called again, and the reply is such a one
+-- the same, where the channel stands behind it, and the reply is such a one; a settled place stays so
 pub record Replies (request : Request) (s : Site) (x : ClientChannel) (sent taken : List ℕ) (P : Reply → Type 0) : Type 0 where
   pub behind : Site
   pub at : At x behind
-  pub settled : IsSettled behind
+  pub settled : IsSettled s → IsSettled behind
   pub reply : Reply
   pub replied : IsReplied x request s behind sent taken reply
   pub says : P reply
@@ -126,7 +126,7 @@ pub record BehindCreating (client : ClientChannel) (url : Option (List ℕ)) (mo
   pub channel : ClientChannel
   pub same : SameClient channel client
   pub at : At channel between
-  pub settled : IsSettled between
+  pub settled : IsSettled s → IsSettled between
   pub reply : Reply
   pub sent_before : List ℕ
   pub sent_then : List ℕ
@@ -151,14 +151,17 @@ BeginsAt url policy_id moment s new sent taken (Ok token) = ActivatesBehind url 
 BeginsAt url policy_id moment s new sent taken (Err f) =
     ServesAt (creating_at url moment s) brings_token s new sent taken (Err f) ⊎ ActivatesBehind url policy_id moment s new sent taken (λ given. Unit {0}) (Err f)
 
--- what was done over a line, by what that is to come to where the client stands and may be called, with so many reads left before and
--- after
+-- what was done over a line, by what that is to come to where the client stands, with so many reads left before and after
 pub record Does {A : Type 0} (P : Site → List ℕ → List ℕ → Type 0) (old new : Connection) (before after : Option Traffic) (reads left : ℕ) (result : Result A ClientFault) : Type 0 where
   pub sent : List ℕ
   pub moves : Moves old new sent before after
   pub same : SameClient (channel_of old) (channel_of new)
-  pub answers : (s : Site) → At (channel_of old) s → IsSettled s → P s sent moves.taken
+  pub answers : (s : Site) → At (channel_of old) s → P s sent moves.taken
   pub stops : StopsAt reads left moves.got new after result
+
+-- the same, of a channel that is idle
+abbrev pub DoesIdle : {A : Type 0} → (Site → List ℕ → List ℕ → Type 0) → Connection → Connection → Option Traffic → Option Traffic → ℕ → ℕ → Result A ClientFault → Type 0
+DoesIdle P old new before after reads left result = Does (λ s sent taken. IsIdle (channel_of old) s → P s sent taken) old new before after reads left result
 
 -- a session is begun at this moment over a line, by the token policy with this PolicyId
 abbrev pub BeginsSessionAs : Option (List ℕ) → DateTime → Connection → Connection → Option Traffic → Option Traffic → Result NodeId ClientFault → Type 0

@@ -4,6 +4,7 @@ ghost use Rattle.std.specs.Prelude.{◌≡◌, ◌+◌, ◌-◌, ◌<◌, ◌≤
 ghost use Rattle.ua_channel.specs.Client.{phase_of};
 ghost use Rattle.ua_client.specs.Hearing.{channel_of, failures_behind, fault_alone};
 ghost use Rattle.ua_client.specs.Kept.{CallsGroup, CallsInto, named};
+ghost use Rattle.ua_client.specs.Renewing.{StandsSettled};
 ghost use Rattle.ua_client.specs.Sent.{bodies_of, group_refusal};
 
 use crate::collecting::{append_front, empty_slots, make_room};
@@ -59,7 +60,6 @@ impl Connection {
         ensures failed { L.failures line.new ≡ failures_behind (L.failures line.old) result }
     {
         calls_are_told_behind();
-        clients_are_settled();
         make_room(replies, requests.len())?;
         let asked = ask_group(alloc, &mut self.channel, bodies)?;
         let (first, octets) = asked;
@@ -89,7 +89,6 @@ impl Connection {
         ensures names { IfErr result (λ calls. calls.request < length requests.now) }
         ensures failed { L.failures line.new ≡ failures_behind (L.failures line.old) (fault_alone result) }
     {
-        clients_are_settled();
         let had = replies.len();
         let bodies = match judge_group(alloc, &self.channel, requests) {
             Ok(bodies) => bodies,
@@ -113,11 +112,13 @@ impl Connection {
         moment: DateTime,
         replies: &mut Vec<Reply>,
     ) -> Result<(), CallsFault>
+        requires settled { StandsSettled (channel_of self.old) }
         ensures calls { CallsInto requests.now self.old self.new (L.traffic line.old) (L.traffic line.new) result replies.old.items replies.new.items }
         ensures count { OnOk result (length replies.new.items ≡ length replies.old.items + length requests.now) }
         ensures names { IfErr result (λ calls. calls.request < length requests.now) }
         ensures failed { L.failures line.new ≡ failures_behind (L.failures line.old) (fault_alone result) }
     {
+        clients_are_settled();
         let mut reads = u64::MAX;
         let mut start = 0;
         while start < requests.len() {

@@ -1,19 +1,12 @@
 //! A client over a line.
 
-ghost use Rattle.std.specs.Prelude.{◌≡◌, ◌⊎◌, ◌+◌, ◌<◌, ◌∷◌, [], length, None, IsTrue, IfOk, IfErr, OnOk, Err};
-ghost use Rattle.ua_octets.specs.Counted.{text};
-ghost use Rattle.ua_client.specs.Calls.{CallsAll};
-ghost use Rattle.ua_client.specs.Client.{OpensNothing, OpensClient, IsDone, IsReady, IsLeft, Closes, client_channel, connection_of};
-ghost use Rattle.ua_client.specs.Hearing.{failures_behind, fault_alone};
-ghost use Rattle.ua_client.specs.Kept.{CallsInto, closed_at};
-ghost use Rattle.ua_client.specs.Renewing.{Renews, IsRefusal};
-ghost use Rattle.ua_client.specs.Session.{BeginsSession, BeginsSessionAs};
-ghost use Rattle.ua_client.specs.Site.{Site, At, id_at, usable_id};
-ghost use Rattle.ua_client.specs.declared.fault.ClientFault.TheVariants.{Closed};
+ghost use Rattle.std.specs.Prelude.{◌≡◌, false};
+ghost use Rattle.ua_client.specs.Renewing.{StandsSettled};
 
 use crate::collecting::no_replies;
 use crate::connection::Connection;
 use crate::fault::{CallsFault, ClientFault};
+use crate::laws::clients_are_settled;
 use crate::reply::{Reply, only_reply};
 use std::alloc::Global;
 use std::slice;
@@ -35,9 +28,22 @@ pub struct Client {
     connection: Connection,
     /// It failed or was closed.
     is_done: bool,
+    /// Unless it is done, all that it asked is answered.
+    pub ghost settled: { is_done ≡ false → StandsSettled connection.channel },
 }
 
 impl Client {
+    ghost use Rattle.std.specs.Prelude.{◌≡◌, ◌⊎◌, ◌+◌, ◌<◌, ◌∷◌, [], length, None, IsTrue, IfOk, IfErr, OnOk, Err};
+    ghost use Rattle.ua_octets.specs.Counted.{text};
+    ghost use Rattle.ua_client.specs.Calls.{CallsAll};
+    ghost use Rattle.ua_client.specs.Client.{OpensNothing, OpensClient, IsDone, IsReady, IsLeft, Closes, client_channel, connection_of};
+    ghost use Rattle.ua_client.specs.Hearing.{failures_behind, fault_alone};
+    ghost use Rattle.ua_client.specs.Kept.{CallsInto, closed_at};
+    ghost use Rattle.ua_client.specs.Renewing.{Renews, IsRefusal};
+    ghost use Rattle.ua_client.specs.Session.{BeginsSession, BeginsSessionAs};
+    ghost use Rattle.ua_client.specs.Site.{Site, At, id_at, usable_id};
+    ghost use Rattle.ua_client.specs.declared.fault.ClientFault.TheVariants.{Closed};
+
     /// Opens a connection over a line, and a channel on it, to the server of this URL: the HEL is
     /// written, behind the ACK the OPN.
     pub fn open<L: Line>(
@@ -51,6 +57,7 @@ impl Client {
         ensures opens { OpensNothing (L.traffic line.old) (L.traffic line.new) result ⊎ OpensClient limits url moment (L.traffic line.old) (L.traffic line.new) result }
         ensures failed { L.failures line.new ≡ failures_behind (L.failures line.old) result }
     {
+        clients_are_settled();
         let mut connection = match Connection::new(alloc, limits, url) {
             Ok(connection) => connection,
             Err(fault) => return Err(fault),

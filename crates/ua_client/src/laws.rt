@@ -11,7 +11,7 @@ ghost use Rattle.ua_channel.specs.ClientTold.{Told};
 ghost use Rattle.ua_channel.specs.declared.client.channel.ClientChannel.{ClientChannel};
 ghost use Rattle.ua_client.specs.Calls.{Answered};
 ghost use Rattle.ua_client.specs.Opening.{IsOpened};
-ghost use Rattle.ua_client.specs.Renewing.{IsSettled};
+ghost use Rattle.ua_client.specs.Renewing.{IsIdle, IsSettled, StandsSettled};
 ghost use Rattle.ua_client.specs.Site.{Site, At, lane_behind};
 ghost use Rattle.ua_client.specs.Told.{told_of, IsFirstOf};
 ghost use Rattle.ua_client.specs.declared.reply.Reply.{Reply};
@@ -35,15 +35,17 @@ pub fn calls_are_told_behind()
     client_tells_delivered();
 }
 
-/// Behind its opening a client has asked nothing and may be called; and so it may behind calls that are
-/// answered, and with more told where nothing more was asked. Where a client may be called none of its
-/// calls is pending, and there is a lane for the next ones.
+/// Behind its opening a client has asked nothing and its place is settled; and so it is behind calls that
+/// are answered, and with more told where nothing more was asked. Where a place is settled no call is
+/// pending, and there is a lane for the next ones. A channel that stands at a settled place is idle
+/// wherever it stands.
 pub fn clients_are_settled()
     ensures opened { (x : ClientChannel) (octets : List ℕ) → IsOpened x octets → (s : Site) × (s.octets ≡ octets) × (s.asks ≡ []) × At x s × IsSettled s }
     ensures answered { (requests : List Request) (s t : Site) (taken : List ℕ) (replies : List Reply) → IsSettled s → Answered requests s t taken replies → IsSettled t }
     ensures later { (s t : Site) (more : List Told) → IsSettled s → t.asks ≡ s.asks → t.told ≡ s.told ++ more → IsSettled t }
     ensures none_pending { (x : ClientChannel) (s : Site) → At x s → IsSettled s → pending_calls s.before.messages (asked_in s.asks) ≡ [] }
     ensures lane { (x : ClientChannel) (s : Site) → At x s → IsSettled s → (lane : Lane) × (lane_behind s.before ≡ Some lane) }
+    ensures idle { (x : ClientChannel) (s : Site) → StandsSettled x → At x s → IsIdle x s }
 {
     client_goes_on();
     client_tells_delivered();

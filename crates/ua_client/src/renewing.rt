@@ -1,12 +1,13 @@
 //! The renewal of the token of a channel over a line.
 
 ghost use Rattle.std.specs.Prelude.{◌≡◌};
-ghost use Rattle.ua_client.specs.Hearing.{failures_behind};
+ghost use Rattle.ua_client.specs.Hearing.{channel_of, failures_behind};
 ghost use Rattle.ua_client.specs.Opening.{Waits, any_done};
-ghost use Rattle.ua_client.specs.Renewing.{Renews, IsRefusal, is_renewed, of_renew_fault};
+ghost use Rattle.ua_client.specs.Renewing.{Renews, IsRefusal, StandsSettled, is_renewed, of_renew_fault};
 
 use crate::connection::Connection;
 use crate::fault::ClientFault;
+use crate::laws::clients_are_settled;
 use crate::sending::write_whole;
 use ua_builtin::DateTime;
 use ua_channel::client_laws::client_goes_on;
@@ -48,11 +49,13 @@ impl Connection {
 
     /// Asks for a further token by the OPN, and waits until it came.
     pub fn renew<L: Line>(&mut self, line: &mut L, moment: DateTime) -> Result<(), ClientFault>
+        requires settled { StandsSettled (channel_of self.old) }
         ensures renews { Renews moment self.old self.new (L.traffic line.old) (L.traffic line.new) result }
         ensures unchanged { IsRefusal result → (self.new ≡ self.old) × (line.new ≡ line.old) }
         ensures failed { L.failures line.new ≡ failures_behind (L.failures line.old) result }
     {
         client_goes_on();
+        clients_are_settled();
         let (_, octets) = match self.channel.renew(moment) {
             Ok(asked) => asked,
             Err(fault) => return Err(of_ask(fault)),

@@ -3,11 +3,13 @@
 ghost use Rattle.std.specs.Prelude.{◌≡◌, None, IfOk, IfErr};
 ghost use Rattle.ua_channel.specs.Client.{url_of};
 ghost use Rattle.ua_client.specs.Hearing.{channel_of, failures_behind};
-ghost use Rattle.ua_client.specs.Session.{BeginsSessionAs, CallsOneAt, Does, IsFailure, LacksToken, MakesRequest, ServesAt, activating_at, brings_any, brings_token, creating_at, is_reply, reply_failure, response_failure};
+ghost use Rattle.ua_client.specs.Session.{BeginsSessionAs, CallsOneAt, DoesIdle, IsFailure, LacksToken, MakesRequest, ServesAt, activating_at, brings_any, brings_token, creating_at, is_reply, reply_failure, response_failure};
+ghost use Rattle.ua_client.specs.Renewing.{StandsSettled};
 ghost use Rattle.ua_client.specs.Site.{Site, At};
 
 use crate::connection::Connection;
 use crate::fault::ClientFault;
+use crate::laws::clients_are_settled;
 use crate::reply::{Reply, only_reply};
 use std::alloc::{AllocError, Global};
 use std::slice;
@@ -73,7 +75,7 @@ impl Connection {
         request: &Request,
         moment: DateTime,
     ) -> Result<Reply, ClientFault>
-        ensures calls { Does (λ s sent taken. CallsOneAt request.now s self.new sent taken result) self.old self.new (L.traffic line.old) (L.traffic line.new) reads.old reads.new result }
+        ensures calls { DoesIdle (λ s sent taken. CallsOneAt request.now s self.new sent taken result) self.old self.new (L.traffic line.old) (L.traffic line.new) reads.old reads.new result }
         ensures failed { L.failures line.new ≡ failures_behind (L.failures line.old) result }
     {
         let mut replies = Vec::new(alloc);
@@ -96,7 +98,7 @@ impl Connection {
         request: Request,
         moment: DateTime,
     ) -> Result<Reply, ClientFault>
-        ensures serves { Does (λ s sent taken. ServesAt request is_reply s self.new sent taken result) self.old self.new (L.traffic line.old) (L.traffic line.new) reads.old reads.new result }
+        ensures serves { DoesIdle (λ s sent taken. ServesAt request is_reply s self.new sent taken result) self.old self.new (L.traffic line.old) (L.traffic line.new) reads.old reads.new result }
         ensures failed { L.failures line.new ≡ failures_behind (L.failures line.old) result }
     {
         let replied = self.call_one(alloc, line, reads, &request, moment);
@@ -144,7 +146,7 @@ impl Connection {
         reads: &mut u64,
         moment: DateTime,
     ) -> Result<NodeId, ClientFault>
-        ensures creates { Does (λ s sent taken. ServesAt (creating_at (url_of (channel_of self.old)) moment s) brings_token s self.new sent taken result) self.old self.new (L.traffic line.old) (L.traffic line.new) reads.old reads.new result }
+        ensures creates { DoesIdle (λ s sent taken. ServesAt (creating_at (url_of (channel_of self.old)) moment s) brings_token s self.new sent taken result) self.old self.new (L.traffic line.old) (L.traffic line.new) reads.old reads.new result }
         ensures failed { L.failures line.new ≡ failures_behind (L.failures line.old) result }
     {
         let Ok(request) = self.creating(alloc, moment) else {
@@ -166,7 +168,7 @@ impl Connection {
         policy_id: UaString,
         moment: DateTime,
     ) -> Result<(), ClientFault>
-        ensures activates { Does (λ s sent taken. ServesAt (activating_at policy_id token.now moment s) brings_any s self.new sent taken result) self.old self.new (L.traffic line.old) (L.traffic line.new) reads.old reads.new result }
+        ensures activates { DoesIdle (λ s sent taken. ServesAt (activating_at policy_id token.now moment s) brings_any s self.new sent taken result) self.old self.new (L.traffic line.old) (L.traffic line.new) reads.old reads.new result }
         ensures failed { L.failures line.new ≡ failures_behind (L.failures line.old) result }
     {
         let request = match self.activating(alloc, token, policy_id, moment) {
@@ -191,9 +193,11 @@ impl Connection {
         policy_id: UaString,
         moment: DateTime,
     ) -> Result<NodeId, ClientFault>
+        requires settled { StandsSettled (channel_of self.old) }
         ensures begins { BeginsSessionAs policy_id moment self.old self.new (L.traffic line.old) (L.traffic line.new) result }
         ensures failed { L.failures line.new ≡ failures_behind (L.failures line.old) result }
     {
+        clients_are_settled();
         let mut reads = u64::MAX;
         let token = match self.create_session(alloc, line, &mut reads, moment) {
             Ok(token) => token,

@@ -1,3 +1,4 @@
+use Rattle.ua_client.proofs.Idle.{idle-standing}
 use Rattle.ua_client.proofs.Renewings.{opened-settled}
 use Rattle.ua_client.proofs.Settled.{answered-settled, later-settled, none-pending, settled-lane}
 use Rattle.ua_client.proofs.laws.clients_are_settled.Goals as goal
@@ -16,3 +17,6 @@ returns-clause-none_pending c = λ x s at settled. none-pending x s at settled c
 
 pub returns-clause-lane : goal.returns-clause-lane
 returns-clause-lane c = settled-lane
+
+pub returns-clause-idle : goal.returns-clause-idle
+returns-clause-idle c = λ x s stands at. idle-standing c.client_tells_delivered.ensures x s stands at

@@ -9,7 +9,7 @@ pub loop-start-init : goal.loop-start-init
 loop-start-init g c = record {
   within = omega arith;
   count = omega arith;
-  called = called-nothing (0 < length c.args.requests.now) c.args.self.now (g.L.Line.traffic c.args.line.now) c.args.replies.now.items;
+  called = called-nothing (0 < length c.args.requests.now) c.args.self.now (g.L.Line.traffic c.args.line.now) c.args.replies.now.items c.requires.settled;
   same = refl;
 }
 
@@ -20,7 +20,7 @@ returns-in-Err-clause-calls g c =
     let within : c.loop-start.start ≤ length c.args.requests.now = c.loop-start.invariant.within in
     calls-broken (take c.loop-start.start c.args.requests.now) (between c.args.requests.now c.loop-start.start c.group_end-end.result) c.args.self.now c.loop-start.self c.call_group.new.self (g.L.Line.traffic c.args.line.now) (g.L.Line.traffic c.loop-start.line) (g.L.Line.traffic c.call_group.new.line)
     c.loop-start.reads c.call_group.new.reads c.args.replies.now.items c.loop-start.replies.items c.call_group.new.replies.items
-    (group-some c.args.requests.now c.loop-start.start c.group_end-end.result further c.group_end-end.ensures.within) (group-few c.args.requests.now c.loop-start.start c.group_end-end.result on c.group_end-end.ensures.within c.group_end-end.ensures.few) (c.loop-start.start < length c.args.requests.now) c.loop-start-test.true c.loop-start.invariant.called
+    (group-some c.args.requests.now c.loop-start.start c.group_end-end.result further c.group_end-end.ensures.within) (group-few c.args.requests.now c.loop-start.start c.group_end-end.result on c.group_end-end.ensures.within c.group_end-end.ensures.few) (c.loop-start.start < length c.args.requests.now) c.loop-start-test.true c.clients_are_settled.ensures.idle c.loop-start.invariant.called
     c.args.requests.now (drop c.group_end-end.result c.args.requests.now) c.in-Err.calls c.behind.result (split-at c.args.requests.now c.loop-start.start c.group_end-end.result on)
     (λ more. group-full c.args.requests.now c.loop-start.start c.group_end-end.result on c.group_end-end.ensures.within c.group_end-end.ensures.full (more-behind c.args.requests.now c.group_end-end.result more))
     (c.behind.ensures.request ∙ ap (λ (n : ℕ). n + c.in-Err.calls.request) (sym (taken-count c.args.requests.now c.loop-start.start within))) c.behind.ensures.fault c.in-Err.ensures.calls
@@ -43,7 +43,7 @@ loop-start-preserved g c =
       called = called-to c.args.requests.now c.loop-start.start c.group_end-end.result (c.group_end-end.result < length c.args.requests.now) c.args.self.now c.call_group.new.self (g.L.Line.traffic c.args.line.now) (g.L.Line.traffic c.call_group.new.line) c.call_group.new.reads c.args.replies.now.items c.call_group.new.replies.items on
           (called-more (take c.loop-start.start c.args.requests.now) (between c.args.requests.now c.loop-start.start c.group_end-end.result) c.args.self.now c.loop-start.self c.call_group.new.self (g.L.Line.traffic c.args.line.now) (g.L.Line.traffic c.loop-start.line) (g.L.Line.traffic c.call_group.new.line)
           c.loop-start.reads c.call_group.new.reads c.args.replies.now.items c.loop-start.replies.items c.call_group.new.replies.items
-          (group-some c.args.requests.now c.loop-start.start c.group_end-end.result further c.group_end-end.ensures.within) (group-few c.args.requests.now c.loop-start.start c.group_end-end.result on c.group_end-end.ensures.within c.group_end-end.ensures.few) (c.loop-start.start < length c.args.requests.now) c.loop-start-test.true c.loop-start.invariant.called
+          (group-some c.args.requests.now c.loop-start.start c.group_end-end.result further c.group_end-end.ensures.within) (group-few c.args.requests.now c.loop-start.start c.group_end-end.result on c.group_end-end.ensures.within c.group_end-end.ensures.few) (c.loop-start.start < length c.args.requests.now) c.loop-start-test.true c.clients_are_settled.ensures.idle c.loop-start.invariant.called
           tt (c.group_end-end.result < length c.args.requests.now) (group-full c.args.requests.now c.loop-start.start c.group_end-end.result on c.group_end-end.ensures.within c.group_end-end.ensures.full) c.in-Ok.ensures.calls);
       same = c.in-Ok.ensures.failed ∙ c.loop-start.invariant.same;
     }
