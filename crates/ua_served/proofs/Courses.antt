@@ -1,7 +1,7 @@
 -- A client's turns over a line, one behind the other.
 use Rattle.std.proofs.Common.{◌≡◌, ◌⊎◌, inl, inr, ℕ, ◌+◌, ◌<◌, ◌≤◌, List, [], ◌∷◌, ◌++◌, Option, Some, None, Result, Ok, Err, get_or, length, map, take, drop, refl, sym, ◌∙◌, ap, subst, append-nil, append_assoc, arith}
 use Rattle.std.specs.Prelude.{IfErr, OnOk}
-use Rattle.std.proofs.lemmas.List.{length-take-le, take-append-drop, take_all, take_more}
+use Rattle.std.proofs.lemmas.List.{length-map, length-take-le, map-append, take-append-drop, take_all, take_more}
 use Rattle.ua_builtin.specs.Reasons.{first_reason}
 use Rattle.ua_builtin.specs.declared.date_time.DateTime.{DateTime}
 use Rattle.ua_frame.specs.Run.{End, Going, Over, Stopped}
@@ -37,7 +37,7 @@ use Rattle.ua_client.proofs.Carrying.{carried-as, carried-then}
 use Rattle.ua_client.proofs.Settled.{NonePending}
 use Rattle.ua_served.specs.Accepted.{AreAccepted, FirstRefused, IsAccepted, IsTurnFault, acknowledged, held_behind, tokens_held, turn_reasons, turn_refusal}
 use Rattle.ua_served.specs.Beginning.{Beginning}
-use Rattle.ua_served.specs.Course.{Converses, Course, Stays, asked_by, opening_octets}
+use Rattle.ua_served.specs.Course.{Converses, Course, Stays, opening_octets}
 use Rattle.ua_served.specs.Course.Course.{Asked, Renewed}
 use Rattle.ua_served.specs.Kept.{EndsAt, LeavesAt, Served, traffic_of}
 use Rattle.ua_served.specs.Replies.{lane_back, turn_replies, turn_state, turns_replies, turns_state}
@@ -47,8 +47,8 @@ use Rattle.ua_served.specs.inside.Talking.{AreTalking, CanOpen, StaysTalking, Ta
 use Rattle.ua_served.specs.Turns.{conversation_told, id_behind, ids_behind, opening_told, token_behind, tokens_behind, turn_told, turns_told}
 use Rattle.ua_served.specs.declared.stage.Stage.{Stage}
 use Rattle.ua_served.specs.declared.stage.Stage.TheVariants as stage
-use Rattle.ua_served.specs.declared.turn.Turn.{Turn}
 use Rattle.ua_served.proofs.Begun.{SettlesOpened, went_first}
+use Rattle.ua_served.proofs.Pushes.{held_push, ids_push, number_push, octets_push, replies_push, state_push, told_push, tokens_push}
 use Rattle.ua_served.proofs.Reaching.{closing_read}
 use Rattle.ua_served.proofs.Replying.{some-append, state_closed, state_renewal}
 use Rattle.ua_served.proofs.Rounds.{closing_there}
@@ -56,66 +56,9 @@ use Rattle.ua_served.proofs.Saying.{end_is, left_by_run, said_by_run, spent-appe
 use Rattle.ua_served.proofs.Staying.{said_there}
 use Rattle.ua_served.proofs.Talks.{asked_judged, asked_number, asked_refused, asked_replied, asked_sent, asked_state, got_on, renewal_sent, renewed_judged, renewing_refused, rounds_octets, talking_as, talks_asked, talks_renewed}
 
--- ---- what turns tell, with one turn more
-
-told_push : (token id : ℕ) (turns : List Turn) (t : Turn) → turns_told token id (turns ++ t ∷ []) ≡ turns_told token id turns ++ turn_told (tokens_behind token turns) (ids_behind id turns) (asked_by t)
-told_push token id [] t = append-nil (turn_told token id (asked_by t))
-told_push token id (u ∷ us) t =
-    ap (λ (ts : List Told). turn_told token id (asked_by u) ++ ts) (told_push (token_behind token (asked_by u)) (id_behind id (asked_by u)) us t)
-    ∙ sym (append_assoc (turn_told token id (asked_by u)) (turns_told (token_behind token (asked_by u)) (id_behind id (asked_by u)) us)
-    (turn_told (tokens_behind (token_behind token (asked_by u)) us) (ids_behind (id_behind id (asked_by u)) us) (asked_by t)))
-
-tokens_push : (token : ℕ) (turns : List Turn) (t : Turn) → tokens_behind token (turns ++ t ∷ []) ≡ token_behind (tokens_behind token turns) (asked_by t)
-tokens_push token [] t = refl
-tokens_push token (u ∷ us) t = tokens_push (token_behind token (asked_by u)) us t
-
-ids_push : (id : ℕ) (turns : List Turn) (t : Turn) → ids_behind id (turns ++ t ∷ []) ≡ id_behind (ids_behind id turns) (asked_by t)
-ids_push id [] t = refl
-ids_push id (u ∷ us) t = ids_push (id_behind id (asked_by u)) us t
-
-held_push : (held : ℕ) (turns : List Turn) (t : Turn) → tokens_held held (turns ++ t ∷ []) ≡ held_behind (tokens_held held turns) (asked_by t)
-held_push held [] t = refl
-held_push held (u ∷ us) t = held_push (held_behind held (asked_by u)) us t
-
--- what turns send, with one turn more
-
-octets_push : (a : Ack) (channel : ℕ) (moment : DateTime) (token number id : ℕ) (turns : List Turn) (t : Turn)
-    → turns_octets a channel moment token number id (turns ++ t ∷ [])
-    ≡ turns_octets a channel moment token number id turns ++ turn_octets (call_lane a channel (tokens_behind token turns)) (turns_number a channel token number turns) (ids_behind id turns) moment (asked_by t)
-octets_push a channel moment token number id [] t = append-nil (turn_octets (call_lane a channel token) number id moment (asked_by t))
-octets_push a channel moment token number id (u ∷ us) t =
-    let lane : Lane = call_lane a channel token in
-    let one : List ℕ = turn_octets lane number id moment (asked_by u) in
-    let k : ℕ = token_behind token (asked_by u) in
-    let n : ℕ = turn_number lane number (asked_by u) in
-    let i : ℕ = id_behind id (asked_by u) in
-    ap (λ (o : List ℕ). one ++ o) (octets_push a channel moment k n i us t)
-    ∙ sym (append_assoc one (turns_octets a channel moment k n i us) (turn_octets (call_lane a channel (tokens_behind k us)) (turns_number a channel k n us) (ids_behind i us) moment (asked_by t)))
-
-number_push : (a : Ack) (channel token number : ℕ) (turns : List Turn) (t : Turn)
-    → turns_number a channel token number (turns ++ t ∷ []) ≡ turn_number (call_lane a channel (tokens_behind token turns)) (turns_number a channel token number turns) (asked_by t)
-number_push a channel token number [] t = refl
-number_push a channel token number (u ∷ us) t = number_push a channel (token_behind token (asked_by u)) (turn_number (call_lane a channel token) number (asked_by u)) us t
-
--- what comes of turns, with one turn more
-
-state_push : (s : State) (moment : DateTime) (turns : List Turn) (t : Turn) → turns_state s moment (turns ++ t ∷ []) ≡ turn_state (turns_state s moment turns) moment (asked_by t)
-state_push s moment [] t = refl
-state_push s moment (u ∷ us) t = state_push (turn_state s moment (asked_by u)) moment us t
-
-replies_push : (b : Beginning) (client : Limits) (url : Option (List ℕ)) (s : State) (token : ℕ) (turns : List Turn) (t : Turn)
-    → turns_replies b client url s token (turns ++ t ∷ []) ≡ turns_replies b client url s token turns ++ turn_replies (lane_back b client url (tokens_behind token turns)) (turns_state s b.moment turns) b.moment (asked_by t)
-replies_push b client url s token [] t = append-nil (turn_replies (lane_back b client url token) s b.moment (asked_by t))
-replies_push b client url s token (u ∷ us) t =
-    let one : List (Option Reply) = turn_replies (lane_back b client url token) s b.moment (asked_by u) in
-    let next : State = turn_state s b.moment (asked_by u) in
-    let k : ℕ = token_behind token (asked_by u) in
-    ap (λ (os : List (Option Reply)). one ++ os) (replies_push b client url next k us t)
-    ∙ sym (append_assoc one (turns_replies b client url next k us) (turn_replies (lane_back b client url (tokens_behind k us)) (turns_state next b.moment us) b.moment (asked_by t)))
-
 -- ---- a turn
 
-module _ (b : Beginning) (limits : Limits) (url : Option (List ℕ)) (moment : DateTime) (opened : Site) (turns : List Turn) (x y : Connection) (first now after : Option Traffic) (had have : List Reply) (s : StaysTalking b limits url moment opened turns x first now had) where
+module _ (b : Beginning) (limits : Limits) (url : Option (List ℕ)) (moment : DateTime) (opened : Site) (turns : List (Option (List Request))) (x y : Connection) (first now after : Option Traffic) (had have : List Reply) (s : StaysTalking b limits url moment opened turns x first now had) where
   abbrev opening : List ℕ
   opening = opening_octets limits url moment
 
@@ -126,7 +69,7 @@ module _ (b : Beginning) (limits : Limits) (url : Option (List ℕ)) (moment : D
   was = s.stays
 
   -- both are in step behind one turn more, which was sent and told this
-  more_talking : (t : Turn) (asked : Option (List Request)) (is : asked_by t ≡ asked) (sent : List ℕ) (site : Site)
+  more_talking : (t : Option (List Request)) (asked : Option (List Request)) (is : t ≡ asked) (sent : List ℕ) (site : Site)
       → AreTalking b limits url ((opening ++ was.sent) ++ sent) ((opening_told b.limits limits url ++ turns_told 1 2 turns) ++ turn_told (tokens_behind 1 turns) (ids_behind 2 turns) asked) (token_behind (tokens_behind 1 turns) asked) (id_behind (ids_behind 2 turns) asked) (held_behind (tokens_held 1 turns) asked) site y first after
       → AreTalking b limits url (opening ++ (was.sent ++ sent)) (opening_told b.limits limits url ++ turns_told 1 2 (turns ++ t ∷ [])) (tokens_behind 1 (turns ++ t ∷ [])) (ids_behind 2 (turns ++ t ∷ [])) (tokens_held 1 (turns ++ t ∷ [])) site y first after
   more_talking t asked is sent site talks =
@@ -145,7 +88,7 @@ module _ (b : Beginning) (limits : Limits) (url : Option (List ℕ)) (moment : D
   lane_then = call_lane acked b.channel (tokens_behind 1 turns)
 
   -- what was sent with this turn, and the number behind it
-  more_sent : (t : Turn) (asked : Option (List Request)) → asked_by t ≡ asked → (sent : List ℕ) → sent ≡ turn_octets lane_then was.site.number (ids_behind 2 turns) moment asked → was.sent ++ sent ≡ turns_octets acked b.channel moment 1 2 2 (turns ++ t ∷ [])
+  more_sent : (t : Option (List Request)) (asked : Option (List Request)) → t ≡ asked → (sent : List ℕ) → sent ≡ turn_octets lane_then was.site.number (ids_behind 2 turns) moment asked → was.sent ++ sent ≡ turns_octets acked b.channel moment 1 2 2 (turns ++ t ∷ [])
   more_sent t asked is sent sent_is =
       ap (λ (o : List ℕ). o ++ sent) s.sent_is
       ∙ (ap (λ (o : List ℕ). turns_octets acked b.channel moment 1 2 2 turns ++ o)
@@ -154,14 +97,14 @@ module _ (b : Beginning) (limits : Limits) (url : Option (List ℕ)) (moment : D
       ∙ ap (λ (o : Option (List Request)). turn_octets lane_then (turns_number acked b.channel 1 2 turns) (ids_behind 2 turns) moment o) (sym is)))
       ∙ sym (octets_push acked b.channel moment 1 2 2 turns t))
 
-  more_number : (t : Turn) (asked : Option (List Request)) → asked_by t ≡ asked → (number : ℕ) → number ≡ turn_number lane_then was.site.number asked → number ≡ turns_number acked b.channel 1 2 (turns ++ t ∷ [])
+  more_number : (t : Option (List Request)) (asked : Option (List Request)) → t ≡ asked → (number : ℕ) → number ≡ turn_number lane_then was.site.number asked → number ≡ turns_number acked b.channel 1 2 (turns ++ t ∷ [])
   more_number t asked is number number_is =
       number_is
       ∙ (ap (λ (n : ℕ). turn_number lane_then n asked) s.number_is
       ∙ (ap (λ (o : Option (List Request)). turn_number lane_then (turns_number acked b.channel 1 2 turns) o) (sym is) ∙ sym (number_push acked b.channel 1 2 turns t)))
 
   -- the replies with this turn, and the state behind it
-  more_replied : (t : Turn) (asked : Option (List Request)) → asked_by t ≡ asked → (added : List Reply) → have ≡ had ++ added
+  more_replied : (t : Option (List Request)) (asked : Option (List Request)) → t ≡ asked → (added : List Reply) → have ≡ had ++ added
       → map (λ (r : Reply). Some r) added ≡ turn_replies (lane_back b limits url (tokens_behind 1 turns)) (state_told b (opening_told b.limits limits url ++ turns_told 1 2 turns)) b.moment asked
       → map (λ (r : Reply). Some r) have ≡ turns_replies b limits url b.first 1 (turns ++ t ∷ [])
   more_replied t asked is added have_is replied =
@@ -174,7 +117,7 @@ module _ (b : Beginning) (limits : Limits) (url : Option (List ℕ)) (moment : D
       ∙ (ap (λ (st : State). turn_replies back st b.moment asked) s.state_is ∙ ap (λ (o : Option (List Request)). turn_replies back (turns_state b.first b.moment turns) b.moment o) (sym is)))
       ∙ sym (replies_push b limits url b.first 1 turns t))))
 
-  more_state : (t : Turn) (asked : Option (List Request)) → asked_by t ≡ asked
+  more_state : (t : Option (List Request)) (asked : Option (List Request)) → t ≡ asked
       → state_told b ((opening_told b.limits limits url ++ turns_told 1 2 turns) ++ turn_told (tokens_behind 1 turns) (ids_behind 2 turns) asked) ≡ turn_state (state_told b (opening_told b.limits limits url ++ turns_told 1 2 turns)) b.moment asked
       → state_told b (opening_told b.limits limits url ++ turns_told 1 2 (turns ++ t ∷ [])) ≡ turns_state b.first b.moment (turns ++ t ∷ [])
   more_state t asked is state =
@@ -186,10 +129,10 @@ module _ (b : Beginning) (limits : Limits) (url : Option (List ℕ)) (moment : D
       ∙ (ap (λ (o : Option (List Request)). turn_state (turns_state b.first b.moment turns) b.moment o) (sym is) ∙ sym (state_push b.first b.moment turns t))))
 
   -- why it is refused
-  refused_as : (t : Turn) (asked : Option (List Request)) → asked_by t ≡ asked → turn_refusal acked turns t ≡ first_reason (turn_reasons acked (tokens_held 1 turns) (ids_behind 2 turns) asked)
+  refused_as : (t : Option (List Request)) (asked : Option (List Request)) → t ≡ asked → turn_refusal acked turns t ≡ first_reason (turn_reasons acked (tokens_held 1 turns) (ids_behind 2 turns) asked)
   refused_as t asked is = ap (λ (o : Option (List Request)). first_reason (turn_reasons acked (tokens_held 1 turns) (ids_behind 2 turns) o)) is
 
-  more_accepted : (t : Turn) → turn_refusal acked turns t ≡ None → AreAccepted acked (turns ++ t ∷ [])
+  more_accepted : (t : Option (List Request)) → turn_refusal acked turns t ≡ None → AreAccepted acked (turns ++ t ∷ [])
   more_accepted t none = AllAfter-push (IsAccepted acked) turns t s.accepted none
 
   carried_on : (got sent : List ℕ) → WhereTold (Carries got sent) now after → WhereTold (Carries (was.got ++ got) (opening ++ (was.sent ++ sent))) first after
@@ -198,7 +141,7 @@ module _ (b : Beginning) (limits : Limits) (url : Option (List ℕ)) (moment : D
       (carried-then was.got (opening ++ was.sent) got sent first now after was.carried carried)
 
   -- requests are asked
-  pub stays_asked : NonePending → (t : Turn) (requests : List Request) (done : Unit {0}) → asked_by t ≡ Some requests → CallsInto {A = Unit {0}} requests x y now after (Ok done) had have → StaysTalking b limits url moment opened (turns ++ t ∷ []) y first after have
+  pub stays_asked : NonePending → (t : Option (List Request)) (requests : List Request) (done : Unit {0}) → t ≡ Some requests → CallsInto {A = Unit {0}} requests x y now after (Ok done) had have → StaysTalking b limits url moment opened (turns ++ t ∷ []) y first after have
   stays_asked law t requests done is c =
       let a = c.answers was.site was.at was.settled in
       record {
@@ -240,7 +183,7 @@ module _ (b : Beginning) (limits : Limits) (url : Option (List ℕ)) (moment : D
       }
 
   -- the token is renewed
-  pub stays_renewed : (t : Turn) (done : Unit {0}) → asked_by t ≡ None → Renews {A = Unit {0}} moment x y now after (Ok done) → have ≡ had → StaysTalking b limits url moment opened (turns ++ t ∷ []) y first after have
+  pub stays_renewed : (t : Option (List Request)) (done : Unit {0}) → t ≡ None → Renews {A = Unit {0}} moment x y now after (Ok done) → have ≡ had → StaysTalking b limits url moment opened (turns ++ t ∷ []) y first after have
   stays_renewed t done is c same =
       let a = c.answers was.site was.at was.settled in
       let u : Site = a.1.0 in
@@ -276,13 +219,13 @@ module _ (b : Beginning) (limits : Limits) (url : Option (List ℕ)) (moment : D
 
   -- or it is not taken, by the first reason against it
 
-  pub asked_not : NonePending → (t : Turn) (requests : List Request) (f : CallsFault) → asked_by t ≡ Some requests → CallsInto {A = Unit {0}} requests x y now after (Err f) had have → IsTurnFault f.fault → turn_refusal acked turns t ≡ Some f.fault
+  pub asked_not : NonePending → (t : Option (List Request)) (requests : List Request) (f : CallsFault) → t ≡ Some requests → CallsInto {A = Unit {0}} requests x y now after (Err f) had have → IsTurnFault f.fault → turn_refusal acked turns t ≡ Some f.fault
   asked_not law t requests f is c reason =
       refused_as t (Some requests) is
       ∙ asked_refused b limits url (opening ++ was.sent) (opening_told b.limits limits url ++ turns_told 1 2 turns) (tokens_behind 1 turns) (ids_behind 2 turns) (tokens_held 1 turns) was.site x first now s.talking y after c.sent c.moves c.same
       law requests f.fault reason (c.answers was.site was.at was.settled).broken
 
-  pub renewed_not : (t : Turn) (f : ClientFault) → asked_by t ≡ None → Renews {A = Unit {0}} moment x y now after (Err f) → IsTurnFault f → turn_refusal acked turns t ≡ Some f
+  pub renewed_not : (t : Option (List Request)) (f : ClientFault) → t ≡ None → Renews {A = Unit {0}} moment x y now after (Err f) → IsTurnFault f → turn_refusal acked turns t ≡ Some f
   renewed_not t f is c reason =
       refused_as t None is
       ∙ renewing_refused b limits url (opening ++ was.sent) (opening_told b.limits limits url ++ turns_told 1 2 turns) (tokens_behind 1 turns) (ids_behind 2 turns) (tokens_held 1 turns) was.site x first now s.talking y after c.sent c.moves c.same
@@ -303,7 +246,7 @@ module _ (b : Beginning) (octets more : List ℕ) (told : List Told) (q : Server
       ∙ (said-more b.channel b.first told Going (spent told b.moment) (spent (Closed ∷ []) b.moment) (spent-enough told b.moment) ∙ sym here)))))
 
 -- it closes
-pub talked_all : (b : Beginning) (limits : Limits) (url : Option (List ℕ)) (moment : DateTime) (turns : List Turn) (x : Connection) (first now after : Option Traffic) (replies : List Reply)
+pub talked_all : (b : Beginning) (limits : Limits) (url : Option (List ℕ)) (moment : DateTime) (turns : List (Option (List Request))) (x : Connection) (first now after : Option Traffic) (replies : List Reply)
     (w : Went b limits url moment x first now) (y : Connection) (later : Option Traffic) (done : Unit {0})
     → StaysTalking b limits url moment w.opened turns y first later replies → Closes {A = Unit {0}} moment (channel_of y) later after (Ok done) → Talked b limits url moment turns first after replies
 talked_all b limits url moment turns x first now after replies w y later done s c =
@@ -343,7 +286,7 @@ talked_all b limits url moment turns x first now after replies w y later done s 
     }
 
 -- over a line to a server
-pub conversed : (b : Beginning) (limits : Limits) (url : Option (List ℕ)) (moment : DateTime) (turns : List Turn) (old new : Served) (replies : List Reply) → old.up ≡ []
+pub conversed : (b : Beginning) (limits : Limits) (url : Option (List ℕ)) (moment : DateTime) (turns : List (Option (List Request))) (old new : Served) (replies : List Reply) → old.up ≡ []
     → Talked b limits url moment turns (Some (traffic_of b old)) (Some (traffic_of b new)) replies → Converses limits url moment turns new.up (said_to b new.up) replies
 conversed b limits url moment turns old new replies none t =
     let sent : List ℕ = opening_octets limits url moment ++ (t.sent ++ closing_at t.last moment) in
@@ -361,7 +304,7 @@ conversed b limits url moment turns old new replies none t =
     }
 
 -- and the server was told just this
-pub closed_by : (b : Beginning) (limits : Limits) (url : Option (List ℕ)) (moment : DateTime) (turns : List Turn) (old new : Served) (replies : List Reply) → old.up ≡ []
+pub closed_by : (b : Beginning) (limits : Limits) (url : Option (List ℕ)) (moment : DateTime) (turns : List (Option (List Request))) (old new : Served) (replies : List Reply) → old.up ≡ []
     → Talked b limits url moment turns (Some (traffic_of b old)) (Some (traffic_of b new)) replies → ServerCloses b.limits b.channel new.up (conversation_told b.limits limits url turns)
 closed_by b limits url moment turns old new replies none t =
     subst (λ (o : List ℕ). ServerCloses b.limits b.channel o (conversation_told b.limits limits url turns))
@@ -377,52 +320,62 @@ line_begins b old none nothing_read =
 
 -- ---- turns, one behind the other
 
--- so many turns were taken
-pub record TakenSoFar (moment : DateTime) (turns : List Turn) (index : ℕ) (x y : Client) (before now : Option Traffic) (had have : List Reply) : Type 0 where
-  pub stays : (b : Beginning) (limits : Limits) (url : Option (List ℕ)) (opened : Site) (first : Option Traffic) → StaysTalking b limits url moment opened [] (connection_of x) first before had
-      → StaysTalking b limits url moment opened (take index turns) (connection_of y) first now have
-  pub ready : IsReady y
+-- the turns of a caller's own type: a value of it is a turn
+module _ {A : Type 0} (turn_of : A → Option (List Request)) where
+  -- so many turns were taken
+  pub record TakenSoFar (moment : DateTime) (turns : List A) (index : ℕ) (x y : Client) (before now : Option Traffic) (had have : List Reply) : Type 0 where
+    pub stays : (b : Beginning) (limits : Limits) (url : Option (List ℕ)) (opened : Site) (first : Option Traffic) → StaysTalking b limits url moment opened [] (connection_of x) first before had
+        → StaysTalking b limits url moment opened (map turn_of (take index turns)) (connection_of y) first now have
+    pub ready : IsReady y
 
-pub taken_none : (moment : DateTime) (turns : List Turn) (x : Client) (before : Option Traffic) (had : List Reply) → IsReady x → TakenSoFar moment turns 0 x x before before had had
-taken_none moment turns x before had ready = record { stays = λ b limits url opened first s. s; ready = ready }
+  pub taken_none : (moment : DateTime) (turns : List A) (x : Client) (before : Option Traffic) (had : List Reply) → IsReady x → TakenSoFar moment turns 0 x x before before had had
+  taken_none moment turns x before had ready = record { stays = λ b limits url opened first s. s; ready = ready }
 
-pub taken_more : (moment : DateTime) (turns : List Turn) (index : ℕ) (x y z : Client) (before now after : Option Traffic) (had have later : List Reply) (t : Turn) → TakenSoFar moment turns index x y before now had have
-    → index < length turns → t ≡ get_or turns index t
-    → ((b : Beginning) (limits : Limits) (url : Option (List ℕ)) (opened : Site) (done : List Turn) (first : Option Traffic) → StaysTalking b limits url moment opened done (connection_of y) first now have
-    → StaysTalking b limits url moment opened (done ++ t ∷ []) (connection_of z) first after later)
-    → IsReady z → TakenSoFar moment turns (index + 1) x z before after had later
-taken_more moment turns index x y z before now after had have later t so less is turn ready = record {
-  stays = λ b limits url opened first s.
-      subst (λ (ts : List Turn). StaysTalking b limits url moment opened ts (connection_of z) first after later)
-      (sym (take_more turns index t less ∙ ap (λ (u : Turn). take index turns ++ u ∷ []) (sym is)))
-      (turn b limits url opened (take index turns) first (so.stays b limits url opened first s));
-  ready = ready;
-}
+  -- the turns up to the next one
+  turns_on : (turns : List A) (index : ℕ) (t : A) → index < length turns → t ≡ get_or turns index t → map turn_of (take (index + 1) turns) ≡ map turn_of (take index turns) ++ turn_of t ∷ []
+  turns_on turns index t less is =
+      ap (map turn_of) (take_more turns index t less ∙ ap (λ (u : A). take index turns ++ u ∷ []) (sym is)) ∙ map-append turn_of (take index turns) (t ∷ [])
 
--- the next one is not taken
-pub refused_next : (moment : DateTime) (turns : List Turn) (index : ℕ) (x y : Client) (before now : Option Traffic) (had have : List Reply) (t : Turn) (f : ClientFault) → TakenSoFar moment turns index x y before now had have
-    → index < length turns → t ≡ get_or turns index t
-    → ((b : Beginning) (limits : Limits) (url : Option (List ℕ)) (opened : Site) (done : List Turn) (first : Option Traffic) → StaysTalking b limits url moment opened done (connection_of y) first now have → turn_refusal (acknowledged b.limits limits url) done t ≡ Some f)
-    → (b : Beginning) (limits : Limits) (url : Option (List ℕ)) (opened : Site) (first : Option Traffic) → StaysTalking b limits url moment opened [] (connection_of x) first before had → FirstRefused (acknowledged b.limits limits url) turns index f
-refused_next moment turns index x y before now had have t f so less is refused b limits url opened first s =
-    let done = so.stays b limits url opened first s in
-    record {
-      before = take index turns;
-      turn = t;
-      behind = drop (index + 1) turns;
-      parts =
-          sym (take-append-drop (index + 1) turns)
-          ∙ (ap (λ (ts : List Turn). ts ++ drop (index + 1) turns) (take_more turns index t less ∙ ap (λ (u : Turn). take index turns ++ u ∷ []) (sym is)) ∙ append_assoc (take index turns) (t ∷ []) (drop (index + 1) turns));
-      place_is = length-take-le index turns (omega (arith, less));
-      accepted = done.accepted;
-      refused = refused b limits url opened (take index turns) first done;
-    }
+  pub taken_more : (moment : DateTime) (turns : List A) (index : ℕ) (x y z : Client) (before now after : Option Traffic) (had have later : List Reply) (t : A) → TakenSoFar moment turns index x y before now had have
+      → index < length turns → t ≡ get_or turns index t
+      → ((b : Beginning) (limits : Limits) (url : Option (List ℕ)) (opened : Site) (done : List (Option (List Request))) (first : Option Traffic) → StaysTalking b limits url moment opened done (connection_of y) first now have
+      → StaysTalking b limits url moment opened (done ++ turn_of t ∷ []) (connection_of z) first after later)
+      → IsReady z → TakenSoFar moment turns (index + 1) x z before after had later
+  taken_more moment turns index x y z before now after had have later t so less is turn ready = record {
+    stays = λ b limits url opened first s.
+        subst (λ (ts : List (Option (List Request))). StaysTalking b limits url moment opened ts (connection_of z) first after later) (sym (turns_on turns index t less is))
+        (turn b limits url opened (map turn_of (take index turns)) first (so.stays b limits url opened first s));
+    ready = ready;
+  }
 
-pub taken_all : (moment : DateTime) (turns : List Turn) (index : ℕ) (x y : Client) (before now : Option Traffic) (had have : List Reply) → TakenSoFar moment turns index x y before now had have → length turns ≤ index
-    → (b : Beginning) (limits : Limits) (url : Option (List ℕ)) (opened : Site) (first : Option Traffic) → StaysTalking b limits url moment opened [] (connection_of x) first before had
-    → StaysTalking b limits url moment opened turns (connection_of y) first now have
-taken_all moment turns index x y before now had have so enough b limits url opened first s =
-    subst (λ (ts : List Turn). StaysTalking b limits url moment opened ts (connection_of y) first now have) (take_all index turns enough) (so.stays b limits url opened first s)
+  -- the next one is not taken
+  pub refused_next : (moment : DateTime) (turns : List A) (index : ℕ) (x y : Client) (before now : Option Traffic) (had have : List Reply) (t : A) (f : ClientFault) → TakenSoFar moment turns index x y before now had have
+      → index < length turns → t ≡ get_or turns index t
+      → ((b : Beginning) (limits : Limits) (url : Option (List ℕ)) (opened : Site) (done : List (Option (List Request))) (first : Option Traffic) → StaysTalking b limits url moment opened done (connection_of y) first now have
+      → turn_refusal (acknowledged b.limits limits url) done (turn_of t) ≡ Some f)
+      → (b : Beginning) (limits : Limits) (url : Option (List ℕ)) (opened : Site) (first : Option Traffic) → StaysTalking b limits url moment opened [] (connection_of x) first before had
+      → FirstRefused (acknowledged b.limits limits url) (map turn_of turns) index f
+  refused_next moment turns index x y before now had have t f so less is refused b limits url opened first s =
+      let done = so.stays b limits url opened first s in
+      record {
+        before = map turn_of (take index turns);
+        turn = turn_of t;
+        behind = map turn_of (drop (index + 1) turns);
+        parts =
+            ap (map turn_of) (sym (take-append-drop (index + 1) turns))
+            ∙ (map-append turn_of (take (index + 1) turns) (drop (index + 1) turns)
+            ∙ (ap (λ (ts : List (Option (List Request))). ts ++ map turn_of (drop (index + 1) turns)) (turns_on turns index t less is)
+            ∙ append_assoc (map turn_of (take index turns)) (turn_of t ∷ []) (map turn_of (drop (index + 1) turns))));
+        place_is = length-map (take index turns) turn_of ∙ length-take-le index turns (omega (arith, less));
+        accepted = done.accepted;
+        refused = refused b limits url opened (map turn_of (take index turns)) first done;
+      }
+
+  pub taken_all : (moment : DateTime) (turns : List A) (index : ℕ) (x y : Client) (before now : Option Traffic) (had have : List Reply) → TakenSoFar moment turns index x y before now had have → length turns ≤ index
+      → (b : Beginning) (limits : Limits) (url : Option (List ℕ)) (opened : Site) (first : Option Traffic) → StaysTalking b limits url moment opened [] (connection_of x) first before had
+      → StaysTalking b limits url moment opened (map turn_of turns) (connection_of y) first now have
+  taken_all moment turns index x y before now had have so enough b limits url opened first s =
+      subst (λ (ts : List A). StaysTalking b limits url moment opened (map turn_of ts) (connection_of y) first now have) (take_all index turns enough) (so.stays b limits url opened first s)
 
 -- ---- what calls of a client say
 
@@ -506,7 +459,7 @@ left_well (Ok done) b s up now leaves closed = subst (λ (t : Stage). LeavesAt t
 
 -- ---- where it did all
 
-module _ (b : Beginning) (limits : Limits) (channel : ℕ) (services : State) (url : Option (List ℕ)) (moment : DateTime) (turns : List Turn) (old new : Served) (replies : List Reply) (is : b ≡ record { limits = limits; channel = channel; first = services; moment = moment })
+module _ (b : Beginning) (limits : Limits) (channel : ℕ) (services : State) (url : Option (List ℕ)) (moment : DateTime) (turns : List (Option (List Request))) (old new : Served) (replies : List Reply) (is : b ≡ record { limits = limits; channel = channel; first = services; moment = moment })
     (able : CanOpen (record { limits = limits; channel = channel; first = services; moment = moment }) limits url moment) (none : old.up ≡ []) (nothing_read : old.read ≡ 0)
     (t : (b' : Beginning) → CanOpen b' limits url moment → ◌≡◌ {A = Option Traffic} (Some (traffic_of b old)) (Some (line_to b')) → Talked b' limits url moment turns (Some (traffic_of b old)) (Some (traffic_of b new)) replies) where
   talked : Talked b limits url moment turns (Some (traffic_of b old)) (Some (traffic_of b new)) replies
@@ -546,7 +499,7 @@ module _ (b : Beginning) (limits : Limits) (channel : ℕ) (services : State) (u
       subst (λ (d : Beginning). ServerCloses d.limits d.channel up (conversation_told d.limits limits url turns)) is (all_closed_there up p)
 
 -- what went over the line
-pub conversed_on : (r : Result (Unit {0}) ClientFault) (b : Beginning) (limits : Limits) (channel : ℕ) (services : State) (url : Option (List ℕ)) (moment : DateTime) (turns : List Turn) (old new : Served) (replies : List Reply) (up down : List ℕ)
+pub conversed_on : (r : Result (Unit {0}) ClientFault) (b : Beginning) (limits : Limits) (channel : ℕ) (services : State) (url : Option (List ℕ)) (moment : DateTime) (turns : List (Option (List Request))) (old new : Served) (replies : List Reply) (up down : List ℕ)
     → b ≡ record { limits = limits; channel = channel; first = services; moment = moment } → CanOpen (record { limits = limits; channel = channel; first = services; moment = moment }) limits url moment → old.up ≡ [] → old.read ≡ 0
     → OnOk r ((b' : Beginning) → CanOpen b' limits url moment → ◌≡◌ {A = Option Traffic} (Some (traffic_of b old)) (Some (line_to b')) → Talked b' limits url moment turns (Some (traffic_of b old)) (Some (traffic_of b new)) replies)
     → up ≡ new.up → down ≡ said_to b new.up → OnOk r (Converses limits url moment turns up down replies)
@@ -555,7 +508,7 @@ conversed_on (Ok found) b limits channel services url moment turns old new repli
     all_conversed b limits channel services url moment turns old new replies is able none nothing_read t up down p q
 
 -- and what it told the server
-pub closed_on : (r : Result (Unit {0}) ClientFault) (b : Beginning) (limits : Limits) (channel : ℕ) (services : State) (url : Option (List ℕ)) (moment : DateTime) (turns : List Turn) (old new : Served) (replies : List Reply) (up : List ℕ)
+pub closed_on : (r : Result (Unit {0}) ClientFault) (b : Beginning) (limits : Limits) (channel : ℕ) (services : State) (url : Option (List ℕ)) (moment : DateTime) (turns : List (Option (List Request))) (old new : Served) (replies : List Reply) (up : List ℕ)
     → b ≡ record { limits = limits; channel = channel; first = services; moment = moment } → CanOpen (record { limits = limits; channel = channel; first = services; moment = moment }) limits url moment → old.up ≡ [] → old.read ≡ 0
     → OnOk r ((b' : Beginning) → CanOpen b' limits url moment → ◌≡◌ {A = Option Traffic} (Some (traffic_of b old)) (Some (line_to b')) → Talked b' limits url moment turns (Some (traffic_of b old)) (Some (traffic_of b new)) replies)
     → up ≡ new.up → OnOk r (ServerCloses limits channel up (conversation_told limits limits url turns))
@@ -564,7 +517,7 @@ closed_on (Ok found) b limits channel services url moment turns old new replies 
     all_closed b limits channel services url moment turns old new replies is able none nothing_read t up p
 
 -- and each turn was accepted
-pub accepted_on : (r : Result (Unit {0}) ClientFault) (b : Beginning) (limits : Limits) (channel : ℕ) (services : State) (url : Option (List ℕ)) (moment : DateTime) (turns : List Turn) (old new : Served) (replies : List Reply)
+pub accepted_on : (r : Result (Unit {0}) ClientFault) (b : Beginning) (limits : Limits) (channel : ℕ) (services : State) (url : Option (List ℕ)) (moment : DateTime) (turns : List (Option (List Request))) (old new : Served) (replies : List Reply)
     → b ≡ record { limits = limits; channel = channel; first = services; moment = moment } → CanOpen (record { limits = limits; channel = channel; first = services; moment = moment }) limits url moment → old.up ≡ [] → old.read ≡ 0
     → OnOk r ((b' : Beginning) → CanOpen b' limits url moment → ◌≡◌ {A = Option Traffic} (Some (traffic_of b old)) (Some (line_to b')) → Talked b' limits url moment turns (Some (traffic_of b old)) (Some (traffic_of b new)) replies)
     → OnOk r (AreAccepted (acknowledged limits limits url) turns)
@@ -572,7 +525,7 @@ accepted_on (Err f) b limits channel services url moment turns old new replies i
 accepted_on (Ok found) b limits channel services url moment turns old new replies is able none nothing_read t = all_accepted b limits channel services url moment turns old new replies is able none nothing_read t
 
 -- or the first that is not is named
-pub refused_on : (r : Result (Unit {0}) ClientFault) (b : Beginning) (limits : Limits) (channel : ℕ) (services : State) (url : Option (List ℕ)) (moment : DateTime) (turns : List Turn) (old : Served) (place : ℕ)
+pub refused_on : (r : Result (Unit {0}) ClientFault) (b : Beginning) (limits : Limits) (channel : ℕ) (services : State) (url : Option (List ℕ)) (moment : DateTime) (turns : List (Option (List Request))) (old : Served) (place : ℕ)
     → b ≡ record { limits = limits; channel = channel; first = services; moment = moment } → CanOpen (record { limits = limits; channel = channel; first = services; moment = moment }) limits url moment → old.up ≡ [] → old.read ≡ 0
     → IfErr r (λ f. IsTurnFault f → (b' : Beginning) → CanOpen b' limits url moment → ◌≡◌ {A = Option Traffic} (Some (traffic_of b old)) (Some (line_to b')) → FirstRefused (acknowledged b'.limits limits url) turns place f)
     → IfErr r (λ f. IsTurnFault f → FirstRefused (acknowledged limits limits url) turns place f)
@@ -581,7 +534,7 @@ refused_on (Err f) b limits channel services url moment turns old place is able 
     subst (λ (d : Beginning). FirstRefused (acknowledged d.limits limits url) turns place f) is (t reason b (subst (λ (d : Beginning). CanOpen d limits url moment) (sym is) able) (line_begins b old none nothing_read))
 
 -- and the client sent just these octets
-pub sent_on : (r : Result (Unit {0}) ClientFault) (b : Beginning) (limits : Limits) (channel : ℕ) (services : State) (url : Option (List ℕ)) (moment : DateTime) (turns : List Turn) (old new : Served) (replies : List Reply) (up : List ℕ)
+pub sent_on : (r : Result (Unit {0}) ClientFault) (b : Beginning) (limits : Limits) (channel : ℕ) (services : State) (url : Option (List ℕ)) (moment : DateTime) (turns : List (Option (List Request))) (old new : Served) (replies : List Reply) (up : List ℕ)
     → b ≡ record { limits = limits; channel = channel; first = services; moment = moment } → CanOpen (record { limits = limits; channel = channel; first = services; moment = moment }) limits url moment → old.up ≡ [] → old.read ≡ 0
     → OnOk r ((b' : Beginning) → CanOpen b' limits url moment → ◌≡◌ {A = Option Traffic} (Some (traffic_of b old)) (Some (line_to b')) → Talked b' limits url moment turns (Some (traffic_of b old)) (Some (traffic_of b new)) replies)
     → up ≡ new.up → OnOk r (up ≡ conversation_octets limits limits url channel moment turns)
@@ -589,7 +542,7 @@ sent_on (Err f) b limits channel services url moment turns old new replies up is
 sent_on (Ok found) b limits channel services url moment turns old new replies up is able none nothing_read t p = all_sent b limits channel services url moment turns old new replies is able none nothing_read t up p
 
 -- each request has the reply that is worked out of the services
-pub replied_on : (r : Result (Unit {0}) ClientFault) (b : Beginning) (limits : Limits) (channel : ℕ) (services : State) (url : Option (List ℕ)) (moment : DateTime) (turns : List Turn) (old new : Served) (replies : List Reply)
+pub replied_on : (r : Result (Unit {0}) ClientFault) (b : Beginning) (limits : Limits) (channel : ℕ) (services : State) (url : Option (List ℕ)) (moment : DateTime) (turns : List (Option (List Request))) (old new : Served) (replies : List Reply)
     → b ≡ record { limits = limits; channel = channel; first = services; moment = moment } → CanOpen (record { limits = limits; channel = channel; first = services; moment = moment }) limits url moment → old.up ≡ [] → old.read ≡ 0
     → OnOk r ((b' : Beginning) → CanOpen b' limits url moment → ◌≡◌ {A = Option Traffic} (Some (traffic_of b old)) (Some (line_to b')) → Talked b' limits url moment turns (Some (traffic_of b old)) (Some (traffic_of b new)) replies)
     → OnOk r (map (λ (x : Reply). Some x) replies ≡ turns_replies (record { limits = limits; channel = channel; first = services; moment = moment }) limits url services 1 turns)
@@ -597,7 +550,7 @@ replied_on (Err f) b limits channel services url moment turns old new replies is
 replied_on (Ok found) b limits channel services url moment turns old new replies is able none nothing_read t = all_replied b limits channel services url moment turns old new replies is able none nothing_read t
 
 -- and the services are as the turns leave them
-pub state_on : (r : Result (Unit {0}) ClientFault) (b : Beginning) (limits : Limits) (channel : ℕ) (services : State) (url : Option (List ℕ)) (moment : DateTime) (turns : List Turn) (old new : Served) (replies : List Reply) (up : List ℕ) (now : State)
+pub state_on : (r : Result (Unit {0}) ClientFault) (b : Beginning) (limits : Limits) (channel : ℕ) (services : State) (url : Option (List ℕ)) (moment : DateTime) (turns : List (Option (List Request))) (old new : Served) (replies : List Reply) (up : List ℕ) (now : State)
     → b ≡ record { limits = limits; channel = channel; first = services; moment = moment } → CanOpen (record { limits = limits; channel = channel; first = services; moment = moment }) limits url moment → old.up ≡ [] → old.read ≡ 0
     → OnOk r ((b' : Beginning) → CanOpen b' limits url moment → ◌≡◌ {A = Option Traffic} (Some (traffic_of b old)) (Some (line_to b')) → Talked b' limits url moment turns (Some (traffic_of b old)) (Some (traffic_of b new)) replies)
     → up ≡ new.up → OnOk r (now ≡ left_by b up) → OnOk r (now ≡ turns_state services moment turns)

@@ -21,7 +21,7 @@ signed_fits : (w : Width) (z : ℤ) → FitsSigned w z → IsTrue (in_range w z)
 signed_fits w (pos n) f = lt-ltb n (2 ^ hbits w) f.sfits
 signed_fits w (negsuc n) f = lt-ltb n (2 ^ hbits w) f.sfits
 
-moment_fits : (moment : DateTime) → FitsSigned w64 moment.ticks → IsTrue (date_time.encodable moment)
+pub moment_fits : (moment : DateTime) → FitsSigned w64 moment.ticks → IsTrue (date_time.encodable moment)
 unfolding date_time
 moment_fits moment f =
     and_from (in_range w64 moment.ticks) (nat_lt (cast_unsigned w64 moment.ticks) (256 ^ octets_of w64)) (signed_fits w64 moment.ticks f)

@@ -1,6 +1,6 @@
 mod Further
 mod Lists
-mod Saying
+pub mod Saying
 mod Stepped
 mod Pieces
 mod Lines
@@ -17,5 +17,6 @@ mod Rounds
 mod Talks
 mod Refused
 mod Begun
+pub mod Pushes
 mod Courses
-mod Fitting
+pub mod Fitting

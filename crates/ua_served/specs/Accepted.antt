@@ -11,9 +11,7 @@ use Rattle.ua_services.specs.declared.request.Request.{Request}
 use Rattle.ua_client.specs.Sent.{group_reasons}
 use Rattle.ua_client.specs.declared.fault.ClientFault.{ClientFault}
 use Rattle.ua_client.specs.declared.fault.ClientFault.TheVariants as fault
-use Rattle.ua_served.specs.Course.{asked_by}
 use Rattle.ua_served.specs.Turns.{ids_behind}
-use Rattle.ua_served.specs.declared.turn.Turn.{Turn}
 
 -- what a server with these limits acknowledges to a client with those, for this URL (OPC 10000-6, 7.1.2.4)
 abbrev pub acknowledged : Limits → Limits → Option (List ℕ) → Ack
@@ -32,9 +30,9 @@ held_behind held (Some requests) = held_behind_calls held (length requests)
 held_behind held None = held + 1
 
 -- behind turns
-abbrev pub tokens_held : ℕ → List Turn → ℕ
+abbrev pub tokens_held : ℕ → List (Option (List Request)) → ℕ
 tokens_held held [] = held
-tokens_held held (t ∷ turns) = tokens_held (held_behind held (asked_by t)) turns
+tokens_held held (t ∷ turns) = tokens_held (held_behind held t) turns
 
 -- ---- why a turn is not taken
 
@@ -46,22 +44,22 @@ turn_reasons a held id (Some requests) = group_reasons (Some a) id requests
 turn_reasons a held id None = (fault.TooManyTokens, nat_le most_tokens held) ∷ (fault.Exhausted, nat_le no_id id) ∷ []
 
 -- the first of these reasons against a turn behind others, if there is one; the token and the request id of the opening were used before
-abbrev pub turn_refusal : Ack → List Turn → Turn → Option ClientFault
-turn_refusal a before turn = first_reason (turn_reasons a (tokens_held 1 before) (ids_behind 2 before) (asked_by turn))
+abbrev pub turn_refusal : Ack → List (Option (List Request)) → Option (List Request) → Option ClientFault
+turn_refusal a before turn = first_reason (turn_reasons a (tokens_held 1 before) (ids_behind 2 before) turn)
 
 -- a turn behind these is accepted
-abbrev pub IsAccepted : Ack → List Turn → Turn → Type 0
+abbrev pub IsAccepted : Ack → List (Option (List Request)) → Option (List Request) → Type 0
 IsAccepted a before turn = turn_refusal a before turn ≡ None
 
 -- each of the turns is, behind those before it
-abbrev pub AreAccepted : Ack → List Turn → Type 0
+abbrev pub AreAccepted : Ack → List (Option (List Request)) → Type 0
 AreAccepted a turns = AllAfter (IsAccepted a) turns
 
 -- the first of the turns that is not accepted has this place, and this is why
-pub record FirstRefused (a : Ack) (turns : List Turn) (place : ℕ) (reason : ClientFault) : Type 0 where
-  pub before : List Turn
-  pub turn : Turn
-  pub behind : List Turn
+pub record FirstRefused (a : Ack) (turns : List (Option (List Request))) (place : ℕ) (reason : ClientFault) : Type 0 where
+  pub before : List (Option (List Request))
+  pub turn : Option (List Request)
+  pub behind : List (Option (List Request))
   pub parts : turns ≡ before ++ turn ∷ behind
   pub place_is : length before ≡ place
   pub accepted : AreAccepted a before

@@ -14,24 +14,17 @@ use Rattle.ua_client.specs.Renewing.{IsRenewed, IsSettled, renewal_at}
 use Rattle.ua_client.specs.Site.{Site, At}
 use Rattle.ua_client.specs.declared.connection.Connection.{Connection}
 use Rattle.ua_client.specs.declared.reply.Reply.{Reply}
-use Rattle.ua_served.specs.declared.turn.Turn.{Turn}
-use Rattle.ua_served.specs.declared.turn.Turn.TheVariants.{Ask, Renew}
-
--- the requests that are asked in a turn; none where it is a renewal
-abbrev pub asked_by : Turn → Option (List Request)
-asked_by (Ask requests) = Some requests.items
-asked_by Renew = None
 
 -- the turns of a client that stood here, each done where those before it left it, and all that it asks answered: where it then stands, what it
 -- sent, and the replies
-pub data Course (moment : DateTime) (s : Site) : List Turn → Site → List ℕ → List Reply → Type 0 where
+pub data Course (moment : DateTime) (s : Site) : List (Option (List Request)) → Site → List ℕ → List Reply → Type 0 where
   Begun : Course moment s [] s [] []
   -- requests, in groups of 64, of which the last may have fewer, each call with its own reply, by the channel of a client
-  Asked : {x : ClientChannel} {turns : List Turn} {m u : Site} {sent more taken : List ℕ} {replies added : List Reply} (t : Turn) (groups : List (List Request))
-      → Course moment s turns m sent replies → asked_by t ≡ Some (all_of groups) → AreGroups groups → Rounds x m groups u more taken added → Course moment s (turns ++ t ∷ []) u (sent ++ more) (replies ++ added)
+  Asked : {x : ClientChannel} {turns : List (Option (List Request))} {m u : Site} {sent more taken : List ℕ} {replies added : List Reply} (t : Option (List Request)) (groups : List (List Request))
+      → Course moment s turns m sent replies → t ≡ Some (all_of groups) → AreGroups groups → Rounds x m groups u more taken added → Course moment s (turns ++ t ∷ []) u (sent ++ more) (replies ++ added)
   -- a renewal
-  Renewed : {turns : List Turn} {m u : Site} {sent taken : List ℕ} {replies : List Reply} (t : Turn) (x : ClientChannel)
-      → Course moment s turns m sent replies → asked_by t ≡ None → IsRenewed x m u taken → Course moment s (turns ++ t ∷ []) u (sent ++ renewal_at m moment) replies
+  Renewed : {turns : List (Option (List Request))} {m u : Site} {sent taken : List ℕ} {replies : List Reply} (t : Option (List Request)) (x : ClientChannel)
+      → Course moment s turns m sent replies → t ≡ None → IsRenewed x m u taken → Course moment s (turns ++ t ∷ []) u (sent ++ renewal_at m moment) replies
 
 -- what a client sends to open its connection
 abbrev pub opening_octets : Limits → Option (List ℕ) → DateTime → List ℕ
@@ -39,7 +32,7 @@ opening_octets limits url moment = hello_octets limits url ++ open_octets moment
 
 -- all of it, from the HEL to the CLO, and what it took: these octets were sent and all of those were taken, by a client with these turns,
 -- whose replies are these
-pub record Converses (limits : Limits) (url : Option (List ℕ)) (moment : DateTime) (turns : List Turn) (up down : List ℕ) (replies : List Reply) : Type 0 where
+pub record Converses (limits : Limits) (url : Option (List ℕ)) (moment : DateTime) (turns : List (Option (List Request))) (up down : List ℕ) (replies : List Reply) : Type 0 where
   -- where the channel was open
   pub x : ClientChannel
   pub opened : Site
@@ -55,7 +48,7 @@ pub record Converses (limits : Limits) (url : Option (List ℕ)) (moment : DateT
 -- ---- on the way
 
 -- a client that did these turns over a line: where it stands, what went over the line, and the replies
-pub record Stays (moment : DateTime) (opening : List ℕ) (opened : Site) (turns : List Turn) (x : Connection) (before now : Option Traffic) (replies : List Reply) : Type 0 where
+pub record Stays (moment : DateTime) (opening : List ℕ) (opened : Site) (turns : List (Option (List Request))) (x : Connection) (before now : Option Traffic) (replies : List Reply) : Type 0 where
   pub site : Site
   pub at : At (channel_of x) site
   pub settled : IsSettled site

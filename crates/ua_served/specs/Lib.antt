@@ -4,6 +4,7 @@
 pub mod Beginning
 pub mod Says
 pub mod Kept
+pub mod Asked
 pub mod Course
 pub mod Together
 pub mod Turns

@@ -17,9 +17,7 @@ use Rattle.ua_server.specs.State.{State}
 use Rattle.ua_client.specs.declared.reply.Reply.{Reply}
 use Rattle.ua_client.specs.declared.reply.Reply.TheVariants as reply
 use Rattle.ua_served.specs.Beginning.{Beginning}
-use Rattle.ua_served.specs.Course.{asked_by}
 use Rattle.ua_served.specs.Turns.{token_behind}
-use Rattle.ua_served.specs.declared.turn.Turn.{Turn}
 
 -- the reply that octets are read as, if they are a response
 abbrev pub reply_read : Result Response ResponseFault → Option Reply
@@ -57,13 +55,13 @@ abbrev pub lane_back : Beginning → Limits → Option (List ℕ) → ℕ → La
 lane_back b client url token = lane_of b.channel token (agreement_of b.limits (hello_to client url))
 
 -- of turns in order, at a server that began so, where this is the newest token: each reply goes under the token of its request
-abbrev pub turns_replies : Beginning → Limits → Option (List ℕ) → State → ℕ → List Turn → List (Option Reply)
+abbrev pub turns_replies : Beginning → Limits → Option (List ℕ) → State → ℕ → List (Option (List Request)) → List (Option Reply)
 turns_replies b client url s token [] = []
 turns_replies b client url s token (t ∷ turns) =
-    turn_replies (lane_back b client url token) s b.moment (asked_by t)
-    ++ turns_replies b client url (turn_state s b.moment (asked_by t)) (token_behind token (asked_by t)) turns
+    turn_replies (lane_back b client url token) s b.moment t
+    ++ turns_replies b client url (turn_state s b.moment t) (token_behind token t) turns
 
 -- the state that they leave
-abbrev pub turns_state : State → DateTime → List Turn → State
+abbrev pub turns_state : State → DateTime → List (Option (List Request)) → State
 turns_state s moment [] = s
-turns_state s moment (t ∷ turns) = turns_state (turn_state s moment (asked_by t)) moment turns
+turns_state s moment (t ∷ turns) = turns_state (turn_state s moment t) moment turns

@@ -11,9 +11,8 @@ use Rattle.ua_client.specs.Client.{closing_by}
 use Rattle.ua_client.specs.Renewing.{renewal_by}
 use Rattle.ua_client.specs.Sent.{bodies_of, calls_octets, numbers_behind}
 use Rattle.ua_served.specs.Accepted.{acknowledged}
-use Rattle.ua_served.specs.Course.{asked_by, opening_octets}
+use Rattle.ua_served.specs.Course.{opening_octets}
 use Rattle.ua_served.specs.Turns.{id_behind, ids_behind, token_behind, tokens_behind}
-use Rattle.ua_served.specs.declared.turn.Turn.{Turn}
 
 -- ---- one turn, where calls go in this lane, with this sequence number and this request id next
 
@@ -29,25 +28,25 @@ turn_number lane number None = next_number number
 
 -- ---- turns in order, on a channel of a server that sent this ACK, where this is the newest token
 
-abbrev pub turns_octets : Ack → ℕ → DateTime → ℕ → ℕ → ℕ → List Turn → List ℕ
+abbrev pub turns_octets : Ack → ℕ → DateTime → ℕ → ℕ → ℕ → List (Option (List Request)) → List ℕ
 turns_octets a channel moment token number id [] = []
 turns_octets a channel moment token number id (t ∷ turns) =
-    turn_octets (call_lane a channel token) number id moment (asked_by t)
-    ++ turns_octets a channel moment (token_behind token (asked_by t)) (turn_number (call_lane a channel token) number (asked_by t)) (id_behind id (asked_by t)) turns
+    turn_octets (call_lane a channel token) number id moment t
+    ++ turns_octets a channel moment (token_behind token t) (turn_number (call_lane a channel token) number t) (id_behind id t) turns
 
 -- the sequence number behind them
-abbrev pub turns_number : Ack → ℕ → ℕ → ℕ → List Turn → ℕ
+abbrev pub turns_number : Ack → ℕ → ℕ → ℕ → List (Option (List Request)) → ℕ
 turns_number a channel token number [] = number
-turns_number a channel token number (t ∷ turns) = turns_number a channel (token_behind token (asked_by t)) (turn_number (call_lane a channel token) number (asked_by t)) turns
+turns_number a channel token number (t ∷ turns) = turns_number a channel (token_behind token t) (turn_number (call_lane a channel token) number t) turns
 
 -- ---- all of it
 
 -- the CLO behind turns (OPC 10000-6, 7.1.4)
-abbrev pub closing_behind : Ack → ℕ → DateTime → List Turn → List ℕ
+abbrev pub closing_behind : Ack → ℕ → DateTime → List (Option (List Request)) → List ℕ
 closing_behind a channel moment turns = closing_by (Some (call_lane a channel (tokens_behind 1 turns))) (turns_number a channel 1 2 turns) (ids_behind 2 turns) moment
 
 -- what a client with these limits says to a server with those, on this channel: the HEL and the OPN, the turns, and the CLO; the first OPN has the
 -- number 1 and the request id 1, and brings the token 1
-abbrev pub conversation_octets : Limits → Limits → Option (List ℕ) → ℕ → DateTime → List Turn → List ℕ
+abbrev pub conversation_octets : Limits → Limits → Option (List ℕ) → ℕ → DateTime → List (Option (List Request)) → List ℕ
 conversation_octets server client url channel moment turns =
     opening_octets client url moment ++ (turns_octets (acknowledged server client url) channel moment 1 2 2 turns ++ closing_behind (acknowledged server client url) channel moment turns)

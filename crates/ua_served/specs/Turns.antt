@@ -6,8 +6,6 @@ use Rattle.ua_channel.specs.ClientSends.{hello_to}
 use Rattle.ua_channel.specs.ServerTold.{Told, Agreed, Opened, Asked, Closed}
 use Rattle.ua_services.specs.declared.request.Request.{Request}
 use Rattle.ua_client.specs.Sent.{bodies_of}
-use Rattle.ua_served.specs.Course.{asked_by}
-use Rattle.ua_served.specs.declared.turn.Turn.{Turn}
 
 -- ---- one turn, by the requests that are asked in it; none where it is a renewal
 
@@ -35,19 +33,19 @@ id_behind id None = id + 1
 -- ---- all turns
 
 -- turns in order, where this is the newest token and the next request id
-abbrev pub turns_told : ℕ → ℕ → List Turn → List Told
+abbrev pub turns_told : ℕ → ℕ → List (Option (List Request)) → List Told
 turns_told token id [] = []
-turns_told token id (t ∷ turns) = turn_told token id (asked_by t) ++ turns_told (token_behind token (asked_by t)) (id_behind id (asked_by t)) turns
+turns_told token id (t ∷ turns) = turn_told token id t ++ turns_told (token_behind token t) (id_behind id t) turns
 
 -- the newest token behind them
-abbrev pub tokens_behind : ℕ → List Turn → ℕ
+abbrev pub tokens_behind : ℕ → List (Option (List Request)) → ℕ
 tokens_behind token [] = token
-tokens_behind token (t ∷ turns) = tokens_behind (token_behind token (asked_by t)) turns
+tokens_behind token (t ∷ turns) = tokens_behind (token_behind token t) turns
 
 -- the next request id behind them
-abbrev pub ids_behind : ℕ → List Turn → ℕ
+abbrev pub ids_behind : ℕ → List (Option (List Request)) → ℕ
 ids_behind id [] = id
-ids_behind id (t ∷ turns) = ids_behind (id_behind id (asked_by t)) turns
+ids_behind id (t ∷ turns) = ids_behind (id_behind id t) turns
 
 -- ---- a whole conversation
 
@@ -57,5 +55,5 @@ abbrev pub opening_told : Limits → Limits → Option (List ℕ) → List Told
 opening_told server client url = Agreed (agreement_of server (hello_to client url)) ∷ (Opened 1 0 1 3600000 ∷ [])
 
 -- all of it: the opening, the turns, and the CLO
-abbrev pub conversation_told : Limits → Limits → Option (List ℕ) → List Turn → List Told
+abbrev pub conversation_told : Limits → Limits → Option (List ℕ) → List (Option (List Request)) → List Told
 conversation_told server client url turns = (opening_told server client url ++ turns_told 1 2 turns) ++ Closed ∷ []

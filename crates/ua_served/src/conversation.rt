@@ -17,12 +17,12 @@ ghost use Rattle.ua_served.specs.Replies.{turns_replies, turns_state};
 ghost use Rattle.ua_served.specs.Sends.{conversation_octets};
 ghost use Rattle.ua_served.specs.Turns.{conversation_told};
 ghost use Rattle.ua_served.specs.declared.stage.Stage.TheVariants.{Ended};
-ghost use Rattle.ua_served.specs.declared.turn.Turn.{Turn};
+ghost use Rattle.ua_services.specs.declared.request.Request.{Request};
 ghost use Rattle.ua_served.specs.inside.Talking.{CanOpen, StaysTalking, Talked, Went, line_to};
 
 use crate::served_line::{Began, ServedLine};
 use crate::stage::Stage;
-use crate::turn::Turn;
+use crate::turn::AsTurn;
 use std::alloc::Global;
 use std::marker::Brand;
 use ua_builtin::{DateTime, UaString};
@@ -72,27 +72,27 @@ fn begin<L: Line>(
 }
 
 /// Takes a turn, and adds the replies.
-fn take_turn<L: Line>(
+fn take_turn<T: AsTurn, L: Line>(
     client: &mut Client,
     line: &mut L,
-    turn: &Turn,
+    turn: &T,
     moment: DateTime,
     replies: &mut Vec<Reply>,
 ) -> Result<(), ClientFault>
     requires { IsReady client.old }
-    ensures stays { OnOk result ((b : Beginning) (limits : Limits) (url : Option (List ℕ)) (opened : Site) (turns : List Turn) (first : Option Traffic) → StaysTalking b limits url moment opened turns (connection_of client.old) first (L.traffic line.old) replies.old.items
-        → StaysTalking b limits url moment opened (turns ++ turn.now ∷ []) (connection_of client.new) first (L.traffic line.new) replies.new.items) }
-    ensures refused { IfErr result (λ fault. IsTurnFault fault → (b : Beginning) (limits : Limits) (url : Option (List ℕ)) (opened : Site) (turns : List Turn) (first : Option Traffic) → StaysTalking b limits url moment opened turns (connection_of client.old) first (L.traffic line.old) replies.old.items
-        → turn_refusal (acknowledged b.limits limits url) turns turn.now ≡ Some fault) }
+    ensures stays { OnOk result ((b : Beginning) (limits : Limits) (url : Option (List ℕ)) (opened : Site) (turns : List (Option (List Request))) (first : Option Traffic) → StaysTalking b limits url moment opened turns (connection_of client.old) first (L.traffic line.old) replies.old.items
+        → StaysTalking b limits url moment opened (turns ++ T.turn turn.now ∷ []) (connection_of client.new) first (L.traffic line.new) replies.new.items) }
+    ensures refused { IfErr result (λ fault. IsTurnFault fault → (b : Beginning) (limits : Limits) (url : Option (List ℕ)) (opened : Site) (turns : List (Option (List Request))) (first : Option Traffic) → StaysTalking b limits url moment opened turns (connection_of client.old) first (L.traffic line.old) replies.old.items
+        → turn_refusal (acknowledged b.limits limits url) turns (T.turn turn.now) ≡ Some fault) }
     ensures ready { OnOk result (IsReady client.new) }
 {
     clients_are_settled();
-    match turn {
-        Turn::Ask(requests) => match client.call_into(line, requests, moment, replies) {
+    match turn.requests() {
+        Some(requests) => match client.call_into(line, requests, moment, replies) {
             Ok(()) => Ok(()),
             Err(calls) => Err(calls.fault),
         },
-        Turn::Renew => match client.renew(line, moment) {
+        None => match client.renew(line, moment) {
             Ok(()) => Ok(()),
             Err(fault) => Err(fault),
         },
@@ -100,10 +100,10 @@ fn take_turn<L: Line>(
 }
 
 /// Takes all turns, adds the replies, and counts the turns.
-fn take_turns<L: Line>(
+fn take_turns<T: AsTurn, L: Line>(
     client: &mut Client,
     line: &mut L,
-    turns: &[Turn],
+    turns: &[T],
     moment: DateTime,
     replies: &mut Vec<Reply>,
     taken: &mut usize,
@@ -111,10 +111,10 @@ fn take_turns<L: Line>(
     requires ready { IsReady client.old }
     requires none { taken.old ≡ 0 }
     ensures stays { OnOk result ((b : Beginning) (limits : Limits) (url : Option (List ℕ)) (opened : Site) (first : Option Traffic) → StaysTalking b limits url moment opened [] (connection_of client.old) first (L.traffic line.old) replies.old.items
-        → StaysTalking b limits url moment opened turns.now (connection_of client.new) first (L.traffic line.new) replies.new.items) }
+        → StaysTalking b limits url moment opened (map T.turn turns.now) (connection_of client.new) first (L.traffic line.new) replies.new.items) }
     ensures taken { OnOk result (taken.new ≡ length turns.now) }
     ensures refused { IfErr result (λ fault. IsTurnFault fault → (b : Beginning) (limits : Limits) (url : Option (List ℕ)) (opened : Site) (first : Option Traffic) → StaysTalking b limits url moment opened [] (connection_of client.old) first (L.traffic line.old) replies.old.items
-        → FirstRefused (acknowledged b.limits limits url) turns.now taken.new fault) }
+        → FirstRefused (acknowledged b.limits limits url) (map T.turn turns.now) taken.new fault) }
     ensures ready { OnOk result (IsReady client.new) }
 {
     for turn in turns {
@@ -127,12 +127,12 @@ fn take_turns<L: Line>(
 }
 
 /// Opens a client, takes all turns and closes it; adds the replies, and counts the turns.
-fn talk<L: Line>(
+fn talk<T: AsTurn, L: Line>(
     alloc: Global,
     line: &mut L,
     limits: Limits,
     url: UaString,
-    turns: &[Turn],
+    turns: &[T],
     moment: DateTime,
     replies: &mut Vec<Reply>,
     taken: &mut usize,
@@ -140,9 +140,9 @@ fn talk<L: Line>(
     requires url { IsTrue (text.encodable url) }
     requires none { replies.old.items ≡ [] }
     requires first { taken.old ≡ 0 }
-    ensures talked { OnOk result ((b : Beginning) → CanOpen b limits url moment → L.traffic line.old ≡ Some (line_to b) → Talked b limits url moment turns.now (L.traffic line.old) (L.traffic line.new) replies.new.items) }
+    ensures talked { OnOk result ((b : Beginning) → CanOpen b limits url moment → L.traffic line.old ≡ Some (line_to b) → Talked b limits url moment (map T.turn turns.now) (L.traffic line.old) (L.traffic line.new) replies.new.items) }
     ensures taken { OnOk result (taken.new ≡ length turns.now) }
-    ensures refused { IfErr result (λ fault. IsTurnFault fault → (b : Beginning) → CanOpen b limits url moment → L.traffic line.old ≡ Some (line_to b) → FirstRefused (acknowledged b.limits limits url) turns.now taken.new fault) }
+    ensures refused { IfErr result (λ fault. IsTurnFault fault → (b : Beginning) → CanOpen b limits url moment → L.traffic line.old ≡ Some (line_to b) → FirstRefused (acknowledged b.limits limits url) (map T.turn turns.now) taken.new fault) }
 {
     let mut client = match begin(alloc, line, limits, url, moment) {
         Ok(client) => client,
@@ -159,13 +159,13 @@ fn talk<L: Line>(
 }
 
 /// Lets a client talk to a server over these services, of the beginning that the parameter names.
-fn converse_with<W: Began>(
+fn converse_with<T: AsTurn, W: Began>(
     alloc: Global,
     services: Services,
     limits: Limits,
     channel_id: u32,
     url: UaString,
-    turns: &[Turn],
+    turns: &[T],
     moment: DateTime,
     writes: Vec<usize>,
     reads: Vec<usize>,
@@ -175,16 +175,16 @@ fn converse_with<W: Began>(
     ensures down { result.down.items ≡ said_to W.beginning result.up.items }
     ensures services { LeavesAt result.stage W.beginning result.up.items result.services }
     ensures ends { EndsAt result.stage W.beginning result.up.items }
-    ensures converses { OnOk result.outcome (Converses limits url moment turns.now result.up.items result.down.items result.replies.items) }
-    ensures heard { OnOk result.outcome (ServerCloses limits channel_id result.up.items (conversation_told limits limits url turns.now)) }
+    ensures converses { OnOk result.outcome (Converses limits url moment (map T.turn turns.now) result.up.items result.down.items result.replies.items) }
+    ensures heard { OnOk result.outcome (ServerCloses limits channel_id result.up.items (conversation_told limits limits url (map T.turn turns.now))) }
     ensures closed { OnOk result.outcome (result.stage ≡ Ended Closed) }
     ensures left { OnOk result.outcome (result.services ≡ left_by W.beginning result.up.items) }
-    ensures sent { OnOk result.outcome (result.up.items ≡ conversation_octets limits limits url channel_id moment turns.now) }
-    ensures replied { OnOk result.outcome (map Some result.replies.items ≡ turns_replies (record { limits = limits; channel = channel_id; first = services; moment = moment }) limits url services 1 turns.now) }
-    ensures state { OnOk result.outcome (result.services ≡ turns_state services moment turns.now) }
-    ensures accepted { OnOk result.outcome (AreAccepted (acknowledged limits limits url) turns.now) }
+    ensures sent { OnOk result.outcome (result.up.items ≡ conversation_octets limits limits url channel_id moment (map T.turn turns.now)) }
+    ensures replied { OnOk result.outcome (map Some result.replies.items ≡ turns_replies (record { limits = limits; channel = channel_id; first = services; moment = moment }) limits url services 1 (map T.turn turns.now)) }
+    ensures state { OnOk result.outcome (result.services ≡ turns_state services moment (map T.turn turns.now)) }
+    ensures accepted { OnOk result.outcome (AreAccepted (acknowledged limits limits url) (map T.turn turns.now)) }
     ensures taken { OnOk result.outcome (result.taken ≡ length turns.now) }
-    ensures refused { IfErr result.outcome (λ fault. IsTurnFault fault → FirstRefused (acknowledged limits limits url) turns.now result.taken fault) }
+    ensures refused { IfErr result.outcome (λ fault. IsTurnFault fault → FirstRefused (acknowledged limits limits url) (map T.turn turns.now) result.taken fault) }
 {
     let mut line: ServedLine<W> = ServedLine::new(
         alloc, limits, channel_id, services, moment, writes, reads,
@@ -220,13 +220,13 @@ fn converse_with<W: Began>(
 ///
 /// The moment is that of each answer, of each OPN and of the CLO. Where the client did not do all, the
 /// outcome says why, and what was said and left by then stands in the transcript.
-pub fn converse(
+pub fn converse<T: AsTurn>(
     alloc: Global,
     services: Services,
     limits: Limits,
     channel_id: u32,
     url: UaString,
-    turns: &[Turn],
+    turns: &[T],
     moment: DateTime,
     writes: Vec<usize>,
     reads: Vec<usize>,
@@ -240,25 +240,25 @@ pub fn converse(
     ensures ends { EndsAt result.stage (record { limits = limits; channel = channel_id; first = services; moment = moment }) result.up.items }
 
     // The client sent just its turns and took all that the server said, and each request has its own reply.
-    ensures converses { OnOk result.outcome (Converses limits url moment turns.now result.up.items result.down.items result.replies.items) }
+    ensures converses { OnOk result.outcome (Converses limits url moment (map T.turn turns.now) result.up.items result.down.items result.replies.items) }
 
     // The server refused none of it, and was told just these turns: each request once, in order, under its own request id; and the
     // next token at each renewal. The CLO closed the channel, and the services are what all of that leaves.
-    ensures heard { OnOk result.outcome (ServerCloses limits channel_id result.up.items (conversation_told limits limits url turns.now)) }
+    ensures heard { OnOk result.outcome (ServerCloses limits channel_id result.up.items (conversation_told limits limits url (map T.turn turns.now))) }
     ensures closed { OnOk result.outcome (result.stage ≡ Ended Closed) }
     ensures left { OnOk result.outcome (result.services ≡ left_by (record { limits = limits; channel = channel_id; first = services; moment = moment }) result.up.items) }
 
     // What the client wrote, the replies and the services are functions of the turns.
-    ensures sent { OnOk result.outcome (result.up.items ≡ conversation_octets limits limits url channel_id moment turns.now) }
-    ensures replied { OnOk result.outcome (map Some result.replies.items ≡ turns_replies (record { limits = limits; channel = channel_id; first = services; moment = moment }) limits url services 1 turns.now) }
-    ensures state { OnOk result.outcome (result.services ≡ turns_state services moment turns.now) }
+    ensures sent { OnOk result.outcome (result.up.items ≡ conversation_octets limits limits url channel_id moment (map T.turn turns.now)) }
+    ensures replied { OnOk result.outcome (map Some result.replies.items ≡ turns_replies (record { limits = limits; channel = channel_id; first = services; moment = moment }) limits url services 1 (map T.turn turns.now)) }
+    ensures state { OnOk result.outcome (result.services ≡ turns_state services moment (map T.turn turns.now)) }
 
     // Each turn was accepted; or the client did not take the first that is not, and its fault is the first reason against it.
-    ensures accepted { OnOk result.outcome (AreAccepted (acknowledged limits limits url) turns.now) }
+    ensures accepted { OnOk result.outcome (AreAccepted (acknowledged limits limits url) (map T.turn turns.now)) }
     ensures taken { OnOk result.outcome (result.taken ≡ length turns.now) }
-    ensures refused { IfErr result.outcome (λ fault. IsTurnFault fault → FirstRefused (acknowledged limits limits url) turns.now result.taken fault) }
+    ensures refused { IfErr result.outcome (λ fault. IsTurnFault fault → FirstRefused (acknowledged limits limits url) (map T.turn turns.now) result.taken fault) }
 {
-    converse_with::<Brand>(
+    converse_with::<T, Brand>(
         alloc, services, limits, channel_id, url, turns, moment, writes, reads,
     )
 }

@@ -15,4 +15,4 @@ mod turn;
 pub use conversation::{Transcript, converse};
 pub use served_line::{Began, ServedLine};
 pub use stage::Stage;
-pub use turn::Turn;
+pub use turn::{AsTurn, Turn};

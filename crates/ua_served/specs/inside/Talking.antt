@@ -13,6 +13,7 @@ use Rattle.ua_channel.specs.Line.{Traffic, WhereTold}
 use Rattle.ua_channel.specs.ServerReads.{AtServer, ServerCloses}
 use Rattle.ua_channel.specs.ServerTold.{Told}
 use Rattle.ua_channel.specs.declared.client.channel.ClientChannel.{ClientChannel}
+use Rattle.ua_services.specs.declared.request.Request.{Request}
 use Rattle.ua_client.specs.Carried.{Carries}
 use Rattle.ua_client.specs.Client.{closing_at}
 use Rattle.ua_client.specs.Hearing.{channel_of, untaken_of}
@@ -29,7 +30,6 @@ use Rattle.ua_served.specs.Says.{said_to, state_told}
 use Rattle.ua_served.specs.Sends.{conversation_octets, turns_number, turns_octets}
 use Rattle.ua_served.specs.Together.{AreServing}
 use Rattle.ua_served.specs.Turns.{conversation_told, ids_behind, opening_told, tokens_behind, turns_told}
-use Rattle.ua_served.specs.declared.turn.Turn.{Turn}
 
 -- the octets of a line to a server that began so, before any are written: to come is what it says of all that is then written
 abbrev pub line_to : Beginning → Traffic
@@ -68,7 +68,7 @@ pub record AreTalking (b : Beginning) (limits : Limits) (url : Option (List ℕ)
   pub served : IsServed b limits url octets told token id held site (channel_of x)
 
 -- a client did these turns over a line to such a server, each of which was accepted, and both are in step behind them
-pub record StaysTalking (b : Beginning) (limits : Limits) (url : Option (List ℕ)) (moment : DateTime) (opened : Site) (turns : List Turn) (x : Connection) (first now : Option Traffic) (replies : List Reply) : Type 0 where
+pub record StaysTalking (b : Beginning) (limits : Limits) (url : Option (List ℕ)) (moment : DateTime) (opened : Site) (turns : List (Option (List Request))) (x : Connection) (first now : Option Traffic) (replies : List Reply) : Type 0 where
   pub able : CanOpen b limits url moment
   pub accepted : AreAccepted (acknowledged b.limits limits url) turns
   pub stays : Stays moment (opening_octets limits url moment) opened turns x first now replies
@@ -87,7 +87,7 @@ pub record Went (b : Beginning) (limits : Limits) (url : Option (List ℕ)) (mom
   pub stays : StaysTalking b limits url moment opened [] x first now []
 
 -- it did these turns, and closed behind them
-pub record Talked (b : Beginning) (limits : Limits) (url : Option (List ℕ)) (moment : DateTime) (turns : List Turn) (first now : Option Traffic) (replies : List Reply) : Type 0 where
+pub record Talked (b : Beginning) (limits : Limits) (url : Option (List ℕ)) (moment : DateTime) (turns : List (Option (List Request))) (first now : Option Traffic) (replies : List Reply) : Type 0 where
   pub channel : ClientChannel
   pub opened : Site
   pub opens : IsOpened channel opened.octets

@@ -1,4 +1,4 @@
-use Rattle.std.proofs.Common.{Fits, FitsSigned, ap, rules, subst, sym, w32, w64}
+use Rattle.std.proofs.Common.{Fits, FitsSigned, ap, map, rules, subst, sym, w32, w64}
 use Rattle.std.specs.Prelude.{List, ℕ}
 use Rattle.ua_served.specs.Kept.{EndsAt, LeavesAt, Served}
 use Rattle.ua_served.specs.Turns.{conversation_told}
@@ -29,7 +29,7 @@ returns-clause-converses g c =
     let send : Fits w32 c.args.limits.send_buffer_size = search rules in
     let octets : Fits w32 c.args.limits.max_message_size = search rules in
     let chunks : Fits w32 c.args.limits.max_chunk_count = search rules in
-    conversed_on c.talk-outcome.result g.W.Began.beginning c.args.limits c.args.channel_id c.args.services c.args.url c.args.moment c.args.turns.now c.new-line.result c.talk-outcome.new.line c.talk-outcome.new.replies.items c.into_parts-up.result.0.items c.into_parts-up.result.1.items
+    conversed_on c.talk-outcome.result g.W.Began.beginning c.args.limits c.args.channel_id c.args.services c.args.url c.args.moment (map g.T.AsTurn.turn c.args.turns.now) c.new-line.result c.talk-outcome.new.line c.talk-outcome.new.replies.items c.into_parts-up.result.0.items c.into_parts-up.result.1.items
     c.requires.began (can_open c.args.limits c.args.channel_id c.args.services c.args.url c.args.moment receive send octets chunks channel dated c.requires.url)
     (ap (λ (l : Served). l.up) c.new-line.ensures) (ap (λ (l : Served). l.read) c.new-line.ensures) c.talk-outcome.ensures.talked c.into_parts-up.ensures.up c.into_parts-up.ensures.down
 
@@ -41,14 +41,14 @@ returns-clause-heard g c =
     let send : Fits w32 c.args.limits.send_buffer_size = search rules in
     let octets : Fits w32 c.args.limits.max_message_size = search rules in
     let chunks : Fits w32 c.args.limits.max_chunk_count = search rules in
-    closed_on c.talk-outcome.result g.W.Began.beginning c.args.limits c.args.channel_id c.args.services c.args.url c.args.moment c.args.turns.now c.new-line.result c.talk-outcome.new.line c.talk-outcome.new.replies.items c.into_parts-up.result.0.items
+    closed_on c.talk-outcome.result g.W.Began.beginning c.args.limits c.args.channel_id c.args.services c.args.url c.args.moment (map g.T.AsTurn.turn c.args.turns.now) c.new-line.result c.talk-outcome.new.line c.talk-outcome.new.replies.items c.into_parts-up.result.0.items
     c.requires.began (can_open c.args.limits c.args.channel_id c.args.services c.args.url c.args.moment receive send octets chunks channel dated c.requires.url)
     (ap (λ (l : Served). l.up) c.new-line.ensures) (ap (λ (l : Served). l.read) c.new-line.ensures) c.talk-outcome.ensures.talked c.into_parts-up.ensures.up
 
 pub returns-clause-closed : goal.returns-clause-closed
 returns-clause-closed g c =
     closed_well c.talk-outcome.result g.W.Began.beginning c.args.limits c.args.channel_id c.args.services c.args.moment c.stage-stage.result c.into_parts-up.result.0.items
-    (conversation_told c.args.limits c.args.limits c.args.url c.args.turns.now) c.requires.began (returns-clause-ends g c) (returns-clause-heard g c)
+    (conversation_told c.args.limits c.args.limits c.args.url (map g.T.AsTurn.turn c.args.turns.now)) c.requires.began (returns-clause-ends g c) (returns-clause-heard g c)
 
 pub returns-clause-left : goal.returns-clause-left
 returns-clause-left g c =
@@ -62,7 +62,7 @@ returns-clause-accepted g c =
     let send : Fits w32 c.args.limits.send_buffer_size = search rules in
     let octets : Fits w32 c.args.limits.max_message_size = search rules in
     let chunks : Fits w32 c.args.limits.max_chunk_count = search rules in
-    accepted_on c.talk-outcome.result g.W.Began.beginning c.args.limits c.args.channel_id c.args.services c.args.url c.args.moment c.args.turns.now c.new-line.result c.talk-outcome.new.line c.talk-outcome.new.replies.items
+    accepted_on c.talk-outcome.result g.W.Began.beginning c.args.limits c.args.channel_id c.args.services c.args.url c.args.moment (map g.T.AsTurn.turn c.args.turns.now) c.new-line.result c.talk-outcome.new.line c.talk-outcome.new.replies.items
     c.requires.began (can_open c.args.limits c.args.channel_id c.args.services c.args.url c.args.moment receive send octets chunks channel dated c.requires.url)
     (ap (λ (l : Served). l.up) c.new-line.ensures) (ap (λ (l : Served). l.read) c.new-line.ensures) c.talk-outcome.ensures.talked
 
@@ -74,7 +74,7 @@ returns-clause-sent g c =
     let send : Fits w32 c.args.limits.send_buffer_size = search rules in
     let octets : Fits w32 c.args.limits.max_message_size = search rules in
     let chunks : Fits w32 c.args.limits.max_chunk_count = search rules in
-    sent_on c.talk-outcome.result g.W.Began.beginning c.args.limits c.args.channel_id c.args.services c.args.url c.args.moment c.args.turns.now c.new-line.result c.talk-outcome.new.line c.talk-outcome.new.replies.items c.into_parts-up.result.0.items
+    sent_on c.talk-outcome.result g.W.Began.beginning c.args.limits c.args.channel_id c.args.services c.args.url c.args.moment (map g.T.AsTurn.turn c.args.turns.now) c.new-line.result c.talk-outcome.new.line c.talk-outcome.new.replies.items c.into_parts-up.result.0.items
     c.requires.began (can_open c.args.limits c.args.channel_id c.args.services c.args.url c.args.moment receive send octets chunks channel dated c.requires.url)
     (ap (λ (l : Served). l.up) c.new-line.ensures) (ap (λ (l : Served). l.read) c.new-line.ensures) c.talk-outcome.ensures.talked c.into_parts-up.ensures.up
 
@@ -86,7 +86,7 @@ returns-clause-refused g c =
     let send : Fits w32 c.args.limits.send_buffer_size = search rules in
     let octets : Fits w32 c.args.limits.max_message_size = search rules in
     let chunks : Fits w32 c.args.limits.max_chunk_count = search rules in
-    refused_on c.talk-outcome.result g.W.Began.beginning c.args.limits c.args.channel_id c.args.services c.args.url c.args.moment c.args.turns.now c.new-line.result c.talk-outcome.new.taken
+    refused_on c.talk-outcome.result g.W.Began.beginning c.args.limits c.args.channel_id c.args.services c.args.url c.args.moment (map g.T.AsTurn.turn c.args.turns.now) c.new-line.result c.talk-outcome.new.taken
     c.requires.began (can_open c.args.limits c.args.channel_id c.args.services c.args.url c.args.moment receive send octets chunks channel dated c.requires.url)
     (ap (λ (l : Served). l.up) c.new-line.ensures) (ap (λ (l : Served). l.read) c.new-line.ensures) c.talk-outcome.ensures.refused
 
@@ -98,7 +98,7 @@ returns-clause-replied g c =
     let send : Fits w32 c.args.limits.send_buffer_size = search rules in
     let octets : Fits w32 c.args.limits.max_message_size = search rules in
     let chunks : Fits w32 c.args.limits.max_chunk_count = search rules in
-    replied_on c.talk-outcome.result g.W.Began.beginning c.args.limits c.args.channel_id c.args.services c.args.url c.args.moment c.args.turns.now c.new-line.result c.talk-outcome.new.line c.talk-outcome.new.replies.items
+    replied_on c.talk-outcome.result g.W.Began.beginning c.args.limits c.args.channel_id c.args.services c.args.url c.args.moment (map g.T.AsTurn.turn c.args.turns.now) c.new-line.result c.talk-outcome.new.line c.talk-outcome.new.replies.items
     c.requires.began (can_open c.args.limits c.args.channel_id c.args.services c.args.url c.args.moment receive send octets chunks channel dated c.requires.url)
     (ap (λ (l : Served). l.up) c.new-line.ensures) (ap (λ (l : Served). l.read) c.new-line.ensures) c.talk-outcome.ensures.talked
 
@@ -110,6 +110,6 @@ returns-clause-state g c =
     let send : Fits w32 c.args.limits.send_buffer_size = search rules in
     let octets : Fits w32 c.args.limits.max_message_size = search rules in
     let chunks : Fits w32 c.args.limits.max_chunk_count = search rules in
-    state_on c.talk-outcome.result g.W.Began.beginning c.args.limits c.args.channel_id c.args.services c.args.url c.args.moment c.args.turns.now c.new-line.result c.talk-outcome.new.line c.talk-outcome.new.replies.items c.into_parts-up.result.0.items c.into_parts-up.result.2
+    state_on c.talk-outcome.result g.W.Began.beginning c.args.limits c.args.channel_id c.args.services c.args.url c.args.moment (map g.T.AsTurn.turn c.args.turns.now) c.new-line.result c.talk-outcome.new.line c.talk-outcome.new.replies.items c.into_parts-up.result.0.items c.into_parts-up.result.2
     c.requires.began (can_open c.args.limits c.args.channel_id c.args.services c.args.url c.args.moment receive send octets chunks channel dated c.requires.url)
     (ap (λ (l : Served). l.up) c.new-line.ensures) (ap (λ (l : Served). l.read) c.new-line.ensures) c.talk-outcome.ensures.talked c.into_parts-up.ensures.up (returns-clause-left g c)
