@@ -208,7 +208,6 @@ module _ (b : Beginning) (limits : Limits) (url : Option (List ℕ)) (moment : D
       stays = record {
         site = there.0;
         at = there.3;
-        settled = there.4;
         sent = [];
         course = Begun;
         got = o.opens.moves.got;

@@ -143,7 +143,7 @@ module _ (b : Beginning) (limits : Limits) (url : Option (List ℕ)) (moment : D
   -- requests are asked
   pub stays_asked : NonePending → (t : Option (List Request)) (requests : List Request) (done : Unit {0}) → t ≡ Some requests → CallsInto {A = Unit {0}} requests x y now after (Ok done) had have → StaysTalking b limits url moment opened (turns ++ t ∷ []) y first after have
   stays_asked law t requests done is c =
-      let a = c.answers was.site was.at was.settled in
+      let a = c.answers was.site was.at in
       record {
         able = s.able;
         accepted =
@@ -154,7 +154,6 @@ module _ (b : Beginning) (limits : Limits) (url : Option (List ℕ)) (moment : D
         stays = record {
           site = a.behind;
           at = a.at;
-          settled = a.settled;
           sent = was.sent ++ c.sent;
           course = subst (λ (r : List Reply). Course moment opened (turns ++ t ∷ []) a.behind (was.sent ++ c.sent) r) (sym c.have_is)
               (Asked t a.groups was.course (is ∙ ap (λ (rs : List Request). Some rs) a.parts) a.sized a.rounds);
@@ -185,7 +184,7 @@ module _ (b : Beginning) (limits : Limits) (url : Option (List ℕ)) (moment : D
   -- the token is renewed
   pub stays_renewed : (t : Option (List Request)) (done : Unit {0}) → t ≡ None → Renews {A = Unit {0}} moment x y now after (Ok done) → have ≡ had → StaysTalking b limits url moment opened (turns ++ t ∷ []) y first after have
   stays_renewed t done is c same =
-      let a = c.answers was.site was.at was.settled in
+      let a = c.answers was.site was.at in
       let u : Site = a.1.0 in
       let renewed : IsRenewed (channel_of y) was.site u c.moves.taken = a.1.1 in
       record {
@@ -194,11 +193,10 @@ module _ (b : Beginning) (limits : Limits) (url : Option (List ℕ)) (moment : D
             more_accepted t
             (refused_as t None is
             ∙ renewed_judged b limits url (opening ++ was.sent) (opening_told b.limits limits url ++ turns_told 1 2 turns) (tokens_behind 1 turns) (ids_behind 2 turns) (tokens_held 1 turns) was.site x first now s.talking y after c.sent c.moves c.same
-            moment (sym (c.judged was.site was.at was.settled)));
+            moment (sym (c.judged was.site was.at)));
         stays = record {
           site = u;
           at = renewed.at;
-          settled = renewed.settled;
           sent = was.sent ++ renewal_at was.site moment;
           course = subst (λ (r : List Reply). Course moment opened (turns ++ t ∷ []) u (was.sent ++ renewal_at was.site moment) r) (sym same) (Renewed t (channel_of y) was.course is renewed);
           got = was.got ++ c.moves.got;
@@ -214,7 +212,7 @@ module _ (b : Beginning) (limits : Limits) (url : Option (List ℕ)) (moment : D
         talking = more_talking t None is (renewal_at was.site moment) u
             (subst (λ (o : List ℕ). AreTalking b limits url ((opening ++ was.sent) ++ o) ((opening_told b.limits limits url ++ turns_told 1 2 turns) ++ Opened (ids_behind 2 turns) 0 (tokens_behind 1 turns + 1) 3600000 ∷ []) (tokens_behind 1 turns + 1) (ids_behind 2 turns + 1) (tokens_held 1 turns + 1) u y first after) a.0
             (talks_renewed b limits url (opening ++ was.sent) (opening_told b.limits limits url ++ turns_told 1 2 turns) (tokens_behind 1 turns) (ids_behind 2 turns) (tokens_held 1 turns) was.site x first now s.talking y after c.sent c.moves c.same
-            moment s.able.dated s.able.answered (sym (c.judged was.site was.at was.settled)) a.0 u renewed));
+            moment s.able.dated s.able.answered (sym (c.judged was.site was.at)) a.0 u renewed));
       }
 
   -- or it is not taken, by the first reason against it
@@ -223,13 +221,13 @@ module _ (b : Beginning) (limits : Limits) (url : Option (List ℕ)) (moment : D
   asked_not law t requests f is c reason =
       refused_as t (Some requests) is
       ∙ asked_refused b limits url (opening ++ was.sent) (opening_told b.limits limits url ++ turns_told 1 2 turns) (tokens_behind 1 turns) (ids_behind 2 turns) (tokens_held 1 turns) was.site x first now s.talking y after c.sent c.moves c.same
-      law requests f.fault reason (c.answers was.site was.at was.settled).broken
+      law requests f.fault reason (c.answers was.site was.at).broken
 
   pub renewed_not : (t : Option (List Request)) (f : ClientFault) → t ≡ None → Renews {A = Unit {0}} moment x y now after (Err f) → IsTurnFault f → turn_refusal acked turns t ≡ Some f
   renewed_not t f is c reason =
       refused_as t None is
       ∙ renewing_refused b limits url (opening ++ was.sent) (opening_told b.limits limits url ++ turns_told 1 2 turns) (tokens_behind 1 turns) (ids_behind 2 turns) (tokens_held 1 turns) was.site x first now s.talking y after c.sent c.moves c.same
-      moment f reason (c.answers was.site was.at was.settled) (c.judged was.site was.at was.settled)
+      moment f reason (c.answers was.site was.at) (c.judged was.site was.at)
 
 -- ---- the end
 

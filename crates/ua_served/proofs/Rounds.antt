@@ -247,7 +247,7 @@ module _ (b : Beginning) (limits : Limits) (url : Option (List ℕ)) (octets : L
         record {
           limits_are = same;
           on = t.on;
-          settled = r.settled;
+          settled = r.settled t.settled;
           at_server = with_token s;
           at_client = now;
           serving = subst (λ (e : Told). AreServing b url (octets ++ renewal_at site moment) (told ++ e ∷ []) (with_token s) y behind now) opened_is serving;

@@ -10,7 +10,7 @@ use Rattle.ua_client.specs.Carried.{Carries}
 use Rattle.ua_client.specs.Client.{closing_at}
 use Rattle.ua_client.specs.Hearing.{channel_of, untaken_of}
 use Rattle.ua_client.specs.Opening.{IsOpened, hello_octets, open_octets}
-use Rattle.ua_client.specs.Renewing.{IsRenewed, IsSettled, renewal_at}
+use Rattle.ua_client.specs.Renewing.{IsRenewed, renewal_at}
 use Rattle.ua_client.specs.Site.{Site, At}
 use Rattle.ua_client.specs.declared.connection.Connection.{Connection}
 use Rattle.ua_client.specs.declared.reply.Reply.{Reply}
@@ -51,7 +51,6 @@ pub record Converses (limits : Limits) (url : Option (List ℕ)) (moment : DateT
 pub record Stays (moment : DateTime) (opening : List ℕ) (opened : Site) (turns : List (Option (List Request))) (x : Connection) (before now : Option Traffic) (replies : List Reply) : Type 0 where
   pub site : Site
   pub at : At (channel_of x) site
-  pub settled : IsSettled site
   pub sent : List ℕ
   pub course : Course moment opened turns site sent replies
   pub got : List ℕ

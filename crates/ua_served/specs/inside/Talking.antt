@@ -44,7 +44,7 @@ pub record CanOpen (b : Beginning) (limits : Limits) (url : Option (List ℕ)) (
   pub dated : IsTrue (date_time.encodable moment)
   pub answered : IsTrue (date_time.encodable b.moment)
 
--- a client with these limits stands here and may be called: of these octets, which told such a server this, it took all that the server says,
+-- a client with these limits stands here, at a settled place: of these octets, which told such a server this, it took all that the server says,
 -- and both are in step; this is the newest token, this the next request id, and it holds so many tokens
 pub record IsServed (b : Beginning) (limits : Limits) (url : Option (List ℕ)) (octets : List ℕ) (told : List Told) (token id held : ℕ) (site : Site) (x : ClientChannel) : Type 0 where
   pub limits_are : limits_of x ≡ limits
