@@ -66,8 +66,9 @@ pub fn requests_reach_the_server()
         × AreReplies requests (id_at site) behind.told replies }
 {}
 
-/// A client that was answered took all that the server says of what was sent, where it took a front of
-/// that. Then both are in step again, and the client's calls go under the token that they went under.
+/// A client that was answered took all that the server says of what was sent, where it stood at a settled
+/// place and took a front of that. Then both are in step again, and the client's calls go under the token
+/// that they went under.
 pub fn ends_stay_together()
     ensures took { (b : Beginning) (url : Option (List ℕ)) (octets : List ℕ) (told : List Told) (s : AtServer) (x y : ClientChannel) (site behind : Site) (c : AtClient) (requests : List Request) (taken : List ℕ) (replies : List Reply) →
         b.channel < 2 ^ 32 → AreServing b url octets told s x site c → IsSettled site → 0 < length requests → Answered requests site behind taken replies →
@@ -89,8 +90,8 @@ pub fn renewals_reach_the_server()
 {}
 
 /// What the server says of that: its OPN response, which brings the next token. Where octets begin with
-/// that and with what a client took whose renewal is answered, the client took just that. Both are then
-/// in step again, and the client's calls go under that token.
+/// that and with what a client took that stood at a settled place and whose renewal is answered, the
+/// client took just that. Both are then in step again, and the client's calls go under that token.
 pub fn renewals_stay_together()
     ensures said { (b : Beginning) (url : Option (List ℕ)) (octets : List ℕ) (told : List Told) (s : AtServer) (x : ClientChannel) (site : Site) (c : AtClient) (moment : DateTime) →
         b.channel < 2 ^ 32 → AreServing b url octets told s x site c → renewal_refusal site ≡ None → IsTrue (date_time.encodable moment) →
