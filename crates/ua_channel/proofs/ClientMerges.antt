@@ -85,7 +85,8 @@ agreed_kind Msg ks ls h more = absurd h
 agreed_kind Opn ks ls h more = open_on ks ls h more
 agreed_kind Clo ks ls h more = absurd h
 
-agreed_on : (frames : List Frame) (ls : List Kind) → IsOrderAgreed (map (λ (f : Frame). f.kind) frames) → (openings frames ≡ [] → ⊥) → IsClientOrderOpen ls → IsOrderAgreed (map (λ (f : Frame). f.kind) frames ++ ls)
+agreed_on : (frames : List Frame) (ls : List Kind) → IsOrderAgreed (map (λ (f : Frame). f.kind) frames) → (openings frames ≡ [] → ⊥) → IsClientOrderOpen ls
+    → IsOrderAgreed (map (λ (f : Frame). f.kind) frames ++ ls)
 unfolding openings
 agreed_on [] ls h some more = absurd (some refl)
 agreed_on (f ∷ frames) ls h some more = agreed_kind f.kind (map (λ (g : Frame). g.kind) frames) ls h more
@@ -102,7 +103,8 @@ kinds_on : (k : Kind) (ks : List Kind) → k ≡ kind.Ack → IsOrderAgreed ks �
 kinds_on k ks e h = subst (λ (j : Kind). IsClientOrder (j ∷ ks)) (sym e) h
 
 -- behind an opening come chunks and openings
-order_on : (frames : List Frame) (ls : List Kind) → IsClientOrder (map (λ (f : Frame). f.kind) frames) → (openings frames ≡ [] → ⊥) → IsClientOrderOpen ls → IsClientOrder (map (λ (f : Frame). f.kind) frames ++ ls)
+order_on : (frames : List Frame) (ls : List Kind) → IsClientOrder (map (λ (f : Frame). f.kind) frames) → (openings frames ≡ [] → ⊥) → IsClientOrderOpen ls
+    → IsClientOrder (map (λ (f : Frame). f.kind) frames ++ ls)
 unfolding openings
 order_on [] ls h some more = absurd (some refl)
 order_on (f ∷ frames) ls h some more =
@@ -119,7 +121,8 @@ some_opening : (frames : List Frame) → has_some (responses (received frames).o
 unfolding received
 some_opening frames some none = none_there (responses (openings frames)) some (ap responses none ∙ no_responses)
 
-order_behind : (before more : List Frame) → IsClientOrder (map (λ (f : Frame). f.kind) before) → has_some (responses (received before).openings) ≡ true → AllByRecursion (λ (f : Frame). IsChunkOrOpening (content f)) more
+order_behind : (before more : List Frame) → IsClientOrder (map (λ (f : Frame). f.kind) before) → has_some (responses (received before).openings) ≡ true
+    → AllByRecursion (λ (f : Frame). IsChunkOrOpening (content f)) more
     → IsClientOrder (map (λ (f : Frame). f.kind) (before ++ more))
 order_behind before more h some is =
     subst IsClientOrder (sym (map-append (λ (f : Frame). f.kind) before more)) (order_on before (map (λ (f : Frame). f.kind) more) h (some_opening before some) (order_all more is))
@@ -171,7 +174,8 @@ under_all P id (n ∷ ms) m e h = under_one (eqb n.request id) refl e (λ found.
         (subst P one h.0, ap (λ (k : Sent). k.request) (sym one) ∙ eqb-true n.request id is)
     under_one false is other more = more other
 
-kept_step : (kept found : Bool) (test : ℕ → Bool) (id j : ℕ) (ids : List ℕ) → test j ≡ kept → eqb j id ≡ found → test id ≡ true → (found || is_in id ids) ≡ true → (is_in id ids ≡ true → is_in id (filter test ids) ≡ true)
+kept_step : (kept found : Bool) (test : ℕ → Bool) (id j : ℕ) (ids : List ℕ) → test j ≡ kept → eqb j id ≡ found → test id ≡ true → (found || is_in id ids) ≡ true
+    → (is_in id ids ≡ true → is_in id (filter test ids) ≡ true)
     → is_in id (cond kept (j ∷ filter test ids) (filter test ids)) ≡ true
 kept_step true true test id j ids k same holds e more = ap (λ (b : Bool). b || is_in id (filter test ids)) same
 kept_step true false test id j ids k other holds e more = ap (λ (b : Bool). b || is_in id (filter test ids)) other ∙ more e
@@ -197,7 +201,8 @@ module _ (limits : Limits) (asks : List Placed) (ms : List Sent) (base : List Ch
       list_any-append (λ (d : Chunk). is_of c.request d && ends d) base us
       ∙ or_from (is_finished base c.request) (is_finished us c.request) before (ended_own c.request us ∙ u.unended)
 
-  may_at : (us rest : List Chunk) (b : Received) (asked : List Asking) (k : Content) → IsChunkOrOpening k → b.messages ≡ base ++ us → IsMerge ms (us ++ (chunks_in k ++ rest)) → MayAnswer b asked k → MayCarryBack limits b asked k
+  may_at : (us rest : List Chunk) (b : Received) (asked : List Asking) (k : Content) → IsChunkOrOpening k → b.messages ≡ base ++ us → IsMerge ms (us ++ (chunks_in k ++ rest)) → MayAnswer b asked k
+      → MayCarryBack limits b asked k
   may_at us rest b asked (Greets hello) is now merge h = absurd is
   may_at us rest b asked (Acks ack) is now merge h = absurd is
   may_at us rest b asked (Fails error) is now merge h = absurd is
@@ -211,7 +216,8 @@ module _ (limits : Limits) (asks : List Placed) (ms : List Sent) (base : List Ch
   may_at us rest b asked Nothing is now merge h = absurd is
 
   -- each chunk is of a call that is unanswered at its place
-  may_carry : (start : List Frame) (us : List Chunk) (fs : List Frame) → (received start).messages ≡ base ++ us → AllByRecursion (λ (f : Frame). IsChunkOrOpening (content f)) fs → IsMerge ms (us ++ messages fs)
+  may_carry : (start : List Frame) (us : List Chunk) (fs : List Frame) → (received start).messages ≡ base ++ us → AllByRecursion (λ (f : Frame). IsChunkOrOpening (content f)) fs
+      → IsMerge ms (us ++ messages fs)
       → AllFrom (λ vs f. MayAnswer (received vs) (asked_before (end_of vs f) asks) (content f)) start fs → AllFrom (λ vs f. MayCarryBack limits (received vs) (asked_before (end_of vs f) asks) (content f)) start fs
   unfolding messages
   may_carry start us [] now order merge h = tt
@@ -240,7 +246,8 @@ unfolding responses
 responses-append os more = flat_map-append (λ (o : Opening). response_listed (answer_in o)) os more
 
 module _ (limits : Limits) (asks : List Placed) (ms : List Sent) (base : List Chunk) (none : open_ids base ≡ []) where
-  tells_at : (b : Received) (us rest : List Chunk) (k : Content) → IsChunkOrOpening k → has_some (responses b.openings) ≡ true → b.messages ≡ base ++ us → EachEnds ms us (chunks_in k ++ rest) → client_tells b k ≡ told_back ms k
+  tells_at : (b : Received) (us rest : List Chunk) (k : Content) → IsChunkOrOpening k → has_some (responses b.openings) ≡ true → b.messages ≡ base ++ us → EachEnds ms us (chunks_in k ++ rest)
+      → client_tells b k ≡ told_back ms k
   tells_at b us rest (Greets hello) is some now all = absurd is
   tells_at b us rest (Acks ack) is some now all = absurd is
   tells_at b us rest (Fails error) is some now all = absurd is
@@ -254,7 +261,8 @@ module _ (limits : Limits) (asks : List Placed) (ms : List Sent) (base : List Ch
       ap (λ (os : List Opening). has_some (responses os)) (ap (λ (b : Received). b.openings) (received-push start f) ∙ openings_then (received start) (content f) is)
       ∙ (ap has_some (responses-append (received start).openings (openings_in (content f))) ∙ some_more (responses (received start).openings) (responses (openings_in (content f))) some)
 
-  told_from : (start : List Frame) (us : List Chunk) (fs : List Frame) → has_some (responses (received start).openings) ≡ true → (received start).messages ≡ base ++ us → AllByRecursion (λ (f : Frame). IsChunkOrOpening (content f)) fs → EachEnds ms us (messages fs)
+  told_from : (start : List Frame) (us : List Chunk) (fs : List Frame) → has_some (responses (received start).openings) ≡ true → (received start).messages ≡ base ++ us
+      → AllByRecursion (λ (f : Frame). IsChunkOrOpening (content f)) fs → EachEnds ms us (messages fs)
       → each_from (client_rules limits asks).tells start fs ≡ told_merged_back ms fs
   unfolding messages
   told_from start us [] some now order all = refl

@@ -22,7 +22,8 @@ use Rattle.ua_channel.proofs.ServerMerges.{takes_merged, tells_merged}
 -- ---- by any rules
 
 -- what a beginning told is a beginning of what all tells
-begins : {E X : Type 0} (R : Rules E X) (octets more : List ℕ) (fs gs : List Frame) (rest : List ℕ) (told all : List E) → Run R octets fs rest Going → events R fs ≡ told → Run R (octets ++ more) gs [] Going → events R gs ≡ all
+begins : {E X : Type 0} (R : Rules E X) (octets more : List ℕ) (fs gs : List Frame) (rest : List ℕ) (told all : List E) → Run R octets fs rest Going → events R fs ≡ told
+    → Run R (octets ++ more) gs [] Going → events R gs ≡ all
     → (later : List E) × (all ≡ told ++ later)
 begins {E = E} R octets more fs gs rest told all r is s are =
     let b = begins_told R octets more fs gs rest Going r s in
@@ -43,7 +44,8 @@ server_run limits channel octets told r =
 server_events : (limits : Limits) (channel : ℕ) (octets : List ℕ) (told : List Told) (r : ServerReadsMerged limits channel octets told) → events (server_rules limits channel) (r.before ++ r.more) ≡ told
 server_events limits channel octets told r = tells_merged limits channel r.before r.more r.messages r.merged ∙ r.told_is
 
-pub server_begins : (x : ServerChannel) (octets more : List ℕ) (told all : List Told) → Goes x octets told → ServerReadsMerged (limits_of x) (channel_of x) (octets ++ more) all → (later : List Told) × (all ≡ told ++ later)
+pub server_begins : (x : ServerChannel) (octets more : List ℕ) (told all : List Told) → Goes x octets told → ServerReadsMerged (limits_of x) (channel_of x) (octets ++ more) all
+    → (later : List Told) × (all ≡ told ++ later)
 server_begins x octets more told all g r =
     begins (rules_of x) octets more g.frames (r.before ++ r.more) g.rest told all g.stands.run g.told_is (server_run (limits_of x) (channel_of x) (octets ++ more) all r) (server_events (limits_of x) (channel_of x) (octets ++ more) all r)
 
@@ -51,11 +53,13 @@ pub server_told : (x : ServerChannel) (octets : List ℕ) (told all : List Told)
 server_told x octets told all g r =
     same_told (rules_of x) octets g.frames (r.before ++ r.more) g.rest [] told all g.stands.run (server_run (limits_of x) (channel_of x) octets all r) g.told_is (server_events (limits_of x) (channel_of x) octets all r)
 
-pub server_not_refused : (x : ServerChannel) (octets more : List ℕ) (told all : List Told) (code : ℕ) → Ended x octets told (Stopped code) → ServerReadsMerged (limits_of x) (channel_of x) (octets ++ more) all → ⊥
+pub server_not_refused : (x : ServerChannel) (octets more : List ℕ) (told all : List Told) (code : ℕ) → Ended x octets told (Stopped code)
+    → ServerReadsMerged (limits_of x) (channel_of x) (octets ++ more) all → ⊥
 server_not_refused x octets more told all code e r =
     never_refused (rules_of x) octets more e.frames (r.before ++ r.more) e.rest code Going (λ s. cc) e.run (server_run (limits_of x) (channel_of x) (octets ++ more) all r)
 
-pub server_not_refused_at : (x : ServerChannel) (octets more : List ℕ) (told all : List Told) (code : ℕ) → RefusedAt x octets told code → ServerReadsMerged (limits_of x) (channel_of x) (octets ++ more) all → ⊥
+pub server_not_refused_at : (x : ServerChannel) (octets more : List ℕ) (told all : List Told) (code : ℕ) → RefusedAt x octets told code
+    → ServerReadsMerged (limits_of x) (channel_of x) (octets ++ more) all → ⊥
 server_not_refused_at x octets more told all code e r =
     never_refused (rules_of x) octets more e.frames (r.before ++ r.more) e.rest code Going (λ s. cc) e.run (server_run (limits_of x) (channel_of x) (octets ++ more) all r)
 
@@ -64,21 +68,26 @@ server_not_closed x octets more told all e r = not_over (rules_of x) octets more
 
 -- ---- a client
 
-client_run : (limits : Limits) (asks : List Placed) (octets : List ℕ) (told : List ClientTold) (r : ClientReadsMerged limits asks octets told) → Run (client_rules limits asks) octets (r.before ++ r.more) [] Going
+client_run : (limits : Limits) (asks : List Placed) (octets : List ℕ) (told : List ClientTold) (r : ClientReadsMerged limits asks octets told)
+    → Run (client_rules limits asks) octets (r.before ++ r.more) [] Going
 client_run limits asks octets told r =
     subst (λ (t : List ℕ). Run (client_rules limits asks) t (r.before ++ r.more) [] Going) (sym r.whole) (back.takes_merged limits asks r.before r.more r.messages r.merged r.start r.run)
 
-client_events : (limits : Limits) (asks : List Placed) (octets : List ℕ) (told : List ClientTold) (r : ClientReadsMerged limits asks octets told) → events (client_rules limits asks) (r.before ++ r.more) ≡ told
+client_events : (limits : Limits) (asks : List Placed) (octets : List ℕ) (told : List ClientTold) (r : ClientReadsMerged limits asks octets told)
+    → events (client_rules limits asks) (r.before ++ r.more) ≡ told
 client_events limits asks octets told r = back.tells_merged limits asks r.before r.more r.messages r.merged ∙ r.told_is
 
-pub client_begins : (x : ClientChannel) (asks : List Placed) (octets more : List ℕ) (told all : List ClientTold) → client.Goes x asks octets told → ClientReadsMerged (client.limits_of x) asks (octets ++ more) all → (later : List ClientTold) × (all ≡ told ++ later)
+pub client_begins : (x : ClientChannel) (asks : List Placed) (octets more : List ℕ) (told all : List ClientTold) → client.Goes x asks octets told
+    → ClientReadsMerged (client.limits_of x) asks (octets ++ more) all → (later : List ClientTold) × (all ≡ told ++ later)
 client_begins x asks octets more told all g r =
     begins (client.rules_of x asks) octets more g.frames (r.before ++ r.more) g.rest told all g.stands.run g.told_is (client_run (client.limits_of x) asks (octets ++ more) all r) (client_events (client.limits_of x) asks (octets ++ more) all r)
 
-pub client_told : (x : ClientChannel) (asks : List Placed) (octets : List ℕ) (told all : List ClientTold) → client.Goes x asks octets told → ClientReadsMerged (client.limits_of x) asks octets all → told ≡ all
+pub client_told : (x : ClientChannel) (asks : List Placed) (octets : List ℕ) (told all : List ClientTold) → client.Goes x asks octets told → ClientReadsMerged (client.limits_of x) asks octets all
+    → told ≡ all
 client_told x asks octets told all g r =
     same_told (client.rules_of x asks) octets g.frames (r.before ++ r.more) g.rest [] told all g.stands.run (client_run (client.limits_of x) asks octets all r) g.told_is (client_events (client.limits_of x) asks octets all r)
 
-pub client_not_failed : (x : ClientChannel) (asks : List Placed) (octets more : List ℕ) (told all : List ClientTold) (why : Why) → client.Ended x asks octets told why → ClientReadsMerged (client.limits_of x) asks (octets ++ more) all → ⊥
+pub client_not_failed : (x : ClientChannel) (asks : List Placed) (octets more : List ℕ) (told all : List ClientTold) (why : Why) → client.Ended x asks octets told why
+    → ClientReadsMerged (client.limits_of x) asks (octets ++ more) all → ⊥
 client_not_failed x asks octets more told all why e r =
     never_refused (client.rules_of x asks) octets more e.frames (r.before ++ r.more) e.rest why Going (λ s. cc) e.run (client_run (client.limits_of x) asks (octets ++ more) all r)

@@ -80,7 +80,8 @@ ordered_behind before more h k =
 -- ---- messages
 
 -- merged messages fit behind messages of which none is unfinished
-pub fit_behind : (limits : Limits) (before more : List Frame) (ms : List Sent) → FitMessages limits (messages before) → open_ids (received before).messages ≡ [] → AreMerged limits ms (messages more) → FitMessages limits (messages (before ++ more))
+pub fit_behind : (limits : Limits) (before more : List Frame) (ms : List Sent) → FitMessages limits (messages before) → open_ids (received before).messages ≡ [] → AreMerged limits ms (messages more)
+    → FitMessages limits (messages (before ++ more))
 fit_behind limits before more ms fit none merged =
     let end : open_ids (messages before) ≡ [] = ap open_ids (sym (messages_are before)) ∙ none in
     let behind : TakesMessages limits.max_message_size limits.max_chunk_count (messages before) (messages more) =
@@ -91,7 +92,8 @@ fit_behind limits before more ms fit none merged =
     (all_append (λ us c. message_refusal limits.max_message_size limits.max_chunk_count us c ≡ None) [] (messages before) (messages more) ((messages_fit limits (messages before)).1 fit) behind))
 
 -- and leave none unfinished
-pub closed_behind : (limits : Limits) (before more : List Frame) (ms : List Sent) → open_ids (received before).messages ≡ [] → AreMerged limits ms (messages more) → open_ids (received (before ++ more)).messages ≡ []
+pub closed_behind : (limits : Limits) (before more : List Frame) (ms : List Sent) → open_ids (received before).messages ≡ [] → AreMerged limits ms (messages more)
+    → open_ids (received (before ++ more)).messages ≡ []
 closed_behind limits before more ms none merged =
     ap open_ids (messages_behind before more) ∙ closed_fresh (received before).messages (messages more) none (comes limits ms (messages more) merged).none_open
 

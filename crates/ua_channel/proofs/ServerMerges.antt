@@ -94,7 +94,8 @@ no_close : (frames : List Frame) → (received frames).closed ≡ false → flat
 unfolding received closings
 no_close frames on = flat_map-map closings_in content frames ∙ nothing_there (flat_map (λ (f : Frame). closings_in (content f)) frames) on
 
-order_behind : (before more : List Frame) → IsServerOrder (map content before) → 0 < issued (received before) → (received before).closed ≡ false → AllByRecursion (λ (f : Frame). IsChunkOrOpening (content f)) more → IsServerOrder (map content (before ++ more))
+order_behind : (before more : List Frame) → IsServerOrder (map content before) → 0 < issued (received before) → (received before).closed ≡ false
+    → AllByRecursion (λ (f : Frame). IsChunkOrOpening (content f)) more → IsServerOrder (map content (before ++ more))
 order_behind before more h some on is =
     subst IsServerOrder (sym (map-append content before more)) (order_on (map content before) (map content more) h (some_opening before some) (no_close before on) (all_mapped more is))
 
@@ -172,7 +173,8 @@ module _ (limits : Limits) (channel : ℕ) (ms : List Sent) (base : List Chunk) 
   tells_at b us rest (Closes c) is now all = absurd is
   tells_at b us rest Nothing is now all = absurd is
 
-  told_from : (start : List Frame) (us : List Chunk) (fs : List Frame) → (received start).messages ≡ base ++ us → AllByRecursion (λ (f : Frame). IsChunkOrOpening (content f)) fs → EachEnds ms us (messages fs)
+  told_from : (start : List Frame) (us : List Chunk) (fs : List Frame) → (received start).messages ≡ base ++ us → AllByRecursion (λ (f : Frame). IsChunkOrOpening (content f)) fs
+      → EachEnds ms us (messages fs)
       → each_from (server_rules limits channel).tells start fs ≡ told_merged ms start fs
   unfolding messages
   told_from start us [] now order all = refl

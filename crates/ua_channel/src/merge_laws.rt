@@ -5,7 +5,7 @@
 //! end, a `Run` of them and the `events` that they tell; `server_follows_merged` and
 //! `client_follows_merged` say it of a running channel.
 
-ghost use Rattle.std.specs.Prelude.{◌≡◌, ◌+◌, ◌++◌, [], ℕ, List, length, map};
+ghost use Rattle.std.specs.Prelude.{◌≡◌, ◌↔◌, ◌+◌, ◌++◌, [], ℕ, List, length, map};
 ghost use Rattle.std.specs.List.{filter, range_with_len};
 ghost use Rattle.ua_frame.specs.Frames.{frames_octets};
 ghost use Rattle.ua_frame.specs.Run.{Going, Over, Run, Stopped, events};
@@ -13,12 +13,15 @@ ghost use Rattle.ua_frame.specs.declared.frame.Frame.{Frame};
 ghost use Rattle.ua_frame.specs.declared.limits.Limits.{Limits};
 ghost use Rattle.ua_chunk.specs.Merge.{Sent, outcome_under, outcomes, sent_under};
 ghost use Rattle.ua_chunk.specs.Open.{open_ids};
+ghost use Rattle.ua_chunk.specs.Refusal.{TakesMessages};
+ghost use Rattle.ua_chunk.specs.declared.chunk.Chunk.{Chunk};
 ghost use Rattle.ua_channel.specs.Asks.{Placed};
 ghost use Rattle.ua_channel.specs.Client as client;
 ghost use Rattle.ua_channel.specs.ClientTable.{client_rules};
 ghost use Rattle.ua_channel.specs.ClientTokens.{responses, tokens_of};
 ghost use Rattle.ua_channel.specs.ClientTold.{Told as ClientTold, Why, told_item};
-ghost use Rattle.ua_channel.specs.Merges.{ClientReadsMerged, MergedAtClient, MergedAtServer, ServerReadsMerged, is_message_under, is_told_under, told_merged, told_merged_back, tokens_renewed, tokens_told};
+ghost use Rattle.ua_channel.specs.Conversation.{FitMessages};
+ghost use Rattle.ua_channel.specs.Merges.{AreMerged, ClientReadsMerged, MergedAtClient, MergedAtServer, ServerReadsMerged, is_message_under, is_told_under, told_merged, told_merged_back, tokens_renewed, tokens_told};
 ghost use Rattle.ua_channel.specs.Paired.{told_of_calls};
 ghost use Rattle.ua_channel.specs.Received.{messages, openings, received};
 ghost use Rattle.ua_channel.specs.ServerMessages.{message_of, messages_in};
@@ -27,6 +30,13 @@ ghost use Rattle.ua_channel.specs.ServerStands.{Ended, Goes, RefusedAt, channel_
 ghost use Rattle.ua_channel.specs.ServerTold.{Told, issued};
 ghost use Rattle.ua_channel.specs.declared.client.channel.ClientChannel.{ClientChannel};
 ghost use Rattle.ua_channel.specs.declared.server.ServerChannel.{ServerChannel};
+
+/// Chunks of which none is refused for its message are those whose messages fit, in plain words; so
+/// merged messages fit.
+pub fn messages_fit()
+    ensures taken { (limits : Limits) (cs : List Chunk) → TakesMessages limits.max_message_size limits.max_chunk_count [] cs ↔ FitMessages limits cs }
+    ensures merged { (limits : Limits) (ms : List Sent) (cs : List Chunk) → AreMerged limits ms cs → FitMessages limits cs }
+{}
 
 /// Behind frames where a channel is open and no message unfinished, a server takes requests under
 /// request ids of their own, cut in any way within its limits and each ending in an F or given up by
