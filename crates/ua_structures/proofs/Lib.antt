@@ -5,6 +5,8 @@ pub mod ItemsRead
 mod ItemsSkipped
 pub mod HeaderLawful
 mod HeaderRead
+mod Ahead
+mod Thinned
 pub mod AttributeLawful
 pub mod DiscoveryLawful
 pub mod SecureChannelLawful

@@ -6,6 +6,7 @@ pub mod Header
 pub mod Plain
 pub mod SecureChannel
 pub mod Session
+pub mod Thin
 pub mod WrittenBack
 -- Words that only contracts within this crate cite.
 pub mod inside

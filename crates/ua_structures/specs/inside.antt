@@ -1,2 +1,3 @@
--- What stands at the end of headers: words that only contracts within this crate cite.
+-- What stands at the end of headers, and at the front of values: words that only contracts within this crate cite.
 pub mod HeaderEnds
+pub mod Ahead

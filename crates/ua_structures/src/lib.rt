@@ -25,6 +25,7 @@ pub mod laws;
 mod secure_channel;
 mod session;
 mod signature;
+mod thin;
 
 pub use array::{UaArray, read_array};
 pub use attribute::{
@@ -41,3 +42,4 @@ pub use session::{
     CloseSessionResponse, CreateSessionRequest, CreateSessionResponse,
 };
 pub use signature::{SignatureData, SignedSoftwareCertificate};
+pub use thin::{TakesTypes, ValueType};
