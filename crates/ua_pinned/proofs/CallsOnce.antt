@@ -89,12 +89,12 @@ called_once {A} once view one two x y requests a b line after other later s comi
     mine : Met view (limits_of (client_channel two)) (client_channel x) requests s (h.moves.taken ++ both.more) h.sent h.moves.taken a
     mine =
         met view (limits_of (client_channel two)) requests s (connection_of x) h.sent h.moves.taken both.more (limits_are one two x y a b line after other later s coming stand h.sent k.sent h.moves k.moves h.same k.same h.stops k.stops) a both.stop (had_first a b had)
-        (not_long one two x y a b line after other later s coming stand h.sent k.sent h.moves k.moves h.same k.same h.stops k.stops) (h.answers s stand.first stand.settled)
+        (not_long one two x y a b line after other later s coming stand h.sent k.sent h.moves k.moves h.same k.same h.stops k.stops) (h.answers s stand.first)
 
     theirs : Met view (limits_of (client_channel two)) (client_channel y) requests s (k.moves.taken ++ both.rest) k.sent k.moves.taken b
     theirs =
         met view (limits_of (client_channel two)) requests s (connection_of y) k.sent k.moves.taken both.rest (limits_too one two x y a b line after other later s coming stand h.sent k.sent h.moves k.moves h.same k.same h.stops k.stops) b both.stop_too (had_second a b had)
-        (not_long_too one two x y a b line after other later s coming stand h.sent k.sent h.moves k.moves h.same k.same h.stops k.stops) (k.answers s stand.second stand.settled)
+        (not_long_too one two x y a b line after other later s coming stand h.sent k.sent h.moves k.moves h.same k.same h.stops k.stops) (k.answers s stand.second)
 
     one_walk : WalkOnce (client_channel x) (client_channel y) (fault_of a) (fault_of b) s h.sent k.sent h.moves.taken k.moves.taken mine.replies theirs.replies mine.count theirs.count
     one_walk =
@@ -176,13 +176,13 @@ added_once once one two x y requests a b had_replies have other_had also line af
     mine =
         added_by (limits_of (client_channel two)) requests s (connection_of x) h.sent h.moves.taken both.more h.added (limits_are one two x y (fault_alone a) (fault_alone b) line after other later s coming stand h.sent k.sent h.moves k.moves h.same k.same h.stops k.stops) a both.stop
         (had_first (fault_alone a) (fault_alone b) had)
-        (not_long one two x y (fault_alone a) (fault_alone b) line after other later s coming stand h.sent k.sent h.moves k.moves h.same k.same h.stops k.stops) (h.answers s stand.first stand.settled)
+        (not_long one two x y (fault_alone a) (fault_alone b) line after other later s coming stand h.sent k.sent h.moves k.moves h.same k.same h.stops k.stops) (h.answers s stand.first)
 
     theirs : Added (limits_of (client_channel two)) (client_channel y) requests s (k.moves.taken ++ both.rest) k.sent k.moves.taken k.added b
     theirs =
         added_by (limits_of (client_channel two)) requests s (connection_of y) k.sent k.moves.taken both.rest k.added (limits_too one two x y (fault_alone a) (fault_alone b) line after other later s coming stand h.sent k.sent h.moves k.moves h.same k.same h.stops k.stops) b both.stop_too
         (had_second (fault_alone a) (fault_alone b) had)
-        (not_long_too one two x y (fault_alone a) (fault_alone b) line after other later s coming stand h.sent k.sent h.moves k.moves h.same k.same h.stops k.stops) (k.answers s stand.second stand.settled)
+        (not_long_too one two x y (fault_alone a) (fault_alone b) line after other later s coming stand h.sent k.sent h.moves k.moves h.same k.same h.stops k.stops) (k.answers s stand.second)
 
     one_walk : WalkOnce (client_channel x) (client_channel y) (fault_of (fault_alone a)) (fault_of (fault_alone b)) s h.sent k.sent h.moves.taken k.moves.taken h.added k.added mine.count theirs.count
     one_walk =

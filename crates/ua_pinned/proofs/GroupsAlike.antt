@@ -14,7 +14,6 @@ use Rattle.ua_client.specs.Calls.Rounds.{NoRound, OneRound}
 use Rattle.ua_client.specs.Client.{ends}
 use Rattle.ua_client.specs.Hearing.{channel_of}
 use Rattle.ua_client.specs.Kept.{KeepsAt}
-use Rattle.ua_client.specs.Renewing.{IsSettled}
 use Rattle.ua_client.specs.Replies.{AreAwaited, IsFront, IsMisanswered, IsUntold, LacksAnswer}
 use Rattle.ua_client.specs.Site.{Site, At, id_at}
 use Rattle.ua_client.specs.declared.connection.Connection.{Connection}
@@ -58,9 +57,9 @@ group_once g h others more e p q =
 -- not, by this fault; or it is, and so on from there. What was sent and taken, the replies that are kept, and how many requests stand before
 -- the one that the fault names.
 pub data Walk (b : Bool) (limits : Limits) (x : ClientChannel) (o : Option ClientFault) : List Request → Site → List ℕ → List ℕ → List ℕ → List Reply → ℕ → Type 0 where
-  Over : {requests : List Request} {s : Site} {coming sent taken : List ℕ} {replies : List Reply} {count : ℕ} → requests ≡ [] → o ≡ None → sent ≡ [] → taken ≡ [] → replies ≡ [] → count ≡ 0 → At x s → IsSettled s
+  Over : {requests : List Request} {s : Site} {coming sent taken : List ℕ} {replies : List Reply} {count : ℕ} → requests ≡ [] → o ≡ None → sent ≡ [] → taken ≡ [] → replies ≡ [] → count ≡ 0 → At x s
       → Walk b limits x o requests s coming sent taken replies count
-  Breaks : {requests : List Request} {s : Site} {coming sent taken : List ℕ} {replies : List Reply} {count : ℕ} (f : ClientFault) (g others : List Request) → o ≡ Some f → requests ≡ g ++ others → IsGroup g others → IsSettled s
+  Breaks : {requests : List Request} {s : Site} {coming sent taken : List ℕ} {replies : List Reply} {count : ℕ} (f : ClientFault) (g others : List Request) → o ≡ Some f → requests ≡ g ++ others → IsGroup g others
       → Broke b limits g s coming x sent taken replies count f → Walk b limits x o requests s coming sent taken replies count
   Step : {requests : List Request} {s : Site} {coming sent taken : List ℕ} {replies : List Reply} {count : ℕ} (g others : List Request) (z : ClientChannel) (m : Site) (part later out rest : List ℕ) (added further : List Reply) (n : ℕ)
       → requests ≡ g ++ others → IsGroup g others → IsDone limits g s coming z m part added → coming ≡ part ++ later → sent ≡ sent_at s g ++ out → taken ≡ part ++ rest → replies ≡ added ++ further → count ≡ length g + n
@@ -76,7 +75,6 @@ pub record Place (x y : ClientChannel) (s : Site) (taken got : List ℕ) : Type 
   pub site : Site
   pub first : At x site
   pub second : At y site
-  pub settled : IsSettled site
   pub octets : site.octets ≡ s.octets ++ taken
   pub same : taken ≡ got
 
@@ -107,19 +105,19 @@ not_going f e = by (ends f) refl
     by false is = is
 
 module _ (once : OneBody) (b : Bool) (limits : Limits) (x y : ClientChannel) (o p : Option ClientFault) where
-  over_both : (s : Site) (sent other taken got : List ℕ) (replies also : List Reply) (n k : ℕ) → o ≡ None → p ≡ None → sent ≡ [] → other ≡ [] → taken ≡ [] → got ≡ [] → replies ≡ [] → also ≡ [] → n ≡ 0 → k ≡ 0 → At x s → At y s → IsSettled s
+  over_both : (s : Site) (sent other taken got : List ℕ) (replies also : List Reply) (n k : ℕ) → o ≡ None → p ≡ None → sent ≡ [] → other ≡ [] → taken ≡ [] → got ≡ [] → replies ≡ [] → also ≡ [] → n ≡ 0 → k ≡ 0 → At x s → At y s
       → WalkOnce x y o p s sent other taken got replies also n k
-  over_both s sent other taken got replies also n k a a' e e' d d' r r' c c' at at' settled = record {
+  over_both s sent other taken got replies also n k a a' e e' d d' r r' c c' at at' = record {
     outcome = a ∙ sym a';
     sent_is = e ∙ sym e';
     replies_are = r ∙ sym r';
     count_is = c ∙ sym c';
-    stays = λ goes. record { site = s; first = at; second = at'; settled = settled; octets = sym (ap (λ (t : List ℕ). s.octets ++ t) d ∙ append-nil s.octets); same = d ∙ sym d' };
+    stays = λ goes. record { site = s; first = at; second = at'; octets = sym (ap (λ (t : List ℕ). s.octets ++ t) d ∙ append-nil s.octets); same = d ∙ sym d' };
   }
 
-  break_both : (s : Site) (coming sent other taken got : List ℕ) (replies also : List Reply) (n k : ℕ) (f g : ClientFault) (requests : List Request) → o ≡ Some f → p ≡ Some g → Faults o p sent other → IsSettled s
+  break_both : (s : Site) (coming sent other taken got : List ℕ) (replies also : List Reply) (n k : ℕ) (f g : ClientFault) (requests : List Request) → o ≡ Some f → p ≡ Some g → Faults o p sent other
       → Broke b limits requests s coming x sent taken replies n f → Broke b limits requests s coming y other got also k g → WalkOnce x y o p s sent other taken got replies also n k
-  break_both s coming sent other taken got replies also n k f g requests e d faults settled u v =
+  break_both s coming sent other taken got replies also n k f g requests e d faults u v =
       let one = broke_once once limits requests s coming b x y sent other taken got replies also n k f g (faults.alike f g e d) (λ is. faults.written (inl (e ∙ ap Some is))) u v in
       record {
         outcome = e ∙ (ap Some one.fault_is ∙ sym d);
@@ -128,7 +126,7 @@ module _ (once : OneBody) (b : Bool) (limits : Limits) (x y : ClientChannel) (o 
         count_is = one.place_is;
         stays = λ goes.
             let h = one.stays (not_going f (sym (ap goes_on e) ∙ goes)) in
-            record { site = s; first = h.2; second = h.3; settled = settled; octets = sym (ap (λ (t : List ℕ). s.octets ++ t) h.0 ∙ append-nil s.octets); same = h.0 ∙ sym h.1 };
+            record { site = s; first = h.2; second = h.3; octets = sym (ap (λ (t : List ℕ). s.octets ++ t) h.0 ∙ append-nil s.octets); same = h.0 ∙ sym h.1 };
       }
 
   behind_step : (s m : Site) (part sent other out also_out taken got rest also_rest : List ℕ) (replies also added further also_further : List Reply) (n k c i j : ℕ) (start : List ℕ)
@@ -145,7 +143,6 @@ module _ (once : OneBody) (b : Bool) (limits : Limits) (x y : ClientChannel) (o 
           site = h.site;
           first = h.first;
           second = h.second;
-          settled = h.settled;
           octets = h.octets ∙ (ap (λ (t : List ℕ). t ++ rest) at ∙ (append_assoc s.octets part rest ∙ ap (λ (t : List ℕ). s.octets ++ t) (sym d)));
           same = d ∙ (ap (λ (t : List ℕ). part ++ t) h.same ∙ sym d');
         };
@@ -160,18 +157,18 @@ module _ (once : OneBody) (b : Bool) (limits : Limits) (x y : ClientChannel) (o 
 
   pub walks_once : (requests : List Request) (s : Site) (coming sent other taken got : List ℕ) (replies also : List Reply) (n k : ℕ) → Walk b limits x o requests s coming sent taken replies n → Walk b limits y p requests s coming other got also k
       → Faults o p sent other → WalkOnce x y o p s sent other taken got replies also n k
-  walks_once requests s coming sent other taken got replies also n k (Over none a e d r c at settled) (Over none' a' e' d' r' c' at' settled') faults = over_both s sent other taken got replies also n k a a' e e' d d' r r' c c' at at' settled
-  walks_once requests s coming sent other taken got replies also n k (Over none a e d r c at settled) (Breaks g h more a' is' group' settled' u) faults = absurd (no_requests requests h more none is' group')
-  walks_once requests s coming sent other taken got replies also n k (Over none a e d r c at settled) (Step h more z m part later out rest added further i is' group' done' c' e' d' r' q' w) faults = absurd (no_requests requests h more none is' group')
-  walks_once requests s coming sent other taken got replies also n k (Breaks f g others a is group settled u) (Over none a' e' d' r' c' at' settled') faults = absurd (no_requests requests g others none is group)
-  walks_once requests s coming sent other taken got replies also n k (Breaks f g others a is group settled u) (Breaks f' g' others' a' is' group' settled' u') faults =
+  walks_once requests s coming sent other taken got replies also n k (Over none a e d r c at) (Over none' a' e' d' r' c' at') faults = over_both s sent other taken got replies also n k a a' e e' d d' r r' c c' at at'
+  walks_once requests s coming sent other taken got replies also n k (Over none a e d r c at) (Breaks g h more a' is' group' u) faults = absurd (no_requests requests h more none is' group')
+  walks_once requests s coming sent other taken got replies also n k (Over none a e d r c at) (Step h more z m part later out rest added further i is' group' done' c' e' d' r' q' w) faults = absurd (no_requests requests h more none is' group')
+  walks_once requests s coming sent other taken got replies also n k (Breaks f g others a is group u) (Over none a' e' d' r' c' at') faults = absurd (no_requests requests g others none is group)
+  walks_once requests s coming sent other taken got replies also n k (Breaks f g others a is group u) (Breaks f' g' others' a' is' group' u') faults =
       let same = group_once g g' others others' (sym is ∙ is') group group' in
-      break_both s coming sent other taken got replies also n k f f' g a a' faults settled u (subst (λ (ms : List Request). Broke b limits ms s coming y other got also k f') (sym same.0) u')
-  walks_once requests s coming sent other taken got replies also n k (Breaks f g others a is group settled u) (Step g' others' z m part later out rest added further i is' group' done c' e' d' r' q' w) faults =
+      break_both s coming sent other taken got replies also n k f f' g a a' faults u (subst (λ (ms : List Request). Broke b limits ms s coming y other got also k f') (sym same.0) u')
+  walks_once requests s coming sent other taken got replies also n k (Breaks f g others a is group u) (Step g' others' z m part later out rest added further i is' group' done c' e' d' r' q' w) faults =
       let same = group_once g' g others' others (sym is' ∙ is) group' group in
       absurd (parts_ways limits s coming other sent g' g others' others z x m part taken out added replies n f same.0 done e' (λ write. sym (faults.written (inl (a ∙ ap Some write)))) u)
-  walks_once requests s coming sent other taken got replies also n k (Step g others z m part later out rest added further i is group done c e d r q w) (Over none a' e' d' r' c' at' settled') faults = absurd (no_requests requests g others none is group)
-  walks_once requests s coming sent other taken got replies also n k (Step g others z m part later out rest added further i is group done c e d r q w) (Breaks f g' others' a' is' group' settled' u) faults =
+  walks_once requests s coming sent other taken got replies also n k (Step g others z m part later out rest added further i is group done c e d r q w) (Over none a' e' d' r' c' at') faults = absurd (no_requests requests g others none is group)
+  walks_once requests s coming sent other taken got replies also n k (Step g others z m part later out rest added further i is group done c e d r q w) (Breaks f g' others' a' is' group' u) faults =
       let same = group_once g g' others others' (sym is ∙ is') group group' in
       absurd (parts_ways limits s coming sent other g g' others others' z y m part got out added also k f same.0 done e (λ write. faults.written (inr (a' ∙ ap Some write))) u)
   walks_once requests s coming sent other taken got replies also n k (Step g others z m part later out rest added further i is group done c e d r q w) (Step g' others' z' m' part' later' out' rest' added' further' j is' group' done' c' e' d' r' q' w') faults =
@@ -344,7 +341,7 @@ module _ (b : Bool) (limits : Limits) (requests : List Request) (s : Site) (sent
   walk_answered x same replies a =
       walk_as b limits x None (all_of a.groups ++ []) requests s (taken ++ more) (taken ++ more) (sent ++ []) sent (taken ++ []) taken (replies ++ []) replies (length (all_of a.groups) + 0) (length (all_of a.groups) + 0)
       (append-nil (all_of a.groups) ∙ sym a.parts) refl (append-nil sent) (append-nil taken) (append-nil replies) refl
-      (prepend b limits x x same None s [] more [] [] [] 0 a.rounds (grouped_all a.groups a.sized) (Over refl refl refl refl refl refl a.at a.settled))
+      (prepend b limits x x same None s [] more [] [] [] 0 a.rounds (grouped_all a.groups a.sized) (Over refl refl refl refl refl refl a.at))
 
   -- behind groups that are, one is not
   pub walk_broken : (new : Connection) → limits_of (channel_of new) ≡ limits → (f : ClientFault) (k : BrokenAll requests s new sent taken f) (kept : List Reply) (place : ℕ)
@@ -356,4 +353,4 @@ module _ (b : Bool) (limits : Limits) (requests : List Request) (s : Site) (sent
       (k.replies ++ kept) (k.replies ++ kept) (length (all_of k.groups) + place) (length (all_of k.groups) + place)
       (sym k.parts) (sym (ap (λ (o : List ℕ). o ++ more) k.taken_parts ∙ append_assoc k.taken_before k.taken_then more)) (sym k.sent_parts) (sym k.taken_parts) refl refl
       (prepend b limits (channel_of new) (channel_of new) same (Some f) s (k.group ++ k.others) (k.taken_then ++ more) k.sent_then k.taken_then kept place k.rounds (grouped_before k.groups k.group (k.group ++ k.others) k.sized)
-      (Breaks f k.group k.others refl refl (one.0, one.1, k.full) k.settled u))
+      (Breaks f k.group k.others refl refl (one.0, one.1, k.full) u))

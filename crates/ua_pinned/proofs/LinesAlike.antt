@@ -199,7 +199,6 @@ module _ {A : Type 0} (one two x y : Client) (a b : Result A ClientFault) (line 
           ready_too = ready_too;
           first = h.first;
           second = h.second;
-          settled = h.settled;
           same = record { limits = sym same.limits ∙ (stand.same.limits ∙ same_too.limits); url = sym same.url ∙ (stand.same.url ∙ same_too.url) };
           comes = ran_comes x (connection_of x) sent m.taken line after coming first refl;
           comes_too = subst (ComesTo y later) (sym ahead) (ran_comes y (connection_of y) also n.taken other later coming second refl);

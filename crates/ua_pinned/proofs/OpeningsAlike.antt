@@ -183,7 +183,6 @@ module _ (settled : SettledBehind) (limits : Limits) (url : Option (List ℕ)) (
           ready_too = ready_too;
           first = subst (λ (c : Connection). At (channel_of c) s.0) (sym is) s.3;
           second = subst (λ (c : Connection). At (channel_of c) s.0) (sym is_too) (subst (At (channel_of k.last)) (sym place) t.3);
-          settled = s.4;
           same = record {
             limits = ap (λ (c : Connection). limits_of (channel_of c)) is ∙ (limits_same ∙ sym (ap (λ (c : Connection). limits_of (channel_of c)) is_too));
             url = ap (λ (c : Connection). url_of (channel_of c)) is ∙ ((sym h.opens.keeps.same.url ∙ h.fresh.url_is) ∙ (sym (sym k.opens.keeps.same.url ∙ k.fresh.url_is) ∙ sym (ap (λ (c : Connection). url_of (channel_of c)) is_too)));

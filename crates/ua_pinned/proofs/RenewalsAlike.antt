@@ -19,7 +19,7 @@ use Rattle.ua_client.specs.Carried.{Carries}
 use Rattle.ua_client.specs.Client.{Closes, ClosesAt, IsDone, IsLeft, client_channel, closing_at, connection_of, ends}
 use Rattle.ua_client.specs.Hearing.{StopsAt, channel_of, most_reads, untaken_of}
 use Rattle.ua_client.specs.Opening.{GoesWithout, EndsWithout}
-use Rattle.ua_client.specs.Renewing.{IsRefusal, IsRenewed, IsSettled, Renews, RenewsAt, asks_renewed, is_renewed, refused_by, renewal_at}
+use Rattle.ua_client.specs.Renewing.{IsRefusal, IsRenewed, Renews, RenewsAt, asks_renewed, is_renewed, refused_by, renewal_at}
 use Rattle.ua_client.specs.Site.{Site, At}
 use Rattle.ua_client.specs.declared.client.Client.{Client}
 use Rattle.ua_client.specs.declared.connection.Connection.{Connection}
@@ -153,8 +153,8 @@ module _ (R : Rules Told Why) (old new : Connection) (moment : DateTime) (s : Si
   renews_by (Err (fault.Refused code)) e k stops unbroken had = broken (fault.Refused code) (ours code.code) (ByOurs code refl refl) e k
   renews_by (Err f) e k stops unbroken had = absurd k
 
-  renews_to : At (channel_of old) s → IsSettled s → line_failed a ≡ false → ¬ (IsErrOf a fault.OutOfMemory) → RenewsTo R (s.octets ++ coming) s moment (channel_of new) h.sent h.moves.taken a
-  renews_to at settled unbroken had = renews_by a refl (h.answers s at settled) h.stops unbroken had
+  renews_to : At (channel_of old) s → line_failed a ≡ false → ¬ (IsErrOf a fault.OutOfMemory) → RenewsTo R (s.octets ++ coming) s moment (channel_of new) h.sent h.moves.taken a
+  renews_to at unbroken had = renews_by a refl (h.answers s at) h.stops unbroken had
 
 -- ---- two renewals are one
 
@@ -271,7 +271,6 @@ module _ (one two x y : Client) (moment : DateTime) (a b : Result (Unit {0}) Cli
             ready_too = subst (λ (z : Result (Unit {0}) ClientFault). IsLeft z y) d left_too;
             first = r.at;
             second = subst (At (client_channel y)) (sym place) v.at;
-            settled = r.settled;
             same = record { limits = limits_same; url = sym h.same.url ∙ (stand.same.url ∙ k.same.url) };
             comes = ran_comes x (connection_of x) h.sent h.moves.taken line after coming first refl;
             comes_too = subst (ComesTo y later) (sym ahead) (ran_comes y (connection_of y) k.sent k.moves.taken other later coming second refl);
@@ -305,7 +304,7 @@ module _ (one two x y : Client) (moment : DateTime) (a b : Result (Unit {0}) Cli
 
   both_judged : (f g : ClientFault) → a ≡ Err f → b ≡ Err g → refused_by a ≡ Some f → refused_by b ≡ Some g → IsRefusal a → IsRefusal b → h.sent ≡ [] → k.sent ≡ [] → CalledOnce a b x y line after other later
   both_judged f g e d is is_too unbroken no_too sent also =
-      let same : f ≡ g = same_some f g (sym is ∙ (h.judged s stand.first stand.settled ∙ (sym (k.judged s stand.second stand.settled) ∙ is_too))) in
+      let same : f ≡ g = same_some f g (sym is ∙ (h.judged s stand.first ∙ (sym (k.judged s stand.second) ∙ is_too))) in
       record {
         answers = e ∙ (ap Err same ∙ sym d);
         written = wrote_both (sent ∙ sym also);
@@ -314,10 +313,10 @@ module _ (one two x y : Client) (moment : DateTime) (a b : Result (Unit {0}) Cli
 
   -- a refusal is that of the place
   refused_both : (f : ClientFault) → refused_by a ≡ None → refused_by b ≡ Some f → ⊥
-  refused_both f none some = no_fault f (sym none ∙ (h.judged s stand.first stand.settled ∙ (sym (k.judged s stand.second stand.settled) ∙ some)))
+  refused_both f none some = no_fault f (sym none ∙ (h.judged s stand.first ∙ (sym (k.judged s stand.second) ∙ some)))
 
   refused_both_too : (f : ClientFault) → refused_by a ≡ Some f → refused_by b ≡ None → ⊥
-  refused_both_too f some none = no_fault f (sym none ∙ (k.judged s stand.second stand.settled ∙ (sym (h.judged s stand.first stand.settled) ∙ some)))
+  refused_both_too f some none = no_fault f (sym none ∙ (k.judged s stand.second ∙ (sym (h.judged s stand.first) ∙ some)))
 
   both : RenewsTo R (s.octets ++ coming) s moment (client_channel x) h.sent h.moves.taken a → RenewsTo R (s.octets ++ coming) s moment (client_channel y) k.sent k.moves.taken b → CalledOnce a b x y line after other later
   both (Done e sent t r) (Done d also u v) = both_done e d sent also t u r v
@@ -335,11 +334,11 @@ module _ (one two x y : Client) (moment : DateTime) (a b : Result (Unit {0}) Cli
 
   by_faults : CallsAlike a b line after other later → CalledOnce a b x y line after other later
   by_faults (NoFault f g) =
-      both (renews_to R (connection_of one) (connection_of x) moment s line after coming p.0 p.1 p.2 stand.few a h mine stand.first stand.settled f had.first)
-      (renews_to R (connection_of two) (connection_of y) moment s other later coming q.0 q.1 q.2 stand.few b k theirs stand.second stand.settled g had.second)
+      both (renews_to R (connection_of one) (connection_of x) moment s line after coming p.0 p.1 p.2 stand.few a h mine stand.first f had.first)
+      (renews_to R (connection_of two) (connection_of y) moment s other later coming q.0 q.1 q.2 stand.few b k theirs stand.second g had.second)
   by_faults (AtRead f g c) = record {
     answers = f ∙ sym g;
-    written = wrote_both (sent_at_read x h.sent h.moves.taken a f (h.answers s stand.first stand.settled) ∙ sym (sent_at_read y k.sent k.moves.taken b g (k.answers s stand.second stand.settled)));
+    written = wrote_both (sent_at_read x h.sent h.moves.taken a f (h.answers s stand.first) ∙ sym (sent_at_read y k.sent k.moves.taken b g (k.answers s stand.second)));
     left = done_by fault.Read x y a after later f refl (left_done fault.Read x a f refl left) (left_done fault.Read y b g refl left_too);
   }
   by_faults (AtWrite f g w) = record {

@@ -13,7 +13,6 @@ use Rattle.ua_services.specs.declared.request.Request.{Request}
 use Rattle.ua_client.specs.Calls.{sent_at}
 use Rattle.ua_client.specs.Client.{IsLeft, client_channel, connection_of}
 use Rattle.ua_client.specs.Hearing.{channel_of}
-use Rattle.ua_client.specs.Renewing.{IsSettled}
 use Rattle.ua_client.specs.Session.{ActivatesBehind, BeginsAt, BeginsSessionAs, Replies, ServesAt, activating_at, brings_any, brings_token, creating_at, reply_failure, token_in}
 use Rattle.ua_client.specs.Site.{Site, At}
 use Rattle.ua_client.specs.declared.client.Client.{Client}
@@ -38,8 +37,8 @@ failed_by (Some code) = Some (fault.Service code)
 -- what becomes of a service whose request is called there by itself: it is not answered, by this fault; or it is, and the reply says whether
 -- it failed
 data Served (limits : Limits) (request : Request) (s : Site) (coming : List ℕ) (x : ClientChannel) (sent taken : List ℕ) (o : Option ClientFault) : Type 0 where
-  Fails : (f : ClientFault) → o ≡ Some f → IsSettled s → Broke false limits (request ∷ []) s coming x sent taken [] 0 f → Served limits request s coming x sent taken o
-  Says : (t : Site) (reply : Reply) → o ≡ failed_by (reply_failure reply) → sent ≡ sent_at s (request ∷ []) → IsSettled t → IsDone limits (request ∷ []) s coming x t taken (reply ∷ []) → Served limits request s coming x sent taken o
+  Fails : (f : ClientFault) → o ≡ Some f → Broke false limits (request ∷ []) s coming x sent taken [] 0 f → Served limits request s coming x sent taken o
+  Says : (t : Site) (reply : Reply) → o ≡ failed_by (reply_failure reply) → sent ≡ sent_at s (request ∷ []) → IsDone limits (request ∷ []) s coming x t taken (reply ∷ []) → Served limits request s coming x sent taken o
 
 -- two are one
 record ServedOnce (x y : ClientChannel) (o p : Option ClientFault) (s : Site) (sent other taken got : List ℕ) : Type 0 where
@@ -61,54 +60,54 @@ module _ (once : OneBody) (limits : Limits) (x y : ClientChannel) (o p : Option 
   all_sent s requests sent e = e ∙ sym (append-nil (sent_at s requests))
 
   served_once : (request : Request) (s : Site) (coming sent other taken got : List ℕ) → Served limits request s coming x sent taken o → Served limits request s coming y other got p → Faults o p sent other → ServedOnce x y o p s sent other taken got
-  served_once request s coming sent other taken got (Fails f e settled u) (Fails g d settled' v) faults =
+  served_once request s coming sent other taken got (Fails f e u) (Fails g d v) faults =
       let one = broke_once once limits (request ∷ []) s coming false x y sent other taken got [] [] 0 0 f g (faults.alike f g e d) (λ is. faults.written (inl (e ∙ ap Some is))) u v in
       record {
         outcome = e ∙ (ap Some one.fault_is ∙ sym d);
         sent_is = one.sent_is;
         stays = λ goes.
             let h = one.stays (not_going f (sym (ap goes_on e) ∙ goes)) in
-            record { site = s; first = h.2; second = h.3; settled = settled; octets = sym (ap (λ (t : List ℕ). s.octets ++ t) h.0 ∙ append-nil s.octets); same = h.0 ∙ sym h.1 };
+            record { site = s; first = h.2; second = h.3; octets = sym (ap (λ (t : List ℕ). s.octets ++ t) h.0 ∙ append-nil s.octets); same = h.0 ∙ sym h.1 };
       }
-  served_once request s coming sent other taken got (Fails f e settled u) (Says t reply d sent_is settled' done) faults =
+  served_once request s coming sent other taken got (Fails f e u) (Says t reply d sent_is done) faults =
       absurd (says_not_fails (request ∷ []) s t coming other sent got taken y x (reply ∷ []) f [] done (all_sent s (request ∷ []) other sent_is) u (λ is. sym (faults.written (inl (e ∙ ap Some is)))))
-  served_once request s coming sent other taken got (Says t reply e sent_is settled done) (Fails g d settled' u) faults =
+  served_once request s coming sent other taken got (Says t reply e sent_is done) (Fails g d u) faults =
       absurd (says_not_fails (request ∷ []) s t coming sent other taken got x y (reply ∷ []) g [] done (all_sent s (request ∷ []) sent sent_is) u (λ is. faults.written (inr (d ∙ ap Some is))))
-  served_once request s coming sent other taken got (Says t reply e sent_is settled done) (Says u reply' d also settled' done') faults =
+  served_once request s coming sent other taken got (Says t reply e sent_is done) (Says u reply' d also done') faults =
       let one = done_once once limits (request ∷ []) s coming x y t u taken got (reply ∷ []) (reply' ∷ []) done done' in
       record {
         outcome = e ∙ (ap (λ (r : Reply). failed_by (reply_failure r)) (same_reply reply reply' one.replies_are) ∙ sym d);
         sent_is = sent_is ∙ sym also;
-        stays = λ goes. record { site = t; first = done.at; second = subst (At y) (sym one.place) done'.at; settled = settled; octets = done.answered.octets; same = one.octets };
+        stays = λ goes. record { site = t; first = done.at; second = subst (At y) (sym one.place) done'.at; octets = done.answered.octets; same = one.octets };
       }
 
 -- by what the client's clauses say
 module _ (limits : Limits) (request : Request) (s : Site) (new : Connection) (sent taken more : List ℕ) (same : limits_of (channel_of new) ≡ limits) where
   -- it was answered
   says_by : (o : Option ClientFault) (P : Reply → Type 0) → ((reply : Reply) → P reply → o ≡ failed_by (reply_failure reply)) → Replies request s (channel_of new) sent taken P → Served limits request s (taken ++ more) (channel_of new) sent taken o
-  says_by o P is r = Says r.behind r.reply (is r.reply r.says) r.replied.sent_is r.settled (record { limits_are = same; at = r.at; came = r.replied.came; answered = r.replied.answered; more = more; parts = refl })
+  says_by o P is r = Says r.behind r.reply (is r.reply r.says) r.replied.sent_is (record { limits_are = same; at = r.at; came = r.replied.came; answered = r.replied.answered; more = more; parts = refl })
 
-  served_by : {A : Type 0} (brings : A → Reply → Type 0) (result : Result A ClientFault) → IsSettled s → ((f : ClientFault) → fault_of result ≡ Some f → (f ≡ fault.Ended) ⊎ (f ≡ fault.Read) → more ≡ [])
+  served_by : {A : Type 0} (brings : A → Reply → Type 0) (result : Result A ClientFault) → ((f : ClientFault) → fault_of result ≡ Some f → (f ≡ fault.Ended) ⊎ (f ≡ fault.Read) → more ≡ [])
       → ((f : ClientFault) → fault_of result ≡ Some f → f ≡ fault.OutOfMemory → ⊥) → ((f : ClientFault) → fault_of result ≡ Some f → f ≡ fault.TooLong → ⊥) → ServesAt request brings s new sent taken result
       → Served limits request s (taken ++ more) (channel_of new) sent taken (fault_of result)
-  served_by brings (Ok found) settled stop had short k = says_by None (λ reply. (reply_failure reply ≡ None) × brings found reply) (λ reply h. ap failed_by (sym h.0)) k
-  served_by brings (Err (fault.Service code)) settled stop had short k = says_by (Some (fault.Service code)) (λ reply. reply_failure reply ≡ Some code) (λ reply h. ap failed_by (sym h)) k
-  served_by brings (Err (fault.Peer code)) settled stop had short k = Fails (fault.Peer code) refl settled (broke_all limits (request ∷ []) s new sent taken more same (fault.Peer code) (stop (fault.Peer code) refl) (had (fault.Peer code) refl) (short (fault.Peer code) refl) k)
-  served_by brings (Err (fault.Refused code)) settled stop had short k =
-      Fails (fault.Refused code) refl settled (broke_all limits (request ∷ []) s new sent taken more same (fault.Refused code) (stop (fault.Refused code) refl) (had (fault.Refused code) refl) (short (fault.Refused code) refl) k)
-  served_by brings (Err fault.Ended) settled stop had short k = Fails fault.Ended refl settled (broke_all limits (request ∷ []) s new sent taken more same fault.Ended (stop fault.Ended refl) (had fault.Ended refl) (short fault.Ended refl) k)
-  served_by brings (Err fault.Read) settled stop had short k = Fails fault.Read refl settled (broke_all limits (request ∷ []) s new sent taken more same fault.Read (stop fault.Read refl) (had fault.Read refl) (short fault.Read refl) k)
-  served_by brings (Err fault.Write) settled stop had short k = Fails fault.Write refl settled (broke_all limits (request ∷ []) s new sent taken more same fault.Write (stop fault.Write refl) (had fault.Write refl) (short fault.Write refl) k)
-  served_by brings (Err fault.UnknownResponse) settled stop had short k =
-      Fails fault.UnknownResponse refl settled (broke_all limits (request ∷ []) s new sent taken more same fault.UnknownResponse (stop fault.UnknownResponse refl) (had fault.UnknownResponse refl) (short fault.UnknownResponse refl) k)
-  served_by brings (Err fault.TooLong) settled stop had short k = absurd (short fault.TooLong refl refl)
-  served_by brings (Err fault.OutOfMemory) settled stop had short k = absurd (had fault.OutOfMemory refl refl)
-  served_by brings (Err fault.TooLarge) settled stop had short k = Fails fault.TooLarge refl settled (broke_all limits (request ∷ []) s new sent taken more same fault.TooLarge (stop fault.TooLarge refl) (had fault.TooLarge refl) (short fault.TooLarge refl) k)
-  served_by brings (Err fault.NotWritable) settled stop had short k =
-      Fails fault.NotWritable refl settled (broke_all limits (request ∷ []) s new sent taken more same fault.NotWritable (stop fault.NotWritable refl) (had fault.NotWritable refl) (short fault.NotWritable refl) k)
-  served_by brings (Err fault.Exhausted) settled stop had short k = Fails fault.Exhausted refl settled (broke_all limits (request ∷ []) s new sent taken more same fault.Exhausted (stop fault.Exhausted refl) (had fault.Exhausted refl) (short fault.Exhausted refl) k)
-  served_by brings (Err fault.Closed) settled stop had short k = absurd k
-  served_by brings (Err fault.TooManyTokens) settled stop had short k = absurd k
+  served_by brings (Ok found) stop had short k = says_by None (λ reply. (reply_failure reply ≡ None) × brings found reply) (λ reply h. ap failed_by (sym h.0)) k
+  served_by brings (Err (fault.Service code)) stop had short k = says_by (Some (fault.Service code)) (λ reply. reply_failure reply ≡ Some code) (λ reply h. ap failed_by (sym h)) k
+  served_by brings (Err (fault.Peer code)) stop had short k = Fails (fault.Peer code) refl (broke_all limits (request ∷ []) s new sent taken more same (fault.Peer code) (stop (fault.Peer code) refl) (had (fault.Peer code) refl) (short (fault.Peer code) refl) k)
+  served_by brings (Err (fault.Refused code)) stop had short k =
+      Fails (fault.Refused code) refl (broke_all limits (request ∷ []) s new sent taken more same (fault.Refused code) (stop (fault.Refused code) refl) (had (fault.Refused code) refl) (short (fault.Refused code) refl) k)
+  served_by brings (Err fault.Ended) stop had short k = Fails fault.Ended refl (broke_all limits (request ∷ []) s new sent taken more same fault.Ended (stop fault.Ended refl) (had fault.Ended refl) (short fault.Ended refl) k)
+  served_by brings (Err fault.Read) stop had short k = Fails fault.Read refl (broke_all limits (request ∷ []) s new sent taken more same fault.Read (stop fault.Read refl) (had fault.Read refl) (short fault.Read refl) k)
+  served_by brings (Err fault.Write) stop had short k = Fails fault.Write refl (broke_all limits (request ∷ []) s new sent taken more same fault.Write (stop fault.Write refl) (had fault.Write refl) (short fault.Write refl) k)
+  served_by brings (Err fault.UnknownResponse) stop had short k =
+      Fails fault.UnknownResponse refl (broke_all limits (request ∷ []) s new sent taken more same fault.UnknownResponse (stop fault.UnknownResponse refl) (had fault.UnknownResponse refl) (short fault.UnknownResponse refl) k)
+  served_by brings (Err fault.TooLong) stop had short k = absurd (short fault.TooLong refl refl)
+  served_by brings (Err fault.OutOfMemory) stop had short k = absurd (had fault.OutOfMemory refl refl)
+  served_by brings (Err fault.TooLarge) stop had short k = Fails fault.TooLarge refl (broke_all limits (request ∷ []) s new sent taken more same fault.TooLarge (stop fault.TooLarge refl) (had fault.TooLarge refl) (short fault.TooLarge refl) k)
+  served_by brings (Err fault.NotWritable) stop had short k =
+      Fails fault.NotWritable refl (broke_all limits (request ∷ []) s new sent taken more same fault.NotWritable (stop fault.NotWritable refl) (had fault.NotWritable refl) (short fault.NotWritable refl) k)
+  served_by brings (Err fault.Exhausted) stop had short k = Fails fault.Exhausted refl (broke_all limits (request ∷ []) s new sent taken more same fault.Exhausted (stop fault.Exhausted refl) (had fault.Exhausted refl) (short fault.Exhausted refl) k)
+  served_by brings (Err fault.Closed) stop had short k = absurd k
+  served_by brings (Err fault.TooManyTokens) stop had short k = absurd k
 
 -- ---- both services
 
@@ -133,9 +132,9 @@ module _ (once : OneBody) (limits : Limits) (url policy_id : Option (List ℕ)) 
   -- CreateSession did not fail for one and fail for the other
   not_both : (request : Request) (s t : Site) (coming sent other taken part got : List ℕ) (z w : ClientChannel) (q : Option ClientFault) (reply : Reply) (f : ClientFault) (out : List ℕ) → q ≡ Some f → Served limits request s coming w other got q
       → IsDone limits (request ∷ []) s coming z t part (reply ∷ []) → reply_failure reply ≡ None → sent ≡ sent_at s (request ∷ []) ++ out → (q ≡ Some fault.Write → sent ≡ other) → ⊥
-  not_both request s t coming sent other taken part got z w q reply f out e (Fails g d settled u) done good sent_is written =
+  not_both request s t coming sent other taken part got z w q reply f out e (Fails g d u) done good sent_is written =
       says_not_fails once limits z w q q (request ∷ []) s t coming sent other part got z w (reply ∷ []) g out done sent_is u (λ is. written (d ∙ ap Some is))
-  not_both request s t coming sent other taken part got z w q reply f out e (Says u reply' d also settled done') done good sent_is written =
+  not_both request s t coming sent other taken part got z w q reply f out e (Says u reply' d also done') done good sent_is written =
       let one = done_once once limits (request ∷ []) s coming z w t u part got (reply ∷ []) (reply' ∷ []) done done' in
       none_fault f (sym (d ∙ (ap (λ (r : Reply). failed_by (reply_failure r)) (sym (same_reply reply reply' one.replies_are)) ∙ ap failed_by good)) ∙ e)
 
@@ -151,7 +150,6 @@ module _ (once : OneBody) (limits : Limits) (url policy_id : Option (List ℕ)) 
           site = h.site;
           first = h.first;
           second = h.second;
-          settled = h.settled;
           octets = h.octets ∙ (ap (λ (t : List ℕ). t ++ rest) at ∙ (append_assoc s.octets part rest ∙ ap (λ (t : List ℕ). s.octets ++ t) (sym d)));
           same = d ∙ (ap (λ (t : List ℕ). part ++ t) h.same ∙ sym d');
         };
@@ -196,7 +194,7 @@ token_of (Err f) = None
 none_some : {P : Type 0} (f : ClientFault) → ◌≡◌ {A = Option ClientFault} None (Some f) → P
 none_some f e = cc
 
-module _ (limits : Limits) (url policy_id : Option (List ℕ)) (moment : DateTime) (s : Site) (new : Connection) (sent taken more : List ℕ) (same : limits_of (channel_of new) ≡ limits) (settled : IsSettled s) where
+module _ (limits : Limits) (url policy_id : Option (List ℕ)) (moment : DateTime) (s : Site) (new : Connection) (sent taken more : List ℕ) (same : limits_of (channel_of new) ≡ limits) where
   abbrev Comes : Option ClientFault → Option NodeId → Type 0
   Comes o given = Begun limits url policy_id moment s (taken ++ more) (channel_of new) sent taken o given
 
@@ -208,7 +206,7 @@ module _ (limits : Limits) (url policy_id : Option (List ℕ)) (moment : DateTim
       (record { limits_are = k.same.limits ∙ same; at = k.at; came = k.created.came; answered = k.created.answered; more = k.taken_then ++ more; parts = sym parts }) k.good k.brought
       (k.sent_parts ∙ ap (λ (o : List ℕ). o ++ k.sent_then) k.created.sent_is) k.taken_parts parts
       (λ e. shown k.token k.further.0 e) none
-      (served_by limits (activating_at policy_id k.token moment k.between) k.between new k.sent_then k.taken_then more same brings_any result k.settled stop had short k.further.1)
+      (served_by limits (activating_at policy_id k.token moment k.between) k.between new k.sent_then k.taken_then more same brings_any result stop had short k.further.1)
     where
       parts : taken ++ more ≡ k.taken_before ++ (k.taken_then ++ more)
       parts = ap (λ (o : List ℕ). o ++ more) k.taken_parts ∙ append_assoc k.taken_before k.taken_then more
@@ -216,7 +214,7 @@ module _ (limits : Limits) (url policy_id : Option (List ℕ)) (moment : DateTim
   begun_by : (result : Result NodeId ClientFault) → ((f : ClientFault) → fault_of result ≡ Some f → (f ≡ fault.Ended) ⊎ (f ≡ fault.Read) → more ≡ []) → ((f : ClientFault) → fault_of result ≡ Some f → f ≡ fault.OutOfMemory → ⊥)
       → ((f : ClientFault) → fault_of result ≡ Some f → f ≡ fault.TooLong → ⊥) → BeginsAt url policy_id moment s new sent taken result → Comes (fault_of result) (token_of result)
   begun_by (Ok token) stop had short k = created_by (Ok tt) (Some token) (λ given. given ≡ token) (λ given e none. ap Some (sym e)) (λ f e. none_some f e) stop had short k
-  begun_by (Err f) stop had short (inl k) = Uncreated f refl refl (served_by limits (creating_at url moment s) s new sent taken more same brings_token (Err f) settled stop had short k)
+  begun_by (Err f) stop had short (inl k) = Uncreated f refl refl (served_by limits (creating_at url moment s) s new sent taken more same brings_token (Err f) stop had short k)
   begun_by (Err f) stop had short (inr k) = created_by (Err f) None (λ given. Unit {0}) (λ given u e. none_some f (sym e)) (λ g e. refl) stop had short k
 
 -- ---- two sessions are one
@@ -252,14 +250,14 @@ session_once once one two x y policy_id again moment a b line after other later 
         subst (λ (u : Option (List ℕ)). Begun (limits_of (client_channel two)) u again moment s (h.moves.taken ++ both.more) (client_channel x) h.sent h.moves.taken (fault_of a) (token_of a)) stand.same.url
         (subst (λ (u : Option (List ℕ)). Begun (limits_of (client_channel two)) (url_of (client_channel one)) u moment s (h.moves.taken ++ both.more) (client_channel x) h.sent h.moves.taken (fault_of a) (token_of a)) same_policy
         (begun_by (limits_of (client_channel two)) (url_of (client_channel one)) policy_id moment s (connection_of x) h.sent h.moves.taken both.more
-        (limits_are one two x y a b line after other later s coming stand h.sent k.sent h.moves k.moves h.same k.same h.stops k.stops) stand.settled a both.stop (had_first a b had)
-        (not_long one two x y a b line after other later s coming stand h.sent k.sent h.moves k.moves h.same k.same h.stops k.stops) (h.answers s stand.first stand.settled)))
+        (limits_are one two x y a b line after other later s coming stand h.sent k.sent h.moves k.moves h.same k.same h.stops k.stops) a both.stop (had_first a b had)
+        (not_long one two x y a b line after other later s coming stand h.sent k.sent h.moves k.moves h.same k.same h.stops k.stops) (h.answers s stand.first)))
 
     theirs : Begun (limits_of (client_channel two)) (url_of (client_channel two)) again moment s (k.moves.taken ++ both.rest) (client_channel y) k.sent k.moves.taken (fault_of b) (token_of b)
     theirs =
         begun_by (limits_of (client_channel two)) (url_of (client_channel two)) again moment s (connection_of y) k.sent k.moves.taken both.rest
-        (limits_too one two x y a b line after other later s coming stand h.sent k.sent h.moves k.moves h.same k.same h.stops k.stops) stand.settled b both.stop_too (had_second a b had)
-        (not_long_too one two x y a b line after other later s coming stand h.sent k.sent h.moves k.moves h.same k.same h.stops k.stops) (k.answers s stand.second stand.settled)
+        (limits_too one two x y a b line after other later s coming stand h.sent k.sent h.moves k.moves h.same k.same h.stops k.stops) b both.stop_too (had_second a b had)
+        (not_long_too one two x y a b line after other later s coming stand h.sent k.sent h.moves k.moves h.same k.same h.stops k.stops) (k.answers s stand.second)
 
     both_once : BegunOnce (client_channel x) (client_channel y) (fault_of a) (fault_of b) s h.sent k.sent h.moves.taken k.moves.taken (token_of a) (token_of b)
     both_once =

@@ -4,7 +4,6 @@ use Rattle.ua_channel.specs.Client.{SameClient}
 use Rattle.ua_channel.specs.Line.{Traffic}
 use Rattle.ua_client.specs.Client.{IsDone, IsReady, client_channel, connection_of, ends}
 use Rattle.ua_client.specs.Hearing.{is_line_fault, untaken_of}
-use Rattle.ua_client.specs.Renewing.{IsSettled}
 use Rattle.ua_client.specs.Site.{Site, At}
 use Rattle.ua_client.specs.declared.client.Client.{Client}
 use Rattle.ua_client.specs.declared.fault.ClientFault.{ClientFault}
@@ -39,7 +38,6 @@ pub record StandReady (one two : Client) (line other : Option Traffic) (s : Site
   pub ready_too : IsReady two
   pub first : At (client_channel one) s
   pub second : At (client_channel two) s
-  pub settled : IsSettled s
   pub same : SameClient (client_channel one) (client_channel two)
   pub comes : ComesTo one line coming
   pub comes_too : ComesTo two other coming
