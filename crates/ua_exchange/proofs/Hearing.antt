@@ -9,9 +9,7 @@ use Rattle.ua_frame.specs.declared.ack.Ack.{Ack}
 use Rattle.ua_frame.specs.declared.limits.Limits.{Limits}
 use Rattle.ua_frame.specs.After.{AllFrom, each_after}
 use Rattle.ua_frame.proofs.Afters.{each_after-push}
-use Rattle.ua_chunk.specs.Gathered.{after_last}
 use Rattle.ua_chunk.specs.Sequence.{next_number}
-use Rattle.ua_chunk.proofs.Lists.{after_last_push}
 use Rattle.ua_channel.specs.Asks.{Asking, Placed, asked_in, next_id, is_in}
 use Rattle.ua_channel.specs.Asks.Asking.{Call, Renewal}
 use Rattle.ua_channel.specs.ClientAsks.{no_id}
@@ -32,7 +30,7 @@ use Rattle.ua_exchange.specs.Programs.{AreOurs, acknowledged, channel, url}
 use Rattle.ua_exchange.specs.Groups.{EndsAtRenewal, upto, calls_from, renewals_from}
 use Rattle.ua_exchange.specs.Reading.{Hearing, all_heard, asked_behind, heard_behind, said_to, turns_heard}
 use Rattle.ua_exchange.specs.Replies.{lane_back, response_behind}
-use Rattle.ua_exchange.specs.Turns.{id_behind, is_call, token_behind}
+use Rattle.ua_exchange.specs.Turns.{id_behind, token_behind}
 use Rattle.ua_exchange.specs.declared.turn.Turn.{Turn}
 use Rattle.ua_exchange.specs.declared.turn.Turn.TheVariants.{Ask, Renew}
 use Rattle.ua_exchange.proofs.Asking.{accepted_call, accepted_renewal, few_renewals, token-call, token-renewal}
@@ -69,7 +67,6 @@ module _ (limits : Limits) (ours : AreOurs limits) (first : State) (moment : Dat
       others = h.others;
       tokens_are = h.tokens_are;
       newest_here = h.newest_here;
-      held_is = h.held_is;
       newest_is = h.newest_is;
       pending_are =
           ap (λ (ids : List ℕ). ids ++ next_id (asked_in asks) ∷ []) h.pending_are
@@ -90,7 +87,6 @@ module _ (limits : Limits) (ours : AreOurs limits) (first : State) (moment : Dat
       others = h.others;
       tokens_are = h.tokens_are;
       newest_here = h.newest_here;
-      held_is = h.held_is;
       newest_is = h.newest_is;
       pending_are = h.pending_are ∙ sym (calls-renewal (id_behind answered) waiting);
       renewals_are =
@@ -152,7 +148,6 @@ module _ (limits : Limits) (ours : AreOurs limits) (first : State) (moment : Dat
         others = 0;
         tokens_are = tokens_after asks answered (Ask m ∷ waiting) h few;
         newest_here = omega (arith, token-call answered m);
-        held_is = ap (λ (ts : List Turn). length ts + 1) (sym (after_last_push is_call answered (Ask m)));
         newest_is = h.newest_is ∙ sym (token-call answered m);
         pending_are =
             ap (without_id id) h.pending_are
@@ -197,8 +192,6 @@ module _ (limits : Limits) (ours : AreOurs limits) (first : State) (moment : Dat
             ap (λ (ks : List ℕ). ks ++ token ∷ []) h.tokens_are
             ∙ (ap (λ (k : ℕ). upto h.oldest (suc h.others) ++ k ∷ []) (newest_one answered h) ∙ upto-push (suc h.others) h.oldest);
         newest_here = omega (arith, h.newest_here, token-renewal answered);
-        held_is =
-            ap suc h.held_is ∙ sym (ap (λ (ts : List Turn). length ts + 1) (after_last_push is_call answered Renew) ∙ counted_more (after_last is_call answered));
         newest_is = sym (token-renewal answered);
         pending_are = h.pending_are ∙ ap (λ (k : ℕ). calls_from k waiting) (sym counted);
         renewals_are = ap (renewals_from (id_behind (answered ++ Renew ∷ []))) (sym last);
@@ -207,9 +200,6 @@ module _ (limits : Limits) (ours : AreOurs limits) (first : State) (moment : Dat
     where
       newest_one : (answered : List Turn) (h : Hearing limits first moment asks answered (Renew ∷ waiting)) → token_behind answered + 1 ≡ h.oldest + suc h.others
       newest_one answered h = omega (arith, h.newest_here)
-
-      counted_more : (ts : List Turn) → length (ts ++ Renew ∷ []) + 1 ≡ suc (length ts + 1)
-      counted_more ts = omega (arith, length-append ts (Renew ∷ []))
 
   -- ---- the opening
 
@@ -264,7 +254,6 @@ module _ (limits : Limits) (ours : AreOurs limits) (first : State) (moment : Dat
         others = 0;
         tokens_are = refl;
         newest_here = refl;
-        held_is = refl;
         newest_is = refl;
         pending_are = refl;
         renewals_are = refl;

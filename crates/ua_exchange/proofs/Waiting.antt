@@ -5,7 +5,7 @@ use Rattle.std.proofs.lemmas.Bool.{eq-eqb, ne_eqb}
 use Rattle.ua_channel.specs.Asks.{is_in}
 use Rattle.ua_channel.specs.ClientReads.{without_id}
 use Rattle.ua_services.specs.declared.request.Request.{Request}
-use Rattle.ua_exchange.specs.Groups.{AreCalls, EndsAtRenewal, calls_from, renewals_from}
+use Rattle.ua_exchange.specs.Groups.{calls_from, renewals_from}
 use Rattle.ua_exchange.specs.declared.turn.Turn.{Turn}
 use Rattle.ua_exchange.specs.declared.turn.Turn.TheVariants.{Ask, Renew}
 
@@ -53,24 +53,3 @@ first-answered id ts = drop-one id (calls_from (id + 1) ts) ∙ later-stay id (i
 
 pub first-waits : (id : ℕ) (ids : List ℕ) → is_in id (id ∷ ids) ≡ true
 first-waits id ids = ap (λ (b : Bool). b || is_in id ids) (eq-eqb id id refl)
-
-pub ends-push : (ts : List Turn) (t : Turn) → AreCalls ts → EndsAtRenewal (ts ++ t ∷ [])
-ends-push [] (Ask m) calls = tt
-ends-push [] Renew calls = refl
-ends-push (Ask m ∷ ts) t calls = ends-push ts t calls
-ends-push (Renew ∷ ts) t calls = absurd calls
-
-pub calls-end : (ts : List Turn) → AreCalls ts → EndsAtRenewal ts
-calls-end [] calls = tt
-calls-end (Ask m ∷ ts) calls = calls-end ts calls
-calls-end (Renew ∷ ts) calls = absurd calls
-
-pub calls-more : (ts : List Turn) (m : Request) → AreCalls ts → AreCalls (ts ++ Ask m ∷ [])
-calls-more [] m calls = tt
-calls-more (Ask q ∷ ts) m calls = calls-more ts m calls
-calls-more (Renew ∷ ts) m calls = absurd calls
-
-pub no-renewals : (id : ℕ) (ts : List Turn) → AreCalls ts → renewals_from id ts ≡ []
-no-renewals id [] calls = refl
-no-renewals id (Ask m ∷ ts) calls = no-renewals (id + 1) ts calls
-no-renewals id (Renew ∷ ts) calls = absurd calls

@@ -1,15 +1,17 @@
 -- Which turns are accepted, and why one is not.
-use Rattle.std.specs.Prelude.{◌≡◌, ℕ, ◌+◌, ◌-◌, min, nat_le, Bool, not, length, take, List, [], ◌∷◌, ◌++◌, Option, Some, None}
+use Rattle.std.specs.Prelude.{◌≡◌, ℕ, ◌+◌, ◌-◌, min, nat_le, Bool, false, not, length, take, List, [], ◌∷◌, ◌++◌, Option, Some, None}
 use Rattle.ua_builtin.specs.Reasons.{first_reason}
 use Rattle.ua_frame.specs.After.{AllAfter}
 use Rattle.ua_chunk.specs.Gathered.{after_last}
 use Rattle.ua_channel.specs.ClientAsks.{is_too_large, most_pending, most_tokens, no_id}
 use Rattle.ua_channel.specs.declared.client.fault.AskFault.TheVariants.{TooManyTokens, Exhausted, RequestTooLarge}
 use Rattle.ua_services.specs.Request.{request}
+use Rattle.ua_client.specs.declared.fault.ClientFault.{ClientFault}
+use Rattle.ua_client.specs.declared.fault.ClientFault.TheVariants as client
 use Rattle.ua_exchange.specs.Programs.{acknowledged}
 use Rattle.ua_exchange.specs.Turns.{id_behind, is_call, is_renewal}
 use Rattle.ua_exchange.specs.declared.fault.PairFault.{PairFault}
-use Rattle.ua_exchange.specs.declared.fault.PairFault.TheVariants.{NotWritable, Request}
+use Rattle.ua_exchange.specs.declared.fault.PairFault.TheVariants.{NotWritable, Request, OutOfMemory}
 use Rattle.ua_exchange.specs.declared.turn.Turn.{Turn}
 use Rattle.ua_exchange.specs.declared.turn.Turn.TheVariants.{Ask, Renew}
 
@@ -51,6 +53,11 @@ turn_refusal before turn = first_reason (turn_reasons before turn)
 abbrev pub IsAccepted : List Turn → Turn → Type 0
 IsAccepted before turn = turn_refusal before turn ≡ None
 
+-- the turn is a renewal behind these that is refused since too many tokens are held
+abbrev pub is_crowded : List Turn → Turn → Bool
+is_crowded before (Ask m) = false
+is_crowded before Renew = nat_le most_tokens (tokens_held before)
+
 -- each of the turns is accepted, behind those before it
 abbrev pub AreAccepted : List Turn → Type 0
 AreAccepted turns = AllAfter IsAccepted turns
@@ -63,3 +70,11 @@ pub record FirstRefused (turns : List Turn) (fault : PairFault) : Type 0 where
   pub parts : turns ≡ before ++ turn ∷ behind
   pub accepted : AreAccepted before
   pub refused : turn_refusal before turn ≡ Some fault
+
+-- the fault of a turn at this place that a client does not take for this reason, if it is one against a turn
+abbrev pub fault_of : ℕ → ClientFault → PairFault
+fault_of place client.NotWritable = NotWritable place
+fault_of place client.Exhausted = Request place Exhausted
+fault_of place client.TooLarge = Request place RequestTooLarge
+fault_of place client.TooManyTokens = Request place TooManyTokens
+fault_of place other = OutOfMemory

@@ -1,7 +1,5 @@
 -- The turns of a group, that are asked and not answered yet.
-use Rattle.std.specs.Prelude.{◌≡◌, ◌⊎◌, ℕ, zero, suc, ◌+◌, ◌≤◌, length, List, [], ◌∷◌}
-use Rattle.ua_channel.specs.ClientAsks.{most_pending}
-use Rattle.ua_exchange.specs.Accepted.{last_calls}
+use Rattle.std.specs.Prelude.{◌≡◌, ℕ, zero, suc, ◌+◌, List, [], ◌∷◌}
 use Rattle.ua_exchange.specs.declared.turn.Turn.{Turn}
 use Rattle.ua_exchange.specs.declared.turn.Turn.TheVariants.{Ask, Renew}
 
@@ -27,16 +25,3 @@ abbrev pub EndsAtRenewal : List Turn → Type 0
 EndsAtRenewal [] = Unit {0}
 EndsAtRenewal (Ask m ∷ ts) = EndsAtRenewal ts
 EndsAtRenewal (Renew ∷ ts) = ts ≡ []
-
--- they are all requests
-abbrev pub AreCalls : List Turn → Type 0
-AreCalls [] = Unit {0}
-AreCalls (Ask m ∷ ts) = AreCalls ts
-AreCalls (Renew ∷ ts) = ⊥
-
--- a group begins between these turns and those: none of the requests behind the last renewal is in the group before it, or at least 64 of
--- them are; a renewal that follows requests is asked with them, so that it begins no group there
-abbrev pub GroupBegins : List Turn → List Turn → Type 0
-GroupBegins before [] = Unit {0}
-GroupBegins before (Ask m ∷ ts) = (last_calls before ≡ []) ⊎ (most_pending ≤ length (last_calls before))
-GroupBegins before (Renew ∷ ts) = last_calls before ≡ []

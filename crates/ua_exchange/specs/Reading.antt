@@ -7,7 +7,6 @@ use Rattle.ua_frame.specs.Run.{Going, Run, events}
 use Rattle.ua_frame.specs.declared.frame.Frame.{Frame}
 use Rattle.ua_frame.specs.declared.limits.Limits.{Limits}
 use Rattle.ua_chunk.specs.Cutting.{cut_refusal}
-use Rattle.ua_chunk.specs.Gathered.{after_last}
 use Rattle.ua_channel.specs.Asks.{Asking, Placed, asked_in}
 use Rattle.ua_channel.specs.Asks.Asking.{Call, Renewal}
 use Rattle.ua_channel.specs.ClientAsks.{no_id}
@@ -22,7 +21,7 @@ use Rattle.ua_exchange.specs.Handed.{asking_told, spent}
 use Rattle.ua_exchange.specs.Groups.{upto, calls_from, renewals_from}
 use Rattle.ua_exchange.specs.Programs.{acknowledged, agreement, channel, greeting}
 use Rattle.ua_exchange.specs.Replies.{lane_back, response_behind, state_behind}
-use Rattle.ua_exchange.specs.Turns.{asking_frames, id_behind, is_call, number_behind, token_behind}
+use Rattle.ua_exchange.specs.Turns.{asking_frames, id_behind, number_behind, token_behind}
 use Rattle.ua_exchange.specs.declared.turn.Turn.{Turn}
 use Rattle.ua_exchange.specs.declared.turn.Turn.TheVariants.{Ask, Renew}
 
@@ -88,7 +87,6 @@ pub record Hearing (limits : Limits) (first : State) (moment : DateTime) (asks :
   pub others : ℕ
   pub tokens_are : at.tokens ≡ upto oldest (suc others)
   pub newest_here : oldest + others ≡ token_behind answered
-  pub held_is : suc others ≡ length (after_last is_call answered) + 1
   pub newest_is : at.newest ≡ token_behind answered
   pub pending_are : at.pending ≡ calls_from (id_behind answered) waiting
   pub renewals_are : at.renewals ≡ renewals_from (id_behind answered) waiting

@@ -1,14 +1,11 @@
 -- What becomes of requests: each is answered in the state that those before it left, and its reply comes back under its own request id.
-use Rattle.std.specs.Prelude.{ℕ, List, [], ◌∷◌, Option, Some, None, Result, Ok, Err}
-use Rattle.ua_builtin.specs.Status.{of_code}
+use Rattle.std.specs.Prelude.{List, [], ◌∷◌, Option}
 use Rattle.ua_builtin.specs.declared.date_time.DateTime.{DateTime}
 use Rattle.ua_frame.specs.After.{each_after}
 use Rattle.ua_chunk.specs.Cutting.{cut_refusal}
-use Rattle.ua_chunk.specs.declared.fault.CutFault.{CutFault}
 use Rattle.ua_chunk.specs.declared.lane.Lane.{Lane}
 use Rattle.ua_channel.specs.Agreement.{lane_of}
-use Rattle.ua_services.specs.Response.{response, response_read}
-use Rattle.ua_services.specs.declared.fault.ResponseFault.{ResponseFault}
+use Rattle.ua_services.specs.Response.{response}
 use Rattle.ua_services.specs.declared.request.Request.{Request}
 use Rattle.ua_services.specs.declared.response.Response.{Response}
 use Rattle.ua_server.specs.Answer.{answer}
@@ -16,7 +13,7 @@ use Rattle.ua_server.specs.State.{State}
 use Rattle.ua_exchange.specs.Programs.{agreement, channel}
 use Rattle.ua_exchange.specs.Turns.{token_behind}
 use Rattle.ua_client.specs.declared.reply.Reply.{Reply}
-use Rattle.ua_client.specs.declared.reply.Reply.TheVariants as reply
+use Rattle.ua_served.specs.Replies.{reply_unless}
 use Rattle.ua_exchange.specs.declared.turn.Turn.{Turn}
 use Rattle.ua_exchange.specs.declared.turn.Turn.TheVariants.{Ask, Renew}
 
@@ -33,16 +30,6 @@ response_behind s moment before m = (answer (state_behind s moment before) momen
 -- where it goes: under the token that the request used, within the client's limits
 abbrev pub lane_back : List Turn → Lane
 lane_back before = lane_of channel (token_behind before) agreement
-
--- the reply that octets are read as, if they are a response
-abbrev pub reply_read : Result Response ResponseFault → Option Reply
-reply_read (Ok r) = Some (reply.Response r)
-reply_read (Err fault) = None
-
--- the reply with this body: the response that the client reads, or where it takes no message of its size, the code Bad_ResponseTooLarge
-abbrev pub reply_unless : Option CutFault → List ℕ → Option Reply
-reply_unless None body = reply_read (response_read body)
-reply_unless (Some fault) body = Some (reply.Aborted (of_code 0x80B9_0000))
 
 -- the reply to a turn behind these: to a request, that with the encoding of its response; none to a renewal
 abbrev pub reply_behind : State → DateTime → List Turn → Turn → List (Option Reply)

@@ -1,5 +1,5 @@
 -- What a client says of its turns: each word of a turn is a function of the turns before it.
-use Rattle.std.specs.Prelude.{ℕ, ◌+◌, Bool, true, false, length, map, List, [], ◌∷◌, ◌++◌}
+use Rattle.std.specs.Prelude.{ℕ, ◌+◌, Bool, true, false, length, map, List, [], ◌∷◌, ◌++◌, Option, Some, None}
 use Rattle.std.specs.List.{filter, flat_map}
 use Rattle.ua_builtin.specs.declared.date_time.DateTime.{DateTime}
 use Rattle.ua_frame.specs.After.{each_after}
@@ -11,6 +11,7 @@ use Rattle.ua_chunk.specs.declared.lane.Lane.{Lane}
 use Rattle.ua_channel.specs.ClientAsks.{room_of}
 use Rattle.ua_channel.specs.ClientSends.{hello_frame, first_open, renewal_frame, close_frame}
 use Rattle.ua_services.specs.Request.{request}
+use Rattle.ua_services.specs.declared.request.Request.{Request}
 use Rattle.ua_exchange.specs.Programs.{acknowledged, channel, greeting}
 use Rattle.ua_exchange.specs.declared.turn.Turn.{Turn}
 use Rattle.ua_exchange.specs.declared.turn.Turn.TheVariants.{Ask, Renew}
@@ -22,6 +23,11 @@ is_call Renew = false
 abbrev pub is_renewal : Turn → Bool
 is_renewal (Ask m) = false
 is_renewal Renew = true
+
+-- the one request that is asked in a turn; none where it is a renewal
+abbrev pub asked_by : Turn → Option (List Request)
+asked_by (Ask m) = Some (m ∷ [])
+asked_by Renew = None
 
 -- the request id of the turn behind these: ids are counted on from that of the first OPN, which is 1
 abbrev pub id_behind : List Turn → ℕ

@@ -3,6 +3,7 @@
 use std::alloc::AllocError;
 use thiserror::Error;
 use ua_channel::AskFault;
+use ua_client::ClientFault;
 
 /// Why there is no transcript. A turn is named by its place, counted from 0: it is the first one that
 /// is not accepted.
@@ -21,15 +22,19 @@ pub enum PairFault {
 
 impl PairFault {
     ghost use Rattle.std.specs.Prelude.{◌≡◌};
-    ghost use Rattle.ua_exchange.specs.Standing.{fault_of_turn};
+    ghost use Rattle.ua_exchange.specs.Accepted.{fault_of};
 
-    /// Why the turn of this index is not asked.
-    pub(crate) fn of_turn(index: usize, fault: AskFault) -> PairFault
-        ensures { result ≡ fault_of_turn index fault }
+    /// Why a client does not take the turn at this place; want of memory where its fault is no reason
+    /// against a turn.
+    pub(crate) fn of_client(place: usize, fault: ClientFault) -> PairFault
+        ensures { result ≡ fault_of place fault }
     {
         match fault {
-            AskFault::OutOfMemory => PairFault::OutOfMemory,
-            fault => PairFault::Request(index, fault),
+            ClientFault::NotWritable => PairFault::NotWritable(place),
+            ClientFault::Exhausted => PairFault::Request(place, AskFault::Exhausted),
+            ClientFault::TooLarge => PairFault::Request(place, AskFault::RequestTooLarge),
+            ClientFault::TooManyTokens => PairFault::Request(place, AskFault::TooManyTokens),
+            _ => PairFault::OutOfMemory,
         }
     }
 }

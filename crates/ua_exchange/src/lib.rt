@@ -8,17 +8,15 @@
 //! holds more than was agreed.
 #![tactic(auto)]
 
-mod client_end;
-mod cuts;
-mod ends;
+mod crowded;
+mod exchanging;
 mod fault;
 pub mod laws;
 mod programs;
-mod server_end;
 mod transcript;
 mod turn;
 
-pub use ends::exchange;
+pub use exchanging::exchange;
 pub use fault::PairFault;
 pub use transcript::Transcript;
 pub use turn::Turn;

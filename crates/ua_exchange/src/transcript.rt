@@ -1,7 +1,7 @@
 //! What a connection came to.
 
 use ua_client::Reply;
-use ua_server::End;
+use ua_server::{End, Services};
 
 /// What went over a connection, from the HEL to the CLO.
 #[derive(Drop)]
@@ -14,4 +14,6 @@ pub struct Transcript {
     pub replies: Vec<Reply>,
     /// How the server saw the connection end.
     pub end: End,
+    /// The services, as they are left.
+    pub services: Services,
 }

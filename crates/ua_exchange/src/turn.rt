@@ -1,5 +1,7 @@
 //! What a client does next.
 
+use std::slice;
+use ua_served::AsTurn;
 use ua_services::Request;
 
 /// What a client does next on an open channel.
@@ -9,4 +11,17 @@ pub enum Turn {
     Ask(Request),
     /// It renews the token of its channel (OPC 10000-4, 5.6.2).
     Renew,
+}
+
+impl AsTurn for Turn {
+    ghost use Rattle.ua_exchange.specs.Turns.{asked_by};
+
+    ghost turn = { asked_by };
+
+    fn requests(&self) -> Option<&[Request]> {
+        match self {
+            Turn::Ask(request) => Some(slice::from_ref(request)),
+            Turn::Renew => None,
+        }
+    }
 }

@@ -1,0 +1,48 @@
+-- How the renewals are found that are not asked, since too many tokens are held: turns are counted one by one.
+use Rattle.std.specs.Prelude.{◌≡◌, ℕ, true, false, length, take, List, [], ◌∷◌, ◌++◌, Option, Some, None}
+use Rattle.ua_chunk.specs.Gathered.{after_last}
+use Rattle.ua_frame.specs.After.{AllAfter}
+use Rattle.ua_exchange.specs.Accepted.{is_crowded, last_calls}
+use Rattle.ua_exchange.specs.Turns.{is_call}
+use Rattle.ua_exchange.specs.declared.turn.Turn.{Turn}
+use Rattle.ua_exchange.specs.declared.turn.Turn.TheVariants.{Ask, Renew}
+
+-- they are all requests
+abbrev pub AreCalls : List Turn → Type 0
+AreCalls [] = Unit {0}
+AreCalls (Ask m ∷ ts) = AreCalls ts
+AreCalls (Renew ∷ ts) = ⊥
+
+-- of these turns so many stand last that are requests, and so many in front of those that are renewals
+pub record Counts (before : List Turn) (renewals calls : ℕ) : Type 0 where
+  pub front : List Turn
+  pub last : List Turn
+  pub parts : before ≡ front ++ last
+  pub are_calls : AreCalls last
+  pub calls_are : calls ≡ length last
+  pub no_more : last_calls front ≡ []
+  pub renewals_are : renewals ≡ length (after_last is_call front)
+
+-- no renewal among these turns is refused since too many tokens are held
+abbrev pub HaveRoom : List Turn → Type 0
+HaveRoom turns = AllAfter (λ (before : List Turn) (t : Turn). is_crowded before t ≡ false) turns
+
+-- the first that is has this place
+pub record FirstCrowded (turns : List Turn) (place : ℕ) : Type 0 where
+  pub before : List Turn
+  pub turn : Turn
+  pub behind : List Turn
+  pub parts : turns ≡ before ++ turn ∷ behind
+  pub place_is : length before ≡ place
+  pub have_room : HaveRoom before
+  pub crowded : is_crowded before turn ≡ true
+
+-- the place of the first that is, or none where none is
+abbrev pub FindsCrowded : List Turn → Option ℕ → Type 0
+FindsCrowded turns (Some place) = FirstCrowded turns place
+FindsCrowded turns None = HaveRoom turns
+
+-- the turns in front of such a place, or all of them
+abbrev pub front_of : Option ℕ → List Turn → List Turn
+front_of (Some place) turns = take place turns
+front_of None turns = turns

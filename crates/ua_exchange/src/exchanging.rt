@@ -1,0 +1,128 @@
+//! A client and a server that run through turns.
+
+ghost use Rattle.std.specs.Prelude.{◌≡◌, IfOk, IfErr, map, Some};
+ghost use Rattle.ua_nodes.specs.Sound.{IsSound};
+ghost use Rattle.ua_server.specs.declared.step.End.TheVariants.{Closed};
+ghost use Rattle.ua_exchange.specs.Accepted.{AreAccepted};
+ghost use Rattle.ua_exchange.specs.Exchanged.{IsRefusedFor, down_octets};
+ghost use Rattle.ua_exchange.specs.Handed.{Tells, all_told};
+ghost use Rattle.ua_exchange.specs.Programs.{begun_over};
+ghost use Rattle.ua_exchange.specs.Replies.{state_behind, turns_replies};
+ghost use Rattle.ua_exchange.specs.Turns.{up_octets};
+ghost use Rattle.ua_exchange.specs.inside.Conversed.{IsConversed};
+ghost use Rattle.ua_exchange.specs.inside.Counting.{FindsCrowded, front_of};
+
+use crate::crowded::find_crowded;
+use crate::fault::PairFault;
+use crate::programs::{endpoint, limits, url};
+use crate::transcript::Transcript;
+use crate::turn::Turn;
+use std::alloc::{AllocError, Global};
+use ua_builtin::DateTime;
+use ua_channel::AskFault;
+use ua_nodes::NodeTable;
+use ua_served::{Stage, Transcript as Conversed, converse};
+use ua_server::Services;
+
+/// The id of the channel.
+const CHANNEL_ID: u32 = 1;
+
+/// The same lengths in a vector.
+fn copied(alloc: Global, lengths: &[usize]) -> Result<Vec<usize>, AllocError> {
+    let mut copy = Vec::with_capacity(alloc, lengths.len())?;
+    copy.extend_from_slice(lengths)?;
+    Ok(copy)
+}
+
+/// The turns in front of a renewal for which too many tokens are held, or all of them.
+fn front(turns: &[Turn], crowded: Option<usize>) -> &[Turn]
+    requires { FindsCrowded turns.now crowded }
+    ensures { result.now ≡ front_of crowded turns.now }
+{
+    match crowded {
+        Some(place) => &turns[..place],
+        None => turns,
+    }
+}
+
+/// Lets a client take these turns at a server over these nodes, both with the limits of the program.
+fn conversed(
+    alloc: Global,
+    table: NodeTable,
+    turns: &[Turn],
+    cuts_up: &[usize],
+    cuts_down: &[usize],
+    moment: DateTime,
+) -> Result<Conversed, AllocError>
+    requires sound { IsSound table }
+    ensures { IfOk result (λ t. IsConversed (begun_over table) moment turns.now t) }
+{
+    let about = endpoint(alloc)?;
+    let address = url(alloc)?;
+    let writes = copied(alloc, cuts_up)?;
+    let reads = copied(alloc, cuts_down)?;
+    let services = Services::new(table, about);
+    Ok(converse(
+        alloc,
+        services,
+        limits(),
+        CHANNEL_ID,
+        address,
+        turns,
+        moment,
+        writes,
+        reads,
+    ))
+}
+
+/// Lets a client ask these turns, from the HEL to the CLO, of a server over these nodes, and gives
+/// what went over the line each way, the replies, how the server saw the connection end, and the
+/// services as they are left. No clause mentions the cuts: all of it is the same for all of them.
+///
+/// The client is a [`ua_client::Client`], the server a [`ua_server::Server`], and between them is a
+/// [`ua_served::ServedLine`]. Both are those of the program `ua`: channel 1, the port 4840, frames of
+/// 65535 octets, messages of 1048576 octets and 256 chunks. The server takes what the client writes, and
+/// the client what the server says, in pieces of these lengths, in turn and again from the first; 0
+/// counts as 1, and with none the octets are not cut. A renewal is judged as the last turn of a group of
+/// at most 64 requests in front of it, none of which is answered yet. The moment is that of each answer,
+/// of each OPN and of the CLO, in units of 100 nanoseconds since 1601-01-01 00:00 UTC.
+pub fn exchange(
+    alloc: Global,
+    table: NodeTable,
+    turns: &[Turn],
+    cuts_up: &[usize],
+    cuts_down: &[usize],
+    moment: DateTime,
+) -> Result<Transcript, PairFault>
+    requires sound { IsSound table }
+    ensures accepted { IfOk result (λ t. AreAccepted turns.now) }
+    ensures refused { IfErr result (λ fault. IsRefusedFor turns.now fault) }
+    ensures up { IfOk result (λ t. t.up.items ≡ up_octets moment turns.now) }
+
+    // The services are handed just these requests, in their order, each under its own request id.
+    ensures handed { IfOk result (λ t. Tells t.up.items (all_told turns.now)) }
+    ensures down { IfOk result (λ t. t.down.items ≡ down_octets table moment turns.now) }
+    ensures replies { IfOk result (λ t. map Some t.replies.items ≡ turns_replies (begun_over table) moment turns.now) }
+    ensures closed { IfOk result (λ t. t.end ≡ Closed) }
+    ensures services { IfOk result (λ t. t.services ≡ state_behind (begun_over table) moment turns.now) }
+{
+    let crowded = find_crowded(turns);
+    let asked = front(turns, crowded);
+    let found = conversed(alloc, table, asked, cuts_up, cuts_down, moment)?;
+    if let Err(fault) = found.outcome {
+        return Err(PairFault::of_client(found.taken, fault));
+    }
+    if let Some(place) = crowded {
+        return Err(PairFault::Request(place, AskFault::TooManyTokens));
+    }
+    let Stage::Ended(end) = found.stage else {
+        return Err(PairFault::OutOfMemory);
+    };
+    Ok(Transcript {
+        up: found.up,
+        down: found.down,
+        replies: found.replies,
+        end,
+        services: found.services,
+    })
+}
