@@ -10,4 +10,5 @@ pub mod RequestRead
 pub mod ResponseRead
 pub mod Lengths
 mod RequestSkipped
+mod RequestThinned
 mod NumberWritten

@@ -83,10 +83,19 @@ pub not_supported : (old rest : List ℕ) (id : NodeId) (e : RequestFault) → n
 not_supported old rest id e found is (inl h) = inl (ap Err h ∙ sym (read-kind old rest id None found is))
 not_supported old rest id e found is (inr h) = inr (ap Err h)
 
-pub kind_found : (k : RequestKind) (old rest : List ℕ) (id : NodeId) (r : Result Request RequestFault) → node_id.decode old ≡ Some (id, rest) → request_kind id ≡ Some k → Reads r (kind_read k rest)
-    → Reads r (request_read old)
-kind_found k old rest id r found is (inl h) = inl (h ∙ sym (read-kind old rest id (Some k) found is))
-kind_found k old rest id r found is (inr h) = inr h
+-- of a body that is read behind its NodeId
+pub read_behind : (r all here : Result Request RequestFault) → all ≡ here → Reads r here → Reads r all
+read_behind r all here e (inl h) = inl (h ∙ sym e)
+read_behind r all here e (inr h) = inr h
+
+-- of a body that is not read behind its NodeId
+pub refused_by : (fault : RequestFault) (r : Result Request RequestFault) → Reads (Err fault) r → (r ≡ Err fault) ⊎ (fault ≡ OutOfMemory)
+refused_by fault r (inl h) = inl (sym h)
+refused_by fault r (inr h) = inr (err_is fault OutOfMemory h)
+
+pub failed : (fault : RequestFault) (r : Result Request RequestFault) → (r ≡ Err fault) ⊎ (fault ≡ OutOfMemory) → Reads (Err fault) r
+failed fault r (inl h) = inl (sym h)
+failed fault r (inr h) = inr (ap Err h)
 
 -- ---- what was read, by the relations
 

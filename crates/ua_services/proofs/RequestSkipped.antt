@@ -3,19 +3,17 @@ use Rattle.std.specs.Prelude.{◌≡◌, ℕ, ◌<◌, ◌≤◌, List, length, 
 use Rattle.std.proofs.Common.{refl, sym, ◌∙◌, ap, subst, inl, inr}
 use Rattle.ua_builtin.specs.Exact.{◌>>=◌, image_read, skipped}
 use Rattle.ua_builtin.specs.Format.{Gives, most_levels}
-use Rattle.ua_builtin.specs.NodeId.{node_id}
-use Rattle.ua_builtin.specs.declared.node_id.NodeId.{NodeId}
 use Rattle.ua_octets.specs.declared.fault.ReadFault.{ReadFault}
 use Rattle.ua_octets.specs.declared.fault.ReadFault.TheVariants.{NoValue, OutOfMemory as NoMemory}
 use Rattle.ua_octets.proofs.Readers.{some_is}
 use Rattle.ua_services.specs.Message.{kind_at}
-use Rattle.ua_services.specs.Request.{requests, request_kind, kind_of, kind_read, kind_alone, request_read, Structure}
+use Rattle.ua_services.specs.Request.{requests, kind_of, kind_read, kind_alone, Structure}
 use Rattle.ua_services.specs.declared.request.Request.{Request}
 use Rattle.ua_services.specs.declared.request.RequestKind.{RequestKind}
 use Rattle.ua_services.specs.declared.fault.RequestFault.{RequestFault}
 use Rattle.ua_services.specs.declared.fault.RequestFault.TheVariants.{OutOfMemory}
 use Rattle.ua_services.proofs.RequestLawful.{is_request}
-use Rattle.ua_services.proofs.RequestRead.{Reads, IsUnread, kind_fails, kind_left, kind_whole, read-kind}
+use Rattle.ua_services.proofs.RequestRead.{Reads, IsUnread, kind_fails, kind_left, kind_whole}
 
 -- what is passed over answers the kind of this, or that memory was refused
 abbrev pub Skips : Result RequestKind RequestFault → Result Request RequestFault → Type 0
@@ -27,7 +25,7 @@ skips r expected (inr h) = inr (ap kind_alone h)
 
 -- ---- what stands behind an image
 
-made_of : {A B : Type 0} (f : A → B) (found : Option (A × List ℕ)) (y : B) (new : List ℕ) → ◌>>=◌ {B = B × List ℕ} found (λ x. Some (f x.0, x.1)) ≡ Some (y, new) → (x : A) × (found ≡ Some (x, new)) × (f x ≡ y)
+pub made_of : {A B : Type 0} (f : A → B) (found : Option (A × List ℕ)) (y : B) (new : List ℕ) → ◌>>=◌ {B = B × List ℕ} found (λ x. Some (f x.0, x.1)) ≡ Some (y, new) → (x : A) × (found ≡ Some (x, new)) × (f x ≡ y)
 made_of {A = A} {B = B} f None y new e = absurd cc
 made_of {A = A} {B = B} f (Some x) y new e =
     let same = some_is (f x.0, x.1) (y, new) e in
@@ -38,7 +36,7 @@ none_of f None e = refl
 none_of f (Some x) e = absurd cc
 
 -- what an image fails by is what its values fail by
-image_err : {A B : Type 0} (f : A → B) (r : List ℕ → Option (A × List ℕ)) (old new : List ℕ) (e : ReadFault) → Gives (image_read f r) old new (Err e) → Gives r old new (Err e)
+pub image_err : {A B : Type 0} (f : A → B) (r : List ℕ → Option (A × List ℕ)) (old new : List ℕ) (e : ReadFault) → Gives (image_read f r) old new (Err e) → Gives r old new (Err e)
 image_err f r old new NoValue h = none_of f (r old) h
 image_err f r old new NoMemory h = tt
 
@@ -78,7 +76,6 @@ skip_whole k old new h none =
 
 -- ---- the whole body
 
-pub kind_skipped : (k : RequestKind) (old rest : List ℕ) (id : NodeId) (r : Result RequestKind RequestFault) → node_id.decode old ≡ Some (id, rest) → request_kind id ≡ Some k → Skips r (kind_read k rest)
-    → Skips r (request_read old)
-kind_skipped k old rest id r found is (inl h) = inl (h ∙ ap kind_alone (sym (read-kind old rest id (Some k) found is)))
-kind_skipped k old rest id r found is (inr h) = inr h
+pub body_skipped : (r : Result RequestKind RequestFault) (all here : Result Request RequestFault) → all ≡ here → Skips r here → Skips r all
+body_skipped r all here e (inl h) = inl (h ∙ ap kind_alone (sym e))
+body_skipped r all here e (inr h) = inr h

@@ -1,11 +1,12 @@
 -- Requests: the kinds by the number of their encoding.
-use Rattle.std.specs.Prelude.{◌≡◌, ℕ, List, cond, nat_eq, Option, Some, None, Result, Ok, Err}
+use Rattle.std.specs.Prelude.{◌≡◌, ℕ, List, Bool, cond, nat_eq, Option, Some, None, Result, Ok, Err}
 use Rattle.ua_builtin.specs.Exact.{◌>>=◌}
 use Rattle.ua_builtin.specs.Format.{Format, most_levels}
 use Rattle.ua_builtin.specs.declared.node_id.NodeId.{NodeId}
 use Rattle.ua_structures.specs.Attribute.{read_request, write_request}
 use Rattle.ua_structures.specs.Discovery.{get_endpoints_request}
 use Rattle.ua_structures.specs.Session.{create_session_request, activate_session_request, close_session_request}
+use Rattle.ua_structures.specs.Thin.{thinned_request}
 use Rattle.ua_structures.specs.declared.discovery.GetEndpointsRequest.{GetEndpointsRequest}
 use Rattle.ua_structures.specs.declared.session.CreateSessionRequest.{CreateSessionRequest}
 use Rattle.ua_structures.specs.declared.session.ActivateSessionRequest.{ActivateSessionRequest}
@@ -13,6 +14,7 @@ use Rattle.ua_structures.specs.declared.session.CloseSessionRequest.{CloseSessio
 use Rattle.ua_structures.specs.declared.attribute.ReadRequest.{ReadRequest}
 use Rattle.ua_structures.specs.declared.attribute.WriteRequest.{WriteRequest}
 use Rattle.ua_structures.specs.declared.header.RequestHeader.{RequestHeader}
+use Rattle.ua_structures.specs.declared.thin.ValueType.{ValueType}
 use Rattle.ua_octets.specs.declared.fault.ReadFault.{ReadFault}
 use Rattle.ua_octets.specs.declared.fault.ReadFault.TheVariants.{NoValue}
 use Rattle.ua_services.specs.Message.{Kind, Kinds, announced, kind_at, message_of, IsNoBody, body_of, if_last, id_of, handle_of, handle_behind, found_or}
@@ -132,3 +134,19 @@ unread_with handle ReadFault.OutOfMemory = OutOfMemory
 -- the request of this kind that octets are behind its NodeId; else the fault that says that they are none
 abbrev pub kind_read : (k : RequestKind) → List ℕ → Result Request RequestFault
 kind_read k octets = found_or (kind_at requests most_levels (Some k) octets >>= λ x. if_last x.0 x.1) (Unreadable (handle_behind octets))
+
+-- ---- what is kept of a request
+
+-- of a Write its items, without the values that their nodes could not take; of others all (OPC 10000-4, 5.11.4)
+abbrev pub thin_request : (NodeId → ValueType → Bool) → Request → Request
+thin_request takes (GetEndpointsMessage m) = GetEndpointsMessage m
+thin_request takes (CreateSessionMessage m) = CreateSessionMessage m
+thin_request takes (ActivateSessionMessage m) = ActivateSessionMessage m
+thin_request takes (CloseSessionMessage m) = CloseSessionMessage m
+thin_request takes (ReadMessage m) = ReadMessage m
+thin_request takes (WriteMessage m) = WriteMessage (thinned_request takes m)
+
+-- what is kept of what was read, or the fault
+abbrev pub thin_read : (NodeId → ValueType → Bool) → Result Request RequestFault → Result Request RequestFault
+thin_read takes (Ok m) = Ok (thin_request takes m)
+thin_read takes (Err fault) = Err fault

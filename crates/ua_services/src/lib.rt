@@ -32,13 +32,16 @@ pub use open::{
     OpenAnswer, read_open_request, read_open_response, write_close_request, write_open_request,
     write_open_response,
 };
-pub use request::{Request, RequestKind, read_request, request_body, skip_request, write_request};
+pub use request::{
+    Request, RequestKind, read_request, read_request_for, request_body, skip_request, write_request,
+};
 pub use response::{Response, ResponseKind, read_response, response_body, write_response};
 pub use ua_structures::{
     ActivateSessionRequest, ActivateSessionResponse, AnonymousIdentityToken,
     ApplicationDescription, CloseRequest, CloseSessionRequest, CloseSessionResponse,
     CreateSessionRequest, CreateSessionResponse, EndpointDescription, GetEndpointsRequest,
     GetEndpointsResponse, OpenRequest, OpenResponse, ReadRequest, ReadResponse, ReadValueId,
-    RequestHeader, ResponseHeader, ServiceFault, SignatureData, SignedSoftwareCertificate, UaArray,
-    UserTokenPolicy, WriteRequest, WriteResponse, WriteValue, read_array,
+    RequestHeader, ResponseHeader, ServiceFault, SignatureData, SignedSoftwareCertificate,
+    TakesTypes, UaArray, UserTokenPolicy, ValueType, WriteRequest, WriteResponse, WriteValue,
+    read_array,
 };

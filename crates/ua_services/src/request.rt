@@ -5,7 +5,7 @@ ghost use Rattle.ua_builtin.specs.Exact.{skipped};
 ghost use Rattle.ua_builtin.specs.Format.{most_levels, Gives, StaysBehind};
 ghost use Rattle.ua_octets.specs.declared.fault.WriteFault.TheVariants.{NotWritable};
 ghost use Rattle.ua_services.specs.Message.{IsBody, handle_behind, kind_at};
-ghost use Rattle.ua_services.specs.Request.{request, requests, request_kind, unread_with, kind_read, kind_alone, request_read, Misread};
+ghost use Rattle.ua_services.specs.Request.{request, requests, request_kind, unread_with, kind_read, kind_alone, request_read, thin_read, Misread};
 ghost use Rattle.ua_services.specs.declared.request.Request.TheVariants.{GetEndpoints, CreateSession, ActivateSession, CloseSession, Read, Write};
 
 use crate::fault::RequestFault;
@@ -14,7 +14,7 @@ use std::alloc::{AllocError, Global};
 use ua_builtin::{MOST_LEVELS, NodeId, ReadFault, Skip, Source, Wire, WriteFault};
 use ua_structures::{
     ActivateSessionRequest, CloseSessionRequest, CreateSessionRequest, GetEndpointsRequest,
-    ReadRequest, RequestHeader, WriteRequest,
+    ReadRequest, RequestHeader, TakesTypes, WriteRequest,
 };
 
 /// The kinds of request, each with its own encoding (OPC 10000-6, A.3).
@@ -321,18 +321,31 @@ fn read_other<S: Source>(
     Ok(request)
 }
 
-// Reads a body, as reading on lists does.
-fn read_body<S: Source>(alloc: Global, src: &mut S) -> Result<Request, RequestFault>
-    ensures { (result ≡ request_read (S.octets src.old)) ⊎ (result ≡ Err RequestFault.OutOfMemory) }
+// The kind of request that a body is to be, by the NodeId that it begins with. The source is left
+// behind that.
+#[inline(always)]
+fn body_kind<S: Source>(alloc: Global, src: &mut S) -> Result<RequestKind, RequestFault>
+    ensures found { IfOk result (λ k. request_read (S.octets src.old) ≡ kind_read k (S.octets src.new)) }
+    ensures refused { IfErr result (λ fault. (request_read (S.octets src.old) ≡ Err fault) ⊎ (fault ≡ RequestFault.OutOfMemory)) }
 {
     let id = match NodeId::read_value(alloc, src, MOST_LEVELS) {
         Ok(id) => id,
         Err(fault) => return Err(unread(fault, 0)),
     };
     match announced_kind(&id) {
-        Some(RequestKind::Read) => read_last(alloc, src),
-        Some(kind) => read_other(alloc, src, kind),
+        Some(kind) => Ok(kind),
         None => Err(unsupported(alloc, src)),
+    }
+}
+
+// Reads a body, as reading on lists does.
+fn read_body<S: Source>(alloc: Global, src: &mut S) -> Result<Request, RequestFault>
+    ensures { (result ≡ request_read (S.octets src.old)) ⊎ (result ≡ Err RequestFault.OutOfMemory) }
+{
+    let kind = body_kind(alloc, src)?;
+    match kind {
+        RequestKind::Read => read_last(alloc, src),
+        _ => read_other(alloc, src, kind),
     }
 }
 
@@ -346,6 +359,45 @@ pub fn read_request<S: Source>(alloc: Global, src: &mut S) -> Result<Request, Re
     ensures refused { IfErr result (λ fault. Misread (S.octets src.old) fault) }
 {
     read_body(alloc, src)
+}
+
+// Reads a Write behind its NodeId, and nothing behind it, without the values that nodes could not take.
+#[inline(never)]
+fn read_thinned<S: Source, T: TakesTypes>(
+    alloc: Global,
+    src: &mut S,
+    types: &T,
+) -> Result<Request, RequestFault>
+    ensures { (result ≡ thin_read (T.takes types.now) (kind_read RequestKind.Write (S.octets src.old))) ⊎ (result ≡ Err RequestFault.OutOfMemory) }
+{
+    let mut head = src.fork();
+    let message = match WriteRequest::read_thinned(alloc, src, MOST_LEVELS, types) {
+        Ok(message) => message,
+        Err(fault) => return Err(unreadable(alloc, &mut head, fault)),
+    };
+    if src.left() > 0 {
+        drop(message);
+        return Err(unreadable(alloc, &mut head, ReadFault::NoValue));
+    }
+    Ok(Request::Write(message))
+}
+
+/// Reads a body as [`read_request`] does, but keeps of a Write no value that its node could not take: a
+/// null Variant stands in its place, and what stands beside it is passed over too (OPC 10000-4, 5.11.4).
+/// So the memory that such a value would take is not asked for. After a fault the source is to be given up.
+pub fn read_request_for<S: Source, T: TakesTypes>(
+    alloc: Global,
+    src: &mut S,
+    types: &T,
+) -> Result<Request, RequestFault>
+    ensures read { (result ≡ thin_read (T.takes types.now) (request_read (S.octets src.old))) ⊎ (result ≡ Err RequestFault.OutOfMemory) }
+{
+    let kind = body_kind(alloc, src)?;
+    match kind {
+        RequestKind::Read => read_last(alloc, src),
+        RequestKind::Write => read_thinned(alloc, src, types),
+        _ => read_other(alloc, src, kind),
+    }
 }
 
 // Passes over the structure of a request of that kind. Of a Read and a Write no item is kept.
@@ -394,14 +446,8 @@ fn skip_last<S: Source>(
 pub fn skip_request<S: Source>(alloc: Global, src: &mut S) -> Result<RequestKind, RequestFault>
     ensures kind { (result ≡ kind_alone (request_read (S.octets src.old))) ⊎ (result ≡ Err RequestFault.OutOfMemory) }
 {
-    let id = match NodeId::read_value(alloc, src, MOST_LEVELS) {
-        Ok(id) => id,
-        Err(fault) => return Err(unread(fault, 0)),
-    };
-    match announced_kind(&id) {
-        Some(kind) => skip_last(alloc, src, kind),
-        None => Err(unsupported(alloc, src)),
-    }
+    let kind = body_kind(alloc, src)?;
+    skip_last(alloc, src, kind)
 }
 
 /// Adds the canonical body of a request at the end. An error leaves what was there.

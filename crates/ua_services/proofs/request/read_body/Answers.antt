@@ -1,19 +1,21 @@
-use Rattle.std.proofs.Common.{◌≡◌, sym, Some}
-use Rattle.ua_services.specs.Request.{request_kind}
+use Rattle.std.proofs.Common.{ap, ◌∙◌}
+use Rattle.std.proofs.lemmas.Result.{err_from_is_err_and}
+use Rattle.ua_services.specs.Request.{kind_read, request_read}
+use Rattle.ua_services.specs.declared.request.RequestKind.{RequestKind}
 use Rattle.ua_services.specs.declared.request.RequestKind.TheVariants.{Read}
-use Rattle.ua_services.proofs.RequestRead.{id_fails, not_supported, kind_found}
+use Rattle.ua_services.proofs.RequestRead.{read_behind, failed}
 use Rattle.ua_services.proofs.request.read_body.Goals as goal
 
-pub returns-in-Err : goal.returns-in-Err
-returns-in-Err g c = rw c.unread.ensures (id_fails (g.S.Source.octets c.args.src.now) (g.S.Source.octets c.read_value.new.src) c.in-Err.fault c.in-Err.ensures.exact)
+pub returns-in_err-kind : goal.returns-in_err-kind
+returns-in_err-kind g c =
+    let p = err_from_is_err_and c.from_residual.result c.from_residual.ensures.1 in
+    rw (p.1, p.2) (failed c.in_err-kind.field-0.0 (request_read (g.S.Source.octets c.args.src.now)) c.in_err-kind.ensures.refused)
 
-pub returns-in-Some-Read : goal.returns-in-Some-Read
-returns-in-Some-Read g c =
-    let is : request_kind c.in-Ok.id ≡ Some Read = cc in
-    kind_found Read (g.S.Source.octets c.args.src.now) (g.S.Source.octets c.read_value.new.src) c.in-Ok.id c.read_last.result c.in-Ok.ensures.exact is c.read_last.ensures
+pub returns-in-Read : goal.returns-in-Read
+returns-in-Read g c =
+    read_behind c.read_last.result (request_read (g.S.Source.octets c.args.src.now)) (kind_read Read (g.S.Source.octets c.body_kind.new.src))
+    (c.in_ok-kind.ensures.found ∙ ap (λ (k : RequestKind). kind_read k (g.S.Source.octets c.body_kind.new.src)) c.in-Read.is) c.read_last.ensures
 
-pub returns-in-Some : goal.returns-in-Some
-returns-in-Some g c = kind_found c.in-Some.kind (g.S.Source.octets c.args.src.now) (g.S.Source.octets c.read_value.new.src) c.in-Ok.id c.read_other.result c.in-Ok.ensures.exact (sym c.in-Some.ensures) c.read_other.ensures
-
-pub returns : goal.returns
-returns g c = not_supported (g.S.Source.octets c.args.src.now) (g.S.Source.octets c.read_value.new.src) c.in-Ok.id c.unsupported.result c.in-Ok.ensures.exact (sym c.in-None.ensures) c.unsupported.ensures
+pub returns-in_default : goal.returns-in_default
+returns-in_default g c =
+    read_behind c.read_other.result (request_read (g.S.Source.octets c.args.src.now)) (kind_read c.in_ok-kind.kind (g.S.Source.octets c.body_kind.new.src)) c.in_ok-kind.ensures.found c.read_other.ensures
