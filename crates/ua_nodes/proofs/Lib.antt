@@ -15,6 +15,7 @@ pub mod SoundFile
 pub mod SoundRead
 pub mod SoundWrite
 pub mod SoundTest
+pub mod Thinned
 pub mod Utf8Pieces
 pub mod ValueFits
 pub mod Writes

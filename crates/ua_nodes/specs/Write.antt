@@ -9,6 +9,7 @@ use Rattle.ua_variant.specs.Encodable.{kind_of, data_value_encodable}
 use Rattle.ua_variant.specs.View.{data_value_of}
 use Rattle.ua_variant.specs.declared.values.DataValue.{DataValue}
 use Rattle.ua_structures.specs.declared.attribute.WriteValue.{WriteValue}
+use Rattle.ua_structures.specs.declared.thin.ValueType.{ValueType}
 use Rattle.ua_nodes.specs.declared.node.Variable.{Variable}
 use Rattle.ua_nodes.specs.Attribute.{is_attribute}
 use Rattle.ua_nodes.specs.Read.{is_filled}
@@ -31,6 +32,15 @@ is_of_type kind array (many k ss ds) = array && (nat_eq k kind && has_none ds)
 abbrev pub holds_type : ℕ → Bool → Option VariantData → Bool
 holds_type kind array None = false
 holds_type kind array (Some v) = is_of_type kind array v
+
+-- the node could take a value of the type: one of its own type, or an array of it (OPC 10000-4, 5.11.4)
+abbrev pub variable_takes : Option Variable → ValueType → Bool
+variable_takes None t = false
+variable_takes (Some v) t = cond t.array v.array (not v.array) && nat_eq t.kind v.kind
+
+-- the node that the NodeId names could take a value of the type
+abbrev pub nodes_take : Nodes → NodeId → ValueType → Bool
+nodes_take nodes id = variable_takes (node_at nodes id)
 
 -- why an item for this node is refused, in the order in which it is judged
 abbrev pub write_item_reasons : Variable → WriteValue → List (StatusCode × Bool)

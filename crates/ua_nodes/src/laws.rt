@@ -1,6 +1,6 @@
 //! Laws of node files, of Reads and of Writes, each carried by a function without a body.
 
-ghost use Rattle.std.specs.Prelude.{◌≡◌, ◌↔◌, ◌++◌, ◌∷◌, [], IsTrue, ℕ, List};
+ghost use Rattle.std.specs.Prelude.{◌≡◌, ◌↔◌, ◌++◌, ◌∷◌, [], IsTrue, map, ℕ, List};
 ghost use Rattle.std.specs.Str.{IsUtf8};
 ghost use Rattle.ua_nodes.specs.declared.fault.LineReason.{LineReason};
 ghost use Rattle.ua_nodes.specs.declared.node.Variable.{Variable};
@@ -9,14 +9,17 @@ ghost use Rattle.ua_nodes.specs.NodeFile.{FileLine, node_lines, WriteNodes, IsFi
 ghost use Rattle.ua_nodes.specs.Read.{read_answer};
 ghost use Rattle.ua_nodes.specs.Sound.{IsSoundNode, IsSound, is_sound_node};
 ghost use Rattle.ua_nodes.specs.Table.{Nodes, node_at};
-ghost use Rattle.ua_nodes.specs.Write.{after_write, last_good, written_by};
+ghost use Rattle.ua_nodes.specs.Write.{after_write, last_good, nodes_take, write_answers, written_by};
 ghost use Rattle.std.specs.Option.{option_map};
 ghost use Rattle.ua_builtin.specs.DateTime.{date_time};
 ghost use Rattle.ua_variant.specs.Encodable.{data_value_encodable};
 ghost use Rattle.ua_structures.specs.declared.attribute.ReadValueId.{ReadValueId};
 ghost use Rattle.ua_builtin.specs.declared.date_time.DateTime.{DateTime};
 ghost use Rattle.ua_builtin.specs.declared.node_id.NodeId.{NodeId};
+ghost use Rattle.ua_structures.specs.Thin.{thinned};
 ghost use Rattle.ua_structures.specs.declared.attribute.WriteValue.{WriteValue};
+
+use crate::table::NodeTable;
 
 /// The lines of a file write one table at most.
 pub fn a_file_loads_in_one_way()
@@ -38,6 +41,17 @@ pub fn a_file_has_one_first_bad_line()
 pub fn a_node_keeps_the_last_good_item()
     ensures { (items : List WriteValue) (moment : DateTime) (nodes : Nodes) (id : NodeId) → node_at (after_write items moment nodes) id ≡ option_map (λ v. written_by v (last_good (id, v) items) moment) (node_at nodes id) }
 {}
+
+/// A Write of what is kept of items, where each node takes the values of its own type, gives the same
+/// answers and leaves the same nodes as a Write of the items themselves (OPC 10000-4, 5.11.4). Takes no
+/// memory.
+pub fn values_that_no_node_takes_change_no_write(table: &NodeTable)
+    ensures answers { (items : List WriteValue) → write_answers table.now (map (thinned (nodes_take table.now)) items) ≡ write_answers table.now items }
+    ensures nodes { (items : List WriteValue) (moment : DateTime) → after_write (map (thinned (nodes_take table.now)) items) moment table.now ≡ after_write items moment table.now }
+{
+    // Called for its clause that no two nodes are of one NodeId.
+    let _count = table.nodes.len();
+}
 
 /// A node is sound exactly where it passes the test.
 pub fn a_node_is_sound_where_it_passes()

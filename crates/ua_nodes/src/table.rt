@@ -16,6 +16,7 @@ use indexmap::map::Iter;
 use std::alloc::Global;
 use std::marker::Model;
 use ua_builtin::NodeId;
+use ua_structures::{TakesTypes, ValueType};
 
 /// Nodes by their NodeIds, in the order in which they came.
 #[derive(Drop)]
@@ -106,5 +107,18 @@ impl NodeTable {
         let before = self.nodes.insert(id, variable)?;
         drop(before);
         Ok(())
+    }
+}
+
+impl TakesTypes for NodeTable {
+    ghost use Rattle.ua_nodes.specs.Write.{nodes_take};
+
+    ghost takes = { nodes_take };
+
+    fn could_take(&self, id: &NodeId, value_type: ValueType) -> bool {
+        match self.get(id) {
+            Some(node) => node.array == value_type.array && value_type.kind == node.kind,
+            None => false,
+        }
     }
 }
