@@ -17,6 +17,7 @@ mod Advancing
 mod Turning
 mod Handling
 mod Stepped
+mod Thinned
 mod Clean
 mod Octets
 pub mod Happened

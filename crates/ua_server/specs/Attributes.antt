@@ -1,9 +1,10 @@
 -- The answers of Read and Write (OPC 10000-4, 5.11).
-use Rattle.std.specs.Prelude.{ℕ, Bool, nat_eq, nat_lt, is_none, map, length, List, [], ◌∷◌, ◌++◌, Option, Some, None}
+use Rattle.std.specs.Prelude.{ℕ, Bool, ◌&&◌, nat_eq, nat_lt, is_none, map, length, List, [], ◌∷◌, ◌++◌, Option, Some, None}
 use Rattle.ua_builtin.specs.declared.date_time.DateTime.{DateTime}
+use Rattle.ua_builtin.specs.declared.node_id.NodeId.{NodeId}
 use Rattle.ua_nodes.specs.Read.{read_answer, stamps_numbered}
 use Rattle.ua_nodes.specs.Table.{Nodes, node_at}
-use Rattle.ua_nodes.specs.Write.{write_answers, after_write}
+use Rattle.ua_nodes.specs.Write.{write_answers, after_write, nodes_take}
 use Rattle.ua_nodes.specs.declared.stamps.Stamps.{Stamps}
 use Rattle.ua_nodes.specs.declared.stamps.Stamps.TheVariants.{Neither}
 use Rattle.ua_services.specs.declared.response.Response.{Response}
@@ -12,10 +13,11 @@ use Rattle.ua_structures.specs.Plain.{values_of, statuses_of}
 use Rattle.ua_structures.specs.declared.attribute.ReadRequest.{ReadRequest}
 use Rattle.ua_structures.specs.declared.attribute.ReadValueId.{ReadValueId}
 use Rattle.ua_structures.specs.declared.attribute.WriteRequest.{WriteRequest}
+use Rattle.ua_structures.specs.declared.thin.ValueType.{ValueType}
 use Rattle.ua_variant.specs.Data.{DataFields, DataValueData, VariantData, bare, valued}
 use Rattle.ua_variant.specs.declared.values.DataValue.{DataValue}
 use Rattle.ua_server.specs.Sessions.{good_header, session_reasons}
-use Rattle.ua_server.specs.State.{State, with_nodes}
+use Rattle.ua_server.specs.State.{State, is_activated, with_nodes}
 
 -- the items of an array, none of null
 abbrev pub items_of : {A : Type 0} → Option (List A) → List A
@@ -67,6 +69,10 @@ read_answers nodes items stamps moment = map (λ item. value_from (read_answer (
 
 abbrev pub values_given : State → DateTime → ReadRequest → Response
 values_given s moment m = Read (values_of (good_header moment m.request_header) (read_answers s.nodes (items_of m.nodes_to_read) (stamps_or (stamps_numbered m.timestamps_to_return)) moment))
+
+-- the node that the NodeId names could take a value of the type at this moment: none does before a session is activated
+abbrev pub takes_now : State → NodeId → ValueType → Bool
+takes_now s id t = is_activated s.session && nodes_take s.nodes id t
 
 -- why a Write is refused, in the order in which it is judged (OPC 10000-4, 5.11.4): for its session, and then for how many items it has
 abbrev pub write_reasons : State → WriteRequest → List (ℕ × Bool)

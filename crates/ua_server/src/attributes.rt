@@ -27,8 +27,8 @@ use std::alloc::{AllocError, Global};
 use ua_builtin::{DateTime, Identifier, NULL_COUNT, NodeId, StatusCode, Wire};
 use ua_nodes::Stamps;
 use ua_services::{
-    ReadRequest, ReadResponse, ReadValueId, RequestHeader, Response, ResponseHeader, UaArray,
-    WriteRequest, WriteResponse, WriteValue, empty_body,
+    ReadRequest, ReadResponse, ReadValueId, RequestHeader, Response, ResponseHeader, TakesTypes,
+    UaArray, ValueType, WriteRequest, WriteResponse, WriteValue, empty_body,
 };
 use ua_variant::DataValue;
 
@@ -66,6 +66,17 @@ fn append_front(header: &ResponseHeader, results: u32, out: &mut Vec<u8>) -> Res
     NodeId::new(0, Identifier::Numeric(READ_RESPONSE)).append(out)?;
     header.append(out)?;
     results.append(out)
+}
+
+/// Before a session is activated no value is taken, whatever the nodes are: a Write is refused.
+impl TakesTypes for Services {
+    ghost use Rattle.ua_server.specs.Attributes.{takes_now};
+
+    ghost takes = { takes_now };
+
+    fn could_take(&self, id: &NodeId, value_type: ValueType) -> bool {
+        self.is_activated() && self.nodes.could_take(id, value_type)
+    }
 }
 
 impl Services {

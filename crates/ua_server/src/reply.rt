@@ -1,17 +1,19 @@
 //! The reply to a message.
 
-ghost use Rattle.std.specs.Prelude.{◌≡◌, ◌<◌, ◌⊎◌, IsTrue, IfOk, OnErr, None, Some, length};
-ghost use Rattle.ua_services.specs.Request.{kind_of};
+ghost use Rattle.std.specs.Prelude.{◌≡◌, ◌<◌, ◌⊎◌, IsTrue, IfErr, IfOk, OnErr, None, Some, Err, length};
+ghost use Rattle.ua_builtin.specs.declared.date_time.DateTime.{DateTime};
+ghost use Rattle.ua_services.specs.Request.{kind_of, request_read};
 ghost use Rattle.ua_services.specs.Response.{header_of, response};
 ghost use Rattle.ua_server.specs.Answer.{answer, fault_of};
 ghost use Rattle.ua_server.specs.Reply.{IsBodyWithin, answered};
-ghost use Rattle.ua_server.specs.Requests.{items_asked, request_answered};
+ghost use Rattle.ua_server.specs.Requests.{count_asked, items_asked, kind_asked, request_answered};
 
 use crate::services::Services;
 use crate::watch::{AnsweredRequest, items_asked};
 use std::alloc::{AllocError, Global};
 use ua_builtin::{DateTime, Source, StatusCode, WriteFault};
-use ua_services::{Request, RequestFault, Response, read_request, response_body};
+use ua_nodes::values_that_no_node_takes_change_no_write;
+use ua_services::{Request, RequestFault, Response, read_request_for, response_body};
 
 impl Services {
     /// The body of the reply to a message with this body: the response to the request that it is,
@@ -37,7 +39,8 @@ impl Services {
     }
 
     /// What [`reply`](Services::reply) does, with what is told of the message. The results of a Read are
-    /// given up once the body has more than `most` octets.
+    /// given up once the body has more than `most` octets. Of a Write no value is kept that its node could
+    /// not take: it is refused for its type, or with all items before a session is activated.
     pub(crate) fn reply_telling<S: Source>(
         &mut self,
         alloc: Global,
@@ -51,7 +54,7 @@ impl Services {
         ensures state { IfOk result (λ told. self.new ≡ (answered self.old moment (S.octets src.old)).0) }
         ensures refused { OnErr result ((self.new ≡ self.old) ⊎ (self.new ≡ (answered self.old moment (S.octets src.old)).0)) }
     {
-        match read_request(alloc, src) {
+        match self.read_kept(alloc, src) {
             Ok(request) => self.body_for(alloc, request, moment, most),
             Err(RequestFault::Unsupported(handle)) => {
                 self.misread(alloc, handle, StatusCode::BAD_SERVICE_UNSUPPORTED, moment)
@@ -61,6 +64,18 @@ impl Services {
             }
             Err(RequestFault::OutOfMemory) => Err(AllocError),
         }
+    }
+
+    /// Reads the request that a message with this body is, without the values of a Write that its nodes
+    /// could not take at this moment: what is kept is answered as the request itself is.
+    fn read_kept<S: Source>(&self, alloc: Global, src: &mut S) -> Result<Request, RequestFault>
+        ensures answer { IfOk result (λ kept. (moment : DateTime) → answer self.now moment kept ≡ answered self.now moment (S.octets src.old)) }
+        ensures kind { IfOk result (λ kept. kind_asked (request_read (S.octets src.old)) ≡ Some (kind_of kept)) }
+        ensures items { IfOk result (λ kept. count_asked (request_read (S.octets src.old)) ≡ items_asked kept) }
+        ensures refused { IfErr result (λ fault. (request_read (S.octets src.old) ≡ Err fault) ⊎ (fault ≡ RequestFault.OutOfMemory)) }
+    {
+        values_that_no_node_takes_change_no_write(&self.nodes);
+        read_request_for(alloc, src, self)
     }
 
     /// The body of the response to a request, and what is told of it.

@@ -1,0 +1,156 @@
+-- What a server answers to what is kept of a request is what it answers to the request itself.
+use Rattle.std.proofs.Common.{◌≡◌, ℕ, ◌+◌, Bool, true, false, not, ◌&&◌, cond, map, length, List, [], ◌∷◌, Option, None, Some, Result, Ok, Err, refl, sym, ◌∙◌, ap, inl, inr}
+use Rattle.std.proofs.lemmas.List.{length-map}
+use Rattle.std.specs.Prelude.{option_map, ◌⊎◌, IfErr, IfOk}
+use Rattle.ua_builtin.specs.Reasons.{first_reason}
+use Rattle.ua_builtin.specs.declared.date_time.DateTime.{DateTime}
+use Rattle.ua_builtin.specs.declared.node_id.NodeId.{NodeId}
+use Rattle.ua_builtin.specs.declared.status_code.StatusCode.{StatusCode}
+use Rattle.ua_nodes.specs.Table.{Nodes}
+use Rattle.ua_nodes.specs.Write.{after_write, nodes_take, write_answers}
+use Rattle.ua_services.specs.Request.{kind_of, thin_read, thin_request}
+use Rattle.ua_services.specs.declared.fault.RequestFault.{RequestFault}
+use Rattle.ua_services.specs.declared.fault.RequestFault.TheVariants.{OutOfMemory}
+use Rattle.ua_services.specs.declared.request.Request.{Request}
+use Rattle.ua_services.specs.declared.request.Request.TheVariants.{GetEndpoints, CreateSession, ActivateSession, CloseSession, Read, Write}
+use Rattle.ua_services.specs.declared.response.Response.{Response}
+use Rattle.ua_services.specs.declared.response.Response.TheVariants.{Write as WriteAnswer}
+use Rattle.ua_structures.specs.Plain.{statuses_of}
+use Rattle.ua_structures.specs.Thin.{thinned, thinned_request}
+use Rattle.ua_structures.specs.declared.attribute.WriteRequest.{WriteRequest}
+use Rattle.ua_structures.specs.declared.attribute.WriteValue.{WriteValue}
+use Rattle.ua_structures.specs.declared.header.RequestHeader.{RequestHeader}
+use Rattle.ua_structures.specs.declared.thin.ValueType.{ValueType}
+use Rattle.ua_server.specs.Answer.{answer, unless, write_items}
+use Rattle.ua_server.specs.Attributes.{count_reasons, items_of, statuses_given, takes_now, with_written, write_reasons}
+use Rattle.ua_server.specs.Reply.{answered_by}
+use Rattle.ua_server.specs.Requests.{count_asked, items_asked, kind_asked}
+use Rattle.ua_server.specs.Sessions.{good_header}
+use Rattle.ua_server.specs.State.{State, is_activated, is_own, with_nodes}
+
+-- ---- the items
+
+items_kept : (f : WriteValue → WriteValue) (items : Option (List WriteValue)) → items_of (option_map (map f) items) ≡ map f (items_of items)
+items_kept f None = refl
+items_kept f (Some items) = refl
+
+count_kept : (f : WriteValue → WriteValue) (items : Option (List WriteValue)) → length (items_of (option_map (map f) items)) ≡ length (items_of items)
+count_kept f items = ap length (items_kept f items) ∙ length-map (items_of items) f
+
+pub items_asked-kept : (takes : NodeId → ValueType → Bool) (m : Request) → items_asked (thin_request takes m) ≡ items_asked m
+items_asked-kept takes (GetEndpoints m) = refl
+items_asked-kept takes (CreateSession m) = refl
+items_asked-kept takes (ActivateSession m) = refl
+items_asked-kept takes (CloseSession m) = refl
+items_asked-kept takes (Read m) = refl
+items_asked-kept takes (Write m) = count_kept (thinned takes) m.nodes_to_write
+
+pub kind_of-kept : (takes : NodeId → ValueType → Bool) (m : Request) → kind_of (thin_request takes m) ≡ kind_of m
+kind_of-kept takes (GetEndpoints m) = refl
+kind_of-kept takes (CreateSession m) = refl
+kind_of-kept takes (ActivateSession m) = refl
+kind_of-kept takes (CloseSession m) = refl
+kind_of-kept takes (Read m) = refl
+kind_of-kept takes (Write m) = refl
+
+-- ---- a Write
+
+-- what is kept of items is answered as they are, and leaves what they leave
+pub record ChangesNothing (nodes : Nodes) : Type 0 where
+  pub answers : (items : List WriteValue) → write_answers nodes (map (thinned (nodes_take nodes)) items) ≡ write_answers nodes items
+  pub left : (items : List WriteValue) (moment : DateTime) → after_write (map (thinned (nodes_take nodes)) items) moment nodes ≡ after_write items moment nodes
+
+-- why a Write with so many items is refused, by whether its session is its own, and is activated
+abbrev reasons : Bool → Bool → ℕ → List (ℕ × Bool)
+reasons own active count = (0x8025_0000, not own) ∷ (0x8027_0000, not active) ∷ count_reasons count
+
+refused_alike : (own : Bool) (m n : ℕ) (s : State) (moment : DateTime) (asking : RequestHeader) (one other : State × Response)
+    → unless (first_reason (reasons own false m)) s moment asking one ≡ unless (first_reason (reasons own false n)) s moment asking other
+refused_alike true m n s moment asking one other = refl
+refused_alike false m n s moment asking one other = refl
+
+-- what is answered to so many items, whose nodes are left so, and whose answers are these
+abbrev answer_with : State → DateTime → RequestHeader → Bool → ℕ → Nodes → List StatusCode → State × Response
+answer_with s moment asking active count nodes codes =
+    unless (first_reason (reasons (is_own asking.authentication_token s.session) active count)) s moment asking (with_nodes s nodes, WriteAnswer (statuses_of (good_header moment asking) codes))
+
+answered_alike : (s : State) (moment : DateTime) (m : WriteRequest) (active : Bool) → ChangesNothing s.nodes → is_activated s.session ≡ active
+    → write_items s moment (thinned_request (λ id t. active && nodes_take s.nodes id t) m) ≡ write_items s moment m
+answered_alike s moment m true same is =
+    let items = items_of m.nodes_to_write in
+    let f = thinned (nodes_take s.nodes) in
+    let kept = items_of (option_map (map f) m.nodes_to_write) in
+    let each : kept ≡ map f items = items_kept f m.nodes_to_write in
+    ap (λ (n : ℕ). answer_with s moment m.request_header (is_activated s.session) n (after_write kept moment s.nodes) (write_answers s.nodes kept)) (count_kept f m.nodes_to_write)
+    ∙ ap (λ (k : List WriteValue). answer_with s moment m.request_header (is_activated s.session) (length items) (after_write k moment s.nodes) (write_answers s.nodes k)) each
+    ∙ ap (λ (nodes : Nodes). answer_with s moment m.request_header (is_activated s.session) (length items) nodes (write_answers s.nodes (map f items))) (same.left items moment)
+    ∙ ap (λ (codes : List StatusCode). answer_with s moment m.request_header (is_activated s.session) (length items) (after_write items moment s.nodes) codes) (same.answers items)
+answered_alike s moment m false same is =
+    let items = items_of m.nodes_to_write in
+    let kept = items_of (option_map (map (thinned (λ (id : NodeId) (t : ValueType). false))) m.nodes_to_write) in
+    ap (λ (active : Bool). answer_with s moment m.request_header active (length kept) (after_write kept moment s.nodes) (write_answers s.nodes kept)) is
+    ∙ refused_alike (is_own m.request_header.authentication_token s.session) (length kept) (length items) s moment m.request_header
+    (with_nodes s (after_write kept moment s.nodes), WriteAnswer (statuses_of (good_header moment m.request_header) (write_answers s.nodes kept)))
+    (with_nodes s (after_write items moment s.nodes), WriteAnswer (statuses_of (good_header moment m.request_header) (write_answers s.nodes items)))
+    ∙ sym (ap (λ (active : Bool). answer_with s moment m.request_header active (length items) (after_write items moment s.nodes) (write_answers s.nodes items)) is)
+
+write_kept : (s : State) (moment : DateTime) (m : WriteRequest) → ChangesNothing s.nodes → write_items s moment (thinned_request (takes_now s) m) ≡ write_items s moment m
+write_kept s moment m same = answered_alike s moment m (is_activated s.session) same refl
+
+pub answer-kept : (s : State) (moment : DateTime) (m : Request) → ChangesNothing s.nodes → answer s moment (thin_request (takes_now s) m) ≡ answer s moment m
+answer-kept s moment (GetEndpoints m) same = refl
+answer-kept s moment (CreateSession m) same = refl
+answer-kept s moment (ActivateSession m) same = refl
+answer-kept s moment (CloseSession m) same = refl
+answer-kept s moment (Read m) same = refl
+answer-kept s moment (Write m) same = write_kept s moment m same
+
+-- ---- what was read
+
+-- the request of which this is kept
+pub record KeptOf (takes : NodeId → ValueType → Bool) (kept : Request) (read : Result Request RequestFault) : Type 0 where
+  pub whole : Request
+  pub read_is : read ≡ Ok whole
+  pub kept_is : kept ≡ thin_request takes whole
+
+kept_ok : (takes : NodeId → ValueType → Bool) (kept : Request) (read : Result Request RequestFault) → Ok kept ≡ thin_read takes read → KeptOf takes kept read
+kept_ok takes kept (Ok m) e = record { whole = m; read_is = refl; kept_is = ok_is e }
+  where
+    ok_is : {x y : Request} → ◌≡◌ {A = Result Request RequestFault} (Ok x) (Ok y) → x ≡ y
+    ok_is e = cc
+kept_ok takes kept (Err fault) e = absurd cc
+
+-- a reader answers this, or that memory was refused
+abbrev Reads : Result Request RequestFault → Result Request RequestFault → Type 0
+Reads r expected = (r ≡ expected) ⊎ (r ≡ Err OutOfMemory)
+
+pub answer_is : (s : State) (read r : Result Request RequestFault) → ChangesNothing s.nodes → Reads r (thin_read (takes_now s) read)
+    → IfOk r (λ kept. (moment : DateTime) → answer s moment kept ≡ answered_by read s moment)
+answer_is s read (Ok kept) same (inl h) = λ moment.
+    let of = kept_ok (takes_now s) kept read h in
+    ap (answer s moment) of.kept_is ∙ answer-kept s moment of.whole same ∙ sym (ap (λ (r : Result Request RequestFault). answered_by r s moment) of.read_is)
+answer_is s read (Ok kept) same (inr h) = absurd cc
+answer_is s read (Err fault) same h = tt
+
+pub kind_is : (takes : NodeId → ValueType → Bool) (read r : Result Request RequestFault) → Reads r (thin_read takes read) → IfOk r (λ kept. kind_asked read ≡ Some (kind_of kept))
+kind_is takes read (Ok kept) (inl h) =
+    let of = kept_ok takes kept read h in
+    ap kind_asked of.read_is ∙ ap Some (sym (ap kind_of of.kept_is ∙ kind_of-kept takes of.whole))
+kind_is takes read (Ok kept) (inr h) = absurd cc
+kind_is takes read (Err fault) h = tt
+
+pub items_are : (takes : NodeId → ValueType → Bool) (read r : Result Request RequestFault) → Reads r (thin_read takes read) → IfOk r (λ kept. count_asked read ≡ items_asked kept)
+items_are takes read (Ok kept) (inl h) =
+    let of = kept_ok takes kept read h in
+    ap count_asked of.read_is ∙ sym (ap items_asked of.kept_is ∙ items_asked-kept takes of.whole)
+items_are takes read (Ok kept) (inr h) = absurd cc
+items_are takes read (Err fault) h = tt
+
+fault_is : (takes : NodeId → ValueType → Bool) (read : Result Request RequestFault) (fault : RequestFault) → Err fault ≡ thin_read takes read → read ≡ Err fault
+fault_is takes (Ok m) fault e = absurd cc
+fault_is takes (Err other) fault e = sym e
+
+pub refused_is : (takes : NodeId → ValueType → Bool) (read r : Result Request RequestFault) → Reads r (thin_read takes read) → IfErr r (λ fault. (read ≡ Err fault) ⊎ (fault ≡ OutOfMemory))
+refused_is takes read (Ok kept) h = tt
+refused_is takes read (Err fault) (inl h) = inl (fault_is takes read fault h)
+refused_is takes read (Err fault) (inr h) = inr cc
