@@ -8,6 +8,7 @@ use Rattle.ua_exchange.specs.declared.fault.PairFault.{PairFault}
 use Rattle.ua_exchange.specs.declared.fault.PairFault.TheVariants.{NotWritable, Request, OutOfMemory}
 use Rattle.ua_exchange.specs.declared.transcript.Transcript.{Transcript}
 use Rattle.ua_exchange.specs.declared.turn.Turn.{Turn}
+use Rattle.ua_server.specs.State.{State}
 use Rattle.ua_server.specs.declared.step.End.TheVariants.{Closed}
 use Rattle.ua_client.specs.declared.reply.Reply.{Reply}
 use Rattle.ua_pinned.specs.Exchanges.{SameExchange}
@@ -66,30 +67,32 @@ same_replies (a ∷ us) [] e = cc
 same_replies (a ∷ us) (b ∷ vs) e = more_same a b us vs (some_head a b (map Some us) (map Some vs) e) (same_replies us vs (some_tail (Some a) (Some b) (map Some us) (map Some vs) e))
 
 -- what an exchange says of its answer
-pub record IsExchanged (turns : List Turn) (up down : List ℕ) (replies : List (Option Reply)) (a : Result Transcript PairFault) : Type 0 where
+pub record IsExchanged (turns : List Turn) (up down : List ℕ) (replies : List (Option Reply)) (left : State) (a : Result Transcript PairFault) : Type 0 where
   pub accepted : IfOk a (λ t. AreAccepted turns)
   pub refused : IfErr a (λ fault. IsRefusedFor turns fault)
   pub up_is : IfOk a (λ t. t.up.items ≡ up)
   pub down_is : IfOk a (λ t. t.down.items ≡ down)
   pub replies_are : IfOk a (λ t. map Some t.replies.items ≡ replies)
   pub closed : IfOk a (λ t. t.end ≡ Closed)
+  pub services_are : IfOk a (λ t. t.services ≡ left)
 
-pub exchanged : (turns : List Turn) (up down : List ℕ) (replies : List (Option Reply)) (a b : Result Transcript PairFault) → IsExchanged turns up down replies a → IsExchanged turns up down replies b → HadMemory OutOfMemory a b → SameExchange a b
-exchanged turns up down replies (Ok t) (Ok u) p q had = record {
+pub exchanged : (turns : List Turn) (up down : List ℕ) (replies : List (Option Reply)) (left : State) (a b : Result Transcript PairFault) → IsExchanged turns up down replies left a → IsExchanged turns up down replies left b → HadMemory OutOfMemory a b → SameExchange a b
+exchanged turns up down replies left (Ok t) (Ok u) p q had = record {
   up = p.up_is ∙ sym q.up_is;
   down = p.down_is ∙ sym q.down_is;
   replies = same_replies t.replies.items u.replies.items (p.replies_are ∙ sym q.replies_are);
   end = p.closed ∙ sym q.closed;
+  services = p.services_are ∙ sym q.services_are;
 }
-exchanged turns up down replies (Ok t) (Err (Request n f)) p q had = not_refused turns (Request n f) p.accepted q.refused
-exchanged turns up down replies (Ok t) (Err (NotWritable n)) p q had = not_refused turns (NotWritable n) p.accepted q.refused
-exchanged turns up down replies (Ok t) (Err OutOfMemory) p q had = absurd (had.second refl)
-exchanged turns up down replies (Err (Request n f)) (Ok u) p q had = not_refused turns (Request n f) q.accepted p.refused
-exchanged turns up down replies (Err (NotWritable n)) (Ok u) p q had = not_refused turns (NotWritable n) q.accepted p.refused
-exchanged turns up down replies (Err OutOfMemory) b p q had = absurd (had.first refl)
-exchanged turns up down replies (Err (Request n f)) (Err (Request m g)) p q had = one_refused turns (Request n f) (Request m g) p.refused q.refused
-exchanged turns up down replies (Err (Request n f)) (Err (NotWritable m)) p q had = one_refused turns (Request n f) (NotWritable m) p.refused q.refused
-exchanged turns up down replies (Err (Request n f)) (Err OutOfMemory) p q had = absurd (had.second refl)
-exchanged turns up down replies (Err (NotWritable n)) (Err (Request m g)) p q had = one_refused turns (NotWritable n) (Request m g) p.refused q.refused
-exchanged turns up down replies (Err (NotWritable n)) (Err (NotWritable m)) p q had = one_refused turns (NotWritable n) (NotWritable m) p.refused q.refused
-exchanged turns up down replies (Err (NotWritable n)) (Err OutOfMemory) p q had = absurd (had.second refl)
+exchanged turns up down replies left (Ok t) (Err (Request n f)) p q had = not_refused turns (Request n f) p.accepted q.refused
+exchanged turns up down replies left (Ok t) (Err (NotWritable n)) p q had = not_refused turns (NotWritable n) p.accepted q.refused
+exchanged turns up down replies left (Ok t) (Err OutOfMemory) p q had = absurd (had.second refl)
+exchanged turns up down replies left (Err (Request n f)) (Ok u) p q had = not_refused turns (Request n f) q.accepted p.refused
+exchanged turns up down replies left (Err (NotWritable n)) (Ok u) p q had = not_refused turns (NotWritable n) q.accepted p.refused
+exchanged turns up down replies left (Err OutOfMemory) b p q had = absurd (had.first refl)
+exchanged turns up down replies left (Err (Request n f)) (Err (Request m g)) p q had = one_refused turns (Request n f) (Request m g) p.refused q.refused
+exchanged turns up down replies left (Err (Request n f)) (Err (NotWritable m)) p q had = one_refused turns (Request n f) (NotWritable m) p.refused q.refused
+exchanged turns up down replies left (Err (Request n f)) (Err OutOfMemory) p q had = absurd (had.second refl)
+exchanged turns up down replies left (Err (NotWritable n)) (Err (Request m g)) p q had = one_refused turns (NotWritable n) (Request m g) p.refused q.refused
+exchanged turns up down replies left (Err (NotWritable n)) (Err (NotWritable m)) p q had = one_refused turns (NotWritable n) (NotWritable m) p.refused q.refused
+exchanged turns up down replies left (Err (NotWritable n)) (Err OutOfMemory) p q had = absurd (had.second refl)

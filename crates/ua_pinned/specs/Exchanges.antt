@@ -9,6 +9,7 @@ pub record SameTranscript (one two : Transcript) : Type 0 where
   pub down : one.down.items ≡ two.down.items
   pub replies : one.replies.items ≡ two.replies.items
   pub end : one.end ≡ two.end
+  pub services : one.services ≡ two.services
 
 -- two answers are the same
 abbrev pub SameExchange : Result Transcript PairFault → Result Transcript PairFault → Type 0
