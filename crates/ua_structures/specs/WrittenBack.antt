@@ -1,4 +1,6 @@
--- What was read can be written back: each value but one that names a reserved type id.
+-- What was read can be written back. That is a law of Strings, ByteStrings, NodeIds, QualifiedNames, LocalizedTexts, ExtensionObjects and
+-- DiagnosticInfos, of headers and of the items of a Read; of Variants, DataValues and the items of a Write just where no reserved type id is
+-- named.
 use Rattle.std.specs.Prelude.{◌≡◌, ℕ, ◌≤◌, List, [], ◌∷◌, ◌++◌, Bool, true, not, Option, Some, None}
 use Rattle.std.specs.List.{list_all}
 use Rattle.ua_builtin.specs.Format.{Format, most_levels}

@@ -12,8 +12,8 @@ ghost use Rattle.ua_structures.specs.Header.{request_header, response_header};
 ghost use Rattle.ua_structures.specs.WrittenBack.{ReadIsWritable, ReadIsWritableWhere, data_value_unreserved, variant_unreserved};
 ghost use Rattle.ua_variant.specs.Formats.{data_value_format, diagnostic_format, variant_format};
 
-/// A value that was read can be written: a text, an identifier, a name, an object of any type, a
-/// DiagnosticInfo.
+/// A String, a ByteString, a NodeId, a QualifiedName, a LocalizedText, an ExtensionObject or a
+/// DiagnosticInfo that was read can be written.
 pub fn read_values_are_writable()
     ensures string { ReadIsWritable string }
     ensures byte_string { ReadIsWritable byte_string }

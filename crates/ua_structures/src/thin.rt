@@ -192,8 +192,9 @@ fn read_array<S: Source, T: TakesTypes>(
 
 impl WriteRequest {
     /// Reads the Write that the source begins with, as reading a value does, but keeps of each item what
-    /// [`WriteValue::read_thinned`] keeps, so that a value that its node could not take takes no memory
-    /// (OPC 10000-4, 5.11.4). After a fault the source is to be given up.
+    /// [`WriteValue::read_thinned`] keeps (OPC 10000-4, 5.11.4). A value that its node could not take is
+    /// passed over: of an array no more memory is asked for than one element or part takes at a time; a
+    /// scalar is read, and let go. After a fault the source is to be given up.
     #[tactic(auto, unfolding(crate::specs::Attribute::write_request))]
     pub fn read_thinned<S: Source, T: TakesTypes>(
         alloc: Global,
