@@ -33,7 +33,7 @@ abbrev pub holds_type : ℕ → Bool → Option VariantData → Bool
 holds_type kind array None = false
 holds_type kind array (Some v) = is_of_type kind array v
 
--- the node could take a value of the type: one of its own type, or an array of it (OPC 10000-4, 5.11.4)
+-- the node could take a value of the type: one of its own type, and an array just where it holds arrays (OPC 10000-4, 5.11.4)
 abbrev pub variable_takes : Option Variable → ValueType → Bool
 variable_takes None t = false
 variable_takes (Some v) t = cond t.array v.array (not v.array) && nat_eq t.kind v.kind
