@@ -384,7 +384,8 @@ fn read_thinned<S: Source, T: TakesTypes>(
 
 /// Reads a body as [`read_request`] does, but keeps of a Write no value that its node could not take: a
 /// null Variant stands in its place, and what stands beside it is passed over too (OPC 10000-4, 5.11.4).
-/// So the memory that such a value would take is not asked for. After a fault the source is to be given up.
+/// Of such an array no more memory is asked for than one element or part takes at a time; such a scalar is
+/// read, and let go. After a fault the source is to be given up.
 pub fn read_request_for<S: Source, T: TakesTypes>(
     alloc: Global,
     src: &mut S,
@@ -441,8 +442,8 @@ fn skip_last<S: Source>(
 }
 
 /// The kind of the request that a body is, which [`read_request`] would read. Of a Read and a Write no item
-/// is kept, so that it takes no memory but for a text of more than 30 octets, the octets of a ByteString or
-/// an XmlElement, one at a time. After a fault the source is to be given up.
+/// is kept: no more memory is asked for than one field, one scalar of a value, or a part of an array takes
+/// at a time. A request of another kind is read, and let go. After a fault the source is to be given up.
 pub fn skip_request<S: Source>(alloc: Global, src: &mut S) -> Result<RequestKind, RequestFault>
     ensures kind { (result ≡ kind_alone (request_read (S.octets src.old))) ⊎ (result ≡ Err RequestFault.OutOfMemory) }
 {
