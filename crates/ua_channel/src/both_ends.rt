@@ -140,8 +140,10 @@ pub fn server_follows_to_the_close()
         ServerCloses (limits_of x) (channel_of x) (octets ++ more) all → ⊥ }
 {}
 
-/// Behind any beginning of octets that a client reads, in whatever pieces it came, its channel was
-/// told a beginning of what they tell, and behind all of them all of it. It does not fail.
+/// Behind a beginning of octets that a client reads, by whose end all was asked, in whatever pieces it
+/// came, its channel was told a beginning of what they tell, and behind all of them all of it: the asks
+/// of the channel are those under which the octets are read to their end. With these asks it does not
+/// fail.
 pub fn client_follows()
     ensures begins { (x : ClientChannel) (asks : List Placed) (octets more : List ℕ) (told all : List ClientTold) (at : AtClient) → client.Goes x asks octets told →
         ClientReads (client.limits_of x) asks (octets ++ more) all at → (later : List ClientTold) × (all ≡ told ++ later) }

@@ -93,7 +93,9 @@ pub fn server_follows_merged()
         ServerReadsMerged (limits_of x) (channel_of x) (octets ++ more) all → ⊥ }
 {}
 
-/// The same of a client's channel and merged replies. It does not fail.
+/// The same of a client's channel and merged replies, behind a beginning by whose end all was asked: the
+/// asks of the channel are those under which the octets are read to their end. With these asks it does
+/// not fail.
 pub fn client_follows_merged()
     ensures begins { (x : ClientChannel) (asks : List Placed) (octets more : List ℕ) (told all : List ClientTold) → client.Goes x asks octets told →
         ClientReadsMerged (client.limits_of x) asks (octets ++ more) all → (later : List ClientTold) × (all ≡ told ++ later) }
