@@ -70,7 +70,7 @@ read_answers nodes items stamps moment = map (λ item. value_from (read_answer (
 abbrev pub values_given : State → DateTime → ReadRequest → Response
 values_given s moment m = Read (values_of (good_header moment m.request_header) (read_answers s.nodes (items_of m.nodes_to_read) (stamps_or (stamps_numbered m.timestamps_to_return)) moment))
 
--- the node that the NodeId names could take a value of the type at this moment: none does before a session is activated
+-- the node that the NodeId names could take a value of the type now: none could before a session is activated
 abbrev pub takes_now : State → NodeId → ValueType → Bool
 takes_now s id t = is_activated s.session && nodes_take s.nodes id t
 

@@ -40,7 +40,7 @@ impl Services {
 
     /// What [`reply`](Services::reply) does, with what is told of the message. The results of a Read are
     /// given up once the body has more than `most` octets. Of a Write no value is kept that its node could
-    /// not take: it is refused for its type, or with all items before a session is activated.
+    /// not take: its item is refused, at the latest for the type, or all are before a session is activated.
     pub(crate) fn reply_telling<S: Source>(
         &mut self,
         alloc: Global,
@@ -67,7 +67,7 @@ impl Services {
     }
 
     /// Reads the request that a message with this body is, without the values of a Write that its nodes
-    /// could not take at this moment: what is kept is answered as the request itself is.
+    /// could not take now: what is kept is answered as the request itself is.
     fn read_kept<S: Source>(&self, alloc: Global, src: &mut S) -> Result<Request, RequestFault>
         ensures answer { IfOk result (λ kept. (moment : DateTime) → answer self.now moment kept ≡ answered self.now moment (S.octets src.old)) }
         ensures kind { IfOk result (λ kept. kind_asked (request_read (S.octets src.old)) ≡ Some (kind_of kept)) }
