@@ -9,11 +9,13 @@ use ua_channel::{Line, LineFault};
 const MOST_GATHERED: usize = 16384;
 
 /// A line that gathers what is written to it, and writes it to the line beneath at once: before that is
-/// read, before more than 16384 octets would be gathered, and when it is asked to
-/// ([`flush`](GatheringLine::flush)). So many short answers go out by one call, and who waits for an
-/// answer has it before the next octets are waited for. What is gathered when the line is let go does not
-/// go out. It tells its octets where the line beneath does: each call does to them what the same call of
-/// the line beneath may do, and what is gathered counts as written.
+/// read; before a write by which more than 16384 octets would be gathered, for which memory is refused, or
+/// which comes behind a flush that stopped midway; and when it is asked to
+/// ([`flush`](GatheringLine::flush)). What can't be gathered then either, for its length or for want of
+/// memory, is written to the line beneath itself. So many short answers go out by one call, and who waits
+/// for an answer has it before the next octets are waited for. What is gathered when the line is let go
+/// does not go out. It tells its octets where the line beneath does: each call does to them what the same
+/// call of the line beneath may do, and what is gathered counts as written.
 #[derive(Drop)]
 pub struct GatheringLine<L> {
     line: L,
