@@ -28,7 +28,7 @@ pub struct Client {
     connection: Connection,
     /// It failed or was closed.
     is_done: bool,
-    /// Unless it is done, all that it asked is answered.
+    /// Unless it is done, its channel is open, and all that it asked is answered.
     pub ghost settled: { is_done ≡ false → StandsSettled connection.channel },
 }
 

@@ -1,4 +1,5 @@
-//! Laws of what a client hears of its calls, and of where it may be called.
+//! Laws of what a client hears of its calls, and of settled places, where the channel is open and all
+//! that was asked is answered.
 //!
 //! Each function does nothing; its contract is the law.
 
