@@ -50,8 +50,8 @@ fn add_both(
 }
 
 /// A line whose other end is a server over its services. What is written to it the server takes, in
-/// pieces of the lengths that it is told, and what the server says is read from it, in pieces too. Each
-/// answer of the server has the same moment.
+/// pieces of at most the lengths that the line is told, and what the server says is read from it, in
+/// pieces too. Each answer of the server has the same moment.
 ///
 /// A write fails where memory is refused, and once the connection ended at the server.
 #[derive(Drop)]
