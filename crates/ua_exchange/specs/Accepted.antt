@@ -15,25 +15,26 @@ use Rattle.ua_exchange.specs.declared.fault.PairFault.TheVariants.{NotWritable, 
 use Rattle.ua_exchange.specs.declared.turn.Turn.{Turn}
 use Rattle.ua_exchange.specs.declared.turn.Turn.TheVariants.{Ask, Renew}
 
--- ---- groups: at most 64 requests are asked before they are answered, and a renewal that follows them is asked with them
+-- ---- groups, as tokens are counted: as if a renewal were asked with the requests right in front of it, at most 64, before they are answered
 
 -- the requests that stand last among these turns
 abbrev pub last_calls : List Turn → List Turn
 last_calls before = after_last is_renewal before
 
--- the turns in front of those requests, at most 64, that a renewal may be asked with
+-- the turns in front of those requests, at most 64, that count as asked with a renewal
 abbrev pub before_group : List Turn → List Turn
 before_group before = take (length before - min (length (last_calls before)) most_pending) before
 
--- how many tokens the client holds where it renews its token behind these turns: the one that the last reply used, or the first where
--- there was none, and those that renewals brought since; the requests that are asked with a renewal are not answered yet
+-- how many tokens count as held where a client renews its token behind these turns: as many as it would hold if the requests that count as
+-- asked with the renewal were not answered yet. That is the one that the last reply in front of them used, or the first where there was none,
+-- and those that renewals brought since
 abbrev pub tokens_held : List Turn → ℕ
 tokens_held before = length (after_last is_call (before_group before)) + 1
 
 -- ---- why a turn is not accepted
 
 -- why a turn behind these is not accepted, in the order in which it is judged: the request has no encoding; request ids are exhausted;
--- the request has more octets or chunks than the server takes. Of a renewal: 16 tokens are held; request ids are exhausted
+-- the request has more octets or chunks than the server takes. Of a renewal: 16 tokens count as held; request ids are exhausted
 abbrev pub turn_reasons : List Turn → Turn → List (PairFault × Bool)
 turn_reasons before (Ask m) =
     (NotWritable (length before), not (request.encodable m))
@@ -53,7 +54,7 @@ turn_refusal before turn = first_reason (turn_reasons before turn)
 abbrev pub IsAccepted : List Turn → Turn → Type 0
 IsAccepted before turn = turn_refusal before turn ≡ None
 
--- the turn is a renewal behind these that is refused since too many tokens are held
+-- the turn is a renewal behind these that is refused since too many tokens count as held
 abbrev pub is_crowded : List Turn → Turn → Bool
 is_crowded before (Ask m) = false
 is_crowded before Renew = nat_le most_tokens (tokens_held before)
@@ -71,7 +72,8 @@ pub record FirstRefused (turns : List Turn) (fault : PairFault) : Type 0 where
   pub accepted : AreAccepted before
   pub refused : turn_refusal before turn ≡ Some fault
 
--- the fault of a turn at this place that a client does not take for this reason, if it is one against a turn
+-- the fault that is told where a client stops at the turn of this place with this one: of the turn, if it is a reason against one; else
+-- want of memory
 abbrev pub fault_of : ℕ → ClientFault → PairFault
 fault_of place client.NotWritable = NotWritable place
 fault_of place client.Exhausted = Request place Exhausted

@@ -1,4 +1,5 @@
-//! The renewals that are not asked, since too many tokens are held.
+//! The renewals that are not asked, since too many tokens count as held: as if the requests right in front
+//! of a renewal were not answered yet.
 
 ghost use Rattle.std.specs.Prelude.{◌≡◌, ◌+◌, ◌≤◌, ◌<◌, ◌^◌, ◌∷◌, ◌++◌, [], List, IfSome};
 ghost use Rattle.ua_exchange.specs.Accepted.{is_crowded};
@@ -7,10 +8,10 @@ ghost use Rattle.ua_exchange.specs.inside.Counting.{Counts, FindsCrowded};
 
 use crate::turn::Turn;
 
-/// The most tokens that are held: where so many are, no further one is asked for.
+/// The most tokens that are held: where so many count as held, no further one is asked for.
 const MOST_TOKENS: usize = 16;
 
-/// The most requests that are asked before they are answered.
+/// The most requests in front of a renewal that count as not answered yet.
 const MOST_CALLS: usize = 64;
 
 /// The turns that stand last: so many requests, and in front of these so many renewals.
@@ -21,7 +22,7 @@ struct Last {
 }
 
 impl Last {
-    /// Whether a turn behind these is a renewal that is refused since too many tokens are held.
+    /// Whether a turn behind these is a renewal that is refused since too many tokens count as held.
     fn is_crowded(self, turn: &Turn) -> bool
         ensures { (before : List Turn) → Counts before self.renewals self.calls → result ≡ is_crowded before turn.now }
     {
@@ -55,7 +56,7 @@ impl Last {
     }
 }
 
-/// The place of the first renewal for which too many tokens are held, if there is one.
+/// The place of the first renewal for which too many tokens count as held, if there is one.
 pub fn find_crowded(turns: &[Turn]) -> Option<usize>
     ensures found { FindsCrowded turns.now result }
 {

@@ -34,7 +34,7 @@ fn copied(alloc: Global, lengths: &[usize]) -> Result<Vec<usize>, AllocError> {
     Ok(copy)
 }
 
-/// The turns in front of a renewal for which too many tokens are held, or all of them.
+/// The turns in front of a renewal for which too many tokens count as held, or all of them.
 fn front(turns: &[Turn], crowded: Option<usize>) -> &[Turn]
     requires { FindsCrowded turns.now crowded }
     ensures { result.now ≡ front_of crowded turns.now }
@@ -82,10 +82,12 @@ fn conversed(
 /// The client is a [`ua_client::Client`], the server a [`ua_server::Server`], and between them is a
 /// [`ua_served::ServedLine`]. Both are those of the program `ua`: channel 1, the port 4840, frames of
 /// 65535 octets, messages of 1048576 octets and 256 chunks. The server takes what the client writes, and
-/// the client what the server says, in pieces of these lengths, in turn and again from the first; 0
-/// counts as 1, and with none the octets are not cut. A renewal is judged as the last turn of a group of
-/// at most 64 requests in front of it, none of which is answered yet. The moment is that of each answer,
-/// of each OPN and of the CLO, in units of 100 nanoseconds since 1601-01-01 00:00 UTC.
+/// the client what the server says, in pieces of at most these lengths, in turn and again from the first;
+/// 0 counts as 1, and none sets no limit. The client writes a frame at a time, and reads at most 4096
+/// octets at once, so that no piece is longer. Each turn is answered before the next is asked; but a
+/// renewal is judged as the last turn of a group of at most 64 requests in front of it, as if none of
+/// these were answered yet. The moment is that of each answer, of each OPN and of the CLO, in units of 100
+/// nanoseconds since 1601-01-01 00:00 UTC.
 pub fn exchange(
     alloc: Global,
     table: NodeTable,

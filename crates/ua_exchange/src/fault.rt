@@ -9,13 +9,13 @@ use ua_client::ClientFault;
 /// is not accepted.
 #[derive(Clone, Copy, PartialEq, Eq, Debug, Error)]
 pub enum PairFault {
-    /// The client does not ask this turn, for this reason.
+    /// This turn is not asked, for this reason.
     #[error("turn {0} is refused: {1}")]
     Request(usize, AskFault),
     /// The request of this turn has no encoding.
     #[error("the request of turn {0} can't be encoded")]
     NotWritable(usize),
-    /// Memory was refused.
+    /// Memory was refused; or the client met any other fault that is no reason against a turn.
     #[error("out of memory")]
     OutOfMemory,
 }

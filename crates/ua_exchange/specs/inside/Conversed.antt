@@ -1,4 +1,5 @@
--- What a `Client` and a `Server` in one process come to, with the limits of the program and the turns of an exchange.
+-- What an exchange needs of what a `Client` and a `Server` in one process come to, with the limits of the program and the turns of an
+-- exchange.
 use Rattle.std.specs.Prelude.{◌≡◌, ℕ, List, map, Option, Some, OnOk, IfErr}
 use Rattle.ua_builtin.specs.declared.date_time.DateTime.{DateTime}
 use Rattle.ua_frame.specs.declared.limits.Limits.{Limits}
@@ -20,7 +21,8 @@ use Rattle.ua_exchange.specs.declared.turn.Turn.{Turn}
 abbrev pub beginning : Limits → State → DateTime → Beginning
 beginning limits first moment = record { limits = limits; channel = channel; first = first; moment = moment }
 
--- what `converse` says of the transcript of these turns, of both ends with these limits, for this address, over services in this state
+-- what an exchange needs of what `converse` says of the transcript of these turns, of both ends with these limits, for this address, over
+-- services in this state
 pub record ConversesBy (limits : Limits) (address : Option (List ℕ)) (first : State) (moment : DateTime) (turns : List Turn) (t : Transcript) : Type 0 where
   pub down : t.down.items ≡ said_to (beginning limits first moment) t.up.items
   pub closed : OnOk t.outcome (t.stage ≡ Ended Closed)

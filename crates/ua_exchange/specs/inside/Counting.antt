@@ -1,4 +1,4 @@
--- How the renewals are found that are not asked, since too many tokens are held: turns are counted one by one.
+-- How the renewals are found that are not asked, since too many tokens count as held: turns are counted one by one.
 use Rattle.std.specs.Prelude.{◌≡◌, ℕ, true, false, length, take, List, [], ◌∷◌, ◌++◌, Option, Some, None}
 use Rattle.ua_chunk.specs.Gathered.{after_last}
 use Rattle.ua_frame.specs.After.{AllAfter}
@@ -23,7 +23,7 @@ pub record Counts (before : List Turn) (renewals calls : ℕ) : Type 0 where
   pub no_more : last_calls front ≡ []
   pub renewals_are : renewals ≡ length (after_last is_call front)
 
--- no renewal among these turns is refused since too many tokens are held
+-- no renewal among these turns is refused since too many tokens count as held
 abbrev pub HaveRoom : List Turn → Type 0
 HaveRoom turns = AllAfter (λ (before : List Turn) (t : Turn). is_crowded before t ≡ false) turns
 
