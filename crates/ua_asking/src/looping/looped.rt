@@ -112,8 +112,8 @@ fn are_bad(replies: &[Reply]) -> bool
 ///
 /// The session is begun by CreateSession and ActivateSession, and ended by CloseSession behind the
 /// lines. All is said at the moment 1970-01-01 00:00 UTC, on channel 1, and the server's address is
-/// `opc.tcp://localhost:4840`. Each end takes what the other wrote in pieces of so many octets as
-/// `cut` says; 0 counts as 1. Where `names` says so, the names of status codes stand behind them.
+/// `opc.tcp://localhost:4840`. Each end takes what the other wrote in pieces of at most so many octets
+/// as `cut` says; 0 counts as 1. Where `names` says so, the names of status codes stand behind them.
 pub fn run_lines(
     alloc: Global,
     nodes: NodeTable,
