@@ -141,7 +141,7 @@ pub struct Loop<'a> {
     pub nodes: &'a str,
     /// The script.
     pub script: &'a str,
-    /// How many octets each end takes at once.
+    /// The most octets that each end takes at once.
     pub cut: u16,
     /// Whether the octets go over a connection, too.
     pub tcp: bool,

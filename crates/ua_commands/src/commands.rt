@@ -60,7 +60,7 @@ const CONNECTIONS: Kind = Kind {
     defaults: &["1"],
 };
 
-/// How many octets an end takes at once: `--cut 7`, and 65535 where nothing is said.
+/// The most octets that an end takes at once: `--cut 7`, and 65535 where nothing is said.
 const CUT: Kind = Kind {
     is_needed: false,
     is_named: true,

@@ -105,8 +105,8 @@ fn carry_over_tcp<'a, R: Net + AllocGlobal>(
     Ok(carry_over(rt.alloc(), nodes, &mut line)?)
 }
 
-/// Runs the script of a text over nodes, each end taking what the other wrote in pieces of so many
-/// octets. Where `names` says so, the names of status codes stand behind them.
+/// Runs the script of a text over nodes, each end taking what the other wrote in pieces of at most so
+/// many octets. Where `names` says so, the names of status codes stand behind them.
 pub fn run_script(
     alloc: Global,
     nodes: NodeTable,
