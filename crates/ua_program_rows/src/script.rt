@@ -9,8 +9,8 @@ use std::rt::Files;
 use ua_asking::{Looped, parse_lines, run_lines};
 use ua_nodes::NodeTable;
 
-/// `script CUT NODES SCRIPT`: the octets each way of a script over the nodes of a file, in pieces of so
-/// many octets.
+/// `script CUT NODES SCRIPT`: the octets each way of a script over the nodes of a file, in pieces of at
+/// most so many octets.
 pub fn script<R: Files + AllocGlobal>(rt: &R, words: &str) -> Result<String, Fault> {
     let (cut, files) = first_word(words);
     let (nodes, script) = first_word(files);
@@ -30,7 +30,7 @@ pub fn file_text<R: Files + AllocGlobal>(rt: &R, name: &str) -> Result<String, F
     String::from_utf8(content(rt, name)?).map_err(|_| Fault::NoRow)
 }
 
-/// What goes each way of a script over nodes, in pieces of so many octets.
+/// What goes each way of a script over nodes, in pieces of at most so many octets.
 pub fn looped(alloc: Global, nodes: &str, script: &str, cut: u16) -> Result<Looped, Fault> {
     let Ok(nodes) = NodeTable::load(alloc, nodes) else {
         return Err(Fault::NoRow);
