@@ -8,8 +8,9 @@ use crate::told::Told;
 use crate::words::{front, lengths_of};
 use ua_exchange::{PairFault, Reply, Transcript, Turn, exchange};
 
-/// Lets a client ask turns of a server over nodes, each end in pieces of the lengths that words say, and
-/// tells what the first word asks for: the octets `up` or `down`, the `replies`, or how much `came`.
+/// Lets a client ask turns of a server over nodes, each end in pieces of at most the lengths that words
+/// say, and tells what the first word asks for: the octets `up` or `down`, the `replies`, or how much
+/// `came`.
 pub fn answer(given: &Given, nodes: &str, turns: &[Turn], words: &str, told: &mut Told) {
     let (what, words) = front(words);
     let (up, down) = front(words);

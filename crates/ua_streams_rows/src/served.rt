@@ -12,8 +12,8 @@ use ua_served::{Stage, Transcript, Turn, converse};
 use ua_services::Request;
 
 /// Lets a client take turns over a line to the server of these rows, which takes what is written and
-/// hands out what it says in pieces of the lengths that words say, and tells what the first word asks
-/// for: the octets `up` or `down`, the `replies`, or how much `came`.
+/// hands out what it says in pieces of at most the lengths that words say, and tells what the first word
+/// asks for: the octets `up` or `down`, the `replies`, or how much `came`.
 pub fn answer(given: &Given, serving: &Serving, words: &str, told: &mut Told) {
     let (what, words) = front(words);
     let (writes, words) = front(words);
