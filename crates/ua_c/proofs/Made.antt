@@ -1,6 +1,6 @@
 -- Servers and clients as they begin.
 use Rattle.std.proofs.Common.{◌≡◌, ◌∙◌, ℕ, List, [], Option, Some, IsTrue, refl, subst, inl}
-use Rattle.ua_channel.specs.Client.{Stands, limits_of, next_of, url_of}
+use Rattle.ua_channel.specs.Client.{ClientStands, client_limits, client_next, url_of}
 use Rattle.ua_channel.specs.declared.client.channel.ClientChannel.{ClientChannel}
 use Rattle.ua_frame.specs.declared.limits.Limits.{Limits}
 use Rattle.ua_octets.specs.Counted.{text}
@@ -17,7 +17,7 @@ as_it_came octets url u = record { is = refl; utf8 = u.utf8; writable = subst (�
 
 -- a client was made
 pub client_made : (limits : UaLimits) (octets : List ℕ) (old new : Option Holding) (status : ℕ) (these : Limits) (url : Option (List ℕ)) (client : ClientChannel)
-    → AreEnough limits → AreThese limits these → IsUrlOf octets url → Stands client [] [] [] [] → limits_of client ≡ these → url_of client ≡ url → next_of client ≡ 2
+    → AreEnough limits → AreThese limits these → IsUrlOf octets url → ClientStands client [] [] [] [] → client_limits client ≡ these → url_of client ≡ url → client_next client ≡ 2
     → Seats (machine.Client client) old new status → MakesClient limits octets old new status
 client_made limits octets old new status these url client enough are u stands limits_is url_is next_is seated = inl (record {
   these = these;

@@ -9,11 +9,11 @@ use Rattle.ua_frame.specs.declared.frame.Frame.{Frame}
 use Rattle.ua_frame.specs.declared.limits.Limits.{Limits}
 use Rattle.ua_channel.specs.Asks.{Placed}
 use Rattle.ua_channel.specs.Asks.Asking.{Call, Renewal}
-use Rattle.ua_channel.specs.Client.{Stands, Goes, IsDone, SameClient, limits_of, url_of, next_of, bound_of, call_refused, renewal_refused, closing_refused, SendsCall, SendsRenewal, SendsClosing}
-use Rattle.ua_channel.specs.ClientAnswers.{ClientAnswers, ComesInParts, Progress, parts_handed}
+use Rattle.ua_channel.specs.Client.{ClientStands, ClientGoes, IsClientDone, SameClient, client_limits, url_of, client_next, client_bound, call_refused, renewal_refused, closing_refused, SendsCall, SendsRenewal, SendsClosing}
+use Rattle.ua_channel.specs.ClientAnswers.{ClientAnswers, ComesInParts, ClientProgress, parts_handed}
 use Rattle.ua_channel.specs.ClientAsks.{AnswersFor}
 use Rattle.ua_channel.specs.ClientSends.{hello_frame, hello_to}
-use Rattle.ua_channel.specs.ClientTold.{Told as ToldOfFrame}
+use Rattle.ua_channel.specs.ClientTold.{ClientTold as ToldOfFrame}
 use Rattle.ua_channel.specs.declared.client.channel.ClientChannel.{ClientChannel}
 use Rattle.ua_channel.specs.declared.client.event.ClientEvent.{ClientEvent}
 use Rattle.ua_channel.specs.declared.client.event.ClientEvent.TheVariants as event
@@ -87,53 +87,53 @@ ShowsClose (Err fault) status before waiting = (status ≡ status_for fault) × 
 
 -- what `ClientChannel::new` says of the channel that it makes
 pub record IsNewClient (limits : Limits) (url : List ℕ) (client : ClientChannel) : Type 0 where
-  pub stands : Stands client [] [] [] []
-  pub limits_is : limits_of client ≡ limits
+  pub stands : ClientStands client [] [] [] []
+  pub limits_is : client_limits client ≡ limits
   pub url_is : url_of client ≡ Some url
-  pub next_is : next_of client ≡ 2
+  pub next_is : client_next client ≡ 2
 
 -- what `ClientChannel::take` says of what it answers to a piece at a moment, and of the channel that it leaves
 pub record TakesAs (client : ClientChannel) (piece : List ℕ) (moment : DateTime) (answer : Result (ℕ × ClientEvent) ClientTakeFault) (new : ClientChannel) : Type 0 where
-  pub answers : (asks : List Placed) (octets : List ℕ) (told : List ToldOfFrame) → Goes client asks octets told → ClientAnswers moment piece answer new asks octets told
-  pub parts : (asks : List Placed) (octets : List ℕ) (told : List ToldOfFrame) → Goes client asks octets told
+  pub answers : (asks : List Placed) (octets : List ℕ) (told : List ToldOfFrame) → ClientGoes client asks octets told → ClientAnswers moment piece answer new asks octets told
+  pub parts : (asks : List Placed) (octets : List ℕ) (told : List ToldOfFrame) → ClientGoes client asks octets told
       → IfOk answer (λ r. ComesInParts (parts_handed r.1) new asks (octets ++ take r.0 piece))
-  pub progress : Progress piece answer
-  pub closed : IsDone client → (answer ≡ Err take_fault.Closed) × (new ≡ client)
-  pub starved : IsErrOf answer take_fault.OutOfMemory → bound_of new ≡ bound_of client
+  pub progress : ClientProgress piece answer
+  pub closed : IsClientDone client → (answer ≡ Err take_fault.Closed) × (new ≡ client)
+  pub starved : IsErrOf answer take_fault.OutOfMemory → client_bound new ≡ client_bound client
   pub same : SameClient client new
-  pub next : next_of new ≡ next_of client
+  pub next : client_next new ≡ client_next client
 
 -- what `ClientChannel::ask` says
 pub record AsksAs (client : ClientChannel) (body : List ℕ) (answer : Result (ℕ × Vec ℕ Global) AskFault) (new : ClientChannel) : Type 0 where
   pub answers : AnswersFor (call_refused client 0 body) answer
-  pub sent : IfOk answer (λ r. SendsCall client (next_of client) body r.0 r.1.items (next_of new))
-  pub stands : (asks : List Placed) (octets : List ℕ) (frames : List Frame) (rest : List ℕ) → Stands client asks octets frames rest
-      → IfOk answer (λ r. Stands new (asks ++ (length octets, Call r.0) ∷ []) octets frames rest)
-  pub kept : (asks : List Placed) (octets : List ℕ) (frames : List Frame) (rest : List ℕ) → Stands client asks octets frames rest
-      → OnErr answer (Stands new asks octets frames rest)
-  pub next : OnErr answer (next_of new ≡ next_of client)
-  pub done : IsDone client → (answer ≡ Err ask_fault.NotOpen) × (new ≡ client)
+  pub sent : IfOk answer (λ r. SendsCall client (client_next client) body r.0 r.1.items (client_next new))
+  pub stands : (asks : List Placed) (octets : List ℕ) (frames : List Frame) (rest : List ℕ) → ClientStands client asks octets frames rest
+      → IfOk answer (λ r. ClientStands new (asks ++ (length octets, Call r.0) ∷ []) octets frames rest)
+  pub kept : (asks : List Placed) (octets : List ℕ) (frames : List Frame) (rest : List ℕ) → ClientStands client asks octets frames rest
+      → OnErr answer (ClientStands new asks octets frames rest)
+  pub next : OnErr answer (client_next new ≡ client_next client)
+  pub done : IsClientDone client → (answer ≡ Err ask_fault.NotOpen) × (new ≡ client)
   pub same : SameClient client new
-  pub bound : bound_of new ≡ bound_of client
+  pub bound : client_bound new ≡ client_bound client
 
 -- what `ClientChannel::renew` says
 pub record RenewsAs (client : ClientChannel) (moment : DateTime) (answer : Result (ℕ × Vec ℕ Global) AskFault) (new : ClientChannel) : Type 0 where
   pub answers : AnswersFor (renewal_refused client) answer
-  pub sent : IfOk answer (λ r. SendsRenewal client (next_of client) moment r.0 r.1.items (next_of new))
-  pub stands : (asks : List Placed) (octets : List ℕ) (frames : List Frame) (rest : List ℕ) → Stands client asks octets frames rest
-      → IfOk answer (λ r. Stands new (asks ++ (length octets, Renewal r.0) ∷ []) octets frames rest)
+  pub sent : IfOk answer (λ r. SendsRenewal client (client_next client) moment r.0 r.1.items (client_next new))
+  pub stands : (asks : List Placed) (octets : List ℕ) (frames : List Frame) (rest : List ℕ) → ClientStands client asks octets frames rest
+      → IfOk answer (λ r. ClientStands new (asks ++ (length octets, Renewal r.0) ∷ []) octets frames rest)
   pub unchanged : OnErr answer (new ≡ client)
   pub same : SameClient client new
-  pub bound : bound_of new ≡ bound_of client
+  pub bound : client_bound new ≡ client_bound client
 
 -- what `ClientChannel::close` says
 pub record ClosesAs (client : ClientChannel) (moment : DateTime) (answer : Result (Vec ℕ Global) AskFault) (new : ClientChannel) : Type 0 where
   pub answers : AnswersFor (closing_refused client) answer
-  pub sent : IfOk answer (λ out. SendsClosing client (next_of client) moment out.items)
-  pub done : OnOk answer (IsDone new)
+  pub sent : IfOk answer (λ out. SendsClosing client (client_next client) moment out.items)
+  pub done : OnOk answer (IsClientDone new)
   pub unchanged : OnErr answer (new ≡ client)
   pub same : SameClient client new
-  pub bound : bound_of new ≡ bound_of client
+  pub bound : client_bound new ≡ client_bound client
 
 -- ---- what a handle holds
 
@@ -144,7 +144,7 @@ HoldsClient client new = new.machine ≡ machine.Client client
 -- the HEL of the client waits, or memory was refused and nothing changed
 abbrev pub HelloBy : ClientChannel → Holding → Holding → ℕ → Type 0
 HelloBy client old new status =
-    ((status ≡ ok) × HoldsClient client new × (new.waiting ≡ frame_octets (hello_frame (hello_to (limits_of client) (url_of client)))))
+    ((status ≡ ok) × HoldsClient client new × (new.waiting ≡ frame_octets (hello_frame (hello_to (client_limits client) (url_of client)))))
     ⊎ ((status ≡ no_memory) × (new ≡ old))
 
 -- one `take` of a client: the answer is one of `ClientChannel::take`, and C is told just that

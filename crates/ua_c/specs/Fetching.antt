@@ -1,7 +1,7 @@
 -- What any handle answers: how many octets it holds, and those that wait.
 use Rattle.std.specs.Prelude.{◌≡◌, ◌⊎◌, ◌≤◌, ℕ, List, Option, Some, None}
 use Rattle.ua_channel.specs.Asks.{Placed}
-use Rattle.ua_channel.specs.Client.{Stands as ClientStands, IsDone as ClientIsDone, bound_of as client_bound_of, bound_behind, held_octets, limits_of as client_limits_of}
+use Rattle.ua_channel.specs.Client.{ClientStands, IsClientDone, client_bound, client_bound_behind, held_octets, client_limits}
 use Rattle.ua_channel.specs.Received.{received}
 use Rattle.ua_channel.specs.ServerStands.{Stands, IsDone, bound_of, bound_after, held_after, limits_of}
 use Rattle.ua_frame.specs.declared.frame.Frame.{Frame}
@@ -20,8 +20,8 @@ Holds (machine.Server station) count =
     × (IsDone (channel_in station.server) → count ≡ 0)
 Holds (machine.Client client) count =
     ((asks : List Placed) (octets : List ℕ) (frames : List Frame) (rest : List ℕ) → ClientStands client asks octets frames rest → count ≡ held_octets frames rest)
-    × ((asks : List Placed) (octets : List ℕ) (frames : List Frame) (rest : List ℕ) → ClientStands client asks octets frames rest → count ≤ client_bound_of client)
-    × (ClientIsDone client → count ≡ 0)
+    × ((asks : List Placed) (octets : List ℕ) (frames : List Frame) (rest : List ℕ) → ClientStands client asks octets frames rest → count ≤ client_bound client)
+    × (IsClientDone client → count ≡ 0)
 
 -- what `Server::bound` and `ClientChannel::bound` say of this count
 abbrev pub Bounds : Machine → ℕ → Type 0
@@ -29,8 +29,8 @@ Bounds (machine.Server station) count =
     ((octets : List ℕ) (frames : List Frame) (rest : List ℕ) → Stands (channel_in station.server) octets frames rest → count ≡ bound_after (limits_of (channel_in station.server)) (received frames))
     × (count ≡ bound_of (channel_in station.server))
 Bounds (machine.Client client) count =
-    ((asks : List Placed) (octets : List ℕ) (frames : List Frame) (rest : List ℕ) → ClientStands client asks octets frames rest → count ≡ bound_behind (client_limits_of client) (received frames).ack)
-    × (count ≡ client_bound_of client)
+    ((asks : List Placed) (octets : List ℕ) (frames : List Frame) (rest : List ℕ) → ClientStands client asks octets frames rest → count ≡ client_bound_behind (client_limits client) (received frames).ack)
+    × (count ≡ client_bound client)
 
 -- a count of what is held, which is 0 where nothing is
 abbrev pub Counts : (Holding → Type 0) → ℕ → Option Holding → Type 0

@@ -16,7 +16,7 @@ use Rattle.ua_channel.specs.declared.server_fault.ChannelFault.{ChannelFault}
 use Rattle.ua_channel.specs.declared.server_fault.ChannelFault.TheVariants as fault
 use Rattle.ua_channel.specs.declared.step_fault.StepFault.{StepFault}
 use Rattle.ua_channel.specs.declared.step_fault.StepFault.TheVariants as step
-use Rattle.ua_channel.specs.ServerAnswers.{Sends, ServerAnswers, AnswersAt}
+use Rattle.ua_channel.specs.ServerAnswers.{SendsOctets, ServerAnswers, AnswersAt}
 use Rattle.ua_channel.specs.inside.ServerSteps.{StandsWith, Nexts, Answered}
 use Rattle.ua_channel.specs.inside.StepFaults.{of_step}
 use Rattle.ua_channel.specs.ServerSends.{opened_frame}
@@ -36,7 +36,7 @@ telling_counted x numbers octets before e g = record {
 
 -- what is sent where a token was issued
 pub opened_sends : (x : ServerChannel) (numbers : Numbers) (moment : DateTime) (octets sent : List ℕ) (before : List Told) (e : Event) (id handle token lifetime number : ℕ) → e ≡ inner.Opened id handle token lifetime → StandsWith e x octets before → number ≡ x.numbers.next → numbers.next ≡ next_number x.numbers.next
-    → sent ≡ frame_octets (opened_frame (channel_of x) number id handle token lifetime moment) → Sends (channel_of x) (next_of x) moment sent (record x { numbers = numbers }) octets before
+    → sent ≡ frame_octets (opened_frame (channel_of x) number id handle token lifetime moment) → SendsOctets (channel_of x) (next_of x) moment sent (record x { numbers = numbers }) octets before
 opened_sends x numbers moment octets sent before e id handle token lifetime number is tells number_is next sent_is = record {
   said = told.Opened id handle token lifetime;
   are_sent = sent_is ∙ ap (λ (n : ℕ). frame_octets (opened_frame (channel_of x) n id handle token lifetime moment)) number_is;

@@ -30,8 +30,8 @@ use Rattle.ua_channel.specs.Asks.{Asking, Placed, asked_before, calls, end_of, i
 use Rattle.ua_channel.specs.ClientConversation.{ClientConversation, IsClientOrder, IsClientOrderOpen, IsOrderAgreed, MayCarryBack, largest_taken}
 use Rattle.ua_channel.specs.ClientTable.{client_rules}
 use Rattle.ua_channel.specs.ClientTokens.{answer_in, response_listed, responses, tokens_of}
-use Rattle.ua_channel.specs.ClientTold.{Told, client_tells, told_item, told_response}
-use Rattle.ua_channel.specs.ClientTold.Told.{Agreed, Opened, Answered, GaveUp, Renewed}
+use Rattle.ua_channel.specs.ClientTold.{ClientTold, client_tells, told_item, told_response}
+use Rattle.ua_channel.specs.ClientTold.ClientTold.{Agreed, Opened, Answered, GaveUp, Renewed}
 use Rattle.ua_channel.specs.Content.{Content, Opening, closes, content, content_by}
 use Rattle.ua_channel.specs.Content.Content.{Greets, Acks, Fails, Opens, Sends, Closes, Nothing}
 use Rattle.ua_channel.specs.Conversation.{IsFramed}
@@ -231,7 +231,7 @@ module _ (limits : Limits) (asks : List Placed) (ms : List Sent) (base : List Ch
 
 renewed_told : (q : OpenResponse) (qs rs : List OpenResponse) → map (told_response (q ∷ qs)) rs ≡ map told_renewed rs
 renewed_told q qs [] = refl
-renewed_told q qs (r ∷ rs) = ap (λ (ts : List Told). Renewed r.token_id ∷ ts) (renewed_told q qs rs)
+renewed_told q qs (r ∷ rs) = ap (λ (ts : List ClientTold). Renewed r.token_id ∷ ts) (renewed_told q qs rs)
 
 later_told : (qs rs : List OpenResponse) → has_some qs ≡ true → map (told_response qs) rs ≡ map told_renewed rs
 later_told [] rs some = absurd cc
@@ -267,8 +267,8 @@ module _ (limits : Limits) (asks : List Placed) (ms : List Sent) (base : List Ch
   unfolding messages
   told_from start us [] some now order all = refl
   told_from start us (f ∷ fs) some now order all =
-      ap (λ (ts : List Told). ts ++ each_from (client_rules limits asks).tells (start ++ f ∷ []) fs) (tells_at (received start) us (messages fs) (content f) order.0 some now all)
-      ∙ ap (λ (ts : List Told). told_back ms (content f) ++ ts)
+      ap (λ (ts : List ClientTold). ts ++ each_from (client_rules limits asks).tells (start ++ f ∷ []) fs) (tells_at (received start) us (messages fs) (content f) order.0 some now all)
+      ∙ ap (λ (ts : List ClientTold). told_back ms (content f) ++ ts)
       (told_from (start ++ f ∷ []) (us ++ chunks_in (content f)) fs (still_open start f order.0 some) (ap (λ (b : Received). b.messages) (received-push start f) ∙ messages_then base us (received start) (content f) order.0 now) order.1
       (ends_then ms us (messages fs) (content f) order.0 all))
 
@@ -317,8 +317,8 @@ tokens_from ms (f ∷ fs) order =
 
 -- ---- calls of one request id
 
-under_step : (b : Bool) (d : Item) (fs : List Told) (gs : List Item) → fs ≡ map told_item gs → cond b (told_item d ∷ fs) fs ≡ map told_item (cond b (d ∷ gs) gs)
-under_step true d fs gs e = ap (λ (t : List Told). told_item d ∷ t) e
+under_step : (b : Bool) (d : Item) (fs : List ClientTold) (gs : List Item) → fs ≡ map told_item gs → cond b (told_item d ∷ fs) fs ≡ map told_item (cond b (d ∷ gs) gs)
+under_step true d fs gs e = ap (λ (t : List ClientTold). told_item d ∷ t) e
 under_step false d fs gs e = e
 
 items_under : (id : ℕ) (items : List Item) → filter (is_told_under id) (map told_item items) ≡ map told_item (filter (is_item_of id) items)
@@ -326,12 +326,12 @@ items_under id [] = refl
 items_under id (Whole i octets ∷ items) = under_step (eqb i id) (Whole i octets) (filter (is_told_under id) (map told_item items)) (filter (is_item_of id) items) (items_under id items)
 items_under id (Aborted i code reason ∷ items) = under_step (eqb i id) (Aborted i code reason) (filter (is_told_under id) (map told_item items)) (filter (is_item_of id) items) (items_under id items)
 
-same_step : (b : Bool) (t : Told) (xs ys : List Told) → xs ≡ ys → cond b (t ∷ xs) xs ≡ cond b (t ∷ ys) ys
-same_step true t xs ys e = ap (λ (ts : List Told). t ∷ ts) e
+same_step : (b : Bool) (t : ClientTold) (xs ys : List ClientTold) → xs ≡ ys → cond b (t ∷ xs) xs ≡ cond b (t ∷ ys) ys
+same_step true t xs ys e = ap (λ (ts : List ClientTold). t ∷ ts) e
 same_step false t xs ys e = e
 
 -- what is told of one call is told of calls
-calls_under : (id : ℕ) (told : List Told) → filter (is_told_under id) told ≡ filter (is_told_under id) (told_of_calls told)
+calls_under : (id : ℕ) (told : List ClientTold) → filter (is_told_under id) told ≡ filter (is_told_under id) (told_of_calls told)
 calls_under id [] = refl
 calls_under id (Agreed ack ∷ told) = calls_under id told
 calls_under id (Opened channel token ∷ told) = calls_under id told
@@ -371,12 +371,12 @@ module _ (limits : Limits) (asks : List Placed) (before more : List Frame) (ms :
   pub tells_merged : events (client_rules limits asks) (before ++ more) ≡ events (client_rules limits asks) before ++ told_merged_back ms more
   tells_merged =
       events_on (client_rules limits asks) before more
-      ∙ ap (λ (ts : List Told). events (client_rules limits asks) before ++ ts)
+      ∙ ap (λ (ts : List ClientTold). events (client_rules limits asks) before ++ ts)
       (told_from limits asks ms (received before).messages m.none_open before [] more m.is_open (sym (append-nil (received before).messages)) m.order (comes limits ms (messages more) m.merged).each)
 
   pub tells_messages : told_of_calls (told_merged_back ms more) ≡ map told_item (outcomes ms (messages more))
   tells_messages =
-      let had : List Told = told_of_calls (events (client_rules limits asks) before) in
+      let had : List ClientTold = told_of_calls (events (client_rules limits asks) before) in
       append_cancel_left had (told_of_calls (told_merged_back ms more)) (map told_item (outcomes ms (messages more)))
       (sym (filter_append is_of_call (events (client_rules limits asks) before) (told_merged_back ms more))
       ∙ (ap told_of_calls (sym tells_merged)
@@ -384,7 +384,7 @@ module _ (limits : Limits) (asks : List Placed) (before more : List Frame) (ms :
       ∙ (ap (λ (cs : List Chunk). map told_item (delivered cs)) (messages_behind before more)
       ∙ (ap (map told_item) (fresh (received before).messages (messages more) m.none_open)
       ∙ (map-append told_item (delivered (received before).messages) (delivered (messages more))
-      ∙ (ap (λ (t : List Told). t ++ map told_item (delivered (messages more))) (sym (tells_delivered limits asks before))
+      ∙ (ap (λ (t : List ClientTold). t ++ map told_item (delivered (messages more))) (sym (tells_delivered limits asks before))
       ∙ ap (λ (items : List Item). had ++ map told_item items) (comes limits ms (messages more) m.merged).all)))))))
 
   pub tells_once : (id : ℕ) → filter (is_told_under id) (told_merged_back ms more) ≡ map told_item (outcome_under (sent_under id ms))

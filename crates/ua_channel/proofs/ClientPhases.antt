@@ -6,7 +6,7 @@ use Rattle.ua_frame.specs.declared.limits.Limits.{Limits}
 use Rattle.ua_frame.specs.Frames.{LetsIn}
 use Rattle.ua_frame.specs.Reader.{open_reader}
 use Rattle.ua_channel.specs.Asks.{Asking}
-use Rattle.ua_channel.specs.Client.{InPhase, IsDone, bound_behind}
+use Rattle.ua_channel.specs.Client.{InPhase, IsClientDone, client_bound_behind}
 use Rattle.ua_channel.specs.inside.ClientAsking.{client_phase_gate}
 use Rattle.ua_channel.specs.ClientAsks.{Talks}
 use Rattle.ua_channel.specs.inside.ClientParts.{IsStopFor, Judged, JudgesWhole, GoesOnBehind, TookFrame, OpensChannel, StaysOpen, IsOpenedBy, TakesFrame, greeted, failure_of}
@@ -86,23 +86,23 @@ module _ (limits : Limits) (p : Phase) (before : Received) (asked : List Asking)
       subst (λ (k : List Asking). Judged (client_reasons limits before k (content f)) (TookFrame limits before k (content f) new) r) (sym here.1)
       (subst (λ (b : Received). Judged (client_reasons limits b [] (content f)) (TookFrame limits b [] (content f) new) r) (sym here.0) (h (let_in_phase limits Waiting before asked f here let_in)))
 
-  pub agreed_judged : (g : Agreed) → p ≡ AgreedTo g → new.bound ≡ bound_behind limits before.ack → (LetsIn (answer_gate g.ack.send_buffer_size) f → Judged (client_reasons limits (greeted g) [] (content f)) (OpensChannel limits g (content f) new) r)
+  pub agreed_judged : (g : Agreed) → p ≡ AgreedTo g → new.bound ≡ client_bound_behind limits before.ack → (LetsIn (answer_gate g.ack.send_buffer_size) f → Judged (client_reasons limits (greeted g) [] (content f)) (OpensChannel limits g (content f) new) r)
       → Judged (client_reasons limits before asked (content f)) (TookFrame limits before asked (content f) new) r
   agreed_judged g is bound h =
       let here : InPhase limits (AgreedTo g) before asked = subst (λ (q : Phase). InPhase limits q before asked) is in_phase in
-      let size : new.bound ≡ bound_behind limits (Some g.ack) = bound ∙ ap (λ (b : Received). bound_behind limits b.ack) here.0 in
+      let size : new.bound ≡ client_bound_behind limits (Some g.ack) = bound ∙ ap (λ (b : Received). client_bound_behind limits b.ack) here.0 in
       subst (λ (k : List Asking). Judged (client_reasons limits before k (content f)) (TookFrame limits before k (content f) new) r) (sym here.1)
       (subst (λ (b : Received). Judged (client_reasons limits b [] (content f)) (TookFrame limits b [] (content f) new) r) (sym here.0)
       (judged_same (client_reasons limits (greeted g) [] (content f)) (client_reasons limits (greeted g) [] (content f)) (OpensChannel limits g (content f) new) (TookFrame limits (greeted g) [] (content f) new) r refl
-      (λ e none w. record { tells = w.tells; good = w.good; parts = w.parts; phase_is = w.phase_is; bound_is = size ∙ sym (ap (bound_behind limits) w.ack_is) }) (h (let_in_phase limits (AgreedTo g) before asked f here let_in))))
+      (λ e none w. record { tells = w.tells; good = w.good; parts = w.parts; phase_is = w.phase_is; bound_is = size ∙ sym (ap (client_bound_behind limits) w.ack_is) }) (h (let_in_phase limits (AgreedTo g) before asked f here let_in))))
 
-  pub open_judged : (t : Talking) → p ≡ Open t → new.bound ≡ bound_behind limits before.ack
+  pub open_judged : (t : Talking) → p ≡ Open t → new.bound ≡ client_bound_behind limits before.ack
       → (Talks limits t before asked → LetsIn (reply_gate t.agreed.ack.send_buffer_size) f → Judged (client_reasons limits before asked (content f)) (StaysOpen limits before asked (content f) new) r)
       → Judged (client_reasons limits before asked (content f)) (TookFrame limits before asked (content f) new) r
   open_judged t is bound h =
       let here : InPhase limits (Open t) before asked = subst (λ (q : Phase). InPhase limits q before asked) is in_phase in
       judged_same (client_reasons limits before asked (content f)) (client_reasons limits before asked (content f)) (StaysOpen limits before asked (content f) new) (TookFrame limits before asked (content f) new) r refl
-      (λ e none w. record { tells = w.tells; good = w.good; parts = w.parts; phase_is = w.phase_is; bound_is = bound ∙ sym (ap (bound_behind limits) w.ack_is) }) (h here (let_in_phase limits (Open t) before asked f here let_in))
+      (λ e none w. record { tells = w.tells; good = w.good; parts = w.parts; phase_is = w.phase_is; bound_is = bound ∙ sym (ap (client_bound_behind limits) w.ack_is) }) (h here (let_in_phase limits (Open t) before asked f here let_in))
 
 -- ---- a whole frame
 
@@ -131,7 +131,7 @@ module _ (limits : Limits) (before : Received) (asked : List Asking) (c : Conten
         reader_is = reader ∙ ap (λ (g : Gate). open_reader g []) (gate_in limits mid.phase (after before c) asked h.1.phase_is);
       })
 
-  pub whole_err : (s : Stop) → IsStopFor (client_reasons limits before asked c) s → IsDone new → new.bound ≡ bound_behind limits before.ack → JudgesWhole limits before asked c new (failure_of s)
+  pub whole_err : (s : Stop) → IsStopFor (client_reasons limits before asked c) s → IsClientDone new → new.bound ≡ client_bound_behind limits before.ack → JudgesWhole limits before asked c new (failure_of s)
   whole_err (stop.Refused code) h done bound = record { refused = h; done = done; bound_is = bound }
   whole_err (stop.Peer code) h done bound = record { refused = h; done = done; bound_is = bound }
   whole_err stop.OutOfMemory h done bound = done

@@ -63,7 +63,7 @@ use Rattle.ua_channel.specs.ClientReads.{AtClient, ClientAgrees, ClientReads, Is
 use Rattle.ua_channel.specs.ClientSends.{hello_to}
 use Rattle.ua_channel.specs.ClientTable.{answer_gate, client_gate, client_reasons, client_rules, gate_agreed, client_gate_behind, is_awaited, is_outside, reply_gate}
 use Rattle.ua_channel.specs.ClientTokens.{answer_in, channel_in, from_last, held_by, held_tokens, opened_ids, responses, tokens_of}
-use Rattle.ua_channel.specs.ClientTold.{Told, Told as event, client_tells, told_item}
+use Rattle.ua_channel.specs.ClientTold.{ClientTold, ClientTold as event, client_tells, told_item}
 use Rattle.ua_channel.specs.Content.{Content, Opening, content}
 use Rattle.ua_channel.specs.Content.Content.{Acks, Opens, Sends}
 use Rattle.ua_channel.specs.Received.{Received, after, latest, nothing_received, number_or, received}
@@ -139,7 +139,7 @@ module _ (limits : Limits) (a : Ack) (fits : IsTrue (ack.encodable a)) (inside :
           let_in = subst (λ (g : Gate). LetsIn g (ack_frame a)) (sym (ap client_gate received-nil)) (record { kind = refl; flag = refl; largest = omega (arith, ack_size); least = omega (arith, ack_size) });
           accepted = ap (λ (k : Content). first_reason (client_reasons limits (received []) (asked_before (end_of [] (ack_frame a)) []) k)) ack_carried ∙ ack_good (received []) (asked_before (end_of [] (ack_frame a)) []);
         }) refl;
-    told_is = events-push (client_rules limits []) [] (ack_frame a) ∙ (ap (λ (ts : List Told). ts ++ client_tells (received []) (content (ack_frame a))) (no_events (client_rules limits [])) ∙ ap (client_tells (received [])) ack_carried);
+    told_is = events-push (client_rules limits []) [] (ack_frame a) ∙ (ap (λ (ts : List ClientTold). ts ++ client_tells (received []) (content (ack_frame a))) (no_events (client_rules limits [])) ∙ ap (client_tells (received [])) ack_carried);
     received_is = ack_received;
     large = large;
     sized = ack_sized a fits;
@@ -225,7 +225,7 @@ none_renewed : (ids : List ℕ) → pending_renewals ids [] ≡ []
 unfolding pending_renewals renewals
 none_renewed ids = refl
 
-module _ (limits : Limits) (octets : List ℕ) (told : List Told) (a : Ack) (channel number handle token lifetime : ℕ) (moment : DateTime)
+module _ (limits : Limits) (octets : List ℕ) (told : List ClientTold) (a : Ack) (channel number handle token lifetime : ℕ) (moment : DateTime)
     (r : ClientAgrees limits octets told a) (is : IsAnswered channel number 1 handle token lifetime moment) where
   o : Opening
   o = answer channel number 1 handle token lifetime moment is
@@ -290,8 +290,8 @@ module _ (limits : Limits) (octets : List ℕ) (told : List Told) (a : Ack) (cha
     placed = tt;
     told_is =
         events-push (client_rules limits []) r.frames f
-        ∙ (ap (λ (ts : List Told). ts ++ client_tells (received r.frames) (content f)) r.told_is
-        ∙ ap (λ (ts : List Told). told ++ ts) (ap (λ (b : Received). client_tells b (content f)) r.received_is ∙ (ap (client_tells (record nothing_received { ack = Some a })) o_carried ∙ first_tells channel number 1 handle token lifetime moment is a)));
+        ∙ (ap (λ (ts : List ClientTold). ts ++ client_tells (received r.frames) (content f)) r.told_is
+        ∙ ap (λ (ts : List ClientTold). told ++ ts) (ap (λ (b : Received). client_tells b (content f)) r.received_is ∙ (ap (client_tells (record nothing_received { ack = Some a })) o_carried ∙ first_tells channel number 1 handle token lifetime moment is a)));
     ack_is = ap (λ (b : Received). b.ack) now;
     large = r.large;
     sized = r.sized;
@@ -318,7 +318,7 @@ below_more {X = X} id n m xs le all = all-weaken (λ (x : X). id x < n) (λ (x :
 next_more : (asks : List Placed) (p : Placed) → next_id (asked_in (asks ++ p ∷ [])) ≡ next_id (asked_in asks) + 1
 next_more asks p = omega (arith, ap length (asked_in-push asks p), length-append (asked_in asks) (p.1 ∷ []))
 
-module _ (limits : Limits) (asks : List Placed) (octets : List ℕ) (told : List Told) (at : AtClient) (ask : Asking) (r : ClientReads limits asks octets told at) (id_is : id_of ask ≡ next_id (asked_in asks)) where
+module _ (limits : Limits) (asks : List Placed) (octets : List ℕ) (told : List ClientTold) (at : AtClient) (ask : Asking) (r : ClientReads limits asks octets told at) (id_is : id_of ask ≡ next_id (asked_in asks)) where
   more : List Placed
   more = asks ++ (length octets, ask) ∷ []
 
@@ -356,7 +356,7 @@ module _ (limits : Limits) (asks : List Placed) (octets : List ℕ) (told : List
   }
 
 -- a call
-pub reads_call : (limits : Limits) (asks : List Placed) (octets : List ℕ) (told : List Told) (at : AtClient) → ClientReads limits asks octets told at
+pub reads_call : (limits : Limits) (asks : List Placed) (octets : List ℕ) (told : List ClientTold) (at : AtClient) → ClientReads limits asks octets told at
     → ClientReads limits (asks ++ (length octets, Call (next_id (asked_in asks))) ∷ []) octets told (with_call at (next_id (asked_in asks)))
 reads_call limits asks octets told at r =
     let id = next_id (asked_in asks) in
@@ -365,7 +365,7 @@ reads_call limits asks octets told at r =
     (pending_renewals-call (opened_ids (received r.frames).openings) (asked_in asks) id ∙ r.renewals_are)
 
 -- a renewal
-pub reads_renewal : (limits : Limits) (asks : List Placed) (octets : List ℕ) (told : List Told) (at : AtClient) → ClientReads limits asks octets told at
+pub reads_renewal : (limits : Limits) (asks : List Placed) (octets : List ℕ) (told : List ClientTold) (at : AtClient) → ClientReads limits asks octets told at
     → ClientReads limits (asks ++ (length octets, Renewal (next_id (asked_in asks))) ∷ []) octets told (with_renewal at (next_id (asked_in asks)))
 reads_renewal limits asks octets told at r =
     let id = next_id (asked_in asks) in
@@ -396,7 +396,7 @@ pub all_append : {X : Type 0} (P : X → Type 0) (xs ys : List X) → AllByRecur
 all_append P [] ys h k = k
 all_append P (x ∷ xs) ys h k = (h.0, all_append P xs ys h.1 k)
 
-module _ (limits : Limits) (asks : List Placed) (octets : List ℕ) (told : List Told) (at : AtClient) (lane : Lane) (id : ℕ) (r : ClientReads limits asks octets told at) (back : IsLaneBack limits at lane)
+module _ (limits : Limits) (asks : List Placed) (octets : List ℕ) (told : List ClientTold) (at : AtClient) (lane : Lane) (id : ℕ) (r : ClientReads limits asks octets told at) (back : IsLaneBack limits at lane)
     (awaited : is_in id at.pending ≡ true) (few : id < 2 ^ 32) where
   id_below : id < next_id (asked_in asks)
   id_below = pending_below (next_id (asked_in asks)) id (received r.frames).messages (asked_in asks) r.asked_below (ap (is_in id) r.pending_are ∙ awaited)
@@ -453,8 +453,8 @@ module _ (limits : Limits) (asks : List Placed) (octets : List ℕ) (told : List
         placed = placed_on (length (octets ++ chunks_octets cs)) (omega (arith, length-append octets (chunks_octets cs)));
         told_is =
             events_on (client_rules limits asks) r.frames (map frame_of cs)
-            ∙ (ap (λ (ts : List Told). ts ++ each_from (client_rules limits asks).tells r.frames (map frame_of cs)) r.told_is
-            ∙ ap (λ (ts : List Told). told ++ ts) (told_chunks limits asks at.ack.send_buffer_size lane id cs r.frames sent ∙ ap (map told_item) delivers));
+            ∙ (ap (λ (ts : List ClientTold). ts ++ each_from (client_rules limits asks).tells r.frames (map frame_of cs)) r.told_is
+            ∙ ap (λ (ts : List ClientTold). told ++ ts) (told_chunks limits asks at.ack.send_buffer_size lane id cs r.frames sent ∙ ap (map told_item) delivers));
         ack_is = ap (λ (z : Received). z.ack) now ∙ (chunks_ack (received r.frames) cs ∙ r.ack_is);
         large = r.large;
         sized = r.sized;
@@ -572,7 +572,7 @@ module _ (limits : Limits) (asks : List Placed) (octets : List ℕ) (told : List
 one_in : (id : ℕ) (ids : List ℕ) → ids ≡ id ∷ [] → is_in id ids ≡ true
 one_in id ids one = ap (is_in id) one ∙ ap (λ (b : Bool). b || false) (eq-eqb id id refl)
 
-module _ (limits : Limits) (asks : List Placed) (octets : List ℕ) (told : List Told) (at : AtClient) (id handle token lifetime : ℕ) (moment : DateTime) (r : ClientReads limits asks octets told at)
+module _ (limits : Limits) (asks : List Placed) (octets : List ℕ) (told : List ClientTold) (at : AtClient) (id handle token lifetime : ℕ) (moment : DateTime) (r : ClientReads limits asks octets told at)
     (is : IsAnswered at.channel at.next id handle token lifetime moment) (one : at.renewals ≡ id ∷ []) (fresh : is_in token at.tokens ≡ false) where
   p : Opening
   p = answer at.channel at.next id handle token lifetime moment is
@@ -606,7 +606,7 @@ module _ (limits : Limits) (asks : List Placed) (octets : List ℕ) (told : List
   p_good = rw (p_answers, r.channel_is, eq-eqb at.channel at.channel refl, fresh_here, r.follows, awaited_here) refl
 
   p_tells : client_tells (received r.frames) (Opens p) ≡ event.Renewed token ∷ []
-  p_tells = rw p_answers (ap (λ (e : Told). e ∷ []) (later_tells (responses (received r.frames).openings) (open_response_of moment handle at.channel token lifetime) at.channel r.channel_is))
+  p_tells = rw p_answers (ap (λ (e : ClientTold). e ∷ []) (later_tells (responses (received r.frames).openings) (open_response_of moment handle at.channel token lifetime) at.channel r.channel_is))
 
   g_size : frame_size g ≡ 135
   unfolding g
@@ -662,7 +662,7 @@ module _ (limits : Limits) (asks : List Placed) (octets : List ℕ) (told : List
     placed = all-weaken (λ (q : Placed). q.0 ≤ length octets) (λ (q : Placed). q.0 ≤ length (octets ++ frame_octets g)) asks (λ q le. omega (arith, le, length-append octets (frame_octets g))) r.placed;
     told_is =
         events-push (client_rules limits asks) r.frames g
-        ∙ (ap (λ (ts : List Told). ts ++ client_tells (received r.frames) (content g)) r.told_is ∙ ap (λ (ts : List Told). told ++ ts) (ap (client_tells (received r.frames)) p_carried ∙ p_tells));
+        ∙ (ap (λ (ts : List ClientTold). ts ++ client_tells (received r.frames) (content g)) r.told_is ∙ ap (λ (ts : List ClientTold). told ++ ts) (ap (client_tells (received r.frames)) p_carried ∙ p_tells));
     ack_is = ap (λ (b : Received). b.ack) later_now ∙ r.ack_is;
     large = r.large;
     sized = r.sized;

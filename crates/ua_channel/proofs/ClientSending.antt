@@ -17,13 +17,13 @@ use Rattle.ua_chunk.specs.declared.chunk.Chunk.{Chunk}
 use Rattle.ua_structures.specs.declared.secure_channel.OpenResponse.{OpenResponse}
 use Rattle.ua_channel.specs.Asks.{Asking, Placed, asked_in, next_id, pending_calls, pending_renewals}
 use Rattle.ua_channel.specs.Asks.Asking.{Call}
-use Rattle.ua_channel.specs.Client.{InPhase, IsCall, IsClosing, IsNotOpen, IsRenewal, Stands, ask_refusal, close_refusal, limits_of, phase_of, renew_refusal, rules_of}
+use Rattle.ua_channel.specs.Client.{InPhase, IsCall, IsClosing, IsNotOpen, IsRenewal, ClientStands, ask_refusal, close_refusal, client_limits, phase_of, renew_refusal, client_rules_of}
 use Rattle.ua_channel.specs.ClientAsks.{Calls, IsCalled, IsClosed, IsRenewed, JudgesBy, Renews, Talks, ask_reasons, call_lane, call_reasons, calls_at, closing_reasons, has_no_channel, is_too_large, reasons_of_call, reasons_of_renewal, renew_reasons, renewing_reasons, room_of}
 use Rattle.ua_channel.specs.ClientReads.{AtClient, ClientReads, lane_from, reasons_here, renew_reasons_here}
 use Rattle.ua_channel.specs.ClientSends.{close_frame, renewal_frame}
 use Rattle.ua_channel.specs.ClientTable.{of_ack}
 use Rattle.ua_channel.specs.ClientTokens.{channel_in, held_tokens, opened_ids, responses}
-use Rattle.ua_channel.specs.ClientTold.{Told}
+use Rattle.ua_channel.specs.ClientTold.{ClientTold}
 use Rattle.ua_channel.specs.Received.{Received, has_some, latest, listed, nothing_received, received}
 use Rattle.ua_channel.specs.declared.client.channel.ClientChannel.{ClientChannel}
 use Rattle.ua_channel.specs.declared.client.fault.AskFault.{AskFault}
@@ -173,30 +173,30 @@ module _ (place : ℕ) where
       omega (arith, ap (λ (ps : List Placed). length (pending_calls ms (asked_in ps))) (step_asked asks count), later, ap length one, length-append (pending_calls ms (asked_in asks)) (id ∷ []))
 
 -- what is judged behind calls more is what was judged of them before
-pub judged_later : (x y : ClientChannel) (asks : List Placed) (octets : List ℕ) (frames : List Frame) (rest : List ℕ) (count : ℕ) (body : List ℕ) → Stands x asks octets frames rest
-    → Stands y (asks ++ calls_at (length octets) (next_id (asked_in asks)) count) octets frames rest → ask_refusal (phase_of x) count body ≡ ask_refusal (phase_of y) 0 body
+pub judged_later : (x y : ClientChannel) (asks : List Placed) (octets : List ℕ) (frames : List Frame) (rest : List ℕ) (count : ℕ) (body : List ℕ) → ClientStands x asks octets frames rest
+    → ClientStands y (asks ++ calls_at (length octets) (next_id (asked_in asks)) count) octets frames rest → ask_refusal (phase_of x) count body ≡ ask_refusal (phase_of y) 0 body
 judged_later x y asks octets frames rest count body s t =
     let before = received frames in
     let later = asks ++ calls_at (length octets) (next_id (asked_in asks)) count in
     let none = has_no_channel before in
     let large = of_ack (λ (a : Ack). is_too_large a body) before.ack in
     let pending : length (pending_calls before.messages (asked_in asks)) + count ≡ length (pending_calls before.messages (asked_in later)) + 0 =
-    omega (arith, pending_later (length octets) before.messages count asks (sent_below (limits_of x) before (asked_in asks) (phase_of x) s.phase_is)) in
+    omega (arith, pending_later (length octets) before.messages count asks (sent_below (client_limits x) before (asked_in asks) (phase_of x) s.phase_is)) in
     let next : next_id (asked_in asks) + count ≡ next_id (asked_in later) + 0 = omega (arith, next_later (length octets) count asks) in
-    call_judged (limits_of x) before (asked_in asks) (phase_of x) count body s.phase_is
+    call_judged (client_limits x) before (asked_in asks) (phase_of x) count body s.phase_is
     ∙ (ap (λ (n : ℕ). first_reason ((NotOpen, none) ∷ reasons_of_call n (next_id (asked_in asks) + count) large)) pending
     ∙ (ap (λ (n : ℕ). first_reason ((NotOpen, none) ∷ reasons_of_call (length (pending_calls before.messages (asked_in later)) + 0) n large)) next
-    ∙ sym (call_judged (limits_of y) before (asked_in later) (phase_of y) 0 body t.phase_is)))
+    ∙ sym (call_judged (client_limits y) before (asked_in later) (phase_of y) 0 body t.phase_is)))
 
 -- ---- between two messages
 
-module _ (x : ClientChannel) (asks : List Placed) (octets : List ℕ) (frames : List Frame) (rest : List ℕ) (told : List Told) (at : AtClient) (s : Stands x asks octets frames rest) (r : ClientReads (limits_of x) asks octets told at) where
+module _ (x : ClientChannel) (asks : List Placed) (octets : List ℕ) (frames : List Frame) (rest : List ℕ) (told : List ClientTold) (at : AtClient) (s : ClientStands x asks octets frames rest) (r : ClientReads (client_limits x) asks octets told at) where
   before : Received
   before = received r.frames
 
-  in_phase : InPhase (limits_of x) (phase_of x) before (asked_in asks)
+  in_phase : InPhase (client_limits x) (phase_of x) before (asked_in asks)
   unfolding before
-  in_phase = subst (λ (fs : List Frame). InPhase (limits_of x) (phase_of x) (received fs) (asked_in asks)) (unique (rules_of x asks) octets frames r.frames rest [] Going Going s.run r.run).frames s.phase_is
+  in_phase = subst (λ (fs : List Frame). InPhase (client_limits x) (phase_of x) (received fs) (asked_in asks)) (unique (client_rules_of x asks) octets frames r.frames rest [] Going Going s.run r.run).frames s.phase_is
 
   there : has_no_channel before ≡ false
   unfolding before
@@ -226,7 +226,7 @@ module _ (x : ClientChannel) (asks : List Placed) (octets : List ℕ) (frames : 
 
   pub sends_call : (number : ℕ) (body : List ℕ) (id : ℕ) (out : List ℕ) (next : ℕ) → IsCall (phase_of x) number body id out next
       → (id ≡ next_id (asked_in asks)) × (out ≡ chunks_octets (chunks_of (lane_from at) body number id)) × (next ≡ number_after number (pieces (room_of at.ack) body))
-  sends_call number body id out next c = call_by number body id out next (call_sent (limits_of x) before (asked_in asks) (phase_of x) number body id out next in_phase c)
+  sends_call number body id out next c = call_by number body id out next (call_sent (client_limits x) before (asked_in asks) (phase_of x) number body id out next in_phase c)
 
   renewal_by : (number : ℕ) (moment : DateTime) (id : ℕ) (out : List ℕ) (next : ℕ) → IsRenewed before (asked_in asks) number moment id out next
       → (id ≡ next_id (asked_in asks)) × (out ≡ frame_octets (renewal_frame at.channel number id moment)) × (next ≡ next_number number)
@@ -234,7 +234,7 @@ module _ (x : ClientChannel) (asks : List Placed) (octets : List ℕ) (frames : 
 
   pub sends_renewal : (number : ℕ) (moment : DateTime) (id : ℕ) (out : List ℕ) (next : ℕ) → IsRenewal (phase_of x) number moment id out next
       → (id ≡ next_id (asked_in asks)) × (out ≡ frame_octets (renewal_frame at.channel number id moment)) × (next ≡ next_number number)
-  sends_renewal number moment id out next c = renewal_by number moment id out next (renewal_sent (limits_of x) before (asked_in asks) (phase_of x) number moment id out next in_phase c)
+  sends_renewal number moment id out next c = renewal_by number moment id out next (renewal_sent (client_limits x) before (asked_in asks) (phase_of x) number moment id out next in_phase c)
 
   closing_by : (number : ℕ) (moment : DateTime) (out : List ℕ) → IsClosed before (asked_in asks) number moment out → out ≡ frame_octets (close_frame at.channel at.newest number (next_id (asked_in asks)) moment)
   closing_by number moment out c =
@@ -243,7 +243,7 @@ module _ (x : ClientChannel) (asks : List Placed) (octets : List ℕ) (frames : 
       ∙ ap (λ (n : ℕ). frame_octets (close_frame at.channel n number (next_id (asked_in asks)) moment)) (same_newest c.newest c.newest_is))
 
   pub sends_closing : (number : ℕ) (moment : DateTime) (out : List ℕ) → IsClosing (phase_of x) number moment out → out ≡ frame_octets (close_frame at.channel at.newest number (next_id (asked_in asks)) moment)
-  sends_closing number moment out c = closing_by number moment out (close_sent (limits_of x) before (asked_in asks) (phase_of x) number moment out in_phase c)
+  sends_closing number moment out c = closing_by number moment out (close_sent (client_limits x) before (asked_in asks) (phase_of x) number moment out in_phase c)
 
   same_reasons : (more : ℕ) (body : List ℕ) → first_reason (call_reasons before (asked_in asks) more body) ≡ first_reason (reasons_here at (asked_in asks) more body)
   unfolding before
@@ -253,7 +253,7 @@ module _ (x : ClientChannel) (asks : List Placed) (octets : List ℕ) (frames : 
       ∙ ap (λ (b : Bool). first_reason (reasons_of_call (length at.pending + more) (next_id (asked_in asks) + more) b)) (ap (of_ack (λ (a : Ack). is_too_large a body)) r.ack_is))
 
   pub refuses_call : (more : ℕ) (body : List ℕ) → ask_refusal (phase_of x) more body ≡ first_reason (reasons_here at (asked_in asks) more body)
-  refuses_call more body = call_judged (limits_of x) before (asked_in asks) (phase_of x) more body in_phase ∙ same_reasons more body
+  refuses_call more body = call_judged (client_limits x) before (asked_in asks) (phase_of x) more body in_phase ∙ same_reasons more body
 
   same_renew_reasons : first_reason (renewing_reasons before (asked_in asks)) ≡ first_reason (renew_reasons_here at (asked_in asks))
   unfolding before
@@ -263,10 +263,10 @@ module _ (x : ClientChannel) (asks : List Placed) (octets : List ℕ) (frames : 
       ∙ ap (λ (ns : List ℕ). first_reason (reasons_of_renewal (has_some at.renewals) (length ns) (next_id (asked_in asks)))) r.tokens_are)
 
   pub refuses_renewal : renew_refusal (phase_of x) ≡ first_reason (renew_reasons_here at (asked_in asks))
-  refuses_renewal = renewal_judged (limits_of x) before (asked_in asks) (phase_of x) in_phase ∙ same_renew_reasons
+  refuses_renewal = renewal_judged (client_limits x) before (asked_in asks) (phase_of x) in_phase ∙ same_renew_reasons
 
   pub closes_here : close_refusal (phase_of x) ≡ None
-  closes_here = close_judged (limits_of x) before (asked_in asks) (phase_of x) in_phase ∙ first_skip NotOpen (has_no_channel before) [] there
+  closes_here = close_judged (client_limits x) before (asked_in asks) (phase_of x) in_phase ∙ first_skip NotOpen (has_no_channel before) [] there
 
 -- ---- what the calls of a channel answer
 
@@ -276,34 +276,34 @@ none_open (Agreed a) shut = tt
 none_open (Open t) shut = shut t refl
 none_open Done shut = tt
 
-module _ (x : ClientChannel) (asks : List Placed) (octets : List ℕ) (frames : List Frame) (rest : List ℕ) (s : Stands x asks octets frames rest) where
+module _ (x : ClientChannel) (asks : List Placed) (octets : List ℕ) (frames : List Frame) (rest : List ℕ) (s : ClientStands x asks octets frames rest) where
   -- where no channel is open
   module _ (shut : (t : Talking) → phase_of x ≡ Open t → ⊥) where
     pub call_closed : (more : ℕ) (body : List ℕ) → first_reason (call_reasons (received frames) (asked_in asks) more body) ≡ Some NotOpen
-    call_closed more body = sym (call_judged (limits_of x) (received frames) (asked_in asks) (phase_of x) more body s.phase_is) ∙ asks_nothing (phase_of x) more body (none_open (phase_of x) shut)
+    call_closed more body = sym (call_judged (client_limits x) (received frames) (asked_in asks) (phase_of x) more body s.phase_is) ∙ asks_nothing (phase_of x) more body (none_open (phase_of x) shut)
 
     pub renewal_closed : first_reason (renewing_reasons (received frames) (asked_in asks)) ≡ Some NotOpen
-    renewal_closed = sym (renewal_judged (limits_of x) (received frames) (asked_in asks) (phase_of x) s.phase_is) ∙ renews_nothing (phase_of x) (none_open (phase_of x) shut)
+    renewal_closed = sym (renewal_judged (client_limits x) (received frames) (asked_in asks) (phase_of x) s.phase_is) ∙ renews_nothing (phase_of x) (none_open (phase_of x) shut)
 
     pub close_closed : first_reason (closing_reasons (received frames)) ≡ Some NotOpen
-    close_closed = sym (close_judged (limits_of x) (received frames) (asked_in asks) (phase_of x) s.phase_is) ∙ (closes_nothing (phase_of x)).0 (none_open (phase_of x) shut)
+    close_closed = sym (close_judged (client_limits x) (received frames) (asked_in asks) (phase_of x) s.phase_is) ∙ (closes_nothing (phase_of x)).0 (none_open (phase_of x) shut)
 
   -- where one is
   module _ (t : Talking) (is : phase_of x ≡ Open t) where
-    at_open : Talks (limits_of x) t (received frames) (asked_in asks)
+    at_open : Talks (client_limits x) t (received frames) (asked_in asks)
     at_open = talks_at x x t t asks octets frames rest is s
 
     pub call_at : (more : ℕ) (body : List ℕ) → first_reason (ask_reasons t more body) ≡ first_reason (call_reasons (received frames) (asked_in asks) more body)
-    call_at more body = call_judged (limits_of x) (received frames) (asked_in asks) (Open t) more body at_open
+    call_at more body = call_judged (client_limits x) (received frames) (asked_in asks) (Open t) more body at_open
 
     pub called_at : (number : ℕ) (body : List ℕ) (id : ℕ) (out : List ℕ) (next : ℕ) → Calls t number body id out next → IsCalled (received frames) (asked_in asks) number body id out next
-    called_at number body id out next c = call_sent (limits_of x) (received frames) (asked_in asks) (Open t) number body id out next at_open c
+    called_at number body id out next c = call_sent (client_limits x) (received frames) (asked_in asks) (Open t) number body id out next at_open c
 
     pub renewal_at : first_reason (renew_reasons t) ≡ first_reason (renewing_reasons (received frames) (asked_in asks))
-    renewal_at = renewal_judged (limits_of x) (received frames) (asked_in asks) (Open t) at_open
+    renewal_at = renewal_judged (client_limits x) (received frames) (asked_in asks) (Open t) at_open
 
     pub renewed_at : (number : ℕ) (moment : DateTime) (id : ℕ) (out : List ℕ) (next : ℕ) → Renews t number moment id out next → IsRenewed (received frames) (asked_in asks) number moment id out next
-    renewed_at number moment id out next c = renewal_sent (limits_of x) (received frames) (asked_in asks) (Open t) number moment id out next at_open c
+    renewed_at number moment id out next c = renewal_sent (client_limits x) (received frames) (asked_in asks) (Open t) number moment id out next at_open c
 
 -- what is judged of a length, for another reason that is the same
 pub judges_as : (f g : List ℕ → Option AskFault) (len : ℕ) (r : Result (Unit {0}) AskFault) → ((body : List ℕ) → f body ≡ g body) → JudgesBy f len r → JudgesBy g len r

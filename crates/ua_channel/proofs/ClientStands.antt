@@ -12,7 +12,7 @@ use Rattle.ua_chunk.specs.Assembling.{octet_limit}
 use Rattle.ua_chunk.specs.Open.{open_octets}
 use Rattle.ua_frame.proofs.Streams.{run_nil}
 use Rattle.ua_channel.specs.Asks.{Asking, Placed, asked_in}
-use Rattle.ua_channel.specs.Client.{Stands, InPhase, limits_of, bound_behind, held_octets}
+use Rattle.ua_channel.specs.Client.{ClientStands, InPhase, client_limits, client_bound_behind, held_octets}
 use Rattle.ua_channel.specs.ClientAsks.{Talks}
 use Rattle.ua_channel.specs.inside.ClientAsking.{AsBefore}
 use Rattle.ua_channel.specs.ClientTable.{client_gate, client_rules, client_gate_behind, gate_agreed, reply_gate, ack_gate}
@@ -34,40 +34,40 @@ no_asks : asked_in [] ≡ []
 unfolding asked_in
 no_asks = refl
 
-pub stands_first : (x : ClientChannel) (gate : Gate) → x.reader ≡ open_reader gate [] → gate ≡ ack_gate → x.phase ≡ Waiting → x.bound ≡ 8192 → Stands x [] [] [] []
+pub stands_first : (x : ClientChannel) (gate : Gate) → x.reader ≡ open_reader gate [] → gate ≡ ack_gate → x.phase ≡ Waiting → x.bound ≡ 8192 → ClientStands x [] [] [] []
 stands_first x gate reader is phase bound = record {
-  run = run_nil (client_rules (limits_of x) []) refl;
+  run = run_nil (client_rules (client_limits x) []) refl;
   placed = tt;
   reader_is = reader ∙ ap (λ (g : Gate). open_reader g []) (is ∙ sym (ap client_gate received-nil));
-  phase_is = subst (λ (p : Phase). InPhase (limits_of x) p (received []) (asked_in [])) (sym phase) (received-nil, no_asks);
-  bound_is = bound ∙ sym (ap (λ (b : Received). bound_behind (limits_of x) b.ack) received-nil);
+  phase_is = subst (λ (p : Phase). InPhase (client_limits x) p (received []) (asked_in [])) (sym phase) (received-nil, no_asks);
+  bound_is = bound ∙ sym (ap (λ (b : Received). client_bound_behind (client_limits x) b.ack) received-nil);
 }
 
 -- ---- an open channel that is asked
 
-module _ (x y : ClientChannel) (t u : Talking) (asks : List Placed) (octets : List ℕ) (frames : List Frame) (rest : List ℕ) (was : x.phase ≡ Open t) (h : Stands x asks octets frames rest) where
-  pub talks_at : Talks (limits_of x) t (received frames) (asked_in asks)
-  talks_at = subst (λ (p : Phase). InPhase (limits_of x) p (received frames) (asked_in asks)) was h.phase_is
+module _ (x y : ClientChannel) (t u : Talking) (asks : List Placed) (octets : List ℕ) (frames : List Frame) (rest : List ℕ) (was : x.phase ≡ Open t) (h : ClientStands x asks octets frames rest) where
+  pub talks_at : Talks (client_limits x) t (received frames) (asked_in asks)
+  talks_at = subst (λ (p : Phase). InPhase (client_limits x) p (received frames) (asked_in asks)) was h.phase_is
 
   -- with one ask more at this place
-  pub stands_asked : (a : Asking) → y ≡ record x { phase = Open u; numbers = y.numbers } → Talks (limits_of x) u (received frames) (asked_in asks ++ a ∷ []) → Stands y (asks ++ (length octets, a) ∷ []) octets frames rest
+  pub stands_asked : (a : Asking) → y ≡ record x { phase = Open u; numbers = y.numbers } → Talks (client_limits x) u (received frames) (asked_in asks ++ a ∷ []) → ClientStands y (asks ++ (length octets, a) ∷ []) octets frames rest
   stands_asked a is talks =
-      subst (λ (z : ClientChannel). Stands z (asks ++ (length octets, a) ∷ []) octets frames rest) (sym is) (record {
-        run = asked_later (limits_of x) asks (length octets, a) octets frames rest (omega arith) h.run;
+      subst (λ (z : ClientChannel). ClientStands z (asks ++ (length octets, a) ∷ []) octets frames rest) (sym is) (record {
+        run = asked_later (client_limits x) asks (length octets, a) octets frames rest (omega arith) h.run;
         placed = all-push (λ (b : Placed). b.0 ≤ length octets) asks (length octets, a) h.placed (omega arith);
         reader_is = h.reader_is;
-        phase_is = subst (λ (asked : List Asking). Talks (limits_of x) u (received frames) asked) (sym (asked_in-push asks (length octets, a))) talks;
+        phase_is = subst (λ (asked : List Asking). Talks (client_limits x) u (received frames) asked) (sym (asked_in-push asks (length octets, a))) talks;
         bound_is = h.bound_is;
       })
 
   -- where nothing but the room of the list of pending calls changed
-  pub stands_kept : y ≡ record x { phase = Open u; numbers = y.numbers } → AsBefore t u → Stands y asks octets frames rest
+  pub stands_kept : y ≡ record x { phase = Open u; numbers = y.numbers } → AsBefore t u → ClientStands y asks octets frames rest
   stands_kept is same =
-      subst (λ (z : ClientChannel). Stands z asks octets frames rest) (sym is) (record {
+      subst (λ (z : ClientChannel). ClientStands z asks octets frames rest) (sym is) (record {
         run = h.run;
         placed = h.placed;
         reader_is = h.reader_is;
-        phase_is = talks_as_before (limits_of x) t u (received frames) (asked_in asks) talks_at same;
+        phase_is = talks_as_before (client_limits x) t u (received frames) (asked_in asks) talks_at same;
         bound_is = h.bound_is;
       })
 
@@ -81,15 +81,15 @@ pub gate_talking : (limits : Limits) (t : Talking) (before : Received) (asked : 
 gate_talking limits t before asked h =
     ap (λ (o : Option Ack). client_gate_behind o (responses before.openings)) h.ack_is ∙ gate_some t.agreed.ack.send_buffer_size t.channel (responses before.openings) h.channel_is
 
-pub held_open : (x : ClientChannel) (t : Talking) (asks : List Placed) (octets : List ℕ) (frames : List Frame) (rest : List ℕ) (n m sum : ℕ) → x.phase ≡ Open t → Stands x asks octets frames rest
+pub held_open : (x : ClientChannel) (t : Talking) (asks : List Placed) (octets : List ℕ) (frames : List Frame) (rest : List ℕ) (n m sum : ℕ) → x.phase ≡ Open t → ClientStands x asks octets frames rest
     → n ≡ length x.reader.held → n < max 8 x.reader.gate.largest → ((cs : List Chunk) → assembling.Stands t.assembler cs → m ≡ open_octets cs)
     → ((cs : List Chunk) → assembling.Stands t.assembler cs → 0 < octet_limit t.assembler → m ≤ 4 * octet_limit t.assembler) → x.bound < 18446744073709551616 → sum ≡ min (n + m) 18446744073709551615
     → (sum ≡ held_octets frames rest) × (sum ≤ x.bound)
 held_open x t asks octets frames rest n m sum was h count small held bound fits sum_is =
-    let talks : Talks (limits_of x) t (received frames) (asked_in asks) = talks_at x x t t asks octets frames rest was h in
+    let talks : Talks (client_limits x) t (received frames) (asked_in asks) = talks_at x x t t asks octets frames rest was h in
     let gate : x.reader.gate.largest ≡ t.agreed.ack.send_buffer_size =
-    ap (λ (r : Reader). r.gate.largest) h.reader_is ∙ ap (λ (g : Gate). g.largest) (gate_talking (limits_of x) t (received frames) (asked_in asks) talks) in
-    let whole : x.bound ≡ t.agreed.ack.send_buffer_size + 4 * x.limits.max_message_size = h.bound_is ∙ ap (bound_behind (limits_of x)) talks.ack_is in
+    ap (λ (r : Reader). r.gate.largest) h.reader_is ∙ ap (λ (g : Gate). g.largest) (gate_talking (client_limits x) t (received frames) (asked_in asks) talks) in
+    let whole : x.bound ≡ t.agreed.ack.send_buffer_size + 4 * x.limits.max_message_size = h.bound_is ∙ ap (client_bound_behind (client_limits x)) talks.ack_is in
     let octets_is : m ≡ open_octets (received frames).messages = held (received frames).messages talks.assembles in
     let within : m ≤ 4 * octet_limit t.assembler = bound (received frames).messages talks.assembles (omega (arith, talks.octets, x.limits.takes_octets)) in
     let count_is : n ≡ length rest = count ∙ ap (λ (r : Reader). length r.held) h.reader_is in

@@ -29,7 +29,7 @@ use Rattle.ua_channel.specs.Asks.{Asking, Placed, asked_before, asked_in, end_of
 use Rattle.ua_channel.specs.inside.ClientParts.{why_of}
 use Rattle.ua_channel.specs.ClientTable.{client_gate, client_reasons, client_rules, client_gate_behind, is_other, reply_gate}
 use Rattle.ua_channel.specs.ClientTokens.{channel_in, from_last, held_tokens, responses, tokens_of}
-use Rattle.ua_channel.specs.ClientTold.{Told, client_tells, ours, told_item}
+use Rattle.ua_channel.specs.ClientTold.{ClientTold, client_tells, ours, told_item}
 use Rattle.ua_channel.specs.Content.{Content, content}
 use Rattle.ua_channel.specs.Content.Content.{Sends}
 use Rattle.ua_channel.specs.Received.{Received, after, received}
@@ -151,6 +151,6 @@ told_chunks limits asks size lane id (c ∷ cs) fs sent =
     let now : client_tells (received fs) (content (frame_of c)) ≡ map told_item (given (received fs).messages c) = ap (client_tells (received fs)) (chunk_carried c sent.0.numbers) in
     let later = told_chunks limits asks size lane id cs (fs ++ frame_of c ∷ []) sent.1 in
     let messages : (received (fs ++ frame_of c ∷ [])).messages ≡ (received fs).messages ++ c ∷ [] = ap (λ (b : Received). b.messages) (one_more fs c sent.0.numbers) in
-    ap (λ (ts : List Told). ts ++ each_from (client_rules limits asks).tells (fs ++ frame_of c ∷ []) (map frame_of cs)) now
-    ∙ (ap (λ (ts : List Told). map told_item (given (received fs).messages c) ++ ts) (later ∙ ap (λ (us : List Chunk). map told_item (delivered_behind us cs)) messages)
+    ap (λ (ts : List ClientTold). ts ++ each_from (client_rules limits asks).tells (fs ++ frame_of c ∷ []) (map frame_of cs)) now
+    ∙ (ap (λ (ts : List ClientTold). map told_item (given (received fs).messages c) ++ ts) (later ∙ ap (λ (us : List Chunk). map told_item (delivered_behind us cs)) messages)
     ∙ sym (map_push told_item (given (received fs).messages c) (delivered_behind ((received fs).messages ++ c ∷ []) cs)))

@@ -24,7 +24,7 @@ use Rattle.ua_channel.specs.inside.Parts.{MayEndIn}
 use Rattle.ua_channel.specs.inside.ClientParts.{event_parts, why_of, IsStopFor, Judged, IsOpenedBy, TellsRenewal, TakesFrame, IsGood, told_by_frame, IsAnswerOf, IsOpenedWith, IsRenewedWith, IsTakenWith, answer_reasons, first_reasons, renewal_reasons, chunk_reasons, greeted, left_pending}
 use Rattle.ua_channel.specs.ClientTable.{client_reasons, is_awaited}
 use Rattle.ua_channel.specs.ClientTokens.{answer_in, response_listed, id_listed, responses, opened_ids, channel_in, tokens_of, from_last, held_by, held_tokens}
-use Rattle.ua_channel.specs.ClientTold.{Told, Told as told, ours, client_tells, told_response}
+use Rattle.ua_channel.specs.ClientTold.{ClientTold, ClientTold as told, ours, client_tells, told_response}
 use Rattle.ua_channel.specs.Content.{Opening, Content, content, opening_of}
 use Rattle.ua_channel.specs.Content.Content.{Opens, Sends}
 use Rattle.ua_channel.specs.Received.{Received, after, listed, latest, number_or}
@@ -146,7 +146,7 @@ module _ (limits : Limits) (t : Talking) (before : Received) (asked : List Askin
 
   module _ (new : Talking) (o : Opening) (n : IsRenewedWith t a before.messages new) (ans : IsAnswerOf o a) where
     pub renewed_tells : client_tells before (Opens o) ≡ told.Renewed a.token ∷ []
-    renewed_tells = rw ans.answer_is (ap (λ (e : Told). e ∷ []) (later_tells (responses before.openings) ans.response t.channel h.channel_is ∙ ap (λ (k : ℕ). told.Renewed k) ans.token_is))
+    renewed_tells = rw ans.answer_is (ap (λ (e : ClientTold). e ∷ []) (later_tells (responses before.openings) ans.response t.channel h.channel_is ∙ ap (λ (k : ℕ). told.Renewed k) ans.token_is))
 
     more_responses : responses (before.openings ++ o ∷ []) ≡ responses before.openings ++ ans.response ∷ []
     more_responses = responses-push before.openings o ans.response ans.answer_is

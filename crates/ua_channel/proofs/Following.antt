@@ -6,9 +6,9 @@ use Rattle.ua_frame.specs.Run.{End, Going, Over, Stopped, Rules, Run, events}
 use Rattle.ua_frame.proofs.Ends.{ends_stay}
 use Rattle.ua_frame.proofs.Unique.{unique}
 use Rattle.ua_channel.specs.Asks.{Placed}
-use Rattle.ua_channel.specs.Client as client
+use Rattle.ua_channel.specs.Client.{client_limits, client_rules_of, ClientEnded, ClientGoes}
 use Rattle.ua_channel.specs.ClientReads.{AtClient, ClientReads}
-use Rattle.ua_channel.specs.ClientTold.{Told as ClientTold, Why}
+use Rattle.ua_channel.specs.ClientTold.{ClientTold, Why}
 use Rattle.ua_channel.specs.ServerReads.{AtServer, ServerCloses, ServerReads}
 use Rattle.ua_channel.specs.ServerStands.{Ended, Goes, RefusedAt, channel_of, limits_of, rules_of}
 use Rattle.ua_channel.specs.ServerTold.{Told}
@@ -80,16 +80,16 @@ server_not_open x octets told all g r =
 
 -- ---- a client
 
-client_hears : (x : ClientChannel) (asks : List Placed) (octets : List ℕ) (all : List ClientTold) (at : AtClient) → ClientReads (client.limits_of x) asks octets all at → Hears (client.rules_of x asks) octets all Going
+client_hears : (x : ClientChannel) (asks : List Placed) (octets : List ℕ) (all : List ClientTold) (at : AtClient) → ClientReads (client_limits x) asks octets all at → Hears (client_rules_of x asks) octets all Going
 client_hears x asks octets all at r = record { frames = r.frames; run = r.run; told_is = r.told_is }
 
-pub client_begins : (x : ClientChannel) (asks : List Placed) (octets more : List ℕ) (told all : List ClientTold) (at : AtClient) → client.Goes x asks octets told → ClientReads (client.limits_of x) asks (octets ++ more) all at
+pub client_begins : (x : ClientChannel) (asks : List Placed) (octets more : List ℕ) (told all : List ClientTold) (at : AtClient) → ClientGoes x asks octets told → ClientReads (client_limits x) asks (octets ++ more) all at
     → (later : List ClientTold) × (all ≡ told ++ later)
-client_begins x asks octets more told all at g r = begins (client.rules_of x asks) octets more g.frames g.rest told all Going g.stands.run g.told_is (client_hears x asks (octets ++ more) all at r)
+client_begins x asks octets more told all at g r = begins (client_rules_of x asks) octets more g.frames g.rest told all Going g.stands.run g.told_is (client_hears x asks (octets ++ more) all at r)
 
-pub client_told : (x : ClientChannel) (asks : List Placed) (octets : List ℕ) (told all : List ClientTold) (at : AtClient) → client.Goes x asks octets told → ClientReads (client.limits_of x) asks octets all at → told ≡ all
+pub client_told : (x : ClientChannel) (asks : List Placed) (octets : List ℕ) (told all : List ClientTold) (at : AtClient) → ClientGoes x asks octets told → ClientReads (client_limits x) asks octets all at → told ≡ all
 client_told x asks octets told all at g r =
-    sym g.told_is ∙ (ap (events (client.rules_of x asks)) (unique (client.rules_of x asks) octets g.frames r.frames g.rest [] Going Going g.stands.run r.run).frames ∙ r.told_is)
+    sym g.told_is ∙ (ap (events (client_rules_of x asks)) (unique (client_rules_of x asks) octets g.frames r.frames g.rest [] Going Going g.stands.run r.run).frames ∙ r.told_is)
 
-pub client_not_failed : (x : ClientChannel) (asks : List Placed) (octets more : List ℕ) (told all : List ClientTold) (at : AtClient) (why : Why) → client.Ended x asks octets told why → ClientReads (client.limits_of x) asks (octets ++ more) all at → ⊥
-client_not_failed x asks octets more told all at why e r = never_refused (client.rules_of x asks) octets more e.frames r.frames e.rest why Going (λ s. cc) e.run r.run
+pub client_not_failed : (x : ClientChannel) (asks : List Placed) (octets more : List ℕ) (told all : List ClientTold) (at : AtClient) (why : Why) → ClientEnded x asks octets told why → ClientReads (client_limits x) asks (octets ++ more) all at → ⊥
+client_not_failed x asks octets more told all at why e r = never_refused (client_rules_of x asks) octets more e.frames r.frames e.rest why Going (λ s. cc) e.run r.run

@@ -6,9 +6,9 @@ use Rattle.ua_frame.specs.Run.{End, Going, Over, Stopped, Rules, Run, events}
 use Rattle.ua_frame.proofs.Ends.{ends_stay}
 use Rattle.ua_frame.proofs.Unique.{unique}
 use Rattle.ua_channel.specs.Asks.{Placed}
-use Rattle.ua_channel.specs.Client as client
+use Rattle.ua_channel.specs.Client.{client_limits, client_rules_of, ClientEnded, ClientGoes}
 use Rattle.ua_channel.specs.ClientTable.{client_rules}
-use Rattle.ua_channel.specs.ClientTold.{Told as ClientTold, Why}
+use Rattle.ua_channel.specs.ClientTold.{ClientTold, Why}
 use Rattle.ua_channel.specs.Merges.{ClientReadsMerged, ServerReadsMerged}
 use Rattle.ua_channel.specs.ServerRules.{server_rules}
 use Rattle.ua_channel.specs.ServerStands.{Ended, Goes, RefusedAt, channel_of, limits_of, rules_of}
@@ -77,17 +77,17 @@ client_events : (limits : Limits) (asks : List Placed) (octets : List ℕ) (told
     → events (client_rules limits asks) (r.before ++ r.more) ≡ told
 client_events limits asks octets told r = back.tells_merged limits asks r.before r.more r.messages r.merged ∙ r.told_is
 
-pub client_begins : (x : ClientChannel) (asks : List Placed) (octets more : List ℕ) (told all : List ClientTold) → client.Goes x asks octets told
-    → ClientReadsMerged (client.limits_of x) asks (octets ++ more) all → (later : List ClientTold) × (all ≡ told ++ later)
+pub client_begins : (x : ClientChannel) (asks : List Placed) (octets more : List ℕ) (told all : List ClientTold) → ClientGoes x asks octets told
+    → ClientReadsMerged (client_limits x) asks (octets ++ more) all → (later : List ClientTold) × (all ≡ told ++ later)
 client_begins x asks octets more told all g r =
-    begins (client.rules_of x asks) octets more g.frames (r.before ++ r.more) g.rest told all g.stands.run g.told_is (client_run (client.limits_of x) asks (octets ++ more) all r) (client_events (client.limits_of x) asks (octets ++ more) all r)
+    begins (client_rules_of x asks) octets more g.frames (r.before ++ r.more) g.rest told all g.stands.run g.told_is (client_run (client_limits x) asks (octets ++ more) all r) (client_events (client_limits x) asks (octets ++ more) all r)
 
-pub client_told : (x : ClientChannel) (asks : List Placed) (octets : List ℕ) (told all : List ClientTold) → client.Goes x asks octets told → ClientReadsMerged (client.limits_of x) asks octets all
+pub client_told : (x : ClientChannel) (asks : List Placed) (octets : List ℕ) (told all : List ClientTold) → ClientGoes x asks octets told → ClientReadsMerged (client_limits x) asks octets all
     → told ≡ all
 client_told x asks octets told all g r =
-    same_told (client.rules_of x asks) octets g.frames (r.before ++ r.more) g.rest [] told all g.stands.run (client_run (client.limits_of x) asks octets all r) g.told_is (client_events (client.limits_of x) asks octets all r)
+    same_told (client_rules_of x asks) octets g.frames (r.before ++ r.more) g.rest [] told all g.stands.run (client_run (client_limits x) asks octets all r) g.told_is (client_events (client_limits x) asks octets all r)
 
-pub client_not_failed : (x : ClientChannel) (asks : List Placed) (octets more : List ℕ) (told all : List ClientTold) (why : Why) → client.Ended x asks octets told why
-    → ClientReadsMerged (client.limits_of x) asks (octets ++ more) all → ⊥
+pub client_not_failed : (x : ClientChannel) (asks : List Placed) (octets more : List ℕ) (told all : List ClientTold) (why : Why) → ClientEnded x asks octets told why
+    → ClientReadsMerged (client_limits x) asks (octets ++ more) all → ⊥
 client_not_failed x asks octets more told all why e r =
-    never_refused (client.rules_of x asks) octets more e.frames (r.before ++ r.more) e.rest why Going (λ s. cc) e.run (client_run (client.limits_of x) asks (octets ++ more) all r)
+    never_refused (client_rules_of x asks) octets more e.frames (r.before ++ r.more) e.rest why Going (λ s. cc) e.run (client_run (client_limits x) asks (octets ++ more) all r)

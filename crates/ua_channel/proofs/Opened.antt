@@ -4,7 +4,7 @@ use Rattle.ua_frame.specs.declared.frame.Frame.{Frame}
 use Rattle.ua_frame.specs.declared.limits.Limits.{Limits}
 use Rattle.ua_structures.specs.declared.secure_channel.OpenResponse.{OpenResponse}
 use Rattle.ua_channel.specs.Asks.{Asking, Placed, asked_in}
-use Rattle.ua_channel.specs.Client as client
+use Rattle.ua_channel.specs.Client.{ask_refusal, client_limits, ClientStands, close_refusal, InPhase, IsClientDone, IsNotOpen, phase_of, renew_refusal}
 use Rattle.ua_channel.specs.ClientTokens.{channel_in, responses}
 use Rattle.ua_channel.specs.Content.{Opening, content}
 use Rattle.ua_channel.specs.Content.Content.{Sends}
@@ -58,32 +58,32 @@ no_channel : (rs : List OpenResponse) (n : ℕ) → channel_in rs ≡ Some n →
 no_channel [] n e none = absurd cc
 no_channel (r ∷ rs) n e none = absurd cc
 
-client_phase : (limits : Limits) (p : ClientPhase) (before : Received) (asked : List Asking) → client.InPhase limits p before asked → client.IsNotOpen p ↔ (responses before.openings ≡ [])
+client_phase : (limits : Limits) (p : ClientPhase) (before : Received) (asked : List Asking) → InPhase limits p before asked → IsNotOpen p ↔ (responses before.openings ≡ [])
 unfolding responses
 client_phase limits asking.Waiting before asked h = (λ t. ap (λ (b : Received). responses b.openings) h.0, λ e. tt)
 client_phase limits (asking.Agreed a) before asked h = (λ t. ap (λ (b : Received). responses b.openings) h.0, λ e. tt)
 client_phase limits (asking.Open t) before asked h = (λ n. absurd n, λ e. no_channel (responses before.openings) t.channel h.channel_is e)
 client_phase limits asking.Done before asked h = absurd h
 
-pub client_open : (x : ClientChannel) (asks : List Placed) (octets : List ℕ) (frames : List Frame) (rest : List ℕ) → client.Stands x asks octets frames rest → client.IsNotOpen (client.phase_of x) ↔ (responses (received frames).openings ≡ [])
-client_open x asks octets frames rest s = client_phase (client.limits_of x) (client.phase_of x) (received frames) (asked_in asks) s.phase_is
+pub client_open : (x : ClientChannel) (asks : List Placed) (octets : List ℕ) (frames : List Frame) (rest : List ℕ) → ClientStands x asks octets frames rest → IsNotOpen (phase_of x) ↔ (responses (received frames).openings ≡ [])
+client_open x asks octets frames rest s = client_phase (client_limits x) (phase_of x) (received frames) (asked_in asks) s.phase_is
 
-pub client_done : (x : ClientChannel) → client.IsDone x → client.IsNotOpen (client.phase_of x)
-client_done x d = subst client.IsNotOpen (sym d.phase) tt
+pub client_done : (x : ClientChannel) → IsClientDone x → IsNotOpen (phase_of x)
+client_done x d = subst IsNotOpen (sym d.phase) tt
 
-pub asks_nothing : (p : ClientPhase) (more : ℕ) (body : List ℕ) → client.IsNotOpen p → client.ask_refusal p more body ≡ Some NotOpen
+pub asks_nothing : (p : ClientPhase) (more : ℕ) (body : List ℕ) → IsNotOpen p → ask_refusal p more body ≡ Some NotOpen
 asks_nothing asking.Waiting more body n = refl
 asks_nothing (asking.Agreed a) more body n = refl
 asks_nothing (asking.Open t) more body n = absurd n
 asks_nothing asking.Done more body n = refl
 
-pub renews_nothing : (p : ClientPhase) → client.IsNotOpen p → client.renew_refusal p ≡ Some NotOpen
+pub renews_nothing : (p : ClientPhase) → IsNotOpen p → renew_refusal p ≡ Some NotOpen
 renews_nothing asking.Waiting n = refl
 renews_nothing (asking.Agreed a) n = refl
 renews_nothing (asking.Open t) n = absurd n
 renews_nothing asking.Done n = refl
 
-pub closes_nothing : (p : ClientPhase) → client.IsNotOpen p ↔ (client.close_refusal p ≡ Some NotOpen)
+pub closes_nothing : (p : ClientPhase) → IsNotOpen p ↔ (close_refusal p ≡ Some NotOpen)
 closes_nothing asking.Waiting = (λ n. refl, λ e. tt)
 closes_nothing (asking.Agreed a) = (λ n. refl, λ e. tt)
 closes_nothing (asking.Open t) = (λ n. absurd n, λ e. absurd cc)

@@ -27,8 +27,8 @@ use Rattle.ua_channel.specs.Asks.{Asking, Placed, asked_before, asked_in, calls,
 use Rattle.ua_channel.specs.Asks.Asking.{Call, Renewal}
 use Rattle.ua_channel.specs.ClientTable.{client_reasons, client_rules}
 use Rattle.ua_channel.specs.ClientTokens.{answer_in, response_listed, responses}
-use Rattle.ua_channel.specs.ClientTold.{Told, client_tells, told_ack, told_item, told_response}
-use Rattle.ua_channel.specs.ClientTold.Told.{Answered, GaveUp}
+use Rattle.ua_channel.specs.ClientTold.{ClientTold, client_tells, told_ack, told_item, told_response}
+use Rattle.ua_channel.specs.ClientTold.ClientTold.{Answered, GaveUp}
 use Rattle.ua_channel.specs.Content.{Content, content}
 use Rattle.ua_channel.specs.Content.Content.{Greets, Acks, Fails, Opens, Sends, Closes, Nothing}
 use Rattle.ua_channel.specs.Paired.{as_list, delivered_under, first, paired, told_of_calls, with_all, with_first}
@@ -40,8 +40,8 @@ use Rattle.ua_channel.proofs.OneFrameMore.{received-push, received-nil}
 
 items_told : (items : List Item) → told_of_calls (map told_item items) ≡ map told_item items
 items_told [] = refl
-items_told (Whole id octets ∷ is) = ap (λ (ts : List Told). Answered id octets ∷ ts) (items_told is)
-items_told (Aborted id code reason ∷ is) = ap (λ (ts : List Told). GaveUp id code ∷ ts) (items_told is)
+items_told (Whole id octets ∷ is) = ap (λ (ts : List ClientTold). Answered id octets ∷ ts) (items_told is)
+items_told (Aborted id code reason ∷ is) = ap (λ (ts : List ClientTold). GaveUp id code ∷ ts) (items_told is)
 
 ack_told : (o : Option Ack) → told_of_calls (told_ack o) ≡ []
 ack_told None = refl
@@ -52,8 +52,8 @@ responses_told before [] = refl
 responses_told [] (r ∷ rs) = responses_told [] rs
 responses_told (q ∷ qs) (r ∷ rs) = responses_told (q ∷ qs) rs
 
-nothing_more : (told more : List Told) → more ≡ [] → told ++ more ≡ told
-nothing_more told more e = ap (λ (ts : List Told). told ++ ts) e ∙ append-nil told
+nothing_more : (told more : List ClientTold) → more ≡ [] → told ++ more ≡ told
+nothing_more told more e = ap (λ (ts : List ClientTold). told ++ ts) e ∙ append-nil told
 
 frame_told : (before : Received) (c : Content) → map told_item (delivered before.messages) ++ told_of_calls (client_tells before c) ≡ map told_item (delivered (after before c).messages)
 frame_told before (Greets hello) = append-nil (map told_item (delivered before.messages))
@@ -63,13 +63,13 @@ frame_told before (Opens o) =
     nothing_more (map told_item (delivered before.messages)) (told_of_calls (map (told_response (responses before.openings)) (response_listed (answer_in o))))
     (responses_told (responses before.openings) (response_listed (answer_in o)))
 frame_told before (Sends c) =
-    ap (λ (ts : List Told). map told_item (delivered before.messages) ++ ts) (items_told (given before.messages c))
+    ap (λ (ts : List ClientTold). map told_item (delivered before.messages) ++ ts) (items_told (given before.messages c))
     ∙ (sym (map-append told_item (delivered before.messages) (given before.messages c))
     ∙ ap (map told_item) (sym (delivered_push before.messages c)))
 frame_told before (Closes c) = append-nil (map told_item (delivered before.messages))
 frame_told before Nothing = append-nil (map told_item (delivered before.messages))
 
-told_append : (told more : List Told) → told_of_calls (told ++ more) ≡ told_of_calls told ++ told_of_calls more
+told_append : (told more : List ClientTold) → told_of_calls (told ++ more) ≡ told_of_calls told ++ told_of_calls more
 told_append told more = filter_append _ told more
 
 told_from : (start fs : List Frame) → map told_item (delivered (received start).messages) ++ told_of_calls (each_from (λ before f. client_tells (received before) (content f)) start fs) ≡ map told_item (delivered (received (start ++ fs)).messages)
@@ -77,12 +77,12 @@ told_from start [] =
     append-nil (map told_item (delivered (received start).messages))
     ∙ ap (λ (xs : List Frame). map told_item (delivered (received xs).messages)) (sym (append-nil start))
 told_from start (f ∷ fs) =
-    let held : List Told = map told_item (delivered (received start).messages) in
-    let told : List Told = client_tells (received start) (content f) in
-    let more : List Told = each_from (λ before g. client_tells (received before) (content g)) (start ++ f ∷ []) fs in
-    ap (λ (ts : List Told). held ++ ts) (told_append told more)
+    let held : List ClientTold = map told_item (delivered (received start).messages) in
+    let told : List ClientTold = client_tells (received start) (content f) in
+    let more : List ClientTold = each_from (λ before g. client_tells (received before) (content g)) (start ++ f ∷ []) fs in
+    ap (λ (ts : List ClientTold). held ++ ts) (told_append told more)
     ∙ (sym (append_assoc held (told_of_calls told) (told_of_calls more))
-    ∙ (ap (λ (ts : List Told). ts ++ told_of_calls more) (frame_told (received start) (content f) ∙ ap (λ (b : Received). map told_item (delivered b.messages)) (sym (received-push start f)))
+    ∙ (ap (λ (ts : List ClientTold). ts ++ told_of_calls more) (frame_told (received start) (content f) ∙ ap (λ (b : Received). map told_item (delivered b.messages)) (sym (received-push start f)))
     ∙ (told_from (start ++ f ∷ []) fs ∙ ap (λ (xs : List Frame). map told_item (delivered (received xs).messages)) (append_assoc start (f ∷ []) fs))))
 
 -- nothing is delivered before any frame

@@ -21,7 +21,7 @@ use Rattle.ua_chunk.proofs.Once.{once}
 use Rattle.ua_channel.specs.Content.{Content, Opening, content}
 use Rattle.ua_channel.specs.Content.Content.{Greets, Acks, Fails, Opens, Sends, Closes, Nothing}
 use Rattle.ua_channel.specs.Conversation.{IsFramed, IsGoodRequest, IsOrderGreeted, IsOrderOpen, IsServerOrder, MayCarry, ServerConversation}
-use Rattle.ua_channel.specs.Merges.{IsChunkOrOpening, MergedAtServer, ended_by, is_message_under, told_at, told_merged, token_in, tokens_told}
+use Rattle.ua_channel.specs.Merges.{IsChunkOrOpening, MergedAtServer, ended_by, is_message_under, told_by_merged, told_merged, token_in, tokens_told}
 use Rattle.ua_channel.specs.Received.{Received, chunks_in, closings, closings_in, has_some, messages, openings, openings_in, received}
 use Rattle.ua_channel.specs.ServerMessages.{message_in, message_of, messages_in}
 use Rattle.ua_channel.specs.ServerRules.{receive_size, server_rules}
@@ -121,7 +121,7 @@ request_token channel count token o g =
     token_opened token o.numbers (request_behind o.numbers o.body) numbered.0 g.request numbered.1 g.request_is
 
 module _ (channel : ℕ) (ms : List Sent) where
-  token_at : (b : Received) (k : Content) → IsChunkOrOpening k → MayCarry channel b k → tokens_told (told_at ms (issued b) k) ≡ range_with_len (issued b + 1) (length (openings_in k))
+  token_at : (b : Received) (k : Content) → IsChunkOrOpening k → MayCarry channel b k → tokens_told (told_by_merged ms (issued b) k) ≡ range_with_len (issued b + 1) (length (openings_in k))
   token_at b (Greets hello) is may = absurd is
   token_at b (Acks ack) is may = absurd is
   token_at b (Fails error) is may = absurd is
@@ -154,7 +154,7 @@ module _ (channel : ℕ) (ms : List Sent) where
       let count : issued (received (start ++ f ∷ [])) ≡ issued (received start) + length (openings_in (content f)) =
       ap issued (received-push start f) ∙ (ap length (openings_then (received start) (content f) order.0) ∙ length-append (received start).openings (openings_in (content f))) in
       let next : issued (received (start ++ f ∷ [])) + 1 ≡ (issued (received start) + 1) + length (openings_in (content f)) = omega (arith, count) in
-      flat_map-append token_in (told_at ms (issued (received start)) (content f)) (told_merged ms (start ++ f ∷ []) fs)
+      flat_map-append token_in (told_by_merged ms (issued (received start)) (content f)) (told_merged ms (start ++ f ∷ []) fs)
       ∙ (ap (λ (ts : List ℕ). ts ++ later) (token_at channel ms (received start) (content f) order.0 carries.0)
       ∙ (ap (λ (ts : List ℕ). here ++ ts) (tokens_from (start ++ f ∷ []) fs order.1 carries.1)
       ∙ (ap (λ (n : ℕ). here ++ range_with_len n (length (openings fs))) next
@@ -164,7 +164,7 @@ module _ (channel : ℕ) (ms : List Sent) where
 -- ---- what is told
 
 module _ (limits : Limits) (channel : ℕ) (ms : List Sent) (base : List Chunk) (none : open_ids base ≡ []) where
-  tells_at : (b : Received) (us rest : List Chunk) (k : Content) → IsChunkOrOpening k → b.messages ≡ base ++ us → EachEnds ms us (chunks_in k ++ rest) → server_tells limits b k ≡ told_at ms (issued b) k
+  tells_at : (b : Received) (us rest : List Chunk) (k : Content) → IsChunkOrOpening k → b.messages ≡ base ++ us → EachEnds ms us (chunks_in k ++ rest) → server_tells limits b k ≡ told_by_merged ms (issued b) k
   tells_at b us rest (Greets hello) is now all = absurd is
   tells_at b us rest (Acks ack) is now all = absurd is
   tells_at b us rest (Fails error) is now all = absurd is
@@ -180,7 +180,7 @@ module _ (limits : Limits) (channel : ℕ) (ms : List Sent) (base : List Chunk) 
   told_from start us [] now order all = refl
   told_from start us (f ∷ fs) now order all =
       ap (λ (ts : List Told). ts ++ each_from (server_rules limits channel).tells (start ++ f ∷ []) fs) (tells_at (received start) us (messages fs) (content f) order.0 now all)
-      ∙ ap (λ (ts : List Told). told_at ms (issued (received start)) (content f) ++ ts)
+      ∙ ap (λ (ts : List Told). told_by_merged ms (issued (received start)) (content f) ++ ts)
       (told_from (start ++ f ∷ []) (us ++ chunks_in (content f)) fs (ap (λ (b : Received). b.messages) (received-push start f) ∙ messages_then base us (received start) (content f) order.0 now) order.1
       (ends_then ms us (messages fs) (content f) order.0 all))
 

@@ -12,7 +12,7 @@ use Rattle.ua_chunk.specs.Open.{open_octets}
 use Rattle.ua_channel.specs.Asks.{Asking, Placed, asked_in}
 use Rattle.ua_channel.specs.ClientAsks.{Talks, ask_reasons, renew_reasons, Calls, JudgesBy, Renews, closing_octets}
 use Rattle.ua_channel.specs.ClientTable.{client_gate, client_rules}
-use Rattle.ua_channel.specs.ClientTold.{Told, Why}
+use Rattle.ua_channel.specs.ClientTold.{ClientTold, Why}
 use Rattle.ua_channel.specs.Content.{content}
 use Rattle.ua_channel.specs.MessageParts.{EndsIn}
 use Rattle.ua_channel.specs.Received.{Received, received, nothing_received}
@@ -26,37 +26,37 @@ use Rattle.ua_channel.specs.declared.client.phase.Phase.TheVariants.{Waiting, Ag
 -- ---- what a channel was made with, and what it sends next
 
 -- the limits of the client
-abbrev pub limits_of : ClientChannel → Limits
-limits_of x = x.limits
+abbrev pub client_limits : ClientChannel → Limits
+client_limits x = x.limits
 
 -- the URL of the server
 abbrev pub url_of : ClientChannel → Option (List ℕ)
 url_of x = x.address.url
 
 -- the sequence number that is sent next behind the first OPN, whose number is 1
-abbrev pub next_of : ClientChannel → ℕ
-next_of x = x.numbers.next
+abbrev pub client_next : ClientChannel → ℕ
+client_next x = x.numbers.next
 
 -- how far the channel is
 abbrev pub phase_of : ClientChannel → Phase
 phase_of x = x.phase
 
 -- the most octets that the channel may hold
-abbrev pub bound_of : ClientChannel → ℕ
-bound_of x = x.bound
+abbrev pub client_bound : ClientChannel → ℕ
+client_bound x = x.bound
 
 -- the same channel but for where it stands: its limits and its URL
 pub record SameClient (a b : ClientChannel) : Type 0 where
-  pub limits : limits_of a ≡ limits_of b
+  pub limits : client_limits a ≡ client_limits b
   pub url : url_of a ≡ url_of b
 
 -- ---- memory
 
 -- the most octets that a client with these limits may hold: 8192 before the ACK; then a frame, of what the server sends, and 4 unfinished
 -- messages
-abbrev pub bound_behind : Limits → Option Ack → ℕ
-bound_behind limits None = 8192
-bound_behind limits (Some a) = a.send_buffer_size + 4 * limits.max_message_size
+abbrev pub client_bound_behind : Limits → Option Ack → ℕ
+client_bound_behind limits None = 8192
+client_bound_behind limits (Some a) = a.send_buffer_size + 4 * limits.max_message_size
 
 -- the octets that are held: of a frame that is not whole, and of the messages that are unfinished
 abbrev pub held_octets : List Frame → List ℕ → ℕ
@@ -74,53 +74,53 @@ InPhase limits Done before asked = ⊥
 -- ---- after octets and asks
 
 -- the rules of a channel that asked so
-abbrev pub rules_of : ClientChannel → List Placed → Rules Told Why
-rules_of x asks = client_rules (limits_of x) asks
+abbrev pub client_rules_of : ClientChannel → List Placed → Rules ClientTold Why
+client_rules_of x asks = client_rules (client_limits x) asks
 
 -- a channel is where these asks and octets leave it: these are the frames of the octets, and this is the rest
-pub record Stands (x : ClientChannel) (asks : List Placed) (octets : List ℕ) (frames : List Frame) (rest : List ℕ) : Type 0 where
-  pub run : Run (rules_of x asks) octets frames rest Going
+pub record ClientStands (x : ClientChannel) (asks : List Placed) (octets : List ℕ) (frames : List Frame) (rest : List ℕ) : Type 0 where
+  pub run : Run (client_rules_of x asks) octets frames rest Going
   pub placed : AllByRecursion (λ (a : Placed). a.0 ≤ length octets) asks
   pub reader_is : x.reader ≡ open_reader (client_gate (received frames)) rest
-  pub phase_is : InPhase (limits_of x) (phase_of x) (received frames) (asked_in asks)
-  pub bound_is : bound_of x ≡ bound_behind (limits_of x) (received frames).ack
+  pub phase_is : InPhase (client_limits x) (phase_of x) (received frames) (asked_in asks)
+  pub bound_is : client_bound x ≡ client_bound_behind (client_limits x) (received frames).ack
 
 -- a channel that failed or was closed, and holds nothing
-pub record IsDone (x : ClientChannel) : Type 0 where
+pub record IsClientDone (x : ClientChannel) : Type 0 where
   pub phase : phase_of x ≡ Done
   pub empty : x.reader.held ≡ []
 
 -- it goes on after these asks and octets, whose frames told this
-pub record Goes (x : ClientChannel) (asks : List Placed) (octets : List ℕ) (told : List Told) : Type 0 where
+pub record ClientGoes (x : ClientChannel) (asks : List Placed) (octets : List ℕ) (told : List ClientTold) : Type 0 where
   pub frames : List Frame
   pub rest : List ℕ
-  pub stands : Stands x asks octets frames rest
-  pub told_is : events (rules_of x asks) frames ≡ told
+  pub stands : ClientStands x asks octets frames rest
+  pub told_is : events (client_rules_of x asks) frames ≡ told
 
 -- the last of the frames of these octets is the one that tells this, after what the others told, and nothing stands behind it
-pub record GoesTelling (x : ClientChannel) (asks : List Placed) (octets : List ℕ) (told : List Told) (e : Told) : Type 0 where
+pub record ClientGoesTelling (x : ClientChannel) (asks : List Placed) (octets : List ℕ) (told : List ClientTold) (e : ClientTold) : Type 0 where
   pub frames : List Frame
   pub frame : Frame
-  pub stands : Stands x asks octets (frames ++ frame ∷ []) []
-  pub told_is : events (rules_of x asks) frames ≡ told
-  pub tells : (rules_of x asks).tells frames frame ≡ e ∷ []
+  pub stands : ClientStands x asks octets (frames ++ frame ∷ []) []
+  pub told_is : events (client_rules_of x asks) frames ≡ told
+  pub tells : (client_rules_of x asks).tells frames frame ≡ e ∷ []
 
 -- it goes on after these asks and octets, of which the last frame ends a message in these parts
 pub record EndsReply (x : ClientChannel) (asks : List Placed) (octets : List ℕ) (parts : List (List ℕ)) : Type 0 where
   pub frames : List Frame
   pub frame : Frame
-  pub stands : Stands x asks octets (frames ++ frame ∷ []) []
+  pub stands : ClientStands x asks octets (frames ++ frame ∷ []) []
   pub ends : EndsIn (received frames).messages (content frame) parts
 
 -- it ended after these asks and octets, whose good frames told this, and what stands behind them is refused for this
-pub record Ended (x : ClientChannel) (asks : List Placed) (octets : List ℕ) (told : List Told) (why : Why) : Type 0 where
-  pub done : IsDone x
+pub record ClientEnded (x : ClientChannel) (asks : List Placed) (octets : List ℕ) (told : List ClientTold) (why : Why) : Type 0 where
+  pub done : IsClientDone x
   pub frames : List Frame
   pub rest : List ℕ
-  pub run : Run (rules_of x asks) octets frames rest (Stopped why)
-  pub stops : StopsAt (rules_of x asks) frames rest why
-  pub told_is : events (rules_of x asks) frames ≡ told
-  pub bound_is : bound_of x ≡ bound_behind (limits_of x) (received frames).ack
+  pub run : Run (client_rules_of x asks) octets frames rest (Stopped why)
+  pub stops : StopsAt (client_rules_of x asks) frames rest why
+  pub told_is : events (client_rules_of x asks) frames ≡ told
+  pub bound_is : client_bound x ≡ client_bound_behind (client_limits x) (received frames).ack
 
 -- ---- asks in a phase
 

@@ -5,9 +5,9 @@ use Rattle.ua_builtin.specs.declared.date_time.DateTime.{DateTime}
 use Rattle.ua_frame.specs.declared.ack.Ack.{Ack}
 use Rattle.ua_frame.specs.Frames.{frame_octets}
 use Rattle.ua_channel.specs.Asks.{Placed}
-use Rattle.ua_channel.specs.Client.{Goes, GoesTelling, EndsReply, Ended, IsDone}
+use Rattle.ua_channel.specs.Client.{ClientGoes, ClientGoesTelling, EndsReply, ClientEnded, IsClientDone}
 use Rattle.ua_channel.specs.ClientSends.{first_open}
-use Rattle.ua_channel.specs.ClientTold.{Told, Told as told}
+use Rattle.ua_channel.specs.ClientTold.{ClientTold, ClientTold as told}
 use Rattle.ua_channel.specs.declared.client.channel.ClientChannel.{ClientChannel}
 use Rattle.ua_channel.specs.declared.client.event.ClientEvent.{ClientEvent}
 use Rattle.ua_channel.specs.declared.client.event.ClientEvent.TheVariants as event
@@ -15,43 +15,43 @@ use Rattle.ua_channel.specs.declared.client.fault.ClientTakeFault.{ClientTakeFau
 use Rattle.ua_channel.specs.declared.client.fault.ClientTakeFault.TheVariants.{Closed, OutOfMemory}
 
 -- an ACK was agreed to, and this is the OPN
-pub record SendsOpen (moment : DateTime) (sent : List ℕ) (new : ClientChannel) (asks : List Placed) (octets : List ℕ) (before : List Told) : Type 0 where
+pub record SendsOpen (moment : DateTime) (sent : List ℕ) (new : ClientChannel) (asks : List Placed) (octets : List ℕ) (before : List ClientTold) : Type 0 where
   pub ack : Ack
   pub sent_is : sent ≡ frame_octets (first_open moment)
-  pub goes : GoesTelling new asks octets before (told.Agreed ack)
+  pub goes : ClientGoesTelling new asks octets before (told.Agreed ack)
 
 -- the channel is open
-pub record IsOpened (new : ClientChannel) (asks : List Placed) (octets : List ℕ) (before : List Told) : Type 0 where
+pub record IsOpened (new : ClientChannel) (asks : List Placed) (octets : List ℕ) (before : List ClientTold) : Type 0 where
   pub channel : ℕ
   pub token : ℕ
-  pub goes : GoesTelling new asks octets before (told.Opened channel token)
+  pub goes : ClientGoesTelling new asks octets before (told.Opened channel token)
 
 -- what is answered at an event, where the octets end with its frame and the frames before it told this
-abbrev pub Tells : DateTime → ClientEvent → ClientChannel → List Placed → List ℕ → List Told → Type 0
+abbrev pub Tells : DateTime → ClientEvent → ClientChannel → List Placed → List ℕ → List ClientTold → Type 0
 Tells moment event.NeedMore new asks octets before = ⊥
 Tells moment (event.Send sent) new asks octets before = SendsOpen moment sent.items new asks octets before
 Tells moment event.Open new asks octets before = IsOpened new asks octets before
-Tells moment (event.Answered id message) new asks octets before = GoesTelling new asks octets before (told.Answered id (concat message))
-Tells moment (event.Aborted id code) new asks octets before = GoesTelling new asks octets before (told.GaveUp id code)
-Tells moment (event.Failed code peer) new asks octets before = Ended new asks octets before (record { code = code.code; peer = peer })
-Tells moment (event.Renewed token) new asks octets before = GoesTelling new asks octets before (told.Renewed token)
+Tells moment (event.Answered id message) new asks octets before = ClientGoesTelling new asks octets before (told.Answered id (concat message))
+Tells moment (event.Aborted id code) new asks octets before = ClientGoesTelling new asks octets before (told.GaveUp id code)
+Tells moment (event.Failed code peer) new asks octets before = ClientEnded new asks octets before (record { code = code.code; peer = peer })
+Tells moment (event.Renewed token) new asks octets before = ClientGoesTelling new asks octets before (told.Renewed token)
 
 -- what is answered where an event came
-abbrev pub AnswersEvent : DateTime → Result ClientEvent ClientTakeFault → ClientChannel → List Placed → List ℕ → List Told → Type 0
+abbrev pub AnswersEvent : DateTime → Result ClientEvent ClientTakeFault → ClientChannel → List Placed → List ℕ → List ClientTold → Type 0
 AnswersEvent moment (Ok e) new asks octets before = Tells moment e new asks octets before
-AnswersEvent moment (Err OutOfMemory) new asks octets before = IsDone new
+AnswersEvent moment (Err OutOfMemory) new asks octets before = IsClientDone new
 AnswersEvent moment (Err Closed) new asks octets before = ⊥
 
 -- what is answered to a piece, after asks and octets that told this
-abbrev pub ClientAnswers : DateTime → List ℕ → Result (ℕ × ClientEvent) ClientTakeFault → ClientChannel → List Placed → List ℕ → List Told → Type 0
-ClientAnswers moment piece (Ok (n, event.NeedMore)) new asks octets before = (n ≡ length piece) × Goes new asks (octets ++ piece) before
+abbrev pub ClientAnswers : DateTime → List ℕ → Result (ℕ × ClientEvent) ClientTakeFault → ClientChannel → List Placed → List ℕ → List ClientTold → Type 0
+ClientAnswers moment piece (Ok (n, event.NeedMore)) new asks octets before = (n ≡ length piece) × ClientGoes new asks (octets ++ piece) before
 ClientAnswers moment piece (Ok (n, event.Send sent)) new asks octets before = Tells moment (event.Send sent) new asks (octets ++ take n piece) before
 ClientAnswers moment piece (Ok (n, event.Open)) new asks octets before = Tells moment event.Open new asks (octets ++ take n piece) before
 ClientAnswers moment piece (Ok (n, event.Answered id message)) new asks octets before = Tells moment (event.Answered id message) new asks (octets ++ take n piece) before
 ClientAnswers moment piece (Ok (n, event.Aborted id code)) new asks octets before = Tells moment (event.Aborted id code) new asks (octets ++ take n piece) before
 ClientAnswers moment piece (Ok (n, event.Failed code peer)) new asks octets before = Tells moment (event.Failed code peer) new asks (octets ++ take n piece) before
 ClientAnswers moment piece (Ok (n, event.Renewed token)) new asks octets before = Tells moment (event.Renewed token) new asks (octets ++ take n piece) before
-ClientAnswers moment piece (Err OutOfMemory) new asks octets before = IsDone new
+ClientAnswers moment piece (Err OutOfMemory) new asks octets before = IsClientDone new
 ClientAnswers moment piece (Err Closed) new asks octets before = ⊥
 
 -- the parts of the message that is handed out, if one is
@@ -65,6 +65,6 @@ ComesInParts None new asks octets = Unit {0}
 ComesInParts (Some parts) new asks octets = EndsReply new asks octets parts
 
 -- what is taken is within the piece, and is something unless the piece is empty
-abbrev pub Progress : {A : Type 0} → List ℕ → Result (ℕ × A) ClientTakeFault → Type 0
-Progress piece (Ok (n, e)) = (n ≤ length piece) × (0 < length piece → 0 < n)
-Progress piece (Err fault) = Unit {0}
+abbrev pub ClientProgress : {A : Type 0} → List ℕ → Result (ℕ × A) ClientTakeFault → Type 0
+ClientProgress piece (Ok (n, e)) = (n ≤ length piece) × (0 < length piece → 0 < n)
+ClientProgress piece (Err fault) = Unit {0}

@@ -138,10 +138,6 @@ pub record Talks (limits : Limits) (t : Talking) (before : Received) (asked : Li
 
 -- ---- asks of an open channel
 
--- where calls go: under the newest token, with the limits of the ACK
-abbrev pub lane_of : Talking → Lane
-lane_of t = call_lane t.agreed.ack t.channel t.newest
-
 -- why a call of this body is refused after so many more calls, in the order in which it is judged
 abbrev pub ask_reasons : Talking → ℕ → List ℕ → List (AskFault × Bool)
 ask_reasons t more body = reasons_of_call (length t.pending.items + more) (t.next + more) (is_too_large t.agreed.ack body)
@@ -149,7 +145,7 @@ ask_reasons t more body = reasons_of_call (length t.pending.items + more) (t.nex
 -- the octets of a call of this body, its request id, and the number that is sent next
 pub record Calls (t : Talking) (number : ℕ) (body : List ℕ) (id : ℕ) (out : List ℕ) (next : ℕ) : Type 0 where
   pub id_is : id ≡ t.next
-  pub out_is : out ≡ chunks_octets (chunks_of (lane_of t) body number id)
+  pub out_is : out ≡ chunks_octets (chunks_of (call_lane t.agreed.ack t.channel t.newest) body number id)
   pub next_is : next ≡ number_after number (pieces (room_of t.agreed.ack) body)
 
 -- why a renewal is not asked, in the order in which it is judged

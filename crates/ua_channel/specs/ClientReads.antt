@@ -17,14 +17,14 @@ use Rattle.ua_channel.specs.Asks.{Asking, Placed, asked_in, id_of, is_in, next_i
 use Rattle.ua_channel.specs.ClientAsks.{call_lane, is_too_large, reasons_of_call, reasons_of_renewal}
 use Rattle.ua_channel.specs.ClientTable.{client_rules}
 use Rattle.ua_channel.specs.ClientTokens.{channel_in, from_last, held_tokens, opened_ids, responses}
-use Rattle.ua_channel.specs.ClientTold.{Told, Told as told}
+use Rattle.ua_channel.specs.ClientTold.{ClientTold, ClientTold as told}
 use Rattle.ua_channel.specs.Received.{has_some, latest, nothing_received, received}
 use Rattle.ua_channel.specs.declared.client.fault.AskFault.{AskFault}
 
 -- ---- where a client is
 
 -- a client with these limits reads these octets as an ACK that it agrees to, and was told this
-pub record ClientAgrees (limits : Limits) (octets : List ℕ) (told : List Told) (ack : Ack) : Type 0 where
+pub record ClientAgrees (limits : Limits) (octets : List ℕ) (told : List ClientTold) (ack : Ack) : Type 0 where
   pub frames : List Frame
   pub run : Run (client_rules limits []) octets frames [] Going
   pub told_is : events (client_rules limits []) frames ≡ told
@@ -51,7 +51,7 @@ pub record AtClient : Type 0 where
 
 -- a client with these limits, that asked so, reads these octets as whole frames that are good, with no message unfinished behind them;
 -- they told it this, and then it is here
-pub record ClientReads (limits : Limits) (asks : List Placed) (octets : List ℕ) (told : List Told) (at : AtClient) : Type 0 where
+pub record ClientReads (limits : Limits) (asks : List Placed) (octets : List ℕ) (told : List ClientTold) (at : AtClient) : Type 0 where
   pub frames : List Frame
   pub run : Run (client_rules limits asks) octets frames [] Going
   pub placed : AllByRecursion (λ (a : Placed). a.0 ≤ length octets) asks
@@ -111,7 +111,7 @@ pub record IsAnswered (channel number id handle token lifetime : ℕ) (moment : 
 
 -- what a reply of this body under this request id tells, by why its body is not cut, if it is not: the reply, or that it was given up
 -- with Bad_ResponseTooLarge
-abbrev pub told_reply : Option CutFault → ℕ → List ℕ → Told
+abbrev pub told_reply : Option CutFault → ℕ → List ℕ → ClientTold
 told_reply None id body = told.Answered id body
 told_reply (Some fault) id body = told.GaveUp id (of_code 0x80B9_0000)
 

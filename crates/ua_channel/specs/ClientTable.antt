@@ -13,7 +13,7 @@ use Rattle.ua_services.specs.declared.open.OpenAnswer.TheVariants.{Open, Fault}
 use Rattle.ua_structures.specs.declared.secure_channel.OpenResponse.{OpenResponse}
 use Rattle.ua_channel.specs.Asks.{Asking, Placed, asked_before, end_of, is_in, pending_calls, pending_renewals}
 use Rattle.ua_channel.specs.ClientTokens.{answer_in, responses, opened_ids, channel_in, held_tokens}
-use Rattle.ua_channel.specs.ClientTold.{Told, Why, ours, peers, client_tells}
+use Rattle.ua_channel.specs.ClientTold.{ClientTold, Why, ours, peers, client_tells}
 use Rattle.ua_channel.specs.Content.{Content, content}
 use Rattle.ua_channel.specs.Content.Content.{Acks, Fails, Opens, Sends}
 use Rattle.ua_channel.specs.Received.{Received, received}
@@ -182,7 +182,7 @@ abbrev pub client_gate : Received → Gate
 client_gate before = client_gate_behind before.ack (responses before.openings)
 
 -- the rules of a client with these limits that asked so
-abbrev pub client_rules : Limits → List Placed → Rules Told Why
+abbrev pub client_rules : Limits → List Placed → Rules ClientTold Why
 client_rules limits asks = record {
   gate = λ before. client_gate (received before);
   reasons = λ before f. client_reasons limits (received before) (asked_before (end_of before f) asks) (content f);

@@ -13,12 +13,12 @@ use Rattle.ua_channel.specs.Received.{Received}
 
 -- what a frame tells a client: an ACK, after which the OPN is to be sent; the channel and its first token; the reply to a call; a
 -- call that the server gave up, with its code; a further token
-pub data Told : Type 0 where
-  Agreed : (ack : Ack) → Told
-  Opened : (channel token : ℕ) → Told
-  Answered : (id : ℕ) (octets : List ℕ) → Told
-  GaveUp : (id : ℕ) (code : StatusCode) → Told
-  Renewed : (token : ℕ) → Told
+pub data ClientTold : Type 0 where
+  Agreed : (ack : Ack) → ClientTold
+  Opened : (channel token : ℕ) → ClientTold
+  Answered : (id : ℕ) (octets : List ℕ) → ClientTold
+  GaveUp : (id : ℕ) (code : StatusCode) → ClientTold
+  Renewed : (token : ℕ) → ClientTold
 
 -- why a client's connection ends: a status code, and whether it is the peer's own
 pub record Why : Type 0 where
@@ -34,22 +34,22 @@ abbrev pub peers : ℕ → Why
 peers code = record { code = code; peer = true }
 
 -- what a delivered message tells
-abbrev pub told_item : Item → Told
+abbrev pub told_item : Item → ClientTold
 told_item (Whole id octets) = Answered id octets
 told_item (Aborted id code reason) = GaveUp id code
 
 -- what a response tells: the first one opens the channel, a later one brings a further token
-abbrev pub told_response : List OpenResponse → OpenResponse → Told
+abbrev pub told_response : List OpenResponse → OpenResponse → ClientTold
 told_response [] r = Opened r.channel_id r.token_id
 told_response (q ∷ qs) r = Renewed r.token_id
 
 -- an ACK tells its Acknowledge
-abbrev pub told_ack : Option Ack → List Told
+abbrev pub told_ack : Option Ack → List ClientTold
 told_ack None = []
 told_ack (Some a) = Agreed a ∷ []
 
 -- what a frame that carries this tells after what was received
-abbrev pub client_tells : Received → Content → List Told
+abbrev pub client_tells : Received → Content → List ClientTold
 client_tells before (Greets hello) = []
 client_tells before (Acks ack) = told_ack ack
 client_tells before (Fails error) = []

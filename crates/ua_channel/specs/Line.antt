@@ -27,9 +27,9 @@ failures_after before (Err fault) = one_more before
 
 -- what a read did: it handed out the next octets, whatever more is written, and none into a buffer with room only where none are to come
 -- before more is written; a failure moved nothing
-abbrev pub Hands : Result ℕ LineFault → List ℕ → Traffic → Traffic → Type 0
-Hands (Ok n) buffer before after = ((more : List ℕ) → before.coming more ≡ take n buffer ++ after.coming more) × (after.written ≡ before.written) × (n ≡ 0 → 0 < length buffer → before.coming [] ≡ [])
-Hands (Err fault) buffer before after = after ≡ before
+abbrev pub HandsOut : Result ℕ LineFault → List ℕ → Traffic → Traffic → Type 0
+HandsOut (Ok n) buffer before after = ((more : List ℕ) → before.coming more ≡ take n buffer ++ after.coming more) × (after.written ≡ before.written) × (n ≡ 0 → 0 < length buffer → before.coming [] ≡ [])
+HandsOut (Err fault) buffer before after = after ≡ before
 
 -- what a write did: it took the first of the octets offered, and what is to come is what was to come once they are written; a failure moved
 -- nothing

@@ -18,7 +18,7 @@ use Rattle.ua_channel.specs.Asks.{Asking, Placed, asked_before, calls, end_of, i
 use Rattle.ua_channel.specs.ClientConversation.{IsGoodResponse, largest_taken}
 use Rattle.ua_channel.specs.ClientTable.{client_rules, is_other}
 use Rattle.ua_channel.specs.ClientTokens.{answer_in, channel_in, held_tokens, response_listed, responses}
-use Rattle.ua_channel.specs.ClientTold.{Told as ClientTold, Told as client_told, told_item}
+use Rattle.ua_channel.specs.ClientTold.{ClientTold, ClientTold as client_told, told_item}
 use Rattle.ua_channel.specs.Content.{Content, content}
 use Rattle.ua_channel.specs.Content.Content.{Greets, Acks, Fails, Opens, Sends, Closes, Nothing}
 use Rattle.ua_channel.specs.Conversation.{AreOrdered, IsFramed, MayCarry}
@@ -74,14 +74,14 @@ pub record MergedAtServer (limits : Limits) (channel : ℕ) (before : List Frame
 
 -- what a frame of these tells a server, where so many tokens were issued before it: a chunk that ends its message the whole of that, or that
 -- its sender gave it up, under the token of this chunk; an OPN the next token
-abbrev pub told_at : List Sent → ℕ → Content → List Told
-told_at ms count (Opens o) = opened_by (count + 1) o.numbers (request_of o)
-told_at ms count (Sends c) = map (told_under c.token) (ended_by ms c)
-told_at ms count other = []
+abbrev pub told_by_merged : List Sent → ℕ → Content → List Told
+told_by_merged ms count (Opens o) = opened_by (count + 1) o.numbers (request_of o)
+told_by_merged ms count (Sends c) = map (told_under c.token) (ended_by ms c)
+told_by_merged ms count other = []
 
 -- what these frames tell a server behind those before them, in order
 abbrev pub told_merged : List Sent → List Frame → List Frame → List Told
-told_merged ms before more = each_from (λ us f. told_at ms (issued (received us)) (content f)) before more
+told_merged ms before more = each_from (λ us f. told_by_merged ms (issued (received us)) (content f)) before more
 
 -- the token that is told to be issued, if one is
 abbrev pub token_in : Told → List ℕ

@@ -6,8 +6,8 @@ use Rattle.ua_chunk.specs.Delivered.{delivered}
 use Rattle.ua_chunk.specs.Item.{Item}
 use Rattle.ua_chunk.specs.Merge.{is_item_of}
 use Rattle.ua_channel.specs.Asks.{Asking, calls}
-use Rattle.ua_channel.specs.ClientTold.{Told}
-use Rattle.ua_channel.specs.ClientTold.Told.{Answered, GaveUp}
+use Rattle.ua_channel.specs.ClientTold.{ClientTold}
+use Rattle.ua_channel.specs.ClientTold.ClientTold.{Answered, GaveUp}
 use Rattle.ua_channel.specs.Received.{listed}
 
 -- the first of these, if there is one
@@ -37,11 +37,11 @@ unfoldable pub paired : List Asking → List Chunk → List (ℕ × Option Item)
 paired asked cs = map (with_first cs) (calls asked)
 
 -- it is told of a call: the reply to it, or that the server gave it up
-abbrev pub is_of_call : Told → Bool
+abbrev pub is_of_call : ClientTold → Bool
 is_of_call (Answered id octets) = true
 is_of_call (GaveUp id code) = true
 is_of_call other = false
 
 -- what of this is told of calls, in order
-abbrev pub told_of_calls : List Told → List Told
+abbrev pub told_of_calls : List ClientTold → List ClientTold
 told_of_calls told = filter is_of_call told

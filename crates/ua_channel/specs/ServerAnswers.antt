@@ -19,7 +19,7 @@ use Rattle.ua_channel.specs.ServerTold.{Told as told}
 -- ---- what comes with an event
 
 -- these octets are sent at what the last frame told
-pub record Sends (channel number : ℕ) (moment : DateTime) (sent : List ℕ) (new : ServerChannel) (octets : List ℕ) (before : List Told) : Type 0 where
+pub record SendsOctets (channel number : ℕ) (moment : DateTime) (sent : List ℕ) (new : ServerChannel) (octets : List ℕ) (before : List Told) : Type 0 where
   pub said : Told
   pub are_sent : AreSent channel number moment said sent
   pub goes : GoesTelling new octets before said
@@ -34,7 +34,7 @@ pub record Asks (id : ℕ) (parts : List (List ℕ)) (new : ServerChannel) (octe
 -- and the number of its next chunk are given, and the moment of an OPN response
 abbrev pub Hands : ℕ → ℕ → DateTime → ServerEvent → ServerChannel → List ℕ → List Told → Type 0
 Hands channel number moment NeedMore new octets before = Goes new octets before × (next_of new ≡ number)
-Hands channel number moment (Send sent) new octets before = Sends channel number moment sent.items new octets before
+Hands channel number moment (Send sent) new octets before = SendsOctets channel number moment sent.items new octets before
 Hands channel number moment (Asked id message) new octets before = Asks id message new octets before × (next_of new ≡ number)
 Hands channel number moment (Aborted id) new octets before = GoesTelling new octets before (told.GaveUp id) × (next_of new ≡ number)
 Hands channel number moment event.Closed new octets before = ClosedAt new octets (before ++ told.Closed ∷ [])

@@ -28,8 +28,8 @@ ghost use Rattle.ua_channel.specs.ClientAsks.{is_too_large, room_of};
 ghost use Rattle.ua_channel.specs.InStep.{AreInStep, lane_back};
 ghost use Rattle.ua_channel.specs.Received.{latest};
 ghost use Rattle.ua_channel.specs.ClientSends.{close_frame, first_open, hello_frame, hello_to, renewal_frame};
-ghost use Rattle.ua_channel.specs.Client as client;
-ghost use Rattle.ua_channel.specs.ClientTold.{Told as ClientTold, Told as client_told, Why};
+ghost use Rattle.ua_channel.specs.Client.{call_refused, client_limits, ClientEnded, ClientGoes, ClientStands, closing_refused, renewal_refused, SendsCall, SendsClosing, SendsRenewal};
+ghost use Rattle.ua_channel.specs.ClientTold.{ClientTold, ClientTold as client_told, Why};
 ghost use Rattle.ua_channel.specs.ServerReads.{AtServer, IsBodyFor, IsLaneTo, IsTakenAt, ServerCloses, ServerReads, greeted_at, with_message, with_token};
 ghost use Rattle.ua_channel.specs.ServerSends.{opened_frame, replied};
 ghost use Rattle.ua_channel.specs.ServerStands.{Ended, Goes, RefusedAt, channel_of, limits_of};
@@ -145,28 +145,28 @@ pub fn server_follows_to_the_close()
 /// of the channel are those under which the octets are read to their end. With these asks it does not
 /// fail.
 pub fn client_follows()
-    ensures begins { (x : ClientChannel) (asks : List Placed) (octets more : List ℕ) (told all : List ClientTold) (at : AtClient) → client.Goes x asks octets told →
-        ClientReads (client.limits_of x) asks (octets ++ more) all at → (later : List ClientTold) × (all ≡ told ++ later) }
-    ensures all { (x : ClientChannel) (asks : List Placed) (octets : List ℕ) (told all : List ClientTold) (at : AtClient) → client.Goes x asks octets told →
-        ClientReads (client.limits_of x) asks octets all at → told ≡ all }
-    ensures not_failed { (x : ClientChannel) (asks : List Placed) (octets more : List ℕ) (told all : List ClientTold) (at : AtClient) (why : Why) → client.Ended x asks octets told why →
-        ClientReads (client.limits_of x) asks (octets ++ more) all at → ⊥ }
+    ensures begins { (x : ClientChannel) (asks : List Placed) (octets more : List ℕ) (told all : List ClientTold) (at : AtClient) → ClientGoes x asks octets told →
+        ClientReads (client_limits x) asks (octets ++ more) all at → (later : List ClientTold) × (all ≡ told ++ later) }
+    ensures all { (x : ClientChannel) (asks : List Placed) (octets : List ℕ) (told all : List ClientTold) (at : AtClient) → ClientGoes x asks octets told →
+        ClientReads (client_limits x) asks octets all at → told ≡ all }
+    ensures not_failed { (x : ClientChannel) (asks : List Placed) (octets more : List ℕ) (told all : List ClientTold) (at : AtClient) (why : Why) → ClientEnded x asks octets told why →
+        ClientReads (client_limits x) asks (octets ++ more) all at → ⊥ }
 {}
 
 /// What a client sends between two messages: a call goes as chunks on the channel, under the newest
 /// token and the next request id; a renewal and the CLO likewise.
 pub fn client_sends()
     ensures call { (x : ClientChannel) (asks : List Placed) (octets : List ℕ) (frames : List Frame) (rest : List ℕ) (told : List ClientTold) (at : AtClient) →
-        client.Stands x asks octets frames rest → ClientReads (client.limits_of x) asks octets told at →
-        (number : ℕ) (body : List ℕ) (id : ℕ) (out : List ℕ) (next : ℕ) → client.SendsCall x number body id out next →
+        ClientStands x asks octets frames rest → ClientReads (client_limits x) asks octets told at →
+        (number : ℕ) (body : List ℕ) (id : ℕ) (out : List ℕ) (next : ℕ) → SendsCall x number body id out next →
         (id ≡ next_id (asked_in asks)) × (out ≡ chunks_octets (chunks_of (lane_from at) body number id)) × (next ≡ number_after number (pieces (room_of at.ack) body)) }
     ensures renewal { (x : ClientChannel) (asks : List Placed) (octets : List ℕ) (frames : List Frame) (rest : List ℕ) (told : List ClientTold) (at : AtClient) →
-        client.Stands x asks octets frames rest → ClientReads (client.limits_of x) asks octets told at →
-        (number : ℕ) (moment : DateTime) (id : ℕ) (out : List ℕ) (next : ℕ) → client.SendsRenewal x number moment id out next →
+        ClientStands x asks octets frames rest → ClientReads (client_limits x) asks octets told at →
+        (number : ℕ) (moment : DateTime) (id : ℕ) (out : List ℕ) (next : ℕ) → SendsRenewal x number moment id out next →
         (id ≡ next_id (asked_in asks)) × (out ≡ frame_octets (renewal_frame at.channel number id moment)) × (next ≡ next_number number) }
     ensures close { (x : ClientChannel) (asks : List Placed) (octets : List ℕ) (frames : List Frame) (rest : List ℕ) (told : List ClientTold) (at : AtClient) →
-        client.Stands x asks octets frames rest → ClientReads (client.limits_of x) asks octets told at →
-        (number : ℕ) (moment : DateTime) (out : List ℕ) → client.SendsClosing x number moment out →
+        ClientStands x asks octets frames rest → ClientReads (client_limits x) asks octets told at →
+        (number : ℕ) (moment : DateTime) (out : List ℕ) → SendsClosing x number moment out →
         out ≡ frame_octets (close_frame at.channel at.newest number (next_id (asked_in asks)) moment) }
 {}
 
@@ -174,14 +174,14 @@ pub fn client_sends()
 /// request ids that are used up, or a body past the server's limits; it may always close.
 pub fn client_refuses()
     ensures call { (x : ClientChannel) (asks : List Placed) (octets : List ℕ) (frames : List Frame) (rest : List ℕ) (told : List ClientTold) (at : AtClient) →
-        client.Stands x asks octets frames rest → ClientReads (client.limits_of x) asks octets told at →
-        (more : ℕ) (body : List ℕ) → client.call_refused x more body ≡ first_reason (reasons_here at (asked_in asks) more body) }
+        ClientStands x asks octets frames rest → ClientReads (client_limits x) asks octets told at →
+        (more : ℕ) (body : List ℕ) → call_refused x more body ≡ first_reason (reasons_here at (asked_in asks) more body) }
     ensures renewal { (x : ClientChannel) (asks : List Placed) (octets : List ℕ) (frames : List Frame) (rest : List ℕ) (told : List ClientTold) (at : AtClient) →
-        client.Stands x asks octets frames rest → ClientReads (client.limits_of x) asks octets told at →
-        client.renewal_refused x ≡ first_reason (renew_reasons_here at (asked_in asks)) }
+        ClientStands x asks octets frames rest → ClientReads (client_limits x) asks octets told at →
+        renewal_refused x ≡ first_reason (renew_reasons_here at (asked_in asks)) }
     ensures close { (x : ClientChannel) (asks : List Placed) (octets : List ℕ) (frames : List Frame) (rest : List ℕ) (told : List ClientTold) (at : AtClient) →
-        client.Stands x asks octets frames rest → ClientReads (client.limits_of x) asks octets told at →
-        client.closing_refused x ≡ None }
+        ClientStands x asks octets frames rest → ClientReads (client_limits x) asks octets told at →
+        closing_refused x ≡ None }
 {}
 
 /// Where a server and a client are in step, which they are behind the opening, each sends what the

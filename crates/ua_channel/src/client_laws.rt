@@ -14,12 +14,12 @@ ghost use Rattle.ua_frame.specs.Frames.{Frames};
 ghost use Rattle.ua_frame.specs.Run.{Fits, Going, Run, events};
 ghost use Rattle.ua_chunk.specs.Delivered.{delivered};
 ghost use Rattle.ua_channel.specs.Asks.{Placed, asked_in, calls, is_in, next_id};
-ghost use Rattle.ua_channel.specs.Client.{call_refused, closing_refused, renewal_refused, Goes, GoesTelling, HasNoChannel, IsDone, SendsCall, SendsClosing, SendsRenewal, Stands};
+ghost use Rattle.ua_channel.specs.Client.{call_refused, closing_refused, renewal_refused, ClientGoes, ClientGoesTelling, HasNoChannel, IsClientDone, SendsCall, SendsClosing, SendsRenewal, ClientStands};
 ghost use Rattle.ua_channel.specs.ClientAsks.{call_reasons, calls_at, closing_reasons, renewing_reasons, IsCalled, IsClosed, IsRenewed};
 ghost use Rattle.ua_channel.specs.ClientConversation.{ClientConversation, ClientContinues, IsClientConversation};
 ghost use Rattle.ua_channel.specs.ClientTable.{client_rules};
 ghost use Rattle.ua_channel.specs.ClientTokens.{responses};
-ghost use Rattle.ua_channel.specs.ClientTold.{Told, Why, told_item};
+ghost use Rattle.ua_channel.specs.ClientTold.{ClientTold, Why, told_item};
 ghost use Rattle.ua_channel.specs.Paired.{as_list, delivered_under, paired, told_of_calls, with_all};
 ghost use Rattle.ua_channel.specs.Received.{received};
 ghost use Rattle.ua_channel.specs.declared.client.channel.ClientChannel.{ClientChannel};
@@ -38,13 +38,13 @@ pub fn client_reads()
 /// this told.
 pub fn client_stands_once()
     ensures frames { (x : ClientChannel) (asks : List Placed) (octets : List ℕ) (fs gs : List Frame) (rest more : List ℕ) →
-        Stands x asks octets fs rest → Stands x asks octets gs more → (fs ≡ gs) × (rest ≡ more) }
-    ensures told { (x : ClientChannel) (asks : List Placed) (octets : List ℕ) (told more : List Told) → Goes x asks octets told → Goes x asks octets more → told ≡ more }
+        ClientStands x asks octets fs rest → ClientStands x asks octets gs more → (fs ≡ gs) × (rest ≡ more) }
+    ensures told { (x : ClientChannel) (asks : List Placed) (octets : List ℕ) (told more : List ClientTold) → ClientGoes x asks octets told → ClientGoes x asks octets more → told ≡ more }
 {}
 
 /// A channel that stands behind a frame which tells something goes on with that told.
 pub fn client_goes_on()
-    ensures { (x : ClientChannel) (asks : List Placed) (octets : List ℕ) (told : List Told) (e : Told) → GoesTelling x asks octets told e → Goes x asks octets (told ++ e ∷ []) }
+    ensures { (x : ClientChannel) (asks : List Placed) (octets : List ℕ) (told : List ClientTold) (e : ClientTold) → ClientGoesTelling x asks octets told e → ClientGoes x asks octets (told ++ e ∷ []) }
 {}
 
 /// What frames tell a client of its calls is what their chunks deliver, in that order.
@@ -66,8 +66,8 @@ pub fn client_pairs()
 /// then nothing can be asked.
 pub fn client_is_open()
     ensures stands { (x : ClientChannel) (asks : List Placed) (octets : List ℕ) (frames : List Frame) (rest : List ℕ) →
-        Stands x asks octets frames rest → HasNoChannel x ↔ (responses (received frames).openings ≡ []) }
-    ensures done { (x : ClientChannel) → IsDone x → HasNoChannel x }
+        ClientStands x asks octets frames rest → HasNoChannel x ↔ (responses (received frames).openings ≡ []) }
+    ensures done { (x : ClientChannel) → IsClientDone x → HasNoChannel x }
     ensures asks { (x : ClientChannel) (more : ℕ) (body : List ℕ) → HasNoChannel x → call_refused x more body ≡ Some NotOpen }
     ensures renews { (x : ClientChannel) → HasNoChannel x → renewal_refused x ≡ Some NotOpen }
     ensures closes { (x : ClientChannel) → HasNoChannel x ↔ (closing_refused x ≡ Some NotOpen) }
@@ -78,11 +78,11 @@ pub fn client_is_open()
 /// token and the next request id, in frames of the size that the server receives; a renewal and the
 /// CLO likewise.
 pub fn client_sends_asked()
-    ensures call { (x : ClientChannel) (asks : List Placed) (octets : List ℕ) (frames : List Frame) (rest : List ℕ) → Stands x asks octets frames rest →
+    ensures call { (x : ClientChannel) (asks : List Placed) (octets : List ℕ) (frames : List Frame) (rest : List ℕ) → ClientStands x asks octets frames rest →
         (number : ℕ) (body : List ℕ) (id : ℕ) (out : List ℕ) (next : ℕ) → SendsCall x number body id out next → IsCalled (received frames) (asked_in asks) number body id out next }
-    ensures renewal { (x : ClientChannel) (asks : List Placed) (octets : List ℕ) (frames : List Frame) (rest : List ℕ) → Stands x asks octets frames rest →
+    ensures renewal { (x : ClientChannel) (asks : List Placed) (octets : List ℕ) (frames : List Frame) (rest : List ℕ) → ClientStands x asks octets frames rest →
         (number : ℕ) (moment : DateTime) (id : ℕ) (out : List ℕ) (next : ℕ) → SendsRenewal x number moment id out next → IsRenewed (received frames) (asked_in asks) number moment id out next }
-    ensures close { (x : ClientChannel) (asks : List Placed) (octets : List ℕ) (frames : List Frame) (rest : List ℕ) → Stands x asks octets frames rest →
+    ensures close { (x : ClientChannel) (asks : List Placed) (octets : List ℕ) (frames : List Frame) (rest : List ℕ) → ClientStands x asks octets frames rest →
         (number : ℕ) (moment : DateTime) (out : List ℕ) → SendsClosing x number moment out → IsClosed (received frames) (asked_in asks) number moment out }
 {}
 
@@ -90,19 +90,19 @@ pub fn client_sends_asked()
 /// channel is open, then too many unanswered calls or tokens, request ids that are used up, and a
 /// body past the server's limits.
 pub fn client_refuses_asked()
-    ensures call { (x : ClientChannel) (asks : List Placed) (octets : List ℕ) (frames : List Frame) (rest : List ℕ) → Stands x asks octets frames rest →
+    ensures call { (x : ClientChannel) (asks : List Placed) (octets : List ℕ) (frames : List Frame) (rest : List ℕ) → ClientStands x asks octets frames rest →
         (more : ℕ) (body : List ℕ) → call_refused x more body ≡ first_reason (call_reasons (received frames) (asked_in asks) more body) }
-    ensures renewal { (x : ClientChannel) (asks : List Placed) (octets : List ℕ) (frames : List Frame) (rest : List ℕ) → Stands x asks octets frames rest →
+    ensures renewal { (x : ClientChannel) (asks : List Placed) (octets : List ℕ) (frames : List Frame) (rest : List ℕ) → ClientStands x asks octets frames rest →
         renewal_refused x ≡ first_reason (renewing_reasons (received frames) (asked_in asks)) }
-    ensures close { (x : ClientChannel) (asks : List Placed) (octets : List ℕ) (frames : List Frame) (rest : List ℕ) → Stands x asks octets frames rest →
+    ensures close { (x : ClientChannel) (asks : List Placed) (octets : List ℕ) (frames : List Frame) (rest : List ℕ) → ClientStands x asks octets frames rest →
         closing_refused x ≡ first_reason (closing_reasons (received frames)) }
 {}
 
 /// What is judged of a call after so many more calls is what is judged of it once these were asked,
 /// each under the next request id, with nothing received between them.
 pub fn client_judges()
-    ensures { (x y : ClientChannel) (asks : List Placed) (octets : List ℕ) (frames : List Frame) (rest : List ℕ) (count : ℕ) (body : List ℕ) → Stands x asks octets frames rest →
-        Stands y (asks ++ calls_at (length octets) (next_id (asked_in asks)) count) octets frames rest → call_refused x count body ≡ call_refused y 0 body }
+    ensures { (x y : ClientChannel) (asks : List Placed) (octets : List ℕ) (frames : List Frame) (rest : List ℕ) (count : ℕ) (body : List ℕ) → ClientStands x asks octets frames rest →
+        ClientStands y (asks ++ calls_at (length octets) (next_id (asked_in asks)) count) octets frames rest → call_refused x count body ≡ call_refused y 0 body }
 {}
 
 /// The frames that a client takes, one after the other, are just those of a conversation in plain

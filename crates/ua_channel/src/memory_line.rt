@@ -1,7 +1,7 @@
 //! A line over memory.
 
 ghost use Rattle.std.specs.Prelude.{◌≡◌, ◌≤◌, ◌<◌, ◌++◌, ℕ, List, [], Some, Option, length, drop, take, min, IfOk, Ok, option_map};
-ghost use Rattle.ua_channel.specs.Line.{Traffic, Hands, Takes, WhereTold, failures_after};
+ghost use Rattle.ua_channel.specs.Line.{Traffic, HandsOut, Takes, WhereTold, failures_after};
 ghost use Rattle.ua_channel.specs.MemoryLine.{Pace as Calls, Memory, moves, after_call, traffic_of};
 
 use crate::line::{Line, LineFault};
@@ -117,7 +117,7 @@ impl Line for MemoryLine {
     fn read(&mut self, buffer: &mut [u8]) -> Result<usize, LineFault>
         ensures within { IfOk result (λ n. n ≤ length buffer.new) }
         ensures failed { self.new.failures ≡ failures_after self.old.failures result }
-        ensures octets { Hands result buffer.new (traffic_of self.old.traffic) (traffic_of self.new.traffic) }
+        ensures octets { HandsOut result buffer.new (traffic_of self.old.traffic) (traffic_of self.new.traffic) }
         ensures paced { result ≡ moves self.old.reads (min (length self.old.traffic.coming) (length buffer.old)) }
         ensures reads { self.new.reads ≡ after_call self.old.reads }
         ensures writes { self.new.writes ≡ self.old.writes }

@@ -16,10 +16,10 @@ ghost use Rattle.ua_chunk.specs.Open.{open_ids};
 ghost use Rattle.ua_chunk.specs.Refusal.{TakesMessages};
 ghost use Rattle.ua_chunk.specs.declared.chunk.Chunk.{Chunk};
 ghost use Rattle.ua_channel.specs.Asks.{Placed};
-ghost use Rattle.ua_channel.specs.Client as client;
+ghost use Rattle.ua_channel.specs.Client.{client_limits, ClientEnded, ClientGoes};
 ghost use Rattle.ua_channel.specs.ClientTable.{client_rules};
 ghost use Rattle.ua_channel.specs.ClientTokens.{responses, tokens_of};
-ghost use Rattle.ua_channel.specs.ClientTold.{Told as ClientTold, Why, told_item};
+ghost use Rattle.ua_channel.specs.ClientTold.{ClientTold, Why, told_item};
 ghost use Rattle.ua_channel.specs.Conversation.{FitMessages};
 ghost use Rattle.ua_channel.specs.Merges.{AreMerged, ClientReadsMerged, MergedAtClient, MergedAtServer, ServerReadsMerged, is_message_under, is_told_under, told_merged, told_merged_back, tokens_renewed, tokens_told};
 ghost use Rattle.ua_channel.specs.Paired.{told_of_calls};
@@ -97,10 +97,10 @@ pub fn server_follows_merged()
 /// asks of the channel are those under which the octets are read to their end. With these asks it does
 /// not fail.
 pub fn client_follows_merged()
-    ensures begins { (x : ClientChannel) (asks : List Placed) (octets more : List ℕ) (told all : List ClientTold) → client.Goes x asks octets told →
-        ClientReadsMerged (client.limits_of x) asks (octets ++ more) all → (later : List ClientTold) × (all ≡ told ++ later) }
-    ensures all { (x : ClientChannel) (asks : List Placed) (octets : List ℕ) (told all : List ClientTold) → client.Goes x asks octets told →
-        ClientReadsMerged (client.limits_of x) asks octets all → told ≡ all }
-    ensures not_failed { (x : ClientChannel) (asks : List Placed) (octets more : List ℕ) (told all : List ClientTold) (why : Why) → client.Ended x asks octets told why →
-        ClientReadsMerged (client.limits_of x) asks (octets ++ more) all → ⊥ }
+    ensures begins { (x : ClientChannel) (asks : List Placed) (octets more : List ℕ) (told all : List ClientTold) → ClientGoes x asks octets told →
+        ClientReadsMerged (client_limits x) asks (octets ++ more) all → (later : List ClientTold) × (all ≡ told ++ later) }
+    ensures all { (x : ClientChannel) (asks : List Placed) (octets : List ℕ) (told all : List ClientTold) → ClientGoes x asks octets told →
+        ClientReadsMerged (client_limits x) asks octets all → told ≡ all }
+    ensures not_failed { (x : ClientChannel) (asks : List Placed) (octets more : List ℕ) (told all : List ClientTold) (why : Why) → ClientEnded x asks octets told why →
+        ClientReadsMerged (client_limits x) asks (octets ++ more) all → ⊥ }
 {}

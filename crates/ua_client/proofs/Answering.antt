@@ -4,8 +4,8 @@ use Rattle.std.specs.List.{concat}
 use Rattle.std.proofs.Common.{refl, sym, ◌∙◌, ap, subst, eqb, get_or, set, arith}
 use Rattle.ua_builtin.specs.declared.date_time.DateTime.{DateTime}
 use Rattle.ua_builtin.specs.declared.status_code.StatusCode.{StatusCode}
-use Rattle.ua_channel.specs.ClientTold.{Told}
-use Rattle.ua_channel.specs.ClientTold.Told.{Agreed, Opened, Answered, GaveUp, Renewed}
+use Rattle.ua_channel.specs.ClientTold.{ClientTold}
+use Rattle.ua_channel.specs.ClientTold.ClientTold.{Agreed, Opened, Answered, GaveUp, Renewed}
 use Rattle.ua_channel.specs.declared.client.event.ClientEvent.{ClientEvent}
 use Rattle.ua_channel.specs.declared.client.event.ClientEvent.TheVariants as event
 use Rattle.ua_services.specs.Request.{kind_of}
@@ -69,11 +69,11 @@ gave_up_at requests first id code n h =
 
 -- ---- what an event brings
 
-of-no-call : (requests : List Request) (first : ℕ) (t other : Told) → t ≡ other → ((n : ℕ) → is_told_of n other ≡ false) → PlacesReply requests first t (Ok None)
+of-no-call : (requests : List Request) (first : ℕ) (t other : ClientTold) → t ≡ other → ((n : ℕ) → is_told_of n other ≡ false) → PlacesReply requests first t (Ok None)
 of-no-call requests first t other e h = λ n few. ap (is_told_of (first + n)) e ∙ h (first + n)
 
 pub placed_other : (requests : List Request) (first : ℕ) (e : ClientEvent) → ((id : ℕ) (message : List (List ℕ)) → e ≡ event.Answered id message → ⊥) → ((id : ℕ) (code : StatusCode) → e ≡ event.Aborted id code → ⊥)
-    → (m : DateTime) (t : Told) → Says m e t → PlacesReply requests first t (Ok None)
+    → (m : DateTime) (t : ClientTold) → Says m e t → PlacesReply requests first t (Ok None)
 placed_other requests first event.NeedMore answered aborted m t h = absurd h
 placed_other requests first (event.Send sent) answered aborted m t h = of-no-call requests first t (Agreed h.1.0) h.1.1 (λ n. refl)
 placed_other requests first event.Open answered aborted m t h = of-no-call requests first t (Opened h.0 h.1.0) h.1.1 (λ n. refl)
@@ -83,26 +83,26 @@ placed_other requests first (event.Failed code peer) answered aborted m t h = ab
 placed_other requests first (event.Renewed token) answered aborted m t h = of-no-call requests first t (Renewed token) h (λ n. refl)
 
 pub placed_answered : (requests : List Request) (first id : ℕ) (message : List (List ℕ)) (e : ClientEvent) (result : Result (Option (ℕ × Reply)) ClientFault) → e ≡ event.Answered id message
-    → PlacesReply requests first (Answered id (concat message)) result → (m : DateTime) (t : Told) → Says m e t → PlacesReply requests first t result
+    → PlacesReply requests first (Answered id (concat message)) result → (m : DateTime) (t : ClientTold) → Says m e t → PlacesReply requests first t result
 placed_answered requests first id message e result is h m t says =
-    subst (λ (o : Told). PlacesReply requests first o result) (sym (subst (λ (x : ClientEvent). Says m x t) is says)) h
+    subst (λ (o : ClientTold). PlacesReply requests first o result) (sym (subst (λ (x : ClientEvent). Says m x t) is says)) h
 
 pub placed_aborted : (requests : List Request) (first id : ℕ) (code : StatusCode) (e : ClientEvent) (result : Result (Option (ℕ × Reply)) ClientFault) → e ≡ event.Aborted id code
-    → PlacesReply requests first (GaveUp id code) result → (m : DateTime) (t : Told) → Says m e t → PlacesReply requests first t result
+    → PlacesReply requests first (GaveUp id code) result → (m : DateTime) (t : ClientTold) → Says m e t → PlacesReply requests first t result
 placed_aborted requests first id code e result is h m t says =
-    subst (λ (o : Told). PlacesReply requests first o result) (sym (subst (λ (x : ClientEvent). Says m x t) is says)) h
+    subst (λ (o : ClientTold). PlacesReply requests first o result) (sym (subst (λ (x : ClientEvent). Says m x t) is says)) h
 
 -- ---- slots
 
-pub fills_none : (requests : List Request) (first : ℕ) (told : List Told) (t : Told) (slots : List (Option Reply)) → PlacesReply requests first t (Ok None) → AreSlots requests first told slots
+pub fills_none : (requests : List Request) (first : ℕ) (told : List ClientTold) (t : ClientTold) (slots : List (Option Reply)) → PlacesReply requests first t (Ok None) → AreSlots requests first told slots
     → FillsSlots requests first (told ++ t ∷ []) slots (Ok tt)
 fills_none requests first told t slots h s = slots-other requests first told t slots h s
 
-pub fills_some : (requests : List Request) (first : ℕ) (told : List Told) (t : Told) (slots : List (Option Reply)) (n : ℕ) (reply : Reply) → PlacesReply requests first t (Ok (Some (n, reply))) → IsFirstOf told t
+pub fills_some : (requests : List Request) (first : ℕ) (told : List ClientTold) (t : ClientTold) (slots : List (Option Reply)) (n : ℕ) (reply : Reply) → PlacesReply requests first t (Ok (Some (n, reply))) → IsFirstOf told t
     → AreSlots requests first told slots → FillsSlots requests first (told ++ t ∷ []) (set slots n (Some reply)) (Ok tt)
 fills_some requests first told t slots n reply h once s = slots-set requests first told t slots n h.0 reply s h.1 once h.2
 
-pub fills_fault : (requests : List Request) (first : ℕ) (told : List Told) (t : Told) (slots : List (Option Reply)) (x : ClientFault) → PlacesReply requests first t (Err x) → IsFirstOf told t
+pub fills_fault : (requests : List Request) (first : ℕ) (told : List ClientTold) (t : ClientTold) (slots : List (Option Reply)) (x : ClientFault) → PlacesReply requests first t (Err x) → IsFirstOf told t
     → AreSlots requests first told slots → FillsSlots requests first (told ++ t ∷ []) slots (Err x)
 fills_fault requests first told t slots fault.UnknownResponse h once s = (misanswered-at requests first told t slots h.0 h.1 h.2 once s h.3, front-lacking requests first told t slots h.0 h.1 once s h.2 h.3)
 fills_fault requests first told t slots fault.OutOfMemory h once s = tt

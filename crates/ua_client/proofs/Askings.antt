@@ -7,7 +7,7 @@ use Rattle.ua_frame.specs.declared.limits.Limits.{Limits}
 use Rattle.ua_chunk.specs.declared.lane.Lane.{Lane}
 use Rattle.ua_channel.specs.Asks.{Asking, Placed, asked_in, next_id}
 use Rattle.ua_channel.specs.Asks.Asking.{Call}
-use Rattle.ua_channel.specs.Client.{Stands, SameClient, InPhase, IsCall, limits_of, phase_of, next_of}
+use Rattle.ua_channel.specs.Client.{ClientStands, SameClient, InPhase, IsCall, client_limits, phase_of, client_next}
 use Rattle.ua_channel.specs.Received.{Received, received}
 use Rattle.ua_channel.specs.declared.client.channel.ClientChannel.{ClientChannel}
 use Rattle.ua_channel.specs.declared.client.phase.Phase.{Phase}
@@ -36,8 +36,8 @@ sends-in limits (Open t) before asked number body id out next h s = record {
 sends-in limits Done before asked number body id out next h s = absurd s
 
 pub sends-call : (x : ClientChannel) (asks : List Placed) (octets : List ℕ) (frames : List Frame) (rest : List ℕ) (number : ℕ) (body : List ℕ) (id : ℕ) (out : List ℕ) (next : ℕ)
-    → Stands x asks octets frames rest → IsCall (phase_of x) number body id out next → SendsCall (received frames) (asked_in asks) number body id out next
-sends-call x asks octets frames rest number body id out next s h = sends-in (limits_of x) (phase_of x) (received frames) (asked_in asks) number body id out next s.phase_is h
+    → ClientStands x asks octets frames rest → IsCall (phase_of x) number body id out next → SendsCall (received frames) (asked_in asks) number body id out next
+sends-call x asks octets frames rest number body id out next s h = sends-in (client_limits x) (phase_of x) (received frames) (asked_in asks) number body id out next s.phase_is h
 
 -- ---- one call more
 
@@ -82,30 +82,30 @@ next-calls asks place id bodies =
     let some = length-asked asks in
     omega (arith, all, sum, more, some)
 
-pub asks-nothing : (x : ClientChannel) (asks : List Placed) (octets : List ℕ) (frames : List Frame) (rest : List ℕ) → Stands x asks octets frames rest → AsksGroup [] x x asks octets frames rest []
-asks-nothing x asks octets frames rest s = record { stands = subst (λ (xs : List Placed). Stands x xs octets frames rest) (sym (append-nil asks)) s; out_is = refl; next_is = refl }
+pub asks-nothing : (x : ClientChannel) (asks : List Placed) (octets : List ℕ) (frames : List Frame) (rest : List ℕ) → ClientStands x asks octets frames rest → AsksGroup [] x x asks octets frames rest []
+asks-nothing x asks octets frames rest s = record { stands = subst (λ (xs : List Placed). ClientStands x xs octets frames rest) (sym (append-nil asks)) s; out_is = refl; next_is = refl }
 
 pub asks-more : (bodies : List (List ℕ)) (body : List ℕ) (old mid new : ClientChannel) (asks : List Placed) (octets : List ℕ) (frames : List Frame) (rest out : List ℕ) (id : ℕ) (more : List ℕ)
     → AsksGroup bodies old mid asks octets frames rest out
-    → ((xs : List Placed) (o : List ℕ) (fs : List Frame) (r : List ℕ) → Stands mid xs o fs r → Stands new (xs ++ (length o, Call id) ∷ []) o fs r)
-    → IsCall (phase_of mid) (next_of mid) body id more (next_of new)
+    → ((xs : List Placed) (o : List ℕ) (fs : List Frame) (r : List ℕ) → ClientStands mid xs o fs r → ClientStands new (xs ++ (length o, Call id) ∷ []) o fs r)
+    → IsCall (phase_of mid) (client_next mid) body id more (client_next new)
     → AsksGroup (bodies ++ body ∷ []) old new asks octets frames rest (out ++ more)
 asks-more bodies body old mid new asks octets frames rest out id more g stands sent =
     let first : ℕ = next_id (asked_in asks) in
     let here : List Placed = calls_at (length octets) first bodies in
     let lane : Option Lane = lane_behind (received frames) in
-    let s = sends-call mid (asks ++ here) octets frames rest (next_of mid) body id more (next_of new) g.stands sent in
+    let s = sends-call mid (asks ++ here) octets frames rest (client_next mid) body id more (client_next new) g.stands sent in
     let id_is : id ≡ first + length bodies = s.id_is ∙ next-calls asks (length octets) first bodies in
     record {
-      stands = subst (λ (xs : List Placed). Stands new xs octets frames rest)
+      stands = subst (λ (xs : List Placed). ClientStands new xs octets frames rest)
           (append_assoc asks here ((length octets, Call id) ∷ [])
           ∙ ap (λ (xs : List Placed). asks ++ xs) (ap (λ (n : ℕ). here ++ (length octets, Call n) ∷ []) id_is ∙ sym (calls-push (length octets) first bodies body)))
           (stands (asks ++ here) octets frames rest g.stands);
       out_is = ap (λ (o : List ℕ). o ++ more) g.out_is
-          ∙ (ap (λ (o : List ℕ). calls_octets lane (next_of old) first bodies ++ o)
-          (s.out_is ∙ (ap (λ (n : ℕ). call_octets lane n id body) g.next_is ∙ ap (λ (n : ℕ). call_octets lane (numbers_behind lane (next_of old) bodies) n body) id_is))
-          ∙ sym (octets-push lane (next_of old) first bodies body));
-      next_is = s.next_is ∙ (ap (λ (n : ℕ). number_behind lane n body) g.next_is ∙ sym (numbers-push lane (next_of old) bodies body));
+          ∙ (ap (λ (o : List ℕ). calls_octets lane (client_next old) first bodies ++ o)
+          (s.out_is ∙ (ap (λ (n : ℕ). call_octets lane n id body) g.next_is ∙ ap (λ (n : ℕ). call_octets lane (numbers_behind lane (client_next old) bodies) n body) id_is))
+          ∙ sym (octets-push lane (client_next old) first bodies body));
+      next_is = s.next_is ∙ (ap (λ (n : ℕ). number_behind lane n body) g.next_is ∙ sym (numbers-push lane (client_next old) bodies body));
     }
 
 -- the request id of the first
@@ -130,20 +130,20 @@ first-more (b ∷ bodies) body first id next h k = ap (λ (o : Option ℕ). Some
 
 -- these bodies are asked
 pub record Asked (bodies : List (List ℕ)) (old now : ClientChannel) (out : List ℕ) (first : Option ℕ) : Type 0 where
-  pub asks : (xs : List Placed) (os : List ℕ) (fs : List Frame) (r : List ℕ) → Stands old xs os fs r → AsksGroup bodies old now xs os fs r out × IsFirst first (next_id (asked_in xs)) bodies
+  pub asks : (xs : List Placed) (os : List ℕ) (fs : List Frame) (r : List ℕ) → ClientStands old xs os fs r → AsksGroup bodies old now xs os fs r out × IsFirst first (next_id (asked_in xs)) bodies
   pub same : SameClient old now
 
 pub asked-nothing : (x : ClientChannel) → Asked [] x x [] None
 asked-nothing x = record { asks = λ xs os fs r s. (asks-nothing x xs os fs r s, refl); same = record { limits = refl; url = refl } }
 
 pub asked-more : (bodies : List (List ℕ)) (body : List ℕ) (old mid new : ClientChannel) (out : List ℕ) (first : Option ℕ) (id : ℕ) (more : List ℕ) → Asked bodies old mid out first
-    → ((xs : List Placed) (os : List ℕ) (fs : List Frame) (r : List ℕ) → Stands mid xs os fs r → Stands new (xs ++ (length os, Call id) ∷ []) os fs r)
-    → IsCall (phase_of mid) (next_of mid) body id more (next_of new) → SameClient mid new → Asked (bodies ++ body ∷ []) old new (out ++ more) (Some (unwrap_or first id))
+    → ((xs : List Placed) (os : List ℕ) (fs : List Frame) (r : List ℕ) → ClientStands mid xs os fs r → ClientStands new (xs ++ (length os, Call id) ∷ []) os fs r)
+    → IsCall (phase_of mid) (client_next mid) body id more (client_next new) → SameClient mid new → Asked (bodies ++ body ∷ []) old new (out ++ more) (Some (unwrap_or first id))
 asked-more bodies body old mid new out first id more a stands sent same = record {
   asks = λ xs os fs r s.
       let g = a.asks xs os fs r s in (
         asks-more bodies body old mid new xs os fs r out id more g.0 stands sent,
-        first-more bodies body first id (next_id (asked_in xs)) g.1 (λ none. first-id bodies old mid xs os fs r out (next_of mid) body id more (next_of new) g.0 none sent),
+        first-more bodies body first id (next_id (asked_in xs)) g.1 (λ none. first-id bodies old mid xs os fs r out (client_next mid) body id more (client_next new) g.0 none sent),
       );
   same = record { limits = a.same.limits ∙ same.limits; url = a.same.url ∙ same.url };
 }
@@ -153,7 +153,7 @@ first-is [] first id h some = absurd (omega (arith, some))
 first-is (b ∷ bodies) first id h some = ap (λ (o : Option ℕ). unwrap_or o 0) h
 
 pub asked-all : (bodies all : List (List ℕ)) (old now : ClientChannel) (out : List ℕ) (first : Option ℕ) → Asked bodies old now out first → bodies ≡ all
-    → (xs : List Placed) (os : List ℕ) (fs : List Frame) (r : List ℕ) → Stands old xs os fs r → AsksFrom all old now xs os fs r (unwrap_or first 0, out)
+    → (xs : List Placed) (os : List ℕ) (fs : List Frame) (r : List ℕ) → ClientStands old xs os fs r → AsksFrom all old now xs os fs r (unwrap_or first 0, out)
 asked-all bodies all old now out first a e xs os fs r s =
     let g = a.asks xs os fs r s in
     subst (λ (bs : List (List ℕ)). AsksFrom bs old now xs os fs r (unwrap_or first 0, out)) e (first-is bodies first (next_id (asked_in xs)) g.1, g.0)

@@ -4,7 +4,7 @@ use Rattle.std.proofs.Common.{refl, sym, ◌∙◌, ap, subst, append_assoc, app
 use Rattle.std.proofs.Math.Seq.{take-add, take-length}
 use Rattle.std.proofs.lemmas.List.{length-append, length-drop, take-append-drop}
 use Rattle.ua_octets.specs.Format.{Extends}
-use Rattle.ua_channel.specs.Line.{Traffic, Hands, Takes, WhereTold}
+use Rattle.ua_channel.specs.Line.{Traffic, HandsOut, Takes, WhereTold}
 use Rattle.ua_channel.specs.declared.line.LineFault.{LineFault}
 use Rattle.ua_client.specs.Carried.{Carries, IsAtEnd, IsPart, WritesFront}
 
@@ -40,12 +40,12 @@ failed-write fault octets (Some a) (Some b) h = ap (λ (t : Traffic). Some t) h
 failed-write fault octets (Some a) None h = absurd h
 failed-write fault octets None b h = h
 
-pub had-read : (buffer : List ℕ) (n : ℕ) (a b : Option Traffic) → WhereTold (Hands (Ok n) buffer) a b → WhereTold (Carries (take n buffer) []) a b
+pub had-read : (buffer : List ℕ) (n : ℕ) (a b : Option Traffic) → WhereTold (HandsOut (Ok n) buffer) a b → WhereTold (Carries (take n buffer) []) a b
 had-read buffer n (Some a) (Some b) h = record { coming = h.0; written = h.1 ∙ sym (append-nil a.written) }
 had-read buffer n (Some a) None h = absurd h
 had-read buffer n None b h = h
 
-pub read-end : (buffer : List ℕ) (n : ℕ) (a b : Option Traffic) → WhereTold (Hands (Ok n) buffer) a b → 0 < length buffer → n ≡ 0 → IsAtEnd b
+pub read-end : (buffer : List ℕ) (n : ℕ) (a b : Option Traffic) → WhereTold (HandsOut (Ok n) buffer) a b → 0 < length buffer → n ≡ 0 → IsAtEnd b
 read-end buffer n (Some a) (Some b) h room none =
     let all : a.coming [] ≡ [] = h.2 none room in
     sym (h.0 [] ∙ ap (λ (k : ℕ). take k buffer ++ b.coming []) none) ∙ all
@@ -53,7 +53,7 @@ read-end buffer n (Some a) None h room none = tt
 read-end buffer n None None h room none = tt
 read-end buffer n None (Some b) h room none = absurd cc
 
-pub failed-read : (fault : LineFault) (buffer : List ℕ) (a b : Option Traffic) → WhereTold (Hands (Err fault) buffer) a b → b ≡ a
+pub failed-read : (fault : LineFault) (buffer : List ℕ) (a b : Option Traffic) → WhereTold (HandsOut (Err fault) buffer) a b → b ≡ a
 failed-read fault buffer (Some a) (Some b) h = ap (λ (t : Traffic). Some t) h
 failed-read fault buffer (Some a) None h = absurd h
 failed-read fault buffer None b h = h

@@ -2,7 +2,7 @@
 use Rattle.std.specs.Prelude.{◌≡◌, ◌+◌, ◌<◌, ◌++◌, ℕ, zero, suc, Bool, true, false, cond, List, [], ◌∷◌, length, Option, Some, None}
 use Rattle.std.proofs.Common.{refl, ◌∙◌, ap, subst, eqb, get_or, set, rules, append-nil, arith, add-zero}
 use Rattle.std.proofs.lemmas.Bool.{eqb-true}
-use Rattle.ua_channel.specs.ClientTold.{Told}
+use Rattle.ua_channel.specs.ClientTold.{ClientTold}
 use Rattle.ua_services.specs.Request.{kind_of}
 use Rattle.ua_services.specs.declared.request.Request.{Request}
 use Rattle.ua_services.specs.declared.request.RequestKind.{RequestKind}
@@ -14,23 +14,23 @@ use Rattle.ua_client.specs.declared.reply.Reply.TheVariants.{Response as Respond
 
 -- ---- one thing more that was told
 
-pub told-other : (id : ℕ) (told : List Told) (t : Told) → is_told_of id t ≡ false → told_of id (told ++ t ∷ []) ≡ told_of id told
+pub told-other : (id : ℕ) (told : List ClientTold) (t : ClientTold) → is_told_of id t ≡ false → told_of id (told ++ t ∷ []) ≡ told_of id told
 told-other id told t other =
     told-more id told t
     ∙ (ap (λ (b : Bool). told_of id told ++ cond b (t ∷ []) []) other ∙ append-nil (told_of id told))
 
-pub told-own : (id : ℕ) (told : List Told) (t : Told) → is_told_of id t ≡ true → told_of id told ≡ [] → told_of id (told ++ t ∷ []) ≡ t ∷ []
+pub told-own : (id : ℕ) (told : List ClientTold) (t : ClientTold) → is_told_of id t ≡ true → told_of id told ≡ [] → told_of id (told ++ t ∷ []) ≡ t ∷ []
 told-own id told t own none =
     told-more id told t
-    ∙ (ap (λ (b : Bool). told_of id told ++ cond b (t ∷ []) []) own ∙ ap (λ (ts : List Told). ts ++ t ∷ []) none)
+    ∙ (ap (λ (b : Bool). told_of id told ++ cond b (t ∷ []) []) own ∙ ap (λ (ts : List ClientTold). ts ++ t ∷ []) none)
 
 -- ---- slots
 
-slot-other : (request : Request) (id : ℕ) (told : List Told) (t : Told) (slot : Option Reply) → is_told_of id t ≡ false → IsSlot request id told slot → IsSlot request id (told ++ t ∷ []) slot
+slot-other : (request : Request) (id : ℕ) (told : List ClientTold) (t : ClientTold) (slot : Option Reply) → is_told_of id t ≡ false → IsSlot request id told slot → IsSlot request id (told ++ t ∷ []) slot
 slot-other request id told t None other h = told-other id told t other ∙ h
 slot-other request id told t (Some reply) other h = (h.0, told-other id told t other ∙ h.1, h.2)
 
-pub slots-other : (requests : List Request) (id : ℕ) (told : List Told) (t : Told) (slots : List (Option Reply)) → IsOfNone id (length requests) t → AreSlots requests id told slots → AreSlots requests id (told ++ t ∷ []) slots
+pub slots-other : (requests : List Request) (id : ℕ) (told : List ClientTold) (t : ClientTold) (slots : List (Option Reply)) → IsOfNone id (length requests) t → AreSlots requests id told slots → AreSlots requests id (told ++ t ∷ []) slots
 slots-other [] id told t [] other h = tt
 slots-other [] id told t (slot ∷ slots) other h = h
 slots-other (r ∷ rs) id told t [] other h = h
@@ -43,11 +43,11 @@ slots-other (r ∷ rs) id told t (slot ∷ slots) other h = (
     one-on a b = omega arith
 
 -- what was told is of one call alone
-of-one : (kind : RequestKind) (id other : ℕ) (t : Told) (reply : Reply) → IsReplyBy kind id t reply → eqb id other ≡ false → is_told_of other t ≡ false
+of-one : (kind : RequestKind) (id other : ℕ) (t : ClientTold) (reply : Reply) → IsReplyBy kind id t reply → eqb id other ≡ false → is_told_of other t ≡ false
 of-one kind id other t (Responds m) h e = ap (is_told_of other) h.1 ∙ e
 of-one kind id other t (Aborted code) h e = ap (is_told_of other) h ∙ e
 
-own-one : (kind : RequestKind) (id : ℕ) (t : Told) (reply : Reply) → IsReplyBy kind id t reply → is_told_of id t ≡ true
+own-one : (kind : RequestKind) (id : ℕ) (t : ClientTold) (reply : Reply) → IsReplyBy kind id t reply → is_told_of id t ≡ true
 own-one kind id t (Responds m) h = ap (is_told_of id) h.1 ∙ same id
   where
     same : (n : ℕ) → eqb n n ≡ true
@@ -64,7 +64,7 @@ eqb-other a b h = by (eqb a b) refl
     by true e = absurd (h (eqb-true a b e))
     by false e = e
 
-pub slots-set : (requests : List Request) (id : ℕ) (told : List Told) (t : Told) (slots : List (Option Reply)) (n : ℕ) (request : Request) (reply : Reply)
+pub slots-set : (requests : List Request) (id : ℕ) (told : List ClientTold) (t : ClientTold) (slots : List (Option Reply)) (n : ℕ) (request : Request) (reply : Reply)
     → AreSlots requests id told slots → IsAt requests n request → IsFirstOf told t → IsReplyBy (kind_of request) (id + n) t reply → AreSlots requests id (told ++ t ∷ []) (set slots n (Some reply))
 slots-set [] id told t slots n request reply h at first by = absurd at
 slots-set (r ∷ rs) id told t [] n request reply h at first by = absurd h
@@ -82,7 +82,7 @@ slots-set (r ∷ rs) id told t (slot ∷ slots) (suc n) request reply h at first
     one-on : (a b : ℕ) → a + suc b ≡ (a + 1) + b
     one-on a b = omega arith
 
-pub misanswered-at : (requests : List Request) (id : ℕ) (told : List Told) (t : Told) (slots : List (Option Reply)) (n : ℕ) (request : Request) → IsAt requests n request → IsFirstOf told t → AreSlots requests id told slots
+pub misanswered-at : (requests : List Request) (id : ℕ) (told : List ClientTold) (t : ClientTold) (slots : List (Option Reply)) (n : ℕ) (request : Request) → IsAt requests n request → IsFirstOf told t → AreSlots requests id told slots
     → IsMisanswer (kind_of request) (id + n) t → IsMisanswered requests id (told ++ t ∷ [])
 misanswered-at requests id told t slots n request at first h by = record {
   before = told;

@@ -20,7 +20,7 @@ use Rattle.ua_structures.specs.declared.secure_channel.OpenResponse.{OpenRespons
 use Rattle.ua_channel.specs.Asks.{Asking, Placed, asked_before, end_of}
 use Rattle.ua_channel.specs.ClientTable.{ack_gate, answer_gate, client_gate, client_reasons, client_rules, is_bad}
 use Rattle.ua_channel.specs.ClientTokens.{answer_in, response_listed, responses}
-use Rattle.ua_channel.specs.ClientTold.{Told, client_tells, told_response}
+use Rattle.ua_channel.specs.ClientTold.{ClientTold, client_tells, told_response}
 use Rattle.ua_channel.specs.Content.{Content, Opening, content, content_by, opening_of}
 use Rattle.ua_channel.specs.Content.Content.{Acks, Fails, Opens}
 use Rattle.ua_channel.specs.Received.{Received, after, nothing_received, received}
@@ -31,12 +31,12 @@ use Rattle.ua_client.proofs.Renewals.{none-holds}
 -- ---- the order
 
 -- nothing is told, or first that the channel is open
-abbrev pub IsOpening : List Told → Type 0
+abbrev pub IsOpening : List ClientTold → Type 0
 IsOpening [] = Unit {0}
 IsOpening (t ∷ ts) = is_opened t ≡ true
 
 -- nothing is told, or first an ACK, and behind it nothing, or first that the channel is open
-abbrev pub IsGreeting : List Told → Type 0
+abbrev pub IsGreeting : List ClientTold → Type 0
 IsGreeting [] = Unit {0}
 IsGreeting (t ∷ ts) = (is_agreed t ≡ true) × IsOpening ts
 
@@ -118,7 +118,7 @@ second-frame limits before asked f a greeted place e = by (opens-by a.send_buffe
 
 -- ---- all frames
 
-opening-told : (before : Received) (a : Ack) (c : Content) (o : Opening) (r : OpenResponse) (more : List Told) → before ≡ record nothing_received { ack = Some a } → c ≡ Opens o → answer_in o ≡ Some (Open r)
+opening-told : (before : Received) (a : Ack) (c : Content) (o : Opening) (r : OpenResponse) (more : List ClientTold) → before ≡ record nothing_received { ack = Some a } → c ≡ Opens o → answer_in o ≡ Some (Open r)
     → IsOpening (client_tells before c ++ more)
 unfolding responses
 opening-told before a c o r more greeted carries answer =

@@ -8,8 +8,8 @@ use Rattle.ua_frame.specs.declared.frame.Frame.{Frame}
 use Rattle.ua_services.specs.Request.{request}
 use Rattle.ua_services.specs.declared.request.Request.{Request}
 use Rattle.ua_channel.specs.Asks.{Placed, asked_in, next_id}
-use Rattle.ua_channel.specs.Client.{Goes, Stands, SameClient, ask_refusal, phase_of, next_of}
-use Rattle.ua_channel.specs.ClientTold.{Told}
+use Rattle.ua_channel.specs.Client.{ClientGoes, ClientStands, SameClient, ask_refusal, phase_of, client_next}
+use Rattle.ua_channel.specs.ClientTold.{ClientTold}
 use Rattle.ua_channel.specs.Line.{Traffic, WhereTold, one_more}
 use Rattle.ua_channel.specs.Received.{Received, received}
 use Rattle.ua_channel.specs.declared.client.channel.ClientChannel.{ClientChannel}
@@ -104,7 +104,7 @@ by-group phase more (m ∷ ms) x e =
 
 -- ---- a group
 
-untold-from : (requests : List Request) (id : ℕ) (told : List Told) → ((n : ℕ) → told_of (id + n) told ≡ []) → AreUntold requests id told
+untold-from : (requests : List Request) (id : ℕ) (told : List ClientTold) → ((n : ℕ) → told_of (id + n) told ≡ []) → AreUntold requests id told
 untold-from [] id told h = tt
 untold-from (r ∷ rs) id told h = (
   subst (λ (k : ℕ). told_of k told ≡ []) (add-zero id) (h 0),
@@ -116,7 +116,7 @@ untold-from (r ∷ rs) id told h = (
 
 -- the law of what is told of calls that are not asked yet
 abbrev pub ToldBehind : Type 0
-ToldBehind = (x : ClientChannel) (asks : List Placed) (octets : List ℕ) (told : List Told) (n : ℕ) → Goes x asks octets told → told_of (next_id (asked_in asks) + n) told ≡ []
+ToldBehind = (x : ClientChannel) (asks : List Placed) (octets : List ℕ) (told : List ClientTold) (n : ℕ) → ClientGoes x asks octets told → told_of (next_id (asked_in asks) + n) told ≡ []
 
 -- nothing moved
 abbrev pub moves-nothing : (x y : Connection) (t : Option Traffic) → untaken_of y ≡ untaken_of x → Moves x y [] t t
@@ -252,7 +252,7 @@ pub record IsAsked (requests : List Request) (old mid : Connection) (first : ℕ
   pub piece : untaken_of mid ≡ untaken_of old
   pub same : SameClient (channel_of old) (channel_of mid)
   pub some : 0 < length requests
-  pub asks : (xs : List Placed) (os : List ℕ) (fs : List Frame) (r : List ℕ) → Stands (channel_of old) xs os fs r → AsksFrom bodies (channel_of old) (channel_of mid) xs os fs r (first, out)
+  pub asks : (xs : List Placed) (os : List ℕ) (fs : List Frame) (r : List ℕ) → ClientStands (channel_of old) xs os fs r → AsksFrom bodies (channel_of old) (channel_of mid) xs os fs r (first, out)
 
 module _ (requests : List Request) (old mid : Connection) (first : ℕ) (out : List ℕ) (q : IsAsked requests old mid first out) where
   module _ (s : Site) (at : At (channel_of old) s) where
@@ -260,19 +260,19 @@ module _ (requests : List Request) (old mid : Connection) (first : ℕ) (out : L
     asked = subst (λ (bs : List (List ℕ)). AsksFrom bs (channel_of old) (channel_of mid) s.asks s.octets at.goes.frames at.goes.rest (first, out)) q.bodies_are
         (q.asks s.asks s.octets at.goes.frames at.goes.rest at.goes.stands)
 
-    goes-asked : Goes (channel_of mid) (asked_at s requests) s.octets s.told
+    goes-asked : ClientGoes (channel_of mid) (asked_at s requests) s.octets s.told
     goes-asked = record { frames = at.goes.frames; rest = at.goes.rest; stands = asked.1.stands; told_is = at.goes.told_is }
 
     sent-asked : out ≡ sent_at s requests
     sent-asked =
         asked.1.out_is
-        ∙ (ap (λ (b : Received). calls_octets (lane_behind b) (next_of (channel_of old)) (id_at s) (bodies_of requests)) at.before_is
+        ∙ (ap (λ (b : Received). calls_octets (lane_behind b) (client_next (channel_of old)) (id_at s) (bodies_of requests)) at.before_is
         ∙ ap (λ (n : ℕ). calls_octets (lane_behind s.before) n (id_at s) (bodies_of requests)) at.number_is)
 
-    next-asked : next_of (channel_of mid) ≡ numbers_behind (lane_behind s.before) s.number (bodies_of requests)
+    next-asked : client_next (channel_of mid) ≡ numbers_behind (lane_behind s.before) s.number (bodies_of requests)
     next-asked =
         asked.1.next_is
-        ∙ (ap (λ (b : Received). numbers_behind (lane_behind b) (next_of (channel_of old)) (bodies_of requests)) at.before_is
+        ∙ (ap (λ (b : Received). numbers_behind (lane_behind b) (client_next (channel_of old)) (bodies_of requests)) at.before_is
         ∙ ap (λ (n : ℕ). numbers_behind (lane_behind s.before) n (bodies_of requests)) at.number_is)
 
     length-bodies : length (bodies_of requests) ≡ length requests
@@ -401,7 +401,7 @@ module _ (requests : List Request) (old mid : Connection) (first : ℕ) (out : L
             let h = collected (Ok done) c s at in (
               sent-asked s at,
               (
-                record { asks = asked_at s requests; octets = s.octets ++ c.moves.taken; before = received h.1.frames; told = s.told ++ h.0; number = next_of (channel_of new) },
+                record { asks = asked_at s requests; octets = s.octets ++ c.moves.taken; before = received h.1.frames; told = s.told ++ h.0; number = client_next (channel_of new) },
                 record { goes = h.1; before_is = refl; number_is = refl },
                 h.2.2,
                 record {

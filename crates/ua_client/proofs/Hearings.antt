@@ -9,11 +9,11 @@ use Rattle.ua_builtin.specs.declared.status_code.StatusCode.{StatusCode}
 use Rattle.ua_frame.specs.Run.{Run, Going, events}
 use Rattle.ua_frame.specs.declared.limits.Limits.{Limits}
 use Rattle.ua_channel.specs.Asks.{Placed}
-use Rattle.ua_channel.specs.Client.{Goes, GoesTelling, Ended, IsDone, SameClient, limits_of, url_of, next_of}
-use Rattle.ua_channel.specs.ClientAnswers.{ClientAnswers, Progress}
+use Rattle.ua_channel.specs.Client.{ClientGoes, ClientGoesTelling, ClientEnded, IsClientDone, SameClient, client_limits, url_of, client_next}
+use Rattle.ua_channel.specs.ClientAnswers.{ClientAnswers, ClientProgress}
 use Rattle.ua_channel.specs.ClientTable.{client_rules}
-use Rattle.ua_channel.specs.ClientTold.{Told}
-use Rattle.ua_channel.specs.ClientTold.Told.{Agreed, Opened, Answered, GaveUp, Renewed}
+use Rattle.ua_channel.specs.ClientTold.{ClientTold}
+use Rattle.ua_channel.specs.ClientTold.ClientTold.{Agreed, Opened, Answered, GaveUp, Renewed}
 use Rattle.ua_channel.specs.Line.{Traffic, WhereTold}
 use Rattle.ua_channel.specs.declared.client.channel.ClientChannel.{ClientChannel}
 use Rattle.ua_channel.specs.declared.client.event.ClientEvent.{ClientEvent}
@@ -29,7 +29,7 @@ use Rattle.ua_client.proofs.Carrying.{carried-nothing, carried-then}
 
 -- ---- one call of the channel
 
-told-at : (moment : DateTime) (piece : List ℕ) (n : ℕ) (e : ClientEvent) (new : ClientChannel) (asks : List Placed) (octets : List ℕ) (told : List Told)
+told-at : (moment : DateTime) (piece : List ℕ) (n : ℕ) (e : ClientEvent) (new : ClientChannel) (asks : List Placed) (octets : List ℕ) (told : List ClientTold)
     → (e ≡ event.NeedMore → ⊥) → ((code : StatusCode) (peer : Bool) → e ≡ event.Failed code peer → ⊥) → ClientAnswers moment piece (Ok (n, e)) new asks octets told → TellsEvent moment e new asks (octets ++ take n piece) told
 told-at moment piece n event.NeedMore new asks octets told not good h = absurd (not refl)
 told-at moment piece n (event.Send sent) new asks octets told not good h = (Agreed h.ack, (h.sent_is, (h.ack, refl)), h.goes)
@@ -41,11 +41,11 @@ told-at moment piece n (event.Renewed token) new asks octets told not good h = (
 
 -- a channel took this of what was untaken
 abbrev pub Took : Connection → DateTime → ClientChannel → Result (ℕ × ClientEvent) ClientTakeFault → Type 0
-Took old moment new found = (asks : List Placed) (octets : List ℕ) (told : List Told) → Goes (channel_of old) asks octets told → ClientAnswers moment (untaken_of old) found new asks octets told
+Took old moment new found = (asks : List Placed) (octets : List ℕ) (told : List ClientTold) → ClientGoes (channel_of old) asks octets told → ClientAnswers moment (untaken_of old) found new asks octets told
 
 -- the same by what was given to the channel, and by its event
 pub took-as : (old : Connection) (moment : DateTime) (new : ClientChannel) (piece : List ℕ) (found : Result (ℕ × ClientEvent) ClientTakeFault) → piece ≡ untaken_of old
-    → ((asks : List Placed) (octets : List ℕ) (told : List Told) → Goes (channel_of old) asks octets told → ClientAnswers moment piece found new asks octets told) → Took old moment new found
+    → ((asks : List Placed) (octets : List ℕ) (told : List ClientTold) → ClientGoes (channel_of old) asks octets told → ClientAnswers moment piece found new asks octets told) → Took old moment new found
 took-as old moment new piece found e h = λ asks octets told g. subst (λ (p : List ℕ). ClientAnswers moment p found new asks octets told) e (h asks octets told g)
 
 pub took-event : (old : Connection) (moment : DateTime) (new : ClientChannel) (n : ℕ) (e f : ClientEvent) → e ≡ f → Took old moment new (Ok (n, e)) → Took old moment new (Ok (n, f))
@@ -64,7 +64,7 @@ listens-none old new moment n keeps none h = record {
 less-left : (n l : ℕ) → n ≤ l → (0 < l → 0 < n) → 0 < l → l - n < l
 less-left n l few some more = let k = some more in omega (arith, few, k, more)
 
-pub listens-some : (old new : Connection) (moment : DateTime) (n : ℕ) (e : ClientEvent) → Keeps old new → (e ≡ event.NeedMore → ⊥) → ((code : StatusCode) (peer : Bool) → e ≡ event.Failed code peer → ⊥) → Progress {A = ClientEvent} (untaken_of old) (Ok (n, e)) → untaken_of new ≡ drop n (untaken_of old)
+pub listens-some : (old new : Connection) (moment : DateTime) (n : ℕ) (e : ClientEvent) → Keeps old new → (e ≡ event.NeedMore → ⊥) → ((code : StatusCode) (peer : Bool) → e ≡ event.Failed code peer → ⊥) → ClientProgress {A = ClientEvent} (untaken_of old) (Ok (n, e)) → untaken_of new ≡ drop n (untaken_of old)
     → Took old moment (channel_of new) (Ok (n, e)) → Listens old new moment (Ok (Some e))
 listens-some old new moment n e keeps not good few rest h = record {
   keeps = keeps;
@@ -75,8 +75,8 @@ listens-some old new moment n e keeps not good few rest h = record {
   answers = λ asks octets told g. told-at moment (untaken_of old) n e (channel_of new) asks octets told not good (h asks octets told g);
 }
 
-failed-at : (moment : DateTime) (code : StatusCode) (peer : Bool) (new : ClientChannel) (asks : List Placed) (octets : List ℕ) (told : List Told)
-    → Ended new asks octets told (record { code = code.code; peer = peer }) → ListensAt moment (Err (failure_of code peer)) new asks octets told
+failed-at : (moment : DateTime) (code : StatusCode) (peer : Bool) (new : ClientChannel) (asks : List Placed) (octets : List ℕ) (told : List ClientTold)
+    → ClientEnded new asks octets told (record { code = code.code; peer = peer }) → ListensAt moment (Err (failure_of code peer)) new asks octets told
 failed-at moment code true new asks octets told h = h
 failed-at moment code false new asks octets told h = h
 
@@ -96,17 +96,17 @@ listens-failed old new moment n code peer keeps rest h = record {
 }
 
 -- memory was refused where a channel went on
-starves : (x y : ClientChannel) (asks : List Placed) (octets : List ℕ) (told : List Told) → SameClient x y → Goes x asks octets told → IsDone y → Starved y asks (octets ++ []) told
+starves : (x y : ClientChannel) (asks : List Placed) (octets : List ℕ) (told : List ClientTold) → SameClient x y → ClientGoes x asks octets told → IsClientDone y → Starved y asks (octets ++ []) told
 starves x y asks octets told same g done = record {
   done = done;
   frames = g.frames;
   rest = g.rest;
-  run = subst (λ (o : List ℕ). Run (client_rules (limits_of y) asks) o g.frames g.rest Going) (sym (append-nil octets))
+  run = subst (λ (o : List ℕ). Run (client_rules (client_limits y) asks) o g.frames g.rest Going) (sym (append-nil octets))
       (subst (λ (l : Limits). Run (client_rules l asks) octets g.frames g.rest Going) same.limits g.stands.run);
   told_is = subst (λ (l : Limits). events (client_rules l asks) g.frames ≡ told) same.limits g.told_is;
 }
 
-fault-at : (f : ClientTakeFault) (old new : Connection) (moment : DateTime) (asks : List Placed) (octets : List ℕ) (told : List Told) → Keeps old new → Goes (channel_of old) asks octets told
+fault-at : (f : ClientTakeFault) (old new : Connection) (moment : DateTime) (asks : List Placed) (octets : List ℕ) (told : List ClientTold) → Keeps old new → ClientGoes (channel_of old) asks octets told
     → ClientAnswers moment (untaken_of old) (Err f) (channel_of new) asks octets told → ListensAt moment (Err (of_take_fault f)) (channel_of new) asks (octets ++ []) told
 fault-at take_fault.Closed old new moment asks octets told keeps g h = h
 fault-at take_fault.OutOfMemory old new moment asks octets told keeps g h = starves (channel_of old) (channel_of new) asks octets told keeps.same g h
@@ -207,13 +207,13 @@ keeps-then a b c h k = record { same = record { limits = h.same.limits ∙ k.sam
 
 -- a read does not touch the channel
 keeps-channel : (a b : Connection) → channel_of b ≡ channel_of a → Keeps a b
-keeps-channel a b e = record { same = record { limits = ap limits_of (sym e); url = ap url_of (sym e) }; next = ap next_of e }
+keeps-channel a b e = record { same = record { limits = ap client_limits (sym e); url = ap url_of (sym e) }; next = ap client_next e }
 
 -- so far nothing was told
 pub record Quiet (old now : Connection) (before at : Option Traffic) (reads left : ℕ) : Type 0 where
   pub moves : Moves old now [] before at
   pub keeps : Keeps old now
-  pub goes : (asks : List Placed) (octets : List ℕ) (told : List Told) → Goes (channel_of old) asks octets told → Goes (channel_of now) asks (octets ++ moves.taken) told
+  pub goes : (asks : List Placed) (octets : List ℕ) (told : List ClientTold) → ClientGoes (channel_of old) asks octets told → ClientGoes (channel_of now) asks (octets ++ moves.taken) told
   pub no_more : effort left now ≤ effort reads old
   pub spent : reads ≤ left + length moves.got
 
@@ -221,7 +221,7 @@ pub quiet-nothing : (x : Connection) (t : Option Traffic) (reads : ℕ) → Quie
 quiet-nothing x t reads = record {
   moves = moves-writing x x [] t t refl (carried-nothing t);
   keeps = keeps-all x;
-  goes = λ asks octets told g. subst (λ (o : List ℕ). Goes (channel_of x) asks o told) (sym (append-nil octets)) g;
+  goes = λ asks octets told g. subst (λ (o : List ℕ). ClientGoes (channel_of x) asks o told) (sym (append-nil octets)) g;
   no_more = omega arith;
   spent = omega arith;
 }
@@ -234,8 +234,8 @@ module _ (old now mid : Connection) (before at then : Option Traffic) (reads lef
   abbrev moves-then : {A : Type 0} (result : Result A ClientFault) (new : Connection) (part : List ℕ) → Fills now mid at then left less result → untaken_of mid ≡ part ++ untaken_of new → Moves old new [] before then
   moves-then result new part f l = moves-behind old now new [] [] before at then q.moves (moves-reading now mid new at then left less result part f l)
 
-  goes-then : {A : Type 0} (result : Result A ClientFault) → Fills now mid at then left less result → (asks : List Placed) (octets : List ℕ) (told : List Told) → Goes (channel_of old) asks octets told → Goes (channel_of mid) asks (octets ++ q.moves.taken) told
-  goes-then result f asks octets told g = subst (λ (c : ClientChannel). Goes c asks (octets ++ q.moves.taken) told) (sym f.channel) (q.goes asks octets told g)
+  goes-then : {A : Type 0} (result : Result A ClientFault) → Fills now mid at then left less result → (asks : List Placed) (octets : List ℕ) (told : List ClientTold) → ClientGoes (channel_of old) asks octets told → ClientGoes (channel_of mid) asks (octets ++ q.moves.taken) told
+  goes-then result f asks octets told g = subst (λ (c : ClientChannel). ClientGoes c asks (octets ++ q.moves.taken) told) (sym f.channel) (q.goes asks octets told g)
 
   keeps-here : {A : Type 0} (result : Result A ClientFault) → Fills now mid at then left less result → (new : Connection) → Keeps mid new → Keeps old new
   keeps-here result f new k = keeps-then old mid new (keeps-then old now mid q.keeps (keeps-channel now mid f.channel)) k
@@ -244,7 +244,7 @@ module _ (old now mid : Connection) (before at then : Option Traffic) (reads lef
   spent-then more h = let l = length-append q.moves.got more in let s = q.spent in omega (arith, l, s, h)
 
   module _ {A : Type 0} (done : A) (f : Fills now mid at then left less (Ok done)) (new : Connection) (moment : DateTime) where
-    listened : (result : Result (Option ClientEvent) ClientFault) (l : Listens mid new moment result) (asks : List Placed) (octets : List ℕ) (told : List Told) → Goes (channel_of old) asks octets told
+    listened : (result : Result (Option ClientEvent) ClientFault) (l : Listens mid new moment result) (asks : List Placed) (octets : List ℕ) (told : List ClientTold) → ClientGoes (channel_of old) asks octets told
         → ListensAt moment result (channel_of new) asks (octets ++ (q.moves.taken ++ l.taken)) told
     listened result l asks octets told g =
         subst (λ (o : List ℕ). ListensAt moment result (channel_of new) asks o told) (append_assoc octets q.moves.taken l.taken)
@@ -280,7 +280,7 @@ module _ (old now mid : Connection) (before at then : Option Traffic) (reads lef
           stops = spent-then f.got f.found.1;
         }
 
-    listen-fault : (x : ClientFault) (asks : List Placed) (octets : List ℕ) (told : List Told) → ListensAt moment (Err x) (channel_of new) asks octets told → HearsAt moment (Err x) (channel_of new) asks octets told
+    listen-fault : (x : ClientFault) (asks : List Placed) (octets : List ℕ) (told : List ClientTold) → ListensAt moment (Err x) (channel_of new) asks octets told → HearsAt moment (Err x) (channel_of new) asks octets told
     listen-fault (fault.Peer code) asks octets told h = h
     listen-fault (fault.Refused code) asks octets told h = h
     listen-fault fault.OutOfMemory asks octets told h = h
@@ -338,7 +338,7 @@ module _ (old now mid : Connection) (before at then : Option Traffic) (reads lef
       stops = channel-stops x (q.moves.got ++ f.got) l.faults;
     }
 
-  moment-free : (moment : DateTime) (x : ClientFault) (got : List ℕ) → FillsAt {A = Unit {0}} left less got mid then (Err x) → (asks : List Placed) (octets : List ℕ) (told : List Told) → Goes (channel_of mid) asks octets told → HearsAt moment (Err x) (channel_of mid) asks octets told
+  moment-free : (moment : DateTime) (x : ClientFault) (got : List ℕ) → FillsAt {A = Unit {0}} left less got mid then (Err x) → (asks : List Placed) (octets : List ℕ) (told : List ClientTold) → ClientGoes (channel_of mid) asks octets told → HearsAt moment (Err x) (channel_of mid) asks octets told
   moment-free moment fault.TooLong got h asks octets told g = g
   moment-free moment fault.Ended got h asks octets told g = g
   moment-free moment fault.Read got h asks octets told g = g
@@ -391,7 +391,7 @@ module _ (old now mid : Connection) (before at then : Option Traffic) (reads lef
     moves = moves-then (Err x) mid [] f refl;
     keeps = keeps-here (Err x) f mid (keeps-all mid);
     answers = λ asks octets told g. moment-free moment x f.got f.found asks (octets ++ (q.moves.taken ++ [])) told
-        (subst (λ (t : List ℕ). Goes (channel_of mid) asks (octets ++ t) told) (sym (append-nil q.moves.taken)) (goes-then (Err x) f asks octets told g));
+        (subst (λ (t : List ℕ). ClientGoes (channel_of mid) asks (octets ++ t) told) (sym (append-nil q.moves.taken)) (goes-then (Err x) f asks octets told g));
     less = tt;
     faults = read-heard x f.got f.found;
     stops = read-stops x f.got f.found;
@@ -401,7 +401,7 @@ module _ (old now mid : Connection) (before at then : Option Traffic) (reads lef
 
 -- behind a frame that tells something a channel goes on
 abbrev pub GoesOnBehind : Type 0
-GoesOnBehind = (x : ClientChannel) (asks : List Placed) (octets : List ℕ) (told : List Told) (e : Told) → GoesTelling x asks octets told e → Goes x asks octets (told ++ e ∷ [])
+GoesOnBehind = (x : ClientChannel) (asks : List Placed) (octets : List ℕ) (told : List ClientTold) (e : ClientTold) → ClientGoesTelling x asks octets told e → ClientGoes x asks octets (told ++ e ∷ [])
 
 -- a fault of the channel is none of the line
 pub channel-failures : (A : Type 0) (x : ClientFault) → is_channel_fault x ≡ true → (n : ℕ) → failures_behind {A = A} n (Err x) ≡ n

@@ -15,10 +15,10 @@ use Rattle.ua_chunk.specs.Item.Item.{Whole, Aborted}
 use Rattle.ua_chunk.specs.Merge.{is_item_of}
 use Rattle.ua_channel.specs.Asks.{Asking, Placed, asked_in, calls, is_in, next_id, id_of}
 use Rattle.ua_channel.specs.Asks.Asking.{Call, Renewal}
-use Rattle.ua_channel.specs.Client.{Goes, GoesTelling, InPhase, limits_of, phase_of}
+use Rattle.ua_channel.specs.Client.{ClientGoes, ClientGoesTelling, InPhase, client_limits, phase_of}
 use Rattle.ua_channel.specs.ClientTable.{client_rules}
-use Rattle.ua_channel.specs.ClientTold.{Told, told_item}
-use Rattle.ua_channel.specs.ClientTold.Told.{Agreed, Opened, Answered, GaveUp, Renewed}
+use Rattle.ua_channel.specs.ClientTold.{ClientTold, told_item}
+use Rattle.ua_channel.specs.ClientTold.ClientTold.{Agreed, Opened, Answered, GaveUp, Renewed}
 use Rattle.ua_channel.specs.Paired.{as_list, delivered_under, first, paired, told_of_calls, with_all, with_first}
 use Rattle.ua_channel.specs.Received.{Received, listed, received}
 use Rattle.ua_channel.specs.declared.client.channel.ClientChannel.{ClientChannel}
@@ -29,14 +29,14 @@ use Rattle.ua_client.specs.Told.{is_told_of, told_of, IsFirstOf}
 -- ---- what is told of a call among what is told of calls
 
 -- one thing more that was told
-pub told-more : (id : ℕ) (told : List Told) (t : Told) → told_of id (told ++ t ∷ []) ≡ told_of id told ++ told_of id (t ∷ [])
+pub told-more : (id : ℕ) (told : List ClientTold) (t : ClientTold) → told_of id (told ++ t ∷ []) ≡ told_of id told ++ told_of id (t ∷ [])
 told-more id told t = filter_append (is_told_of id) told (t ∷ [])
 
-kept-told : (b : Bool) (t : Told) (us vs : List Told) → us ≡ vs → cond b (t ∷ us) us ≡ cond b (t ∷ vs) vs
-kept-told true t us vs e = ap (λ (ts : List Told). t ∷ ts) e
+kept-told : (b : Bool) (t : ClientTold) (us vs : List ClientTold) → us ≡ vs → cond b (t ∷ us) us ≡ cond b (t ∷ vs) vs
+kept-told true t us vs e = ap (λ (ts : List ClientTold). t ∷ ts) e
 kept-told false t us vs e = e
 
-of-calls : (id : ℕ) (told : List Told) → told_of id (told_of_calls told) ≡ told_of id told
+of-calls : (id : ℕ) (told : List ClientTold) → told_of id (told_of_calls told) ≡ told_of id told
 of-calls id [] = refl
 of-calls id (Agreed ack ∷ told) = of-calls id told
 of-calls id (Opened channel token ∷ told) = of-calls id told
@@ -44,8 +44,8 @@ of-calls id (Answered n octets ∷ told) = kept-told (eqb n id) (Answered n octe
 of-calls id (GaveUp n code ∷ told) = kept-told (eqb n id) (GaveUp n code) (told_of id (told_of_calls told)) (told_of id told) (of-calls id told)
 of-calls id (Renewed token ∷ told) = of-calls id told
 
-kept-item : (b : Bool) (i : Item) (ts : List Told) (is : List Item) → ts ≡ map told_item is → cond b (told_item i ∷ ts) ts ≡ map told_item (cond b (i ∷ is) is)
-kept-item true i ts is e = ap (λ (us : List Told). told_item i ∷ us) e
+kept-item : (b : Bool) (i : Item) (ts : List ClientTold) (is : List Item) → ts ≡ map told_item is → cond b (told_item i ∷ ts) ts ≡ map told_item (cond b (i ∷ is) is)
+kept-item true i ts is e = ap (λ (us : List ClientTold). told_item i ∷ us) e
 kept-item false i ts is e = e
 
 of-items : (id : ℕ) (items : List Item) → told_of id (map told_item items) ≡ map told_item (filter (is_item_of id) items)
@@ -94,7 +94,7 @@ once-in cs (n ∷ ids) id e h =
     (λ other. once-in cs ids id (ap tail-of e) (ap (λ (b : Bool). b || is_in id ids) (sym other) ∙ h))
 
 -- a list that ends in something, and has at most one element
-none-before : (items : List Item) (told : List Told) (t : Told) → told ++ t ∷ [] ≡ map told_item items → items ≡ listed (first items) → told ≡ []
+none-before : (items : List Item) (told : List ClientTold) (t : ClientTold) → told ++ t ∷ [] ≡ map told_item items → items ≡ listed (first items) → told ≡ []
 none-before [] [] t e h = refl
 none-before (i ∷ items) [] t e h = refl
 none-before [] (u ∷ told) t e h = absurd cc
@@ -112,14 +112,14 @@ module _ (tells : TellsDelivered) (once : PairsOnce) (no_other : PairsNoOther) w
       by true h = once-in (received frames).messages (calls (asked_in asks)) id (once limits asks frames fits) h
       by false h = let none = no_other limits asks frames id fits h in none ∙ ap (λ (is : List Item). listed (first is)) (sym none)
 
-  pub told-once : ((x : ClientChannel) (asks : List Placed) (octets : List ℕ) (told : List Told) (e : Told) → GoesTelling x asks octets told e → Goes x asks octets (told ++ e ∷ []))
-      → (x : ClientChannel) (asks : List Placed) (octets : List ℕ) (told : List Told) (t : Told) → GoesTelling x asks octets told t → IsFirstOf told t
+  pub told-once : ((x : ClientChannel) (asks : List Placed) (octets : List ℕ) (told : List ClientTold) (e : ClientTold) → ClientGoesTelling x asks octets told e → ClientGoes x asks octets (told ++ e ∷ []))
+      → (x : ClientChannel) (asks : List Placed) (octets : List ℕ) (told : List ClientTold) (t : ClientTold) → ClientGoesTelling x asks octets told t → IsFirstOf told t
   told-once goes_on x asks octets told t g id own =
-      let h : Goes x asks octets (told ++ t ∷ []) = goes_on x asks octets told t g in
+      let h : ClientGoes x asks octets (told ++ t ∷ []) = goes_on x asks octets told t g in
       let under : told_of id told ++ t ∷ [] ≡ map told_item (delivered_under id (received h.frames).messages) =
       ap (λ (b : Bool). told_of id told ++ cond b (t ∷ []) []) (sym own)
-      ∙ (sym (told-more id told t) ∙ (ap (told_of id) (sym h.told_is) ∙ told-under tells id (limits_of x) asks h.frames)) in
-      none-before (delivered_under id (received h.frames).messages) (told_of id told) t under (at-most id (limits_of x) asks h.frames h.stands.run.good)
+      ∙ (sym (told-more id told t) ∙ (ap (told_of id) (sym h.told_is) ∙ told-under tells id (client_limits x) asks h.frames)) in
+      none-before (delivered_under id (received h.frames).messages) (told_of id told) t under (at-most id (client_limits x) asks h.frames h.stands.run.good)
 
 -- ---- not before it is asked
 
@@ -139,11 +139,11 @@ below-in limits (Greeted a) before asked h = subst (λ (xs : List Asking). AllBy
 below-in limits (Open t) before asked h = subst (λ (n : ℕ). AllByRecursion (λ (a : Asking). id_of a < n) asked) h.next_is h.asked_below
 below-in limits Done before asked h = absurd h
 
-pub told-behind : TellsDelivered → PairsNoOther → (x : ClientChannel) (asks : List Placed) (octets : List ℕ) (told : List Told) (n : ℕ) → Goes x asks octets told → told_of (next_id (asked_in asks) + n) told ≡ []
+pub told-behind : TellsDelivered → PairsNoOther → (x : ClientChannel) (asks : List Placed) (octets : List ℕ) (told : List ClientTold) (n : ℕ) → ClientGoes x asks octets told → told_of (next_id (asked_in asks) + n) told ≡ []
 told-behind tells no_other x asks octets told n g =
     let s = g.stands in
     let id : ℕ = next_id (asked_in asks) + n in
-    let unasked : is_in id (calls (asked_in asks)) ≡ false = not-below (next_id (asked_in asks)) id (asked_in asks) (omega arith) (below-in (limits_of x) (phase_of x) (received g.frames) (asked_in asks) s.phase_is) in
+    let unasked : is_in id (calls (asked_in asks)) ≡ false = not-below (next_id (asked_in asks)) id (asked_in asks) (omega arith) (below-in (client_limits x) (phase_of x) (received g.frames) (asked_in asks) s.phase_is) in
     ap (told_of id) (sym g.told_is)
-    ∙ (told-under tells id (limits_of x) asks g.frames
-    ∙ ap (map told_item) (no_other (limits_of x) asks g.frames id s.run.good unasked))
+    ∙ (told-under tells id (client_limits x) asks g.frames
+    ∙ ap (map told_item) (no_other (client_limits x) asks g.frames id s.run.good unasked))

@@ -7,7 +7,7 @@ use base.Stored.{Coded-set}
 use mathlib.Core.HLevel.{⊥_prop}
 use Rattle.ua_frame.specs.declared.limits.Limits.{Limits}
 use Rattle.ua_channel.specs.Asks.{Asking, asked_in, pending_calls, pending_renewals, renewals}
-use Rattle.ua_channel.specs.Client.{InPhase, IsNotOpen, limits_of, phase_of}
+use Rattle.ua_channel.specs.Client.{InPhase, IsNotOpen, client_limits, phase_of}
 use Rattle.ua_channel.specs.ClientTokens.{opened_ids}
 use Rattle.ua_channel.specs.Received.{Received, received}
 use Rattle.ua_channel.specs.declared.client.channel.ClientChannel.{ClientChannel}
@@ -46,7 +46,7 @@ no-length (id ∷ ids) h = absurd (omega (arith, h))
 
 none-renewing : (x : ClientChannel) (s : Site) → At x s → IsSettled s → pending_renewals (opened_ids s.before.openings) (asked_in s.asks) ≡ []
 none-renewing x s at settled =
-    let few = tokens-answer (limits_of x) s.asks at.goes.frames at.goes.stands.run.good in
+    let few = tokens-answer (client_limits x) s.asks at.goes.frames at.goes.stands.run.good in
     let all : length (renewals (asked_in s.asks)) ≤ tokens-told s.told = settled.renewed in
     let told = ap tokens-told at.goes.told_is in
     ap (λ (b : Received). pending_renewals (opened_ids b.openings) (asked_in s.asks)) (sym at.before_is)
@@ -62,7 +62,7 @@ module _ (tells : TellsDelivered) (x : ClientChannel) (t : Site) (stands : Stand
   idle-standing = record {
     opened = is-open-standing;
     calls_answered = ∥∥₁_elim stands (Coded-set (coded_list coded_ℕ) _ _) (λ (w : (s : Site) × At x s × IsSettled s).
-        same-calls (limits_of x) (phase_of x) w.0.before t.before (asked_in w.0.asks) (asked_in t.asks) is-open-standing (phase-there x w.0 w.1) (phase-there x t there) (none-pending x w.0 w.1 w.2 tells));
+        same-calls (client_limits x) (phase_of x) w.0.before t.before (asked_in w.0.asks) (asked_in t.asks) is-open-standing (phase-there x w.0 w.1) (phase-there x t there) (none-pending x w.0 w.1 w.2 tells));
     renewals_answered = ∥∥₁_elim stands (Coded-set (coded_list coded_ℕ) _ _) (λ (w : (s : Site) × At x s × IsSettled s).
-        same-renewals (limits_of x) (phase_of x) w.0.before t.before (asked_in w.0.asks) (asked_in t.asks) is-open-standing (phase-there x w.0 w.1) (phase-there x t there) (none-renewing x w.0 w.1 w.2));
+        same-renewals (client_limits x) (phase_of x) w.0.before t.before (asked_in w.0.asks) (asked_in t.asks) is-open-standing (phase-there x w.0 w.1) (phase-there x t there) (none-renewing x w.0 w.1 w.2));
   }

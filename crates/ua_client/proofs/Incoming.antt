@@ -9,8 +9,8 @@ use Rattle.ua_frame.specs.Frames.{IsSized, frames_octets}
 use Rattle.ua_frame.specs.Run.{Fits, Rules}
 use Rattle.ua_frame.specs.declared.frame.Frame.{Frame}
 use Rattle.ua_channel.specs.Asks.{Placed}
-use Rattle.ua_channel.specs.Client.{Goes, GoesTelling, rules_of}
-use Rattle.ua_channel.specs.ClientTold.{Told}
+use Rattle.ua_channel.specs.Client.{ClientGoes, ClientGoesTelling, client_rules_of}
+use Rattle.ua_channel.specs.ClientTold.{ClientTold}
 use Rattle.ua_channel.specs.Line.{Traffic, one_more}
 use Rattle.ua_channel.specs.declared.client.channel.ClientChannel.{ClientChannel}
 use Rattle.ua_channel.specs.declared.client.event.ClientEvent.{ClientEvent}
@@ -29,7 +29,7 @@ use Rattle.ua_client.proofs.Hearings.{keeps-all, keeps-then, moves-behind, moves
 
 -- ---- slots
 
-untold-slots : (requests : List Request) (first : ℕ) (told : List Told) → AreUntold requests first told → AreSlots requests first told (none_for requests)
+untold-slots : (requests : List Request) (first : ℕ) (told : List ClientTold) → AreUntold requests first told → AreSlots requests first told (none_for requests)
 untold-slots [] first told h = tt
 untold-slots (r ∷ rs) first told h = (h.0, untold-slots rs (first + 1) told h.1)
 
@@ -68,14 +68,14 @@ reading-failures fault.TooLong h n = refl
 -- ---- one event more
 
 -- no reply came, or the last that was told was told while a reply was missing, and nothing stands behind its frame
-abbrev pub IsLast : List Request → ℕ → Connection → List Placed → List ℕ → List (Option Reply) → List Told → Type 0
+abbrev pub IsLast : List Request → ℕ → Connection → List Placed → List ℕ → List (Option Reply) → List ClientTold → Type 0
 IsLast requests first now asks octets slots all = (slots ≡ none_for requests) ⊎ LastCame (channel_of now) requests first asks octets all
 
 -- so far these replies came
 pub record Waiting (requests : List Request) (first : ℕ) (old now : Connection) (before at : Option Traffic) (reads left : ℕ) (slots : List (Option Reply)) : Type 0 where
   pub moves : Moves old now [] before at
   pub keeps : Keeps old now
-  pub goes : (asks : List Placed) (octets : List ℕ) (told : List Told) → Goes (channel_of old) asks octets told → AreUntold requests first told
+  pub goes : (asks : List Placed) (octets : List ℕ) (told : List ClientTold) → ClientGoes (channel_of old) asks octets told → AreUntold requests first told
       → GoesOn (channel_of now) asks (octets ++ moves.taken) told (λ all. AreSlots requests first all slots × IsLast requests first now asks (octets ++ moves.taken) slots all)
   pub spent : reads ≤ left + length moves.got
   pub count : length slots ≡ length requests
@@ -90,8 +90,8 @@ waits-first requests first x t reads slots e = record {
   keeps = keeps-all x;
   goes = λ asks octets told g none. (
     [],
-    subst (λ (o : List ℕ). Goes (channel_of x) asks o (told ++ [])) (sym (append-nil octets)) (subst (λ (h : List Told). Goes (channel_of x) asks octets h) (sym (append-nil told)) g),
-    (subst (λ (h : List Told). AreSlots requests first h slots) (sym (append-nil told)) (subst (λ (ss : List (Option Reply)). AreSlots requests first told ss) (sym e) (untold-slots requests first told none)), inl e),
+    subst (λ (o : List ℕ). ClientGoes (channel_of x) asks o (told ++ [])) (sym (append-nil octets)) (subst (λ (h : List ClientTold). ClientGoes (channel_of x) asks octets h) (sym (append-nil told)) g),
+    (subst (λ (h : List ClientTold). AreSlots requests first h slots) (sym (append-nil told)) (subst (λ (ss : List (Option Reply)). AreSlots requests first told ss) (sym e) (untold-slots requests first told none)), inl e),
   );
   spent = omega arith;
   count = ap length e ∙ length-none requests;
@@ -106,11 +106,11 @@ sized-all : {E X : Type 0} (R : Rules E X) (frames : List Frame) → AllAfter (F
 unfolding AllAfter
 sized-all R frames h = sized-from R [] frames h
 
-pub told-whole : (x : ClientChannel) (asks : List Placed) (octets : List ℕ) (told : List Told) (t : Told) → GoesTelling x asks octets told t → AreFrames octets
+pub told-whole : (x : ClientChannel) (asks : List Placed) (octets : List ℕ) (told : List ClientTold) (t : ClientTold) → ClientGoesTelling x asks octets told t → AreFrames octets
 told-whole x asks octets told t g = (
   g.frames ++ g.frame ∷ [],
   g.stands.run.whole ∙ append-nil (frames_octets (g.frames ++ g.frame ∷ [])),
-  sized-all (rules_of x asks) (g.frames ++ g.frame ∷ []) g.stands.run.good,
+  sized-all (client_rules_of x asks) (g.frames ++ g.frame ∷ []) g.stands.run.good,
 )
 
 none-missing : (requests : List Request) → 0 < length requests → list_any is_none (none_for requests) ≡ false → ⊥
@@ -118,13 +118,13 @@ none-missing [] some e = absurd (omega (arith, some))
 none-missing (r ∷ rs) some e = absurd cc
 
 -- where no reply is missing, the last of them came
-last-came : (requests : List Request) (first : ℕ) (now : Connection) (asks : List Placed) (octets : List ℕ) (slots : List (Option Reply)) (all : List Told) → 0 < length requests → list_any is_none slots ≡ false
+last-came : (requests : List Request) (first : ℕ) (now : Connection) (asks : List Placed) (octets : List ℕ) (slots : List (Option Reply)) (all : List ClientTold) → 0 < length requests → list_any is_none slots ≡ false
     → IsLast requests first now asks octets slots all → LastCame (channel_of now) requests first asks octets all
 last-came requests first now asks octets slots all some none (inl e) = absurd (none-missing requests some (subst (λ (ss : List (Option Reply)). list_any is_none ss ≡ false) e none))
 last-came requests first now asks octets slots all some none (inr k) = k
 
 abbrev pub ToldOnce : Type 0
-ToldOnce = (x : ClientChannel) (asks : List Placed) (octets : List ℕ) (told : List Told) (t : Told) → GoesTelling x asks octets told t → IsFirstOf told t
+ToldOnce = (x : ClientChannel) (asks : List Placed) (octets : List ℕ) (told : List ClientTold) (t : ClientTold) → ClientGoesTelling x asks octets told t → IsFirstOf told t
 
 module _ (requests : List Request) (first : ℕ) (old now new : Connection) (before at then : Option Traffic) (reads left less : ℕ) (slots : List (Option Reply)) (moment : DateTime)
     (w : Waiting requests first old now before at reads left slots) where
@@ -133,30 +133,30 @@ module _ (requests : List Request) (first : ℕ) (old now new : Connection) (bef
 
   module _ (e : ClientEvent) (h : Hears now new moment at then left less (Ok e)) (goes_on : GoesOnBehind) (once : ToldOnce) where
     -- the history behind an event
-    behind : (P : List Told → Type 0) (asks : List Placed) (octets : List ℕ) (told : List Told) → Goes (channel_of old) asks octets told → AreUntold requests first told
-        → ((all : List Told) (t : Told) → Says moment e t → GoesTelling (channel_of new) asks (octets ++ (w.moves.taken ++ h.moves.taken)) all t → AreSlots requests first all slots → P (all ++ t ∷ []))
+    behind : (P : List ClientTold → Type 0) (asks : List Placed) (octets : List ℕ) (told : List ClientTold) → ClientGoes (channel_of old) asks octets told → AreUntold requests first told
+        → ((all : List ClientTold) (t : ClientTold) → Says moment e t → ClientGoesTelling (channel_of new) asks (octets ++ (w.moves.taken ++ h.moves.taken)) all t → AreSlots requests first all slots → P (all ++ t ∷ []))
         → GoesOn (channel_of new) asks (octets ++ (w.moves.taken ++ h.moves.taken)) told P
     behind P asks octets told g none filled =
         let on = w.goes asks octets told g none in
-        let heard : List Told = on.0 in
+        let heard : List ClientTold = on.0 in
         let says = h.answers asks (octets ++ w.moves.taken) (told ++ heard) on.1 in
-        let t : Told = says.0 in
+        let t : ClientTold = says.0 in
         let whole : List ℕ = octets ++ (w.moves.taken ++ h.moves.taken) in
-        let tells : GoesTelling (channel_of new) asks whole (told ++ heard) t =
-        subst (λ (o : List ℕ). GoesTelling (channel_of new) asks o (told ++ heard) t) (append_assoc octets w.moves.taken h.moves.taken) says.2 in
+        let tells : ClientGoesTelling (channel_of new) asks whole (told ++ heard) t =
+        subst (λ (o : List ℕ). ClientGoesTelling (channel_of new) asks o (told ++ heard) t) (append_assoc octets w.moves.taken h.moves.taken) says.2 in
         let is : P ((told ++ heard) ++ t ∷ []) = filled (told ++ heard) t says.1 tells on.2.0 in (
           heard ++ t ∷ [],
-          subst (λ (all : List Told). Goes (channel_of new) asks whole all) (append_assoc told heard (t ∷ [])) (goes_on (channel_of new) asks whole (told ++ heard) t tells),
+          subst (λ (all : List ClientTold). ClientGoes (channel_of new) asks whole all) (append_assoc told heard (t ∷ [])) (goes_on (channel_of new) asks whole (told ++ heard) t tells),
           subst P (append_assoc told heard (t ∷ [])) is,
         )
 
     -- what is told is the first that is told of its call
-    first-filled : (P : List Told → Type 0) → ((m : DateTime) (all : List Told) (t : Told) → Says m e t → IsFirstOf all t → AreSlots requests first all slots → P (all ++ t ∷ []))
-        → (asks : List Placed) (octets : List ℕ) (all : List Told) (t : Told) → Says moment e t → GoesTelling (channel_of new) asks octets all t → AreSlots requests first all slots → P (all ++ t ∷ [])
+    first-filled : (P : List ClientTold → Type 0) → ((m : DateTime) (all : List ClientTold) (t : ClientTold) → Says m e t → IsFirstOf all t → AreSlots requests first all slots → P (all ++ t ∷ []))
+        → (asks : List Placed) (octets : List ℕ) (all : List ClientTold) (t : ClientTold) → Says moment e t → ClientGoesTelling (channel_of new) asks octets all t → AreSlots requests first all slots → P (all ++ t ∷ [])
     first-filled P filled asks octets all t says tells s = filled moment all t says (once (channel_of new) asks octets all t tells) s
 
     pub waits-more : (next : List (Option Reply)) → length next ≡ length slots → list_any is_none slots ≡ true
-        → ((m : DateTime) (all : List Told) (t : Told) → Says m e t → IsFirstOf all t → AreSlots requests first all slots → AreSlots requests first (all ++ t ∷ []) next)
+        → ((m : DateTime) (all : List ClientTold) (t : ClientTold) → Says m e t → IsFirstOf all t → AreSlots requests first all slots → AreSlots requests first (all ++ t ∷ []) next)
         → Waiting requests first old new before then reads less next
     waits-more next same missing filled = record {
       moves = moves-behind old now new [] [] before at then w.moves h.moves;
@@ -172,13 +172,13 @@ module _ (requests : List Request) (first : ℕ) (old now new : Connection) (bef
       count = same ∙ w.count;
     }
 
-    no-filling : ((m : DateTime) (all : List Told) (t : Told) → Says m e t → IsFirstOf all t → AreSlots requests first all slots → ⊥) → (asks : List Placed) (octets : List ℕ) (told : List Told)
-        → Goes (channel_of old) asks octets told → AreUntold requests first told → ⊥
+    no-filling : ((m : DateTime) (all : List ClientTold) (t : ClientTold) → Says m e t → IsFirstOf all t → AreSlots requests first all slots → ⊥) → (asks : List Placed) (octets : List ℕ) (told : List ClientTold)
+        → ClientGoes (channel_of old) asks octets told → AreUntold requests first told → ⊥
     no-filling filled asks octets told g none = (behind (λ all. ⊥) asks octets told g none (first-filled (λ all. ⊥) filled asks (octets ++ (w.moves.taken ++ h.moves.taken)))).2
 
     misread-by : (A : Type 0) (x : ClientFault) (next : List (Option Reply)) → next ≡ slots → list_any is_none slots ≡ true
-        → ((m : DateTime) (all : List Told) (t : Told) → Says m e t → IsFirstOf all t → AreSlots requests first all slots → FillsSlots requests first (all ++ t ∷ []) next (Err x))
-        → (asks : List Placed) (octets : List ℕ) (told : List Told) → Goes (channel_of old) asks octets told → AreUntold requests first told
+        → ((m : DateTime) (all : List ClientTold) (t : ClientTold) → Says m e t → IsFirstOf all t → AreSlots requests first all slots → FillsSlots requests first (all ++ t ∷ []) next (Err x))
+        → (asks : List Placed) (octets : List ℕ) (told : List ClientTold) → ClientGoes (channel_of old) asks octets told → AreUntold requests first told
         → CollectsAt {A = A} next requests first new then (Err x) asks (octets ++ (w.moves.taken ++ h.moves.taken)) told
     misread-by A fault.UnknownResponse next same missing filled asks octets told g none =
         behind (λ all. IsMisanswered requests first all × IsFront LacksAnswer (front_of next) requests first all) asks octets told g none
@@ -203,7 +203,7 @@ module _ (requests : List Request) (first : ℕ) (old now new : Connection) (bef
 
   -- a fault of the line or of the channel while replies are missing
   heard-fault : (A : Type 0) (x : ClientFault) (h : Hears now new moment at then left less (Err x)) → list_any is_none slots ≡ true
-      → (asks : List Placed) (octets : List ℕ) (told : List Told) → Goes (channel_of old) asks octets told → AreUntold requests first told
+      → (asks : List Placed) (octets : List ℕ) (told : List ClientTold) → ClientGoes (channel_of old) asks octets told → AreUntold requests first told
       → CollectsAt {A = A} slots requests first new then (Err x) asks (octets ++ (w.moves.taken ++ h.moves.taken)) told
   heard-fault A x h missing asks octets told g none = by x (subst (λ (o : List ℕ). HearsAt moment (Err x) (channel_of new) asks o (told ++ on.0)) (append_assoc octets w.moves.taken h.moves.taken) (h.answers asks (octets ++ w.moves.taken) (told ++ on.0) on.1))
     where
@@ -255,7 +255,7 @@ module _ (requests : List Request) (first : ℕ) (old now new : Connection) (bef
   }
 
   pub collects-misread : {A : Type 0} (e : ClientEvent) (x : ClientFault) (next : List (Option Reply)) → next ≡ slots → list_any is_none slots ≡ true → Hears now new moment at then left less (Ok e) → GoesOnBehind → ToldOnce
-      → ((m : DateTime) (all : List Told) (t : Told) → Says m e t → IsFirstOf all t → AreSlots requests first all slots → FillsSlots requests first (all ++ t ∷ []) next (Err x))
+      → ((m : DateTime) (all : List ClientTold) (t : ClientTold) → Says m e t → IsFirstOf all t → AreSlots requests first all slots → FillsSlots requests first (all ++ t ∷ []) next (Err x))
       → is_reading_fault x ≡ true → Collects {A = A} next requests first old new before then reads less (Err x)
   collects-misread {A} e x next same missing h goes_on once filled few = record {
     moves = moves-behind old now new [] [] before at then w.moves h.moves;
@@ -297,7 +297,7 @@ collects-none requests first x t reads some = record {
   keeps = keeps-all x;
   answers = λ asks octets told g n. (
     [],
-    inr (subst (λ (o : List ℕ). Goes (channel_of x) asks o (told ++ [])) (sym (append-nil octets)) (subst (λ (h : List Told). Goes (channel_of x) asks octets h) (sym (append-nil told)) g)),
+    inr (subst (λ (o : List ℕ). ClientGoes (channel_of x) asks o (told ++ [])) (sym (append-nil octets)) (subst (λ (h : List ClientTold). ClientGoes (channel_of x) asks octets h) (sym (append-nil told)) g)),
     subst (IsFront IsUntoldBefore (front_of (none_for requests)) requests first) (sym (append-nil told)) (front-first requests first told some n),
   );
   stops = tt;

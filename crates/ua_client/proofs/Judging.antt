@@ -10,7 +10,7 @@ use Rattle.ua_frame.specs.declared.limits.Limits.{Limits}
 use Rattle.ua_services.specs.Request.{request}
 use Rattle.ua_services.specs.declared.request.Request.{Request}
 use Rattle.ua_channel.specs.Asks.{Asking, asked_in, next_id, pending_calls}
-use Rattle.ua_channel.specs.Client.{InPhase, IsNotOpen, limits_of, phase_of}
+use Rattle.ua_channel.specs.Client.{InPhase, IsNotOpen, client_limits, phase_of}
 use Rattle.ua_channel.specs.ClientAsks.{is_too_large, most_pending, no_id}
 use Rattle.ua_channel.specs.ClientTable.{of_ack}
 use Rattle.ua_channel.specs.Received.{Received}
@@ -83,7 +83,7 @@ judged-in limits (phase.Open t) before asked h some none requests more few = by 
 -- a channel refuses a group just for the first reason that holds where the client stands
 pub group-judged : (x : ClientChannel) (requests : List Request) → length requests ≤ 64 → (s : Site) → At x s → IsIdle x s → group_refusal (phase_of x) 0 requests ≡ refusal_at s requests
 group-judged x requests few s at idle =
-    judged-in (limits_of x) (phase_of x) s.before (asked_in s.asks) (phase-there x s at) idle.opened idle.calls_answered requests 0 (omega (arith, few))
+    judged-in (client_limits x) (phase_of x) s.before (asked_in s.asks) (phase-there x s at) idle.opened idle.calls_answered requests 0 (omega (arith, few))
     ∙ ap (λ (id : ℕ). first_reason (group_reasons s.before.ack id requests)) (add-zero (id_at s))
 
 -- ---- which reasons there are

@@ -7,9 +7,9 @@ use Rattle.ua_builtin.specs.declared.date_time.DateTime.{DateTime}
 use Rattle.ua_frame.specs.After.{each_after}
 use Rattle.ua_frame.specs.declared.ack.Ack.{Ack}
 use Rattle.ua_channel.specs.Asks.{Placed}
-use Rattle.ua_channel.specs.Client.{Goes, GoesTelling, Ended, Stands, limits_of, url_of}
-use Rattle.ua_channel.specs.ClientTold.{Told, Why, ours, peers}
-use Rattle.ua_channel.specs.ClientTold.Told.{Agreed, Opened, Answered, GaveUp, Renewed}
+use Rattle.ua_channel.specs.Client.{ClientGoes, ClientGoesTelling, ClientEnded, ClientStands, client_limits, url_of}
+use Rattle.ua_channel.specs.ClientTold.{ClientTold, Why, ours, peers}
+use Rattle.ua_channel.specs.ClientTold.ClientTold.{Agreed, Opened, Answered, GaveUp, Renewed}
 use Rattle.ua_channel.specs.Line.{Traffic, WhereTold}
 use Rattle.ua_channel.specs.declared.client.channel.ClientChannel.{ClientChannel}
 use Rattle.ua_channel.specs.declared.client.event.ClientEvent.{ClientEvent}
@@ -46,8 +46,8 @@ is_open (event.Failed code peer) = false
 is_open (event.Renewed token) = false
 
 -- a test of events is one of what was told
-abbrev pub Tests : (ClientEvent → Bool) → (Told → Bool) → Type 0
-Tests test wanted = (moment : DateTime) (e : ClientEvent) (t : Told) → Says moment e t → wanted t ≡ test e
+abbrev pub Tests : (ClientEvent → Bool) → (ClientTold → Bool) → Type 0
+Tests test wanted = (moment : DateTime) (e : ClientEvent) (t : ClientTold) → Says moment e t → wanted t ≡ test e
 
 pub tests-agreed : Tests is_send is_agreed
 tests-agreed moment event.NeedMore t h = absurd h
@@ -89,7 +89,7 @@ any-either : (b : Bool) (rest more : Bool) → (b || rest) ≡ false → (rest �
 any-either true rest more h k = absurd cc
 any-either false rest more h k = k h
 
-any-push : (wanted : Told → Bool) (told : List Told) (t : Told) → list_any wanted told ≡ false → wanted t ≡ false → list_any wanted (told ++ t ∷ []) ≡ false
+any-push : (wanted : ClientTold → Bool) (told : List ClientTold) (t : ClientTold) → list_any wanted told ≡ false → wanted t ≡ false → list_any wanted (told ++ t ∷ []) ≡ false
 any-push wanted [] t h k = ap (λ (b : Bool). b || false) k
 any-push wanted (u ∷ told) t h k = any-either (wanted u) (list_any wanted told) (list_any wanted (told ++ t ∷ [])) h (λ e. any-push wanted told t e k)
 
@@ -97,32 +97,32 @@ or-more : (b rest more : Bool) → (b || rest) ≡ true → (rest ≡ true → m
 or-more true rest more h k = refl
 or-more false rest more h k = k h
 
-pub any-left : (wanted : Told → Bool) (us vs : List Told) → list_any wanted us ≡ true → list_any wanted (us ++ vs) ≡ true
+pub any-left : (wanted : ClientTold → Bool) (us vs : List ClientTold) → list_any wanted us ≡ true → list_any wanted (us ++ vs) ≡ true
 any-left wanted [] vs i = absurd cc
 any-left wanted (y ∷ us) vs i = or-more (wanted y) (list_any wanted us) (list_any wanted (us ++ vs)) i (λ e. any-left wanted us vs e)
 
 -- ---- waiting
 
 -- so far nothing was told that is waited for
-pub record Lacks (wanted : Told → Bool) (old now : Connection) (before at : Option Traffic) (reads left : ℕ) : Type 0 where
+pub record Lacks (wanted : ClientTold → Bool) (old now : Connection) (before at : Option Traffic) (reads left : ℕ) : Type 0 where
   pub moves : Moves old now [] before at
   pub keeps : Keeps old now
-  pub goes : (asks : List Placed) (octets : List ℕ) (told : List Told) → Goes (channel_of old) asks octets told → GoesWithout wanted (channel_of now) asks (octets ++ moves.taken) told
+  pub goes : (asks : List Placed) (octets : List ℕ) (told : List ClientTold) → ClientGoes (channel_of old) asks octets told → GoesWithout wanted (channel_of now) asks (octets ++ moves.taken) told
   pub spent : reads ≤ left + length moves.got
 
-pub lacks-first : (wanted : Told → Bool) (x : Connection) (t : Option Traffic) (reads : ℕ) → Lacks wanted x x t t reads reads
+pub lacks-first : (wanted : ClientTold → Bool) (x : Connection) (t : Option Traffic) (reads : ℕ) → Lacks wanted x x t t reads reads
 lacks-first wanted x t reads = record {
   moves = moves-writing x x [] t t refl (carried-nothing t);
   keeps = keeps-all x;
   goes = λ asks octets told g. record {
     heard = [];
     none = refl;
-    goes = subst (λ (o : List ℕ). Goes (channel_of x) asks o (told ++ [])) (sym (append-nil octets)) (subst (λ (h : List Told). Goes (channel_of x) asks octets h) (sym (append-nil told)) g);
+    goes = subst (λ (o : List ℕ). ClientGoes (channel_of x) asks o (told ++ [])) (sym (append-nil octets)) (subst (λ (h : List ClientTold). ClientGoes (channel_of x) asks octets h) (sym (append-nil told)) g);
   };
   spent = omega arith;
 }
 
-module _ (test : ClientEvent → Bool) (wanted : Told → Bool) (tests : Tests test wanted) (old now new : Connection) (before at then : Option Traffic) (reads left less : ℕ) (moment : DateTime)
+module _ (test : ClientEvent → Bool) (wanted : ClientTold → Bool) (tests : Tests test wanted) (old now new : Connection) (before at then : Option Traffic) (reads left less : ℕ) (moment : DateTime)
     (w : Lacks wanted old now before at reads left) where
   spent-more : (more : List ℕ) → left ≤ less + length more → reads ≤ less + length (w.moves.got ++ more)
   spent-more more h = let l = length-append w.moves.got more in let s = w.spent in omega (arith, l, s, h)
@@ -137,14 +137,14 @@ module _ (test : ClientEvent → Bool) (wanted : Told → Bool) (tests : Tests t
         record {
           heard = on.heard ++ says.0 ∷ [];
           none = any-push wanted on.heard says.0 on.none (tests moment e says.0 says.1 ∙ other);
-          goes = subst (λ (o : List ℕ). Goes (channel_of new) asks o (told ++ (on.heard ++ says.0 ∷ []))) (append_assoc octets w.moves.taken h.moves.taken)
-              (subst (λ (all : List Told). Goes (channel_of new) asks ((octets ++ w.moves.taken) ++ h.moves.taken) all) (append_assoc told on.heard (says.0 ∷ []))
+          goes = subst (λ (o : List ℕ). ClientGoes (channel_of new) asks o (told ++ (on.heard ++ says.0 ∷ []))) (append_assoc octets w.moves.taken h.moves.taken)
+              (subst (λ (all : List ClientTold). ClientGoes (channel_of new) asks ((octets ++ w.moves.taken) ++ h.moves.taken) all) (append_assoc told on.heard (says.0 ∷ []))
               (goes_on (channel_of new) asks ((octets ++ w.moves.taken) ++ h.moves.taken) (told ++ on.heard) says.0 says.2));
         };
     spent = spent-more h.moves.got h.stops;
   }
 
-  pub waits-found : {A : Type 0} (P : A → Type 0) (e : ClientEvent) (found : A) → test e ≡ true → ((t : Told) → Says moment e t → P found)
+  pub waits-found : {A : Type 0} (P : A → Type 0) (e : ClientEvent) (found : A) → test e ≡ true → ((t : ClientTold) → Says moment e t → P found)
       → Hears now new moment at then left less (Ok e) → Waits wanted P old new before then reads less (Ok found)
   waits-found P e found own holds h = record {
     moves = moves-behind old now new [] [] before at then w.moves h.moves;
@@ -157,7 +157,7 @@ module _ (test : ClientEvent → Bool) (wanted : Told → Bool) (tests : Tests t
             none = on.none;
             last = says.0;
             is_wanted = tests moment e says.0 says.1 ∙ own;
-            tells = subst (λ (o : List ℕ). GoesTelling (channel_of new) asks o (told ++ on.heard) says.0) (append_assoc octets w.moves.taken h.moves.taken) says.2;
+            tells = subst (λ (o : List ℕ). ClientGoesTelling (channel_of new) asks o (told ++ on.heard) says.0) (append_assoc octets w.moves.taken h.moves.taken) says.2;
           },
           holds says.0 says.1,
         );
@@ -177,7 +177,7 @@ module _ (test : ClientEvent → Bool) (wanted : Told → Bool) (tests : Tests t
     stops = stops x h.moves.got h.stops;
   }
     where
-      by : (y : ClientFault) (asks : List Placed) (octets : List ℕ) (told heard : List Told) → list_any wanted heard ≡ false → HearsAt moment (Err y) (channel_of new) asks octets (told ++ heard) → WaitsAt wanted P (Err y) (channel_of new) asks octets told
+      by : (y : ClientFault) (asks : List Placed) (octets : List ℕ) (told heard : List ClientTold) → list_any wanted heard ≡ false → HearsAt moment (Err y) (channel_of new) asks octets (told ++ heard) → WaitsAt wanted P (Err y) (channel_of new) asks octets told
       by (fault.Peer code) asks octets told heard none k = record { heard = heard; none = none; ended = k }
       by (fault.Refused code) asks octets told heard none k = record { heard = heard; none = none; ended = k }
       by fault.Ended asks octets told heard none k = record { heard = heard; none = none; goes = k }
@@ -211,28 +211,28 @@ module _ (test : ClientEvent → Bool) (wanted : Told → Bool) (tests : Tests t
 
 -- ---- what is told first
 
-shape-of : (x : ClientChannel) (asks : List Placed) (octets : List ℕ) (told : List Told) → Goes x asks octets told → IsGreeting told
-shape-of x asks octets told g = subst IsGreeting g.told_is (greeting (limits_of x) asks g.frames g.stands.run.good)
+shape-of : (x : ClientChannel) (asks : List Placed) (octets : List ℕ) (told : List ClientTold) → ClientGoes x asks octets told → IsGreeting told
+shape-of x asks octets told g = subst IsGreeting g.told_is (greeting (client_limits x) asks g.frames g.stands.run.good)
 
-shape-ended : (x : ClientChannel) (asks : List Placed) (octets : List ℕ) (told : List Told) (why : Why) → Ended x asks octets told why → IsGreeting told
-shape-ended x asks octets told why g = subst IsGreeting g.told_is (greeting (limits_of x) asks g.frames g.run.good)
+shape-ended : (x : ClientChannel) (asks : List Placed) (octets : List ℕ) (told : List ClientTold) (why : Why) → ClientEnded x asks octets told why → IsGreeting told
+shape-ended x asks octets told why g = subst IsGreeting g.told_is (greeting (client_limits x) asks g.frames g.run.good)
 
-shape-starved : (x : ClientChannel) (asks : List Placed) (octets : List ℕ) (told : List Told) → Starved x asks octets told → IsGreeting told
-shape-starved x asks octets told g = subst IsGreeting g.told_is (greeting (limits_of x) asks g.frames g.run.good)
+shape-starved : (x : ClientChannel) (asks : List Placed) (octets : List ℕ) (told : List ClientTold) → Starved x asks octets told → IsGreeting told
+shape-starved x asks octets told g = subst IsGreeting g.told_is (greeting (client_limits x) asks g.frames g.run.good)
 
-none-agreed : (heard : List Told) → list_any is_agreed heard ≡ false → IsGreeting heard → heard ≡ []
+none-agreed : (heard : List ClientTold) → list_any is_agreed heard ≡ false → IsGreeting heard → heard ≡ []
 none-agreed [] none h = refl
 none-agreed (t ∷ ts) none h = let e = sym (ap (λ (b : Bool). b || list_any is_agreed ts) h.0) ∙ none in absurd cc
 
-none-behind : (heard : List Told) (last : Told) → list_any is_agreed heard ≡ false → IsGreeting (heard ++ last ∷ []) → heard ≡ []
+none-behind : (heard : List ClientTold) (last : ClientTold) → list_any is_agreed heard ≡ false → IsGreeting (heard ++ last ∷ []) → heard ≡ []
 none-behind [] last none h = refl
 none-behind (t ∷ ts) last none h = let e = sym (ap (λ (b : Bool). b || list_any is_agreed ts) h.0) ∙ none in absurd cc
 
-none-opened : (ack : Ack) (heard : List Told) → list_any is_opened heard ≡ false → IsGreeting (Agreed ack ∷ heard) → heard ≡ []
+none-opened : (ack : Ack) (heard : List ClientTold) → list_any is_opened heard ≡ false → IsGreeting (Agreed ack ∷ heard) → heard ≡ []
 none-opened ack [] none h = refl
 none-opened ack (t ∷ ts) none h = let e = sym (ap (λ (b : Bool). b || list_any is_opened ts) h.1) ∙ none in absurd cc
 
-the-ack : (t : Told) → is_agreed t ≡ true → (ack : Ack) × (t ≡ Agreed ack)
+the-ack : (t : ClientTold) → is_agreed t ≡ true → (ack : Ack) × (t ≡ Agreed ack)
 the-ack (Agreed ack) h = (ack, refl)
 the-ack (Opened channel token) h = absurd cc
 the-ack (Answered id octets) h = absurd cc
@@ -240,18 +240,18 @@ the-ack (GaveUp id code) h = absurd cc
 the-ack (Renewed token) h = absurd cc
 
 -- an ACK is the first that is told
-agreed-alone : GoesOnBehind → (x : ClientChannel) (octets : List ℕ) → GoesUntil is_agreed x [] octets [] → (ack : Ack) × GoesTelling x [] octets [] (Agreed ack)
+agreed-alone : GoesOnBehind → (x : ClientChannel) (octets : List ℕ) → GoesUntil is_agreed x [] octets [] → (ack : Ack) × ClientGoesTelling x [] octets [] (Agreed ack)
 agreed-alone goes_on x octets u =
     let a = the-ack u.last u.is_wanted in
     let first : u.heard ≡ [] = none-behind u.heard u.last u.none (shape-of x [] octets (u.heard ++ u.last ∷ []) (goes_on x [] octets u.heard u.last u.tells)) in
-    (a.0, subst (λ (t : Told). GoesTelling x [] octets [] t) a.1 (subst (λ (heard : List Told). GoesTelling x [] octets heard u.last) first u.tells))
+    (a.0, subst (λ (t : ClientTold). ClientGoesTelling x [] octets [] t) a.1 (subst (λ (heard : List ClientTold). ClientGoesTelling x [] octets heard u.last) first u.tells))
 
 -- that the channel is open is the next
-none-between : (ack : Ack) (heard : List Told) (last : Told) → list_any is_opened heard ≡ false → IsGreeting (Agreed ack ∷ (heard ++ last ∷ [])) → heard ≡ []
+none-between : (ack : Ack) (heard : List ClientTold) (last : ClientTold) → list_any is_opened heard ≡ false → IsGreeting (Agreed ack ∷ (heard ++ last ∷ [])) → heard ≡ []
 none-between ack [] last none h = refl
 none-between ack (t ∷ ts) last none h = let e = sym (ap (λ (b : Bool). b || list_any is_opened ts) h.1) ∙ none in absurd cc
 
-the-opening : (t : Told) → is_opened t ≡ true → (channel : ℕ) × (token : ℕ) × (t ≡ Opened channel token)
+the-opening : (t : ClientTold) → is_opened t ≡ true → (channel : ℕ) × (token : ℕ) × (t ≡ Opened channel token)
 the-opening (Agreed ack) h = absurd cc
 the-opening (Opened channel token) h = (channel, token, refl)
 the-opening (Answered id octets) h = absurd cc
@@ -267,25 +267,25 @@ opened-next goes_on x octets ack u =
       ack = ack;
       channel = found.0;
       token = found.1;
-      tells = subst (λ (t : Told). GoesTelling x [] octets (Agreed ack ∷ []) t) found.2 (subst (λ (heard : List Told). GoesTelling x [] octets (Agreed ack ∷ heard) u.last) next u.tells);
+      tells = subst (λ (t : ClientTold). ClientGoesTelling x [] octets (Agreed ack ∷ []) t) found.2 (subst (λ (heard : List ClientTold). ClientGoesTelling x [] octets (Agreed ack ∷ heard) u.last) next u.tells);
     }
 
 -- what is waited for is what would be told next, so where it was not told nothing was
-told-none : {A : Type 0} (wanted : Told → Bool) (P : A → Type 0) (told : List Told) → ((heard : List Told) → list_any wanted heard ≡ false → IsGreeting (told ++ heard) → heard ≡ [])
+told-none : {A : Type 0} (wanted : ClientTold → Bool) (P : A → Type 0) (told : List ClientTold) → ((heard : List ClientTold) → list_any wanted heard ≡ false → IsGreeting (told ++ heard) → heard ≡ [])
     → (x : ClientChannel) (asks : List Placed) (octets : List ℕ) (f : ClientFault) → WaitsAt wanted P (Err f) x asks octets told → BreaksOff f x asks octets told
 told-none wanted P told next x asks octets f h = by f h
   where
-    no-more : (heard : List Told) → list_any wanted heard ≡ false → IsGreeting (told ++ heard) → told ++ heard ≡ told
-    no-more heard none shape = ap (λ (ts : List Told). told ++ ts) (next heard none shape) ∙ append-nil told
+    no-more : (heard : List ClientTold) → list_any wanted heard ≡ false → IsGreeting (told ++ heard) → told ++ heard ≡ told
+    no-more heard none shape = ap (λ (ts : List ClientTold). told ++ ts) (next heard none shape) ∙ append-nil told
 
-    goes : GoesWithout wanted x asks octets told → Goes x asks octets told
-    goes k = subst (λ (all : List Told). Goes x asks octets all) (no-more k.heard k.none (shape-of x asks octets (told ++ k.heard) k.goes)) k.goes
+    goes : GoesWithout wanted x asks octets told → ClientGoes x asks octets told
+    goes k = subst (λ (all : List ClientTold). ClientGoes x asks octets all) (no-more k.heard k.none (shape-of x asks octets (told ++ k.heard) k.goes)) k.goes
 
-    ends : (why : Why) → EndsWithout wanted x asks octets told why → Ended x asks octets told why
-    ends why k = subst (λ (all : List Told). Ended x asks octets all why) (no-more k.heard k.none (shape-ended x asks octets (told ++ k.heard) why k.ended)) k.ended
+    ends : (why : Why) → EndsWithout wanted x asks octets told why → ClientEnded x asks octets told why
+    ends why k = subst (λ (all : List ClientTold). ClientEnded x asks octets all why) (no-more k.heard k.none (shape-ended x asks octets (told ++ k.heard) why k.ended)) k.ended
 
     starves : StarvesWithout wanted x asks octets told → Starved x asks octets told
-    starves k = subst (λ (all : List Told). Starved x asks octets all) (no-more k.heard k.none (shape-starved x asks octets (told ++ k.heard) k.starved)) k.starved
+    starves k = subst (λ (all : List ClientTold). Starved x asks octets all) (no-more k.heard k.none (shape-starved x asks octets (told ++ k.heard) k.starved)) k.starved
 
     by : (y : ClientFault) → WaitsAt wanted P (Err y) x asks octets told → BreaksOff y x asks octets told
     by fault.Read k = goes k
@@ -316,7 +316,7 @@ opens-nothing moment x t = record {
 }
 
 -- the HEL was not written whole
-pub opens-unwritten : {A : Type 0} (moment : DateTime) (x : Connection) (hello : List ℕ) (before after : Option Traffic) → hello ≡ hello_octets (limits_of (channel_of x)) (url_of (channel_of x)) → 0 < length hello → WhereTold (WritesFront hello) before after
+pub opens-unwritten : {A : Type 0} (moment : DateTime) (x : Connection) (hello : List ℕ) (before after : Option Traffic) → hello ≡ hello_octets (client_limits (channel_of x)) (url_of (channel_of x)) → 0 < length hello → WhereTold (WritesFront hello) before after
     → Opens {A = A} moment x x before after (Err fault.Write)
 opens-unwritten moment x hello before after is some h =
     let front = sends-part hello before after some h in
@@ -332,7 +332,7 @@ abbrev pub sent-first : (x mid : Connection) (hello : List ℕ) (a b c : Option 
 sent-first x mid hello a b c w m =
     moves-from x x mid hello [] a b c c refl m (carried-as m.got (hello ++ []) m.got hello a c refl (append-nil hello) (carried-then [] hello m.got [] a b c w m.carried))
 
-module _ (moment : DateTime) (x mid : Connection) (hello : List ℕ) (a b c : Option Traffic) (left : ℕ) (is : hello ≡ hello_octets (limits_of (channel_of x)) (url_of (channel_of x))) (w : WhereTold (Carries [] hello) a b) where
+module _ (moment : DateTime) (x mid : Connection) (hello : List ℕ) (a b c : Option Traffic) (left : ℕ) (is : hello ≡ hello_octets (client_limits (channel_of x)) (url_of (channel_of x))) (w : WhereTold (Carries [] hello) a b) where
   -- no ACK came
   pub opens-unagreed : {A B : Type 0} (P : B → Type 0) (f : ClientFault) → Waits is_agreed P x mid b c most_reads left (Err f) → Opens {A = A} moment x mid a c (Err f)
   opens-unagreed {A} {B} P f h = record {
@@ -343,7 +343,7 @@ module _ (moment : DateTime) (x mid : Connection) (hello : List ℕ) (a b c : Op
     stops = stops f h.stops;
   }
     where
-      by : (y : ClientFault) → WaitsAt is_agreed P (Err y) (channel_of mid) [] h.moves.taken [] → BreaksOpening (hello_octets (limits_of (channel_of x)) (url_of (channel_of x))) (open_octets moment) (channel_of mid) hello h.moves.taken y
+      by : (y : ClientFault) → WaitsAt is_agreed P (Err y) (channel_of mid) [] h.moves.taken [] → BreaksOpening (hello_octets (client_limits (channel_of x)) (url_of (channel_of x))) (open_octets moment) (channel_of mid) hello h.moves.taken y
       by fault.Read k = inl (is, told-none is_agreed P [] none-agreed (channel_of mid) [] h.moves.taken fault.Read k)
       by fault.Ended k = inl (is, told-none is_agreed P [] none-agreed (channel_of mid) [] h.moves.taken fault.Ended k)
       by fault.TooLong k = inl (is, told-none is_agreed P [] none-agreed (channel_of mid) [] h.moves.taken fault.TooLong k)
@@ -377,18 +377,18 @@ module _ (moment : DateTime) (x mid : Connection) (hello : List ℕ) (a b c : Op
 
   module _ {B : Type 0} (P : B → Type 0) (found : B) (h : Waits is_agreed P x mid b c most_reads left (Ok found)) (opening : List ℕ) (open_is : P found → opening ≡ open_octets moment) where
     -- the ACK
-    agreed-first : GoesOnBehind → Goes (channel_of x) [] [] [] → (ack : Ack) × GoesTelling (channel_of mid) [] h.moves.taken [] (Agreed ack)
+    agreed-first : GoesOnBehind → ClientGoes (channel_of x) [] [] [] → (ack : Ack) × ClientGoesTelling (channel_of mid) [] h.moves.taken [] (Agreed ack)
     agreed-first goes_on g = agreed-alone goes_on (channel_of mid) h.moves.taken (h.answers [] [] [] g).0
 
     -- what it told
-    agreed-told : GoesOnBehind → Goes (channel_of x) [] [] [] → (ack : Ack) × Goes (channel_of mid) [] h.moves.taken (Agreed ack ∷ [])
+    agreed-told : GoesOnBehind → ClientGoes (channel_of x) [] [] [] → (ack : Ack) × ClientGoes (channel_of mid) [] h.moves.taken (Agreed ack ∷ [])
     agreed-told goes_on g = let a = agreed-first goes_on g in (a.0, goes_on (channel_of mid) [] h.moves.taken [] (Agreed a.0) a.1)
 
-    opening-is : Goes (channel_of x) [] [] [] → opening ≡ open_octets moment
+    opening-is : ClientGoes (channel_of x) [] [] [] → opening ≡ open_octets moment
     opening-is g = open_is (h.answers [] [] [] g).1
 
-    both-sent : Goes (channel_of x) [] [] [] → hello ++ opening ≡ hello_octets (limits_of (channel_of x)) (url_of (channel_of x)) ++ open_octets moment
-    both-sent g = ap (λ (o : List ℕ). o ++ opening) is ∙ ap (λ (o : List ℕ). hello_octets (limits_of (channel_of x)) (url_of (channel_of x)) ++ o) (opening-is g)
+    both-sent : ClientGoes (channel_of x) [] [] [] → hello ++ opening ≡ hello_octets (client_limits (channel_of x)) (url_of (channel_of x)) ++ open_octets moment
+    both-sent g = ap (λ (o : List ℕ). o ++ opening) is ∙ ap (λ (o : List ℕ). hello_octets (client_limits (channel_of x)) (url_of (channel_of x)) ++ o) (opening-is g)
 
     -- the OPN was not written whole
     pub opens-unasked : {A : Type 0} → GoesOnBehind → (d : Option Traffic) → 0 < length opening → WhereTold (WritesFront opening) c d → Opens {A = A} moment x mid a d (Err fault.Write)
@@ -406,7 +406,7 @@ module _ (moment : DateTime) (x mid : Connection) (hello : List ℕ) (a b c : Op
                 front.0,
                 ap (λ (o : List ℕ). o ++ front.0) is,
                 subst (IsPart front.0) (opening-is g) front.1,
-                (t.0, subst (λ (o : List ℕ). GoesTelling (channel_of mid) [] o [] (Agreed t.0)) (sym (append-nil h.moves.taken)) t.1),
+                (t.0, subst (λ (o : List ℕ). ClientGoesTelling (channel_of mid) [] o [] (Agreed t.0)) (sym (append-nil h.moves.taken)) t.1),
               );
           stops = tt;
         }
@@ -440,8 +440,8 @@ module _ (moment : DateTime) (x mid : Connection) (hello : List ℕ) (a b c : Op
         stops = stops f k.stops;
       }
         where
-          by : (y : ClientFault) → Goes (channel_of x) [] [] [] → (ack : Ack) → WaitsAt is_opened any_done (Err y) (channel_of new) [] (h.moves.taken ++ k.moves.taken) (Agreed ack ∷ [])
-              → BreaksOpening (hello_octets (limits_of (channel_of x)) (url_of (channel_of x))) (open_octets moment) (channel_of new) (hello ++ opening) (h.moves.taken ++ k.moves.taken) y
+          by : (y : ClientFault) → ClientGoes (channel_of x) [] [] [] → (ack : Ack) → WaitsAt is_opened any_done (Err y) (channel_of new) [] (h.moves.taken ++ k.moves.taken) (Agreed ack ∷ [])
+              → BreaksOpening (hello_octets (client_limits (channel_of x)) (url_of (channel_of x))) (open_octets moment) (channel_of new) (hello ++ opening) (h.moves.taken ++ k.moves.taken) y
           by fault.Read g ack i = inr (both-sent g, (ack, told-none is_opened any_done (Agreed ack ∷ []) (none-opened ack) (channel_of new) [] (h.moves.taken ++ k.moves.taken) fault.Read i))
           by fault.Ended g ack i = inr (both-sent g, (ack, told-none is_opened any_done (Agreed ack ∷ []) (none-opened ack) (channel_of new) [] (h.moves.taken ++ k.moves.taken) fault.Ended i))
           by fault.TooLong g ack i = inr (both-sent g, (ack, told-none is_opened any_done (Agreed ack ∷ []) (none-opened ack) (channel_of new) [] (h.moves.taken ++ k.moves.taken) fault.TooLong i))
@@ -480,7 +480,7 @@ module _ (moment : DateTime) (x mid : Connection) (hello : List ℕ) (a b c : Op
 -- ---- a client
 
 -- a channel of which nothing was sent and nothing came
-pub fresh-goes : (x : ClientChannel) → Stands x [] [] [] [] → Goes x [] [] []
+pub fresh-goes : (x : ClientChannel) → ClientStands x [] [] [] [] → ClientGoes x [] [] []
 unfolding each_after
 fresh-goes x s = record { frames = []; rest = []; stands = s; told_is = refl }
 

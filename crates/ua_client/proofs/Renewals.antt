@@ -23,8 +23,8 @@ use Rattle.ua_channel.specs.Asks.{Asking, Placed, asked_before, asked_in, end_of
 use Rattle.ua_channel.specs.Asks.Asking.{Call, Renewal}
 use Rattle.ua_channel.specs.ClientTable.{client_reasons, client_rules, is_awaited, of_numbers}
 use Rattle.ua_channel.specs.ClientTokens.{answer_in, answer_behind, from_last, held_by, held_tokens, id_listed, opened_ids, response_listed, responses, tokens_of}
-use Rattle.ua_channel.specs.ClientTold.{Told, client_tells, told_ack, told_item, told_response}
-use Rattle.ua_channel.specs.ClientTold.Told.{Agreed, Answered, GaveUp, Renewed}
+use Rattle.ua_channel.specs.ClientTold.{ClientTold, client_tells, told_ack, told_item, told_response}
+use Rattle.ua_channel.specs.ClientTold.ClientTold.{Agreed, Answered, GaveUp, Renewed}
 use Rattle.ua_channel.specs.Content.{Content, Opening, content}
 use Rattle.ua_channel.specs.Content.Content.{Greets, Acks, Fails, Opens, Sends, Closes, Nothing}
 use Rattle.ua_channel.specs.Received.{Received, after, has_some, latest, received}
@@ -149,10 +149,10 @@ was-pending-all place opened id asks i = was-asked place (λ (j : ℕ). not (is_
 -- ---- what a frame tells
 
 -- how many further tokens were told
-abbrev pub tokens-told : List Told → ℕ
+abbrev pub tokens-told : List ClientTold → ℕ
 tokens-told told = length (filter is_renewed told)
 
-pub tokens-append : (us vs : List Told) → tokens-told (us ++ vs) ≡ tokens-told us + tokens-told vs
+pub tokens-append : (us vs : List ClientTold) → tokens-told (us ++ vs) ≡ tokens-told us + tokens-told vs
 tokens-append us vs = ap length (filter_append is_renewed us vs) ∙ length-append (filter is_renewed us) (filter is_renewed vs)
 
 items-none : (items : List Item) → tokens-told (map told_item items) ≡ 0
@@ -213,7 +213,7 @@ pending-at before asks = length (pending_renewals (opened_ids before.openings) (
 no-more : (a b c : ℕ) → c ≡ 0 → a ≤ b → a + c ≤ b
 no-more a b c none h = omega (arith, none, h)
 
-same-pending : (n : ℕ) (told : List Told) → tokens-told told ≡ 0 → n + tokens-told told ≤ n
+same-pending : (n : ℕ) (told : List ClientTold) → tokens-told told ≡ 0 → n + tokens-told told ≤ n
 same-pending n told none = omega (arith, none)
 
 opens-by : (before : Received) (asks : List Placed) (o : Opening) (rs : List OpenResponse) (numbers : Option (ℕ × ℕ)) (answer : Option OpenAnswer) → (numbers ≡ None → answer ≡ None)
@@ -369,7 +369,7 @@ newest-held before o r k is e =
     ap tokens_of (responses-push before.openings o r is) ∙ map-append (λ (q : OpenResponse). q.token_id) (responses before.openings) (r ∷ []) in
     latest-held before.used (tokens_of (responses before.openings)) r.token_id k (ap (λ (ms : List ℕ). latest (held_by before.used ms)) (sym more) ∙ e)
 
-same-token : (t : Told) (ts : List Told) (token : ℕ) → t ∷ ts ≡ Renewed token ∷ [] → t ≡ Renewed token
+same-token : (t : ClientTold) (ts : List ClientTold) (token : ℕ) → t ∷ ts ≡ Renewed token ∷ [] → t ≡ Renewed token
 same-token t ts token e = cc
 
 told-token : (rs : List OpenResponse) (r : OpenResponse) (token : ℕ) → told_response rs r ≡ Renewed token → r.token_id ≡ token

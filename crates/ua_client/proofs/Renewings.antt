@@ -13,12 +13,12 @@ use Rattle.ua_chunk.specs.Sequence.{next_number}
 use Rattle.ua_chunk.specs.declared.lane.Lane.{Lane}
 use Rattle.ua_channel.specs.Asks.{Asking, Placed, asked_in, calls, next_id, pending_renewals, renewals}
 use Rattle.ua_channel.specs.Asks.Asking.{Renewal}
-use Rattle.ua_channel.specs.Client.{Goes, GoesTelling, HasNoChannel, InPhase, IsNotOpen, IsRenewal, SameClient, SendsRenewal, Stands, limits_of, next_of, phase_of, renew_refusal, renewal_refused}
+use Rattle.ua_channel.specs.Client.{ClientGoes, ClientGoesTelling, HasNoChannel, InPhase, IsNotOpen, IsRenewal, SameClient, SendsRenewal, ClientStands, client_limits, client_next, phase_of, renew_refusal, renewal_refused}
 use Rattle.ua_channel.specs.ClientAsks.{IsFor, most_tokens, no_id}
 use Rattle.ua_channel.specs.ClientSends.{renewal_frame}
 use Rattle.ua_channel.specs.ClientTokens.{held_tokens, opened_ids}
-use Rattle.ua_channel.specs.ClientTold.{Told}
-use Rattle.ua_channel.specs.ClientTold.Told.{Agreed, Opened, Answered, GaveUp, Renewed}
+use Rattle.ua_channel.specs.ClientTold.{ClientTold}
+use Rattle.ua_channel.specs.ClientTold.ClientTold.{Agreed, Opened, Answered, GaveUp, Renewed}
 use Rattle.ua_channel.specs.Line.{Traffic, WhereTold}
 use Rattle.ua_channel.specs.Received.{Received, latest, listed, received}
 use Rattle.ua_channel.specs.declared.client.channel.ClientChannel.{ClientChannel}
@@ -75,7 +75,7 @@ not-token (event.Aborted id code) h = refl
 not-token (event.Failed code peer) h = refl
 not-token (event.Renewed token) h = absurd (h token refl)
 
-the-token : (t : Told) → is_renewed t ≡ true → (token : ℕ) × (t ≡ Renewed token)
+the-token : (t : ClientTold) → is_renewed t ≡ true → (token : ℕ) × (t ≡ Renewed token)
 the-token (Agreed ack) h = absurd cc
 the-token (Opened channel token) h = absurd cc
 the-token (Answered id octets) h = absurd cc
@@ -108,7 +108,7 @@ judging-in limits phase.Done before asked h some none = absurd (some tt)
 
 -- why the channel refuses, by where the client stands
 channel-refuses : (x : ClientChannel) (s : Site) → At x s → IsIdle x s → renewal_refused x ≡ asked-reasons (nat_le most_tokens (length (held_tokens s.before))) (nat_le no_id (id_at s))
-channel-refuses x s at idle = judging-in (limits_of x) (phase_of x) s.before (asked_in s.asks) (phase-there x s at) idle.opened idle.renewals_answered
+channel-refuses x s at idle = judging-in (client_limits x) (phase_of x) s.before (asked_in s.asks) (phase-there x s at) idle.opened idle.renewals_answered
 
 newest-in : (limits : Limits) (p : Phase) (before : Received) (asked : List Asking) → InPhase limits p before asked → (IsNotOpen p → ⊥) → (k : ℕ) × (latest (held_tokens before) ≡ Some k)
 newest-in limits phase.Waiting before asked h some = absurd (some tt)
@@ -117,9 +117,9 @@ newest-in limits (phase.Open t) before asked h some = (t.newest, h.newest_is)
 newest-in limits phase.Done before asked h some = absurd (some tt)
 
 -- a further token that was told last is the newest
-newest-at : (x : ClientChannel) (s : Site) (at : At x s) → (HasNoChannel x → ⊥) → (told : List Told) (token : ℕ) → GoesTelling x s.asks s.octets told (Renewed token) → latest (held_tokens s.before) ≡ Some token
+newest-at : (x : ClientChannel) (s : Site) (at : At x s) → (HasNoChannel x → ⊥) → (told : List ClientTold) (token : ℕ) → ClientGoesTelling x s.asks s.octets told (Renewed token) → latest (held_tokens s.before) ≡ Some token
 newest-at x s at opened told token g =
-    let found = newest-in (limits_of x) (phase_of x) (received at.goes.frames) (asked_in s.asks) at.goes.stands.phase_is opened in
+    let found = newest-in (client_limits x) (phase_of x) (received at.goes.frames) (asked_in s.asks) at.goes.stands.phase_is opened in
     let frames : at.goes.frames ≡ g.frames ++ g.frame ∷ [] = (stands_once x s.asks s.octets at.goes.frames (g.frames ++ g.frame ∷ []) at.goes.rest [] at.goes.stands g.stands).0 in
     let same : found.0 ≡ token = newest-renewed g.frames g.frame token found.0 g.tells (ap (λ (fs : List Frame). latest (held_tokens (received fs))) (sym frames) ∙ found.1) in
     ap (λ (b : Received). latest (held_tokens b)) (sym at.before_is) ∙ (found.1 ∙ ap (λ (k : ℕ). Some k) same)
@@ -177,7 +177,7 @@ pub renews-refused : {A : Type 0} (moment : DateTime) (x y : Connection) (t : Op
 renews-refused {A} moment x y t f same h idle = record {
   sent = [];
   moves = moves-writing x y [] t t (ap untaken_of same) (carried-nothing t);
-  same = record { limits = ap (λ (z : Connection). limits_of (channel_of z)) (sym same); url = ap (λ (z : Connection). (channel_of z).address.url) (sym same) };
+  same = record { limits = ap (λ (z : Connection). client_limits (channel_of z)) (sym same); url = ap (λ (z : Connection). (channel_of z).address.url) (sym same) };
   judged = λ s at. (refuses-at A s moment (channel_of y) (channel_of x) at (idle s at) f h).0;
   answers = λ s at. (refuses-at A s moment (channel_of y) (channel_of x) at (idle s at) f h).1;
   stops = refusal-stops A f y t;
@@ -188,8 +188,8 @@ renews-refused {A} moment x y t f same h idle = record {
 -- a renewal was asked: what was refused, what is sent, where the channel then stands
 pub record Asks (moment : DateTime) (old new : ClientChannel) (id : ℕ) (out : List ℕ) : Type 0 where
   pub refused : renewal_refused old ≡ None
-  pub sends : SendsRenewal old (next_of old) moment id out (next_of new)
-  pub stands : (asks : List Placed) (octets : List ℕ) (frames : List Frame) (rest : List ℕ) → Stands old asks octets frames rest → Stands new (asks ++ (length octets, Renewal id) ∷ []) octets frames rest
+  pub sends : SendsRenewal old (client_next old) moment id out (client_next new)
+  pub stands : (asks : List Placed) (octets : List ℕ) (frames : List Frame) (rest : List ℕ) → ClientStands old asks octets frames rest → ClientStands new (asks ++ (length octets, Renewal id) ∷ []) octets frames rest
   pub same : SameClient old new
 
 -- the same, where what is sent is named in another way
@@ -210,23 +210,23 @@ asking-in limits (phase.Open t) before asked number moment id out next h c = (
 asking-in limits phase.Done before asked number moment id out next h c = absurd c
 
 module _ (moment : DateTime) (x y : ClientChannel) (id : ℕ) (out : List ℕ) (asked : Asks moment x y id out) (s : Site) (at : At x s) where
-  abbrev asking : (id ≡ id_at s) × (out ≡ renewal_by (lane_behind (received at.goes.frames)) (next_of x) (id_at s) moment) × (next_of y ≡ next_number (next_of x))
-  asking = asking-in (limits_of x) (phase_of x) (received at.goes.frames) (asked_in s.asks) (next_of x) moment id out (next_of y) at.goes.stands.phase_is asked.sends
+  abbrev asking : (id ≡ id_at s) × (out ≡ renewal_by (lane_behind (received at.goes.frames)) (client_next x) (id_at s) moment) × (client_next y ≡ next_number (client_next x))
+  asking = asking-in (client_limits x) (phase_of x) (received at.goes.frames) (asked_in s.asks) (client_next x) moment id out (client_next y) at.goes.stands.phase_is asked.sends
 
   pub out-is : out ≡ renewal_at s moment
   out-is =
       asking.1
-      ∙ (ap (λ (b : Received). renewal_by (lane_behind b) (next_of x) (id_at s) moment) at.before_is
+      ∙ (ap (λ (b : Received). renewal_by (lane_behind b) (client_next x) (id_at s) moment) at.before_is
       ∙ ap (λ (n : ℕ). renewal_by (lane_behind s.before) n (id_at s) moment) at.number_is)
 
-  pub next-is : next_of y ≡ next_number s.number
+  pub next-is : client_next y ≡ next_number s.number
   next-is = asking.2 ∙ ap next_number at.number_is
 
-  pub goes-asked : Goes y (asks_renewed s) s.octets s.told
+  pub goes-asked : ClientGoes y (asks_renewed s) s.octets s.told
   goes-asked = record {
     frames = at.goes.frames;
     rest = at.goes.rest;
-    stands = subst (λ (n : ℕ). Stands y (s.asks ++ (length s.octets, Renewal n) ∷ []) s.octets at.goes.frames at.goes.rest) asking.0 (asked.stands s.asks s.octets at.goes.frames at.goes.rest at.goes.stands);
+    stands = subst (λ (n : ℕ). ClientStands y (s.asks ++ (length s.octets, Renewal n) ∷ []) s.octets at.goes.frames at.goes.rest) asking.0 (asked.stands s.asks s.octets at.goes.frames at.goes.rest at.goes.stands);
     told_is = at.goes.told_is;
   }
 
@@ -236,7 +236,7 @@ module _ (moment : DateTime) (x y : ClientChannel) (id : ℕ) (out : List ℕ) (
 
 -- ---- one more renewal, and one more token
 
-settled-more : (s : Site) (heard : List Told) (token : ℕ) (before : Received) (octets : List ℕ) (number : ℕ) → IsSettled s
+settled-more : (s : Site) (heard : List ClientTold) (token : ℕ) (before : Received) (octets : List ℕ) (number : ℕ) → IsSettled s
     → IsSettled (record { asks = asks_renewed s; octets = octets; before = before; told = s.told ++ (heard ++ Renewed token ∷ []); number = number })
 settled-more s heard token before octets number h =
     let asked : length (renewals (asked_in (asks_renewed s))) ≡ length (renewals (asked_in s.asks)) + 1 =
@@ -280,12 +280,12 @@ module _ (moment : DateTime) (x mid new : Connection) (id : ℕ) (out : List ℕ
       token-told : (token : ℕ) × (u.last ≡ Renewed token)
       token-told = the-token u.last u.is_wanted
 
-      tells-token : GoesTelling (channel_of new) (asks_renewed s) (s.octets ++ taken) (s.told ++ u.heard) (Renewed token-told.0)
-      tells-token = subst (λ (e : Told). GoesTelling (channel_of new) (asks_renewed s) (s.octets ++ taken) (s.told ++ u.heard) e) token-told.1 u.tells
+      tells-token : ClientGoesTelling (channel_of new) (asks_renewed s) (s.octets ++ taken) (s.told ++ u.heard) (Renewed token-told.0)
+      tells-token = subst (λ (e : ClientTold). ClientGoesTelling (channel_of new) (asks_renewed s) (s.octets ++ taken) (s.told ++ u.heard) e) token-told.1 u.tells
 
-      goes-behind : Goes (channel_of new) (asks_renewed s) (s.octets ++ taken) (s.told ++ (u.heard ++ Renewed token-told.0 ∷ []))
+      goes-behind : ClientGoes (channel_of new) (asks_renewed s) (s.octets ++ taken) (s.told ++ (u.heard ++ Renewed token-told.0 ∷ []))
       goes-behind =
-          subst (λ (all : List Told). Goes (channel_of new) (asks_renewed s) (s.octets ++ taken) all) (append_assoc s.told u.heard (Renewed token-told.0 ∷ []))
+          subst (λ (all : List ClientTold). ClientGoes (channel_of new) (asks_renewed s) (s.octets ++ taken) all) (append_assoc s.told u.heard (Renewed token-told.0 ∷ []))
           (goes_on (channel_of new) (asks_renewed s) (s.octets ++ taken) (s.told ++ u.heard) (Renewed token-told.0) tells-token)
 
       abbrev behind : Site
@@ -417,14 +417,14 @@ none-asked : length (renewals (asked_in [])) ≡ 0
 unfolding renewals asked_in
 none-asked = refl
 
-none-called : (told : List Told) → AreTold told (calls (asked_in []))
+none-called : (told : List ClientTold) → AreTold told (calls (asked_in []))
 unfolding calls asked_in
 none-called told = tt
 
 pub opened-settled : GoesOnBehind → (x : ClientChannel) (octets : List ℕ) → IsOpened x octets → (s : Site) × (s.octets ≡ octets) × (s.asks ≡ []) × At x s × IsSettled s
 opened-settled goes_on x octets h =
     let goes = goes_on x [] octets (Agreed h.ack ∷ []) (Opened h.channel h.token) h.tells in (
-      record { asks = []; octets = octets; before = received goes.frames; told = Agreed h.ack ∷ Opened h.channel h.token ∷ []; number = next_of x },
+      record { asks = []; octets = octets; before = received goes.frames; told = Agreed h.ack ∷ Opened h.channel h.token ∷ []; number = client_next x },
       refl,
       refl,
       record { goes = goes; before_is = refl; number_is = refl },

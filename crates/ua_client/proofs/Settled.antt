@@ -23,9 +23,9 @@ use Rattle.ua_chunk.specs.declared.lane.Lane.{Lane}
 use Rattle.ua_services.specs.declared.request.Request.{Request}
 use Rattle.ua_channel.specs.Asks.{Asking, Placed, asked_in, calls, is_finished, pending_calls, renewals}
 use Rattle.ua_channel.specs.Asks.Asking.{Call, Renewal}
-use Rattle.ua_channel.specs.Client.{InPhase, IsNotOpen, limits_of, phase_of}
-use Rattle.ua_channel.specs.ClientAsks.{lane_of}
-use Rattle.ua_channel.specs.ClientTold.{Told, told_item}
+use Rattle.ua_channel.specs.Client.{InPhase, IsNotOpen, client_limits, phase_of}
+use Rattle.ua_channel.specs.ClientAsks.{call_lane}
+use Rattle.ua_channel.specs.ClientTold.{ClientTold, told_item}
 use Rattle.ua_channel.specs.Paired.{delivered_under}
 use Rattle.ua_channel.specs.Received.{Received}
 use Rattle.ua_channel.specs.declared.client.channel.ClientChannel.{ClientChannel}
@@ -48,10 +48,10 @@ use Rattle.ua_client.proofs.Renewals.{tokens-append, tokens-told, told-opened}
 -- ---- calls of which something was told
 
 -- something was told of each of these calls
-abbrev pub AreTold : List Told → List ℕ → Type 0
+abbrev pub AreTold : List ClientTold → List ℕ → Type 0
 AreTold told ids = AllByRecursion (λ (id : ℕ). 0 < length (told_of id told)) ids
 
-pub told-longer : (us vs : List Told) (ids : List ℕ) → AreTold us ids → AreTold (us ++ vs) ids
+pub told-longer : (us vs : List ClientTold) (ids : List ℕ) → AreTold us ids → AreTold (us ++ vs) ids
 told-longer us vs [] h = tt
 told-longer us vs (id ∷ ids) h =
     let all = ap length (filter_append (is_told_of id) us vs) in
@@ -60,13 +60,13 @@ told-longer us vs (id ∷ ids) h =
     (omega (arith, all, sum, some), told-longer us vs ids h.1)
 
 -- a renewal is no call
-pub told-renewed : (told : List Told) (asks : List Placed) (place id : ℕ) → AreTold told (calls (asked_in asks)) → AreTold told (calls (asked_in (asks ++ (place, Renewal id) ∷ [])))
+pub told-renewed : (told : List ClientTold) (asks : List Placed) (place id : ℕ) → AreTold told (calls (asked_in asks)) → AreTold told (calls (asked_in (asks ++ (place, Renewal id) ∷ [])))
 unfolding asked_in calls
 told-renewed told [] place id h = tt
 told-renewed told ((p, Call j) ∷ asks) place id h = (h.0, told-renewed told asks place id h.1)
 told-renewed told ((p, Renewal j) ∷ asks) place id h = told-renewed told asks place id h
 
-told-answered : (told : List Told) (requests : List Request) (place id : ℕ) (replies : List Reply) → AreReplies requests id told replies → AreTold told (calls (asked_in (calls_at place id (bodies_of requests))))
+told-answered : (told : List ClientTold) (requests : List Request) (place id : ℕ) (replies : List Reply) → AreReplies requests id told replies → AreTold told (calls (asked_in (calls_at place id (bodies_of requests))))
 unfolding asked_in calls
 told-answered told [] place id [] h = tt
 told-answered told [] place id (reply ∷ replies) h = absurd h
@@ -75,7 +75,7 @@ told-answered told (r ∷ rs) place id (reply ∷ replies) h =
     let one = ap length h.0.1 in
     (omega (arith, one), told-answered told rs place (id + 1) replies h.1)
 
-told-both : (told : List Told) (asks more : List Placed) → AreTold told (calls (asked_in asks)) → AreTold told (calls (asked_in more)) → AreTold told (calls (asked_in (asks ++ more)))
+told-both : (told : List ClientTold) (asks more : List Placed) → AreTold told (calls (asked_in asks)) → AreTold told (calls (asked_in more)) → AreTold told (calls (asked_in (asks ++ more)))
 unfolding asked_in calls
 told-both told [] more h k = k
 told-both told ((p, Call j) ∷ asks) more h k = (h.0, told-both told asks more h.1 k)
@@ -94,16 +94,16 @@ renewals-behind ((p, Renewal j) ∷ asks) more none = let e = renewals-behind as
 
 -- ---- it may be called again
 
-settled-from : (s t : Site) (more : List Told) → IsSettled s → t.told ≡ s.told ++ more → length (renewals (asked_in t.asks)) ≡ length (renewals (asked_in s.asks)) → AreTold t.told (calls (asked_in t.asks)) → IsSettled t
+settled-from : (s t : Site) (more : List ClientTold) → IsSettled s → t.told ≡ s.told ++ more → length (renewals (asked_in t.asks)) ≡ length (renewals (asked_in s.asks)) → AreTold t.told (calls (asked_in t.asks)) → IsSettled t
 settled-from s t more h told renewed answered =
     let all : tokens-told t.told ≡ tokens-told s.told + tokens-told more = ap tokens-told told ∙ tokens-append s.told more in
     let few : length (renewals (asked_in s.asks)) ≤ tokens-told s.told = h.renewed in
     record { opened = ap (list_any is_opened) told ∙ any-left is_opened s.told more h.opened; answered = answered; renewed = omega (arith, few, renewed, all) }
 
-still-told : (s t : Site) (more : List Told) → IsSettled s → t.told ≡ s.told ++ more → AreTold t.told (calls (asked_in s.asks))
-still-told s t more h told = subst (λ (ts : List Told). AreTold ts (calls (asked_in s.asks))) (sym told) (told-longer s.told more (calls (asked_in s.asks)) h.answered)
+still-told : (s t : Site) (more : List ClientTold) → IsSettled s → t.told ≡ s.told ++ more → AreTold t.told (calls (asked_in s.asks))
+still-told s t more h told = subst (λ (ts : List ClientTold). AreTold ts (calls (asked_in s.asks))) (sym told) (told-longer s.told more (calls (asked_in s.asks)) h.answered)
 
-pub later-settled : (s t : Site) (more : List Told) → IsSettled s → t.asks ≡ s.asks → t.told ≡ s.told ++ more → IsSettled t
+pub later-settled : (s t : Site) (more : List ClientTold) → IsSettled s → t.asks ≡ s.asks → t.told ≡ s.told ++ more → IsSettled t
 later-settled s t more h asks told =
     settled-from s t more h told (ap (λ (asks : List Placed). length (renewals (asked_in asks))) asks)
     (subst (λ (asks : List Placed). AreTold t.told (calls (asked_in asks))) (sym asks) (still-told s t more h told))
@@ -142,7 +142,7 @@ unfinished-from id start (c ∷ cs) e =
 unfinished-none : (id : ℕ) (cs : List Chunk) → is_finished cs id ≡ false → delivered_under id cs ≡ []
 unfinished-none id cs e = ap (filter (is_item_of id)) (delivered_from cs) ∙ unfinished-from id [] cs e
 
-none-left : (told : List Told) (cs : List Chunk) (ids : List ℕ) → ((id : ℕ) → 0 < length (told_of id told) → is_finished cs id ≡ true) → AreTold told ids → filter (λ (id : ℕ). not (is_finished cs id)) ids ≡ []
+none-left : (told : List ClientTold) (cs : List Chunk) (ids : List ℕ) → ((id : ℕ) → 0 < length (told_of id told) → is_finished cs id ≡ true) → AreTold told ids → filter (λ (id : ℕ). not (is_finished cs id)) ids ≡ []
 none-left told cs [] finished h = refl
 none-left told cs (id ∷ ids) finished h =
     ap (λ (b : Bool). cond (not b) (id ∷ filter (λ (j : ℕ). not (is_finished cs j)) ids) (filter (λ (j : ℕ). not (is_finished cs j)) ids)) (finished id h.0)
@@ -154,13 +154,13 @@ none-left told cs (id ∷ ids) finished h =
 abbrev pub NonePending : Type 0
 NonePending = (x : ClientChannel) (s : Site) → At x s → IsSettled s → pending_calls s.before.messages (asked_in s.asks) ≡ []
 
-pub phase-there : (x : ClientChannel) (s : Site) → At x s → InPhase (limits_of x) (phase_of x) s.before (asked_in s.asks)
-phase-there x s at = subst (λ (b : Received). InPhase (limits_of x) (phase_of x) b (asked_in s.asks)) at.before_is at.goes.stands.phase_is
+pub phase-there : (x : ClientChannel) (s : Site) → At x s → InPhase (client_limits x) (phase_of x) s.before (asked_in s.asks)
+phase-there x s at = subst (λ (b : Received). InPhase (client_limits x) (phase_of x) b (asked_in s.asks)) at.before_is at.goes.stands.phase_is
 
 module _ (x : ClientChannel) (s : Site) (at : At x s) (settled : IsSettled s) where
   pub is-open : IsNotOpen (phase_of x) → ⊥
   is-open n =
-      told-opened (limits_of x) s.asks at.goes.frames (ap (list_any is_opened) at.goes.told_is ∙ settled.opened)
+      told-opened (client_limits x) s.asks at.goes.frames (ap (list_any is_opened) at.goes.told_is ∙ settled.opened)
       ((client_open x s.asks s.octets at.goes.frames at.goes.rest at.goes.stands).0 n)
 
   finished : TellsDelivered → (id : ℕ) → 0 < length (told_of id s.told) → is_finished s.before.messages id ≡ true
@@ -169,7 +169,7 @@ module _ (x : ClientChannel) (s : Site) (at : At x s) (settled : IsSettled s) wh
       told : told_of id s.told ≡ map told_item (delivered_under id s.before.messages)
       told =
           ap (told_of id) (sym at.goes.told_is)
-          ∙ (told-under tells id (limits_of x) s.asks at.goes.frames ∙ ap (λ (b : Received). map told_item (delivered_under id b.messages)) at.before_is)
+          ∙ (told-under tells id (client_limits x) s.asks at.goes.frames ∙ ap (λ (b : Received). map told_item (delivered_under id b.messages)) at.before_is)
 
       by : (b : Bool) → is_finished s.before.messages id ≡ b → is_finished s.before.messages id ≡ true
       by true e = e
@@ -184,9 +184,9 @@ module _ (x : ClientChannel) (s : Site) (at : At x s) (settled : IsSettled s) wh
 lane-in : (limits : Limits) (p : Phase) (before : Received) (asked : List Asking) → InPhase limits p before asked → (IsNotOpen p → ⊥) → (lane : Lane) × (lane_behind before ≡ Some lane)
 lane-in limits phase.Waiting before asked h some = absurd (some tt)
 lane-in limits (phase.Agreed a) before asked h some = absurd (some tt)
-lane-in limits (phase.Open t) before asked h some = (lane_of t, lane-talks limits t before asked h)
+lane-in limits (phase.Open t) before asked h some = (call_lane t.agreed.ack t.channel t.newest, lane-talks limits t before asked h)
 lane-in limits phase.Done before asked h some = absurd (some tt)
 
 -- there is a lane
 pub settled-lane : (x : ClientChannel) (s : Site) → At x s → IsSettled s → (lane : Lane) × (lane_behind s.before ≡ Some lane)
-settled-lane x s at settled = lane-in (limits_of x) (phase_of x) s.before (asked_in s.asks) (phase-there x s at) (is-open x s at settled)
+settled-lane x s at settled = lane-in (client_limits x) (phase_of x) s.before (asked_in s.asks) (phase-there x s at) (is-open x s at settled)

@@ -5,7 +5,7 @@ use Rattle.std.proofs.Math.Logic.{∥∥₁_map}
 use Rattle.ua_builtin.specs.declared.date_time.DateTime.{DateTime}
 use Rattle.ua_builtin.specs.declared.node_id.NodeId.{NodeId}
 use Rattle.ua_services.specs.declared.request.Request.{Request}
-use Rattle.ua_channel.specs.Client.{Goes, url_of}
+use Rattle.ua_channel.specs.Client.{ClientGoes, url_of}
 use Rattle.ua_channel.specs.Line.{Traffic}
 use Rattle.ua_channel.specs.declared.client.channel.ClientChannel.{ClientChannel}
 use Rattle.ua_client.specs.Calls.{BreaksAt}
@@ -29,7 +29,7 @@ Settled x = (s : Site) × At x s × IsSettled s
 -- ---- opening
 
 pub stands-opened : ((x : ClientChannel) (octets : List ℕ) → IsOpened x octets → (s : Site) × (s.octets ≡ octets) × (s.asks ≡ []) × At x s × IsSettled s)
-    → (moment : DateTime) (old new : Connection) (before after : Option Traffic) (done : Unit {0}) → Goes (channel_of old) [] [] [] → Opens moment old new before after (Ok done) → StandsSettled (channel_of new)
+    → (moment : DateTime) (old new : Connection) (before after : Option Traffic) (done : Unit {0}) → ClientGoes (channel_of old) [] [] [] → Opens moment old new before after (Ok done) → StandsSettled (channel_of new)
 stands-opened law moment old new before after done goes o =
     let there = law (channel_of new) o.moves.taken (o.answers goes).1 in
     ∣ (there.0, there.3, there.4) ∣₁

@@ -6,8 +6,8 @@ use Rattle.ua_builtin.specs.Reasons.{first_reason}
 use Rattle.ua_frame.specs.Frames.{IsSized, frames_octets}
 use Rattle.ua_frame.specs.declared.frame.Frame.{Frame}
 use Rattle.ua_channel.specs.Asks.{Placed}
-use Rattle.ua_channel.specs.Client.{Goes, GoesTelling, Ended, SameClient}
-use Rattle.ua_channel.specs.ClientTold.{Told, Why, ours, peers}
+use Rattle.ua_channel.specs.Client.{ClientGoes, ClientGoesTelling, ClientEnded, SameClient}
+use Rattle.ua_channel.specs.ClientTold.{ClientTold, Why, ours, peers}
 use Rattle.ua_channel.specs.Line.{Traffic}
 use Rattle.ua_channel.specs.declared.client.channel.ClientChannel.{ClientChannel}
 use Rattle.ua_services.specs.declared.request.Request.{Request}
@@ -43,31 +43,31 @@ IsSentAt requests s sent = (refusal_at s requests ≡ None) × (sent ≡ sent_at
 -- ---- waiting for replies
 
 -- behind these octets a client that asked so goes on, and more was told
-abbrev pub GoesOn : ClientChannel → List Placed → List ℕ → List Told → (List Told → Type 0) → Type 0
-GoesOn x asks octets told P = (heard : List Told) × Goes x asks octets (told ++ heard) × P (told ++ heard)
+abbrev pub GoesOn : ClientChannel → List Placed → List ℕ → List ClientTold → (List ClientTold → Type 0) → Type 0
+GoesOn x asks octets told P = (heard : List ClientTold) × ClientGoes x asks octets (told ++ heard) × P (told ++ heard)
 
 -- behind these octets the connection of a client that asked so ended, for this reason, and more was told before
-abbrev pub EndsOn : ClientChannel → List Placed → List ℕ → List Told → Why → (List Told → Type 0) → Type 0
-EndsOn x asks octets told why P = (heard : List Told) × Ended x asks octets (told ++ heard) why × P (told ++ heard)
+abbrev pub EndsOn : ClientChannel → List Placed → List ℕ → List ClientTold → Why → (List ClientTold → Type 0) → Type 0
+EndsOn x asks octets told why P = (heard : List ClientTold) × ClientEnded x asks octets (told ++ heard) why × P (told ++ heard)
 
 -- memory was refused behind these octets, whose frames told this: to the channel, or to what it told
-abbrev pub LacksMemory : ClientChannel → List Placed → List ℕ → List Told → Type 0
-LacksMemory x asks octets told = Starved x asks octets told ⊎ Goes x asks octets told
+abbrev pub LacksMemory : ClientChannel → List Placed → List ℕ → List ClientTold → Type 0
+LacksMemory x asks octets told = Starved x asks octets told ⊎ ClientGoes x asks octets told
 
 -- octets are whole frames, each of a size that a header can name, behind which nothing stands
 abbrev pub AreFrames : List ℕ → Type 0
 AreFrames octets = (frames : List Frame) × (octets ≡ frames_octets frames) × AllByRecursion IsSized frames
 
 -- the last that was told is the last reply to these requests that was waited for, and nothing stands behind its frame
-pub record LastCame (x : ClientChannel) (requests : List Request) (id : ℕ) (asks : List Placed) (octets : List ℕ) (told : List Told) : Type 0 where
-  pub before : List Told
-  pub last : Told
+pub record LastCame (x : ClientChannel) (requests : List Request) (id : ℕ) (asks : List Placed) (octets : List ℕ) (told : List ClientTold) : Type 0 where
+  pub before : List ClientTold
+  pub last : ClientTold
   pub told_is : told ≡ before ++ last ∷ []
   pub awaited : AreAwaited requests id before
-  pub tells : GoesTelling x asks octets before last
+  pub tells : ClientGoesTelling x asks octets before last
 
 -- what became of the replies to calls of these requests, whose request ids are counted from the first: all came, or a front of them
-abbrev pub CollectsAt : {A : Type 0} → List (Option Reply) → List Request → ℕ → Connection → Option Traffic → Result A ClientFault → List Placed → List ℕ → List Told → Type 0
+abbrev pub CollectsAt : {A : Type 0} → List (Option Reply) → List Request → ℕ → Connection → Option Traffic → Result A ClientFault → List Placed → List ℕ → List ClientTold → Type 0
 CollectsAt slots requests first new after (Ok found) asks octets told =
     GoesOn (channel_of new) asks octets told (λ all. AreSlots requests first all slots × (list_any is_none slots ≡ false) × LastCame (channel_of new) requests first asks octets all)
 CollectsAt slots requests first new after (Err (fault.Peer code)) asks octets told = EndsOn (channel_of new) asks octets told (peers code.code) (λ all. AreSlots requests first all slots × (list_any is_none slots ≡ true))
@@ -77,7 +77,7 @@ CollectsAt slots requests first new after (Err fault.Read) asks octets told = Go
 CollectsAt slots requests first new after (Err fault.TooLong) asks octets told = GoesOn (channel_of new) asks octets told (λ all. AreSlots requests first all slots × (list_any is_none slots ≡ true))
 CollectsAt slots requests first new after (Err fault.UnknownResponse) asks octets told =
     GoesOn (channel_of new) asks octets told (λ all. IsMisanswered requests first all × IsFront LacksAnswer (front_of slots) requests first all)
-CollectsAt slots requests first new after (Err fault.OutOfMemory) asks octets told = (heard : List Told) × LacksMemory (channel_of new) asks octets (told ++ heard) × IsFront IsUntoldBefore (front_of slots) requests first (told ++ heard)
+CollectsAt slots requests first new after (Err fault.OutOfMemory) asks octets told = (heard : List ClientTold) × LacksMemory (channel_of new) asks octets (told ++ heard) × IsFront IsUntoldBefore (front_of slots) requests first (told ++ heard)
 CollectsAt slots requests first new after (Err other) asks octets told = ⊥
 
 -- no reply to any of these
@@ -85,7 +85,7 @@ abbrev pub none_for : List Request → List (Option Reply)
 none_for requests = map (λ (r : Request). None) requests
 
 -- nothing was told yet of calls of these requests, whose request ids are counted from the first
-abbrev pub AreUntold : List Request → ℕ → List Told → Type 0
+abbrev pub AreUntold : List Request → ℕ → List ClientTold → Type 0
 AreUntold [] id told = Unit {0}
 AreUntold (request ∷ requests) id told = (told_of id told ≡ []) × AreUntold requests (id + 1) told
 
@@ -93,7 +93,7 @@ AreUntold (request ∷ requests) id told = (told_of id told ≡ []) × AreUntold
 pub record Collects {A : Type 0} (slots : List (Option Reply)) (requests : List Request) (first : ℕ) (old new : Connection) (before after : Option Traffic) (reads left : ℕ) (result : Result A ClientFault) : Type 0 where
   pub moves : Moves old new [] before after
   pub keeps : Keeps old new
-  pub answers : (asks : List Placed) (octets : List ℕ) (told : List Told) → Goes (channel_of old) asks octets told → AreUntold requests first told
+  pub answers : (asks : List Placed) (octets : List ℕ) (told : List ClientTold) → ClientGoes (channel_of old) asks octets told → AreUntold requests first told
       → CollectsAt slots requests first new after result asks (octets ++ moves.taken) told
   pub stops : StopsAt reads left moves.got new after result
 
@@ -107,7 +107,7 @@ pub record Answered (requests : List Request) (s t : Site) (taken : List ℕ) (r
   pub octets : t.octets ≡ s.octets ++ taken
   -- nothing was taken behind the frame of the last reply
   pub whole : AreFrames t.octets
-  pub heard : List Told
+  pub heard : List ClientTold
   pub told : t.told ≡ s.told ++ heard
   pub number : t.number ≡ numbers_behind (lane_behind s.before) s.number (bodies_of requests)
   pub replies_are : AreReplies requests (id_at s) t.told replies
@@ -123,7 +123,7 @@ BreaksAt requests s new sent taken fault.UnknownResponse = IsSentAt requests s s
 BreaksAt requests s new sent taken fault.Write = (refusal_at s requests ≡ None) × Extends sent (sent_at s requests) × (taken ≡ []) × (length sent < length (sent_at s requests))
 BreaksAt requests s new sent taken fault.OutOfMemory =
     ((sent ≡ []) × (taken ≡ []))
-    ⊎ (IsSentAt requests s sent × ((heard : List Told) × LacksMemory (channel_of new) (asked_at s requests) (s.octets ++ taken) (s.told ++ heard)))
+    ⊎ (IsSentAt requests s sent × ((heard : List ClientTold) × LacksMemory (channel_of new) (asked_at s requests) (s.octets ++ taken) (s.told ++ heard)))
 BreaksAt requests s new sent taken fault.TooLarge = (sent ≡ []) × (taken ≡ []) × At (channel_of new) s × (refusal_at s requests ≡ Some fault.TooLarge)
 BreaksAt requests s new sent taken fault.NotWritable = (sent ≡ []) × (taken ≡ []) × At (channel_of new) s × (refusal_at s requests ≡ Some fault.NotWritable)
 BreaksAt requests s new sent taken fault.Exhausted = (sent ≡ []) × (taken ≡ []) × At (channel_of new) s × (refusal_at s requests ≡ Some fault.Exhausted)

@@ -4,7 +4,7 @@ use Rattle.ua_builtin.specs.declared.date_time.DateTime.{DateTime}
 use Rattle.ua_frame.specs.Frames.{frame_octets}
 use Rattle.ua_frame.specs.declared.limits.Limits.{Limits}
 use Rattle.ua_chunk.specs.declared.lane.Lane.{Lane}
-use Rattle.ua_channel.specs.Client.{Goes, limits_of, url_of, next_of}
+use Rattle.ua_channel.specs.Client.{ClientGoes, client_limits, url_of, client_next}
 use Rattle.ua_channel.specs.ClientSends.{close_frame}
 use Rattle.ua_channel.specs.Line.{Traffic, WhereTold}
 use Rattle.ua_channel.specs.declared.client.channel.ClientChannel.{ClientChannel}
@@ -53,11 +53,11 @@ IsLeft (Err f) x = x.is_done ≡ ends f
 
 -- a connection of which nothing was sent and nothing came, to the server of a URL
 pub record IsFresh (limits : Limits) (url : Option (List ℕ)) (x : Connection) : Type 0 where
-  pub goes : Goes (channel_of x) [] [] []
+  pub goes : ClientGoes (channel_of x) [] [] []
   pub untaken : untaken_of x ≡ []
-  pub limits_are : limits_of (channel_of x) ≡ limits
+  pub limits_are : client_limits (channel_of x) ≡ limits
   pub url_is : url_of (channel_of x) ≡ url
-  pub next_is : next_of (channel_of x) ≡ 2
+  pub next_is : client_next (channel_of x) ≡ 2
 
 -- a client was opened over this connection
 abbrev pub IsOver : Result Client ClientFault → Connection → Type 0

@@ -5,10 +5,10 @@ use Rattle.ua_octets.specs.Format.{Extends}
 use Rattle.ua_builtin.specs.declared.date_time.DateTime.{DateTime}
 use Rattle.ua_builtin.specs.declared.status_code.StatusCode.{StatusCode}
 use Rattle.ua_channel.specs.Asks.{Placed}
-use Rattle.ua_channel.specs.Client.{Goes, GoesTelling, Ended, IsDone, SameClient, next_of, rules_of}
+use Rattle.ua_channel.specs.Client.{ClientGoes, ClientGoesTelling, ClientEnded, IsClientDone, SameClient, client_next, client_rules_of}
 use Rattle.ua_channel.specs.ClientSends.{first_open}
-use Rattle.ua_channel.specs.ClientTold.{Told, ours, peers}
-use Rattle.ua_channel.specs.ClientTold.Told.{Agreed, Opened, Answered, GaveUp, Renewed}
+use Rattle.ua_channel.specs.ClientTold.{ClientTold, ours, peers}
+use Rattle.ua_channel.specs.ClientTold.ClientTold.{Agreed, Opened, Answered, GaveUp, Renewed}
 use Rattle.ua_channel.specs.Line.{Traffic, WhereTold, one_more}
 use Rattle.ua_channel.specs.declared.client.channel.ClientChannel.{ClientChannel}
 use Rattle.ua_channel.specs.declared.client.event.ClientEvent.{ClientEvent}
@@ -38,7 +38,7 @@ untaken_of x = x.piece
 -- the channel keeps its limits and its URL, and sends next what it would have sent
 pub record Keeps (old new : Connection) : Type 0 where
   pub same : SameClient (channel_of old) (channel_of new)
-  pub next : next_of (channel_of new) ≡ next_of (channel_of old)
+  pub next : client_next (channel_of new) ≡ client_next (channel_of old)
 
 -- ---- faults of the line
 
@@ -90,7 +90,7 @@ pub record Moves (old new : Connection) (sent : List ℕ) (before after : Option
 -- ---- what is told
 
 -- an event as what was told; where something is to be sent, it is the OPN of this moment
-abbrev pub Says : DateTime → ClientEvent → Told → Type 0
+abbrev pub Says : DateTime → ClientEvent → ClientTold → Type 0
 Says moment event.NeedMore t = ⊥
 Says moment (event.Send sent) t = (sent.items ≡ frame_octets (first_open moment)) × ((ack : Ack) × (t ≡ Agreed ack))
 Says moment event.Open t = (channel : ℕ) × ((token : ℕ) × (t ≡ Opened channel token))
@@ -100,38 +100,38 @@ Says moment (event.Failed code peer) t = ⊥
 Says moment (event.Renewed token) t = t ≡ Renewed token
 
 -- an event was told, and its frame is the last of these octets
-abbrev pub TellsEvent : DateTime → ClientEvent → ClientChannel → List Placed → List ℕ → List Told → Type 0
-TellsEvent moment e new asks octets told = (t : Told) × Says moment e t × GoesTelling new asks octets told t
+abbrev pub TellsEvent : DateTime → ClientEvent → ClientChannel → List Placed → List ℕ → List ClientTold → Type 0
+TellsEvent moment e new asks octets told = (t : ClientTold) × Says moment e t × ClientGoesTelling new asks octets told t
 
 -- ---- where nothing more is told
 
 -- memory was refused behind these asks and octets, of which no frame is wrong and whose frames told this; the channel is done
-pub record Starved (x : ClientChannel) (asks : List Placed) (octets : List ℕ) (told : List Told) : Type 0 where
-  pub done : IsDone x
+pub record Starved (x : ClientChannel) (asks : List Placed) (octets : List ℕ) (told : List ClientTold) : Type 0 where
+  pub done : IsClientDone x
   pub frames : List Frame
   pub rest : List ℕ
-  pub run : Run (rules_of x asks) octets frames rest Going
-  pub told_is : events (rules_of x asks) frames ≡ told
+  pub run : Run (client_rules_of x asks) octets frames rest Going
+  pub told_is : events (client_rules_of x asks) frames ≡ told
 
 -- how a channel stands behind these asks and octets, whose frames told this, where hearing broke off: the connection ended at what is
 -- wrong behind them, or memory was refused, or the channel goes on
-abbrev pub BreaksOff : ClientFault → ClientChannel → List Placed → List ℕ → List Told → Type 0
-BreaksOff (fault.Peer code) x asks octets told = Ended x asks octets told (peers code.code)
-BreaksOff (fault.Refused code) x asks octets told = Ended x asks octets told (ours code.code)
+abbrev pub BreaksOff : ClientFault → ClientChannel → List Placed → List ℕ → List ClientTold → Type 0
+BreaksOff (fault.Peer code) x asks octets told = ClientEnded x asks octets told (peers code.code)
+BreaksOff (fault.Refused code) x asks octets told = ClientEnded x asks octets told (ours code.code)
 BreaksOff fault.OutOfMemory x asks octets told = Starved x asks octets told
-BreaksOff fault.Ended x asks octets told = Goes x asks octets told
-BreaksOff fault.Read x asks octets told = Goes x asks octets told
-BreaksOff fault.TooLong x asks octets told = Goes x asks octets told
+BreaksOff fault.Ended x asks octets told = ClientGoes x asks octets told
+BreaksOff fault.Read x asks octets told = ClientGoes x asks octets told
+BreaksOff fault.TooLong x asks octets told = ClientGoes x asks octets told
 BreaksOff other x asks octets told = ⊥
 
 -- ---- one call of the channel
 
 -- what is answered where nothing, or an event, was told at the end of these octets
-abbrev pub ListensAt : DateTime → Result (Option ClientEvent) ClientFault → ClientChannel → List Placed → List ℕ → List Told → Type 0
-ListensAt moment (Ok None) new asks octets told = Goes new asks octets told
+abbrev pub ListensAt : DateTime → Result (Option ClientEvent) ClientFault → ClientChannel → List Placed → List ℕ → List ClientTold → Type 0
+ListensAt moment (Ok None) new asks octets told = ClientGoes new asks octets told
 ListensAt moment (Ok (Some e)) new asks octets told = TellsEvent moment e new asks octets told
-ListensAt moment (Err (fault.Peer code)) new asks octets told = Ended new asks octets told (peers code.code)
-ListensAt moment (Err (fault.Refused code)) new asks octets told = Ended new asks octets told (ours code.code)
+ListensAt moment (Err (fault.Peer code)) new asks octets told = ClientEnded new asks octets told (peers code.code)
+ListensAt moment (Err (fault.Refused code)) new asks octets told = ClientEnded new asks octets told (ours code.code)
 ListensAt moment (Err fault.OutOfMemory) new asks octets told = Starved new asks octets told
 ListensAt moment (Err other) new asks octets told = ⊥
 
@@ -156,7 +156,7 @@ pub record Listens (old new : Connection) (moment : DateTime) (result : Result (
   pub keeps : Keeps old new
   pub left : LeavesLess old new result
   pub faults : IfErr result (λ f. is_channel_fault f ≡ true)
-  pub answers : (asks : List Placed) (octets : List ℕ) (told : List Told) → Goes (channel_of old) asks octets told
+  pub answers : (asks : List Placed) (octets : List ℕ) (told : List ClientTold) → ClientGoes (channel_of old) asks octets told
       → ListensAt moment result (channel_of new) asks (octets ++ taken) told
 
 -- ---- a read
@@ -192,7 +192,7 @@ pub record Fills {A : Type 0} (old new : Connection) (before after : Option Traf
 -- ---- up to an event
 
 -- what is answered where an event was told at the end of these octets, or a fault came behind them
-abbrev pub HearsAt : DateTime → Result ClientEvent ClientFault → ClientChannel → List Placed → List ℕ → List Told → Type 0
+abbrev pub HearsAt : DateTime → Result ClientEvent ClientFault → ClientChannel → List Placed → List ℕ → List ClientTold → Type 0
 HearsAt moment (Ok e) new asks octets told = TellsEvent moment e new asks octets told
 HearsAt moment (Err f) new asks octets told = BreaksOff f new asks octets told
 
@@ -220,7 +220,7 @@ StopsAt reads left got new after (Err other) = Unit {0}
 pub record Hears (old new : Connection) (moment : DateTime) (before after : Option Traffic) (reads left : ℕ) (result : Result ClientEvent ClientFault) : Type 0 where
   pub moves : Moves old new [] before after
   pub keeps : Keeps old new
-  pub answers : (asks : List Placed) (octets : List ℕ) (told : List Told) → Goes (channel_of old) asks octets told
+  pub answers : (asks : List Placed) (octets : List ℕ) (told : List ClientTold) → ClientGoes (channel_of old) asks octets told
       → HearsAt moment result (channel_of new) asks (octets ++ moves.taken) told
   pub less : IfOk result (λ e. effort left new < effort reads old)
   pub faults : IfErr result (λ f. is_hearing_fault f ≡ true)

@@ -1,7 +1,7 @@
 -- What is kept of calls that are not all answered, and which of them the fault names.
 use Rattle.std.specs.Prelude.{◌≡◌, ◌⊎◌, ◌+◌, ℕ, List, [], ◌++◌, length, take, Option, Some, None, Result, Ok, Err}
 use Rattle.ua_channel.specs.Client.{SameClient}
-use Rattle.ua_channel.specs.ClientTold.{Told, ours, peers}
+use Rattle.ua_channel.specs.ClientTold.{ClientTold, ours, peers}
 use Rattle.ua_channel.specs.Line.{Traffic}
 use Rattle.ua_services.specs.declared.request.Request.{Request}
 use Rattle.ua_client.specs.Calls.{Answered, AnsweredAll, BreaksAt, BrokenAll, EndsOn, GoesOn, LacksMemory, LastCame, all_of, asked_at, refusal_at, sent_at}
@@ -43,7 +43,7 @@ KeepsAt requests s new taken fault.TooLong n kept = (n ≡ length kept) × GoesO
 KeepsAt requests s new taken fault.UnknownResponse n kept = (n ≡ length kept) × GoesOn (channel_of new) (asked_at s requests) (s.octets ++ taken) s.told (IsFront LacksAnswer kept requests (id_at s))
 KeepsAt requests s new taken fault.OutOfMemory n kept = (n ≡ length kept) ×
     (((taken ≡ []) × (kept ≡ []))
-    ⊎ ((heard : List Told) × LacksMemory (channel_of new) (asked_at s requests) (s.octets ++ taken) (s.told ++ heard) × IsFront IsUntoldBefore kept requests (id_at s) (s.told ++ heard)))
+    ⊎ ((heard : List ClientTold) × LacksMemory (channel_of new) (asked_at s requests) (s.octets ++ taken) (s.told ++ heard) × IsFront IsUntoldBefore kept requests (id_at s) (s.told ++ heard)))
 KeepsAt requests s new taken fault.Write n kept = (n ≡ 0) × (kept ≡ [])
 KeepsAt requests s new taken fault.TooLarge n kept = IsRefusedFor requests s fault.TooLarge n × (kept ≡ [])
 KeepsAt requests s new taken fault.NotWritable n kept = IsRefusedFor requests s fault.NotWritable n × (kept ≡ [])

@@ -7,10 +7,10 @@ use Rattle.ua_frame.specs.Frames.{frame_octets}
 use Rattle.ua_frame.specs.declared.ack.Ack.{Ack}
 use Rattle.ua_frame.specs.declared.limits.Limits.{Limits}
 use Rattle.ua_channel.specs.Asks.{Placed}
-use Rattle.ua_channel.specs.Client.{Goes, GoesTelling, Ended, limits_of, url_of}
+use Rattle.ua_channel.specs.Client.{ClientGoes, ClientGoesTelling, ClientEnded, client_limits, url_of}
 use Rattle.ua_channel.specs.ClientSends.{first_open, hello_frame, hello_to}
-use Rattle.ua_channel.specs.ClientTold.{Told, Why, ours, peers}
-use Rattle.ua_channel.specs.ClientTold.Told.{Agreed, Opened, Answered, GaveUp, Renewed}
+use Rattle.ua_channel.specs.ClientTold.{ClientTold, Why, ours, peers}
+use Rattle.ua_channel.specs.ClientTold.ClientTold.{Agreed, Opened, Answered, GaveUp, Renewed}
 use Rattle.ua_channel.specs.Line.{Traffic}
 use Rattle.ua_channel.specs.declared.client.channel.ClientChannel.{ClientChannel}
 use Rattle.ua_client.specs.Carried.{IsPart}
@@ -22,7 +22,7 @@ use Rattle.ua_client.specs.declared.fault.ClientFault.TheVariants as fault
 -- ---- waiting
 
 -- an ACK was agreed to
-abbrev pub is_agreed : Told → Bool
+abbrev pub is_agreed : ClientTold → Bool
 is_agreed (Agreed ack) = true
 is_agreed (Opened channel token) = false
 is_agreed (Answered id octets) = false
@@ -30,7 +30,7 @@ is_agreed (GaveUp id code) = false
 is_agreed (Renewed token) = false
 
 -- the channel is open
-abbrev pub is_opened : Told → Bool
+abbrev pub is_opened : ClientTold → Bool
 is_opened (Agreed ack) = false
 is_opened (Opened channel token) = true
 is_opened (Answered id octets) = false
@@ -38,33 +38,33 @@ is_opened (GaveUp id code) = false
 is_opened (Renewed token) = false
 
 -- more was told, and nothing of it is what is waited for
-pub record GoesWithout (wanted : Told → Bool) (x : ClientChannel) (asks : List Placed) (octets : List ℕ) (told : List Told) : Type 0 where
-  pub heard : List Told
+pub record GoesWithout (wanted : ClientTold → Bool) (x : ClientChannel) (asks : List Placed) (octets : List ℕ) (told : List ClientTold) : Type 0 where
+  pub heard : List ClientTold
   pub none : list_any wanted heard ≡ false
-  pub goes : Goes x asks octets (told ++ heard)
+  pub goes : ClientGoes x asks octets (told ++ heard)
 
 -- more was told, and the last of it is the first that is waited for; nothing stands behind its frame
-pub record GoesUntil (wanted : Told → Bool) (x : ClientChannel) (asks : List Placed) (octets : List ℕ) (told : List Told) : Type 0 where
-  pub heard : List Told
+pub record GoesUntil (wanted : ClientTold → Bool) (x : ClientChannel) (asks : List Placed) (octets : List ℕ) (told : List ClientTold) : Type 0 where
+  pub heard : List ClientTold
   pub none : list_any wanted heard ≡ false
-  pub last : Told
+  pub last : ClientTold
   pub is_wanted : wanted last ≡ true
-  pub tells : GoesTelling x asks octets (told ++ heard) last
+  pub tells : ClientGoesTelling x asks octets (told ++ heard) last
 
 -- more was told, and nothing of it is what is waited for, when the connection ended
-pub record EndsWithout (wanted : Told → Bool) (x : ClientChannel) (asks : List Placed) (octets : List ℕ) (told : List Told) (why : Why) : Type 0 where
-  pub heard : List Told
+pub record EndsWithout (wanted : ClientTold → Bool) (x : ClientChannel) (asks : List Placed) (octets : List ℕ) (told : List ClientTold) (why : Why) : Type 0 where
+  pub heard : List ClientTold
   pub none : list_any wanted heard ≡ false
-  pub ended : Ended x asks octets (told ++ heard) why
+  pub ended : ClientEnded x asks octets (told ++ heard) why
 
 -- more was told, and nothing of it is what is waited for, when memory was refused
-pub record StarvesWithout (wanted : Told → Bool) (x : ClientChannel) (asks : List Placed) (octets : List ℕ) (told : List Told) : Type 0 where
-  pub heard : List Told
+pub record StarvesWithout (wanted : ClientTold → Bool) (x : ClientChannel) (asks : List Placed) (octets : List ℕ) (told : List ClientTold) : Type 0 where
+  pub heard : List ClientTold
   pub none : list_any wanted heard ≡ false
   pub starved : Starved x asks octets (told ++ heard)
 
 -- what is answered where something is waited for
-abbrev pub WaitsAt : {A : Type 0} → (Told → Bool) → (A → Type 0) → Result A ClientFault → ClientChannel → List Placed → List ℕ → List Told → Type 0
+abbrev pub WaitsAt : {A : Type 0} → (ClientTold → Bool) → (A → Type 0) → Result A ClientFault → ClientChannel → List Placed → List ℕ → List ClientTold → Type 0
 WaitsAt wanted P (Ok found) new asks octets told = GoesUntil wanted new asks octets told × P found
 WaitsAt wanted P (Err (fault.Peer code)) new asks octets told = EndsWithout wanted new asks octets told (peers code.code)
 WaitsAt wanted P (Err (fault.Refused code)) new asks octets told = EndsWithout wanted new asks octets told (ours code.code)
@@ -75,10 +75,10 @@ WaitsAt wanted P (Err fault.OutOfMemory) new asks octets told = StarvesWithout w
 WaitsAt wanted P (Err other) new asks octets told = ⊥
 
 -- the octets up to what is waited for, or up to a fault
-pub record Waits {A : Type 0} (wanted : Told → Bool) (P : A → Type 0) (old new : Connection) (before after : Option Traffic) (reads left : ℕ) (result : Result A ClientFault) : Type 0 where
+pub record Waits {A : Type 0} (wanted : ClientTold → Bool) (P : A → Type 0) (old new : Connection) (before after : Option Traffic) (reads left : ℕ) (result : Result A ClientFault) : Type 0 where
   pub moves : Moves old new [] before after
   pub keeps : Keeps old new
-  pub answers : (asks : List Placed) (octets : List ℕ) (told : List Told) → Goes (channel_of old) asks octets told → WaitsAt wanted P result (channel_of new) asks (octets ++ moves.taken) told
+  pub answers : (asks : List Placed) (octets : List ℕ) (told : List ClientTold) → ClientGoes (channel_of old) asks octets told → WaitsAt wanted P result (channel_of new) asks (octets ++ moves.taken) told
   pub faults : IfErr result (λ f. is_hearing_fault f ≡ true)
   pub stops : StopsAt reads left moves.got new after result
 
@@ -101,7 +101,7 @@ pub record IsOpened (x : ClientChannel) (octets : List ℕ) : Type 0 where
   pub ack : Ack
   pub channel : ℕ
   pub token : ℕ
-  pub tells : GoesTelling x [] octets (Agreed ack ∷ []) (Opened channel token)
+  pub tells : ClientGoesTelling x [] octets (Agreed ack ∷ []) (Opened channel token)
 
 -- the wait broke off: the HEL was sent and nothing was told; or the OPN was sent too, and nothing but the ACK was told, so that nothing
 -- that was told opened the channel
@@ -115,7 +115,7 @@ BreaksWaiting hello opening new sent taken f =
 abbrev pub BreaksSending : List ℕ → List ℕ → ClientChannel → List ℕ → List ℕ → Type 0
 BreaksSending hello opening new sent taken =
     (IsPart sent hello × (taken ≡ []))
-    ⊎ ((part : List ℕ) × (sent ≡ hello ++ part) × IsPart part opening × ((ack : Ack) × GoesTelling new [] taken [] (Agreed ack)))
+    ⊎ ((part : List ℕ) × (sent ≡ hello ++ part) × IsPart part opening × ((ack : Ack) × ClientGoesTelling new [] taken [] (Agreed ack)))
 
 -- a connection was not opened: the line failed to write; or memory was refused for the HEL, when nothing was sent and taken; or the wait
 -- broke off
@@ -139,5 +139,5 @@ pub record Opens {A : Type 0} (moment : DateTime) (old new : Connection) (before
   pub sent : List ℕ
   pub moves : Moves old new sent before after
   pub keeps : Keeps old new
-  pub answers : Goes (channel_of old) [] [] [] → OpensAt (hello_octets (limits_of (channel_of old)) (url_of (channel_of old))) (open_octets moment) (channel_of new) sent moves.taken result
+  pub answers : ClientGoes (channel_of old) [] [] [] → OpensAt (hello_octets (client_limits (channel_of old)) (url_of (channel_of old))) (open_octets moment) (channel_of new) sent moves.taken result
   pub stops : StopsAt most_reads most_reads moves.got new after result

@@ -9,12 +9,12 @@ use Rattle.ua_chunk.specs.Sequence.{next_number}
 use Rattle.ua_chunk.specs.declared.lane.Lane.{Lane}
 use Rattle.ua_channel.specs.Asks.{Placed, asked_in, calls, pending_calls, pending_renewals, renewals}
 use Rattle.ua_channel.specs.Asks.Asking.{Renewal}
-use Rattle.ua_channel.specs.Client.{GoesTelling, HasNoChannel, SameClient}
+use Rattle.ua_channel.specs.Client.{ClientGoesTelling, HasNoChannel, SameClient}
 use Rattle.ua_channel.specs.ClientAsks.{most_tokens, no_id}
 use Rattle.ua_channel.specs.ClientSends.{renewal_frame}
 use Rattle.ua_channel.specs.ClientTokens.{held_tokens, opened_ids}
-use Rattle.ua_channel.specs.ClientTold.{Told}
-use Rattle.ua_channel.specs.ClientTold.Told.{Agreed, Opened, Answered, GaveUp, Renewed}
+use Rattle.ua_channel.specs.ClientTold.{ClientTold}
+use Rattle.ua_channel.specs.ClientTold.ClientTold.{Agreed, Opened, Answered, GaveUp, Renewed}
 use Rattle.ua_channel.specs.Line.{Traffic}
 use Rattle.ua_channel.specs.Received.{latest}
 use Rattle.ua_channel.specs.declared.client.channel.ClientChannel.{ClientChannel}
@@ -32,7 +32,7 @@ use Rattle.ua_client.specs.declared.fault.ClientFault.TheVariants as fault
 -- ---- between two calls
 
 -- a further token came
-abbrev pub is_renewed : Told → Bool
+abbrev pub is_renewed : ClientTold → Bool
 is_renewed (Agreed ack) = false
 is_renewed (Opened channel token) = false
 is_renewed (Answered id octets) = false
@@ -111,10 +111,10 @@ pub record IsRenewed (new : ClientChannel) (s t : Site) (taken : List ℕ) : Typ
   pub asks : t.asks ≡ asks_renewed s
   pub octets : t.octets ≡ s.octets ++ taken
   pub number : t.number ≡ next_number s.number
-  pub heard : List Told
+  pub heard : List ClientTold
   pub token : ℕ
   pub none_before : list_any is_renewed heard ≡ false
-  pub tells : GoesTelling new t.asks t.octets (s.told ++ heard) (Renewed token)
+  pub tells : ClientGoesTelling new t.asks t.octets (s.told ++ heard) (Renewed token)
   pub told : t.told ≡ s.told ++ (heard ++ Renewed token ∷ [])
   -- calls go out under it
   pub newest : latest (held_tokens t.before) ≡ Some token

@@ -1,8 +1,8 @@
 -- The replies to a client's calls: each is what was told under the request id of its call.
 use Rattle.std.specs.Prelude.{◌≡◌, ◌+◌, ◌<◌, ◌⊎◌, ◌++◌, ℕ, zero, suc, Bool, true, false, is_none, List, [], ◌∷◌, length, Option, Some, None, Result, Ok, Err}
 use Rattle.std.specs.List.{list_any}
-use Rattle.ua_channel.specs.ClientTold.{Told}
-use Rattle.ua_channel.specs.ClientTold.Told.{Answered, GaveUp}
+use Rattle.ua_channel.specs.ClientTold.{ClientTold}
+use Rattle.ua_channel.specs.ClientTold.ClientTold.{Answered, GaveUp}
 use Rattle.ua_services.specs.Message.{IsBody}
 use Rattle.ua_services.specs.Request.{kind_of}
 use Rattle.ua_services.specs.Response.{response, Answers, kind_of as kind_of_response}
@@ -42,20 +42,20 @@ is_reading_fault other = false
 -- ---- replies
 
 -- the reply to a request of this kind, whose call has this request id, is this one that was told
-abbrev pub IsReplyBy : RequestKind → ℕ → Told → Reply → Type 0
+abbrev pub IsReplyBy : RequestKind → ℕ → ClientTold → Reply → Type 0
 IsReplyBy kind id t (Responds m) = (octets : List ℕ) × (t ≡ Answered id octets) × IsAnswer kind octets m
 IsReplyBy kind id t (Aborted code) = t ≡ GaveUp id code
 
 -- a message that was told under the request id of a call is no answer to its request
-abbrev pub IsMisanswer : RequestKind → ℕ → Told → Type 0
+abbrev pub IsMisanswer : RequestKind → ℕ → ClientTold → Type 0
 IsMisanswer kind id t = (octets : List ℕ) × (t ≡ Answered id octets) × IsNoAnswer kind octets
 
 -- the reply to a request is the one thing that was told of its call
-abbrev pub IsReply : Request → ℕ → List Told → Reply → Type 0
-IsReply request id told reply = (t : Told) × (told_of id told ≡ t ∷ []) × IsReplyBy (kind_of request) id t reply
+abbrev pub IsReply : Request → ℕ → List ClientTold → Reply → Type 0
+IsReply request id told reply = (t : ClientTold) × (told_of id told ≡ t ∷ []) × IsReplyBy (kind_of request) id t reply
 
 -- each reply is that of its own request, where the calls of the requests have request ids from this one on
-abbrev pub AreReplies : List Request → ℕ → List Told → List Reply → Type 0
+abbrev pub AreReplies : List Request → ℕ → List ClientTold → List Reply → Type 0
 AreReplies [] id told [] = Unit {0}
 AreReplies [] id told (reply ∷ replies) = ⊥
 AreReplies (request ∷ requests) id told [] = ⊥
@@ -64,19 +64,19 @@ AreReplies (request ∷ requests) id told (reply ∷ replies) = IsReply request 
 -- ---- replies that are still waited for
 
 -- the reply to a request, if there is one: nothing was told of its call, or the reply was
-abbrev pub IsSlot : Request → ℕ → List Told → Option Reply → Type 0
+abbrev pub IsSlot : Request → ℕ → List ClientTold → Option Reply → Type 0
 IsSlot request id told None = told_of id told ≡ []
 IsSlot request id told (Some reply) = IsReply request id told reply
 
 -- the replies to requests, as far as there are any
-abbrev pub AreSlots : List Request → ℕ → List Told → List (Option Reply) → Type 0
+abbrev pub AreSlots : List Request → ℕ → List ClientTold → List (Option Reply) → Type 0
 AreSlots [] id told [] = Unit {0}
 AreSlots [] id told (slot ∷ slots) = ⊥
 AreSlots (request ∷ requests) id told [] = ⊥
 AreSlots (request ∷ requests) id told (slot ∷ slots) = IsSlot request id told slot × AreSlots requests (id + 1) told slots
 
 -- each of the calls was answered, or nothing was told of it; and of one nothing was told
-pub record AreAwaited (requests : List Request) (id : ℕ) (told : List Told) : Type 0 where
+pub record AreAwaited (requests : List Request) (id : ℕ) (told : List ClientTold) : Type 0 where
   pub slots : List (Option Reply)
   pub slots_are : AreSlots requests id told slots
   pub missing : list_any is_none slots ≡ true
@@ -90,22 +90,22 @@ front_of (Some reply ∷ slots) = reply ∷ front_of slots
 -- ---- replies that are kept where one is missing
 
 -- these are the replies to the first of the requests, and of the next one, whose reply is missing, this holds
-abbrev pub IsFront : (Request → ℕ → List Told → Type 0) → List Reply → List Request → ℕ → List Told → Type 0
+abbrev pub IsFront : (Request → ℕ → List ClientTold → Type 0) → List Reply → List Request → ℕ → List ClientTold → Type 0
 IsFront Misses replies [] id told = ⊥
 IsFront Misses [] (request ∷ requests) id told = Misses request id told
 IsFront Misses (reply ∷ replies) (request ∷ requests) id told = IsReply request id told reply × IsFront Misses replies requests (id + 1) told
 
 -- nothing was told of its call
-abbrev pub IsUntold : Request → ℕ → List Told → Type 0
+abbrev pub IsUntold : Request → ℕ → List ClientTold → Type 0
 IsUntold request id told = told_of id told ≡ []
 
 -- nothing was told of its call, or a message that is no answer to it
-abbrev pub LacksAnswer : Request → ℕ → List Told → Type 0
-LacksAnswer request id told = (told_of id told ≡ []) ⊎ ((t : Told) × (told_of id told ≡ t ∷ []) × IsMisanswer (kind_of request) id t)
+abbrev pub LacksAnswer : Request → ℕ → List ClientTold → Type 0
+LacksAnswer request id told = (told_of id told ≡ []) ⊎ ((t : ClientTold) × (told_of id told ≡ t ∷ []) × IsMisanswer (kind_of request) id t)
 
 -- nothing was told of its call but, maybe, the last of all that was told
-abbrev pub IsUntoldBefore : Request → ℕ → List Told → Type 0
-IsUntoldBefore request id told = (told_of id told ≡ []) ⊎ ((before : List Told) × (last : Told) × (told ≡ before ++ last ∷ []) × (told_of id before ≡ []))
+abbrev pub IsUntoldBefore : Request → ℕ → List ClientTold → Type 0
+IsUntoldBefore request id told = (told_of id told ≡ []) ⊎ ((before : List ClientTold) × (last : ClientTold) × (told ≡ before ++ last ∷ []) × (told_of id before ≡ []))
 
 -- ---- the place of a reply
 
@@ -117,9 +117,9 @@ IsAt (r ∷ rs) (suc n) request = IsAt rs n request
 
 -- the last that was told is a message that is no answer to the request of its call, of which nothing was told before; and before it each of
 -- the calls was answered, or nothing was told of it
-pub record IsMisanswered (requests : List Request) (id : ℕ) (told : List Told) : Type 0 where
-  pub before : List Told
-  pub last : Told
+pub record IsMisanswered (requests : List Request) (id : ℕ) (told : List ClientTold) : Type 0 where
+  pub before : List ClientTold
+  pub last : ClientTold
   pub told_is : told ≡ before ++ last ∷ []
   pub slots : List (Option Reply)
   pub slots_are : AreSlots requests id before slots
@@ -130,7 +130,7 @@ pub record IsMisanswered (requests : List Request) (id : ℕ) (told : List Told)
   pub misanswers : IsMisanswer (kind_of request) (id + place) last
 
 -- what was told is of none of so many calls from this request id on
-abbrev pub IsOfNone : ℕ → ℕ → Told → Type 0
+abbrev pub IsOfNone : ℕ → ℕ → ClientTold → Type 0
 IsOfNone first count t = (n : ℕ) → n < count → is_told_of (first + n) t ≡ false
 
 -- the place of a request id among so many from the first on
@@ -139,7 +139,7 @@ IsPlace first id count None = (n : ℕ) → n < count → id ≡ first + n → �
 IsPlace first id count (Some n) = (n < count) × (id ≡ first + n)
 
 -- the reply that something told is to one of the requests, at its place; none where it is of none of their calls
-abbrev pub PlacesReply : List Request → ℕ → Told → Result (Option (ℕ × Reply)) ClientFault → Type 0
+abbrev pub PlacesReply : List Request → ℕ → ClientTold → Result (Option (ℕ × Reply)) ClientFault → Type 0
 PlacesReply requests first t (Ok None) = IsOfNone first (length requests) t
 PlacesReply requests first t (Ok (Some (n, reply))) = (request : Request) × IsAt requests n request × IsReplyBy (kind_of request) (first + n) t reply
 PlacesReply requests first t (Err fault.UnknownResponse) = (n : ℕ) × (request : Request) × IsAt requests n request × IsMisanswer (kind_of request) (first + n) t
@@ -147,7 +147,7 @@ PlacesReply requests first t (Err fault.OutOfMemory) = Unit {0}
 PlacesReply requests first t (Err other) = ⊥
 
 -- what became of the replies behind something more that was told
-abbrev pub FillsSlots : List Request → ℕ → List Told → List (Option Reply) → Result (Unit {0}) ClientFault → Type 0
+abbrev pub FillsSlots : List Request → ℕ → List ClientTold → List (Option Reply) → Result (Unit {0}) ClientFault → Type 0
 FillsSlots requests first told slots (Ok done) = AreSlots requests first told slots
 FillsSlots requests first told slots (Err fault.UnknownResponse) = IsMisanswered requests first told × IsFront LacksAnswer (front_of slots) requests first told
 FillsSlots requests first told slots (Err fault.OutOfMemory) = Unit {0}

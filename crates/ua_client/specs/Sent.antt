@@ -7,7 +7,7 @@ use Rattle.ua_services.specs.Request.{request}
 use Rattle.ua_services.specs.declared.request.Request.{Request}
 use Rattle.ua_channel.specs.Asks.{Placed, asked_in, next_id}
 use Rattle.ua_channel.specs.Asks.Asking.{Call}
-use Rattle.ua_channel.specs.Client.{Stands, next_of, ask_refusal}
+use Rattle.ua_channel.specs.Client.{ClientStands, client_next, ask_refusal}
 use Rattle.ua_channel.specs.ClientAsks.{is_too_large, no_id}
 use Rattle.ua_channel.specs.ClientTable.{of_ack}
 use Rattle.ua_channel.specs.Received.{received}
@@ -113,9 +113,9 @@ AnswersBy reason (Err other) = reason ≡ Some other
 -- a group of calls of these bodies was asked behind these asks and octets, whose frames are these: where the channel then stands, what is
 -- to be sent, the request id of the first
 pub record AsksGroup (bodies : List (List ℕ)) (old new : ClientChannel) (asks : List Placed) (octets : List ℕ) (frames : List Frame) (rest : List ℕ) (out : List ℕ) : Type 0 where
-  pub stands : Stands new (asks ++ calls_at (length octets) (next_id (asked_in asks)) bodies) octets frames rest
-  pub out_is : out ≡ calls_octets (lane_behind (received frames)) (next_of old) (next_id (asked_in asks)) bodies
-  pub next_is : next_of new ≡ numbers_behind (lane_behind (received frames)) (next_of old) bodies
+  pub stands : ClientStands new (asks ++ calls_at (length octets) (next_id (asked_in asks)) bodies) octets frames rest
+  pub out_is : out ≡ calls_octets (lane_behind (received frames)) (client_next old) (next_id (asked_in asks)) bodies
+  pub next_is : client_next new ≡ numbers_behind (lane_behind (received frames)) (client_next old) bodies
 
 -- the same, and this is the request id of the first
 abbrev pub AsksFrom : List (List ℕ) → ClientChannel → ClientChannel → List Placed → List ℕ → List Frame → List ℕ → ℕ × List ℕ → Type 0

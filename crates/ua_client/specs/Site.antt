@@ -3,10 +3,10 @@ use Rattle.std.specs.Prelude.{◌≡◌, nat_le, cond, ℕ, List, Option, Some, 
 use Rattle.ua_chunk.specs.declared.lane.Lane.{Lane}
 use Rattle.ua_frame.specs.declared.ack.Ack.{Ack}
 use Rattle.ua_channel.specs.Asks.{Placed, asked_in, next_id}
-use Rattle.ua_channel.specs.Client.{Goes, next_of}
+use Rattle.ua_channel.specs.Client.{ClientGoes, client_next}
 use Rattle.ua_channel.specs.ClientAsks.{no_id, room_of}
 use Rattle.ua_channel.specs.ClientTokens.{responses, channel_in, held_tokens}
-use Rattle.ua_channel.specs.ClientTold.{Told}
+use Rattle.ua_channel.specs.ClientTold.{ClientTold}
 use Rattle.ua_channel.specs.Received.{Received, latest, received}
 use Rattle.ua_channel.specs.declared.client.channel.ClientChannel.{ClientChannel}
 
@@ -16,14 +16,14 @@ pub record Site : Type 0 where
   pub asks : List Placed
   pub octets : List ℕ
   pub before : Received
-  pub told : List Told
+  pub told : List ClientTold
   pub number : ℕ
 
 -- a channel stands there
 pub record At (x : ClientChannel) (s : Site) : Type 0 where
-  pub goes : Goes x s.asks s.octets s.told
+  pub goes : ClientGoes x s.asks s.octets s.told
   pub before_is : received goes.frames ≡ s.before
-  pub number_is : next_of x ≡ s.number
+  pub number_is : client_next x ≡ s.number
 
 -- the request id of the next call
 abbrev pub id_at : Site → ℕ

@@ -5,7 +5,7 @@ ghost use Rattle.ua_octets.specs.declared.fault.WriteFault.TheVariants.{NotWrita
 ghost use Rattle.ua_frame.specs.declared.frame.Frame.{Frame};
 ghost use Rattle.ua_services.specs.Request.{request};
 ghost use Rattle.ua_channel.specs.Asks.{Placed};
-ghost use Rattle.ua_channel.specs.Client.{Stands, SameClient, phase_of, ask_refusal};
+ghost use Rattle.ua_channel.specs.Client.{ClientStands, SameClient, phase_of, ask_refusal};
 ghost use Rattle.ua_client.specs.Sent.{of_ask, AnswersBy, request_refusal, group_refusal, bodies_of, AsksFrom, AsksOr, RefusesBy, place_by};
 ghost use Rattle.ua_client.specs.Hearing.{fault_alone};
 ghost use Rattle.ua_client.specs.declared.fault.ClientFault.TheVariants.{OutOfMemory};
@@ -163,7 +163,7 @@ pub fn ask_group(
     channel: &mut ClientChannel,
     bodies: &[Body],
 ) -> Result<(u32, Vec<u8>), ClientFault>
-    ensures asks { (asks : List Placed) (octets : List ℕ) (frames : List Frame) (rest : List ℕ) → Stands channel.old asks octets frames rest
+    ensures asks { (asks : List Placed) (octets : List ℕ) (frames : List Frame) (rest : List ℕ) → ClientStands channel.old asks octets frames rest
         → AsksOr (λ found. AsksFrom bodies.now channel.old channel.new asks octets frames rest (found.0, found.1.items)) result }
     ensures same { SameClient channel.old channel.new }
     ensures memory { IfErr result (λ fault. fault ≡ OutOfMemory) }

@@ -7,8 +7,8 @@ ghost use Rattle.std.specs.Prelude.{◌≡◌, ◌+◌, ◌++◌, ℕ, List, [],
 ghost use Rattle.ua_chunk.specs.declared.lane.Lane.{Lane};
 ghost use Rattle.ua_services.specs.declared.request.Request.{Request};
 ghost use Rattle.ua_channel.specs.Asks.{Placed, asked_in, next_id, pending_calls};
-ghost use Rattle.ua_channel.specs.Client.{Goes, GoesTelling};
-ghost use Rattle.ua_channel.specs.ClientTold.{Told};
+ghost use Rattle.ua_channel.specs.Client.{ClientGoes, ClientGoesTelling};
+ghost use Rattle.ua_channel.specs.ClientTold.{ClientTold};
 ghost use Rattle.ua_channel.specs.declared.client.channel.ClientChannel.{ClientChannel};
 ghost use Rattle.ua_client.specs.Calls.{Answered};
 ghost use Rattle.ua_client.specs.Opening.{IsOpened};
@@ -21,7 +21,7 @@ use ua_channel::client_laws::{client_goes_on, client_pairs, client_tells_deliver
 
 /// What is told of a call is the first that is told of it.
 pub fn calls_are_told_once()
-    ensures { (x : ClientChannel) (asks : List Placed) (octets : List ℕ) (told : List Told) (t : Told) → GoesTelling x asks octets told t → IsFirstOf told t }
+    ensures { (x : ClientChannel) (asks : List Placed) (octets : List ℕ) (told : List ClientTold) (t : ClientTold) → ClientGoesTelling x asks octets told t → IsFirstOf told t }
 {
     client_goes_on();
     client_pairs();
@@ -30,7 +30,7 @@ pub fn calls_are_told_once()
 
 /// Nothing is told of a call before it is asked.
 pub fn calls_are_told_behind()
-    ensures { (x : ClientChannel) (asks : List Placed) (octets : List ℕ) (told : List Told) (n : ℕ) → Goes x asks octets told → told_of (next_id (asked_in asks) + n) told ≡ [] }
+    ensures { (x : ClientChannel) (asks : List Placed) (octets : List ℕ) (told : List ClientTold) (n : ℕ) → ClientGoes x asks octets told → told_of (next_id (asked_in asks) + n) told ≡ [] }
 {
     client_pairs();
     client_tells_delivered();
@@ -43,7 +43,7 @@ pub fn calls_are_told_behind()
 pub fn clients_are_settled()
     ensures opened { (x : ClientChannel) (octets : List ℕ) → IsOpened x octets → (s : Site) × (s.octets ≡ octets) × (s.asks ≡ []) × At x s × IsSettled s }
     ensures answered { (requests : List Request) (s t : Site) (taken : List ℕ) (replies : List Reply) → IsSettled s → Answered requests s t taken replies → IsSettled t }
-    ensures later { (s t : Site) (more : List Told) → IsSettled s → t.asks ≡ s.asks → t.told ≡ s.told ++ more → IsSettled t }
+    ensures later { (s t : Site) (more : List ClientTold) → IsSettled s → t.asks ≡ s.asks → t.told ≡ s.told ++ more → IsSettled t }
     ensures none_pending { (x : ClientChannel) (s : Site) → At x s → IsSettled s → pending_calls s.before.messages (asked_in s.asks) ≡ [] }
     ensures lane { (x : ClientChannel) (s : Site) → At x s → IsSettled s → (lane : Lane) × (lane_behind s.before ≡ Some lane) }
     ensures idle { (x : ClientChannel) (s : Site) → StandsSettled x → At x s → IsIdle x s }

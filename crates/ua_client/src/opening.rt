@@ -2,7 +2,7 @@
 
 ghost use Rattle.std.specs.Prelude.{◌≡◌, [], IsTrue, IfOk, OnErr, Err};
 ghost use Rattle.ua_octets.specs.Counted.{text};
-ghost use Rattle.ua_channel.specs.Client.{Stands, limits_of, url_of, next_of};
+ghost use Rattle.ua_channel.specs.Client.{ClientStands, client_limits, url_of, client_next};
 ghost use Rattle.ua_client.specs.Client.{Closes};
 ghost use Rattle.ua_client.specs.Hearing.{channel_of, untaken_of, failures_behind};
 ghost use Rattle.ua_client.specs.Opening.{Waits, Opens, is_agreed, is_opened, open_octets, any_done};
@@ -22,11 +22,11 @@ impl Connection {
     /// A connection of which nothing was sent and nothing came.
     pub fn new(alloc: Global, limits: Limits, url: UaString) -> Result<Connection, ClientFault>
         requires { IsTrue (text.encodable url) }
-        ensures stands { IfOk result (λ x. Stands (channel_of x) [] [] [] []) }
+        ensures stands { IfOk result (λ x. ClientStands (channel_of x) [] [] [] []) }
         ensures untaken { IfOk result (λ x. untaken_of x ≡ []) }
-        ensures limits { IfOk result (λ x. limits_of (channel_of x) ≡ limits) }
+        ensures limits { IfOk result (λ x. client_limits (channel_of x) ≡ limits) }
         ensures url { IfOk result (λ x. url_of (channel_of x) ≡ url) }
-        ensures next { IfOk result (λ x. next_of (channel_of x) ≡ 2) }
+        ensures next { IfOk result (λ x. client_next (channel_of x) ≡ 2) }
         ensures memory { OnErr result (result ≡ Err OutOfMemory) }
     {
         match Piece::new(alloc) {

@@ -2,8 +2,8 @@
 
 ghost use Rattle.std.specs.Prelude.{◌≡◌, ◌<◌, ◌++◌, ◌∷◌, [], List, length, slice_set, true, Some, IfOk, IfErr, IfSome, OnErr};
 ghost use Rattle.std.specs.List.{concat};
-ghost use Rattle.ua_channel.specs.ClientTold.{Told};
-ghost use Rattle.ua_channel.specs.ClientTold.Told.{Answered};
+ghost use Rattle.ua_channel.specs.ClientTold.{ClientTold};
+ghost use Rattle.ua_channel.specs.ClientTold.ClientTold.{Answered};
 ghost use Rattle.ua_services.specs.Response.{Answers, kind_of as kind_of_response};
 ghost use Rattle.ua_client.specs.declared.fault.ClientFault.TheVariants.{UnknownResponse};
 ghost use Rattle.ua_client.specs.Replies.{ReadsAnswer, IsPlace, PlacesReply, AreSlots, FillsSlots, is_reading_fault};
@@ -101,7 +101,7 @@ fn reply_by(
     first: u32,
     event: &ClientEvent,
 ) -> Result<Option<(usize, Reply)>, ClientFault>
-    ensures placed { (moment : DateTime) (t : Told) → Says moment event.now t → PlacesReply requests.now first t result }
+    ensures placed { (moment : DateTime) (t : ClientTold) → Says moment event.now t → PlacesReply requests.now first t result }
     ensures within { IfOk result (λ found. IfSome found (λ p. p.0 < length requests.now)) }
     ensures faults { IfErr result (λ fault. is_reading_fault fault ≡ true) }
 {
@@ -132,7 +132,7 @@ pub fn place_reply(
     slots: &mut Vec<Option<Reply>>,
 ) -> Result<(), ClientFault>
     requires { length slots.old.items ≡ length requests.now }
-    ensures fills { (moment : DateTime) (told : List Told) (t : Told) → Says moment event t → IsFirstOf told t → AreSlots requests.now first told slots.old.items
+    ensures fills { (moment : DateTime) (told : List ClientTold) (t : ClientTold) → Says moment event t → IsFirstOf told t → AreSlots requests.now first told slots.old.items
         → FillsSlots requests.now first (told ++ t ∷ []) slots.new.items result }
     ensures faults { IfErr result (λ fault. is_reading_fault fault ≡ true) }
     ensures count { length slots.new.items ≡ length slots.old.items }

@@ -16,7 +16,7 @@ use Rattle.ua_channel.specs.ClientAsks.{no_id}
 use Rattle.ua_channel.specs.ClientReads.{AtClient, ClientAgrees, ClientReads, IsAnswered, IsLaneBack, with_answer, with_call, with_renewal, with_reply, without_id}
 use Rattle.ua_channel.specs.ClientSends.{hello_to, token_lifetime}
 use Rattle.ua_channel.specs.ClientTokens.{from_last}
-use Rattle.ua_channel.specs.ClientTold.{Told as Heard, Told as heard}
+use Rattle.ua_channel.specs.ClientTold.{ClientTold as Heard, ClientTold as heard}
 use Rattle.ua_channel.specs.ServerSends.{opened_frame, replied}
 use Rattle.ua_channel.proofs.Askings.{asked_in-push}
 use Rattle.ua_channel.proofs.ClientReading.{reads_ack, reads_opened, reads_call, reads_renewal, reads_replied, reads_renewed}

@@ -10,7 +10,7 @@ use Rattle.ua_frame.specs.declared.frame.Frame.{Frame}
 use Rattle.ua_frame.specs.declared.hello.Hello.{Hello}
 use Rattle.ua_frame.specs.declared.limits.Limits.{Limits}
 use Rattle.ua_channel.specs.Asks.{Asking, Placed, asked_before, end_of}
-use Rattle.ua_channel.specs.Client.{bound_behind as client_bound}
+use Rattle.ua_channel.specs.Client.{client_bound_behind}
 use Rattle.ua_channel.specs.ClientTable.{client_reasons, client_rules, is_outside}
 use Rattle.ua_channel.specs.Content.{Content, content}
 use Rattle.ua_channel.specs.Content.Content.{Greets, Acks, Fails, Opens, Sends, Closes, Nothing}
@@ -87,9 +87,9 @@ ack_within : (limits : Limits) (asks : List Placed) (frames : List Frame) → Al
 unfolding AllAfter received acks
 ack_within limits asks frames good = latest_within limits None (acks frames) tt (acks_within limits asks [] frames good)
 
-most_behind : (limits : Limits) (o : Option Ack) → AreOurs limits → SendsWithin limits o → client_bound limits o ≤ most_held
+most_behind : (limits : Limits) (o : Option Ack) → AreOurs limits → SendsWithin limits o → client_bound_behind limits o ≤ most_held
 most_behind limits None ours within = omega arith
 most_behind limits (Some a) ours within = omega (arith, ours.receives, ours.takes_octets, within)
 
-pub client_most : (limits : Limits) (asks : List Placed) (frames : List Frame) → AreOurs limits → AllAfter (Fits (client_rules limits asks)) frames → client_bound limits (received frames).ack ≤ most_held
+pub client_most : (limits : Limits) (asks : List Placed) (frames : List Frame) → AreOurs limits → AllAfter (Fits (client_rules limits asks)) frames → client_bound_behind limits (received frames).ack ≤ most_held
 client_most limits asks frames ours good = most_behind limits (received frames).ack ours (ack_within limits asks frames good)

@@ -12,7 +12,7 @@ use Rattle.ua_channel.specs.Asks.Asking.{Call, Renewal}
 use Rattle.ua_channel.specs.ClientAsks.{no_id}
 use Rattle.ua_channel.specs.ClientReads.{AtClient, ClientReads, told_reply}
 use Rattle.ua_channel.specs.ClientTable.{client_rules}
-use Rattle.ua_channel.specs.ClientTold.{Told as Heard, Told as heard}
+use Rattle.ua_channel.specs.ClientTold.{ClientTold as Heard, ClientTold as heard}
 use Rattle.ua_channel.specs.ServerReads.{AtServer, ServerReads}
 use Rattle.ua_services.specs.Response.{response}
 use Rattle.ua_server.specs.Said.{Course, said, left}

@@ -8,7 +8,7 @@ ghost use Rattle.ua_builtin.specs.declared.date_time.DateTime.{DateTime};
 ghost use Rattle.ua_frame.specs.declared.limits.Limits.{Limits};
 ghost use Rattle.ua_frame.specs.declared.frame.Frame.{Frame};
 ghost use Rattle.ua_channel.specs.Asks.{Placed};
-ghost use Rattle.ua_channel.specs.Client.{Stands as ClientStands, bound_behind, held_octets, limits_of as client_limits};
+ghost use Rattle.ua_channel.specs.Client.{ClientStands, client_bound_behind, held_octets, client_limits};
 ghost use Rattle.ua_channel.specs.Received.{received};
 ghost use Rattle.ua_channel.specs.ServerReads.{ServerCloses};
 ghost use Rattle.ua_channel.specs.ServerStands.{Stands as ServerStands, bound_after, held_after, limits_of as server_limits};
@@ -58,9 +58,9 @@ pub fn server_holds_at_most(server: &Server)
 /// The same of a client, at each front of what a server says to it, and whatever else came.
 pub fn client_holds_at_most(client: &ClientChannel)
     ensures agreed { (asks : List Placed) (octets : List ℕ) (frames : List Frame) (rest : List ℕ) → ClientStands client.now asks octets frames rest
-        → held_octets frames rest ≤ bound_behind (client_limits client.now) (received frames).ack }
+        → held_octets frames rest ≤ client_bound_behind (client_limits client.now) (received frames).ack }
     ensures most { (asks : List Placed) (octets : List ℕ) (frames : List Frame) (rest : List ℕ) → AreOurs (client_limits client.now) → ClientStands client.now asks octets frames rest
-        → bound_behind (client_limits client.now) (received frames).ack ≤ most_held }
+        → client_bound_behind (client_limits client.now) (received frames).ack ≤ most_held }
 {
     let _held = client.held();
 }

@@ -14,11 +14,11 @@ use Rattle.ua_chunk.specs.Cutting.{pieces, chunks_of, chunks_octets, number_afte
 use Rattle.ua_chunk.specs.Sequence.{next_number}
 use Rattle.ua_chunk.specs.declared.lane.Lane.{Lane}
 use Rattle.ua_channel.specs.Asks.{Asking, Placed, asked_in}
-use Rattle.ua_channel.specs.Client.{limits_of, next_of, bound_of, bound_behind, IsDone, phase_of, rules_of, InPhase, IsNotOpen, Goes, Stands, SameClient, ask_refusal, renew_refusal, close_refusal, IsCall, IsRenewal, IsClosing}
-use Rattle.ua_channel.specs.ClientAsks.{Talks, Calls, Renews, AnswersFor, IsFor, lane_of, room_of, ask_reasons, renew_reasons, is_too_large, closing_octets, most_pending, most_tokens, no_id, JudgesBy}
+use Rattle.ua_channel.specs.Client.{client_limits, client_next, client_bound, client_bound_behind, IsClientDone, phase_of, client_rules_of, InPhase, IsNotOpen, ClientGoes, ClientStands, SameClient, ask_refusal, renew_refusal, close_refusal, IsCall, IsRenewal, IsClosing}
+use Rattle.ua_channel.specs.ClientAsks.{Talks, Calls, Renews, AnswersFor, IsFor, call_lane, room_of, ask_reasons, renew_reasons, is_too_large, closing_octets, most_pending, most_tokens, no_id, JudgesBy}
 use Rattle.ua_channel.specs.ClientSends.{renewal_frame, close_frame}
 use Rattle.ua_channel.specs.ClientTable.{client_rules}
-use Rattle.ua_channel.specs.ClientTold.{Told, Why}
+use Rattle.ua_channel.specs.ClientTold.{ClientTold, Why}
 use Rattle.ua_channel.specs.Received.{Received, received, listed}
 use Rattle.ua_channel.specs.declared.client.channel.ClientChannel.{ClientChannel}
 use Rattle.ua_channel.specs.declared.client.fault.AskFault.{AskFault}
@@ -31,19 +31,19 @@ use Rattle.ua_pinned.specs.Pinned.{HadMemory, SameBy}
 
 -- ---- where two channels stand that stand alike
 
-abbrev rules_by : ClientChannel → List Placed → Rules Told Why
-rules_by x asks = rules_of x asks
+abbrev rules_by : ClientChannel → List Placed → Rules ClientTold Why
+rules_by x asks = client_rules_of x asks
 
-same_rules : (x y : ClientChannel) (asks : List Placed) → limits_of x ≡ limits_of y → rules_of x asks ≡ rules_of y asks
+same_rules : (x y : ClientChannel) (asks : List Placed) → client_limits x ≡ client_limits y → client_rules_of x asks ≡ client_rules_of y asks
 same_rules x y asks e = ap (λ (l : Limits). client_rules l asks) e
 
-pub same_frames : (x y : ClientChannel) (asks : List Placed) (octets : List ℕ) (told : List Told) (s : ClientsAlike x y asks octets told) → s.first.frames ≡ s.second.frames
+pub same_frames : (x y : ClientChannel) (asks : List Placed) (octets : List ℕ) (told : List ClientTold) (s : ClientsAlike x y asks octets told) → s.first.frames ≡ s.second.frames
 same_frames x y asks octets told s =
-    (unique (rules_of y asks) octets s.first.frames s.second.frames s.first.rest s.second.rest Going Going (subst (λ (S : Rules Told Why). Run S octets s.first.frames s.first.rest Going) (same_rules x y asks s.limits) s.first.stands.run) s.second.stands.run).frames
+    (unique (client_rules_of y asks) octets s.first.frames s.second.frames s.first.rest s.second.rest Going Going (subst (λ (S : Rules ClientTold Why). Run S octets s.first.frames s.first.rest Going) (same_rules x y asks s.limits) s.first.stands.run) s.second.stands.run).frames
 
-pub same_rests : (x y : ClientChannel) (asks : List Placed) (octets : List ℕ) (told : List Told) (s : ClientsAlike x y asks octets told) → s.first.rest ≡ s.second.rest
+pub same_rests : (x y : ClientChannel) (asks : List Placed) (octets : List ℕ) (told : List ClientTold) (s : ClientsAlike x y asks octets told) → s.first.rest ≡ s.second.rest
 same_rests x y asks octets told s =
-    (unique (rules_of y asks) octets s.first.frames s.second.frames s.first.rest s.second.rest Going Going (subst (λ (S : Rules Told Why). Run S octets s.first.frames s.first.rest Going) (same_rules x y asks s.limits) s.first.stands.run) s.second.stands.run).rests
+    (unique (client_rules_of y asks) octets s.first.frames s.second.frames s.first.rest s.second.rest Going Going (subst (λ (S : Rules ClientTold Why). Run S octets s.first.frames s.first.rest Going) (same_rules x y asks s.limits) s.first.stands.run) s.second.stands.run).rests
 
 -- what two open channels have in common, of which the same was received and asked
 pub record SameTalk (t u : Talking) : Type 0 where
@@ -90,14 +90,14 @@ same_phase limits before asked (Open t) Done f g h k = absurd k
 same_phase limits before asked (Open t) (Open u) f g h k = Both t u refl refl (same_talk limits t u before asked h k)
 
 -- channels that stand alike are in the same phase, where a law says when a channel is open
-pub alike_phases : (C : List Frame → Type 0) (x y : ClientChannel) (asks : List Placed) (octets : List ℕ) (told : List Told) (s : ClientsAlike x y asks octets told)
-    → ((z : ClientChannel) (frames : List Frame) (rest : List ℕ) → Stands z asks octets frames rest → IsNotOpen (phase_of z) ↔ C frames) → SamePhase (phase_of x) (phase_of y)
+pub alike_phases : (C : List Frame → Type 0) (x y : ClientChannel) (asks : List Placed) (octets : List ℕ) (told : List ClientTold) (s : ClientsAlike x y asks octets told)
+    → ((z : ClientChannel) (frames : List Frame) (rest : List ℕ) → ClientStands z asks octets frames rest → IsNotOpen (phase_of z) ↔ C frames) → SamePhase (phase_of x) (phase_of y)
 alike_phases C x y asks octets told s law =
     let one = law x s.first.frames s.first.rest s.first.stands in
     let two = law y s.second.frames s.second.rest s.second.stands in
     let same = same_frames x y asks octets told s in
-    same_phase (limits_of y) (received s.second.frames) (asked_in asks) (phase_of x) (phase_of y) (λ n. two.1 (subst C same (one.0 n))) (λ n. one.1 (subst C (sym same) (two.0 n)))
-    (subst (λ (l : Limits). InPhase l (phase_of x) (received s.second.frames) (asked_in asks)) s.limits (subst (λ (fs : List Frame). InPhase (limits_of x) (phase_of x) (received fs) (asked_in asks)) same s.first.stands.phase_is))
+    same_phase (client_limits y) (received s.second.frames) (asked_in asks) (phase_of x) (phase_of y) (λ n. two.1 (subst C same (one.0 n))) (λ n. one.1 (subst C (sym same) (two.0 n)))
+    (subst (λ (l : Limits). InPhase l (phase_of x) (received s.second.frames) (asked_in asks)) s.limits (subst (λ (fs : List Frame). InPhase (client_limits x) (phase_of x) (received fs) (asked_in asks)) same s.first.stands.phase_is))
     s.second.stands.phase_is
 
 -- ---- why nothing is asked
@@ -176,13 +176,13 @@ no_closing Done number moment out n h = h
 abbrev lane_by : ℕ → ℕ → Ack → Lane
 lane_by channel token ack = record { channel = channel; token = token; room = room_of ack; octets = ack.max_message_size; chunks = ack.max_chunk_count }
 
-same_lane : (t u : Talking) → SameTalk t u → lane_of t ≡ lane_of u
+same_lane : (t u : Talking) → SameTalk t u → call_lane t.agreed.ack t.channel t.newest ≡ call_lane u.agreed.ack u.channel u.newest
 same_lane t u s = ap (λ (z : ℕ). lane_by z t.newest t.agreed.ack) s.channel ∙ (ap (λ (z : ℕ). lane_by u.channel z t.agreed.ack) s.newest ∙ ap (lane_by u.channel u.newest) s.ack)
 
 one_call : (t u : Talking) (number again : ℕ) (body : List ℕ) (id other : ℕ) (out also : List ℕ) (next then : ℕ) → SameTalk t u → number ≡ again → Calls t number body id out next → Calls u again body other also then → OneAsk id other out also next then
 one_call t u number again body id other out also next then s e p q = record {
   ids = p.id_is ∙ (s.next ∙ sym q.id_is);
-  octets = p.out_is ∙ (ap (λ (l : Lane). chunks_octets (chunks_of l body number id)) (same_lane t u s) ∙ (ap (λ (z : ℕ). chunks_octets (chunks_of (lane_of u) body z id)) e ∙ (ap (λ (z : ℕ). chunks_octets (chunks_of (lane_of u) body again z)) (p.id_is ∙ (s.next ∙ sym q.id_is)) ∙ sym q.out_is)));
+  octets = p.out_is ∙ (ap (λ (l : Lane). chunks_octets (chunks_of l body number id)) (same_lane t u s) ∙ (ap (λ (z : ℕ). chunks_octets (chunks_of (call_lane u.agreed.ack u.channel u.newest) body z id)) e ∙ (ap (λ (z : ℕ). chunks_octets (chunks_of (call_lane u.agreed.ack u.channel u.newest) body again z)) (p.id_is ∙ (s.next ∙ sym q.id_is)) ∙ sym q.out_is)));
   nexts = p.next_is ∙ (ap (λ (z : ℕ). number_after z (pieces (room_of t.agreed.ack) body)) e ∙ (ap (λ (a : Ack). number_after again (pieces (room_of a) body)) s.ack ∙ sym q.next_is));
 }
 
@@ -251,21 +251,21 @@ closings_alike items X Y r s once e (Err fault) (Err other) p q x y had = one_fa
 -- ---- where it leaves them
 
 -- a channel of the same limits that stands after the same frames was told the same, whatever it asked more
-pub goes_on : (x new : ClientChannel) (asks more : List Placed) (octets : List ℕ) (told : List Told) (g : Goes x asks octets told) → Stands new more octets g.frames g.rest → Goes new more octets told
+pub goes_on : (x new : ClientChannel) (asks more : List Placed) (octets : List ℕ) (told : List ClientTold) (g : ClientGoes x asks octets told) → ClientStands new more octets g.frames g.rest → ClientGoes new more octets told
 goes_on x new asks more octets told g s = record { frames = g.frames; rest = g.rest; stands = s; told_is = g.told_is }
 
 -- what a channel says of where it stands behind an ask
 pub record IsAsked {V : Type 0} (asking : ℕ → Asking) (x new : ClientChannel) (asks : List Placed) (octets : List ℕ) (frames : List Frame) (rest : List ℕ) (a : Result (ℕ × V) AskFault) : Type 0 where
-  pub stands : IfOk a (λ r. Stands new (asks ++ (length octets, asking r.0) ∷ []) octets frames rest)
-  pub kept : OnErr a (Stands new asks octets frames rest)
-  pub next : OnErr a (next_of new ≡ next_of x)
+  pub stands : IfOk a (λ r. ClientStands new (asks ++ (length octets, asking r.0) ∷ []) octets frames rest)
+  pub kept : OnErr a (ClientStands new asks octets frames rest)
+  pub next : OnErr a (client_next new ≡ client_next x)
   pub same : SameClient x new
 
-pub left_alike : {V : Type 0} (items : V → List ℕ) (asking : ℕ → Asking) (x y new other : ClientChannel) (asks : List Placed) (octets : List ℕ) (told : List Told) (s : ClientsAlike x y asks octets told) (a b : Result (ℕ × V) AskFault)
-    → IsAsked asking x new asks octets s.first.frames s.first.rest a → IsAsked asking y other asks octets s.second.frames s.second.rest b → OnOk a (OnOk b (next_of new ≡ next_of other)) → SameAsked items a b → AsksAlike asking a new other asks octets told
+pub left_alike : {V : Type 0} (items : V → List ℕ) (asking : ℕ → Asking) (x y new other : ClientChannel) (asks : List Placed) (octets : List ℕ) (told : List ClientTold) (s : ClientsAlike x y asks octets told) (a b : Result (ℕ × V) AskFault)
+    → IsAsked asking x new asks octets s.first.frames s.first.rest a → IsAsked asking y other asks octets s.second.frames s.second.rest b → OnOk a (OnOk b (client_next new ≡ client_next other)) → SameAsked items a b → AsksAlike asking a new other asks octets told
 left_alike items asking x y new other asks octets told s (Ok (id, v)) (Ok (jd, w)) p q next same = record {
   first = goes_on x new asks (asks ++ (length octets, asking id) ∷ []) octets told s.first p.stands;
-  second = goes_on y other asks (asks ++ (length octets, asking id) ∷ []) octets told s.second (subst (λ (k : ℕ). Stands other (asks ++ (length octets, asking k) ∷ []) octets s.second.frames s.second.rest) (sym same.0) q.stands);
+  second = goes_on y other asks (asks ++ (length octets, asking id) ∷ []) octets told s.second (subst (λ (k : ℕ). ClientStands other (asks ++ (length octets, asking k) ∷ []) octets s.second.frames s.second.rest) (sym same.0) q.stands);
   limits = sym p.same.limits ∙ (s.limits ∙ q.same.limits);
   next = next;
 }
@@ -285,27 +285,27 @@ nexts_alike items X Y n m once (Ok v) (Err e) x y = tt
 nexts_alike items X Y n m once (Err e) b x y = tt
 
 -- a channel that is unchanged stands as before
-pub unchanged_kept : {A : Type 0} (x new : ClientChannel) (asks : List Placed) (octets : List ℕ) (frames : List Frame) (rest : List ℕ) (a : Result A AskFault) → OnErr a (new ≡ x) → Stands x asks octets frames rest → OnErr a (Stands new asks octets frames rest)
+pub unchanged_kept : {A : Type 0} (x new : ClientChannel) (asks : List Placed) (octets : List ℕ) (frames : List Frame) (rest : List ℕ) (a : Result A AskFault) → OnErr a (new ≡ x) → ClientStands x asks octets frames rest → OnErr a (ClientStands new asks octets frames rest)
 unchanged_kept x new asks octets frames rest (Ok v) e s = tt
-unchanged_kept x new asks octets frames rest (Err fault) e s = subst (λ (z : ClientChannel). Stands z asks octets frames rest) (sym e) s
+unchanged_kept x new asks octets frames rest (Err fault) e s = subst (λ (z : ClientChannel). ClientStands z asks octets frames rest) (sym e) s
 
-pub unchanged_next : {A : Type 0} (x new : ClientChannel) (a : Result A AskFault) → OnErr a (new ≡ x) → OnErr a (next_of new ≡ next_of x)
+pub unchanged_next : {A : Type 0} (x new : ClientChannel) (a : Result A AskFault) → OnErr a (new ≡ x) → OnErr a (client_next new ≡ client_next x)
 unchanged_next x new (Ok v) e = tt
-unchanged_next x new (Err fault) e = ap next_of e
+unchanged_next x new (Err fault) e = ap client_next e
 
 -- ---- closes
 
 -- what a channel says of where it stands behind a close
 pub record IsClosed {A : Type 0} (x new : ClientChannel) (a : Result A AskFault) : Type 0 where
-  pub done : OnOk a (IsDone new)
+  pub done : OnOk a (IsClientDone new)
   pub unchanged : OnErr a (new ≡ x)
-  pub bound : bound_of new ≡ bound_of x
+  pub bound : client_bound new ≡ client_bound x
 
-same_bound : (x y : ClientChannel) (asks : List Placed) (octets : List ℕ) (told : List Told) (s : ClientsAlike x y asks octets told) → bound_of x ≡ bound_of y
+same_bound : (x y : ClientChannel) (asks : List Placed) (octets : List ℕ) (told : List ClientTold) (s : ClientsAlike x y asks octets told) → client_bound x ≡ client_bound y
 same_bound x y asks octets told s =
-    s.first.stands.bound_is ∙ (ap (λ (l : Limits). bound_behind l (received s.first.frames).ack) s.limits ∙ (ap (λ (t : List Frame). bound_behind (limits_of y) (received t).ack) (same_frames x y asks octets told s) ∙ sym s.second.stands.bound_is))
+    s.first.stands.bound_is ∙ (ap (λ (l : Limits). client_bound_behind l (received s.first.frames).ack) s.limits ∙ (ap (λ (t : List Frame). client_bound_behind (client_limits y) (received t).ack) (same_frames x y asks octets told s) ∙ sym s.second.stands.bound_is))
 
-pub closed_alike : {V : Type 0} (items : V → List ℕ) (x y new other : ClientChannel) (asks : List Placed) (octets : List ℕ) (told : List Told) (s : ClientsAlike x y asks octets told) (a b : Result V AskFault)
+pub closed_alike : {V : Type 0} (items : V → List ℕ) (x y new other : ClientChannel) (asks : List Placed) (octets : List ℕ) (told : List ClientTold) (s : ClientsAlike x y asks octets told) (a b : Result V AskFault)
     → IsClosed x new a → IsClosed y other b → SameBy items a b → ClosesAlike a new other asks octets told
 closed_alike items x y new other asks octets told s (Ok v) (Ok w) p q same = record { first = p.done; second = q.done; bound = p.bound ∙ (same_bound x y asks octets told s ∙ sym q.bound) }
 closed_alike items x y new other asks octets told s (Ok v) (Err e) p q same = absurd same

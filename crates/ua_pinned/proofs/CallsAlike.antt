@@ -4,9 +4,9 @@ use Rattle.std.proofs.Common.{refl, sym, ◌∙◌, ap, subst, arith, append_ass
 use Rattle.std.proofs.lemmas.List.{append_cancel_left, append_cancel_right}
 use Rattle.ua_builtin.specs.declared.status_code.StatusCode.{StatusCode}
 use Rattle.ua_channel.specs.Asks.{Placed}
-use Rattle.ua_channel.specs.Client.{Ended, Goes, rules_of, limits_of}
+use Rattle.ua_channel.specs.Client.{ClientEnded, ClientGoes, client_rules_of, client_limits}
 use Rattle.ua_channel.specs.ClientTable.{client_rules}
-use Rattle.ua_channel.specs.ClientTold.{Told, Why, ours, peers}
+use Rattle.ua_channel.specs.ClientTold.{ClientTold, Why, ours, peers}
 use Rattle.ua_channel.specs.Line.{Traffic}
 use Rattle.ua_channel.specs.declared.client.channel.ClientChannel.{ClientChannel}
 use Rattle.ua_frame.specs.Run.{Rules, Run, End, Going, Stopped, events}
@@ -151,34 +151,34 @@ one_fault f g e d (ByEnd p q) (ByEnd r s) same = p ∙ sym r
 -- ---- readings
 
 -- a channel whose connection ended read all so
-pub ended_reads : (R : Rules Told Why) (x : ClientChannel) (asks : List Placed) (octets more whole : List ℕ) (told : List Told) (why : Why) → rules_of x asks ≡ R → octets ++ more ≡ whole → Ended x asks octets told why → ReadsAll R whole told (Stopped why)
+pub ended_reads : (R : Rules ClientTold Why) (x : ClientChannel) (asks : List Placed) (octets more whole : List ℕ) (told : List ClientTold) (why : Why) → client_rules_of x asks ≡ R → octets ++ more ≡ whole → ClientEnded x asks octets told why → ReadsAll R whole told (Stopped why)
 ended_reads R x asks octets more whole told why same parts e =
     stopped_all R whole octets more e.frames e.rest told (Stopped why) (λ k. cc) parts
-    (subst (λ (S : Rules Told Why). Run S octets e.frames e.rest (Stopped why)) same e.run) (subst (λ (S : Rules Told Why). events S e.frames ≡ told) same e.told_is)
+    (subst (λ (S : Rules ClientTold Why). Run S octets e.frames e.rest (Stopped why)) same e.run) (subst (λ (S : Rules ClientTold Why). events S e.frames ≡ told) same e.told_is)
 
 -- one that goes on behind all read all so
-pub goes_reads : (R : Rules Told Why) (x : ClientChannel) (asks : List Placed) (octets whole : List ℕ) (told : List Told) → rules_of x asks ≡ R → octets ≡ whole → Goes x asks octets told → ReadsAll R whole told Going
+pub goes_reads : (R : Rules ClientTold Why) (x : ClientChannel) (asks : List Placed) (octets whole : List ℕ) (told : List ClientTold) → client_rules_of x asks ≡ R → octets ≡ whole → ClientGoes x asks octets told → ReadsAll R whole told Going
 goes_reads R x asks octets whole told same all g = record {
   frames = g.frames;
   rest = g.rest;
-  run = subst (λ (S : Rules Told Why). Run S whole g.frames g.rest Going) same (subst (λ (o : List ℕ). Run (rules_of x asks) o g.frames g.rest Going) all g.stands.run);
-  told_is = subst (λ (S : Rules Told Why). events S g.frames ≡ told) same g.told_is;
+  run = subst (λ (S : Rules ClientTold Why). Run S whole g.frames g.rest Going) same (subst (λ (o : List ℕ). Run (client_rules_of x asks) o g.frames g.rest Going) all g.stands.run);
+  told_is = subst (λ (S : Rules ClientTold Why). events S g.frames ≡ told) same g.told_is;
 }
 
 -- and one that goes on behind a front read that so
-pub goes_front : (R : Rules Told Why) (x : ClientChannel) (asks : List Placed) (octets more whole : List ℕ) (told : List Told) → rules_of x asks ≡ R → octets ++ more ≡ whole → Goes x asks octets told → ReadsFront R whole told
+pub goes_front : (R : Rules ClientTold Why) (x : ClientChannel) (asks : List Placed) (octets more whole : List ℕ) (told : List ClientTold) → client_rules_of x asks ≡ R → octets ++ more ≡ whole → ClientGoes x asks octets told → ReadsFront R whole told
 goes_front R x asks octets more whole told same parts g = record {
   octets = octets;
   more = more;
   parts = parts;
   frames = g.frames;
   rest = g.rest;
-  run = subst (λ (S : Rules Told Why). Run S octets g.frames g.rest Going) same g.stands.run;
-  told_is = subst (λ (S : Rules Told Why). events S g.frames ≡ told) same g.told_is;
+  run = subst (λ (S : Rules ClientTold Why). Run S octets g.frames g.rest Going) same g.stands.run;
+  told_is = subst (λ (S : Rules ClientTold Why). events S g.frames ≡ told) same g.told_is;
 }
 
 -- two channels of the same limits have the same rules
-pub same_rules : (x y : ClientChannel) (asks : List Placed) → limits_of x ≡ limits_of y → rules_of x asks ≡ rules_of y asks
+pub same_rules : (x y : ClientChannel) (asks : List Placed) → client_limits x ≡ client_limits y → client_rules_of x asks ≡ client_rules_of y asks
 same_rules x y asks e = ap (λ (l : Limits). client_rules l asks) e
 
 -- the octets that were taken behind others are a front of all that came and was to come

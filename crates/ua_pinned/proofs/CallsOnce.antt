@@ -2,7 +2,7 @@
 use Rattle.std.specs.Prelude.{◌≡◌, ℕ, ◌+◌, ◌⊎◌, true, false, List, [], ◌∷◌, ◌++◌, length, Option, Some, None, Result, Ok, Err}
 use Rattle.std.proofs.Common.{refl, sym, ◌∙◌, ap, subst}
 use Rattle.ua_frame.specs.declared.limits.Limits.{Limits}
-use Rattle.ua_channel.specs.Client.{limits_of}
+use Rattle.ua_channel.specs.Client.{client_limits}
 use Rattle.ua_channel.specs.Line.{Traffic}
 use Rattle.ua_channel.specs.declared.client.channel.ClientChannel.{ClientChannel}
 use Rattle.ua_services.specs.declared.request.Request.{Request}
@@ -39,7 +39,7 @@ same_found v w e = cc
 err_found : {A P : Type 0} (f : ClientFault) (v : A) → ◌≡◌ {A = Result A ClientFault} (Err f) (Ok v) → P
 err_found f v e = cc
 
-met : {A : Type 0} (view : A → List Reply) (limits : Limits) (requests : List Request) (s : Site) (new : Connection) (sent taken more : List ℕ) → limits_of (channel_of new) ≡ limits → (a : Result A ClientFault)
+met : {A : Type 0} (view : A → List Reply) (limits : Limits) (requests : List Request) (s : Site) (new : Connection) (sent taken more : List ℕ) → client_limits (channel_of new) ≡ limits → (a : Result A ClientFault)
     → ((f : ClientFault) → fault_of a ≡ Some f → (f ≡ fault.Ended) ⊎ (f ≡ fault.Read) → more ≡ []) → ((f : ClientFault) → fault_of a ≡ Some f → f ≡ fault.OutOfMemory → ⊥) → ((f : ClientFault) → fault_of a ≡ Some f → f ≡ fault.TooLong → ⊥)
     → AllAt view requests s new sent taken a → Met view limits (channel_of new) requests s (taken ++ more) sent taken a
 met view limits requests s new sent taken more same (Ok v) stop had short k = record {
@@ -86,20 +86,20 @@ called_once {A} once view one two x y requests a b line after other later s comi
     both : Ways a b h.moves.taken k.moves.taken h.sent k.sent
     both = ways one two x y a b line after other later s coming stand h.sent k.sent h.moves k.moves h.same k.same h.stops k.stops alike
 
-    mine : Met view (limits_of (client_channel two)) (client_channel x) requests s (h.moves.taken ++ both.more) h.sent h.moves.taken a
+    mine : Met view (client_limits (client_channel two)) (client_channel x) requests s (h.moves.taken ++ both.more) h.sent h.moves.taken a
     mine =
-        met view (limits_of (client_channel two)) requests s (connection_of x) h.sent h.moves.taken both.more (limits_are one two x y a b line after other later s coming stand h.sent k.sent h.moves k.moves h.same k.same h.stops k.stops) a both.stop (had_first a b had)
+        met view (client_limits (client_channel two)) requests s (connection_of x) h.sent h.moves.taken both.more (limits_are one two x y a b line after other later s coming stand h.sent k.sent h.moves k.moves h.same k.same h.stops k.stops) a both.stop (had_first a b had)
         (not_long one two x y a b line after other later s coming stand h.sent k.sent h.moves k.moves h.same k.same h.stops k.stops) (h.answers s stand.first)
 
-    theirs : Met view (limits_of (client_channel two)) (client_channel y) requests s (k.moves.taken ++ both.rest) k.sent k.moves.taken b
+    theirs : Met view (client_limits (client_channel two)) (client_channel y) requests s (k.moves.taken ++ both.rest) k.sent k.moves.taken b
     theirs =
-        met view (limits_of (client_channel two)) requests s (connection_of y) k.sent k.moves.taken both.rest (limits_too one two x y a b line after other later s coming stand h.sent k.sent h.moves k.moves h.same k.same h.stops k.stops) b both.stop_too (had_second a b had)
+        met view (client_limits (client_channel two)) requests s (connection_of y) k.sent k.moves.taken both.rest (limits_too one two x y a b line after other later s coming stand h.sent k.sent h.moves k.moves h.same k.same h.stops k.stops) b both.stop_too (had_second a b had)
         (not_long_too one two x y a b line after other later s coming stand h.sent k.sent h.moves k.moves h.same k.same h.stops k.stops) (k.answers s stand.second)
 
     one_walk : WalkOnce (client_channel x) (client_channel y) (fault_of a) (fault_of b) s h.sent k.sent h.moves.taken k.moves.taken mine.replies theirs.replies mine.count theirs.count
     one_walk =
-        walks_once once false (limits_of (client_channel two)) (client_channel x) (client_channel y) (fault_of a) (fault_of b) requests s (h.moves.taken ++ both.more) h.sent k.sent h.moves.taken k.moves.taken mine.replies theirs.replies mine.count theirs.count mine.walk
-        (subst (λ (o : List ℕ). Walk false (limits_of (client_channel two)) (client_channel y) (fault_of b) requests s o k.sent k.moves.taken theirs.replies theirs.count) both.whole theirs.walk) both.faults
+        walks_once once false (client_limits (client_channel two)) (client_channel x) (client_channel y) (fault_of a) (fault_of b) requests s (h.moves.taken ++ both.more) h.sent k.sent h.moves.taken k.moves.taken mine.replies theirs.replies mine.count theirs.count mine.walk
+        (subst (λ (o : List ℕ). Walk false (client_limits (client_channel two)) (client_channel y) (fault_of b) requests s o k.sent k.moves.taken theirs.replies theirs.count) both.whole theirs.walk) both.faults
 
 -- ---- one request
 
@@ -126,7 +126,7 @@ found_err c e = cc
 same_named : (c d : CallsFault) → ◌≡◌ {A = Result (Unit {0}) CallsFault} (Err c) (Err d) → c ≡ d
 same_named c d e = cc
 
-added_by : (limits : Limits) (requests : List Request) (s : Site) (new : Connection) (sent taken more : List ℕ) (added : List Reply) → limits_of (channel_of new) ≡ limits → (a : Result (Unit {0}) CallsFault)
+added_by : (limits : Limits) (requests : List Request) (s : Site) (new : Connection) (sent taken more : List ℕ) (added : List Reply) → client_limits (channel_of new) ≡ limits → (a : Result (Unit {0}) CallsFault)
     → ((f : ClientFault) → fault_of (fault_alone a) ≡ Some f → (f ≡ fault.Ended) ⊎ (f ≡ fault.Read) → more ≡ []) → ((f : ClientFault) → fault_of (fault_alone a) ≡ Some f → f ≡ fault.OutOfMemory → ⊥)
     → ((f : ClientFault) → fault_of (fault_alone a) ≡ Some f → f ≡ fault.TooLong → ⊥) → IntoAt requests s new sent taken a added → Added limits (channel_of new) requests s (taken ++ more) sent taken added a
 added_by limits requests s new sent taken more added same (Ok done) stop had short k = record {
@@ -172,19 +172,19 @@ added_once once one two x y requests a b had_replies have other_had also line af
     both : Ways (fault_alone a) (fault_alone b) h.moves.taken k.moves.taken h.sent k.sent
     both = ways one two x y (fault_alone a) (fault_alone b) line after other later s coming stand h.sent k.sent h.moves k.moves h.same k.same h.stops k.stops alike
 
-    mine : Added (limits_of (client_channel two)) (client_channel x) requests s (h.moves.taken ++ both.more) h.sent h.moves.taken h.added a
+    mine : Added (client_limits (client_channel two)) (client_channel x) requests s (h.moves.taken ++ both.more) h.sent h.moves.taken h.added a
     mine =
-        added_by (limits_of (client_channel two)) requests s (connection_of x) h.sent h.moves.taken both.more h.added (limits_are one two x y (fault_alone a) (fault_alone b) line after other later s coming stand h.sent k.sent h.moves k.moves h.same k.same h.stops k.stops) a both.stop
+        added_by (client_limits (client_channel two)) requests s (connection_of x) h.sent h.moves.taken both.more h.added (limits_are one two x y (fault_alone a) (fault_alone b) line after other later s coming stand h.sent k.sent h.moves k.moves h.same k.same h.stops k.stops) a both.stop
         (had_first (fault_alone a) (fault_alone b) had)
         (not_long one two x y (fault_alone a) (fault_alone b) line after other later s coming stand h.sent k.sent h.moves k.moves h.same k.same h.stops k.stops) (h.answers s stand.first)
 
-    theirs : Added (limits_of (client_channel two)) (client_channel y) requests s (k.moves.taken ++ both.rest) k.sent k.moves.taken k.added b
+    theirs : Added (client_limits (client_channel two)) (client_channel y) requests s (k.moves.taken ++ both.rest) k.sent k.moves.taken k.added b
     theirs =
-        added_by (limits_of (client_channel two)) requests s (connection_of y) k.sent k.moves.taken both.rest k.added (limits_too one two x y (fault_alone a) (fault_alone b) line after other later s coming stand h.sent k.sent h.moves k.moves h.same k.same h.stops k.stops) b both.stop_too
+        added_by (client_limits (client_channel two)) requests s (connection_of y) k.sent k.moves.taken both.rest k.added (limits_too one two x y (fault_alone a) (fault_alone b) line after other later s coming stand h.sent k.sent h.moves k.moves h.same k.same h.stops k.stops) b both.stop_too
         (had_second (fault_alone a) (fault_alone b) had)
         (not_long_too one two x y (fault_alone a) (fault_alone b) line after other later s coming stand h.sent k.sent h.moves k.moves h.same k.same h.stops k.stops) (k.answers s stand.second)
 
     one_walk : WalkOnce (client_channel x) (client_channel y) (fault_of (fault_alone a)) (fault_of (fault_alone b)) s h.sent k.sent h.moves.taken k.moves.taken h.added k.added mine.count theirs.count
     one_walk =
-        walks_once once true (limits_of (client_channel two)) (client_channel x) (client_channel y) (fault_of (fault_alone a)) (fault_of (fault_alone b)) requests s (h.moves.taken ++ both.more) h.sent k.sent h.moves.taken k.moves.taken h.added k.added mine.count theirs.count mine.walk
-        (subst (λ (o : List ℕ). Walk true (limits_of (client_channel two)) (client_channel y) (fault_of (fault_alone b)) requests s o k.sent k.moves.taken k.added theirs.count) both.whole theirs.walk) both.faults
+        walks_once once true (client_limits (client_channel two)) (client_channel x) (client_channel y) (fault_of (fault_alone a)) (fault_of (fault_alone b)) requests s (h.moves.taken ++ both.more) h.sent k.sent h.moves.taken k.moves.taken h.added k.added mine.count theirs.count mine.walk
+        (subst (λ (o : List ℕ). Walk true (client_limits (client_channel two)) (client_channel y) (fault_of (fault_alone b)) requests s o k.sent k.moves.taken k.added theirs.count) both.whole theirs.walk) both.faults

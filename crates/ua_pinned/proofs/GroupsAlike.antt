@@ -4,9 +4,9 @@ use Rattle.std.proofs.Common.{refl, sym, ◌∙◌, ap, subst, arith, inl, inr, 
 use Rattle.std.proofs.lemmas.List.{append_cancel_left}
 use Rattle.ua_frame.specs.Run.{Going, Rules, Stopped}
 use Rattle.ua_frame.specs.declared.limits.Limits.{Limits}
-use Rattle.ua_channel.specs.Client.{Goes, limits_of, rules_of}
+use Rattle.ua_channel.specs.Client.{ClientGoes, client_limits, client_rules_of}
 use Rattle.ua_channel.specs.ClientTable.{client_rules}
-use Rattle.ua_channel.specs.ClientTold.{Told, Why, ours, peers}
+use Rattle.ua_channel.specs.ClientTold.{ClientTold, Why, ours, peers}
 use Rattle.ua_channel.specs.declared.client.channel.ClientChannel.{ClientChannel}
 use Rattle.ua_services.specs.declared.request.Request.{Request}
 use Rattle.ua_client.specs.Calls.{AnsweredAll, AreGroups, BreaksAt, BrokenAll, EndsOn, GoesOn, IsSentAt, Rounds, all_of, asked_at, sent_at}
@@ -228,7 +228,7 @@ last_group : (gs : List (List Request)) (g : List Request) → AreGroups (gs ++ 
 last_group [] g h = (h.0, h.1)
 last_group (k ∷ gs) g h = last_group gs g h.3
 
-module _ (b : Bool) (limits : Limits) (x client : ClientChannel) (same : limits_of client ≡ limits) (o : Option ClientFault) (s : Site) where
+module _ (b : Bool) (limits : Limits) (x client : ClientChannel) (same : client_limits client ≡ limits) (o : Option ClientFault) (s : Site) where
   -- rounds, and from there a walk
   prepend : {groups : List (List Request)} {t : Site} {sent taken : List ℕ} {replies : List Reply} (others : List Request) (later out rest : List ℕ) (further : List Reply) (n : ℕ) → Rounds client s groups t sent taken replies → Grouped groups others
       → Walk b limits x o others t later out rest further n → Walk b limits x o (all_of groups ++ others) s (taken ++ later) (sent ++ out) (taken ++ rest) (replies ++ further) (length (all_of groups) + n)
@@ -245,14 +245,14 @@ module _ (b : Bool) (limits : Limits) (x client : ClientChannel) (same : limits_
 
 -- ---- where a group is not answered
 
-module _ (limits : Limits) (requests : List Request) (s : Site) (new : Connection) (sent taken more : List ℕ) (same : limits_of (channel_of new) ≡ limits) where
-  abbrev R : Rules Told Why
+module _ (limits : Limits) (requests : List Request) (s : Site) (new : Connection) (sent taken more : List ℕ) (same : client_limits (channel_of new) ≡ limits) where
+  abbrev R : Rules ClientTold Why
   R = rules_at limits requests s
 
   abbrev whole : List ℕ
   whole = s.octets ++ (taken ++ more)
 
-  rules : rules_of (channel_of new) (asked_at s requests) ≡ R
+  rules : client_rules_of (channel_of new) (asked_at s requests) ≡ R
   rules = ap (λ (l : Limits). client_rules l (asked_at s requests)) same
 
   parts : (s.octets ++ taken) ++ more ≡ whole
@@ -262,35 +262,35 @@ module _ (limits : Limits) (requests : List Request) (s : Site) (new : Connectio
   Ending b kept place f = Broke b limits requests s (taken ++ more) (channel_of new) sent taken kept place f
 
   ended_by : (b : Bool) (kept : List Reply) (place : ℕ) (f : ClientFault) (why : Why) → EndsBy f (Stopped why) → IsSentAt requests s sent × EndsOn (channel_of new) (asked_at s requests) (s.octets ++ taken) s.told why (AreAwaited requests (id_at s))
-      → ((told : List Told) → ReadsAll R whole told (Stopped why) → Keeps b IsUntold requests (id_at s) told kept place) → Ending b kept place f
+      → ((told : List ClientTold) → ReadsAll R whole told (Stopped why) → Keeps b IsUntold requests (id_at s) told kept place) → Ending b kept place f
   ended_by b kept place f why by k keeps =
       let all = ended_reads R (channel_of new) (asked_at s requests) (s.octets ++ taken) more whole (s.told ++ k.1.0) why rules parts k.1.1 in
       Waited (Stopped why) (ByFault by) k.0 (s.told ++ k.1.0) all k.1.2 (keeps (s.told ++ k.1.0) all)
 
   gone_by : (b : Bool) (kept : List Reply) (place : ℕ) (f : ClientFault) → WaitsBy f Going → more ≡ [] → IsSentAt requests s sent × GoesOn (channel_of new) (asked_at s requests) (s.octets ++ taken) s.told (AreAwaited requests (id_at s))
-      → ((told : List Told) → Goes (channel_of new) (asked_at s requests) (s.octets ++ taken) told → Keeps b IsUntold requests (id_at s) told kept place) → Ending b kept place f
+      → ((told : List ClientTold) → ClientGoes (channel_of new) (asked_at s requests) (s.octets ++ taken) told → Keeps b IsUntold requests (id_at s) told kept place) → Ending b kept place f
   gone_by b kept place f by none k keeps =
       Waited Going by k.0 (s.told ++ k.1.0)
       (goes_reads R (channel_of new) (asked_at s requests) (s.octets ++ taken) whole (s.told ++ k.1.0) rules (ap (λ (o : List ℕ). s.octets ++ o) (sym (ap (λ (o : List ℕ). taken ++ o) none ∙ append-nil taken))) k.1.1)
       k.1.2 (keeps (s.told ++ k.1.0) k.1.1)
 
   missed_by : (b : Bool) (kept : List Reply) (place : ℕ) → IsSentAt requests s sent × GoesOn (channel_of new) (asked_at s requests) (s.octets ++ taken) s.told (IsMisanswered requests (id_at s))
-      → ((told : List Told) → Goes (channel_of new) (asked_at s requests) (s.octets ++ taken) told → Keeps b LacksAnswer requests (id_at s) told kept place) → Ending b kept place fault.UnknownResponse
+      → ((told : List ClientTold) → ClientGoes (channel_of new) (asked_at s requests) (s.octets ++ taken) told → Keeps b LacksAnswer requests (id_at s) told kept place) → Ending b kept place fault.UnknownResponse
   missed_by b kept place k keeps = Missed refl k.0 (s.told ++ k.1.0) (goes_front R (channel_of new) (asked_at s requests) (s.octets ++ taken) more whole (s.told ++ k.1.0) rules parts k.1.1) k.1.2 (keeps (s.told ++ k.1.0) k.1.1)
 
   -- what is kept is told of what was read
   keeps_ended : (why : Why) (kept : List Reply) (place : ℕ) → (place ≡ length kept) × EndsOn (channel_of new) (asked_at s requests) (s.octets ++ taken) s.told why (IsFront IsUntold kept requests (id_at s))
-      → (told : List Told) → ReadsAll R whole told (Stopped why) → Keeps true IsUntold requests (id_at s) told kept place
+      → (told : List ClientTold) → ReadsAll R whole told (Stopped why) → Keeps true IsUntold requests (id_at s) told kept place
   keeps_ended why kept place q told all =
       let same_told = all_once R whole (s.told ++ q.1.0) told (Stopped why) (Stopped why) (ended_reads R (channel_of new) (asked_at s requests) (s.octets ++ taken) more whole (s.told ++ q.1.0) why rules parts q.1.1) all in
-      (q.0, subst (λ (ts : List Told). IsFront IsUntold kept requests (id_at s) ts) same_told.0 q.1.2)
+      (q.0, subst (λ (ts : List ClientTold). IsFront IsUntold kept requests (id_at s) ts) same_told.0 q.1.2)
 
-  keeps_gone : (Misses : Request → ℕ → List Told → Type 0) (kept : List Reply) (place : ℕ) → (place ≡ length kept) × GoesOn (channel_of new) (asked_at s requests) (s.octets ++ taken) s.told (IsFront Misses kept requests (id_at s))
-      → (told : List Told) → Goes (channel_of new) (asked_at s requests) (s.octets ++ taken) told → Keeps true Misses requests (id_at s) told kept place
+  keeps_gone : (Misses : Request → ℕ → List ClientTold → Type 0) (kept : List Reply) (place : ℕ) → (place ≡ length kept) × GoesOn (channel_of new) (asked_at s requests) (s.octets ++ taken) s.told (IsFront Misses kept requests (id_at s))
+      → (told : List ClientTold) → ClientGoes (channel_of new) (asked_at s requests) (s.octets ++ taken) told → Keeps true Misses requests (id_at s) told kept place
   keeps_gone Misses kept place q told g =
       let here = goes_reads R (channel_of new) (asked_at s requests) (s.octets ++ taken) (s.octets ++ taken) (s.told ++ q.1.0) rules refl q.1.1 in
       let there = goes_reads R (channel_of new) (asked_at s requests) (s.octets ++ taken) (s.octets ++ taken) told rules refl g in
-      (q.0, subst (λ (ts : List Told). IsFront Misses kept requests (id_at s) ts) (all_once R (s.octets ++ taken) (s.told ++ q.1.0) told Going Going here there).0 q.1.2)
+      (q.0, subst (λ (ts : List ClientTold). IsFront Misses kept requests (id_at s) ts) (all_once R (s.octets ++ taken) (s.told ++ q.1.0) told Going Going here there).0 q.1.2)
 
   module _ (f : ClientFault) (stop : (f ≡ fault.Ended) ⊎ (f ≡ fault.Read) → more ≡ []) (had : f ≡ fault.OutOfMemory → ⊥) (short : f ≡ fault.TooLong → ⊥) where
     -- what is kept of it is not told
@@ -337,14 +337,14 @@ module _ (limits : Limits) (requests : List Request) (s : Site) (new : Connectio
 
 module _ (b : Bool) (limits : Limits) (requests : List Request) (s : Site) (sent taken more : List ℕ) where
   -- all are answered
-  pub walk_answered : (x : ClientChannel) → limits_of x ≡ limits → (replies : List Reply) (a : AnsweredAll requests s x sent taken replies) → Walk b limits x None requests s (taken ++ more) sent taken replies (length (all_of a.groups) + 0)
+  pub walk_answered : (x : ClientChannel) → client_limits x ≡ limits → (replies : List Reply) (a : AnsweredAll requests s x sent taken replies) → Walk b limits x None requests s (taken ++ more) sent taken replies (length (all_of a.groups) + 0)
   walk_answered x same replies a =
       walk_as b limits x None (all_of a.groups ++ []) requests s (taken ++ more) (taken ++ more) (sent ++ []) sent (taken ++ []) taken (replies ++ []) replies (length (all_of a.groups) + 0) (length (all_of a.groups) + 0)
       (append-nil (all_of a.groups) ∙ sym a.parts) refl (append-nil sent) (append-nil taken) (append-nil replies) refl
       (prepend b limits x x same None s [] more [] [] [] 0 a.rounds (grouped_all a.groups a.sized) (Over refl refl refl refl refl refl a.at))
 
   -- behind groups that are, one is not
-  pub walk_broken : (new : Connection) → limits_of (channel_of new) ≡ limits → (f : ClientFault) (k : BrokenAll requests s new sent taken f) (kept : List Reply) (place : ℕ)
+  pub walk_broken : (new : Connection) → client_limits (channel_of new) ≡ limits → (f : ClientFault) (k : BrokenAll requests s new sent taken f) (kept : List Reply) (place : ℕ)
       → Broke b limits k.group k.behind (k.taken_then ++ more) (channel_of new) k.sent_then k.taken_then kept place f
       → Walk b limits (channel_of new) (Some f) requests s (taken ++ more) sent taken (k.replies ++ kept) (length (all_of k.groups) + place)
   walk_broken new same f k kept place u =

@@ -2,7 +2,7 @@
 use Rattle.std.specs.Prelude.{◌≡◌, ℕ, ◌<◌, ◌⊎◌, Bool, true, false, not, List, [], ◌++◌, length, Option, Some, None, Result, Ok, Err, IsErrOf}
 use Rattle.std.proofs.Common.{refl, sym, ◌∙◌, ap, subst, inl, inr}
 use Rattle.std.proofs.lemmas.List.{append_cancel_left}
-use Rattle.ua_channel.specs.Client.{SameClient, limits_of}
+use Rattle.ua_channel.specs.Client.{SameClient, client_limits}
 use Rattle.ua_channel.specs.Line.{Traffic}
 use Rattle.ua_client.specs.Client.{IsLeft, IsReady, client_channel, connection_of, ends}
 use Rattle.ua_client.specs.Hearing.{Moves, StopsAt, is_line_fault, most_reads, untaken_of}
@@ -91,10 +91,10 @@ module _ {A : Type 0} (one two x y : Client) (a b : Result A ClientFault) (line 
   wrote e = both_wrote (connection_of x) (connection_of y) sent also m.taken n.taken line after other later coming e first second
 
   -- the limits of both
-  pub limits_are : limits_of (client_channel x) ≡ limits_of (client_channel two)
+  pub limits_are : client_limits (client_channel x) ≡ client_limits (client_channel two)
   limits_are = sym same.limits ∙ stand.same.limits
 
-  pub limits_too : limits_of (client_channel y) ≡ limits_of (client_channel two)
+  pub limits_too : client_limits (client_channel y) ≡ client_limits (client_channel two)
   limits_too = sym same_too.limits
 
   -- fewer octets came than the most reads

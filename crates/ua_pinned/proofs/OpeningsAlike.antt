@@ -7,10 +7,10 @@ use Rattle.ua_builtin.specs.declared.date_time.DateTime.{DateTime}
 use Rattle.ua_frame.specs.Run.{End, Going, Rules, Stopped}
 use Rattle.ua_frame.specs.declared.ack.Ack.{Ack}
 use Rattle.ua_frame.specs.declared.limits.Limits.{Limits}
-use Rattle.ua_channel.specs.Client.{Ended, Goes, GoesTelling, limits_of, rules_of, url_of}
+use Rattle.ua_channel.specs.Client.{ClientEnded, ClientGoes, ClientGoesTelling, client_limits, client_rules_of, url_of}
 use Rattle.ua_channel.specs.ClientTable.{client_rules}
-use Rattle.ua_channel.specs.ClientTold.{Told, Why, ours, peers}
-use Rattle.ua_channel.specs.ClientTold.Told.{Agreed, Opened}
+use Rattle.ua_channel.specs.ClientTold.{ClientTold, Why, ours, peers}
+use Rattle.ua_channel.specs.ClientTold.ClientTold.{Agreed, Opened}
 use Rattle.ua_channel.specs.Line.{Traffic}
 use Rattle.ua_channel.specs.declared.client.channel.ClientChannel.{ClientChannel}
 use Rattle.ua_channel.proofs.ClientReadings.{goes_behind}
@@ -38,28 +38,28 @@ true_false : true ≡ false → ⊥
 true_false e = cc
 
 -- what was sent where nothing was told, and where the ACK was
-abbrev SaidAt : List ℕ → List ℕ → List ℕ → List Told → Type 0
+abbrev SaidAt : List ℕ → List ℕ → List ℕ → List ClientTold → Type 0
 SaidAt hello opening sent told = ((sent ≡ hello) × (told ≡ [])) ⊎ ((ack : Ack) × (sent ≡ hello ++ opening) × (told ≡ Agreed ack ∷ []))
 
-said_few : (hello opening sent : List ℕ) (told : List Told) → SaidAt hello opening sent told → length told < 2
+said_few : (hello opening sent : List ℕ) (told : List ClientTold) → SaidAt hello opening sent told → length told < 2
 said_few hello opening sent told (inl h) = omega (arith, ap length h.1)
 said_few hello opening sent told (inr h) = omega (arith, ap length h.2)
 
-said_once : (hello opening sent other : List ℕ) (told : List Told) → SaidAt hello opening sent told → SaidAt hello opening other told → sent ≡ other
+said_once : (hello opening sent other : List ℕ) (told : List ClientTold) → SaidAt hello opening sent told → SaidAt hello opening other told → sent ≡ other
 said_once hello opening sent other told (inl h) (inl k) = h.0 ∙ sym k.0
 said_once hello opening sent other told (inl h) (inr k) = absurd (omega (arith, ap length h.1, ap length k.2))
 said_once hello opening sent other told (inr h) (inl k) = absurd (omega (arith, ap length h.2, ap length k.1))
 said_once hello opening sent other told (inr h) (inr k) = h.1 ∙ sym k.1
 
 -- what an opening comes to, where no call of the line failed and memory was had
-data OpensTo {A : Type 0} (R : Rules Told Why) (whole hello opening : List ℕ) (x : ClientChannel) (sent taken : List ℕ) (a : Result A ClientFault) : Type 0 where
+data OpensTo {A : Type 0} (R : Rules ClientTold Why) (whole hello opening : List ℕ) (x : ClientChannel) (sent taken : List ℕ) (a : Result A ClientFault) : Type 0 where
   Done : (v : A) → a ≡ Ok v → sent ≡ hello ++ opening → IsOpened x taken → OpensTo R whole hello opening x sent taken a
-  Waited : (f : ClientFault) (e : End Why) → a ≡ Err f → EndsBy f e → (told : List Told) → SaidAt hello opening sent told → ReadsAll R whole told e → OpensTo R whole hello opening x sent taken a
+  Waited : (f : ClientFault) (e : End Why) → a ≡ Err f → EndsBy f e → (told : List ClientTold) → SaidAt hello opening sent told → ReadsAll R whole told e → OpensTo R whole hello opening x sent taken a
 
-module _ {A : Type 0} (R : Rules Told Why) (limits : Limits) (url : Option (List ℕ)) (old new : Connection) (moment : DateTime) (line after : Option Traffic) (coming : List ℕ) (t : Traffic) (line_is : line ≡ Some t) (brings : (more : List ℕ) → untaken_of old ++ t.coming more ≡ coming) (few : length coming < 0xFFFF_FFFF_FFFF_FFFF)
-    (a : Result A ClientFault) (h : Opens moment old new line after a) (rules : rules_of (channel_of new) [] ≡ R) where
+module _ {A : Type 0} (R : Rules ClientTold Why) (limits : Limits) (url : Option (List ℕ)) (old new : Connection) (moment : DateTime) (line after : Option Traffic) (coming : List ℕ) (t : Traffic) (line_is : line ≡ Some t) (brings : (more : List ℕ) → untaken_of old ++ t.coming more ≡ coming) (few : length coming < 0xFFFF_FFFF_FFFF_FFFF)
+    (a : Result A ClientFault) (h : Opens moment old new line after a) (rules : client_rules_of (channel_of new) [] ≡ R) where
   abbrev hello : List ℕ
-  hello = hello_octets (limits_of (channel_of old)) (url_of (channel_of old))
+  hello = hello_octets (client_limits (channel_of old)) (url_of (channel_of old))
 
   r : Ran new h.sent h.moves.taken line after coming
   r = ran old new h.sent line after coming t h.moves line_is brings
@@ -67,13 +67,13 @@ module _ {A : Type 0} (R : Rules Told Why) (limits : Limits) (url : Option (List
   abbrev To : Type 0
   To = OpensTo R coming hello (open_octets moment) (channel_of new) h.sent h.moves.taken a
 
-  ended : (f : ClientFault) (why : Why) (told : List Told) → EndsBy f (Stopped why) → a ≡ Err f → SaidAt hello (open_octets moment) h.sent told → Ended (channel_of new) [] h.moves.taken told why → To
+  ended : (f : ClientFault) (why : Why) (told : List ClientTold) → EndsBy f (Stopped why) → a ≡ Err f → SaidAt hello (open_octets moment) h.sent told → ClientEnded (channel_of new) [] h.moves.taken told why → To
   ended f why told e p said w = Waited f (Stopped why) p e told said (ended_reads R (channel_of new) [] h.moves.taken (untaken_of new ++ r.last.coming []) coming told why rules r.parts w)
 
-  ran_out : (told : List Told) → a ≡ Err fault.Ended → StopsAt {A = A} most_reads most_reads h.moves.got new after (Err fault.Ended) → SaidAt hello (open_octets moment) h.sent told → Goes (channel_of new) [] h.moves.taken told → To
+  ran_out : (told : List ClientTold) → a ≡ Err fault.Ended → StopsAt {A = A} most_reads most_reads h.moves.got new after (Err fault.Ended) → SaidAt hello (open_octets moment) h.sent told → ClientGoes (channel_of new) [] h.moves.taken told → To
   ran_out told p stops said g = Waited fault.Ended Going p (ByEnd refl refl) told said (goes_reads R (channel_of new) [] h.moves.taken coming told rules (ended_all new h.sent h.moves.taken line after coming r stops.0 stops.1) g)
 
-  waited : (f : ClientFault) (why : Why) → EndsBy f (Stopped why) → a ≡ Err f → ((told : List Told) → BreaksOff f (channel_of new) [] h.moves.taken told → Ended (channel_of new) [] h.moves.taken told why) → BreaksWaiting hello (open_octets moment) (channel_of new) h.sent h.moves.taken f → To
+  waited : (f : ClientFault) (why : Why) → EndsBy f (Stopped why) → a ≡ Err f → ((told : List ClientTold) → BreaksOff f (channel_of new) [] h.moves.taken told → ClientEnded (channel_of new) [] h.moves.taken told why) → BreaksWaiting hello (open_octets moment) (channel_of new) h.sent h.moves.taken f → To
   waited f why e p of (inl w) = ended f why [] e p (inl (w.0, refl)) (of [] w.1)
   waited f why e p of (inr w) = ended f why (Agreed w.1.0 ∷ []) e p (inr (w.1.0, w.0, refl)) (of (Agreed w.1.0 ∷ []) w.1.1)
 
@@ -92,14 +92,14 @@ module _ {A : Type 0} (R : Rules Told Why) (limits : Limits) (url : Option (List
   opens_by (Err (fault.Refused code)) e k stops unbroken had = waited (fault.Refused code) (ours code.code) (ByOurs code refl refl) e (λ told w. w) k
   opens_by (Err f) e k stops unbroken had = absurd k
 
-  opens_to : Goes (channel_of old) [] [] [] → line_failed a ≡ false → ¬ (IsErrOf a fault.OutOfMemory) → To
+  opens_to : ClientGoes (channel_of old) [] [] [] → line_failed a ≡ false → ¬ (IsErrOf a fault.OutOfMemory) → To
   opens_to goes unbroken had = opens_by a refl (h.answers goes) h.stops unbroken had
 
   -- what was told where a read failed
-  at_read : Goes (channel_of old) [] [] [] → a ≡ Err fault.Read → (told : List Told) × SaidAt hello (open_octets moment) h.sent told × Goes (channel_of new) [] h.moves.taken told × (untaken_of new ≡ [])
+  at_read : ClientGoes (channel_of old) [] [] [] → a ≡ Err fault.Read → (told : List ClientTold) × SaidAt hello (open_octets moment) h.sent told × ClientGoes (channel_of new) [] h.moves.taken told × (untaken_of new ≡ [])
   at_read goes e = by (subst (λ (b : Result A ClientFault). OpensAt hello (open_octets moment) (channel_of new) h.sent h.moves.taken b) e (h.answers goes)) (subst (λ (b : Result A ClientFault). StopsAt most_reads most_reads h.moves.got new after b) e h.stops)
     where
-      by : BreaksWaiting hello (open_octets moment) (channel_of new) h.sent h.moves.taken fault.Read → untaken_of new ≡ [] → (told : List Told) × SaidAt hello (open_octets moment) h.sent told × Goes (channel_of new) [] h.moves.taken told × (untaken_of new ≡ [])
+      by : BreaksWaiting hello (open_octets moment) (channel_of new) h.sent h.moves.taken fault.Read → untaken_of new ≡ [] → (told : List ClientTold) × SaidAt hello (open_octets moment) h.sent told × ClientGoes (channel_of new) [] h.moves.taken told × (untaken_of new ≡ [])
       by (inl w) none = ([], inl (w.0, refl), w.1, none)
       by (inr w) none = (Agreed w.1.0 ∷ [], inr (w.1.0, w.0, refl), w.1.1, none)
 
@@ -115,13 +115,13 @@ pub record OpenedOnce (a b : Result Client ClientFault) (line after other later 
 
 module _ (settled : SettledBehind) (limits : Limits) (url : Option (List ℕ)) (moment : DateTime) (a b : Result Client ClientFault) (line after other later : Option Traffic) (coming : List ℕ)
     (lines : LinesAlike line other coming) (had : HadMemory fault.OutOfMemory a b) (h : OpensClient limits url moment line after a) (k : OpensClient limits url moment other later b) where
-  abbrev R : Rules Told Why
+  abbrev R : Rules ClientTold Why
   R = client_rules limits []
 
-  mine : rules_of (channel_of h.last) [] ≡ R
+  mine : client_rules_of (channel_of h.last) [] ≡ R
   mine = ap (λ (l : Limits). client_rules l []) (sym h.opens.keeps.same.limits ∙ h.fresh.limits_are)
 
-  theirs : rules_of (channel_of k.last) [] ≡ R
+  theirs : client_rules_of (channel_of k.last) [] ≡ R
   theirs = ap (λ (l : Limits). client_rules l []) (sym k.opens.keeps.same.limits ∙ k.fresh.limits_are)
 
   brings : (more : List ℕ) → untaken_of h.begun ++ lines.first.coming more ≡ coming
@@ -142,17 +142,17 @@ module _ (settled : SettledBehind) (limits : Limits) (url : Option (List ℕ)) (
   abbrev hi : List ℕ
   hi = hello_octets limits url
 
-  same_hello : (x : Connection) → IsFresh limits url x → hello_octets (limits_of (channel_of x)) (url_of (channel_of x)) ≡ hi
+  same_hello : (x : Connection) → IsFresh limits url x → hello_octets (client_limits (channel_of x)) (url_of (channel_of x)) ≡ hi
   same_hello x f = ap (λ (l : Limits). hello_octets l (url_of (channel_of x))) f.limits_are ∙ ap (hello_octets limits) f.url_is
 
-  told_by : (x : ClientChannel) (taken more : List ℕ) (o : IsOpened x taken) → rules_of x [] ≡ R → taken ++ more ≡ coming → Tells R [] coming (Agreed o.ack ∷ []) (length taken) (Opened o.channel o.token)
+  told_by : (x : ClientChannel) (taken more : List ℕ) (o : IsOpened x taken) → client_rules_of x [] ≡ R → taken ++ more ≡ coming → Tells R [] coming (Agreed o.ack ∷ []) (length taken) (Opened o.channel o.token)
   told_by x taken more o rules e =
       to_tells R x [] [] coming (Agreed o.ack ∷ []) (length taken) (Opened o.channel o.token) rules (omega (arith, ap length e, length-append taken more))
-      (subst (λ (t : List ℕ). GoesTelling x [] t (Agreed o.ack ∷ []) (Opened o.channel o.token)) (sym (ap (take (length taken)) (sym e) ∙ take-append_seam taken more)) o.tells)
+      (subst (λ (t : List ℕ). ClientGoesTelling x [] t (Agreed o.ack ∷ []) (Opened o.channel o.token)) (sym (ap (take (length taken)) (sym e) ∙ take-append_seam taken more)) o.tells)
 
-  never_waited : (x : ClientChannel) (taken more : List ℕ) (o : IsOpened x taken) → rules_of x [] ≡ R → taken ++ more ≡ coming → (e : End Why) (told : List Told) → length told < 2 → ReadsAll R coming told e → ⊥
+  never_waited : (x : ClientChannel) (taken more : List ℕ) (o : IsOpened x taken) → client_rules_of x [] ≡ R → taken ++ more ≡ coming → (e : End Why) (told : List ClientTold) → length told < 2 → ReadsAll R coming told e → ⊥
   never_waited x taken more o rules parts e told short all =
-      let g : Goes x [] taken ((Agreed o.ack ∷ []) ++ Opened o.channel o.token ∷ []) = goes_behind x [] taken (Agreed o.ack ∷ []) (Opened o.channel o.token) o.tells in
+      let g : ClientGoes x [] taken ((Agreed o.ack ∷ []) ++ Opened o.channel o.token ∷ []) = goes_behind x [] taken (Agreed o.ack ∷ []) (Opened o.channel o.token) o.tells in
       let f = front_first R coming ((Agreed o.ack ∷ []) ++ Opened o.channel o.token ∷ []) told e (goes_front R x [] taken more coming ((Agreed o.ack ∷ []) ++ Opened o.channel o.token ∷ []) rules parts g) all in
       omega (arith, short, ap length f.1, length-append ((Agreed o.ack ∷ []) ++ Opened o.channel o.token ∷ []) f.0)
 
@@ -171,7 +171,7 @@ module _ (settled : SettledBehind) (limits : Limits) (url : Option (List ℕ)) (
       (told_by (channel_of h.last) h.opens.moves.taken (untaken_of h.last ++ first.last.coming []) o mine first.parts) (told_by (channel_of k.last) k.opens.moves.taken (untaken_of k.last ++ second.last.coming []) v theirs second.parts)) in
       let s = settled (channel_of h.last) h.opens.moves.taken o in
       let t = settled (channel_of k.last) k.opens.moves.taken v in
-      let limits_same : limits_of (channel_of h.last) ≡ limits_of (channel_of k.last) = (sym h.opens.keeps.same.limits ∙ h.fresh.limits_are) ∙ sym (sym k.opens.keeps.same.limits ∙ k.fresh.limits_are) in
+      let limits_same : client_limits (channel_of h.last) ≡ client_limits (channel_of k.last) = (sym h.opens.keeps.same.limits ∙ h.fresh.limits_are) ∙ sym (sym k.opens.keeps.same.limits ∙ k.fresh.limits_are) in
       let number : s.0.number ≡ t.0.number = sym s.3.number_is ∙ ((h.opens.keeps.next ∙ h.fresh.next_is) ∙ (sym (k.opens.keeps.next ∙ k.fresh.next_is) ∙ t.3.number_is)) in
       let place : s.0 ≡ t.0 = site_once (channel_of h.last) (channel_of k.last) s.0 t.0 s.3 t.3 limits_same (s.2 ∙ sym t.2) (s.1 ∙ (taken ∙ sym t.1)) number in
       let ahead : untaken_of h.last ++ first.last.coming [] ≡ untaken_of k.last ++ second.last.coming [] =
@@ -184,7 +184,7 @@ module _ (settled : SettledBehind) (limits : Limits) (url : Option (List ℕ)) (
           first = subst (λ (c : Connection). At (channel_of c) s.0) (sym is) s.3;
           second = subst (λ (c : Connection). At (channel_of c) s.0) (sym is_too) (subst (At (channel_of k.last)) (sym place) t.3);
           same = record {
-            limits = ap (λ (c : Connection). limits_of (channel_of c)) is ∙ (limits_same ∙ sym (ap (λ (c : Connection). limits_of (channel_of c)) is_too));
+            limits = ap (λ (c : Connection). client_limits (channel_of c)) is ∙ (limits_same ∙ sym (ap (λ (c : Connection). client_limits (channel_of c)) is_too));
             url = ap (λ (c : Connection). url_of (channel_of c)) is ∙ ((sym h.opens.keeps.same.url ∙ h.fresh.url_is) ∙ (sym (sym k.opens.keeps.same.url ∙ k.fresh.url_is) ∙ sym (ap (λ (c : Connection). url_of (channel_of c)) is_too)));
           };
           comes = ran_comes x h.last h.opens.sent h.opens.moves.taken line after coming first is;
@@ -204,15 +204,15 @@ module _ (settled : SettledBehind) (limits : Limits) (url : Option (List ℕ)) (
   failed_by f g e d same = subst (λ (z : Result Client ClientFault). OpenAlike z b after later) (sym e) (subst (λ (z : Result Client ClientFault). OpenAlike (Err f) z after later) (sym d) same)
 
   abbrev ToFirst : Type 0
-  ToFirst = OpensTo R coming (hello_octets (limits_of (channel_of h.begun)) (url_of (channel_of h.begun))) (open_octets moment) (channel_of h.last) h.opens.sent h.opens.moves.taken a
+  ToFirst = OpensTo R coming (hello_octets (client_limits (channel_of h.begun)) (url_of (channel_of h.begun))) (open_octets moment) (channel_of h.last) h.opens.sent h.opens.moves.taken a
 
   abbrev ToSecond : Type 0
-  ToSecond = OpensTo R coming (hello_octets (limits_of (channel_of k.begun)) (url_of (channel_of k.begun))) (open_octets moment) (channel_of k.last) k.opens.sent k.opens.moves.taken b
+  ToSecond = OpensTo R coming (hello_octets (client_limits (channel_of k.begun)) (url_of (channel_of k.begun))) (open_octets moment) (channel_of k.last) k.opens.sent k.opens.moves.taken b
 
-  said_both : (told also : List Told) → told ≡ also → SaidAt (hello_octets (limits_of (channel_of h.begun)) (url_of (channel_of h.begun))) (open_octets moment) h.opens.sent told → SaidAt (hello_octets (limits_of (channel_of k.begun)) (url_of (channel_of k.begun))) (open_octets moment) k.opens.sent also → h.opens.sent ≡ k.opens.sent
+  said_both : (told also : List ClientTold) → told ≡ also → SaidAt (hello_octets (client_limits (channel_of h.begun)) (url_of (channel_of h.begun))) (open_octets moment) h.opens.sent told → SaidAt (hello_octets (client_limits (channel_of k.begun)) (url_of (channel_of k.begun))) (open_octets moment) k.opens.sent also → h.opens.sent ≡ k.opens.sent
   said_both told also e p q =
       said_once hi (open_octets moment) h.opens.sent k.opens.sent told (subst (λ (o : List ℕ). SaidAt o (open_octets moment) h.opens.sent told) (same_hello h.begun h.fresh) p)
-      (subst (λ (t : List Told). SaidAt hi (open_octets moment) k.opens.sent t) (sym e) (subst (λ (o : List ℕ). SaidAt o (open_octets moment) k.opens.sent also) (same_hello k.begun k.fresh) q))
+      (subst (λ (t : List ClientTold). SaidAt hi (open_octets moment) k.opens.sent t) (sym e) (subst (λ (o : List ℕ). SaidAt o (open_octets moment) k.opens.sent also) (same_hello k.begun k.fresh) q))
 
   both : ToFirst → ToSecond → OpenedOnce a b line after other later
   both (Done x e sent o) (Done y d also v) = record {

@@ -9,9 +9,9 @@ use Rattle.ua_builtin.specs.declared.date_time.DateTime.{DateTime}
 use Rattle.ua_frame.specs.Run.{End, Going, Rules, Run, Stopped, events}
 use Rattle.ua_frame.proofs.Unique.{unique}
 use Rattle.ua_channel.specs.Asks.{Placed}
-use Rattle.ua_channel.specs.Client.{Goes, GoesTelling, limits_of, rules_of}
-use Rattle.ua_channel.specs.ClientTold.{Told, Why, ours, peers}
-use Rattle.ua_channel.specs.ClientTold.Told.{Renewed}
+use Rattle.ua_channel.specs.Client.{ClientGoes, ClientGoesTelling, client_limits, client_rules_of}
+use Rattle.ua_channel.specs.ClientTold.{ClientTold, Why, ours, peers}
+use Rattle.ua_channel.specs.ClientTold.ClientTold.{Renewed}
 use Rattle.ua_channel.specs.Line.{Traffic}
 use Rattle.ua_channel.specs.Received.{Received, received}
 use Rattle.ua_channel.specs.declared.client.channel.ClientChannel.{ClientChannel}
@@ -97,35 +97,35 @@ closed_once one two moment a b line after other later s coming stand had faults 
 -- ---- one place
 
 -- two channels of the same limits stand in one place, where they asked the same, took the same and send the same number next
-pub site_once : (x y : ClientChannel) (s t : Site) → At x s → At y t → limits_of x ≡ limits_of y → s.asks ≡ t.asks → s.octets ≡ t.octets → s.number ≡ t.number → s ≡ t
+pub site_once : (x y : ClientChannel) (s t : Site) → At x s → At y t → client_limits x ≡ client_limits y → s.asks ≡ t.asks → s.octets ≡ t.octets → s.number ≡ t.number → s ≡ t
 site_once x y s t p q limits asks octets number = same s.asks t.asks s.octets t.octets s.before t.before s.told t.told s.number t.number asks octets before told number
   where
-    run : Run (rules_of y t.asks) t.octets p.goes.frames p.goes.rest Going
-    run = subst (λ (a : List Placed). Run (rules_of y a) t.octets p.goes.frames p.goes.rest Going) asks (subst (λ (o : List ℕ). Run (rules_of y s.asks) o p.goes.frames p.goes.rest Going) octets (subst (λ (S : Rules Told Why). Run S s.octets p.goes.frames p.goes.rest Going) (same_rules x y s.asks limits) p.goes.stands.run))
+    run : Run (client_rules_of y t.asks) t.octets p.goes.frames p.goes.rest Going
+    run = subst (λ (a : List Placed). Run (client_rules_of y a) t.octets p.goes.frames p.goes.rest Going) asks (subst (λ (o : List ℕ). Run (client_rules_of y s.asks) o p.goes.frames p.goes.rest Going) octets (subst (λ (S : Rules ClientTold Why). Run S s.octets p.goes.frames p.goes.rest Going) (same_rules x y s.asks limits) p.goes.stands.run))
 
     frames : p.goes.frames ≡ q.goes.frames
-    frames = (unique (rules_of y t.asks) t.octets p.goes.frames q.goes.frames p.goes.rest q.goes.rest Going Going run q.goes.stands.run).frames
+    frames = (unique (client_rules_of y t.asks) t.octets p.goes.frames q.goes.frames p.goes.rest q.goes.rest Going Going run q.goes.stands.run).frames
 
     before : s.before ≡ t.before
     before = sym p.before_is ∙ (ap received frames ∙ q.before_is)
 
     told : s.told ≡ t.told
-    told = sym p.goes.told_is ∙ (ap (events (rules_of x s.asks)) frames ∙ q.goes.told_is)
+    told = sym p.goes.told_is ∙ (ap (events (client_rules_of x s.asks)) frames ∙ q.goes.told_is)
 
-    same : (asked bs : List Placed) (os ps : List ℕ) (b c : Received) (ts us : List Told) (m n : ℕ) → asked ≡ bs → os ≡ ps → b ≡ c → ts ≡ us → m ≡ n
+    same : (asked bs : List Placed) (os ps : List ℕ) (b c : Received) (ts us : List ClientTold) (m n : ℕ) → asked ≡ bs → os ≡ ps → b ≡ c → ts ≡ us → m ≡ n
         → ◌≡◌ {A = Site} (record { asks = asked; octets = os; before = b; told = ts; number = m }) (record { asks = bs; octets = ps; before = c; told = us; number = n })
     same asked bs os ps b c ts us m n e1 e2 e3 e4 e5 = cc
 
 -- ---- a renewal
 
 -- what a renewal comes to, where no call of the line failed and memory was had
-data RenewsTo (R : Rules Told Why) (whole : List ℕ) (s : Site) (moment : DateTime) (new : ClientChannel) (sent taken : List ℕ) (a : Result (Unit {0}) ClientFault) : Type 0 where
+data RenewsTo (R : Rules ClientTold Why) (whole : List ℕ) (s : Site) (moment : DateTime) (new : ClientChannel) (sent taken : List ℕ) (a : Result (Unit {0}) ClientFault) : Type 0 where
   Done : a ≡ Ok tt → sent ≡ renewal_at s moment → (t : Site) → IsRenewed new s t taken → RenewsTo R whole s moment new sent taken a
-  Waited : (f : ClientFault) (e : End Why) → a ≡ Err f → EndsBy f e → sent ≡ renewal_at s moment → (heard : List Told) → list_any is_renewed heard ≡ false → ReadsAll R whole (s.told ++ heard) e → RenewsTo R whole s moment new sent taken a
+  Waited : (f : ClientFault) (e : End Why) → a ≡ Err f → EndsBy f e → sent ≡ renewal_at s moment → (heard : List ClientTold) → list_any is_renewed heard ≡ false → ReadsAll R whole (s.told ++ heard) e → RenewsTo R whole s moment new sent taken a
   Judged : (f : ClientFault) → a ≡ Err f → refused_by a ≡ Some f → IsRefusal a → sent ≡ [] → RenewsTo R whole s moment new sent taken a
 
-module _ (R : Rules Told Why) (old new : Connection) (moment : DateTime) (s : Site) (line after : Option Traffic) (coming : List ℕ) (t : Traffic) (line_is : line ≡ Some t) (brings : (more : List ℕ) → untaken_of old ++ t.coming more ≡ coming) (few : length (s.octets ++ coming) < 0xFFFF_FFFF_FFFF_FFFF)
-    (a : Result (Unit {0}) ClientFault) (h : Renews moment old new line after a) (rules : rules_of (channel_of new) (asks_renewed s) ≡ R) where
+module _ (R : Rules ClientTold Why) (old new : Connection) (moment : DateTime) (s : Site) (line after : Option Traffic) (coming : List ℕ) (t : Traffic) (line_is : line ≡ Some t) (brings : (more : List ℕ) → untaken_of old ++ t.coming more ≡ coming) (few : length (s.octets ++ coming) < 0xFFFF_FFFF_FFFF_FFFF)
+    (a : Result (Unit {0}) ClientFault) (h : Renews moment old new line after a) (rules : client_rules_of (channel_of new) (asks_renewed s) ≡ R) where
   r : Ran new h.sent h.moves.taken line after coming
   r = ran old new h.sent line after coming t h.moves line_is brings
 
@@ -158,7 +158,7 @@ module _ (R : Rules Told Why) (old new : Connection) (moment : DateTime) (s : Si
 
 -- ---- two renewals are one
 
-any_behind : (us more : List Told) (token : ℕ) → list_any is_renewed (us ++ Renewed token ∷ more) ≡ true
+any_behind : (us more : List ClientTold) (token : ℕ) → list_any is_renewed (us ++ Renewed token ∷ more) ≡ true
 any_behind us more token = list_any-append is_renewed us (Renewed token ∷ more) ∙ either (list_any is_renewed us)
   where
     either : (b : Bool) → (b || true) ≡ true
@@ -166,7 +166,7 @@ any_behind us more token = list_any-append is_renewed us (Renewed token ∷ more
     either false = refl
 
 -- what was heard without a further token has none
-not_heard : (told heard us more : List Told) (token : ℕ) → told ++ heard ≡ ((told ++ us) ++ Renewed token ∷ []) ++ more → list_any is_renewed heard ≡ false → ⊥
+not_heard : (told heard us more : List ClientTold) (token : ℕ) → told ++ heard ≡ ((told ++ us) ++ Renewed token ∷ []) ++ more → list_any is_renewed heard ≡ false → ⊥
 not_heard told heard us more token e none =
     let parts : heard ≡ us ++ Renewed token ∷ more =
     append_cancel_left told heard (us ++ Renewed token ∷ more) (e ∙ (append_assoc (told ++ us) (Renewed token ∷ []) more ∙ append_assoc told us (Renewed token ∷ more))) in
@@ -198,13 +198,13 @@ module _ (one two x y : Client) (moment : DateTime) (a b : Result (Unit {0}) Cli
   q : (t : Traffic) × (other ≡ Some t) × ((more : List ℕ) → untaken_of (connection_of two) ++ t.coming more ≡ coming)
   q = comes_at two other coming stand.comes_too
 
-  abbrev R : Rules Told Why
-  R = rules_of (client_channel two) (asks_renewed s)
+  abbrev R : Rules ClientTold Why
+  R = client_rules_of (client_channel two) (asks_renewed s)
 
-  mine : rules_of (client_channel x) (asks_renewed s) ≡ R
+  mine : client_rules_of (client_channel x) (asks_renewed s) ≡ R
   mine = same_rules (client_channel x) (client_channel two) (asks_renewed s) (sym h.same.limits ∙ stand.same.limits)
 
-  theirs : rules_of (client_channel y) (asks_renewed s) ≡ R
+  theirs : client_rules_of (client_channel y) (asks_renewed s) ≡ R
   theirs = same_rules (client_channel y) (client_channel two) (asks_renewed s) (sym k.same.limits)
 
   first : Ran (connection_of x) h.sent h.moves.taken line after coming
@@ -216,29 +216,29 @@ module _ (one two x y : Client) (moment : DateTime) (a b : Result (Unit {0}) Cli
   wrote_both : h.sent ≡ k.sent → WroteAlike line after other later
   wrote_both e = both_wrote (connection_of x) (connection_of y) h.sent k.sent h.moves.taken k.moves.taken line after other later coming e first second
 
-  limits_same : limits_of (client_channel x) ≡ limits_of (client_channel y)
+  limits_same : client_limits (client_channel x) ≡ client_limits (client_channel y)
   limits_same = sym h.same.limits ∙ (stand.same.limits ∙ k.same.limits)
 
   front : (octets taken more : List ℕ) → taken ++ more ≡ coming → octets ++ take (length taken) coming ≡ octets ++ taken
   front octets taken more e = ap (λ (o : List ℕ). octets ++ o) (ap (take (length taken)) (sym e) ∙ take-append_seam taken more)
 
   -- the frame that brought the token is the first that tells one
-  told_by : (z : Client) (taken more : List ℕ) (t : Site) (r : IsRenewed (client_channel z) s t taken) → rules_of (client_channel z) (asks_renewed s) ≡ R → taken ++ more ≡ coming
+  told_by : (z : Client) (taken more : List ℕ) (t : Site) (r : IsRenewed (client_channel z) s t taken) → client_rules_of (client_channel z) (asks_renewed s) ≡ R → taken ++ more ≡ coming
       → Tells R s.octets coming (s.told ++ r.heard) (length taken) (Renewed r.token)
   told_by z taken more t r rules e =
       to_tells R (client_channel z) (asks_renewed s) s.octets coming (s.told ++ r.heard) (length taken) (Renewed r.token) rules (omega (arith, ap length e, length-append taken more))
-      (subst (λ (o : List ℕ). GoesTelling (client_channel z) (asks_renewed s) o (s.told ++ r.heard) (Renewed r.token)) (r.octets ∙ sym (front s.octets taken more e))
-      (subst (λ (asked : List Placed). GoesTelling (client_channel z) asked t.octets (s.told ++ r.heard) (Renewed r.token)) r.asks r.tells))
+      (subst (λ (o : List ℕ). ClientGoesTelling (client_channel z) (asks_renewed s) o (s.told ++ r.heard) (Renewed r.token)) (r.octets ∙ sym (front s.octets taken more e))
+      (subst (λ (asked : List Placed). ClientGoesTelling (client_channel z) asked t.octets (s.told ++ r.heard) (Renewed r.token)) r.asks r.tells))
 
   -- what was told up to the token begins all that is told
-  front_told : (z : Client) (taken more : List ℕ) (t : Site) (r : IsRenewed (client_channel z) s t taken) → rules_of (client_channel z) (asks_renewed s) ≡ R → taken ++ more ≡ coming → ReadsFront R (s.octets ++ coming) ((s.told ++ r.heard) ++ Renewed r.token ∷ [])
+  front_told : (z : Client) (taken more : List ℕ) (t : Site) (r : IsRenewed (client_channel z) s t taken) → client_rules_of (client_channel z) (asks_renewed s) ≡ R → taken ++ more ≡ coming → ReadsFront R (s.octets ++ coming) ((s.told ++ r.heard) ++ Renewed r.token ∷ [])
   front_told z taken more t r rules e =
       goes_front R (client_channel z) (asks_renewed s) (s.octets ++ taken) more (s.octets ++ coming) ((s.told ++ r.heard) ++ Renewed r.token ∷ []) rules (behind_parts s.octets taken more coming e)
-      (subst (λ (ts : List Told). Goes (client_channel z) (asks_renewed s) (s.octets ++ taken) ts) (r.told ∙ sym (append_assoc s.told r.heard (Renewed r.token ∷ [])))
-      (subst (λ (o : List ℕ). Goes (client_channel z) (asks_renewed s) o t.told) r.octets (subst (λ (asked : List Placed). Goes (client_channel z) asked t.octets t.told) r.asks r.at.goes)))
+      (subst (λ (ts : List ClientTold). ClientGoes (client_channel z) (asks_renewed s) (s.octets ++ taken) ts) (r.told ∙ sym (append_assoc s.told r.heard (Renewed r.token ∷ [])))
+      (subst (λ (o : List ℕ). ClientGoes (client_channel z) (asks_renewed s) o t.told) r.octets (subst (λ (asked : List Placed). ClientGoes (client_channel z) asked t.octets t.told) r.asks r.at.goes)))
 
-  never_waited : (z : Client) (taken more : List ℕ) (t : Site) (r : IsRenewed (client_channel z) s t taken) → rules_of (client_channel z) (asks_renewed s) ≡ R → taken ++ more ≡ coming
-      → (e : End Why) (heard : List Told) → list_any is_renewed heard ≡ false → ReadsAll R (s.octets ++ coming) (s.told ++ heard) e → ⊥
+  never_waited : (z : Client) (taken more : List ℕ) (t : Site) (r : IsRenewed (client_channel z) s t taken) → client_rules_of (client_channel z) (asks_renewed s) ≡ R → taken ++ more ≡ coming
+      → (e : End Why) (heard : List ClientTold) → list_any is_renewed heard ≡ false → ReadsAll R (s.octets ++ coming) (s.told ++ heard) e → ⊥
   never_waited z taken more t r rules parts e heard none all =
       let f = front_first R (s.octets ++ coming) ((s.told ++ r.heard) ++ Renewed r.token ∷ []) (s.told ++ heard) e (front_told z taken more t r rules parts) all in
       not_heard s.told heard r.heard f.0 r.token f.1 none
@@ -279,7 +279,7 @@ module _ (one two x y : Client) (moment : DateTime) (a b : Result (Unit {0}) Cli
         );
       }
 
-  both_waited : (f g : ClientFault) (e d : End Why) → a ≡ Err f → b ≡ Err g → EndsBy f e → EndsBy g d → h.sent ≡ renewal_at s moment → k.sent ≡ renewal_at s moment → (heard also : List Told) → ReadsAll R (s.octets ++ coming) (s.told ++ heard) e → ReadsAll R (s.octets ++ coming) (s.told ++ also) d
+  both_waited : (f g : ClientFault) (e d : End Why) → a ≡ Err f → b ≡ Err g → EndsBy f e → EndsBy g d → h.sent ≡ renewal_at s moment → k.sent ≡ renewal_at s moment → (heard also : List ClientTold) → ReadsAll R (s.octets ++ coming) (s.told ++ heard) e → ReadsAll R (s.octets ++ coming) (s.told ++ also) d
       → CalledOnce a b x y line after other later
   both_waited f g e d is is_too by by_too sent sent_too heard also all all_too =
       let same = all_once R (s.octets ++ coming) (s.told ++ heard) (s.told ++ also) e d all all_too in

@@ -6,7 +6,7 @@ use Rattle.ua_builtin.specs.declared.date_time.DateTime.{DateTime}
 use Rattle.ua_builtin.specs.declared.node_id.NodeId.{NodeId}
 use Rattle.ua_builtin.specs.declared.status_code.StatusCode.{StatusCode}
 use Rattle.ua_frame.specs.declared.limits.Limits.{Limits}
-use Rattle.ua_channel.specs.Client.{limits_of, url_of}
+use Rattle.ua_channel.specs.Client.{client_limits, url_of}
 use Rattle.ua_channel.specs.Line.{Traffic}
 use Rattle.ua_channel.specs.declared.client.channel.ClientChannel.{ClientChannel}
 use Rattle.ua_services.specs.declared.request.Request.{Request}
@@ -82,7 +82,7 @@ module _ (once : OneBody) (limits : Limits) (x y : ClientChannel) (o p : Option 
       }
 
 -- by what the client's clauses say
-module _ (limits : Limits) (request : Request) (s : Site) (new : Connection) (sent taken more : List ℕ) (same : limits_of (channel_of new) ≡ limits) where
+module _ (limits : Limits) (request : Request) (s : Site) (new : Connection) (sent taken more : List ℕ) (same : client_limits (channel_of new) ≡ limits) where
   -- it was answered
   says_by : (o : Option ClientFault) (P : Reply → Type 0) → ((reply : Reply) → P reply → o ≡ failed_by (reply_failure reply)) → Replies request s (channel_of new) sent taken P → Served limits request s (taken ++ more) (channel_of new) sent taken o
   says_by o P is r = Says r.behind r.reply (is r.reply r.says) r.replied.sent_is (record { limits_are = same; at = r.at; came = r.replied.came; answered = r.replied.answered; more = more; parts = refl })
@@ -194,7 +194,7 @@ token_of (Err f) = None
 none_some : {P : Type 0} (f : ClientFault) → ◌≡◌ {A = Option ClientFault} None (Some f) → P
 none_some f e = cc
 
-module _ (limits : Limits) (url policy_id : Option (List ℕ)) (moment : DateTime) (s : Site) (new : Connection) (sent taken more : List ℕ) (same : limits_of (channel_of new) ≡ limits) where
+module _ (limits : Limits) (url policy_id : Option (List ℕ)) (moment : DateTime) (s : Site) (new : Connection) (sent taken more : List ℕ) (same : client_limits (channel_of new) ≡ limits) where
   abbrev Comes : Option ClientFault → Option NodeId → Type 0
   Comes o given = Begun limits url policy_id moment s (taken ++ more) (channel_of new) sent taken o given
 
@@ -245,21 +245,21 @@ session_once once one two x y policy_id again moment a b line after other later 
     both : Ways a b h.moves.taken k.moves.taken h.sent k.sent
     both = ways one two x y a b line after other later s coming stand h.sent k.sent h.moves k.moves h.same k.same h.stops k.stops alike
 
-    mine : Begun (limits_of (client_channel two)) (url_of (client_channel two)) again moment s (h.moves.taken ++ both.more) (client_channel x) h.sent h.moves.taken (fault_of a) (token_of a)
+    mine : Begun (client_limits (client_channel two)) (url_of (client_channel two)) again moment s (h.moves.taken ++ both.more) (client_channel x) h.sent h.moves.taken (fault_of a) (token_of a)
     mine =
-        subst (λ (u : Option (List ℕ)). Begun (limits_of (client_channel two)) u again moment s (h.moves.taken ++ both.more) (client_channel x) h.sent h.moves.taken (fault_of a) (token_of a)) stand.same.url
-        (subst (λ (u : Option (List ℕ)). Begun (limits_of (client_channel two)) (url_of (client_channel one)) u moment s (h.moves.taken ++ both.more) (client_channel x) h.sent h.moves.taken (fault_of a) (token_of a)) same_policy
-        (begun_by (limits_of (client_channel two)) (url_of (client_channel one)) policy_id moment s (connection_of x) h.sent h.moves.taken both.more
+        subst (λ (u : Option (List ℕ)). Begun (client_limits (client_channel two)) u again moment s (h.moves.taken ++ both.more) (client_channel x) h.sent h.moves.taken (fault_of a) (token_of a)) stand.same.url
+        (subst (λ (u : Option (List ℕ)). Begun (client_limits (client_channel two)) (url_of (client_channel one)) u moment s (h.moves.taken ++ both.more) (client_channel x) h.sent h.moves.taken (fault_of a) (token_of a)) same_policy
+        (begun_by (client_limits (client_channel two)) (url_of (client_channel one)) policy_id moment s (connection_of x) h.sent h.moves.taken both.more
         (limits_are one two x y a b line after other later s coming stand h.sent k.sent h.moves k.moves h.same k.same h.stops k.stops) a both.stop (had_first a b had)
         (not_long one two x y a b line after other later s coming stand h.sent k.sent h.moves k.moves h.same k.same h.stops k.stops) (h.answers s stand.first)))
 
-    theirs : Begun (limits_of (client_channel two)) (url_of (client_channel two)) again moment s (k.moves.taken ++ both.rest) (client_channel y) k.sent k.moves.taken (fault_of b) (token_of b)
+    theirs : Begun (client_limits (client_channel two)) (url_of (client_channel two)) again moment s (k.moves.taken ++ both.rest) (client_channel y) k.sent k.moves.taken (fault_of b) (token_of b)
     theirs =
-        begun_by (limits_of (client_channel two)) (url_of (client_channel two)) again moment s (connection_of y) k.sent k.moves.taken both.rest
+        begun_by (client_limits (client_channel two)) (url_of (client_channel two)) again moment s (connection_of y) k.sent k.moves.taken both.rest
         (limits_too one two x y a b line after other later s coming stand h.sent k.sent h.moves k.moves h.same k.same h.stops k.stops) b both.stop_too (had_second a b had)
         (not_long_too one two x y a b line after other later s coming stand h.sent k.sent h.moves k.moves h.same k.same h.stops k.stops) (k.answers s stand.second)
 
     both_once : BegunOnce (client_channel x) (client_channel y) (fault_of a) (fault_of b) s h.sent k.sent h.moves.taken k.moves.taken (token_of a) (token_of b)
     both_once =
-        begun_once once (limits_of (client_channel two)) (url_of (client_channel two)) again moment (client_channel x) (client_channel y) (fault_of a) (fault_of b) s (h.moves.taken ++ both.more) h.sent k.sent h.moves.taken k.moves.taken (token_of a) (token_of b) mine
-        (subst (λ (o : List ℕ). Begun (limits_of (client_channel two)) (url_of (client_channel two)) again moment s o (client_channel y) k.sent k.moves.taken (fault_of b) (token_of b)) both.whole theirs) both.faults
+        begun_once once (client_limits (client_channel two)) (url_of (client_channel two)) again moment (client_channel x) (client_channel y) (fault_of a) (fault_of b) s (h.moves.taken ++ both.more) h.sent k.sent h.moves.taken k.moves.taken (token_of a) (token_of b) mine
+        (subst (λ (o : List ℕ). Begun (client_limits (client_channel two)) (url_of (client_channel two)) again moment s o (client_channel y) k.sent k.moves.taken (fault_of b) (token_of b)) both.whole theirs) both.faults

@@ -1,8 +1,8 @@
 -- What it is for two clients' channels to stand alike, and for what they answer to be the same.
 use Rattle.std.specs.Prelude.{◌≡◌, ℕ, List, [], ◌∷◌, ◌++◌, length, take, Result, Ok, Err}
 use Rattle.ua_channel.specs.Asks.{Asking, Placed}
-use Rattle.ua_channel.specs.Client.{Goes, IsDone, bound_of, limits_of, next_of}
-use Rattle.ua_channel.specs.ClientTold.{Told}
+use Rattle.ua_channel.specs.Client.{ClientGoes, IsClientDone, client_bound, client_limits, client_next}
+use Rattle.ua_channel.specs.ClientTold.{ClientTold}
 use Rattle.ua_channel.specs.declared.client.channel.ClientChannel.{ClientChannel}
 use Rattle.ua_channel.specs.declared.client.event.ClientEvent.{ClientEvent}
 use Rattle.ua_channel.specs.declared.client.event.ClientEvent.TheVariants.{NeedMore, Send, Open, Answered, Aborted, Failed, Renewed}
@@ -12,17 +12,17 @@ use Rattle.ua_channel.specs.declared.client.fault.ClientTakeFault.{ClientTakeFau
 
 -- two channels of the same limits go on after these asks and octets, which told both this, and the next chunk that either sends has the
 -- same number
-pub record ClientsAlike (one two : ClientChannel) (asks : List Placed) (octets : List ℕ) (told : List Told) : Type 0 where
-  pub first : Goes one asks octets told
-  pub second : Goes two asks octets told
-  pub limits : limits_of one ≡ limits_of two
-  pub next : next_of one ≡ next_of two
+pub record ClientsAlike (one two : ClientChannel) (asks : List Placed) (octets : List ℕ) (told : List ClientTold) : Type 0 where
+  pub first : ClientGoes one asks octets told
+  pub second : ClientGoes two asks octets told
+  pub limits : client_limits one ≡ client_limits two
+  pub next : client_next one ≡ client_next two
 
 -- both have failed or were closed, and hold nothing
 pub record ClientsDone (one two : ClientChannel) : Type 0 where
-  pub first : IsDone one
-  pub second : IsDone two
-  pub bound : bound_of one ≡ bound_of two
+  pub first : IsClientDone one
+  pub second : IsClientDone two
+  pub bound : client_bound one ≡ client_bound two
 
 -- ---- what they answer
 
@@ -47,12 +47,12 @@ SameClientAnswer (Err fault) (Err other) = fault ≡ other
 -- ---- where an answer leaves them
 
 -- behind a failure both have ended; behind another event they stand alike, with what was told behind what was told before
-abbrev pub LeavesClients : ClientEvent → ClientChannel → ClientChannel → List Placed → List ℕ → List Told → Type 0
+abbrev pub LeavesClients : ClientEvent → ClientChannel → ClientChannel → List Placed → List ℕ → List ClientTold → Type 0
 LeavesClients (Failed code peer) one two asks octets told = ClientsDone one two
-LeavesClients event one two asks octets told = (later : List Told) × ClientsAlike one two asks octets (told ++ later)
+LeavesClients event one two asks octets told = (later : List ClientTold) × ClientsAlike one two asks octets (told ++ later)
 
 -- where an answer to a piece leaves them
-abbrev pub LeftClients : Result (ℕ × ClientEvent) ClientTakeFault → ClientChannel → ClientChannel → List Placed → List ℕ → List Told → List ℕ → Type 0
+abbrev pub LeftClients : Result (ℕ × ClientEvent) ClientTakeFault → ClientChannel → ClientChannel → List Placed → List ℕ → List ClientTold → List ℕ → Type 0
 LeftClients (Ok (n, event)) one two asks octets told piece = LeavesClients event one two asks (octets ++ take n piece) told
 LeftClients (Err fault) one two asks octets told piece = ClientsDone one two
 
@@ -66,11 +66,11 @@ SameAsked items (Err fault) (Ok (id, out)) = ⊥
 SameAsked items (Err fault) (Err other) = fault ≡ other
 
 -- where an ask leaves them: with it behind what was asked before, or as they stood
-abbrev pub AsksAlike : {V E : Type 0} → (ℕ → Asking) → Result (ℕ × V) E → ClientChannel → ClientChannel → List Placed → List ℕ → List Told → Type 0
+abbrev pub AsksAlike : {V E : Type 0} → (ℕ → Asking) → Result (ℕ × V) E → ClientChannel → ClientChannel → List Placed → List ℕ → List ClientTold → Type 0
 AsksAlike asking (Ok (id, out)) one two asks octets told = ClientsAlike one two (asks ++ (length octets, asking id) ∷ []) octets told
 AsksAlike asking (Err fault) one two asks octets told = ClientsAlike one two asks octets told
 
 -- where a close leaves them: both are closed, or they stand as they stood
-abbrev pub ClosesAlike : {V E : Type 0} → Result V E → ClientChannel → ClientChannel → List Placed → List ℕ → List Told → Type 0
+abbrev pub ClosesAlike : {V E : Type 0} → Result V E → ClientChannel → ClientChannel → List Placed → List ℕ → List ClientTold → Type 0
 ClosesAlike (Ok out) one two asks octets told = ClientsDone one two
 ClosesAlike (Err fault) one two asks octets told = ClientsAlike one two asks octets told

@@ -15,7 +15,7 @@ use Rattle.ua_channel.specs.Asks.{Placed, asked_in, is_in, next_id}
 use Rattle.ua_channel.specs.Asks.Asking.{Call}
 use Rattle.ua_channel.specs.ClientReads.{AtClient, ClientReads, IsLaneBack, lane_from, told_reply, with_call, with_reply, without_id}
 use Rattle.ua_channel.specs.ClientTokens.{from_last}
-use Rattle.ua_channel.specs.ClientTold.{Told as Heard}
+use Rattle.ua_channel.specs.ClientTold.{ClientTold as Heard}
 use Rattle.ua_channel.specs.InStep.{AreInStep}
 use Rattle.ua_channel.specs.Received.{latest}
 use Rattle.ua_channel.specs.ServerReads.{AtServer, with_message}

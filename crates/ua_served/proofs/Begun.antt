@@ -16,11 +16,11 @@ use Rattle.ua_structures.specs.Plain.{open_response_of}
 use Rattle.ua_structures.specs.SecureChannel.{open_response}
 use Rattle.ua_frame.proofs.Afters.{AllAfter-nil}
 use Rattle.ua_channel.specs.Asks.{Placed, asked_in, next_id}
-use Rattle.ua_channel.specs.Client.{limits_of, rules_of, url_of}
+use Rattle.ua_channel.specs.Client.{client_limits, client_rules_of, url_of}
 use Rattle.ua_channel.specs.ClientReads.{ClientAgrees, ClientReads, opened_at}
 use Rattle.ua_channel.specs.ClientSends.{hello_to}
 use Rattle.ua_channel.specs.ClientTable.{client_rules}
-use Rattle.ua_channel.specs.ClientTold.{Told as Heard, Told as heard}
+use Rattle.ua_channel.specs.ClientTold.{ClientTold as Heard, ClientTold as heard}
 use Rattle.ua_channel.specs.Line.{Traffic, WhereTold}
 use Rattle.ua_channel.specs.ServerReads.{greeted_at, with_token}
 use Rattle.ua_channel.specs.ServerSends.{opened_frame}
@@ -63,40 +63,40 @@ no_asks = refl
 
 -- ---- it took all that the server says of the opening
 
-module _ (b : Beginning) (url : Option (List ℕ)) (x : ClientChannel) (octets : List ℕ) (moment : DateTime) (o : IsOpened x octets) (can : CanOpen b (limits_of x) url moment) (front : Extends octets (opening_answer b (limits_of x) url)) where
+module _ (b : Beginning) (url : Option (List ℕ)) (x : ClientChannel) (octets : List ℕ) (moment : DateTime) (o : IsOpened x octets) (can : CanOpen b (client_limits x) url moment) (front : Extends octets (opening_answer b (client_limits x) url)) where
   abbrev opn : Frame
   opn = opened_frame b.channel 1 1 0 1 3600000 b.moment
 
   abbrev acked : List ℕ
-  acked = frame_octets (ack_frame (ack_to (hello_to (limits_of x) url) b.limits))
+  acked = frame_octets (ack_frame (ack_to (hello_to (client_limits x) url) b.limits))
 
-  agrees : ClientAgrees (limits_of x) acked (heard.Agreed (ack_to (hello_to (limits_of x) url) b.limits) ∷ []) (ack_to (hello_to (limits_of x) url) b.limits)
-  agrees = reads_ack (limits_of x) b.limits url can.ack_fits
+  agrees : ClientAgrees (client_limits x) acked (heard.Agreed (ack_to (hello_to (client_limits x) url) b.limits) ∷ []) (ack_to (hello_to (client_limits x) url) b.limits)
+  agrees = reads_ack (client_limits x) b.limits url can.ack_fits
 
   sized : IsSized opn
   sized = omega (arith, opening_size b.channel 1 1 ((message 449 open_response).canonical (open_response_of b.moment 0 b.channel 1 3600000)), open_response_length b.moment 0 b.channel 1 3600000)
 
-  read : ClientReads (limits_of x) [] (opening_answer b (limits_of x) url) (heard.Agreed (ack_to (hello_to (limits_of x) url) b.limits) ∷ (heard.Opened b.channel 1 ∷ [])) (opened_at (ack_to (hello_to (limits_of x) url) b.limits) b.channel 1 (next_number 1))
-  read = answer_read b (limits_of x) url can.ack_fits can.on can.answered
+  read : ClientReads (client_limits x) [] (opening_answer b (client_limits x) url) (heard.Agreed (ack_to (hello_to (client_limits x) url) b.limits) ∷ (heard.Opened b.channel 1 ∷ [])) (opened_at (ack_to (hello_to (client_limits x) url) b.limits) b.channel 1 (next_number 1))
+  read = answer_read b (client_limits x) url can.ack_fits can.on can.answered
 
   frames_are : read.frames ≡ agrees.frames ++ opn ∷ []
   frames_are =
-      frames_behind (client_rules (limits_of x) []) acked agrees.frames read.frames (opn ∷ []) agrees.run
-      (subst (λ (t : List ℕ). Run (client_rules (limits_of x) []) (acked ++ t) read.frames [] Going) (sym (one_octets opn)) read.run) (sized, tt)
+      frames_behind (client_rules (client_limits x) []) acked agrees.frames read.frames (opn ∷ []) agrees.run
+      (subst (λ (t : List ℕ). Run (client_rules (client_limits x) []) (acked ++ t) read.frames [] Going) (sym (one_octets opn)) read.run) (sized, tt)
 
   abbrev here : List Frame
   here = o.tells.frames ++ o.tells.frame ∷ []
 
-  here_told : events (rules_of x []) here ≡ heard.Agreed o.ack ∷ (heard.Opened o.channel o.token ∷ [])
-  here_told = told_behind (rules_of x []) o.tells.frames o.tells.frame (heard.Agreed o.ack ∷ []) (heard.Opened o.channel o.token) o.tells.told_is o.tells.tells
+  here_told : events (client_rules_of x []) here ≡ heard.Agreed o.ack ∷ (heard.Opened o.channel o.token ∷ [])
+  here_told = told_behind (client_rules_of x []) o.tells.frames o.tells.frame (heard.Agreed o.ack ∷ []) (heard.Opened o.channel o.token) o.tells.told_is o.tells.tells
 
   -- the frames of the ACK tell less
   not_within : (more : List Frame) → agrees.frames ≡ here ++ more → ⊥
   not_within more e =
-      let all = sym agrees.told_is ∙ (ap (events (rules_of x [])) e ∙ (events_on (rules_of x []) here more ∙ ap (λ (ts : List Heard). ts ++ each_from (rules_of x []).tells here more) here_told)) in
+      let all = sym agrees.told_is ∙ (ap (events (client_rules_of x [])) e ∙ (events_on (client_rules_of x []) here more ∙ ap (λ (ts : List Heard). ts ++ each_from (client_rules_of x []).tells here more) here_told)) in
       omega (arith, ap length all)
 
-  took_by : (later : List Frame) → read.frames ≡ here ++ later → octets ≡ opening_answer b (limits_of x) url
+  took_by : (later : List Frame) → read.frames ≡ here ++ later → octets ≡ opening_answer b (client_limits x) url
   took_by [] e =
       let whole = ap length read.run.whole in
       let part = ap length o.tells.stands.run.whole in
@@ -110,18 +110,18 @@ module _ (b : Beginning) (url : Option (List ℕ)) (x : ClientChannel) (octets :
       let middle = split_last agrees.frames here later opn f (sym frames_are ∙ e) in
       absurd (not_within middle.0 middle.1)
 
-  pub opening_taken : octets ≡ opening_answer b (limits_of x) url
+  pub opening_taken : octets ≡ opening_answer b (client_limits x) url
   opening_taken =
-      let later = begins_run (rules_of x []) octets front.more here read.frames [] Going o.tells.stands.run (subst (λ (t : List ℕ). Run (rules_of x []) t read.frames [] Going) front.parts read.run) in
+      let later = begins_run (client_rules_of x []) octets front.more here read.frames [] Going o.tells.stands.run (subst (λ (t : List ℕ). Run (client_rules_of x []) t read.frames [] Going) front.parts read.run) in
       took_by later.0 later.1
 
 -- ---- both are in step
 
 module _ (b : Beginning) (limits : Limits) (url : Option (List ℕ)) (moment : DateTime) (first after : Option Traffic) (client : Client) (law : SettlesOpened) (o : OpensClient limits url moment first after (Ok client)) (able : CanOpen b limits url moment) (line : first ≡ Some (line_to b)) where
   abbrev l : Limits
-  l = limits_of (channel_of o.last)
+  l = client_limits (channel_of o.last)
 
-  at : OpensAt (hello_octets (limits_of (channel_of o.begun)) (url_of (channel_of o.begun))) (open_octets moment) (channel_of o.last) o.opens.sent o.opens.moves.taken (Ok client)
+  at : OpensAt (hello_octets (client_limits (channel_of o.begun)) (url_of (channel_of o.begun))) (open_octets moment) (channel_of o.last) o.opens.sent o.opens.moves.taken (Ok client)
   at = o.opens.answers o.fresh.goes
 
   there : (s : Site) × (s.octets ≡ o.opens.moves.taken) × (s.asks ≡ []) × At (channel_of o.last) s × IsSettled s

@@ -25,7 +25,7 @@ use Rattle.ua_chunk.proofs.Lists.{map_push}
 use Rattle.ua_channel.specs.Asks.{Placed}
 use Rattle.ua_channel.specs.ClientReads.{AtClient, ClientReads, IsLaneBack}
 use Rattle.ua_channel.specs.ClientTable.{client_rules}
-use Rattle.ua_channel.specs.ClientTold.{Told}
+use Rattle.ua_channel.specs.ClientTold.{ClientTold}
 use Rattle.ua_channel.specs.Content.{content}
 use Rattle.ua_channel.specs.Content.Content.{Sends}
 use Rattle.ua_channel.specs.ServerSends.{replied, replied_by}
@@ -117,7 +117,7 @@ sized_chunks : (lane : Lane) (id size : ℕ) (cs : List Chunk) → 24 + lane.roo
 sized_chunks lane id size [] fits small h = tt
 sized_chunks lane id size (c ∷ cs) fits small h = (omega (arith, chunk_size c, h.0.fits, fits, small), sized_chunks lane id size cs fits small h.1)
 
-module _ (limits : Limits) (asks : List Placed) (octets : List ℕ) (told : List Told) (at : AtClient) (lane : Lane) (id : ℕ) (r : ClientReads limits asks octets told at) (back : IsLaneBack limits at lane) (few : id < 2 ^ 32) where
+module _ (limits : Limits) (asks : List Placed) (octets : List ℕ) (told : List ClientTold) (at : AtClient) (lane : Lane) (id : ℕ) (r : ClientReads limits asks octets told at) (back : IsLaneBack limits at lane) (few : id < 2 ^ 32) where
   -- behind chunks of which the last is numbered
   ends_with : (cs : List Chunk) (l : Last cs) → IsNumbered l.last → AllByRecursion IsSized (map frame_of cs) → LastChunk limits asks (octets ++ chunks_octets cs)
   ends_with cs l small sized frames run = record {

@@ -10,10 +10,10 @@ use Rattle.ua_frame.specs.declared.limits.Limits.{Limits}
 use Rattle.ua_chunk.specs.Sequence.{next_number}
 use Rattle.ua_channel.specs.Agreement.{Agreement, agreement_of}
 use Rattle.ua_channel.specs.Asks.{Placed}
-use Rattle.ua_channel.specs.Client.{limits_of, next_of}
+use Rattle.ua_channel.specs.Client.{client_limits, client_next}
 use Rattle.ua_channel.specs.ClientReads.{ClientReads, opened_at}
 use Rattle.ua_channel.specs.ClientSends.{hello_to}
-use Rattle.ua_channel.specs.ClientTold.{Told as Heard, Told as heard}
+use Rattle.ua_channel.specs.ClientTold.{ClientTold as Heard, ClientTold as heard}
 use Rattle.ua_channel.specs.ServerReads.{greeted_at, with_token}
 use Rattle.ua_channel.specs.ServerSends.{opened_frame}
 use Rattle.ua_channel.specs.ServerTold.{Told, Agreed, Opened}
@@ -71,27 +71,27 @@ answer_read b client url fits on dated =
 
 -- both are together
 pub begin_together : (b : Beginning) (url : Option (List ℕ)) (moment : DateTime) (x : ClientChannel) (site : Site)
-    → IsTrue (hello.encodable (hello_to (limits_of x) url)) → url_length url ≤ 4095 → IsTrue (date_time.encodable moment) → IsTrue (ack.encodable (ack_to (hello_to (limits_of x) url) b.limits)) → b.channel < 2 ^ 32 → IsTrue (date_time.encodable b.moment)
-    → At x site → site.asks ≡ [] → site.octets ≡ said_to b (opening_octets (limits_of x) url moment) → next_of x ≡ 2
-    → AreServing b url (opening_octets (limits_of x) url moment) (Agreed (agreement_of b.limits (hello_to (limits_of x) url)) ∷ (Opened 1 0 1 3600000 ∷ [])) (with_token (greeted_at (hello_to (limits_of x) url))) x site
-    (opened_at (ack_to (hello_to (limits_of x) url) b.limits) b.channel 1 (next_number 1))
+    → IsTrue (hello.encodable (hello_to (client_limits x) url)) → url_length url ≤ 4095 → IsTrue (date_time.encodable moment) → IsTrue (ack.encodable (ack_to (hello_to (client_limits x) url) b.limits)) → b.channel < 2 ^ 32 → IsTrue (date_time.encodable b.moment)
+    → At x site → site.asks ≡ [] → site.octets ≡ said_to b (opening_octets (client_limits x) url moment) → client_next x ≡ 2
+    → AreServing b url (opening_octets (client_limits x) url moment) (Agreed (agreement_of b.limits (hello_to (client_limits x) url)) ∷ (Opened 1 0 1 3600000 ∷ [])) (with_token (greeted_at (hello_to (client_limits x) url))) x site
+    (opened_at (ack_to (hello_to (client_limits x) url) b.limits) b.channel 1 (next_number 1))
 begin_together b url moment x site fits short dated acked on answered at none octets_are next_is =
-    let all : List Heard = heard.Agreed (ack_to (hello_to (limits_of x) url) b.limits) ∷ (heard.Opened b.channel 1 ∷ []) in
-    let c = opened_at (ack_to (hello_to (limits_of x) url) b.limits) b.channel 1 (next_number 1) in
-    let here : ClientReads (limits_of x) site.asks site.octets all c =
-    subst (λ (asks : List Placed). ClientReads (limits_of x) asks site.octets all c) (sym none)
-    (subst (λ (o : List ℕ). ClientReads (limits_of x) [] o all c) (sym (octets_are ∙ opening_said b (limits_of x) url moment fits short dated)) (answer_read b (limits_of x) url acked on answered)) in
+    let all : List Heard = heard.Agreed (ack_to (hello_to (client_limits x) url) b.limits) ∷ (heard.Opened b.channel 1 ∷ []) in
+    let c = opened_at (ack_to (hello_to (client_limits x) url) b.limits) b.channel 1 (next_number 1) in
+    let here : ClientReads (client_limits x) site.asks site.octets all c =
+    subst (λ (asks : List Placed). ClientReads (client_limits x) asks site.octets all c) (sym none)
+    (subst (λ (o : List ℕ). ClientReads (client_limits x) [] o all c) (sym (octets_are ∙ opening_said b (client_limits x) url moment fits short dated)) (answer_read b (client_limits x) url acked on answered)) in
     record {
       together = record {
-        server_reads = opening_read b.limits b.channel (limits_of x) url moment fits short dated;
+        server_reads = opening_read b.limits b.channel (client_limits x) url moment fits short dated;
         stands = at;
-        client_reads = subst (λ (t : List Heard). ClientReads (limits_of x) site.asks site.octets t c) (sym (client_told x site.asks site.octets site.told all c at.goes here)) here;
-        in_step = in_step_opened b.limits (limits_of x) url b.channel (next_number 1);
+        client_reads = subst (λ (t : List Heard). ClientReads (client_limits x) site.asks site.octets t c) (sym (client_told x site.asks site.octets site.told all c at.goes here)) here;
+        in_step = in_step_opened b.limits (client_limits x) url b.channel (next_number 1);
         number_is = sym at.number_is ∙ next_is;
       };
       taken = octets_are;
-      agreed = (left_first_two b (agreement_of b.limits (hello_to (limits_of x) url))).0;
-      says_next = (left_first_two b (agreement_of b.limits (hello_to (limits_of x) url))).1;
+      agreed = (left_first_two b (agreement_of b.limits (hello_to (client_limits x) url))).0;
+      says_next = (left_first_two b (agreement_of b.limits (hello_to (client_limits x) url))).1;
       issued = (omega arith, tt);
       spare = omega arith;
     }

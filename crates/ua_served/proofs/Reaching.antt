@@ -16,7 +16,7 @@ use Rattle.ua_frame.proofs.Unique.{unique}
 use Rattle.ua_chunk.specs.Cutting.{chunks_octets, chunks_of}
 use Rattle.ua_chunk.specs.declared.lane.Lane.{Lane}
 use Rattle.ua_channel.specs.Agreement.{agreement_of}
-use Rattle.ua_channel.specs.Client.{limits_of, rules_of}
+use Rattle.ua_channel.specs.Client.{client_limits, client_rules_of}
 use Rattle.ua_channel.specs.ClientAsks.{is_too_large, most_tokens, no_id, room_of}
 use Rattle.ua_channel.specs.ClientReads.{AtClient, ClientReads, lane_from}
 use Rattle.ua_channel.specs.ClientSends.{close_frame, hello_frame, hello_to, renewal_frame}
@@ -41,9 +41,9 @@ use Rattle.ua_served.specs.Turns.{calls_told}
 
 -- ---- where a client stands
 
-module _ (x : ClientChannel) (s : Site) (c : AtClient) (at : At x s) (r : ClientReads (limits_of x) s.asks s.octets s.told c) where
+module _ (x : ClientChannel) (s : Site) (c : AtClient) (at : At x s) (r : ClientReads (client_limits x) s.asks s.octets s.told c) where
   before_is : s.before ≡ received r.frames
-  before_is = sym at.before_is ∙ ap received (unique (rules_of x s.asks) s.octets at.goes.frames r.frames at.goes.rest [] Going Going at.goes.stands.run r.run).frames
+  before_is = sym at.before_is ∙ ap received (unique (client_rules_of x s.asks) s.octets at.goes.frames r.frames at.goes.rest [] Going Going at.goes.stands.run r.run).frames
 
   -- it has what the server acknowledged
   pub acked_here : s.before.ack ≡ Some c.ack
@@ -156,7 +156,7 @@ module _ (limits : Limits) (url : Option (List ℕ)) (channel : ℕ) (octets : L
       subst (λ (o : List ℕ). ServerReads limits channel (octets ++ o) (told ++ calls_told c.newest (id_at site) (bodies_of requests)) (behind_calls s (lane_from c) (bodies_of requests)))
       (ap (λ (n : ℕ). calls_octets (Some (lane_from c)) n (id_at site) (bodies_of requests)) (sym t.number_is)
       ∙ ap (λ (l : Option Lane). calls_octets l site.number (id_at site) (bodies_of requests)) (sym (lane_here x site c t.stands t.client_reads)))
-      (calls_read limits (limits_of x) url channel on c octets told s (id_at site) requests (body_for limits (limits_of x) url channel s c t.in_step) t.server_reads (lane_to limits (limits_of x) url channel s c t.in_step) (requests_asked requests judged))
+      (calls_read limits (client_limits x) url channel on c octets told s (id_at site) requests (body_for limits (client_limits x) url channel s c t.in_step) t.server_reads (lane_to limits (client_limits x) url channel s c t.in_step) (requests_asked requests judged))
 
   -- and the number behind them
   pub numbers_read : (requests : List Request) → numbers_behind (lane_behind site.before) site.number (bodies_of requests) ≡ (behind_calls s (lane_from c) (bodies_of requests)).next

@@ -24,9 +24,9 @@ use Rattle.ua_frame.proofs.MessagesLawful.{sound_hello}
 use Rattle.ua_frame.proofs.Streams.{frames_octets-push}
 use Rattle.ua_frame.proofs.Unique.{front_frame, front_none, one_frame}
 use Rattle.ua_frame.proofs.Wholes.{whole_encodes}
-use Rattle.ua_channel.specs.Client.{rules_of}
+use Rattle.ua_channel.specs.Client.{client_rules_of}
 use Rattle.ua_channel.specs.ClientSends.{hello_frame, hello_to}
-use Rattle.ua_channel.specs.ClientTold.{Told as heard}
+use Rattle.ua_channel.specs.ClientTold.{ClientTold as heard}
 use Rattle.ua_channel.specs.Content.{Content, content}
 use Rattle.ua_channel.specs.Content.Content.{Greets}
 use Rattle.ua_channel.specs.Received.{Received, received}
@@ -139,10 +139,10 @@ none_then x e = absurd cc
 
 never_by : (x : ClientChannel) (octets : List ℕ) (o : IsOpened x octets) (e : Frame) (more : List ℕ) → IsSized e → octets ++ more ≡ frame_octets e → (fs : List Frame) → o.tells.frames ≡ fs → ⊥
 unfolding AllAfter
-never_by x octets o e more sized is [] none = none_then (heard.Agreed o.ack) (sym (no_events (rules_of x [])) ∙ (sym (ap (events (rules_of x [])) none) ∙ o.tells.told_is))
+never_by x octets o e more sized is [] none = none_then (heard.Agreed o.ack) (sym (no_events (client_rules_of x [])) ∙ (sym (ap (events (client_rules_of x [])) none) ∙ o.tells.told_is))
 never_by x octets o e more sized is (f ∷ fs) some =
     let all : o.tells.frames ++ o.tells.frame ∷ [] ≡ f ∷ (fs ++ o.tells.frame ∷ []) = ap (λ (gs : List Frame). gs ++ o.tells.frame ∷ []) some in
-    let run : Run (rules_of x []) octets (f ∷ (fs ++ o.tells.frame ∷ [])) [] Going = subst (λ (gs : List Frame). Run (rules_of x []) octets gs [] Going) all o.tells.stands.run in
+    let run : Run (client_rules_of x []) octets (f ∷ (fs ++ o.tells.frame ∷ [])) [] Going = subst (λ (gs : List Frame). Run (client_rules_of x []) octets gs [] Going) all o.tells.stands.run in
     let rest : List ℕ = frames_octets (fs ++ o.tells.frame ∷ []) in
     let whole : frame_octets f ++ ((rest ++ []) ++ more) ≡ frame_octets e ++ [] =
     sym (append_assoc (frame_octets f) (rest ++ []) more) ∙ (ap (λ (t : List ℕ). t ++ more) (sym (front_frame f (fs ++ o.tells.frame ∷ []) []) ∙ sym run.whole) ∙ (is ∙ sym (append-nil (frame_octets e)))) in

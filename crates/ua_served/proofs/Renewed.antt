@@ -17,11 +17,11 @@ use Rattle.ua_structures.specs.Plain.{open_response_of}
 use Rattle.ua_structures.specs.SecureChannel.{open_response}
 use Rattle.ua_channel.specs.Asks.{Placed, asked_in, is_in, next_id, pending_renewals, renewals}
 use Rattle.ua_channel.specs.Asks.Asking.{Renewal}
-use Rattle.ua_channel.specs.Client.{limits_of, rules_of}
+use Rattle.ua_channel.specs.Client.{client_limits, client_rules_of}
 use Rattle.ua_channel.specs.ClientReads.{AtClient, ClientReads, IsAnswered, with_answer, with_renewal}
 use Rattle.ua_channel.specs.ClientTable.{client_rules}
 use Rattle.ua_channel.specs.ClientTokens.{opened_ids}
-use Rattle.ua_channel.specs.ClientTold.{Told as Heard, Told as heard, Why}
+use Rattle.ua_channel.specs.ClientTold.{ClientTold as Heard, ClientTold as heard, Why}
 use Rattle.ua_channel.specs.InStep.{AreInStep}
 use Rattle.ua_channel.specs.Received.{received}
 use Rattle.ua_channel.specs.ServerReads.{AtServer, ServerReads, with_token}
@@ -125,12 +125,12 @@ module _ (b : Beginning) (url : Option (List ℕ)) (octets : List ℕ) (told : L
     none_waits : c.renewals ≡ []
     none_waits =
         let r = t.together.client_reads in
-        let all = tokens-answer (limits_of x) site.asks r.frames r.run.good in
+        let all = tokens-answer (client_limits x) site.asks r.frames r.run.good in
         let few_asked : length (renewals (asked_in site.asks)) ≤ tokens-told site.told = settled.renewed in
         sym r.renewals_are ∙ no_length (pending_renewals (opened_ids (received r.frames).openings) (asked_in site.asks)) (omega (arith, all, few_asked, ap tokens-told r.told_is))
 
-    asked : ClientReads (limits_of x) (asks_renewed site) site.octets site.told waiting
-    asked = reads_renewal (limits_of x) site.asks site.octets site.told c t.together.client_reads
+    asked : ClientReads (client_limits x) (asks_renewed site) site.octets site.told waiting
+    asked = reads_renewal (client_limits x) site.asks site.octets site.told c t.together.client_reads
 
     can_be_read : IsAnswered c.channel c.next id 0 token 3600000 b.moment
     can_be_read = record {
@@ -143,9 +143,9 @@ module _ (b : Beginning) (url : Option (List ℕ)) (octets : List ℕ) (told : L
       moment_fits = answered;
     }
 
-    reads_it : ClientReads (limits_of x) (asks_renewed site) (site.octets ++ frame_octets answer) (site.told ++ heard.Renewed token ∷ []) now
+    reads_it : ClientReads (client_limits x) (asks_renewed site) (site.octets ++ frame_octets answer) (site.told ++ heard.Renewed token ∷ []) now
     reads_it =
-        reads_renewed (limits_of x) (asks_renewed site) site.octets site.told waiting id 0 token 3600000 b.moment asked can_be_read
+        reads_renewed (client_limits x) (asks_renewed site) site.octets site.told waiting id 0 token 3600000 b.moment asked can_be_read
         (ap (λ (ids : List ℕ). ids ++ id ∷ []) none_waits) (none_past s.issued c.tokens t.issued)
 
     answer_is : site.octets ++ frame_octets answer ≡ said_to b (octets ++ renewal_at site moment)
@@ -153,28 +153,28 @@ module _ (b : Beginning) (url : Option (List ℕ)) (octets : List ℕ) (told : L
         ap (λ (k : ℕ). site.octets ++ frame_octets (opened_frame k c.next id 0 token 3600000 b.moment)) t.together.in_step.channel_is
         ∙ (ap (λ (o : List ℕ). o ++ renewal_answer b c.next id token) t.taken ∙ sym renewal_said)
 
-    in_step_now : AreInStep b.limits (limits_of x) url b.channel (with_token s) now
+    in_step_now : AreInStep b.limits (client_limits x) url b.channel (with_token s) now
     in_step_now =
-        in_step_answer b.limits (limits_of x) url b.channel (with_token s) waiting (in_step_renewal b.limits (limits_of x) url b.channel s c t.together.in_step id) (next_number c.next)
+        in_step_answer b.limits (client_limits x) url b.channel (with_token s) waiting (in_step_renewal b.limits (client_limits x) url b.channel s c t.together.in_step id) (next_number c.next)
 
     tokens_now : AllByRecursion (λ (k : ℕ). k ≤ token) now.tokens
     tokens_now =
         all-push (λ (k : ℕ). k ≤ token) c.tokens token (all-weaken (λ (k : ℕ). k ≤ s.issued) (λ (k : ℕ). k ≤ token) c.tokens (λ k le. omega (arith, le)) t.issued) (omega arith)
 
-    module _ (y : ClientChannel) (behind : Site) (taken : List ℕ) (r : IsRenewed y site behind taken) (same : limits_of y ≡ limits_of x) where
+    module _ (y : ClientChannel) (behind : Site) (taken : List ℕ) (r : IsRenewed y site behind taken) (same : client_limits y ≡ client_limits x) where
       -- ---- what it took
 
       sized : IsSized answer
       sized = omega (arith, opening_size c.channel c.next id ((message 449 open_response).canonical (open_response_of b.moment 0 c.channel token 3600000)), open_response_length b.moment 0 c.channel token 3600000)
 
       abbrev rules : Rules Heard Why
-      rules = client_rules (limits_of x) (asks_renewed site)
+      rules = client_rules (client_limits x) (asks_renewed site)
 
       tells : TellsLast rules (site.octets ++ taken) (site.told ++ r.heard) (heard.Renewed r.token)
       tells =
           subst (λ (l : Limits). TellsLast (client_rules l (asks_renewed site)) (site.octets ++ taken) (site.told ++ r.heard) (heard.Renewed r.token)) same
-          (subst (λ (asks : List Placed). TellsLast (rules_of y asks) (site.octets ++ taken) (site.told ++ r.heard) (heard.Renewed r.token)) r.asks
-          (subst (λ (o : List ℕ). TellsLast (rules_of y behind.asks) o (site.told ++ r.heard) (heard.Renewed r.token)) r.octets
+          (subst (λ (asks : List Placed). TellsLast (client_rules_of y asks) (site.octets ++ taken) (site.told ++ r.heard) (heard.Renewed r.token)) r.asks
+          (subst (λ (o : List ℕ). TellsLast (client_rules_of y behind.asks) o (site.told ++ r.heard) (heard.Renewed r.token)) r.octets
           (record { frames = r.tells.frames; frame = r.tells.frame; run = r.tells.stands.run; told_is = r.tells.told_is; tells = r.tells.tells })))
 
       same_begin : (down : List ℕ) → Extends behind.octets down → (said : Extends (said_to b (octets ++ renewal_at site moment)) down) → (a : List ℕ) × (taken ++ a ≡ frame_octets answer ++ said.more)
@@ -199,11 +199,11 @@ module _ (b : Beginning) (url : Option (List ℕ)) (octets : List ℕ) (told : L
       -- ---- where both are then
 
       module _ (took : behind.octets ≡ said_to b (octets ++ renewal_at site moment)) where
-        here : ClientReads (limits_of y) behind.asks behind.octets (site.told ++ heard.Renewed token ∷ []) now
+        here : ClientReads (client_limits y) behind.asks behind.octets (site.told ++ heard.Renewed token ∷ []) now
         here =
             subst (λ (l : Limits). ClientReads l behind.asks behind.octets (site.told ++ heard.Renewed token ∷ []) now) (sym same)
-            (subst (λ (asks : List Placed). ClientReads (limits_of x) asks behind.octets (site.told ++ heard.Renewed token ∷ []) now) (sym r.asks)
-            (subst (λ (o : List ℕ). ClientReads (limits_of x) (asks_renewed site) o (site.told ++ heard.Renewed token ∷ []) now) (answer_is ∙ sym took) reads_it))
+            (subst (λ (asks : List Placed). ClientReads (client_limits x) asks behind.octets (site.told ++ heard.Renewed token ∷ []) now) (sym r.asks)
+            (subst (λ (o : List ℕ). ClientReads (client_limits x) (asks_renewed site) o (site.told ++ heard.Renewed token ∷ []) now) (answer_is ∙ sym took) reads_it))
 
         spare_now : token < id_at behind
         spare_now =
@@ -219,7 +219,7 @@ module _ (b : Beginning) (url : Option (List ℕ)) (octets : List ℕ) (told : L
           together = record {
             server_reads = server_renewed;
             stands = r.at;
-            client_reads = subst (λ (h : List Heard). ClientReads (limits_of y) behind.asks behind.octets h now) (sym (client_told y behind.asks behind.octets behind.told (site.told ++ heard.Renewed token ∷ []) now r.at.goes here)) here;
+            client_reads = subst (λ (h : List Heard). ClientReads (client_limits y) behind.asks behind.octets h now) (sym (client_told y behind.asks behind.octets behind.told (site.told ++ heard.Renewed token ∷ []) now r.at.goes here)) here;
             in_step = subst (λ (l : Limits). AreInStep b.limits l url b.channel (with_token s) now) (sym same) in_step_now;
             number_is = r.number ∙ ap next_number t.together.number_is;
           };

@@ -14,7 +14,7 @@ use Rattle.ua_chunk.specs.declared.lane.Lane.{Lane}
 use Rattle.ua_channel.specs.ClientAsks.{call_lane}
 use Rattle.ua_channel.specs.Asks.{Placed, asked_in, next_id}
 use Rattle.ua_channel.specs.Asks.Asking.{Renewal}
-use Rattle.ua_channel.specs.Client.{limits_of}
+use Rattle.ua_channel.specs.Client.{client_limits}
 use Rattle.ua_channel.specs.ClientReads.{AtClient, ClientReads, lane_from, with_answer, with_renewal}
 use Rattle.ua_channel.specs.ClientTokens.{held_tokens}
 use Rattle.ua_channel.specs.ClientSends.{hello_to}
@@ -92,11 +92,11 @@ module _ (b : Beginning) (limits : Limits) (url : Option (List ℕ)) where
       (subst (λ (m : ℕ). IsServed b limits url octets told token m h site x) r (subst (λ (k : ℕ). IsServed b limits url octets told token id k site x) e t)))
 
   -- by another channel that stands there
-  pub served_by : (octets : List ℕ) (told : List Told) (token id held : ℕ) (site : Site) (x y : ClientChannel) → At y site → limits_of y ≡ limits → IsServed b limits url octets told token id held site x
+  pub served_by : (octets : List ℕ) (told : List Told) (token id held : ℕ) (site : Site) (x y : ClientChannel) → At y site → client_limits y ≡ limits → IsServed b limits url octets told token id held site x
       → IsServed b limits url octets told token id held site y
   served_by octets told token id held site x y at same t =
       let s = t.serving in
-      let limits_same : limits_of x ≡ limits_of y = t.limits_are ∙ sym same in
+      let limits_same : client_limits x ≡ client_limits y = t.limits_are ∙ sym same in
       record {
         limits_are = same;
         on = t.on;
@@ -165,14 +165,14 @@ module _ (b : Beginning) (limits : Limits) (url : Option (List ℕ)) where
 -- ---- one turn
 
 module _ (b : Beginning) (limits : Limits) (url : Option (List ℕ)) (octets : List ℕ) (told : List Told) (token id held : ℕ) (site : Site) (x : ClientChannel) (t : IsServed b limits url octets told token id held site x)
-    (y : ClientChannel) (behind : Site) (taken : List ℕ) (same : limits_of y ≡ limits) (down : List ℕ) (front : Extends behind.octets down) where
+    (y : ClientChannel) (behind : Site) (taken : List ℕ) (same : client_limits y ≡ limits) (down : List ℕ) (front : Extends behind.octets down) where
   abbrev s : AtServer
   s = t.at_server
 
   abbrev c : AtClient
   c = t.at_client
 
-  same_limits : limits_of y ≡ limits_of x
+  same_limits : client_limits y ≡ client_limits x
   same_limits = same ∙ sym t.limits_are
 
   -- a group of calls is answered
@@ -316,7 +316,7 @@ module _ (b : Beginning) (limits : Limits) (url : Option (List ℕ)) (octets : L
   abbrev a : Option Ack
   a = Some (acknowledged b.limits limits url)
 
-  pub rounds_served : {c : ClientChannel} {s t : Site} {groups : List (List Request)} {sent taken : List ℕ} {replies : List Reply} (x : ClientChannel) → IsServed b limits url octets told token id held s x → limits_of c ≡ limits
+  pub rounds_served : {c : ClientChannel} {s t : Site} {groups : List (List Request)} {sent taken : List ℕ} {replies : List Reply} (x : ClientChannel) → IsServed b limits url octets told token id held s x → client_limits c ≡ limits
       → Rounds c s groups t sent taken replies → AreSome groups → (down : List ℕ) → Extends t.octets down → Extends (said_to b (octets ++ sent)) down → Behind b limits url octets told token id held s.number sent replies (all_of groups) t
   rounds_served {s = s} x served same NoRound some down front said = record {
     channel = x;

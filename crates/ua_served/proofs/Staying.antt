@@ -10,9 +10,9 @@ use Rattle.ua_chunk.specs.declared.lane.Lane.{Lane}
 use Rattle.ua_chunk.proofs.Lists.{filter_append}
 use Rattle.ua_channel.specs.Agreement.{Agreement, agreement_of, lane_of}
 use Rattle.ua_channel.specs.Asks.{Placed, asked_in, next_id}
-use Rattle.ua_channel.specs.Client.{limits_of}
+use Rattle.ua_channel.specs.Client.{client_limits}
 use Rattle.ua_channel.specs.ClientReads.{AtClient, ClientReads, lane_from}
-use Rattle.ua_channel.specs.ClientTold.{Told as Heard}
+use Rattle.ua_channel.specs.ClientTold.{ClientTold as Heard}
 use Rattle.ua_channel.specs.InStep.{AreInStep}
 use Rattle.ua_channel.specs.ServerReads.{AtServer, ServerReads}
 use Rattle.ua_channel.specs.ServerTold.{Told}
@@ -106,8 +106,8 @@ module _ (b : Beginning) (url : Option (List ℕ)) (octets : List ℕ) (told : L
   server_then : ServerReads b.limits b.channel (octets ++ sent_at site requests) (told ++ calls) then_at
   server_then = requests_read b.limits url b.channel octets told s x site c on t.together requests a.judged
 
-  step_then : AreInStep b.limits (limits_of x) url b.channel then_at (with_calls c (id_at site) bodies)
-  step_then = calls_in_step b.limits (limits_of x) url b.channel s c (id_at site) t.together.in_step t.together.client_reads.newest_is bodies
+  step_then : AreInStep b.limits (client_limits x) url b.channel then_at (with_calls c (id_at site) bodies)
+  step_then = calls_in_step b.limits (client_limits x) url b.channel s c (id_at site) t.together.in_step t.together.client_reads.newest_is bodies
 
   few_used : then_at.used < 2 ^ 32
   few_used = omega (arith, step_then.taken.not_before, step_then.taken.issued, server_then.few_issued)
@@ -131,12 +131,12 @@ module _ (b : Beginning) (url : Option (List ℕ)) (octets : List ℕ) (told : L
   abbrev told_then : List Heard
   told_then = site.told ++ answers_told (lane_of b.channel lane.token g) before.state moments (id_at site) bodies
 
-  heard_then : AreHeard b.limits (limits_of x) url b.channel then_at (length bodies) (length (with_calls c (id_at site) bodies).tokens) (with_calls c (id_at site) bodies).newest (asked_at site requests) (site.octets ++ said_of b.channel (course before.state before.number moments (Some g)) calls) told_then
+  heard_then : AreHeard b.limits (client_limits x) url b.channel then_at (length bodies) (length (with_calls c (id_at site) bodies).tokens) (with_calls c (id_at site) bodies).newest (asked_at site requests) (site.octets ++ said_of b.channel (course before.state before.number moments (Some g)) calls) told_then
       (left_by b.channel (course before.state before.number moments (Some g)) calls).number (left_by b.channel (course before.state before.number moments (Some g)) calls).agreement
   heard_then =
-      replies_read b.limits (limits_of x) url b.channel on then_at few_used lane (used_last s lane bodies (some_bodies requests some))
+      replies_read b.limits (client_limits x) url b.channel on then_at few_used lane (used_last s lane bodies (some_bodies requests some))
       (asked_at site requests) site.octets site.told (with_calls c (id_at site) bodies) before.state before.number moments (id_at site) bodies
-      (calls_asked (limits_of x) site.asks site.octets site.told c t.together.client_reads bodies) step_then (t.says_next ∙ sym (next_stays c (id_at site) bodies))
+      (calls_asked (client_limits x) site.asks site.octets site.told c t.together.client_reads bodies) step_then (t.says_next ∙ sym (next_stays c (id_at site) bodies))
       (waits c (id_at site) bodies) (few_ids c.ack (id_at site) requests (requests_asked b.limits url b.channel octets told s x site c on t.together requests a.judged) some) tokens_then (newest_stays c (id_at site) bodies)
     where
       next_stays : (d : AtClient) (id : ℕ) (bs : List (List ℕ)) → (with_calls d id bs).next ≡ d.next
@@ -160,20 +160,20 @@ module _ (b : Beginning) (url : Option (List ℕ)) (octets : List ℕ) (told : L
       heard_then.held
       ∙ (ap (λ (ks : List ℕ). held_behind_calls (length ks) (length bodies)) (tokens_stay c (id_at site) bodies) ∙ ap (λ (n : ℕ). held_behind_calls (length c.tokens) n) (bodies_count requests))
 
-  module _ (y : ClientChannel) (stands : At y behind) (same : limits_of y ≡ limits_of x) where
+  module _ (y : ClientChannel) (stands : At y behind) (same : client_limits y ≡ client_limits x) where
     -- the client reads what the server says of it
-    reads_then : ClientReads (limits_of y) behind.asks (said_to b (octets ++ sent_at site requests)) told_then heard_then.at
+    reads_then : ClientReads (client_limits y) behind.asks (said_to b (octets ++ sent_at site requests)) told_then heard_then.at
     reads_then =
         subst (λ (l : Limits). ClientReads l behind.asks (said_to b (octets ++ sent_at site requests)) told_then heard_then.at) (sym same)
-        (subst (λ (p : List Placed). ClientReads (limits_of x) p (said_to b (octets ++ sent_at site requests)) told_then heard_then.at) (sym a.asks)
-        (subst (λ (o : List ℕ). ClientReads (limits_of x) (asked_at site requests) o told_then heard_then.at) (sym said_then) heard_then.reads))
+        (subst (λ (p : List Placed). ClientReads (client_limits x) p (said_to b (octets ++ sent_at site requests)) told_then heard_then.at) (sym a.asks)
+        (subst (λ (o : List ℕ). ClientReads (client_limits x) (asked_at site requests) o told_then heard_then.at) (sym said_then) heard_then.reads))
 
     -- which ends with the chunk of a reply
-    ends_then : LastChunk (limits_of y) behind.asks (said_to b (octets ++ sent_at site requests))
+    ends_then : LastChunk (client_limits y) behind.asks (said_to b (octets ++ sent_at site requests))
     ends_then =
         subst (λ (l : Limits). LastChunk l behind.asks (said_to b (octets ++ sent_at site requests))) (sym same)
-        (subst (λ (p : List Placed). LastChunk (limits_of x) p (said_to b (octets ++ sent_at site requests))) (sym a.asks)
-        (subst (LastChunk (limits_of x) (asked_at site requests)) (sym said_then) (heard_then.ends (some_bodies requests some))))
+        (subst (λ (p : List Placed). LastChunk (client_limits x) p (said_to b (octets ++ sent_at site requests))) (sym a.asks)
+        (subst (LastChunk (client_limits x) (asked_at site requests)) (sym said_then) (heard_then.ends (some_bodies requests some))))
 
     -- where it took a front of that, it took all of it
     pub answered_took : NonePending → IsSettled behind → Extends behind.octets (said_to b (octets ++ sent_at site requests)) → behind.octets ≡ said_to b (octets ++ sent_at site requests)
@@ -197,8 +197,8 @@ module _ (b : Beginning) (url : Option (List ℕ)) (octets : List ℕ) (told : L
         by (inr p) = took_no_more y requests (id_at site) behind came (said_to b (octets ++ sent_at site requests)) told_then heard_then.at reads_then each_told p.0 p.1
 
     module _ (took : behind.octets ≡ said_to b (octets ++ sent_at site requests)) where
-      here : ClientReads (limits_of y) behind.asks behind.octets told_then heard_then.at
-      here = subst (λ (o : List ℕ). ClientReads (limits_of y) behind.asks o told_then heard_then.at) (sym took) reads_then
+      here : ClientReads (client_limits y) behind.asks behind.octets told_then heard_then.at
+      here = subst (λ (o : List ℕ). ClientReads (client_limits y) behind.asks o told_then heard_then.at) (sym took) reads_then
 
       -- what the client was told by then
       pub told_together : behind.told ≡ site.told ++ answers_told (lane_of b.channel c.newest (agreement_of b.limits s.hello)) before.state moments (id_at site) bodies
@@ -211,7 +211,7 @@ module _ (b : Beginning) (url : Option (List ℕ)) (octets : List ℕ) (told : L
         together = record {
           server_reads = server_then;
           stands = stands;
-          client_reads = subst (λ (h : List Heard). ClientReads (limits_of y) behind.asks behind.octets h heard_then.at) (sym (client_told y behind.asks behind.octets behind.told told_then heard_then.at stands.goes here)) here;
+          client_reads = subst (λ (h : List Heard). ClientReads (client_limits y) behind.asks behind.octets h heard_then.at) (sym (client_told y behind.asks behind.octets behind.told told_then heard_then.at stands.goes here)) here;
           in_step = subst (λ (l : Limits). AreInStep b.limits l url b.channel then_at heard_then.at) (sym same) heard_then.in_step;
           number_is = a.number ∙ numbers_read b.limits url b.channel octets told s x site c on t.together requests;
         };

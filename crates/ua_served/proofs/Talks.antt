@@ -8,7 +8,7 @@ use Rattle.ua_builtin.specs.declared.date_time.DateTime.{DateTime}
 use Rattle.ua_frame.specs.declared.ack.Ack.{Ack}
 use Rattle.ua_frame.specs.declared.limits.Limits.{Limits}
 use Rattle.ua_chunk.specs.declared.lane.Lane.{Lane}
-use Rattle.ua_channel.specs.Client.{SameClient, limits_of}
+use Rattle.ua_channel.specs.Client.{SameClient, client_limits}
 use Rattle.ua_channel.specs.ClientAsks.{call_lane}
 use Rattle.ua_channel.specs.Line.{Traffic, WhereTold}
 use Rattle.ua_channel.specs.ServerTold.{Told, Opened}
@@ -112,7 +112,7 @@ module _ (b : Beginning) (limits : Limits) (url : Option (List ℕ)) (octets : L
   abbrev a : Ack
   a = acknowledged b.limits limits url
 
-  limits_then : limits_of (channel_of y) ≡ limits
+  limits_then : client_limits (channel_of y) ≡ limits
   limits_then = sym same.limits ∙ t.served.limits_are
 
   -- at a site where it took what it then took

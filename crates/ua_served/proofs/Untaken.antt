@@ -14,10 +14,10 @@ use Rattle.ua_chunk.specs.Gathered.{ends}
 use Rattle.ua_chunk.specs.declared.chunk.Chunk.{Chunk}
 use Rattle.ua_chunk.proofs.Lists.{filter_append}
 use Rattle.ua_channel.specs.Asks.{Asking, Placed, asked_before, asked_in, call_in, calls, end_of, is_finished, is_in, pending_calls}
-use Rattle.ua_channel.specs.Client.{limits_of, rules_of}
+use Rattle.ua_channel.specs.Client.{client_limits, client_rules_of}
 use Rattle.ua_channel.specs.ClientReads.{AtClient, ClientReads}
 use Rattle.ua_channel.specs.ClientTable.{client_reasons, client_rules}
-use Rattle.ua_channel.specs.ClientTold.{Told}
+use Rattle.ua_channel.specs.ClientTold.{ClientTold}
 use Rattle.ua_channel.specs.Content.{Content, content}
 use Rattle.ua_channel.specs.Content.Content.{Sends}
 use Rattle.ua_channel.specs.Received.{Received, chunks_in, messages, received}
@@ -99,7 +99,7 @@ chunk_refused limits b asked c none e =
     let waits_nowhere : not (is_in c.request []) ≡ false = subst (λ (ids : List ℕ). not (is_in c.request ids) ≡ false) none waits in
     absurd cc
 
-module _ (law : NonePending) (y : ClientChannel) (s : Site) (at : At y s) (settled : IsSettled s) (all : List ℕ) (frames : List Frame) (run : Run (client_rules (limits_of y) s.asks) all frames [] Going) (last : EndsInChunk frames) (front : Extends s.octets all) where
+module _ (law : NonePending) (y : ClientChannel) (s : Site) (at : At y s) (settled : IsSettled s) (all : List ℕ) (frames : List Frame) (run : Run (client_rules (client_limits y) s.asks) all frames [] Going) (last : EndsInChunk frames) (front : Extends s.octets all) where
   abbrev here : List Frame
   here = at.goes.frames
 
@@ -111,11 +111,11 @@ module _ (law : NonePending) (y : ClientChannel) (s : Site) (at : At y s) (settl
 
   never_last : (more : List Frame) → last.before ≡ here ++ more → ⊥
   never_last more e =
-      let fits = fits_last (rules_of y s.asks) last.before last.frame (subst (AllAfter (Fits (rules_of y s.asks))) last.parts run.good) in
+      let fits = fits_last (client_rules_of y s.asks) last.before last.frame (subst (AllAfter (Fits (client_rules_of y s.asks))) last.parts run.good) in
       let place = end_of last.before last.frame in
-      chunk_refused (limits_of y) (received last.before) (asked_before place s.asks) last.chunk
+      chunk_refused (client_limits y) (received last.before) (asked_before place s.asks) last.chunk
       (none_before (received last.before).messages place s.asks (ap (λ (fs : List Frame). pending_calls (received fs).messages (asked_in s.asks)) e ∙ none_behind more))
-      (ap (λ (k : Content). first_reason (client_reasons (limits_of y) (received last.before) (asked_before place s.asks) k)) (sym last.carries) ∙ fits.accepted)
+      (ap (λ (k : Content). first_reason (client_reasons (client_limits y) (received last.before) (asked_before place s.asks) k)) (sym last.carries) ∙ fits.accepted)
 
   took_by : (later : List Frame) → frames ≡ here ++ later → s.octets ≡ all
   took_by [] e =
@@ -134,7 +134,7 @@ module _ (law : NonePending) (y : ClientChannel) (s : Site) (at : At y s) (settl
   -- it took all of it
   pub took_all : s.octets ≡ all
   took_all =
-      let later = begins_run (rules_of y s.asks) s.octets front.more here frames at.goes.rest Going at.goes.stands.run (subst (λ (o : List ℕ). Run (rules_of y s.asks) o frames [] Going) front.parts run) in
+      let later = begins_run (client_rules_of y s.asks) s.octets front.more here frames at.goes.rest Going at.goes.stands.run (subst (λ (o : List ℕ). Run (client_rules_of y s.asks) o frames [] Going) front.parts run) in
       took_by later.0 later.1
 
 -- ---- nothing is taken behind the last reply
@@ -142,24 +142,24 @@ module _ (law : NonePending) (y : ClientChannel) (s : Site) (at : At y s) (settl
 false_not_true : false ≡ true → ⊥
 false_not_true e = cc
 
-told_further : (id : ℕ) (us vs : List Told) → 0 < length (told_of id us) → 0 < length (told_of id (us ++ vs))
+told_further : (id : ℕ) (us vs : List ClientTold) → 0 < length (told_of id us) → 0 < length (told_of id (us ++ vs))
 told_further id us vs some = omega (arith, some, ap length (filter_append (is_told_of id) us vs), length-append (told_of id us) (told_of id vs))
 
 -- where something was told of each call no reply is missing
-never_missing : (requests : List Request) (id : ℕ) (told : List Told) (slots : List (Option Reply)) → AreSlots requests id told slots → ((k : ℕ) → id ≤ k → k < id + length requests → 0 < length (told_of k told)) → list_any is_none slots ≡ true → ⊥
+never_missing : (requests : List Request) (id : ℕ) (told : List ClientTold) (slots : List (Option Reply)) → AreSlots requests id told slots → ((k : ℕ) → id ≤ k → k < id + length requests → 0 < length (told_of k told)) → list_any is_none slots ≡ true → ⊥
 never_missing [] id told [] h each e = false_not_true e
 never_missing [] id told (slot ∷ slots) h each e = h
 never_missing (r ∷ rs) id told [] h each e = h
 never_missing (r ∷ rs) id told (None ∷ slots) h each e = let some = each id (omega arith) (omega arith) in omega (arith, some, ap length h.0)
 never_missing (r ∷ rs) id told (Some reply ∷ slots) h each e = never_missing rs (id + 1) told slots h.1 (λ k from to. each k (omega (arith, from)) (omega (arith, to))) e
 
-module _ (y : ClientChannel) (requests : List Request) (id : ℕ) (s : Site) (came : LastCame y requests id s.asks s.octets s.told) (all : List ℕ) (told : List Told) (at : AtClient) (r : ClientReads (limits_of y) s.asks all told at)
+module _ (y : ClientChannel) (requests : List Request) (id : ℕ) (s : Site) (came : LastCame y requests id s.asks s.octets s.told) (all : List ℕ) (told : List ClientTold) (at : AtClient) (r : ClientReads (client_limits y) s.asks all told at)
     (each : (k : ℕ) → id ≤ k → k < id + length requests → 0 < length (told_of k told)) (more : List ℕ) (is : s.octets ≡ all ++ more) where
   abbrev taken : List Frame
   taken = came.tells.frames ++ came.tells.frame ∷ []
 
-  run_on : Run (rules_of y s.asks) (all ++ more) taken [] Going
-  run_on = subst (λ (o : List ℕ). Run (rules_of y s.asks) o taken [] Going) is came.tells.stands.run
+  run_on : Run (client_rules_of y s.asks) (all ++ more) taken [] Going
+  run_on = subst (λ (o : List ℕ). Run (client_rules_of y s.asks) o taken [] Going) is came.tells.stands.run
 
   none_behind_it : (later : List Frame) → taken ≡ r.frames ++ later → s.octets ≡ all
   none_behind_it [] e =
@@ -172,14 +172,14 @@ module _ (y : ClientChannel) (requests : List Request) (id : ℕ) (s : Site) (ca
       ∙ append-nil all)
   none_behind_it (g ∷ gs) e =
       let middle = split_last came.tells.frames r.frames gs came.tells.frame g e in
-      let later : List Told = each_from (rules_of y s.asks).tells r.frames middle.0 in
+      let later : List ClientTold = each_from (client_rules_of y s.asks).tells r.frames middle.0 in
       let before : came.before ≡ told ++ later =
-      sym came.tells.told_is ∙ (ap (events (rules_of y s.asks)) middle.1 ∙ (events_on (rules_of y s.asks) r.frames middle.0 ∙ ap (λ (ts : List Told). ts ++ later) r.told_is)) in
+      sym came.tells.told_is ∙ (ap (events (client_rules_of y s.asks)) middle.1 ∙ (events_on (client_rules_of y s.asks) r.frames middle.0 ∙ ap (λ (ts : List ClientTold). ts ++ later) r.told_is)) in
       absurd (never_missing requests id came.before came.awaited.slots came.awaited.slots_are
-      (λ k from to. subst (λ (ts : List Told). 0 < length (told_of k ts)) (sym before) (told_further k told later (each k from to))) came.awaited.missing)
+      (λ k from to. subst (λ (ts : List ClientTold). 0 < length (told_of k ts)) (sym before) (told_further k told later (each k from to))) came.awaited.missing)
 
   -- where the other end said all that is waited for in a front of what was taken, just that was taken
   pub took_no_more : s.octets ≡ all
   took_no_more =
-      let later = begins_run (rules_of y s.asks) all more r.frames taken [] Going r.run run_on in
+      let later = begins_run (client_rules_of y s.asks) all more r.frames taken [] Going r.run run_on in
       none_behind_it later.0 later.1

@@ -7,7 +7,7 @@ use Rattle.ua_frame.specs.Messages.{ack_frame}
 use Rattle.ua_frame.specs.declared.limits.Limits.{Limits}
 use Rattle.ua_chunk.specs.declared.lane.Lane.{Lane}
 use Rattle.ua_channel.specs.Agreement.{agreement_of}
-use Rattle.ua_channel.specs.Client.{limits_of}
+use Rattle.ua_channel.specs.Client.{client_limits}
 use Rattle.ua_channel.specs.ClientReads.{AtClient, ClientReads}
 use Rattle.ua_channel.specs.ClientSends.{hello_to}
 use Rattle.ua_channel.specs.InStep.{AreInStep}
@@ -25,8 +25,8 @@ use Rattle.ua_served.specs.Says.{said_to, spent}
 pub record AreTogether (limits : Limits) (url : Option (List ℕ)) (channel : ℕ) (octets : List ℕ) (told : List Told) (s : AtServer) (x : ClientChannel) (site : Site) (c : AtClient) : Type 0 where
   pub server_reads : ServerReads limits channel octets told s
   pub stands : At x site
-  pub client_reads : ClientReads (limits_of x) site.asks site.octets site.told c
-  pub in_step : AreInStep limits (limits_of x) url channel s c
+  pub client_reads : ClientReads (client_limits x) site.asks site.octets site.told c
+  pub in_step : AreInStep limits (client_limits x) url channel s c
   pub number_is : site.number ≡ s.next
 
 -- the same in one process: the client took all that a server which began so says of these octets, and what the server says next goes by what

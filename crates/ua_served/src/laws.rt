@@ -14,7 +14,7 @@ ghost use Rattle.ua_frame.specs.declared.limits.Limits.{Limits};
 ghost use Rattle.ua_chunk.specs.Sequence.{next_number};
 ghost use Rattle.ua_services.specs.declared.request.Request.{Request};
 ghost use Rattle.ua_channel.specs.Agreement.{agreement_of};
-ghost use Rattle.ua_channel.specs.Client.{limits_of, next_of};
+ghost use Rattle.ua_channel.specs.Client.{client_limits, client_next};
 ghost use Rattle.ua_channel.specs.ClientReads.{AtClient, lane_from, opened_at};
 ghost use Rattle.ua_channel.specs.ClientSends.{hello_to};
 ghost use Rattle.ua_channel.specs.ServerReads.{AtServer, ServerCloses, ServerReads, greeted_at, with_token};
@@ -49,11 +49,11 @@ pub fn ends_begin_together()
         IsTrue (hello.encodable (hello_to client url)) → url_length url ≤ 4095 → IsTrue (date_time.encodable moment) →
         said_to b (opening_octets client url moment) ≡ opening_answer b client url }
     ensures serving { (b : Beginning) (url : Option (List ℕ)) (moment : DateTime) (x : ClientChannel) (site : Site) →
-        IsTrue (hello.encodable (hello_to (limits_of x) url)) → url_length url ≤ 4095 → IsTrue (date_time.encodable moment) →
-        IsTrue (ack.encodable (ack_to (hello_to (limits_of x) url) b.limits)) → b.channel < 2 ^ 32 → IsTrue (date_time.encodable b.moment) →
-        At x site → site.asks ≡ [] → site.octets ≡ said_to b (opening_octets (limits_of x) url moment) → next_of x ≡ 2 →
-        AreServing b url (opening_octets (limits_of x) url moment) (Agreed (agreement_of b.limits (hello_to (limits_of x) url)) ∷ (Opened 1 0 1 3600000 ∷ [])) (with_token (greeted_at (hello_to (limits_of x) url))) x site
-        (opened_at (ack_to (hello_to (limits_of x) url) b.limits) b.channel 1 (next_number 1)) }
+        IsTrue (hello.encodable (hello_to (client_limits x) url)) → url_length url ≤ 4095 → IsTrue (date_time.encodable moment) →
+        IsTrue (ack.encodable (ack_to (hello_to (client_limits x) url) b.limits)) → b.channel < 2 ^ 32 → IsTrue (date_time.encodable b.moment) →
+        At x site → site.asks ≡ [] → site.octets ≡ said_to b (opening_octets (client_limits x) url moment) → client_next x ≡ 2 →
+        AreServing b url (opening_octets (client_limits x) url moment) (Agreed (agreement_of b.limits (hello_to (client_limits x) url)) ∷ (Opened 1 0 1 3600000 ∷ [])) (with_token (greeted_at (hello_to (client_limits x) url))) x site
+        (opened_at (ack_to (hello_to (client_limits x) url) b.limits) b.channel 1 (next_number 1)) }
 {}
 
 /// What a client then sends of requests that are answered the server reads as just these: in their
@@ -72,10 +72,10 @@ pub fn requests_reach_the_server()
 pub fn ends_stay_together()
     ensures took { (b : Beginning) (url : Option (List ℕ)) (octets : List ℕ) (told : List Told) (s : AtServer) (x y : ClientChannel) (site behind : Site) (c : AtClient) (requests : List Request) (taken : List ℕ) (replies : List Reply) →
         b.channel < 2 ^ 32 → AreServing b url octets told s x site c → IsSettled site → 0 < length requests → Answered requests site behind taken replies →
-        At y behind → limits_of y ≡ limits_of x → Extends behind.octets (said_to b (octets ++ sent_at site requests)) → behind.octets ≡ said_to b (octets ++ sent_at site requests) }
+        At y behind → client_limits y ≡ client_limits x → Extends behind.octets (said_to b (octets ++ sent_at site requests)) → behind.octets ≡ said_to b (octets ++ sent_at site requests) }
     ensures serving { (b : Beginning) (url : Option (List ℕ)) (octets : List ℕ) (told : List Told) (s : AtServer) (x y : ClientChannel) (site behind : Site) (c : AtClient) (requests : List Request) (taken : List ℕ) (replies : List Reply) →
         b.channel < 2 ^ 32 → AreServing b url octets told s x site c → 0 < length requests → Answered requests site behind taken replies →
-        At y behind → limits_of y ≡ limits_of x → behind.octets ≡ said_to b (octets ++ sent_at site requests) →
+        At y behind → client_limits y ≡ client_limits x → behind.octets ≡ said_to b (octets ++ sent_at site requests) →
         (d : AtClient) × AreServing b url (octets ++ sent_at site requests) (told ++ calls_told c.newest (id_at site) (bodies_of requests)) (behind_calls s (lane_from c) (bodies_of requests)) y behind d × (d.newest ≡ c.newest) }
 {
     clients_are_settled();
@@ -98,11 +98,11 @@ pub fn renewals_stay_together()
         said_to b (octets ++ renewal_at site moment) ≡ said_to b octets ++ renewal_answer b c.next (id_at site) (s.issued + 1) }
     ensures took { (b : Beginning) (url : Option (List ℕ)) (octets : List ℕ) (told : List Told) (s : AtServer) (x y : ClientChannel) (site behind : Site) (c : AtClient) (moment : DateTime) (taken down : List ℕ) →
         b.channel < 2 ^ 32 → AreServing b url octets told s x site c → renewal_refusal site ≡ None → IsTrue (date_time.encodable moment) → IsTrue (date_time.encodable b.moment) →
-        IsSettled site → IsRenewed y site behind taken → limits_of y ≡ limits_of x → Extends behind.octets down → Extends (said_to b (octets ++ renewal_at site moment)) down →
+        IsSettled site → IsRenewed y site behind taken → client_limits y ≡ client_limits x → Extends behind.octets down → Extends (said_to b (octets ++ renewal_at site moment)) down →
         behind.octets ≡ said_to b (octets ++ renewal_at site moment) }
     ensures serving { (b : Beginning) (url : Option (List ℕ)) (octets : List ℕ) (told : List Told) (s : AtServer) (x y : ClientChannel) (site behind : Site) (c : AtClient) (moment : DateTime) (taken : List ℕ) →
         b.channel < 2 ^ 32 → AreServing b url octets told s x site c → renewal_refusal site ≡ None → IsTrue (date_time.encodable moment) → IsTrue (date_time.encodable b.moment) →
-        IsSettled site → IsRenewed y site behind taken → limits_of y ≡ limits_of x → behind.octets ≡ said_to b (octets ++ renewal_at site moment) →
+        IsSettled site → IsRenewed y site behind taken → client_limits y ≡ client_limits x → behind.octets ≡ said_to b (octets ++ renewal_at site moment) →
         (d : AtClient) × AreServing b url (octets ++ renewal_at site moment) (told ++ Opened (id_at site) 0 (s.issued + 1) 3600000 ∷ []) (with_token s) y behind d × (d.newest ≡ s.issued + 1) }
 {}
 

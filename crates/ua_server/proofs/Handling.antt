@@ -8,7 +8,7 @@ use Rattle.ua_frame.proofs.Ends.{ends_stay}
 use Rattle.ua_frame.specs.Run.{End, Rules, Run, Going, Stopped, Over, events}
 use Rattle.ua_frame.specs.declared.frame.Frame.{Frame}
 use Rattle.ua_frame.specs.declared.limits.Limits.{Limits}
-use Rattle.ua_channel.specs.Line.{Traffic, Hands, WhereTold}
+use Rattle.ua_channel.specs.Line.{Traffic, HandsOut, WhereTold}
 use Rattle.ua_channel.specs.Received.{listed}
 use Rattle.ua_channel.specs.ServerRules.{server_rules}
 use Rattle.ua_channel.specs.ServerStands.{limits_of, channel_of, rules_of, Stands as Holds}
@@ -231,17 +231,17 @@ module _ (limits : Limits) (channel : ℕ) (first : State) where
     served m read (Some a) None result now P e by = e.moved
     served m read None lb result now P e by = e.moved
 
-    handed : (n : ℕ) (buffer : List ℕ) (a b : Option Traffic) → WhereTold (Hands (Ok n) buffer) a b → WhereTold (Moves (take n buffer) []) a b
+    handed : (n : ℕ) (buffer : List ℕ) (a b : Option Traffic) → WhereTold (HandsOut (Ok n) buffer) a b → WhereTold (Moves (take n buffer) []) a b
     handed n buffer (Some a) (Some b) h = (h.0, h.1 ∙ sym (append-nil a.written))
     handed n buffer (Some a) None h = h
     handed n buffer None b h = h
 
-    not-handed : (f : LineFault) (buffer : List ℕ) (a b : Option Traffic) → WhereTold (Hands (Err f) buffer) a b → WhereTold (Moves [] []) a b
+    not-handed : (f : LineFault) (buffer : List ℕ) (a b : Option Traffic) → WhereTold (HandsOut (Err f) buffer) a b → WhereTold (Moves [] []) a b
     not-handed f buffer (Some a) (Some b) h = (λ rest. ap (λ (t : Traffic). t.coming rest) (sym h), ap (λ (t : Traffic). t.written) h ∙ sym (append-nil a.written))
     not-handed f buffer (Some a) None h = h
     not-handed f buffer None b h = h
 
-    ended : (n : ℕ) (buffer : List ℕ) (a b : Option Traffic) (t : Traffic) → WhereTold (Hands (Ok n) buffer) a b → n ≡ 0 → 0 < length buffer → b ≡ Some t → t.coming [] ≡ []
+    ended : (n : ℕ) (buffer : List ℕ) (a b : Option Traffic) (t : Traffic) → WhereTold (HandsOut (Ok n) buffer) a b → n ≡ 0 → 0 < length buffer → b ≡ Some t → t.coming [] ≡ []
     ended n buffer (Some a) (Some b) t h zero room is =
         let same : b ≡ t = cc in
         sym (ap (λ (s : Traffic). s.coming []) same) ∙ (sym (ap (λ (k : ℕ). take k buffer ++ b.coming []) zero) ∙ (sym (h.0 []) ∙ h.2 zero room))
@@ -274,7 +274,7 @@ module _ (limits : Limits) (channel : ℕ) (first : State) where
       holds = s.exchanged.holds;
     }
 
-    pub read-failed : (la lb lc : Option Traffic) (reads : ℕ) (m : M × W) (x : Serving) (now : State) (f : LineFault) (buffer : List ℕ) → Served la reads m lb x now → WhereTold (Hands (Err f) buffer) lb lc
+    pub read-failed : (la lb lc : Option Traffic) (reads : ℕ) (m : M × W) (x : Serving) (now : State) (f : LineFault) (buffer : List ℕ) → Served la reads m lb x now → WhereTold (HandsOut (Err f) buffer) lb lc
         → WhereTold (ServesTelling limits channel gives notes first m0 (Err fault.Read) now m) la lc
     read-failed la lb lc reads m x now f buffer s h =
         served m s.read la lc (Err fault.Read) now (λ written ts. Keeps x limits channel first s.read written ts now)
@@ -282,7 +282,7 @@ module _ (limits : Limits) (channel : ℕ) (first : State) where
         (read-on la lb lc reads m x now 0 [] s (not-handed f buffer lb lc h)))
         (λ b w ts is k. still-going x s.read w ts now k)
 
-    pub read-ended : (la lb lc : Option Traffic) (reads : ℕ) (m : M × W) (x : Serving) (now : State) (n : ℕ) (buffer : List ℕ) (end : Ending) → Served la reads m lb x now → WhereTold (Hands (Ok n) buffer) lb lc → n ≡ 0 → 0 < length buffer
+    pub read-ended : (la lb lc : Option Traffic) (reads : ℕ) (m : M × W) (x : Serving) (now : State) (n : ℕ) (buffer : List ℕ) (end : Ending) → Served la reads m lb x now → WhereTold (HandsOut (Ok n) buffer) lb lc → n ≡ 0 → 0 < length buffer
         → ((octets : List ℕ) (frames : List Frame) (rest : List ℕ) → Holds (channel_in x.server) octets frames rest → Finishes end frames rest)
         → WhereTold (ServesTelling limits channel gives notes first m0 (Ok end) now m) la lc
     read-ended la lb lc reads m x now n buffer end s h zero room by =
@@ -301,7 +301,7 @@ module _ (limits : Limits) (channel : ℕ) (first : State) where
         more-than : (a b c : ℕ) → a ≤ b → b ≤ c → a ≤ c
         more-than a b c p q = omega (arith, p, q)
 
-    module _ (la lb lc ld : Option Traffic) (reads : ℕ) (m m' : M × W) (x y : Serving) (now now' : State) (n : ℕ) (buffer : List ℕ) (s : Served la reads m lb x now) (h : WhereTold (Hands (Ok n) buffer) lb lc) where
+    module _ (la lb lc ld : Option Traffic) (reads : ℕ) (m m' : M × W) (x y : Serving) (now now' : State) (n : ℕ) (buffer : List ℕ) (s : Served la reads m lb x now) (h : WhereTold (HandsOut (Ok n) buffer) lb lc) where
       -- the octets that were read are handled so
       handles-on : (result : Result (Option Ending) ServeFault)
           → Exchanged step m m' [] lc ld (λ more ts. Handles result y limits channel first (s.read ++ take n buffer) (s.exchanged.written ++ more) (s.exchanged.ticks ++ ts) now')

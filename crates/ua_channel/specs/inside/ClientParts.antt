@@ -22,11 +22,11 @@ use Rattle.ua_services.specs.declared.open.OpenAnswer.{OpenAnswer}
 use Rattle.ua_services.specs.declared.open.OpenAnswer.TheVariants.{Open as Opened}
 use Rattle.ua_structures.specs.declared.secure_channel.OpenResponse.{OpenResponse}
 use Rattle.ua_channel.specs.Asks.{Asking, Placed, is_in}
-use Rattle.ua_channel.specs.Client.{InPhase, Goes, GoesTelling, Ended, IsDone, phase_of, bound_of, bound_behind}
+use Rattle.ua_channel.specs.Client.{InPhase, ClientGoes, ClientGoesTelling, ClientEnded, IsClientDone, phase_of, client_bound, client_bound_behind}
 use Rattle.ua_channel.specs.ClientAsks.{Talks}
 use Rattle.ua_channel.specs.ClientTable.{client_gate, client_reasons, is_other, is_awaited, is_bad, result_of, code_in, is_outside, of_ack}
 use Rattle.ua_channel.specs.ClientTokens.{answer_in, responses, opened_ids, channel_in, held_tokens, from_last}
-use Rattle.ua_channel.specs.ClientTold.{Told, Told as told, Why, ours, peers, client_tells, told_item}
+use Rattle.ua_channel.specs.ClientTold.{ClientTold, ClientTold as told, Why, ours, peers, client_tells, told_item}
 use Rattle.ua_channel.specs.Content.{Opening, Content}
 use Rattle.ua_channel.specs.Content.Content.{Opens, Sends}
 use Rattle.ua_channel.specs.inside.Parts.{MayEndIn, parts_in}
@@ -133,7 +133,7 @@ JudgesAnswer o (Err stop) = (limits : Limits) (before : Received) (asked : List 
 -- ---- events
 
 -- an event as what frames tell; a failure tells nothing
-abbrev pub told_by : Event → List Told
+abbrev pub told_by : Event → List ClientTold
 told_by (event.Agreed ack) = told.Agreed ack ∷ []
 told_by (event.Opened channel token) = told.Opened channel token ∷ []
 told_by (event.Answered id message) = told.Answered id (concat message) ∷ []
@@ -142,7 +142,7 @@ told_by (event.Renewed token) = told.Renewed token ∷ []
 told_by (event.Failed code peer) = []
 
 -- what is told, if something is
-abbrev pub told_by_frame : Option Event → List Told
+abbrev pub told_by_frame : Option Event → List ClientTold
 told_by_frame None = []
 told_by_frame (Some e) = told_by e
 
@@ -308,7 +308,7 @@ pub record TookFrame (limits : Limits) (before : Received) (asked : List Asking)
   pub good : IsGood e
   pub parts : MayEndIn before.messages c (event_parts e)
   pub phase_is : InPhase limits (phase_of new) (after before c) asked
-  pub bound_is : bound_of new ≡ bound_behind limits (after before c).ack
+  pub bound_is : client_bound new ≡ client_bound_behind limits (after before c).ack
 
 -- a frame that carries this opened the channel, and tells it
 pub record OpensChannel (limits : Limits) (agreed : Agreed) (c : Content) (new : ClientChannel) (e : Option Event) : Type 0 where
@@ -336,8 +336,8 @@ failure_of Closed = Err take_fault.Closed
 -- the channel stopped for this, and holds nothing
 pub record Stopped (limits : Limits) (before : Received) (asked : List Asking) (c : Content) (new : ClientChannel) (why : Why) : Type 0 where
   pub refused : first_reason (client_reasons limits before asked c) ≡ Some why
-  pub done : IsDone new
-  pub bound_is : bound_of new ≡ bound_behind limits before.ack
+  pub done : IsClientDone new
+  pub bound_is : client_bound new ≡ client_bound_behind limits before.ack
 
 -- the channel goes on behind a frame that carries this, whose event this is
 pub record GoesOnBehind (limits : Limits) (before : Received) (asked : List Asking) (c : Content) (new : ClientChannel) (e : Option Event) : Type 0 where
@@ -354,7 +354,7 @@ JudgesWhole limits before asked c new (Ok (Some (event.Answered id message))) = 
 JudgesWhole limits before asked c new (Ok (Some (event.Aborted id code))) = GoesOnBehind limits before asked c new (Some (event.Aborted id code))
 JudgesWhole limits before asked c new (Ok (Some (event.Renewed token))) = GoesOnBehind limits before asked c new (Some (event.Renewed token))
 JudgesWhole limits before asked c new (Ok (Some (event.Failed code peer))) = Stopped limits before asked c new (record { code = code.code; peer = peer })
-JudgesWhole limits before asked c new (Err take_fault.OutOfMemory) = IsDone new
+JudgesWhole limits before asked c new (Err take_fault.OutOfMemory) = IsClientDone new
 JudgesWhole limits before asked c new (Err take_fault.Closed) = ⊥
 
 -- what a fault of the reader comes to
@@ -379,24 +379,24 @@ pub record IsFront (held piece front : List ℕ) : Type 0 where
 -- ---- a step
 
 -- what is told where the octets end with the frame that tells it
-abbrev pub TellsEvent : Event → ClientChannel → List Placed → List ℕ → List Told → Type 0
-TellsEvent (event.Agreed ack) new asks octets before = GoesTelling new asks octets before (told.Agreed ack)
-TellsEvent (event.Opened channel token) new asks octets before = GoesTelling new asks octets before (told.Opened channel token)
-TellsEvent (event.Answered id message) new asks octets before = GoesTelling new asks octets before (told.Answered id (concat message))
-TellsEvent (event.Aborted id code) new asks octets before = GoesTelling new asks octets before (told.GaveUp id code)
-TellsEvent (event.Renewed token) new asks octets before = GoesTelling new asks octets before (told.Renewed token)
-TellsEvent (event.Failed code peer) new asks octets before = Ended new asks octets before (record { code = code.code; peer = peer })
+abbrev pub TellsEvent : Event → ClientChannel → List Placed → List ℕ → List ClientTold → Type 0
+TellsEvent (event.Agreed ack) new asks octets before = ClientGoesTelling new asks octets before (told.Agreed ack)
+TellsEvent (event.Opened channel token) new asks octets before = ClientGoesTelling new asks octets before (told.Opened channel token)
+TellsEvent (event.Answered id message) new asks octets before = ClientGoesTelling new asks octets before (told.Answered id (concat message))
+TellsEvent (event.Aborted id code) new asks octets before = ClientGoesTelling new asks octets before (told.GaveUp id code)
+TellsEvent (event.Renewed token) new asks octets before = ClientGoesTelling new asks octets before (told.Renewed token)
+TellsEvent (event.Failed code peer) new asks octets before = ClientEnded new asks octets before (record { code = code.code; peer = peer })
 
 -- what one step answers
-abbrev pub StepsOnce : List ℕ → Result (ℕ × Option Event) ClientTakeFault → ClientChannel → List Placed → List ℕ → List Told → Type 0
-StepsOnce piece (Ok (n, None)) new asks octets before = Goes new asks (octets ++ take n piece) before
+abbrev pub StepsOnce : List ℕ → Result (ℕ × Option Event) ClientTakeFault → ClientChannel → List Placed → List ℕ → List ClientTold → Type 0
+StepsOnce piece (Ok (n, None)) new asks octets before = ClientGoes new asks (octets ++ take n piece) before
 StepsOnce piece (Ok (n, Some e)) new asks octets before = TellsEvent e new asks (octets ++ take n piece) before
-StepsOnce piece (Err take_fault.OutOfMemory) new asks octets before = IsDone new
+StepsOnce piece (Err take_fault.OutOfMemory) new asks octets before = IsClientDone new
 StepsOnce piece (Err take_fault.Closed) new asks octets before = ⊥
 
 -- what the steps up to an event answer: the event, or the whole piece was taken
-abbrev pub Advances : List ℕ → Result (ℕ × Option Event) ClientTakeFault → ClientChannel → List Placed → List ℕ → List Told → Type 0
-Advances piece (Ok (n, None)) new asks octets before = (n ≡ length piece) × Goes new asks (octets ++ piece) before
+abbrev pub Advances : List ℕ → Result (ℕ × Option Event) ClientTakeFault → ClientChannel → List Placed → List ℕ → List ClientTold → Type 0
+Advances piece (Ok (n, None)) new asks octets before = (n ≡ length piece) × ClientGoes new asks (octets ++ piece) before
 Advances piece (Ok (n, Some e)) new asks octets before = TellsEvent e new asks (octets ++ take n piece) before
-Advances piece (Err take_fault.OutOfMemory) new asks octets before = IsDone new
+Advances piece (Err take_fault.OutOfMemory) new asks octets before = IsClientDone new
 Advances piece (Err take_fault.Closed) new asks octets before = ⊥

@@ -11,7 +11,7 @@ use Rattle.ua_channel.specs.declared.step_fault.StepFault.{StepFault}
 use Rattle.ua_channel.specs.inside.ServerEvents.{told_of}
 use Rattle.ua_channel.specs.ServerStands.{limits_of, channel_of, next_of, IsDone, Goes, GoesTelling, ClosedAt, RefusedAt, StarvedAt}
 use Rattle.ua_channel.specs.ServerTold.{Told, Told as told}
-use Rattle.ua_channel.specs.ServerAnswers.{Sends, Asks}
+use Rattle.ua_channel.specs.ServerAnswers.{SendsOctets, Asks}
 use Rattle.ua_channel.specs.declared.server_event.Event.TheVariants as inner
 use Rattle.ua_channel.specs.declared.server_event.ServerEvent.TheVariants as event
 use Rattle.ua_channel.specs.declared.step_fault.StepFault.TheVariants as step
@@ -51,7 +51,7 @@ pub record Took (old now : ServerChannel) (piece : List ℕ) (taken : ℕ) : Typ
 -- what is answered to an event of the last frame
 abbrev pub Answered : ℕ → ℕ → DateTime → Result ServerEvent ChannelFault → ServerChannel → List ℕ → List Told → Type 0
 Answered channel number moment (Ok NeedMore) new octets before = ⊥
-Answered channel number moment (Ok (Send sent)) new octets before = Sends channel number moment sent.items new octets before
+Answered channel number moment (Ok (Send sent)) new octets before = SendsOctets channel number moment sent.items new octets before
 Answered channel number moment (Ok (Asked id message)) new octets before = Asks id message new octets before × (next_of new ≡ number)
 Answered channel number moment (Ok (Aborted id)) new octets before = GoesTelling new octets before (told.GaveUp id) × (next_of new ≡ number)
 Answered channel number moment (Ok event.Closed) new octets before = ClosedAt new octets (before ++ told.Closed ∷ [])

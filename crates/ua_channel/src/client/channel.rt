@@ -8,13 +8,13 @@ ghost use Rattle.ua_frame.specs.Reader.{open_reader};
 ghost use Rattle.ua_frame.specs.declared.frame.Frame.{Frame};
 ghost use Rattle.ua_channel.specs.Asks.{Asking, Placed, asked_in, next_id};
 ghost use Rattle.ua_channel.specs.Asks.Asking.{Call, Renewal};
-ghost use Rattle.ua_channel.specs.Client.{Stands, Goes, IsDone, InPhase, SameClient, limits_of, url_of, next_of, phase_of, bound_of, bound_behind, held_octets, call_refused, renewal_refused, closing_refused, JudgesLength, SendsCall, SendsRenewal, SendsClosing};
-ghost use Rattle.ua_channel.specs.ClientAnswers.{ClientAnswers, AnswersEvent, ComesInParts, Progress, parts_handed};
+ghost use Rattle.ua_channel.specs.Client.{ClientStands, ClientGoes, IsClientDone, InPhase, SameClient, client_limits, url_of, client_next, phase_of, client_bound, client_bound_behind, held_octets, call_refused, renewal_refused, closing_refused, JudgesLength, SendsCall, SendsRenewal, SendsClosing};
+ghost use Rattle.ua_channel.specs.ClientAnswers.{ClientAnswers, AnswersEvent, ComesInParts, ClientProgress, parts_handed};
 ghost use Rattle.ua_channel.specs.ClientAsks.{call_reasons, closing_reasons, renewing_reasons, Talks, AnswersFor, IsCalled, IsClosed, IsRenewed, JudgesBy};
 ghost use Rattle.ua_channel.specs.inside.ClientParts.{Judged, JudgesWhole, TookFrame, OpensChannel, StaysOpen, FailsBy, IsFront, StepsOnce, Advances, TellsEvent, greeted, event_parts};
 ghost use Rattle.ua_channel.specs.ClientSends.{hello_frame, hello_to};
 ghost use Rattle.ua_channel.specs.ClientTable.{client_gate, client_reasons, ack_gate, answer_gate, reply_gate};
-ghost use Rattle.ua_channel.specs.ClientTold.{Told};
+ghost use Rattle.ua_channel.specs.ClientTold.{ClientTold};
 ghost use Rattle.ua_channel.specs.Content.{content};
 ghost use Rattle.ua_channel.specs.inside.Parts.{HasShape};
 ghost use Rattle.ua_channel.specs.Received.{Received, nothing_received, received};
@@ -56,10 +56,10 @@ impl ClientChannel {
     /// A client with these limits, to the server of this URL, that has sent and received nothing.
     pub fn new(alloc: Global, limits: Limits, url: UaString) -> ClientChannel
         requires { IsTrue (text.encodable url) }
-        ensures stands { Stands result [] [] [] [] }
-        ensures limits { limits_of result ≡ limits }
+        ensures stands { ClientStands result [] [] [] [] }
+        ensures limits { client_limits result ≡ limits }
         ensures url { url_of result ≡ url }
-        ensures next { next_of result ≡ 2 }
+        ensures next { client_next result ≡ 2 }
     {
         let gate = Gate::new(LEAST_SIZE).taking(Kind::Ack).taking(Kind::Err);
         let mut numbers = Numbers::new();
@@ -79,11 +79,11 @@ impl ClientChannel {
 
     /// How many octets are held of what is not whole yet: of a frame, and of unfinished messages.
     pub fn held(&self) -> usize
-        ensures held { (asks : List Placed) (octets : List ℕ) (frames : List Frame) (rest : List ℕ) → Stands self.now asks octets frames rest
+        ensures held { (asks : List Placed) (octets : List ℕ) (frames : List Frame) (rest : List ℕ) → ClientStands self.now asks octets frames rest
             → result ≡ held_octets frames rest }
-        ensures bound { (asks : List Placed) (octets : List ℕ) (frames : List Frame) (rest : List ℕ) → Stands self.now asks octets frames rest
-            → result ≤ bound_of self.now }
-        ensures done { IsDone self.now → result ≡ 0 }
+        ensures bound { (asks : List Placed) (octets : List ℕ) (frames : List Frame) (rest : List ℕ) → ClientStands self.now asks octets frames rest
+            → result ≤ client_bound self.now }
+        ensures done { IsClientDone self.now → result ≡ 0 }
     {
         let _bound = self.bound();
         match &self.phase {
@@ -96,9 +96,9 @@ impl ClientChannel {
     /// sends, and 4 times the largest message that this end takes.
     #[inline]
     pub fn bound(&self) -> usize
-        ensures stands { (asks : List Placed) (octets : List ℕ) (frames : List Frame) (rest : List ℕ) → Stands self.now asks octets frames rest
-            → result ≡ bound_behind (limits_of self.now) (received frames).ack }
-        ensures is { result ≡ bound_of self.now }
+        ensures stands { (asks : List Placed) (octets : List ℕ) (frames : List Frame) (rest : List ℕ) → ClientStands self.now asks octets frames rest
+            → result ≡ client_bound_behind (client_limits self.now) (received frames).ack }
+        ensures is { result ≡ client_bound self.now }
     {
         self.bound
     }
@@ -115,9 +115,9 @@ impl ClientChannel {
 
     /// The request id of what is asked next, or of the CLO; 2 where the channel failed or was closed.
     pub fn next_id(&self) -> u32
-        ensures stands { (asks : List Placed) (octets : List ℕ) (frames : List Frame) (rest : List ℕ) → Stands self.now asks octets frames rest
+        ensures stands { (asks : List Placed) (octets : List ℕ) (frames : List Frame) (rest : List ℕ) → ClientStands self.now asks octets frames rest
             → result ≡ next_id (asked_in asks) }
-        ensures done { IsDone self.now → result ≡ 2 }
+        ensures done { IsClientDone self.now → result ≡ 2 }
     {
         match &self.phase {
             Phase::Open(talking) => talking.next,
@@ -127,7 +127,7 @@ impl ClientChannel {
 
     /// The HEL that begins the connection, whatever came so far.
     pub fn hello(&self) -> Result<Vec<u8>, AllocError>
-        ensures { IfOk result (λ out. out.items ≡ frame_octets (hello_frame (hello_to (limits_of self.now) (url_of self.now)))) }
+        ensures { IfOk result (λ out. out.items ≡ frame_octets (hello_frame (hello_to (client_limits self.now) (url_of self.now)))) }
     {
         hello_octets(self.alloc, &self.limits, &self.address.url)
     }
@@ -136,7 +136,7 @@ impl ClientChannel {
     /// which succeeds, but for memory. It takes none.
     pub fn judge(&self, before: usize, len: usize) -> Result<(), AskFault>
         ensures judges { JudgesLength self.now before len result }
-        ensures stands { (asks : List Placed) (octets : List ℕ) (frames : List Frame) (rest : List ℕ) → Stands self.now asks octets frames rest
+        ensures stands { (asks : List Placed) (octets : List ℕ) (frames : List Frame) (rest : List ℕ) → ClientStands self.now asks octets frames rest
             → JudgesBy (λ body. first_reason (call_reasons (received frames) (asked_in asks) before body)) len result }
     {
         match &self.phase {
@@ -149,22 +149,22 @@ impl ClientChannel {
     pub fn ask(&mut self, body: &[u8]) -> Result<(u32, Vec<u8>), AskFault>
         requires { 0 < length body.now }
         ensures answers { AnswersFor (call_refused self.old 0 body.now) result }
-        ensures sent { IfOk result (λ r. SendsCall self.old (next_of self.old) body.now r.0 r.1.items (next_of self.new)) }
+        ensures sent { IfOk result (λ r. SendsCall self.old (client_next self.old) body.now r.0 r.1.items (client_next self.new)) }
         // The same by what was received and asked, in the middle of a frame or of a message too.
-        ensures refuses { (asks : List Placed) (octets : List ℕ) (frames : List Frame) (rest : List ℕ) → Stands self.old asks octets frames rest
+        ensures refuses { (asks : List Placed) (octets : List ℕ) (frames : List Frame) (rest : List ℕ) → ClientStands self.old asks octets frames rest
             → AnswersFor (first_reason (call_reasons (received frames) (asked_in asks) 0 body.now)) result }
-        ensures calls { (asks : List Placed) (octets : List ℕ) (frames : List Frame) (rest : List ℕ) → Stands self.old asks octets frames rest
-            → IfOk result (λ r. IsCalled (received frames) (asked_in asks) (next_of self.old) body.now r.0 r.1.items (next_of self.new)) }
-        ensures stands { (asks : List Placed) (octets : List ℕ) (frames : List Frame) (rest : List ℕ) → Stands self.old asks octets frames rest
-            → IfOk result (λ r. Stands self.new (asks ++ (length octets, Call r.0) ∷ []) octets frames rest) }
+        ensures calls { (asks : List Placed) (octets : List ℕ) (frames : List Frame) (rest : List ℕ) → ClientStands self.old asks octets frames rest
+            → IfOk result (λ r. IsCalled (received frames) (asked_in asks) (client_next self.old) body.now r.0 r.1.items (client_next self.new)) }
+        ensures stands { (asks : List Placed) (octets : List ℕ) (frames : List Frame) (rest : List ℕ) → ClientStands self.old asks octets frames rest
+            → IfOk result (λ r. ClientStands self.new (asks ++ (length octets, Call r.0) ∷ []) octets frames rest) }
 
         // After a fault the channel stands as before, and sends next what it would have sent.
-        ensures kept { (asks : List Placed) (octets : List ℕ) (frames : List Frame) (rest : List ℕ) → Stands self.old asks octets frames rest
-            → OnErr result (Stands self.new asks octets frames rest) }
-        ensures next { OnErr result (next_of self.new ≡ next_of self.old) }
-        ensures done { IsDone self.old → (result ≡ Err NotOpen) × (self.new ≡ self.old) }
+        ensures kept { (asks : List Placed) (octets : List ℕ) (frames : List Frame) (rest : List ℕ) → ClientStands self.old asks octets frames rest
+            → OnErr result (ClientStands self.new asks octets frames rest) }
+        ensures next { OnErr result (client_next self.new ≡ client_next self.old) }
+        ensures done { IsClientDone self.old → (result ≡ Err NotOpen) × (self.new ≡ self.old) }
         ensures same { SameClient self.old self.new }
-        ensures bound { bound_of self.new ≡ bound_of self.old }
+        ensures bound { client_bound self.new ≡ client_bound self.old }
     {
         match &mut self.phase {
             Phase::Open(talking) => talking.ask(self.alloc, body, &mut self.numbers),
@@ -175,17 +175,17 @@ impl ClientChannel {
     /// The OPN that asks for a further token (OPC 10000-4, 5.6.2), and its request id.
     pub fn renew(&mut self, moment: DateTime) -> Result<(u32, Vec<u8>), AskFault>
         ensures answers { AnswersFor (renewal_refused self.old) result }
-        ensures sent { IfOk result (λ r. SendsRenewal self.old (next_of self.old) moment r.0 r.1.items (next_of self.new)) }
+        ensures sent { IfOk result (λ r. SendsRenewal self.old (client_next self.old) moment r.0 r.1.items (client_next self.new)) }
         // The same by what was received and asked.
-        ensures refuses { (asks : List Placed) (octets : List ℕ) (frames : List Frame) (rest : List ℕ) → Stands self.old asks octets frames rest
+        ensures refuses { (asks : List Placed) (octets : List ℕ) (frames : List Frame) (rest : List ℕ) → ClientStands self.old asks octets frames rest
             → AnswersFor (first_reason (renewing_reasons (received frames) (asked_in asks))) result }
-        ensures renews { (asks : List Placed) (octets : List ℕ) (frames : List Frame) (rest : List ℕ) → Stands self.old asks octets frames rest
-            → IfOk result (λ r. IsRenewed (received frames) (asked_in asks) (next_of self.old) moment r.0 r.1.items (next_of self.new)) }
-        ensures stands { (asks : List Placed) (octets : List ℕ) (frames : List Frame) (rest : List ℕ) → Stands self.old asks octets frames rest
-            → IfOk result (λ r. Stands self.new (asks ++ (length octets, Renewal r.0) ∷ []) octets frames rest) }
+        ensures renews { (asks : List Placed) (octets : List ℕ) (frames : List Frame) (rest : List ℕ) → ClientStands self.old asks octets frames rest
+            → IfOk result (λ r. IsRenewed (received frames) (asked_in asks) (client_next self.old) moment r.0 r.1.items (client_next self.new)) }
+        ensures stands { (asks : List Placed) (octets : List ℕ) (frames : List Frame) (rest : List ℕ) → ClientStands self.old asks octets frames rest
+            → IfOk result (λ r. ClientStands self.new (asks ++ (length octets, Renewal r.0) ∷ []) octets frames rest) }
         ensures unchanged { OnErr result (self.new ≡ self.old) }
         ensures same { SameClient self.old self.new }
-        ensures bound { bound_of self.new ≡ bound_of self.old }
+        ensures bound { client_bound self.new ≡ client_bound self.old }
     {
         match &mut self.phase {
             Phase::Open(talking) => talking.renew(self.alloc, moment, &mut self.numbers),
@@ -196,16 +196,16 @@ impl ClientChannel {
     /// The CLO, after which the channel is closed.
     pub fn close(&mut self, moment: DateTime) -> Result<Vec<u8>, AskFault>
         ensures answers { AnswersFor (closing_refused self.old) result }
-        ensures sent { IfOk result (λ out. SendsClosing self.old (next_of self.old) moment out.items) }
+        ensures sent { IfOk result (λ out. SendsClosing self.old (client_next self.old) moment out.items) }
         // The same by what was received and asked.
-        ensures refuses { (asks : List Placed) (octets : List ℕ) (frames : List Frame) (rest : List ℕ) → Stands self.old asks octets frames rest
+        ensures refuses { (asks : List Placed) (octets : List ℕ) (frames : List Frame) (rest : List ℕ) → ClientStands self.old asks octets frames rest
             → AnswersFor (first_reason (closing_reasons (received frames))) result }
-        ensures closes { (asks : List Placed) (octets : List ℕ) (frames : List Frame) (rest : List ℕ) → Stands self.old asks octets frames rest
-            → IfOk result (λ out. IsClosed (received frames) (asked_in asks) (next_of self.old) moment out.items) }
-        ensures done { OnOk result (IsDone self.new) }
+        ensures closes { (asks : List Placed) (octets : List ℕ) (frames : List Frame) (rest : List ℕ) → ClientStands self.old asks octets frames rest
+            → IfOk result (λ out. IsClosed (received frames) (asked_in asks) (client_next self.old) moment out.items) }
+        ensures done { OnOk result (IsClientDone self.new) }
         ensures unchanged { OnErr result (self.new ≡ self.old) }
         ensures same { SameClient self.old self.new }
-        ensures bound { bound_of self.new ≡ bound_of self.old }
+        ensures bound { client_bound self.new ≡ client_bound self.old }
     {
         let out = self.closing(moment)?;
         self.end();
@@ -214,11 +214,11 @@ impl ClientChannel {
 
     fn closing(&self, moment: DateTime) -> Result<Vec<u8>, AskFault>
         ensures answers { AnswersFor (closing_refused self.now) result }
-        ensures sent { IfOk result (λ out. SendsClosing self.now (next_of self.now) moment out.items) }
-        ensures refuses { (asks : List Placed) (octets : List ℕ) (frames : List Frame) (rest : List ℕ) → Stands self.now asks octets frames rest
+        ensures sent { IfOk result (λ out. SendsClosing self.now (client_next self.now) moment out.items) }
+        ensures refuses { (asks : List Placed) (octets : List ℕ) (frames : List Frame) (rest : List ℕ) → ClientStands self.now asks octets frames rest
             → AnswersFor (first_reason (closing_reasons (received frames))) result }
-        ensures closes { (asks : List Placed) (octets : List ℕ) (frames : List Frame) (rest : List ℕ) → Stands self.now asks octets frames rest
-            → IfOk result (λ out. IsClosed (received frames) (asked_in asks) (next_of self.now) moment out.items) }
+        ensures closes { (asks : List Placed) (octets : List ℕ) (frames : List Frame) (rest : List ℕ) → ClientStands self.now asks octets frames rest
+            → IfOk result (λ out. IsClosed (received frames) (asked_in asks) (client_next self.now) moment out.items) }
     {
         match &self.phase {
             Phase::Open(talking) => {
@@ -241,10 +241,10 @@ impl ClientChannel {
 
     /// Ends the channel, which then holds nothing.
     fn end(&mut self)
-        ensures done { IsDone self.new }
+        ensures done { IsClientDone self.new }
         ensures same { SameClient self.old self.new }
-        ensures bound { bound_of self.new ≡ bound_of self.old }
-        ensures next { next_of self.new ≡ next_of self.old }
+        ensures bound { client_bound self.new ≡ client_bound self.old }
+        ensures next { client_next self.new ≡ client_next self.old }
     {
         self.phase = Phase::Done;
         self.reader.close();
@@ -252,9 +252,9 @@ impl ClientChannel {
 
     /// Takes the frame behind a HEL.
     fn on_greeting(&mut self, frame: Frame) -> Result<Option<Event>, Stop>
-        ensures judges { LetsIn ack_gate frame → Judged (client_reasons (limits_of self.old) nothing_received [] (content frame))
-            (TookFrame (limits_of self.old) nothing_received [] (content frame) self.new) result }
-        ensures kept { self.new ≡ record self.old { phase = phase_of self.new; bound = bound_of self.new } }
+        ensures judges { LetsIn ack_gate frame → Judged (client_reasons (client_limits self.old) nothing_received [] (content frame))
+            (TookFrame (client_limits self.old) nothing_received [] (content frame) self.new) result }
+        ensures kept { self.new ≡ record self.old { phase = phase_of self.new; bound = client_bound self.new } }
         ensures failed { OnErr result (self.new ≡ self.old) }
     {
         match greet(self.alloc, &self.limits, frame) {
@@ -270,8 +270,8 @@ impl ClientChannel {
 
     /// Takes the frame behind an ACK.
     fn on_opening(&mut self, agreed: Agreed, frame: Frame) -> Result<Option<Event>, Stop>
-        ensures judges { LetsIn (answer_gate agreed.ack.send_buffer_size) frame → Judged (client_reasons (limits_of self.old) (greeted agreed) [] (content frame))
-            (OpensChannel (limits_of self.old) agreed (content frame) self.new) result }
+        ensures judges { LetsIn (answer_gate agreed.ack.send_buffer_size) frame → Judged (client_reasons (client_limits self.old) (greeted agreed) [] (content frame))
+            (OpensChannel (client_limits self.old) agreed (content frame) self.new) result }
         ensures kept { self.new ≡ record self.old { phase = phase_of self.new } }
         ensures failed { OnErr result (self.new ≡ self.old) }
     {
@@ -288,9 +288,9 @@ impl ClientChannel {
     /// Takes a frame of an open channel.
     fn on_reply(&mut self, mut talking: Talking, frame: Frame) -> Result<Option<Event>, Stop>
         requires { HasShape frame }
-        ensures judges { (before : Received) (asked : List Asking) → Talks (limits_of self.old) talking before asked
+        ensures judges { (before : Received) (asked : List Asking) → Talks (client_limits self.old) talking before asked
             → LetsIn (reply_gate talking.agreed.ack.send_buffer_size) frame
-            → Judged (client_reasons (limits_of self.old) before asked (content frame)) (StaysOpen (limits_of self.old) before asked (content frame) self.new) result }
+            → Judged (client_reasons (client_limits self.old) before asked (content frame)) (StaysOpen (client_limits self.old) before asked (content frame) self.new) result }
         ensures kept { self.new ≡ record self.old { phase = phase_of self.new } }
         ensures failed { OnErr result (self.new ≡ self.old) }
     {
@@ -306,11 +306,11 @@ impl ClientChannel {
     /// Goes on by a frame.
     fn on_frame(&mut self, frame: Frame) -> Result<Option<Event>, Stop>
         requires { HasShape frame }
-        ensures judges { (before : Received) (asked : List Asking) → InPhase (limits_of self.old) (phase_of self.old) before asked
-            → bound_of self.old ≡ bound_behind (limits_of self.old) before.ack → LetsIn (client_gate before) frame
-            → Judged (client_reasons (limits_of self.old) before asked (content frame)) (TookFrame (limits_of self.old) before asked (content frame) self.new) result }
-        ensures kept { self.new ≡ record self.old { phase = phase_of self.new; bound = bound_of self.new } }
-        ensures failed { OnErr result (bound_of self.new ≡ bound_of self.old) }
+        ensures judges { (before : Received) (asked : List Asking) → InPhase (client_limits self.old) (phase_of self.old) before asked
+            → client_bound self.old ≡ client_bound_behind (client_limits self.old) before.ack → LetsIn (client_gate before) frame
+            → Judged (client_reasons (client_limits self.old) before asked (content frame)) (TookFrame (client_limits self.old) before asked (content frame) self.new) result }
+        ensures kept { self.new ≡ record self.old { phase = phase_of self.new; bound = client_bound self.new } }
+        ensures failed { OnErr result (client_bound self.new ≡ client_bound self.old) }
     {
         match mem::replace(&mut self.phase, Phase::Done) {
             Phase::Waiting => self.on_greeting(frame),
@@ -324,11 +324,11 @@ impl ClientChannel {
     fn on_whole(&mut self, frame: Frame) -> Result<Option<Event>, ClientTakeFault>
         requires shape { HasShape frame }
         requires empty { self.old.reader.held ≡ [] }
-        ensures judges { (before : Received) (asked : List Asking) → InPhase (limits_of self.old) (phase_of self.old) before asked
-            → bound_of self.old ≡ bound_behind (limits_of self.old) before.ack → self.old.reader ≡ open_reader (client_gate before) [] → LetsIn (client_gate before) frame
-            → JudgesWhole (limits_of self.old) before asked (content frame) self.new result }
+        ensures judges { (before : Received) (asked : List Asking) → InPhase (client_limits self.old) (phase_of self.old) before asked
+            → client_bound self.old ≡ client_bound_behind (client_limits self.old) before.ack → self.old.reader ≡ open_reader (client_gate before) [] → LetsIn (client_gate before) frame
+            → JudgesWhole (client_limits self.old) before asked (content frame) self.new result }
         ensures same { SameClient self.old self.new }
-        ensures next { next_of self.new ≡ next_of self.old }
+        ensures next { client_next self.new ≡ client_next self.old }
     {
         match self.on_frame(frame) {
             Ok(event) => {
@@ -345,10 +345,10 @@ impl ClientChannel {
     /// What a fault of the reader comes to.
     fn on_fault(&mut self, fault: FrameFault) -> Result<Option<Event>, ClientTakeFault>
         ensures failure { FailsBy fault result }
-        ensures done { IsDone self.new }
+        ensures done { IsClientDone self.new }
         ensures same { SameClient self.old self.new }
-        ensures bound { bound_of self.new ≡ bound_of self.old }
-        ensures next { next_of self.new ≡ next_of self.old }
+        ensures bound { client_bound self.new ≡ client_bound self.old }
+        ensures next { client_next self.new ≡ client_next self.old }
     {
         self.end();
         match fault.code() {
@@ -371,12 +371,12 @@ impl ClientChannel {
 
     /// One call of the reader, and what its frame comes to.
     fn step(&mut self, piece: &[u8]) -> Result<(usize, Option<Event>), ClientTakeFault>
-        ensures steps { (asks : List Placed) (octets : List ℕ) (told : List Told) → Goes self.old asks octets told → StepsOnce piece.now result self.new asks octets told }
-        ensures parts { (asks : List Placed) (octets : List ℕ) (told : List Told) → Goes self.old asks octets told
+        ensures steps { (asks : List Placed) (octets : List ℕ) (told : List ClientTold) → ClientGoes self.old asks octets told → StepsOnce piece.now result self.new asks octets told }
+        ensures parts { (asks : List Placed) (octets : List ℕ) (told : List ClientTold) → ClientGoes self.old asks octets told
             → IfOk result (λ r. ComesInParts (event_parts r.1) self.new asks (octets ++ take r.0 piece.now)) }
-        ensures progress { Progress piece.now result }
+        ensures progress { ClientProgress piece.now result }
         ensures same { SameClient self.old self.new }
-        ensures next { next_of self.new ≡ next_of self.old }
+        ensures next { client_next self.new ≡ client_next self.old }
     {
         let front = self.front(piece);
         match self.reader.take(front) {
@@ -396,13 +396,13 @@ impl ClientChannel {
 
     /// Takes octets up to the end of the first frame that tells something, else the whole piece.
     fn advance(&mut self, piece: &[u8]) -> Result<(usize, Option<Event>), ClientTakeFault>
-        ensures advances { (asks : List Placed) (octets : List ℕ) (told : List Told) → Goes self.old asks octets told → Advances piece.now result self.new asks octets told }
-        ensures parts { (asks : List Placed) (octets : List ℕ) (told : List Told) → Goes self.old asks octets told
+        ensures advances { (asks : List Placed) (octets : List ℕ) (told : List ClientTold) → ClientGoes self.old asks octets told → Advances piece.now result self.new asks octets told }
+        ensures parts { (asks : List Placed) (octets : List ℕ) (told : List ClientTold) → ClientGoes self.old asks octets told
             → IfOk result (λ r. ComesInParts (event_parts r.1) self.new asks (octets ++ take r.0 piece.now)) }
-        ensures progress { Progress piece.now result }
-        ensures closed { IsDone self.old → (result ≡ Err Closed) × (self.new ≡ self.old) }
+        ensures progress { ClientProgress piece.now result }
+        ensures closed { IsClientDone self.old → (result ≡ Err Closed) × (self.new ≡ self.old) }
         ensures same { SameClient self.old self.new }
-        ensures next { next_of self.new ≡ next_of self.old }
+        ensures next { client_next self.new ≡ client_next self.old }
     {
         if let Phase::Done = self.phase {
             return Err(ClientTakeFault::Closed);
@@ -420,12 +420,12 @@ impl ClientChannel {
 
     /// What is answered at an event. The moment is that of the OPN.
     fn answer(&mut self, event: Event, moment: DateTime) -> Result<ClientEvent, ClientTakeFault>
-        ensures answers { (asks : List Placed) (octets : List ℕ) (told : List Told) → TellsEvent event self.old asks octets told
+        ensures answers { (asks : List Placed) (octets : List ℕ) (told : List ClientTold) → TellsEvent event self.old asks octets told
             → AnswersEvent moment result self.new asks octets told }
         ensures parts { (asks : List Placed) (octets : List ℕ) → ComesInParts (event_parts (Some event)) self.old asks octets
             → IfOk result (λ e. ComesInParts (parts_handed e) self.new asks octets) }
         ensures same { SameClient self.old self.new }
-        ensures next { next_of self.new ≡ next_of self.old }
+        ensures next { client_next self.new ≡ client_next self.old }
     {
         match event {
             Event::Agreed(_) => match open_octets(self.alloc, moment) {
@@ -450,14 +450,14 @@ impl ClientChannel {
         piece: &[u8],
         moment: DateTime,
     ) -> Result<(usize, ClientEvent), ClientTakeFault>
-        ensures answers { (asks : List Placed) (octets : List ℕ) (told : List Told) → Goes self.old asks octets told
+        ensures answers { (asks : List Placed) (octets : List ℕ) (told : List ClientTold) → ClientGoes self.old asks octets told
             → ClientAnswers moment piece.now result self.new asks octets told }
-        ensures parts { (asks : List Placed) (octets : List ℕ) (told : List Told) → Goes self.old asks octets told
+        ensures parts { (asks : List Placed) (octets : List ℕ) (told : List ClientTold) → ClientGoes self.old asks octets told
             → IfOk result (λ r. ComesInParts (parts_handed r.1) self.new asks (octets ++ take r.0 piece.now)) }
-        ensures progress { Progress piece.now result }
-        ensures closed { IsDone self.old → (result ≡ Err Closed) × (self.new ≡ self.old) }
+        ensures progress { ClientProgress piece.now result }
+        ensures closed { IsClientDone self.old → (result ≡ Err Closed) × (self.new ≡ self.old) }
         ensures same { SameClient self.old self.new }
-        ensures next { next_of self.new ≡ next_of self.old }
+        ensures next { client_next self.new ≡ client_next self.old }
     {
         match self.advance(piece) {
             Ok((n, found)) => match found {
@@ -479,17 +479,17 @@ impl ClientChannel {
         piece: &[u8],
         moment: DateTime,
     ) -> Result<(usize, ClientEvent), ClientTakeFault>
-        ensures answers { (asks : List Placed) (octets : List ℕ) (told : List Told) → Goes self.old asks octets told
+        ensures answers { (asks : List Placed) (octets : List ℕ) (told : List ClientTold) → ClientGoes self.old asks octets told
             → ClientAnswers moment piece.now result self.new asks octets told }
         // A message that is handed out is the bodies of its chunks: nothing is joined.
-        ensures parts { (asks : List Placed) (octets : List ℕ) (told : List Told) → Goes self.old asks octets told
+        ensures parts { (asks : List Placed) (octets : List ℕ) (told : List ClientTold) → ClientGoes self.old asks octets told
             → IfOk result (λ r. ComesInParts (parts_handed r.1) self.new asks (octets ++ take r.0 piece.now)) }
-        ensures progress { Progress piece.now result }
-        ensures closed { IsDone self.old → (result ≡ Err Closed) × (self.new ≡ self.old) }
+        ensures progress { ClientProgress piece.now result }
+        ensures closed { IsClientDone self.old → (result ≡ Err Closed) × (self.new ≡ self.old) }
         // After want of memory, the bound is what it was before the call.
-        ensures starved { IsErrOf result OutOfMemory → bound_of self.new ≡ bound_of self.old }
+        ensures starved { IsErrOf result OutOfMemory → client_bound self.new ≡ client_bound self.old }
         ensures same { SameClient self.old self.new }
-        ensures next { next_of self.new ≡ next_of self.old }
+        ensures next { client_next self.new ≡ client_next self.old }
     {
         let bound = self.bound;
         match self.go_on(piece, moment) {

@@ -10,7 +10,7 @@ ghost use Rattle.ua_chunk.specs.Cutting.{pieces};
 ghost use Rattle.ua_chunk.specs.Refusal.{passes};
 ghost use Rattle.ua_channel.specs.Asks.{Asking};
 ghost use Rattle.ua_channel.specs.Asks.Asking.{Call, Renewal};
-ghost use Rattle.ua_channel.specs.ClientAsks.{Talks, lane_of, renew_reasons, is_too_large, Calls, Renews, AnswersFor};
+ghost use Rattle.ua_channel.specs.ClientAsks.{Talks, call_lane, renew_reasons, is_too_large, Calls, Renews, AnswersFor};
 ghost use Rattle.ua_channel.specs.inside.ClientAsking.{more_reasons, AnswersCall, JudgesCall, AsBefore};
 ghost use Rattle.ua_channel.specs.inside.ClientParts.{Judged, greeted, first_reasons, IsOpenedWith, IsOpenedBy, renewal_reasons, IsRenewedWith, TellsRenewal, token_reasons, chunk_reasons, refused_reasons, unasked_reasons, known_reasons, any_event, drops_first, left_behind, IsAccepted, IsDeliveredWith, IsTakenWith, TakesFrame, DeliversEvent};
 ghost use Rattle.ua_channel.specs.ClientTable.{client_reasons, answer_gate, reply_gate};
@@ -281,7 +281,7 @@ impl Talking {
 
     /// Where calls go.
     fn lane(&self) -> Lane
-        ensures lane { result ≡ lane_of self.now }
+        ensures lane { result ≡ call_lane self.now.agreed.ack self.now.channel self.now.newest }
         ensures room { 0 < result.room }
         ensures size { result.room + 24 < 2 ^ 32 }
     {

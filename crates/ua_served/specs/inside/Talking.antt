@@ -6,7 +6,7 @@ use Rattle.ua_builtin.specs.declared.date_time.DateTime.{DateTime}
 use Rattle.ua_frame.specs.Agreement.{ack_to}
 use Rattle.ua_frame.specs.Messages.{ack, hello}
 use Rattle.ua_frame.specs.declared.limits.Limits.{Limits}
-use Rattle.ua_channel.specs.Client.{limits_of}
+use Rattle.ua_channel.specs.Client.{client_limits}
 use Rattle.ua_channel.specs.ClientReads.{AtClient}
 use Rattle.ua_channel.specs.ClientSends.{hello_to}
 use Rattle.ua_channel.specs.Line.{Traffic, WhereTold}
@@ -47,7 +47,7 @@ pub record CanOpen (b : Beginning) (limits : Limits) (url : Option (List ℕ)) (
 -- a client with these limits stands here, at a settled place: of these octets, which told such a server this, it took all that the server says,
 -- and both are in step; this is the newest token, this the next request id, and it holds so many tokens
 pub record IsServed (b : Beginning) (limits : Limits) (url : Option (List ℕ)) (octets : List ℕ) (told : List Told) (token id held : ℕ) (site : Site) (x : ClientChannel) : Type 0 where
-  pub limits_are : limits_of x ≡ limits
+  pub limits_are : client_limits x ≡ limits
   pub on : b.channel < 2 ^ 32
   pub settled : IsSettled site
   pub at_server : AtServer

@@ -1,13 +1,13 @@
 use Rattle.std.specs.Prelude.{List, ℕ}
 use Rattle.ua_channel.specs.Asks.{Placed}
-use Rattle.ua_channel.specs.ClientTold.{Told}
+use Rattle.ua_channel.specs.ClientTold.{ClientTold}
 use Rattle.ua_channel.specs.declared.client.fault.ClientTakeFault.TheVariants.{OutOfMemory}
 use Rattle.ua_pinned.specs.Clients.{ClientsAlike}
 use Rattle.ua_pinned.specs.Pinned.{HadMemory}
 use Rattle.ua_pinned.proofs.ClientsAlike.{Both, alike}
 use Rattle.ua_pinned.proofs.clients.client_take_twice.Goals as goal
 
-both : (c : goal.After-take-second) (asks : List Placed) (octets : List ℕ) (told : List Told) → ClientsAlike c.args.one.now c.args.two.now asks octets told → HadMemory OutOfMemory c.take-first.result c.take-second.result → Both c.take-first.result c.take-second.result c.take-first.new.self c.take-second.new.self asks octets c.args.piece.now told
+both : (c : goal.After-take-second) (asks : List Placed) (octets : List ℕ) (told : List ClientTold) → ClientsAlike c.args.one.now c.args.two.now asks octets told → HadMemory OutOfMemory c.take-first.result c.take-second.result → Both c.take-first.result c.take-second.result c.take-first.new.self c.take-second.new.self asks octets c.args.piece.now told
 both c asks octets told s had =
     alike _ _ _ _ c.args.moment c.args.piece.now octets asks told _ _ s
     (record { answers = c.take-first.ensures.answers asks octets told s.first; parts = c.take-first.ensures.parts asks octets told s.first; progress = c.take-first.ensures.progress; same = c.take-first.ensures.same; next = c.take-first.ensures.next })

@@ -1,7 +1,7 @@
 use Rattle.std.proofs.Common.{sym, ◌∙◌, ap, List}
 use Rattle.ua_frame.specs.declared.frame.Frame.{Frame}
 use Rattle.ua_frame.specs.declared.limits.Limits.{Limits}
-use Rattle.ua_channel.specs.Client.{limits_of, bound_behind, held_octets}
+use Rattle.ua_channel.specs.Client.{client_limits, client_bound_behind, held_octets}
 use Rattle.ua_channel.specs.Received.{received}
 use Rattle.ua_pinned.proofs.AsksAlike.{same_frames, same_rests}
 use Rattle.ua_pinned.proofs.clients.client_tells_twice.Goals as goal
@@ -15,8 +15,8 @@ returns-clause-held c = λ asks octets told s.
 pub returns-clause-bound : goal.returns-clause-bound
 returns-clause-bound c = λ asks octets told s.
     c.bound.ensures.stands asks octets s.first.frames s.first.rest s.first.stands
-    ∙ (ap (λ (l : Limits). bound_behind l (received s.first.frames).ack) s.limits
-    ∙ (ap (λ (fs : List Frame). bound_behind (limits_of c.args.two.now) (received fs).ack) (same_frames c.args.one.now c.args.two.now asks octets told s) ∙ sym (c.bound-2.ensures.stands asks octets s.second.frames s.second.rest s.second.stands)))
+    ∙ (ap (λ (l : Limits). client_bound_behind l (received s.first.frames).ack) s.limits
+    ∙ (ap (λ (fs : List Frame). client_bound_behind (client_limits c.args.two.now) (received fs).ack) (same_frames c.args.one.now c.args.two.now asks octets told s) ∙ sym (c.bound-2.ensures.stands asks octets s.second.frames s.second.rest s.second.stands)))
 
 pub returns-clause-next : goal.returns-clause-next
 returns-clause-next c = λ asks octets told s.

@@ -1,5 +1,5 @@
 use Rattle.std.proofs.Common.{ℕ, List, Ok, Err, refl, sym, subst}
-use Rattle.ua_channel.specs.ClientAnswers.{Progress}
+use Rattle.ua_channel.specs.ClientAnswers.{ClientProgress}
 use Rattle.ua_channel.specs.declared.client.event.ClientEvent.{ClientEvent}
 use Rattle.ua_channel.specs.declared.client.event.ClientEvent.TheVariants as event
 use Rattle.ua_client.specs.Hearing.{Listens}
@@ -43,6 +43,6 @@ returns-in_default c =
     record {
       listens = listens-some c.args.self.now new c.args.moment c.in-Ok.found.0 c.in-Ok.found.1 (record { same = c.take-found.ensures.same; next = c.take-found.ensures.next })
           c.in_default.not-NeedMore c.in_default.not-Failed
-          (subst (λ (p : List ℕ). Progress {A = ClientEvent} p (Ok (c.in-Ok.found.0, c.in-Ok.found.1))) c.untaken.ensures.value c.in-Ok.ensures.progress)
+          (subst (λ (p : List ℕ). ClientProgress {A = ClientEvent} p (Ok (c.in-Ok.found.0, c.in-Ok.found.1))) c.untaken.ensures.value c.in-Ok.ensures.progress)
           c.skip-in_default.ensures h;
     }
