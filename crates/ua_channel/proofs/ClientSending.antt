@@ -1,6 +1,6 @@
 -- What a client sends when it is asked, and why it sends nothing.
 use Rattle.std.proofs.Common.{◌≡◌, ℕ, ◌+◌, ◌<◌, zero, suc, List, [], ◌∷◌, ◌++◌, Bool, true, false, Option, Some, None, Result, Ok, Err, length, refl, sym, ◌∙◌, ap, subst, arith, append-nil, append_assoc, length-append}
-use Rattle.std.specs.Prelude.{is_none, is_some}
+use Rattle.std.specs.Prelude.{is_none, is_some, MatchOption}
 use Rattle.std.specs.List.{AllByRecursion}
 use Rattle.ua_octets.proofs.Readers.{some_is}
 use Rattle.ua_builtin.specs.Reasons.{first_reason}
@@ -17,14 +17,14 @@ use Rattle.ua_chunk.specs.declared.chunk.Chunk.{Chunk}
 use Rattle.ua_structures.specs.declared.secure_channel.OpenResponse.{OpenResponse}
 use Rattle.ua_channel.specs.Asks.{Asking, Placed, asked_in, next_id, pending_calls, pending_renewals}
 use Rattle.ua_channel.specs.Asks.Asking.{Call}
-use Rattle.ua_channel.specs.Client.{InPhase, IsCall, IsClosing, IsNotOpen, IsRenewal, ClientStands, ask_refusal, close_refusal, client_limits, phase_of, renew_refusal, client_rules_of}
-use Rattle.ua_channel.specs.ClientAsks.{Calls, IsCalled, IsClosed, IsRenewed, JudgesBy, Renews, Talks, ask_reasons, call_lane, call_reasons, calls_at, closing_reasons, has_no_channel, is_too_large, reasons_of_call, reasons_of_renewal, renew_reasons, renewing_reasons, room_of}
-use Rattle.ua_channel.specs.ClientReads.{AtClient, ClientReads, lane_from, reasons_here, renew_reasons_here}
+use Rattle.ua_channel.specs.Client.{InPhase, IsCall, IsClosing, IsNotOpen, IsRenewal, ClientStands, ask_refusal, close_refusal, client_limits, phase_of, refusal_in, renew_refusal, client_rules_of, talking_in}
+use Rattle.ua_channel.specs.ClientAsks.{Calls, IsCalled, IsClosed, IsRenewed, JudgesBy, Renews, Talks, ask_reasons, call_lane, call_reasons, calls_at, closing_octets, closing_reasons, has_no_channel, is_too_large, reasons_of_call, reasons_of_renewal, renew_reasons, renewing_reasons, room_of}
+use Rattle.ua_channel.specs.ClientReads.{AtClient, ClientReads, lane_from}
 use Rattle.ua_channel.specs.ClientSends.{close_frame, renewal_frame}
 use Rattle.ua_channel.specs.ClientTable.{of_ack}
 use Rattle.ua_channel.specs.ClientTokens.{channel_in, held_tokens, opened_ids, responses}
 use Rattle.ua_channel.specs.ClientTold.{ClientTold}
-use Rattle.ua_channel.specs.Received.{Received, has_some, latest, listed, nothing_received, received}
+use Rattle.ua_channel.specs.Received.{Received, has_some, latest, listed, received}
 use Rattle.ua_channel.specs.declared.client.channel.ClientChannel.{ClientChannel}
 use Rattle.ua_channel.specs.declared.client.fault.AskFault.{AskFault}
 use Rattle.ua_channel.specs.declared.client.fault.AskFault.TheVariants.{NotOpen}
@@ -52,88 +52,73 @@ some_listed (Some n) = refl
 
 -- ---- by what was received and asked
 
-shut_first : (before : Received) → responses before.openings ≡ [] → has_no_channel before ≡ true
-shut_first before none = ap (λ (rs : List OpenResponse). is_none (channel_in rs)) none
-
 module _ (limits : Limits) (before : Received) (asked : List Asking) where
-  none_waiting : before ≡ nothing_received → has_no_channel before ≡ true
-  none_waiting e = shut_first before (ap (λ (b : Received). responses b.openings) e ∙ no_responses)
-
-  none_agreed : (a : Ack) → before ≡ record nothing_received { ack = Some a } → has_no_channel before ≡ true
-  none_agreed a e = shut_first before (ap (λ (b : Received). responses b.openings) e ∙ no_responses)
-
   -- what an open channel sends
+  open_sends : (p : Phase) (P : Talking → Type 0) → InPhase limits p before asked → MatchOption (talking_in p) ⊥ P → (t : Talking) × Talks limits t before asked × P t
+  open_sends Waiting P h c = absurd c
+  open_sends (Agreed a) P h c = absurd c
+  open_sends (Open t) P h c = (t, h, c)
+  open_sends Done P h c = absurd c
+
   pub call_sent : (p : Phase) (number : ℕ) (body : List ℕ) (id : ℕ) (out : List ℕ) (next : ℕ) → InPhase limits p before asked → IsCall p number body id out next → IsCalled before asked number body id out next
-  call_sent Waiting number body id out next h c = absurd c
-  call_sent (Agreed a) number body id out next h c = absurd c
-  call_sent (Open t) number body id out next h c = record {
-    ack = t.agreed.ack;
-    channel = t.channel;
-    newest = t.newest;
-    is_open = record { ack_is = h.ack_is; channel_is = h.channel_is; newest_is = h.newest_is };
-    id_is = c.id_is ∙ h.next_is;
-    out_is = c.out_is;
-    next_is = c.next_is;
-  }
-  call_sent Done number body id out next h c = absurd c
+  call_sent p number body id out next h c =
+      let o = open_sends p (λ (t : Talking). Calls t number body id out next) h c in
+      record {
+        ack = o.0.agreed.ack;
+        channel = o.0.channel;
+        newest = o.0.newest;
+        is_open = record { ack_is = o.1.ack_is; channel_is = o.1.channel_is; newest_is = o.1.newest_is };
+        id_is = o.2.id_is ∙ o.1.next_is;
+        out_is = o.2.out_is;
+        next_is = o.2.next_is;
+      }
 
   pub renewal_sent : (p : Phase) (number : ℕ) (moment : DateTime) (id : ℕ) (out : List ℕ) (next : ℕ) → InPhase limits p before asked → IsRenewal p number moment id out next
       → IsRenewed before asked number moment id out next
-  renewal_sent Waiting number moment id out next h c = absurd c
-  renewal_sent (Agreed a) number moment id out next h c = absurd c
-  renewal_sent (Open t) number moment id out next h c = record { channel = t.channel; channel_is = h.channel_is; id_is = c.id_is ∙ h.next_is; out_is = c.out_is; next_is = c.next_is }
-  renewal_sent Done number moment id out next h c = absurd c
+  renewal_sent p number moment id out next h c =
+      let o = open_sends p (λ (t : Talking). Renews t number moment id out next) h c in
+      record { channel = o.0.channel; channel_is = o.1.channel_is; id_is = o.2.id_is ∙ o.1.next_is; out_is = o.2.out_is; next_is = o.2.next_is }
 
   pub close_sent : (p : Phase) (number : ℕ) (moment : DateTime) (out : List ℕ) → InPhase limits p before asked → IsClosing p number moment out → IsClosed before asked number moment out
-  close_sent Waiting number moment out h c = absurd c
-  close_sent (Agreed a) number moment out h c = absurd c
-  close_sent (Open t) number moment out h c = record {
-    channel = t.channel;
-    newest = t.newest;
-    channel_is = h.channel_is;
-    newest_is = h.newest_is;
-    out_is = c ∙ ap (λ (n : ℕ). frame_octets (close_frame t.channel t.newest number n moment)) h.next_is;
-  }
-  close_sent Done number moment out h c = absurd c
+  close_sent p number moment out h c =
+      let o = open_sends p (λ (t : Talking). out ≡ closing_octets t number moment) h c in
+      record {
+        channel = o.0.channel;
+        newest = o.0.newest;
+        channel_is = o.1.channel_is;
+        newest_is = o.1.newest_is;
+        out_is = o.2 ∙ ap (λ (n : ℕ). frame_octets (close_frame o.0.channel o.0.newest number n moment)) o.1.next_is;
+      }
 
-  -- why nothing is sent
-  call_open : (t : Talking) (more : ℕ) (body : List ℕ) → Talks limits t before asked → ask_refusal (Open t) more body ≡ first_reason (call_reasons before asked more body)
-  call_open t more body h =
-      ap (λ (n : ℕ). first_reason (reasons_of_call (n + more) (t.next + more) (is_too_large t.agreed.ack body))) (ap length h.pending_are)
-      ∙ (ap (λ (n : ℕ). first_reason (reasons_of_call (length (pending_calls before.messages asked) + more) (n + more) (is_too_large t.agreed.ack body))) h.next_is
-      ∙ (ap (λ (b : Bool). first_reason (reasons_of_call (length (pending_calls before.messages asked) + more) (next_id asked + more) b)) (sym (ap (of_ack (λ (a : Ack). is_too_large a body)) h.ack_is))
-      ∙ sym (first_skip NotOpen (has_no_channel before) (reasons_of_call (length (pending_calls before.messages asked) + more) (next_id asked + more) (of_ack (λ (a : Ack). is_too_large a body) before.ack)) (ap is_none h.channel_is))))
+  -- why nothing is sent: by what runs, and by what was received and asked
+  shut_there : (reasons : List (AskFault × Bool)) → responses before.openings ≡ [] → Some NotOpen ≡ first_reason ((NotOpen, has_no_channel before) ∷ reasons)
+  shut_there reasons none = sym (first_set NotOpen (has_no_channel before) reasons (ap (λ (rs : List OpenResponse). is_none (channel_in rs)) none))
 
-  call_shut : (more : ℕ) (body : List ℕ) → has_no_channel before ≡ true → Some NotOpen ≡ first_reason (call_reasons before asked more body)
-  call_shut more body none = sym (first_set NotOpen (has_no_channel before) (reasons_of_call (length (pending_calls before.messages asked) + more) (next_id asked + more) (of_ack (λ (a : Ack). is_too_large a body) before.ack)) none)
+  judged_by : (p : Phase) (kept : Talking → List (AskFault × Bool)) (reasons : List (AskFault × Bool)) → InPhase limits p before asked
+      → ((t : Talking) → Talks limits t before asked → first_reason (kept t) ≡ first_reason reasons) → refusal_in (talking_in p) kept ≡ first_reason ((NotOpen, has_no_channel before) ∷ reasons)
+  judged_by Waiting kept reasons h same = shut_there reasons (ap (λ (b : Received). responses b.openings) h.0 ∙ no_responses)
+  judged_by (Agreed a) kept reasons h same = shut_there reasons (ap (λ (b : Received). responses b.openings) h.0 ∙ no_responses)
+  judged_by (Open t) kept reasons h same = same t h ∙ sym (first_skip NotOpen (has_no_channel before) reasons (ap is_none h.channel_is))
+  judged_by Done kept reasons h same = absurd h
 
   pub call_judged : (p : Phase) (more : ℕ) (body : List ℕ) → InPhase limits p before asked → ask_refusal p more body ≡ first_reason (call_reasons before asked more body)
-  call_judged Waiting more body h = call_shut more body (none_waiting h.0)
-  call_judged (Agreed a) more body h = call_shut more body (none_agreed a.ack h.0)
-  call_judged (Open t) more body h = call_open t more body h
-  call_judged Done more body h = absurd h
-
-  renewal_open : (t : Talking) → Talks limits t before asked → renew_refusal (Open t) ≡ first_reason (renewing_reasons before asked)
-  renewal_open t h =
-      ap (λ (b : Bool). first_reason (reasons_of_renewal b (length t.tokens.items) t.next)) (some_listed t.renewal ∙ ap has_some h.renewal_is)
-      ∙ (ap (λ (n : ℕ). first_reason (reasons_of_renewal (has_some (pending_renewals (opened_ids before.openings) asked)) n t.next)) (ap length h.tokens_are)
-      ∙ (ap (λ (n : ℕ). first_reason (reasons_of_renewal (has_some (pending_renewals (opened_ids before.openings) asked)) (length (held_tokens before)) n)) h.next_is
-      ∙ sym (first_skip NotOpen (has_no_channel before) (reasons_of_renewal (has_some (pending_renewals (opened_ids before.openings) asked)) (length (held_tokens before)) (next_id asked)) (ap is_none h.channel_is))))
-
-  renewal_shut : has_no_channel before ≡ true → Some NotOpen ≡ first_reason (renewing_reasons before asked)
-  renewal_shut none = sym (first_set NotOpen (has_no_channel before) (reasons_of_renewal (has_some (pending_renewals (opened_ids before.openings) asked)) (length (held_tokens before)) (next_id asked)) none)
+  call_judged p more body h =
+      judged_by p (λ (t : Talking). ask_reasons t more body) (reasons_of_call (length (pending_calls before.messages asked) + more) (next_id asked + more) (of_ack (λ (a : Ack). is_too_large a body) before.ack)) h
+      (λ t k.
+      ap (λ (n : ℕ). first_reason (reasons_of_call (n + more) (t.next + more) (is_too_large t.agreed.ack body))) (ap length k.pending_are)
+      ∙ (ap (λ (n : ℕ). first_reason (reasons_of_call (length (pending_calls before.messages asked) + more) (n + more) (is_too_large t.agreed.ack body))) k.next_is
+      ∙ ap (λ (b : Bool). first_reason (reasons_of_call (length (pending_calls before.messages asked) + more) (next_id asked + more) b)) (sym (ap (of_ack (λ (a : Ack). is_too_large a body)) k.ack_is))))
 
   pub renewal_judged : (p : Phase) → InPhase limits p before asked → renew_refusal p ≡ first_reason (renewing_reasons before asked)
-  renewal_judged Waiting h = renewal_shut (none_waiting h.0)
-  renewal_judged (Agreed a) h = renewal_shut (none_agreed a.ack h.0)
-  renewal_judged (Open t) h = renewal_open t h
-  renewal_judged Done h = absurd h
+  renewal_judged p h =
+      judged_by p renew_reasons (reasons_of_renewal (has_some (pending_renewals (opened_ids before.openings) asked)) (length (held_tokens before)) (next_id asked)) h
+      (λ t k.
+      ap (λ (b : Bool). first_reason (reasons_of_renewal b (length t.tokens.items) t.next)) (some_listed t.renewal ∙ ap has_some k.renewal_is)
+      ∙ (ap (λ (n : ℕ). first_reason (reasons_of_renewal (has_some (pending_renewals (opened_ids before.openings) asked)) n t.next)) (ap length k.tokens_are)
+      ∙ ap (λ (n : ℕ). first_reason (reasons_of_renewal (has_some (pending_renewals (opened_ids before.openings) asked)) (length (held_tokens before)) n)) k.next_is))
 
   pub close_judged : (p : Phase) → InPhase limits p before asked → close_refusal p ≡ first_reason (closing_reasons before)
-  close_judged Waiting h = sym (first_set NotOpen (has_no_channel before) [] (none_waiting h.0))
-  close_judged (Agreed a) h = sym (first_set NotOpen (has_no_channel before) [] (none_agreed a.ack h.0))
-  close_judged (Open t) h = sym (first_skip NotOpen (has_no_channel before) [] (ap is_none h.channel_is))
-  close_judged Done h = absurd h
+  close_judged p h = judged_by p (λ (t : Talking). []) [] h (λ t k. refl)
 
   -- the chunks so far are of request ids below the next one
   sent_below : (p : Phase) → InPhase limits p before asked → AllByRecursion (λ (c : Chunk). c.request < next_id asked) before.messages
@@ -245,24 +230,24 @@ module _ (x : ClientChannel) (asks : List Placed) (octets : List ℕ) (frames : 
   pub sends_closing : (number : ℕ) (moment : DateTime) (out : List ℕ) → IsClosing (phase_of x) number moment out → out ≡ frame_octets (close_frame at.channel at.newest number (next_id (asked_in asks)) moment)
   sends_closing number moment out c = closing_by number moment out (close_sent (client_limits x) before (asked_in asks) (phase_of x) number moment out in_phase c)
 
-  same_reasons : (more : ℕ) (body : List ℕ) → first_reason (call_reasons before (asked_in asks) more body) ≡ first_reason (reasons_here at (asked_in asks) more body)
+  same_reasons : (more : ℕ) (body : List ℕ) → first_reason (call_reasons before (asked_in asks) more body) ≡ first_reason (reasons_of_call (length at.pending + more) (next_id (asked_in asks) + more) (is_too_large at.ack body))
   unfolding before
   same_reasons more body =
       first_skip NotOpen (has_no_channel (received r.frames)) (reasons_of_call (length (pending_calls (received r.frames).messages (asked_in asks)) + more) (next_id (asked_in asks) + more) (of_ack (λ (a : Ack). is_too_large a body) (received r.frames).ack)) there
       ∙ (ap (λ (n : ℕ). first_reason (reasons_of_call (n + more) (next_id (asked_in asks) + more) (of_ack (λ (a : Ack). is_too_large a body) (received r.frames).ack))) (ap length r.pending_are)
       ∙ ap (λ (b : Bool). first_reason (reasons_of_call (length at.pending + more) (next_id (asked_in asks) + more) b)) (ap (of_ack (λ (a : Ack). is_too_large a body)) r.ack_is))
 
-  pub refuses_call : (more : ℕ) (body : List ℕ) → ask_refusal (phase_of x) more body ≡ first_reason (reasons_here at (asked_in asks) more body)
+  pub refuses_call : (more : ℕ) (body : List ℕ) → ask_refusal (phase_of x) more body ≡ first_reason (reasons_of_call (length at.pending + more) (next_id (asked_in asks) + more) (is_too_large at.ack body))
   refuses_call more body = call_judged (client_limits x) before (asked_in asks) (phase_of x) more body in_phase ∙ same_reasons more body
 
-  same_renew_reasons : first_reason (renewing_reasons before (asked_in asks)) ≡ first_reason (renew_reasons_here at (asked_in asks))
+  same_renew_reasons : first_reason (renewing_reasons before (asked_in asks)) ≡ first_reason (reasons_of_renewal (has_some at.renewals) (length at.tokens) (next_id (asked_in asks)))
   unfolding before
   same_renew_reasons =
       first_skip NotOpen (has_no_channel (received r.frames)) (reasons_of_renewal (has_some (pending_renewals (opened_ids (received r.frames).openings) (asked_in asks))) (length (held_tokens (received r.frames))) (next_id (asked_in asks))) there
       ∙ (ap (λ (ids : List ℕ). first_reason (reasons_of_renewal (has_some ids) (length (held_tokens (received r.frames))) (next_id (asked_in asks)))) r.renewals_are
       ∙ ap (λ (ns : List ℕ). first_reason (reasons_of_renewal (has_some at.renewals) (length ns) (next_id (asked_in asks)))) r.tokens_are)
 
-  pub refuses_renewal : renew_refusal (phase_of x) ≡ first_reason (renew_reasons_here at (asked_in asks))
+  pub refuses_renewal : renew_refusal (phase_of x) ≡ first_reason (reasons_of_renewal (has_some at.renewals) (length at.tokens) (next_id (asked_in asks)))
   refuses_renewal = renewal_judged (client_limits x) before (asked_in asks) (phase_of x) in_phase ∙ same_renew_reasons
 
   pub closes_here : close_refusal (phase_of x) ≡ None

@@ -1,10 +1,11 @@
 -- When a channel is open.
-use Rattle.std.proofs.Common.{◌≡◌, ◌↔◌, ℕ, ◌<◌, List, [], ◌∷◌, ◌++◌, Some, length, refl, sym, ◌∙◌, ap, subst, arith}
+use Rattle.std.proofs.Common.{◌≡◌, ◌↔◌, ℕ, ◌<◌, Bool, List, [], ◌∷◌, ◌++◌, Some, length, refl, sym, ◌∙◌, ap, subst, arith}
 use Rattle.ua_frame.specs.declared.frame.Frame.{Frame}
 use Rattle.ua_frame.specs.declared.limits.Limits.{Limits}
 use Rattle.ua_structures.specs.declared.secure_channel.OpenResponse.{OpenResponse}
 use Rattle.ua_channel.specs.Asks.{Asking, Placed, asked_in}
-use Rattle.ua_channel.specs.Client.{ask_refusal, client_limits, ClientStands, close_refusal, InPhase, IsClientDone, IsNotOpen, phase_of, renew_refusal}
+use Rattle.ua_channel.specs.Client.{ask_refusal, client_limits, ClientStands, close_refusal, InPhase, IsClientDone, IsNotOpen, phase_of, refusal_in, renew_refusal, talking_in}
+use Rattle.ua_channel.specs.ClientAsks.{ask_reasons, renew_reasons}
 use Rattle.ua_channel.specs.ClientTokens.{channel_in, responses}
 use Rattle.ua_channel.specs.Content.{Opening, content}
 use Rattle.ua_channel.specs.Content.Content.{Sends}
@@ -13,9 +14,11 @@ use Rattle.ua_channel.specs.ServerStands as server
 use Rattle.ua_channel.specs.ServerTold.{Told}
 use Rattle.ua_channel.specs.ServerTold.Told.{Asked}
 use Rattle.ua_channel.specs.declared.client.channel.ClientChannel.{ClientChannel}
+use Rattle.ua_channel.specs.declared.client.fault.AskFault.{AskFault}
 use Rattle.ua_channel.specs.declared.client.fault.AskFault.TheVariants.{NotOpen}
 use Rattle.ua_channel.specs.declared.client.phase.Phase.{Phase as ClientPhase}
 use Rattle.ua_channel.specs.declared.client.phase.Phase.TheVariants as asking
+use Rattle.ua_channel.specs.declared.client.talking.Talking.{Talking}
 use Rattle.ua_channel.specs.declared.server.Phase.{Phase}
 use Rattle.ua_channel.specs.declared.server.Phase.TheVariants.{Waiting, Greeted, Open, Done}
 use Rattle.ua_channel.specs.declared.server.ServerChannel.{ServerChannel}
@@ -71,20 +74,23 @@ client_open x asks octets frames rest s = client_phase (client_limits x) (phase_
 pub client_done : (x : ClientChannel) → IsClientDone x → IsNotOpen (phase_of x)
 client_done x d = subst IsNotOpen (sym d.phase) tt
 
+nothing_asked : (p : ClientPhase) (reasons : Talking → List (AskFault × Bool)) → IsNotOpen p → refusal_in (talking_in p) reasons ≡ Some NotOpen
+nothing_asked asking.Waiting reasons n = refl
+nothing_asked (asking.Agreed a) reasons n = refl
+nothing_asked (asking.Open t) reasons n = absurd n
+nothing_asked asking.Done reasons n = refl
+
 pub asks_nothing : (p : ClientPhase) (more : ℕ) (body : List ℕ) → IsNotOpen p → ask_refusal p more body ≡ Some NotOpen
-asks_nothing asking.Waiting more body n = refl
-asks_nothing (asking.Agreed a) more body n = refl
-asks_nothing (asking.Open t) more body n = absurd n
-asks_nothing asking.Done more body n = refl
+asks_nothing p more body n = nothing_asked p (λ (t : Talking). ask_reasons t more body) n
 
 pub renews_nothing : (p : ClientPhase) → IsNotOpen p → renew_refusal p ≡ Some NotOpen
-renews_nothing asking.Waiting n = refl
-renews_nothing (asking.Agreed a) n = refl
-renews_nothing (asking.Open t) n = absurd n
-renews_nothing asking.Done n = refl
+renews_nothing p n = nothing_asked p renew_reasons n
+
+none_reasons : (p : ClientPhase) → close_refusal p ≡ Some NotOpen → IsNotOpen p
+none_reasons asking.Waiting e = tt
+none_reasons (asking.Agreed a) e = tt
+none_reasons (asking.Open t) e = absurd cc
+none_reasons asking.Done e = tt
 
 pub closes_nothing : (p : ClientPhase) → IsNotOpen p ↔ (close_refusal p ≡ Some NotOpen)
-closes_nothing asking.Waiting = (λ n. refl, λ e. tt)
-closes_nothing (asking.Agreed a) = (λ n. refl, λ e. tt)
-closes_nothing (asking.Open t) = (λ n. absurd n, λ e. absurd cc)
-closes_nothing asking.Done = (λ n. refl, λ e. tt)
+closes_nothing p = (nothing_asked p (λ (t : Talking). []), none_reasons p)

@@ -1,5 +1,5 @@
 -- Where a client's channel stands after octets and asks, and what it answers when it is asked.
-use Rattle.std.specs.Prelude.{◌≡◌, ℕ, ◌≤◌, ◌+◌, ◌*◌, length, List, [], ◌∷◌, ◌++◌, Option, Some, None, Result}
+use Rattle.std.specs.Prelude.{◌≡◌, ℕ, ◌≤◌, ◌+◌, ◌*◌, Bool, length, List, [], ◌∷◌, ◌++◌, Option, Some, None, MatchOption, Result}
 use Rattle.std.specs.List.{AllByRecursion}
 use Rattle.ua_builtin.specs.Reasons.{first_reason}
 use Rattle.ua_builtin.specs.declared.date_time.DateTime.{DateTime}
@@ -22,6 +22,7 @@ use Rattle.ua_channel.specs.declared.client.fault.AskFault.{AskFault}
 use Rattle.ua_channel.specs.declared.client.fault.AskFault.TheVariants.{NotOpen}
 use Rattle.ua_channel.specs.declared.client.phase.Phase.{Phase}
 use Rattle.ua_channel.specs.declared.client.phase.Phase.TheVariants.{Waiting, Agreed, Open, Done}
+use Rattle.ua_channel.specs.declared.client.talking.Talking.{Talking}
 
 -- ---- what a channel was made with, and what it sends next
 
@@ -124,54 +125,43 @@ pub record ClientEnded (x : ClientChannel) (asks : List Placed) (octets : List �
 
 -- ---- asks in a phase
 
+-- what runs in a phase, if a channel is open
+abbrev pub talking_in : Phase → Option Talking
+talking_in (Open t) = Some t
+talking_in other = None
+
 -- no channel is open
 abbrev pub IsNotOpen : Phase → Type 0
-IsNotOpen Waiting = Unit {0}
-IsNotOpen (Agreed a) = Unit {0}
-IsNotOpen (Open t) = ⊥
-IsNotOpen Done = Unit {0}
+IsNotOpen p = MatchOption (talking_in p) (Unit {0}) (λ (t : Talking). ⊥)
+
+-- why what is asked is not asked: no channel is open, else the first of the reasons that what runs has
+abbrev pub refusal_in : Option Talking → (Talking → List (AskFault × Bool)) → Option AskFault
+refusal_in None reasons = Some NotOpen
+refusal_in (Some t) reasons = first_reason (reasons t)
 
 -- why a call of this body is not asked after so many more calls in this phase
 abbrev pub ask_refusal : Phase → ℕ → List ℕ → Option AskFault
-ask_refusal Waiting more body = Some NotOpen
-ask_refusal (Agreed a) more body = Some NotOpen
-ask_refusal (Open t) more body = first_reason (ask_reasons t more body)
-ask_refusal Done more body = Some NotOpen
+ask_refusal p more body = refusal_in (talking_in p) (λ (t : Talking). ask_reasons t more body)
 
 -- the octets of a call of this body, its request id, and the number that is sent next
 abbrev pub IsCall : Phase → ℕ → List ℕ → ℕ → List ℕ → ℕ → Type 0
-IsCall Waiting number body id out next = ⊥
-IsCall (Agreed a) number body id out next = ⊥
-IsCall (Open t) number body id out next = Calls t number body id out next
-IsCall Done number body id out next = ⊥
+IsCall p number body id out next = MatchOption (talking_in p) ⊥ (λ (t : Talking). Calls t number body id out next)
 
 -- why a renewal is not asked in this phase
 abbrev pub renew_refusal : Phase → Option AskFault
-renew_refusal Waiting = Some NotOpen
-renew_refusal (Agreed a) = Some NotOpen
-renew_refusal (Open t) = first_reason (renew_reasons t)
-renew_refusal Done = Some NotOpen
+renew_refusal p = refusal_in (talking_in p) renew_reasons
 
 -- the octets of a renewal, its request id, and the number that is sent next
 abbrev pub IsRenewal : Phase → ℕ → DateTime → ℕ → List ℕ → ℕ → Type 0
-IsRenewal Waiting number moment id out next = ⊥
-IsRenewal (Agreed a) number moment id out next = ⊥
-IsRenewal (Open t) number moment id out next = Renews t number moment id out next
-IsRenewal Done number moment id out next = ⊥
+IsRenewal p number moment id out next = MatchOption (talking_in p) ⊥ (λ (t : Talking). Renews t number moment id out next)
 
 -- why a channel is not closed in this phase
 abbrev pub close_refusal : Phase → Option AskFault
-close_refusal Waiting = Some NotOpen
-close_refusal (Agreed a) = Some NotOpen
-close_refusal (Open t) = None
-close_refusal Done = Some NotOpen
+close_refusal p = refusal_in (talking_in p) (λ (t : Talking). [])
 
 -- the octets of the close
 abbrev pub IsClosing : Phase → ℕ → DateTime → List ℕ → Type 0
-IsClosing Waiting number moment out = ⊥
-IsClosing (Agreed a) number moment out = ⊥
-IsClosing (Open t) number moment out = out ≡ closing_octets t number moment
-IsClosing Done number moment out = ⊥
+IsClosing p number moment out = MatchOption (talking_in p) ⊥ (λ (t : Talking). out ≡ closing_octets t number moment)
 
 -- ---- the same of a channel
 

@@ -1,5 +1,5 @@
 -- What a client reads of a server that keeps to the protocol, one message after the other.
-use Rattle.std.specs.Prelude.{◌≡◌, ◌<◌, ◌≤◌, ◌+◌, ◌^◌, ◌==◌, ◌++◌, ◌∷◌, ℕ, List, [], IsTrue, Option, Some, None, Bool, not, length}
+use Rattle.std.specs.Prelude.{◌≡◌, ◌<◌, ◌≤◌, ◌+◌, ◌^◌, ◌==◌, ◌++◌, ◌∷◌, ℕ, List, [], IsTrue, Option, Some, None, not, length}
 use Rattle.std.specs.List.{AllByRecursion, filter}
 use Rattle.ua_builtin.specs.DateTime.{date_time}
 use Rattle.ua_builtin.specs.Status.{of_code}
@@ -14,12 +14,11 @@ use Rattle.ua_chunk.specs.declared.chunk.Chunk.{Chunk}
 use Rattle.ua_chunk.specs.declared.fault.CutFault.{CutFault}
 use Rattle.ua_chunk.specs.declared.lane.Lane.{Lane}
 use Rattle.ua_channel.specs.Asks.{Asking, Placed, asked_in, id_of, is_in, next_id, pending_calls, pending_renewals}
-use Rattle.ua_channel.specs.ClientAsks.{call_lane, is_too_large, reasons_of_call, reasons_of_renewal}
+use Rattle.ua_channel.specs.ClientAsks.{call_lane}
 use Rattle.ua_channel.specs.ClientTable.{client_rules}
 use Rattle.ua_channel.specs.ClientTokens.{channel_in, from_last, held_tokens, opened_ids, responses}
 use Rattle.ua_channel.specs.ClientTold.{ClientTold, ClientTold as told}
-use Rattle.ua_channel.specs.Received.{has_some, latest, nothing_received, received}
-use Rattle.ua_channel.specs.declared.client.fault.AskFault.{AskFault}
+use Rattle.ua_channel.specs.Received.{latest, nothing_received, received}
 
 -- ---- where a client is
 
@@ -76,14 +75,6 @@ pub record ClientReads (limits : Limits) (asks : List Placed) (octets : List ℕ
 -- where its calls go: on the channel, under the newest token, in frames of the size that the server receives, within the server's limits
 abbrev pub lane_from : AtClient → Lane
 lane_from at = call_lane at.ack at.channel at.newest
-
--- why a call of this body is not asked after so many more calls, behind so many asks, in the order in which it is judged
-abbrev pub reasons_here : AtClient → List Asking → ℕ → List ℕ → List (AskFault × Bool)
-reasons_here at asked more body = reasons_of_call (length at.pending + more) (next_id asked + more) (is_too_large at.ack body)
-
--- why a renewal is not asked, behind so many asks, in the order in which it is judged
-abbrev pub renew_reasons_here : AtClient → List Asking → List (AskFault × Bool)
-renew_reasons_here at asked = reasons_of_renewal (has_some at.renewals) (length at.tokens) (next_id asked)
 
 -- ---- what a server may send next
 

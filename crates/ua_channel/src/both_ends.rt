@@ -23,10 +23,10 @@ ghost use Rattle.ua_chunk.specs.declared.lane.Lane.{Lane};
 ghost use Rattle.ua_channel.specs.Agreement.{agreement_of};
 ghost use Rattle.ua_channel.specs.Asks.{Placed, asked_in, is_in, next_id};
 ghost use Rattle.ua_channel.specs.Asks.Asking.{Call, Renewal};
-ghost use Rattle.ua_channel.specs.ClientReads.{AtClient, ClientAgrees, ClientReads, IsAnswered, IsLaneBack, lane_from, opened_at, reasons_here, renew_reasons_here, told_reply, with_answer, with_call, with_renewal, with_reply};
-ghost use Rattle.ua_channel.specs.ClientAsks.{is_too_large, room_of};
+ghost use Rattle.ua_channel.specs.ClientReads.{AtClient, ClientAgrees, ClientReads, IsAnswered, IsLaneBack, lane_from, opened_at, told_reply, with_answer, with_call, with_renewal, with_reply};
+ghost use Rattle.ua_channel.specs.ClientAsks.{is_too_large, reasons_of_call, reasons_of_renewal, room_of};
 ghost use Rattle.ua_channel.specs.InStep.{AreInStep, lane_back};
-ghost use Rattle.ua_channel.specs.Received.{latest};
+ghost use Rattle.ua_channel.specs.Received.{has_some, latest};
 ghost use Rattle.ua_channel.specs.ClientSends.{close_frame, first_open, hello_frame, hello_to, renewal_frame};
 ghost use Rattle.ua_channel.specs.Client.{call_refused, client_limits, ClientEnded, ClientGoes, ClientStands, closing_refused, renewal_refused, SendsCall, SendsClosing, SendsRenewal};
 ghost use Rattle.ua_channel.specs.ClientTold.{ClientTold, ClientTold as client_told, Why};
@@ -175,10 +175,10 @@ pub fn client_sends()
 pub fn client_refuses()
     ensures call { (x : ClientChannel) (asks : List Placed) (octets : List ℕ) (frames : List Frame) (rest : List ℕ) (told : List ClientTold) (at : AtClient) →
         ClientStands x asks octets frames rest → ClientReads (client_limits x) asks octets told at →
-        (more : ℕ) (body : List ℕ) → call_refused x more body ≡ first_reason (reasons_here at (asked_in asks) more body) }
+        (more : ℕ) (body : List ℕ) → call_refused x more body ≡ first_reason (reasons_of_call (length at.pending + more) (next_id (asked_in asks) + more) (is_too_large at.ack body)) }
     ensures renewal { (x : ClientChannel) (asks : List Placed) (octets : List ℕ) (frames : List Frame) (rest : List ℕ) (told : List ClientTold) (at : AtClient) →
         ClientStands x asks octets frames rest → ClientReads (client_limits x) asks octets told at →
-        renewal_refused x ≡ first_reason (renew_reasons_here at (asked_in asks)) }
+        renewal_refused x ≡ first_reason (reasons_of_renewal (has_some at.renewals) (length at.tokens) (next_id (asked_in asks))) }
     ensures close { (x : ClientChannel) (asks : List Placed) (octets : List ℕ) (frames : List Frame) (rest : List ℕ) (told : List ClientTold) (at : AtClient) →
         ClientStands x asks octets frames rest → ClientReads (client_limits x) asks octets told at →
         closing_refused x ≡ None }
