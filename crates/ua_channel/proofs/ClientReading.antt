@@ -315,7 +315,7 @@ module _ (limits : Limits) (octets : List ℕ) (told : List ClientTold) (a : Ack
 below_more : {X : Type 0} (id : X → ℕ) (n m : ℕ) (xs : List X) → n ≤ m → AllByRecursion (λ (x : X). id x < n) xs → AllByRecursion (λ (x : X). id x < m) xs
 below_more {X = X} id n m xs le all = all-weaken (λ (x : X). id x < n) (λ (x : X). id x < m) xs (λ x less. omega (arith, less, le)) all
 
-next_more : (asks : List Placed) (p : Placed) → next_id (asked_in (asks ++ p ∷ [])) ≡ next_id (asked_in asks) + 1
+pub next_more : (asks : List Placed) (p : Placed) → next_id (asked_in (asks ++ p ∷ [])) ≡ next_id (asked_in asks) + 1
 next_more asks p = omega (arith, ap length (asked_in-push asks p), length-append (asked_in asks) (p.1 ∷ []))
 
 module _ (limits : Limits) (asks : List Placed) (octets : List ℕ) (told : List ClientTold) (at : AtClient) (ask : Asking) (r : ClientReads limits asks octets told at) (id_is : id_of ask ≡ next_id (asked_in asks)) where

@@ -39,7 +39,7 @@ last_in n (m ∷ ms) e = either (last_behind (Some m) n ms e)
     either (inl same) = ap (λ (b : Bool). b || is_in n ms) (eq-eqb m n (some_is m n same))
     either (inr there) = ap (λ (b : Bool). eqb m n || b) there ∙ or_true (eqb m n)
 
-in_more : (n m : ℕ) (ms : List ℕ) → is_in n ms ≡ true → is_in n (ms ++ m ∷ []) ≡ true
+pub in_more : (n m : ℕ) (ms : List ℕ) → is_in n ms ≡ true → is_in n (ms ++ m ∷ []) ≡ true
 in_more n m ms e = list_any-append (λ (k : ℕ). eqb k n) ms (m ∷ []) ∙ ap (λ (b : Bool). b || (eqb m n || false)) e
 
 module _ (server client : Limits) (url : Option (List ℕ)) (channel : ℕ) (s : AtServer) (c : AtClient) (h : AreInStep server client url channel s c) where

@@ -54,3 +54,4 @@ mod MergedFrames
 mod ServerMerges
 mod ClientMerges
 mod MergedFollowing
+pub mod Groups

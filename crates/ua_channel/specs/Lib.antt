@@ -31,6 +31,9 @@ pub mod Paired
 pub mod ServerReads
 pub mod ClientReads
 pub mod InStep
+-- What a client sends from where it stands, and what a server answers to it, as lists.
+pub mod Outgoing
+pub mod Answers
 -- What a conversation is, in plain words.
 pub mod Conversation
 pub mod ClientConversation

@@ -21,6 +21,7 @@ mod agreement;
 pub mod both_ends;
 mod client;
 pub mod client_laws;
+pub mod group_laws;
 pub mod laws;
 mod line;
 mod memory_line;

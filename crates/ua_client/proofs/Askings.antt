@@ -8,13 +8,14 @@ use Rattle.ua_chunk.specs.declared.lane.Lane.{Lane}
 use Rattle.ua_channel.specs.Asks.{Asking, Placed, asked_in, next_id}
 use Rattle.ua_channel.specs.Asks.Asking.{Call}
 use Rattle.ua_channel.specs.Client.{ClientStands, SameClient, InPhase, IsCall, client_limits, phase_of, client_next}
+use Rattle.ua_channel.specs.Outgoing.{call_octets, number_behind}
 use Rattle.ua_channel.specs.Received.{Received, received}
 use Rattle.ua_channel.specs.declared.client.channel.ClientChannel.{ClientChannel}
 use Rattle.ua_channel.specs.declared.client.phase.Phase.{Phase}
 use Rattle.ua_channel.specs.declared.client.phase.Phase.TheVariants.{Waiting, Agreed, Open, Done}
 use Rattle.ua_client.proofs.Lanes.{lane-talks}
 use Rattle.ua_client.specs.Site.{lane_behind}
-use Rattle.ua_client.specs.Sent.{call_octets, number_behind, calls_octets, numbers_behind, calls_at, AsksGroup, AsksFrom}
+use Rattle.ua_client.specs.Sent.{calls_octets, numbers_behind, calls_at, AsksGroup, AsksFrom}
 
 -- ---- one call
 

@@ -4,18 +4,16 @@ use Rattle.std.specs.Prelude.{◌≡◌, ◌⊎◌, ◌<◌, ◌≤◌, ◌++◌
 use Rattle.std.specs.List.{AllByRecursion, filter, list_any}
 use Rattle.ua_builtin.specs.Reasons.{first_reason}
 use Rattle.ua_builtin.specs.declared.date_time.DateTime.{DateTime}
-use Rattle.ua_frame.specs.Frames.{frame_octets}
 use Rattle.ua_chunk.specs.Sequence.{next_number}
-use Rattle.ua_chunk.specs.declared.lane.Lane.{Lane}
 use Rattle.ua_channel.specs.Asks.{Placed, asked_in, calls, pending_calls, pending_renewals, renewals}
 use Rattle.ua_channel.specs.Asks.Asking.{Renewal}
 use Rattle.ua_channel.specs.Client.{ClientGoesTelling, HasNoChannel, SameClient}
 use Rattle.ua_channel.specs.ClientAsks.{most_tokens, no_id}
-use Rattle.ua_channel.specs.ClientSends.{renewal_frame}
 use Rattle.ua_channel.specs.ClientTokens.{held_tokens, opened_ids}
 use Rattle.ua_channel.specs.ClientTold.{ClientTold}
 use Rattle.ua_channel.specs.ClientTold.ClientTold.{Agreed, Opened, Answered, GaveUp, Renewed}
 use Rattle.ua_channel.specs.Line.{Traffic}
+use Rattle.ua_channel.specs.Outgoing.{renewal_by}
 use Rattle.ua_channel.specs.Received.{latest}
 use Rattle.ua_channel.specs.declared.client.channel.ClientChannel.{ClientChannel}
 use Rattle.ua_channel.specs.declared.client.fault.AskFault.{AskFault}
@@ -89,11 +87,6 @@ of_renew_fault ask_fault.OutOfMemory = fault.OutOfMemory
 of_renew_fault other = fault.Closed
 
 -- ---- what is asked
-
--- the OPN that renews the token of the channel of a lane, at this moment, with this sequence number and request id
-abbrev pub renewal_by : Option Lane → ℕ → ℕ → DateTime → List ℕ
-renewal_by None number id moment = []
-renewal_by (Some lane) number id moment = frame_octets (renewal_frame lane.channel number id moment)
 
 -- the OPN of a client that stands there
 abbrev pub renewal_at : Site → DateTime → List ℕ

@@ -1,15 +1,15 @@
 -- What a client sends: the chunks of its calls, and which of them it does not ask.
 use Rattle.std.specs.Prelude.{◌≡◌, ◌<◌, ◌+◌, ◌++◌, nat_le, not, ℕ, Bool, true, false, List, [], ◌∷◌, map, length, take, Option, Some, None, Result, Ok, Err}
 use Rattle.ua_builtin.specs.Reasons.{or_else}
-use Rattle.ua_chunk.specs.Cutting.{chunks_of, chunks_octets, number_after, pieces}
 use Rattle.ua_chunk.specs.declared.lane.Lane.{Lane}
 use Rattle.ua_services.specs.Request.{request}
 use Rattle.ua_services.specs.declared.request.Request.{Request}
 use Rattle.ua_channel.specs.Asks.{Placed, asked_in, next_id}
-use Rattle.ua_channel.specs.Asks.Asking.{Call}
 use Rattle.ua_channel.specs.Client.{ClientStands, client_next, ask_refusal}
 use Rattle.ua_channel.specs.ClientAsks.{is_too_large, no_id}
 use Rattle.ua_channel.specs.ClientTable.{of_ack}
+use Rattle.ua_channel.specs.Outgoing.{asks_at, outgoing_number, outgoing_octets}
+use Rattle.ua_channel.specs.Outgoing.Outgoing.{CallWith}
 use Rattle.ua_channel.specs.Received.{received}
 use Rattle.ua_channel.specs.declared.client.channel.ClientChannel.{ClientChannel}
 use Rattle.ua_frame.specs.declared.ack.Ack.{Ack}
@@ -23,30 +23,17 @@ use Rattle.ua_client.specs.declared.fault.ClientFault.TheVariants as fault
 
 -- ---- the chunks of calls
 
--- the chunks of a body, numbered from here on under this request id
-abbrev pub call_octets : Option Lane → ℕ → ℕ → List ℕ → List ℕ
-call_octets None number id body = []
-call_octets (Some lane) number id body = chunks_octets (chunks_of lane body number id)
-
--- the number behind the chunks of a body
-abbrev pub number_behind : Option Lane → ℕ → List ℕ → ℕ
-number_behind None number body = number
-number_behind (Some lane) number body = number_after number (pieces lane.room body)
-
 -- the chunks of bodies in order, numbered on, under request ids from this one on
 abbrev pub calls_octets : Option Lane → ℕ → ℕ → List (List ℕ) → List ℕ
-calls_octets lane number id [] = []
-calls_octets lane number id (body ∷ bodies) = call_octets lane number id body ++ calls_octets lane (number_behind lane number body) (id + 1) bodies
+calls_octets lane number id bodies = outgoing_octets lane number id (map CallWith bodies)
 
 -- the number behind the chunks of bodies
 abbrev pub numbers_behind : Option Lane → ℕ → List (List ℕ) → ℕ
-numbers_behind lane number [] = number
-numbers_behind lane number (body ∷ bodies) = numbers_behind lane (number_behind lane number body) bodies
+numbers_behind lane number bodies = outgoing_number lane number (map CallWith bodies)
 
 -- so many calls, asked at this place under request ids from this one on
 abbrev pub calls_at : ℕ → ℕ → List (List ℕ) → List Placed
-calls_at place id [] = []
-calls_at place id (body ∷ bodies) = (place, Call id) ∷ calls_at place (id + 1) bodies
+calls_at place id bodies = asks_at place id (map CallWith bodies)
 
 -- the bodies of requests, each the canonical encoding (OPC 10000-6, 5.2.9)
 abbrev pub bodies_of : List Request → List (List ℕ)

@@ -1,5 +1,5 @@
 -- That what a client over a line sends is what a server reads.
-use Rattle.std.proofs.Common.{◌≡◌, ℕ, ◌+◌, ◌<◌, ◌≤◌, ◌^◌, Bool, true, false, not, leb, IsTrue, List, [], ◌∷◌, ◌++◌, Option, Some, None, length, refl, sym, ◌∙◌, ap, subst, arith, append-nil, append_assoc}
+use Rattle.std.proofs.Common.{◌≡◌, ℕ, ◌+◌, ◌<◌, ◌≤◌, ◌^◌, Bool, true, false, not, leb, IsTrue, List, [], ◌∷◌, ◌++◌, Option, Some, None, length, refl, sym, ◌∙◌, ap, subst, arith}
 use Rattle.std.specs.Prelude.{if◌then◌else◌}
 use Rattle.std.specs.List.{AllByRecursion}
 use Rattle.std.proofs.lemmas.Bool.{leb-false, not-false}
@@ -13,26 +13,27 @@ use Rattle.ua_frame.specs.Run.{Going}
 use Rattle.ua_frame.specs.declared.ack.Ack.{Ack}
 use Rattle.ua_frame.specs.declared.limits.Limits.{Limits}
 use Rattle.ua_frame.proofs.Unique.{unique}
-use Rattle.ua_chunk.specs.Cutting.{chunks_octets, chunks_of}
 use Rattle.ua_chunk.specs.declared.lane.Lane.{Lane}
 use Rattle.ua_channel.specs.Agreement.{agreement_of}
 use Rattle.ua_channel.specs.Client.{client_limits, client_rules_of}
-use Rattle.ua_channel.specs.ClientAsks.{is_too_large, most_tokens, no_id, room_of}
+use Rattle.ua_channel.specs.ClientAsks.{is_too_large, most_tokens, no_id}
 use Rattle.ua_channel.specs.ClientReads.{AtClient, ClientReads, lane_from}
 use Rattle.ua_channel.specs.ClientSends.{close_frame, hello_frame, hello_to, renewal_frame}
 use Rattle.ua_channel.specs.ClientTokens.{channel_in, held_tokens, responses}
+use Rattle.ua_channel.specs.Outgoing.{renewal_by}
+use Rattle.ua_channel.specs.Outgoing.Outgoing.{CallWith}
 use Rattle.ua_channel.specs.Received.{Received, latest, received}
-use Rattle.ua_channel.specs.ServerReads.{AtServer, IsBodyFor, IsLaneTo, ServerCloses, ServerReads, greeted_at, with_message, with_token}
-use Rattle.ua_channel.specs.ServerTold.{Told, Agreed, Opened, Asked, Closed}
+use Rattle.ua_channel.specs.ServerReads.{AtServer, ServerCloses, ServerReads, greeted_at, with_message, with_token}
+use Rattle.ua_channel.specs.ServerTold.{Told, Agreed, Opened, Closed}
 use Rattle.ua_channel.specs.declared.client.channel.ClientChannel.{ClientChannel}
-use Rattle.ua_channel.proofs.InStep.{body_for, lane_to}
-use Rattle.ua_channel.proofs.ServerReading.{reads_close, reads_first, reads_hello, reads_message, reads_renewal}
+use Rattle.ua_channel.proofs.Groups.{AreSendable, none_issued, none_told, reads_sendable}
+use Rattle.ua_channel.proofs.ServerReading.{reads_close, reads_first, reads_hello, reads_renewal}
 use Rattle.ua_services.proofs.RequestLawful.{lawful_request}
 use Rattle.ua_services.specs.Request.{request}
 use Rattle.ua_services.specs.declared.request.Request.{Request}
 use Rattle.ua_client.specs.Calls.{refusal_at, sent_at}
 use Rattle.ua_client.specs.Client.{closing_at, closing_by}
-use Rattle.ua_client.specs.Renewing.{renewal_at, renewal_by, renewal_refusal}
+use Rattle.ua_client.specs.Renewing.{renewal_at, renewal_refusal}
 use Rattle.ua_client.specs.Sent.{bodies_of, calls_octets, group_reasons, numbers_behind}
 use Rattle.ua_client.specs.Site.{Site, At, id_at, lane_behind, lane_by}
 use Rattle.ua_served.specs.Course.{opening_octets}
@@ -73,8 +74,7 @@ some_octets m (x ∷ b) h = omega arith
 
 -- requests that are asked under request ids from this one on, of a server that sent this ACK
 abbrev pub AreAsked : Ack → ℕ → List Request → Type 0
-AreAsked a id [] = Unit {0}
-AreAsked a id (m ∷ ms) = (id < no_id) × (0 < length (request.canonical m)) × (is_too_large a (request.canonical m) ≡ false) × AreAsked a (id + 1) ms
+AreAsked a id ms = AreSendable a id (map CallWith (bodies_of ms))
 
 pub not_refused : (a : Ack) (id : ℕ) (ms : List Request) → first_reason (group_reasons (Some a) id ms) ≡ None → AreAsked a id ms
 not_refused a id [] h = tt
@@ -82,7 +82,7 @@ not_refused a id (m ∷ ms) h =
     let one = none_parts (not (request.encodable m)) _ _ h in
     let two = none_parts (leb no_id id) _ _ one.1 in
     let three = none_parts (is_too_large a (request.canonical m)) _ _ two.1 in
-    (leb-false no_id id two.0, some_octets m (request.canonical m) (lawful_request.canonical_encodes m (not-false (request.encodable m) one.0)), three.0, not_refused a (id + 1) ms three.1)
+    (leb-false no_id id two.0, (some_octets m (request.canonical m) (lawful_request.canonical_encodes m (not-false (request.encodable m) one.0)), three.0), not_refused a (id + 1) ms three.1)
 
 -- each can be encoded
 pub writable : (a : Ack) (id : ℕ) (ms : List Request) → first_reason (group_reasons (Some a) id ms) ≡ None → AllByRecursion (λ (m : Request). IsTrue (request.encodable m)) ms
@@ -97,7 +97,7 @@ writable a id (m ∷ ms) h =
 pub few_ids : (a : Ack) (id : ℕ) (ms : List Request) → AreAsked a id ms → 0 < length ms → id + length (bodies_of ms) ≤ no_id
 few_ids a id [] h some = absurd (omega (arith, some))
 few_ids a id (m ∷ []) h some = omega (arith, h.0)
-few_ids a id (m ∷ (n ∷ ms)) h some = let rest = few_ids a (id + 1) (n ∷ ms) h.3 (omega arith) in omega (arith, rest)
+few_ids a id (m ∷ (n ∷ ms)) h some = let rest = few_ids a (id + 1) (n ∷ ms) h.1.1 (omega arith) in omega (arith, rest)
 
 pub not_exhausted : (s : Site) → renewal_refusal s ≡ None → id_at s < no_id
 not_exhausted s h =
@@ -106,29 +106,6 @@ not_exhausted s h =
     leb-false no_id (id_at s) two.0
 
 -- ---- calls, one behind the other
-
-module _ (limits client : Limits) (url : Option (List ℕ)) (channel : ℕ) (on : channel < 2 ^ 32) (c : AtClient) where
-  -- a lane to a server is one behind a message in it, too
-  lane_stays : (s : AtServer) (body : List ℕ) → IsLaneTo limits channel s (lane_from c) → IsLaneTo limits channel (with_message s (lane_from c) body) (lane_from c)
-  lane_stays s body to = record { on = to.on; taken = record { not_before = omega arith; issued = to.taken.issued }; some = to.some; fits = to.fits }
-
-  calls_read : (octets : List ℕ) (told : List Told) (s : AtServer) (id : ℕ) (ms : List Request) → ((body : List ℕ) → 0 < length body → is_too_large c.ack body ≡ false → IsBodyFor limits (room_of c.ack) body)
-      → ServerReads limits channel octets told s → IsLaneTo limits channel s (lane_from c) → AreAsked c.ack id ms
-      → ServerReads limits channel (octets ++ calls_octets (Some (lane_from c)) s.next id (bodies_of ms)) (told ++ calls_told c.newest id (bodies_of ms)) (behind_calls s (lane_from c) (bodies_of ms))
-  calls_read octets told s id [] fit r to asked =
-      subst (λ (o : List ℕ). ServerReads limits channel o (told ++ []) s) (sym (append-nil octets)) (subst (λ (t : List Told). ServerReads limits channel octets t s) (sym (append-nil told)) r)
-  calls_read octets told s id (m ∷ ms) fit r to asked =
-      let body : List ℕ = request.canonical m in
-      let lane : Lane = lane_from c in
-      let now : AtServer = with_message s lane body in
-      let chunks : List ℕ = chunks_octets (chunks_of lane body s.next id) in
-      let others : List ℕ = calls_octets (Some lane) now.next (id + 1) (bodies_of ms) in
-      let later : List Told = calls_told lane.token (id + 1) (bodies_of ms) in
-      let one : ServerReads limits channel (octets ++ chunks) (told ++ Asked id lane.token body ∷ []) now =
-      reads_message limits channel octets told s lane body id on (omega (arith, asked.0)) r to (fit body asked.1 asked.2) in
-      subst (λ (o : List ℕ). ServerReads limits channel o (told ++ (Asked id lane.token body ∷ later)) (behind_calls now lane (bodies_of ms))) (append_assoc octets chunks others)
-      (subst (λ (t : List Told). ServerReads limits channel ((octets ++ chunks) ++ others) t (behind_calls now lane (bodies_of ms))) (append_assoc told (Asked id lane.token body ∷ []) later)
-      (calls_read (octets ++ chunks) (told ++ Asked id lane.token body ∷ []) now (id + 1) ms fit one (lane_stays s body to) asked.3))
 
 -- the number behind them
 pub calls_counted : (s : AtServer) (lane : Lane) (bodies : List (List ℕ)) → numbers_behind (Some lane) s.next bodies ≡ (behind_calls s lane bodies).next
@@ -156,7 +133,10 @@ module _ (limits : Limits) (url : Option (List ℕ)) (channel : ℕ) (octets : L
       subst (λ (o : List ℕ). ServerReads limits channel (octets ++ o) (told ++ calls_told c.newest (id_at site) (bodies_of requests)) (behind_calls s (lane_from c) (bodies_of requests)))
       (ap (λ (n : ℕ). calls_octets (Some (lane_from c)) n (id_at site) (bodies_of requests)) (sym t.number_is)
       ∙ ap (λ (l : Option Lane). calls_octets l site.number (id_at site) (bodies_of requests)) (sym (lane_here x site c t.stands t.client_reads)))
-      (calls_read limits (client_limits x) url channel on c octets told s (id_at site) requests (body_for limits (client_limits x) url channel s c t.in_step) t.server_reads (lane_to limits (client_limits x) url channel s c t.in_step) (requests_asked requests judged))
+      (subst (λ (ts : List Told). ServerReads limits channel (octets ++ calls_octets (Some (lane_from c)) s.next (id_at site) (bodies_of requests)) (told ++ ts) (behind_calls s (lane_from c) (bodies_of requests)))
+      (none_told c.newest s.issued c.newest (id_at site) (bodies_of requests))
+      (reads_sendable limits (client_limits x) url channel on octets told s c (id_at site) (map CallWith (bodies_of requests)) t.server_reads t.in_step t.client_reads.newest_is
+      (requests_asked requests judged) (omega (arith, none_issued s.issued (bodies_of requests), t.server_reads.few_issued))).0)
 
   -- and the number behind them
   pub numbers_read : (requests : List Request) → numbers_behind (lane_behind site.before) site.number (bodies_of requests) ≡ (behind_calls s (lane_from c) (bodies_of requests)).next

@@ -20,6 +20,7 @@ use Rattle.ua_channel.specs.ClientTokens.{held_tokens}
 use Rattle.ua_channel.specs.ClientSends.{hello_to}
 use Rattle.ua_channel.specs.Agreement.{agreement_of, lane_of}
 use Rattle.ua_channel.specs.InStep.{AreInStep}
+use Rattle.ua_channel.specs.Outgoing.{call_octets, number_behind}
 use Rattle.ua_channel.specs.ServerReads.{AtServer, with_token}
 use Rattle.ua_channel.specs.ServerTold.{Told, Asked, Opened}
 use Rattle.ua_channel.specs.declared.client.channel.ClientChannel.{ClientChannel}
@@ -32,7 +33,7 @@ use Rattle.ua_client.specs.Calls.{Answered, AreGroups, LastCame, Rounds, all_of,
 use Rattle.ua_client.specs.Calls.Rounds.{NoRound, OneRound}
 use Rattle.ua_client.specs.Client.{closing_at, closing_by}
 use Rattle.ua_client.specs.Renewing.{IsRenewed, IsSettled, asks_renewed, renewal_at, renewal_refusal}
-use Rattle.ua_client.specs.Sent.{bodies_of, call_octets, calls_octets, group_reasons, number_behind, numbers_behind, request_reasons}
+use Rattle.ua_client.specs.Sent.{bodies_of, calls_octets, group_reasons, numbers_behind, request_reasons}
 use Rattle.ua_client.specs.Site.{Site, At, id_at, lane_behind}
 use Rattle.ua_client.specs.declared.fault.ClientFault.{ClientFault}
 use Rattle.ua_client.specs.declared.reply.Reply.{Reply}

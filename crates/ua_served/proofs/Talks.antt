@@ -11,6 +11,7 @@ use Rattle.ua_chunk.specs.declared.lane.Lane.{Lane}
 use Rattle.ua_channel.specs.Client.{SameClient, client_limits}
 use Rattle.ua_channel.specs.ClientAsks.{call_lane}
 use Rattle.ua_channel.specs.Line.{Traffic, WhereTold}
+use Rattle.ua_channel.specs.Outgoing.{renewal_by}
 use Rattle.ua_channel.specs.ServerTold.{Told, Opened}
 use Rattle.ua_channel.specs.declared.client.channel.ClientChannel.{ClientChannel}
 use Rattle.ua_services.specs.declared.request.Request.{Request}
@@ -18,7 +19,7 @@ use Rattle.ua_client.specs.Calls.{AnsweredAll, BreaksAt, BrokenAll, Rounds, all_
 use Rattle.ua_client.specs.Calls.Rounds.{NoRound, OneRound}
 use Rattle.ua_client.specs.Carried.{Carries}
 use Rattle.ua_client.specs.Hearing.{Moves, channel_of, untaken_of}
-use Rattle.ua_client.specs.Renewing.{IsRenewed, RenewsAt, refused_by, renewal_at, renewal_by, renewal_refusal}
+use Rattle.ua_client.specs.Renewing.{IsRenewed, RenewsAt, refused_by, renewal_at, renewal_refusal}
 use Rattle.ua_client.specs.Sent.{bodies_of, group_reasons}
 use Rattle.ua_client.specs.Site.{Site, id_at}
 use Rattle.ua_client.specs.declared.connection.Connection.{Connection}
@@ -205,7 +206,8 @@ module _ (b : Beginning) (limits : Limits) (url : Option (List ℕ)) (octets : L
     pub renewal_sent : renewal_at site moment ≡ turn_octets (call_lane a b.channel token) site.number id moment None
     renewal_sent =
         ap (λ (l : Option Lane). renewal_by l site.number (id_at site) moment) (lane_there b limits url octets told token id held site (channel_of x) t.served)
-        ∙ ap (λ (n : ℕ). renewal_by (Some (call_lane a b.channel token)) site.number n moment) t.served.id_is
+        ∙ (ap (λ (n : ℕ). renewal_by (Some (call_lane a b.channel token)) site.number n moment) t.served.id_is
+        ∙ sym (append-nil (renewal_by (Some (call_lane a b.channel token)) site.number id moment)))
 
     pub renewed_judged : renewal_refusal site ≡ None → first_reason (turn_reasons a held id None) ≡ None
     renewed_judged judged = sym judged_here ∙ judged

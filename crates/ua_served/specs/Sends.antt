@@ -1,25 +1,30 @@
 -- What a client sends that has these turns, from the HEL to the CLO: a function of them.
-use Rattle.std.specs.Prelude.{ℕ, ◌++◌, List, [], ◌∷◌, Option, Some, None}
+use Rattle.std.specs.Prelude.{ℕ, ◌++◌, List, [], ◌∷◌, map, Option, Some, None}
 use Rattle.ua_builtin.specs.declared.date_time.DateTime.{DateTime}
 use Rattle.ua_frame.specs.declared.ack.Ack.{Ack}
 use Rattle.ua_frame.specs.declared.limits.Limits.{Limits}
 use Rattle.ua_chunk.specs.Sequence.{next_number}
 use Rattle.ua_chunk.specs.declared.lane.Lane.{Lane}
 use Rattle.ua_channel.specs.ClientAsks.{call_lane}
+use Rattle.ua_channel.specs.Outgoing.{Outgoing, outgoing_octets}
+use Rattle.ua_channel.specs.Outgoing.Outgoing.{CallWith, RenewalAt}
 use Rattle.ua_services.specs.declared.request.Request.{Request}
 use Rattle.ua_client.specs.Client.{closing_by}
-use Rattle.ua_client.specs.Renewing.{renewal_by}
-use Rattle.ua_client.specs.Sent.{bodies_of, calls_octets, numbers_behind}
+use Rattle.ua_client.specs.Sent.{bodies_of, numbers_behind}
 use Rattle.ua_served.specs.Accepted.{acknowledged}
 use Rattle.ua_served.specs.Course.{opening_octets}
 use Rattle.ua_served.specs.Turns.{id_behind, ids_behind, token_behind, tokens_behind}
 
 -- ---- one turn, where calls go in this lane, with this sequence number and this request id next
 
--- the chunks of its requests, or the OPN of a renewal (OPC 10000-6, 6.7.2)
+-- what is sent: calls of its requests, each by its canonical encoding, or a renewal at this moment
+abbrev pub outgoing_of : DateTime → Option (List Request) → List Outgoing
+outgoing_of moment (Some requests) = map CallWith (bodies_of requests)
+outgoing_of moment None = RenewalAt moment ∷ []
+
+-- the octets of it: the chunks of the calls, or the OPN (OPC 10000-6, 6.7.2)
 abbrev pub turn_octets : Lane → ℕ → ℕ → DateTime → Option (List Request) → List ℕ
-turn_octets lane number id moment (Some requests) = calls_octets (Some lane) number id (bodies_of requests)
-turn_octets lane number id moment None = renewal_by (Some lane) number id moment
+turn_octets lane number id moment turn = outgoing_octets (Some lane) number id (outgoing_of moment turn)
 
 -- the sequence number behind it
 abbrev pub turn_number : Lane → ℕ → Option (List Request) → ℕ

@@ -1,5 +1,5 @@
 -- Where both ends of a connection are between two turns of a client over a line.
-use Rattle.std.specs.Prelude.{◌≡◌, ◌<◌, ◌≤◌, ℕ, List, [], ◌∷◌, ◌++◌, Option, Some}
+use Rattle.std.specs.Prelude.{◌≡◌, ◌<◌, ◌≤◌, ℕ, List, [], ◌∷◌, ◌++◌, map, Option, Some}
 use Rattle.std.specs.List.{AllByRecursion}
 use Rattle.ua_frame.specs.Agreement.{ack_to}
 use Rattle.ua_frame.specs.Frames.{frame_octets}
@@ -11,7 +11,9 @@ use Rattle.ua_channel.specs.Client.{client_limits}
 use Rattle.ua_channel.specs.ClientReads.{AtClient, ClientReads}
 use Rattle.ua_channel.specs.ClientSends.{hello_to}
 use Rattle.ua_channel.specs.InStep.{AreInStep}
-use Rattle.ua_channel.specs.ServerReads.{AtServer, ServerReads, with_message}
+use Rattle.ua_channel.specs.Outgoing.{server_behind}
+use Rattle.ua_channel.specs.Outgoing.Outgoing.{CallWith}
+use Rattle.ua_channel.specs.ServerReads.{AtServer, ServerReads}
 use Rattle.ua_channel.specs.ServerSends.{opened_frame}
 use Rattle.ua_channel.specs.ServerTold.{Told}
 use Rattle.ua_channel.specs.declared.client.channel.ClientChannel.{ClientChannel}
@@ -51,5 +53,4 @@ renewal_answer b number id token = frame_octets (opened_frame b.channel number i
 
 -- where a server is behind calls of these bodies in a lane
 abbrev pub behind_calls : AtServer → Lane → List (List ℕ) → AtServer
-behind_calls s lane [] = s
-behind_calls s lane (body ∷ bodies) = behind_calls (with_message s lane body) lane bodies
+behind_calls s lane bodies = server_behind lane s (map CallWith bodies)

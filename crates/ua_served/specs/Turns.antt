@@ -1,9 +1,11 @@
 -- What a client's turns tell a server, from the HEL to the CLO.
-use Rattle.std.specs.Prelude.{ℕ, ◌+◌, length, List, [], ◌∷◌, ◌++◌, Option, Some, None}
+use Rattle.std.specs.Prelude.{ℕ, ◌+◌, length, map, List, [], ◌∷◌, ◌++◌, Option, Some, None}
 use Rattle.ua_frame.specs.declared.limits.Limits.{Limits}
 use Rattle.ua_channel.specs.Agreement.{agreement_of}
 use Rattle.ua_channel.specs.ClientSends.{hello_to}
-use Rattle.ua_channel.specs.ServerTold.{Told, Agreed, Opened, Asked, Closed}
+use Rattle.ua_channel.specs.Outgoing.{outgoing_told}
+use Rattle.ua_channel.specs.Outgoing.Outgoing.{CallWith}
+use Rattle.ua_channel.specs.ServerTold.{Told, Agreed, Opened, Closed}
 use Rattle.ua_services.specs.declared.request.Request.{Request}
 use Rattle.ua_client.specs.Sent.{bodies_of}
 
@@ -11,8 +13,7 @@ use Rattle.ua_client.specs.Sent.{bodies_of}
 
 -- calls of these bodies under this token and request ids from this one on: each body whole and once, in order (OPC 10000-6, 6.7.2)
 abbrev pub calls_told : ℕ → ℕ → List (List ℕ) → List Told
-calls_told token id [] = []
-calls_told token id (body ∷ bodies) = Asked id token body ∷ calls_told token (id + 1) bodies
+calls_told token id bodies = outgoing_told token token id (map CallWith bodies)
 
 -- where this is the newest token: the requests under it, each by its canonical encoding; or that the next token is issued, for an hour
 -- (OPC 10000-4, 5.6.2)

@@ -1,0 +1,5 @@
+use Rattle.ua_channel.proofs.Groups.{reads_outgoing}
+use Rattle.ua_channel.proofs.group_laws.server_reads_outgoing.Goals as goal
+
+pub returns : goal.returns
+returns c = λ server client url channel octets told s at id os on r t newest w judged few. reads_outgoing server client url channel on octets told s at id os r t newest w judged few
