@@ -1,18 +1,17 @@
 -- What a client sends at once, and what a server answers to it, one message after the other.
-use Rattle.std.proofs.Common.{◌≡◌, ℕ, ◌+◌, ◌<◌, ◌≤◌, ◌^◌, Bool, true, false, leb, IsTrue, List, [], ◌∷◌, ◌++◌, Option, Some, None, length, map, refl, sym, ◌∙◌, ap, subst, arith, append-nil, append_assoc}
+use Rattle.std.proofs.Common.{◌≡◌, ℕ, ◌+◌, ◌<◌, ◌≤◌, ◌^◌, Bool, true, false, leb, IsTrue, List, [], ◌∷◌, ◌++◌, Option, Some, None, length, map, refl, sym, ap, subst, arith, append-nil, append_assoc}
 use Rattle.std.specs.Prelude.{if◌then◌else◌}
 use Rattle.std.specs.List.{AllByRecursion}
 use Rattle.std.proofs.lemmas.Bool.{leb-false}
 use Rattle.ua_builtin.specs.DateTime.{date_time}
 use Rattle.ua_builtin.specs.Reasons.{first_reason, or_else}
-use Rattle.ua_builtin.specs.declared.date_time.DateTime.{DateTime}
 use Rattle.ua_frame.specs.Frames.{frame_octets}
 use Rattle.ua_frame.specs.declared.ack.Ack.{Ack}
 use Rattle.ua_frame.specs.declared.limits.Limits.{Limits}
 use Rattle.ua_chunk.specs.Cutting.{chunks_of, chunks_octets, cut_refusal}
 use Rattle.ua_chunk.specs.Sequence.{next_number}
 use Rattle.ua_chunk.specs.declared.lane.Lane.{Lane}
-use Rattle.ua_channel.specs.Answers.{Answer, BringsToken, MayAnswerAll, answer_octets, answer_told, answers_octets, answers_told, client_answered, client_answered_all}
+use Rattle.ua_channel.specs.Answers.{Answer, BringsToken, MayAnswerAll, answers_octets, answers_told, client_answered_all}
 use Rattle.ua_channel.specs.Answers.Answer.{ReplyTo, TokenFor}
 use Rattle.ua_channel.specs.Asks.{Placed, asked_in, next_id}
 use Rattle.ua_channel.specs.Asks.Asking.{Call, Renewal}
@@ -21,7 +20,7 @@ use Rattle.ua_channel.specs.ClientReads.{AtClient, ClientReads, IsLaneBack, lane
 use Rattle.ua_channel.specs.ClientSends.{renewal_frame}
 use Rattle.ua_channel.specs.ClientTold.{Told as ClientTold, Renewed}
 use Rattle.ua_channel.specs.InStep.{AreInStep, lane_back}
-use Rattle.ua_channel.specs.Outgoing.{AreWritable, Outgoing, asks_at, asking_of, client_behind, client_past, issued_behind, one_reasons, outgoing_octets, outgoing_refusal, outgoing_told, server_behind}
+use Rattle.ua_channel.specs.Outgoing.{AreWritable, Outgoing, asks_at, asking_of, client_behind, issued_behind, one_reasons, outgoing_octets, outgoing_refusal, outgoing_told, server_behind}
 use Rattle.ua_channel.specs.Outgoing.Outgoing.{CallWith, RenewalAt}
 use Rattle.ua_channel.specs.Received.{has_some, latest}
 use Rattle.ua_channel.specs.ServerReads.{AtServer, ServerReads, with_message, with_token}
@@ -115,8 +114,8 @@ module _ (server client : Limits) (url : Option (List ℕ)) (channel : ℕ) (on 
       let now : AtServer = with_message s lane body in
       let chunks : List ℕ = chunks_octets (chunks_of lane body s.next id) in
       let read : Reads now (octets ++ chunks) (told ++ Asked id lane.token body ∷ []) =
-      reads_message server channel octets told s lane body id on (omega (arith, can.0)) r (lane_to server client url channel s c t) (body_for server client url channel s c t body can.1.0.0 can.1.0.1) in
-      let rest = reads_sendable (octets ++ chunks) (told ++ Asked id lane.token body ∷ []) now (with_call c id) (id + 1) os read (in_step_call server client url channel s c t body id newest) newest can.1.1 few in
+      reads_message server channel octets told s lane body id on (omega (arith, can.0)) r (lane_to server client url channel s c t) (body_for server client url channel s c t body can.1.0 can.1.1) in
+      let rest = reads_sendable (octets ++ chunks) (told ++ Asked id lane.token body ∷ []) now (with_call c id) (id + 1) os read (in_step_call server client url channel s c t body id newest) newest can.2 few in
       (behind_one (Reads (server_behind lane now os)) octets chunks (outgoing_octets (Some lane) now.next (id + 1) os) told (Asked id lane.token body) (outgoing_told c.newest s.issued (id + 1) os) rest.0, rest.1)
   reads_sendable octets told s c id (RenewalAt moment ∷ os) r t newest can few =
       let one_more : s.issued + 1 ≤ issued_behind (s.issued + 1) os = no_fewer (s.issued + 1) os in
@@ -125,8 +124,8 @@ module _ (server client : Limits) (url : Option (List ℕ)) (channel : ℕ) (on 
       let opn : List ℕ = frame_octets (renewal_frame c.channel s.next id moment) in
       let read : Reads now (octets ++ opn) (told ++ Opened id 0 (s.issued + 1) 3600000 ∷ []) =
       subst (λ (k : ℕ). Reads now (octets ++ frame_octets (renewal_frame k s.next id moment)) (told ++ Opened id 0 (s.issued + 1) 3600000 ∷ [])) (sym t.channel_is)
-      (reads_renewal server channel octets told s id moment r some (omega (arith, few, one_more)) on (omega (arith, can.0)) can.1.0) in
-      let rest = reads_sendable (octets ++ opn) (told ++ Opened id 0 (s.issued + 1) 3600000 ∷ []) now (with_renewal c id) (id + 1) os read (in_step_renewal server client url channel s c t id) newest can.1.1 few in
+      (reads_renewal server channel octets told s id moment r some (omega (arith, few, one_more)) on (omega (arith, can.0)) can.1) in
+      let rest = reads_sendable (octets ++ opn) (told ++ Opened id 0 (s.issued + 1) 3600000 ∷ []) now (with_renewal c id) (id + 1) os read (in_step_renewal server client url channel s c t id) newest can.2 few in
       (behind_one (Reads (server_behind (lane_from c) now os)) octets opn (outgoing_octets (Some (lane_from c)) now.next (id + 1) os) told (Opened id 0 (s.issued + 1) 3600000) (outgoing_told c.newest now.issued (id + 1) os) rest.0, rest.1)
 
   pub reads_outgoing : (octets : List ℕ) (told : List Told) (s : AtServer) (c : AtClient) (id : ℕ) (os : List Outgoing)
@@ -177,7 +176,7 @@ module _ (limits : Limits) (asks : List Placed) (lane : Lane) where
   reads_answers octets told c (ReplyTo id body ∷ answers) r back may =
       let out : List ℕ × ℕ = replied lane body c.next id in
       let now : AtClient = with_reply c lane.token id out.1 in
-      let read : Hears now (octets ++ out.0) (told ++ told_reply (cut_refusal lane body) id body ∷ []) = reads_replied limits asks octets told c lane id r back may.0.0 may.0.1.0 body may.0.1.1 in
+      let read : Hears now (octets ++ out.0) (told ++ told_reply (cut_refusal lane body) id body ∷ []) = reads_replied limits asks octets told c lane id r back may.0.0 may.0.1 body may.0.2 in
       behind_one (Hears (client_answered_all lane now answers)) octets out.0 (answers_octets lane now.next answers) told (told_reply (cut_refusal lane body) id body) (answers_told lane answers)
       (reads_answers (octets ++ out.0) (told ++ told_reply (cut_refusal lane body) id body ∷ []) now answers read (lane_replied limits c lane id out.1 back) may.1)
   reads_answers octets told c (TokenFor id handle token lifetime moment ∷ answers) r back may =
@@ -185,7 +184,7 @@ module _ (limits : Limits) (asks : List Placed) (lane : Lane) where
       let now : AtClient = with_answer c token (next_number c.next) in
       let read : Hears now (octets ++ opn) (told ++ Renewed token ∷ []) =
       subst (λ (k : ℕ). Hears now (octets ++ frame_octets (opened_frame k c.next id handle token lifetime moment)) (told ++ Renewed token ∷ [])) (sym back.on)
-      (reads_renewed limits asks octets told c id handle token lifetime moment r may.0.1.1 may.0.0 may.0.1.0) in
+      (reads_renewed limits asks octets told c id handle token lifetime moment r may.0.2 may.0.0 may.0.1) in
       behind_one (Hears (client_answered_all lane now answers)) octets opn (answers_octets lane now.next answers) told (Renewed token) (answers_told lane answers)
       (reads_answers (octets ++ opn) (told ++ Renewed token ∷ []) now answers read (lane_answered limits c lane token (next_number c.next) back) may.1)
 

@@ -97,7 +97,7 @@ writable a id (m ∷ ms) h =
 pub few_ids : (a : Ack) (id : ℕ) (ms : List Request) → AreAsked a id ms → 0 < length ms → id + length (bodies_of ms) ≤ no_id
 few_ids a id [] h some = absurd (omega (arith, some))
 few_ids a id (m ∷ []) h some = omega (arith, h.0)
-few_ids a id (m ∷ (n ∷ ms)) h some = let rest = few_ids a (id + 1) (n ∷ ms) h.1.1 (omega arith) in omega (arith, rest)
+few_ids a id (m ∷ (n ∷ ms)) h some = let rest = few_ids a (id + 1) (n ∷ ms) h.2 (omega arith) in omega (arith, rest)
 
 pub not_exhausted : (s : Site) → renewal_refusal s ≡ None → id_at s < no_id
 not_exhausted s h =
