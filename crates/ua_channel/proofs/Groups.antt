@@ -11,14 +11,14 @@ use Rattle.ua_frame.specs.declared.limits.Limits.{Limits}
 use Rattle.ua_chunk.specs.Cutting.{chunks_of, chunks_octets, cut_refusal}
 use Rattle.ua_chunk.specs.Sequence.{next_number}
 use Rattle.ua_chunk.specs.declared.lane.Lane.{Lane}
-use Rattle.ua_channel.specs.Answers.{Answer, BringsToken, MayAnswerAll, answers_octets, answers_told, client_answered_all}
+use Rattle.ua_channel.specs.Answers.{Answer, BringsToken, AreAnswersTo, answers_octets, answers_told, client_answered_all}
 use Rattle.ua_channel.specs.Answers.Answer.{ReplyTo, TokenFor}
 use Rattle.ua_channel.specs.Asks.{Placed, asked_in, next_id}
 use Rattle.ua_channel.specs.Asks.Asking.{Call, Renewal}
 use Rattle.ua_channel.specs.ClientAsks.{is_too_large, most_pending, most_tokens, no_id}
 use Rattle.ua_channel.specs.ClientReads.{AtClient, ClientReads, IsLaneBack, lane_from, told_reply, with_answer, with_call, with_renewal, with_reply}
 use Rattle.ua_channel.specs.ClientSends.{renewal_frame}
-use Rattle.ua_channel.specs.ClientTold.{Told as ClientTold, Renewed}
+use Rattle.ua_channel.specs.ClientTold.{ClientTold, Renewed}
 use Rattle.ua_channel.specs.InStep.{AreInStep, lane_back}
 use Rattle.ua_channel.specs.Outgoing.{AreWritable, Outgoing, asks_at, asking_of, client_behind, issued_behind, one_reasons, outgoing_octets, outgoing_refusal, outgoing_told, server_behind}
 use Rattle.ua_channel.specs.Outgoing.Outgoing.{CallWith, RenewalAt}
@@ -170,7 +170,7 @@ module _ (limits : Limits) (asks : List Placed) (lane : Lane) where
   abbrev Hears : AtClient → List ℕ → List ClientTold → Type 0
   Hears c octets told = ClientReads limits asks octets told c
 
-  pub reads_answers : (octets : List ℕ) (told : List ClientTold) (c : AtClient) (answers : List Answer) → Hears c octets told → IsLaneBack limits c lane → MayAnswerAll lane c answers
+  pub reads_answers : (octets : List ℕ) (told : List ClientTold) (c : AtClient) (answers : List Answer) → Hears c octets told → IsLaneBack limits c lane → AreAnswersTo lane c answers
       → Hears (client_answered_all lane c answers) (octets ++ answers_octets lane c.next answers) (told ++ answers_told lane answers)
   reads_answers octets told c [] r back may = behind_none (Hears c) octets told r
   reads_answers octets told c (ReplyTo id body ∷ answers) r back may =

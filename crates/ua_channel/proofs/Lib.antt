@@ -55,3 +55,4 @@ mod ServerMerges
 mod ClientMerges
 mod MergedFollowing
 pub mod Groups
+mod Connected

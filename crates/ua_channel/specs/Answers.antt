@@ -7,7 +7,7 @@ use Rattle.ua_chunk.specs.Sequence.{next_number}
 use Rattle.ua_chunk.specs.declared.lane.Lane.{Lane}
 use Rattle.ua_channel.specs.Asks.{is_in}
 use Rattle.ua_channel.specs.ClientReads.{AtClient, IsAnswered, told_reply, with_answer, with_reply}
-use Rattle.ua_channel.specs.ClientTold.{Told, Renewed}
+use Rattle.ua_channel.specs.ClientTold.{ClientTold, Renewed}
 use Rattle.ua_channel.specs.ServerSends.{opened_frame, replied}
 
 -- the reply with this body to the call of this request id; or the OPN response to the renewal of this request id, with this RequestHandle,
@@ -36,12 +36,12 @@ answers_octets lane number (a ∷ answers) = answer_octets lane number a ++ answ
 -- ---- what they tell a client
 
 -- each call its own reply, or that it was given up; a renewal its token
-abbrev pub answer_told : Lane → Answer → Told
+abbrev pub answer_told : Lane → Answer → ClientTold
 answer_told lane (ReplyTo id body) = told_reply (cut_refusal lane body) id body
 answer_told lane (TokenFor id handle token lifetime moment) = Renewed token
 
 -- all in order, each once
-abbrev pub answers_told : Lane → List Answer → List Told
+abbrev pub answers_told : Lane → List Answer → List ClientTold
 answers_told lane [] = []
 answers_told lane (a ∷ answers) = answer_told lane a ∷ answers_told lane answers
 
@@ -59,14 +59,14 @@ client_answered_all lane at (a ∷ answers) = client_answered_all lane (client_a
 
 -- one: the call is unanswered, and the reply has octets; the renewal is the one that is unanswered, the token is a new one, and the response
 -- can be written
-abbrev pub MayAnswer : AtClient → Answer → Type 0
-MayAnswer at (ReplyTo id body) = IsTrue (is_in id at.pending) × (id < 2 ^ 32) × (0 < length body)
-MayAnswer at (TokenFor id handle token lifetime moment) = (at.renewals ≡ id ∷ []) × IsFalse (is_in token at.tokens) × IsAnswered at.channel at.next id handle token lifetime moment
+abbrev pub IsAnswerTo : AtClient → Answer → Type 0
+IsAnswerTo at (ReplyTo id body) = IsTrue (is_in id at.pending) × (id < 2 ^ 32) × (0 < length body)
+IsAnswerTo at (TokenFor id handle token lifetime moment) = (at.renewals ≡ id ∷ []) × IsFalse (is_in token at.tokens) × IsAnswered at.channel at.next id handle token lifetime moment
 
 -- all in order, each where the client is behind those before it
-abbrev pub MayAnswerAll : Lane → AtClient → List Answer → Type 0
-MayAnswerAll lane at [] = Unit {0}
-MayAnswerAll lane at (a ∷ answers) = MayAnswer at a × MayAnswerAll lane (client_answered lane at a) answers
+abbrev pub AreAnswersTo : Lane → AtClient → List Answer → Type 0
+AreAnswersTo lane at [] = Unit {0}
+AreAnswersTo lane at (a ∷ answers) = IsAnswerTo at a × AreAnswersTo lane (client_answered lane at a) answers
 
 -- the tokens that they bring are this one
 abbrev pub BringsToken : ℕ → Answer → Type 0

@@ -34,6 +34,7 @@ pub mod InStep
 -- What a client sends from where it stands, and what a server answers to it, as lists.
 pub mod Outgoing
 pub mod Answers
+pub mod Rounds
 -- What a conversation is, in plain words.
 pub mod Conversation
 pub mod ClientConversation

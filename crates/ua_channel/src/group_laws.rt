@@ -1,22 +1,32 @@
 //! Laws of what a client sends at once and what a server answers to it, over octets alone: any calls and
-//! renewals, in whatever pieces their octets come, and any answers to them.
+//! renewals, in whatever pieces their octets come, and any answers to them; and of a connection of any
+//! such rounds.
 //!
 //! Each function does nothing; its contract is the law. Both ends are where they may be between two
 //! messages, with any limits, URL and channel, and each OPN has a moment of its own.
 
-ghost use Rattle.std.specs.Prelude.{◌≡◌, ◌<◌, ◌^◌, ◌++◌, ℕ, List, Option, None, Some, length};
+ghost use Rattle.std.specs.Prelude.{◌≡◌, ◌<◌, ◌≤◌, ◌^◌, ◌++◌, ◌∷◌, [], ℕ, List, Option, None, Some, IsTrue, length};
 ghost use Rattle.std.specs.List.{AllByRecursion};
+ghost use Rattle.ua_builtin.specs.DateTime.{date_time};
+ghost use Rattle.ua_builtin.specs.declared.date_time.DateTime.{DateTime};
+ghost use Rattle.ua_frame.specs.Agreement.{ack_to, url_length};
+ghost use Rattle.ua_frame.specs.Frames.{frame_octets};
+ghost use Rattle.ua_frame.specs.Messages.{ack, ack_frame, hello};
 ghost use Rattle.ua_frame.specs.declared.limits.Limits.{Limits};
 ghost use Rattle.ua_chunk.specs.declared.lane.Lane.{Lane};
-ghost use Rattle.ua_channel.specs.Answers.{Answer, BringsToken, MayAnswerAll, answers_octets, answers_told, client_answered_all};
+ghost use Rattle.ua_channel.specs.Agreement.{agreement_of};
+ghost use Rattle.ua_channel.specs.Answers.{Answer, BringsToken, AreAnswersTo, answers_octets, answers_told, client_answered_all};
 ghost use Rattle.ua_channel.specs.Asks.{Placed, asked_in, next_id};
-ghost use Rattle.ua_channel.specs.ClientReads.{AtClient, ClientReads, IsLaneBack, lane_from};
-ghost use Rattle.ua_channel.specs.ClientTold.{Told as ClientTold};
+ghost use Rattle.ua_channel.specs.ClientReads.{AtClient, ClientReads, IsAnswered, IsLaneBack, lane_from, opened_at};
+ghost use Rattle.ua_channel.specs.ClientSends.{first_open, hello_frame, hello_to};
+ghost use Rattle.ua_channel.specs.ClientTold.{ClientTold, ClientTold as client_told};
 ghost use Rattle.ua_channel.specs.InStep.{AreInStep, lane_back};
 ghost use Rattle.ua_channel.specs.Outgoing.{AreWritable, Outgoing, asks_at, client_behind, issued_behind, outgoing_octets, outgoing_refusal, outgoing_told, server_behind};
 ghost use Rattle.ua_channel.specs.Received.{latest};
-ghost use Rattle.ua_channel.specs.ServerReads.{AtServer, ServerReads};
-ghost use Rattle.ua_channel.specs.ServerTold.{Told};
+ghost use Rattle.ua_channel.specs.Rounds.{AreConnected, AreRounds, BothEnds, Round, rounds_asks, rounds_behind, rounds_down, rounds_heard, rounds_told, rounds_up};
+ghost use Rattle.ua_channel.specs.ServerReads.{AtServer, ServerReads, greeted_at, with_token};
+ghost use Rattle.ua_channel.specs.ServerSends.{opened_frame};
+ghost use Rattle.ua_channel.specs.ServerTold.{Told, Told as server_told};
 
 /// What a client sends of calls and renewals, none of which it refuses, a server with which it is in step
 /// reads: it is told just these, in their order, each body whole, once and under its own request id, and
@@ -40,9 +50,31 @@ pub fn client_asks_outgoing()
 /// Where they were in step, they are so again.
 pub fn client_reads_answers()
     ensures reads { (limits : Limits) (asks : List Placed) (octets : List ℕ) (told : List ClientTold) (c : AtClient) (lane : Lane) (answers : List Answer) →
-        ClientReads limits asks octets told c → IsLaneBack limits c lane → MayAnswerAll lane c answers →
+        ClientReads limits asks octets told c → IsLaneBack limits c lane → AreAnswersTo lane c answers →
         ClientReads limits asks (octets ++ answers_octets lane c.next answers) (told ++ answers_told lane answers) (client_answered_all lane c answers) }
     ensures in_step { (server client : Limits) (url : Option (List ℕ)) (channel : ℕ) (s : AtServer) (c : AtClient) (answers : List Answer) →
         AreInStep server client url channel s c → AllByRecursion (BringsToken s.issued) answers →
         AreInStep server client url channel s (client_answered_all (lane_back server channel s) c answers) }
+{}
+
+/// A server and a client are connected behind the opening, of any limits, URL and channel: the HEL and the
+/// first OPN up, the ACK and the OPN response down.
+pub fn ends_connect()
+    ensures { (server client : Limits) (url : Option (List ℕ)) (channel lifetime : ℕ) (asked answered : DateTime) →
+        IsTrue (hello.encodable (hello_to client url)) → url_length url ≤ 4095 → IsTrue (ack.encodable (ack_to (hello_to client url) server)) →
+        IsTrue (date_time.encodable asked) → IsAnswered channel 1 1 0 1 lifetime answered →
+        AreConnected server client url channel (frame_octets (hello_frame (hello_to client url)) ++ frame_octets (first_open asked)) (server_told.Agreed (agreement_of server (hello_to client url)) ∷ (server_told.Opened 1 0 1 3600000 ∷ []))
+        [] (frame_octets (ack_frame (ack_to (hello_to client url) server)) ++ frame_octets (opened_frame channel 1 1 0 1 lifetime answered)) (client_told.Agreed (ack_to (hello_to client url) server) ∷ (client_told.Opened channel 1 ∷ []))
+        (record { server = with_token (greeted_at (hello_to client url)); client = opened_at (ack_to (hello_to client url) server) channel 1 2; id = 2 }) }
+{}
+
+/// Where they are connected, any rounds of calls, renewals and answers, each of which may be, leave them
+/// connected: the server is told just what the client sent, in order, each body whole, once and under its
+/// own request id, and each renewal; and the client just what was answered, each call its own reply, and
+/// each token. What is sent in a round may be answered in that one or in any later one.
+pub fn rounds_reach_both_ends()
+    ensures { (server client : Limits) (url : Option (List ℕ)) (channel : ℕ) (up : List ℕ) (told : List Told) (asks : List Placed) (down : List ℕ) (heard : List ClientTold) (at : BothEnds) (rounds : List Round) →
+        channel < 2 ^ 32 → AreConnected server client url channel up told asks down heard at → AreRounds server channel at rounds →
+        AreConnected server client url channel (up ++ rounds_up server channel at rounds) (told ++ rounds_told server channel at rounds) (asks ++ rounds_asks server channel (length down) at rounds)
+        (down ++ rounds_down server channel at rounds) (heard ++ rounds_heard server channel at rounds) (rounds_behind server channel at rounds) }
 {}
