@@ -1,12 +1,14 @@
 -- What a client sends at once, and what a server answers to it, one message after the other.
-use Rattle.std.proofs.Common.{◌≡◌, ℕ, ◌+◌, ◌<◌, ◌≤◌, ◌^◌, Bool, true, false, leb, IsTrue, List, [], ◌∷◌, ◌++◌, Option, Some, None, length, map, refl, sym, ap, subst, arith, append-nil, append_assoc}
+use Rattle.std.proofs.Common.{◌≡◌, ℕ, ◌+◌, ◌<◌, ◌≤◌, ◌^◌, Bool, true, false, leb, IsTrue, List, [], ◌∷◌, ◌++◌, Option, Some, None, length, map, refl, sym, ◌∙◌, ap, subst, arith, append-nil, append_assoc}
 use Rattle.std.specs.Prelude.{if◌then◌else◌}
 use Rattle.std.specs.List.{AllByRecursion}
 use Rattle.std.proofs.lemmas.Bool.{leb-false}
 use Rattle.ua_builtin.specs.DateTime.{date_time}
 use Rattle.ua_builtin.specs.Reasons.{first_reason, or_else}
+use Rattle.ua_builtin.specs.declared.date_time.DateTime.{DateTime}
 use Rattle.ua_frame.specs.Frames.{frame_octets}
 use Rattle.ua_frame.specs.declared.ack.Ack.{Ack}
+use Rattle.ua_frame.specs.declared.frame.Frame.{Frame}
 use Rattle.ua_frame.specs.declared.limits.Limits.{Limits}
 use Rattle.ua_chunk.specs.Cutting.{chunks_of, chunks_octets, cut_refusal}
 use Rattle.ua_chunk.specs.Sequence.{next_number}
@@ -15,19 +17,22 @@ use Rattle.ua_channel.specs.Answers.{Answer, BringsToken, AreAnswersTo, answers_
 use Rattle.ua_channel.specs.Answers.Answer.{ReplyTo, TokenFor}
 use Rattle.ua_channel.specs.Asks.{Placed, asked_in, next_id}
 use Rattle.ua_channel.specs.Asks.Asking.{Call, Renewal}
-use Rattle.ua_channel.specs.ClientAsks.{is_too_large, most_pending, most_tokens, no_id}
+use Rattle.ua_channel.specs.Client.{ClientStands, call_refused, client_limits, renewal_refused}
+use Rattle.ua_channel.specs.ClientAsks.{is_too_large, most_pending, most_tokens, no_id, reasons_of_call, reasons_of_renewal}
 use Rattle.ua_channel.specs.ClientReads.{AtClient, ClientReads, IsLaneBack, lane_from, told_reply, with_answer, with_call, with_renewal, with_reply}
 use Rattle.ua_channel.specs.ClientSends.{renewal_frame}
 use Rattle.ua_channel.specs.ClientTold.{ClientTold, Renewed}
 use Rattle.ua_channel.specs.InStep.{AreInStep, lane_back}
-use Rattle.ua_channel.specs.Outgoing.{AreWritable, Outgoing, asks_at, asking_of, client_behind, issued_behind, one_reasons, outgoing_octets, outgoing_refusal, outgoing_told, server_behind}
+use Rattle.ua_channel.specs.Outgoing.{AreWritable, Outgoing, asks_at, asking_of, client_behind, issued_behind, one_reasons, outgoing_number, outgoing_octets, outgoing_refusal, outgoing_told, server_behind}
 use Rattle.ua_channel.specs.Outgoing.Outgoing.{CallWith, RenewalAt}
 use Rattle.ua_channel.specs.Received.{has_some, latest}
 use Rattle.ua_channel.specs.ServerReads.{AtServer, ServerReads, with_message, with_token}
 use Rattle.ua_channel.specs.ServerSends.{opened_frame, replied}
 use Rattle.ua_channel.specs.ServerTold.{Told, Asked, Opened}
+use Rattle.ua_channel.specs.declared.client.channel.ClientChannel.{ClientChannel}
 use Rattle.ua_channel.proofs.ClientReading.{next_more, reads_call, reads_renewed, reads_replied}
 use Rattle.ua_channel.proofs.ClientReading as client
+use Rattle.ua_channel.proofs.ClientSending.{refuses_call, refuses_renewal}
 use Rattle.ua_channel.proofs.HeldTokens.{stays_in}
 use Rattle.ua_channel.proofs.InStep.{body_for, in_more, in_step_answer, in_step_call, in_step_renewal, in_step_reply, lane_to}
 use Rattle.ua_channel.proofs.ServerReading.{reads_message, reads_renewal}
@@ -96,6 +101,12 @@ none_told token issued other id (body ∷ bodies) = ap (λ (ts : List Told). Ask
 pub none_issued : (issued : ℕ) (bodies : List (List ℕ)) → issued_behind issued (map CallWith bodies) ≡ issued
 none_issued issued [] = refl
 none_issued issued (body ∷ bodies) = none_issued issued bodies
+
+-- the number that the client sends next is the one that the server waits for
+pub numbers_agree : (lane : Lane) (s : AtServer) (os : List Outgoing) → outgoing_number (Some lane) s.next os ≡ (server_behind lane s os).next
+numbers_agree lane s [] = refl
+numbers_agree lane s (CallWith body ∷ os) = numbers_agree lane (with_message s lane body) os
+numbers_agree lane s (RenewalAt moment ∷ os) = numbers_agree lane (with_token s) os
 
 module _ (server client : Limits) (url : Option (List ℕ)) (channel : ℕ) (on : channel < 2 ^ 32) where
   abbrev Reads : AtServer → List ℕ → List Told → Type 0
@@ -198,3 +209,27 @@ in_step_answers server client url channel s c (ReplyTo id body ∷ answers) t br
 in_step_answers server client url channel s c (TokenFor id handle token lifetime moment ∷ answers) t brings =
     in_step_answers server client url channel s (with_answer c token (next_number c.next)) answers
     (subst (λ (k : ℕ). AreInStep server client url channel s (with_answer c k (next_number c.next))) (sym brings.0) (in_step_answer server client url channel s c t (next_number c.next))) brings.1
+
+-- ---- why a channel does not send the next one
+
+or_none_behind : {A : Type 0} (o : Option A) → or_else o None ≡ o
+or_none_behind None = refl
+or_none_behind (Some x) = refl
+
+plus_zero : (n : ℕ) → n + 0 ≡ n
+plus_zero n = omega arith
+
+module _ (x : ClientChannel) (asks : List Placed) (octets : List ℕ) (frames : List Frame) (rest : List ℕ) (told : List ClientTold) (at : AtClient) (stands : ClientStands x asks octets frames rest) (r : ClientReads (client_limits x) asks octets told at) where
+  abbrev next : ℕ
+  next = next_id (asked_in asks)
+
+  pub call_is_refused : (body : List ℕ) → call_refused x 0 body ≡ outgoing_refusal at next (CallWith body ∷ [])
+  call_is_refused body =
+      refuses_call x asks octets frames rest told at stands r 0 body
+      ∙ (ap (λ (n : ℕ). first_reason (reasons_of_call n (next + 0) (is_too_large at.ack body))) (plus_zero (length at.pending))
+      ∙ (ap (λ (n : ℕ). first_reason (reasons_of_call (length at.pending) n (is_too_large at.ack body))) (plus_zero next)
+      ∙ sym (or_none_behind (first_reason (reasons_of_call (length at.pending) next (is_too_large at.ack body))))))
+
+  pub renewal_is_refused : (moment : DateTime) → renewal_refused x ≡ outgoing_refusal at next (RenewalAt moment ∷ [])
+  renewal_is_refused moment =
+      refuses_renewal x asks octets frames rest told at stands r ∙ sym (or_none_behind (first_reason (reasons_of_renewal (has_some at.renewals) (length at.tokens) next)))

@@ -56,3 +56,4 @@ mod ClientMerges
 mod MergedFollowing
 pub mod Groups
 mod Connected
+mod ExampleRounds

@@ -57,8 +57,8 @@ client_answered_all lane at (a ∷ answers) = client_answered_all lane (client_a
 
 -- ---- which answers a server may give
 
--- one: the call is unanswered, and the reply has octets; the renewal is the one that is unanswered, the token is a new one, and the response
--- can be written
+-- one: the call is unanswered, its request id can be written, and the reply has octets; the renewal is the one that is unanswered, the client
+-- does not hold the token, and the response can be written
 abbrev pub IsAnswerTo : AtClient → Answer → Type 0
 IsAnswerTo at (ReplyTo id body) = IsTrue (is_in id at.pending) × (id < 2 ^ 32) × (0 < length body)
 IsAnswerTo at (TokenFor id handle token lifetime moment) = (at.renewals ≡ id ∷ []) × IsFalse (is_in token at.tokens) × IsAnswered at.channel at.next id handle token lifetime moment
@@ -68,7 +68,7 @@ abbrev pub AreAnswersTo : Lane → AtClient → List Answer → Type 0
 AreAnswersTo lane at [] = Unit {0}
 AreAnswersTo lane at (a ∷ answers) = IsAnswerTo at a × AreAnswersTo lane (client_answered lane at a) answers
 
--- the tokens that they bring are this one
+-- the token that it brings, if it brings one, is this one
 abbrev pub BringsToken : ℕ → Answer → Type 0
 BringsToken newest (ReplyTo id body) = Unit {0}
 BringsToken newest (TokenFor id handle token lifetime moment) = token ≡ newest

@@ -35,6 +35,7 @@ pub mod InStep
 pub mod Outgoing
 pub mod Answers
 pub mod Rounds
+pub mod ExampleRounds
 -- What a conversation is, in plain words.
 pub mod Conversation
 pub mod ClientConversation

@@ -45,10 +45,15 @@ abbrev pub number_behind : Option Lane → ℕ → List ℕ → ℕ
 number_behind None number body = number
 number_behind (Some lane) number body = number_after number (pieces lane.room body)
 
+-- the sequence number behind the OPN of a renewal
+abbrev pub number_renewed : Option Lane → ℕ → ℕ
+number_renewed None number = number
+number_renewed (Some lane) number = next_number number
+
 -- and behind one
 abbrev pub number_past : Option Lane → ℕ → Outgoing → ℕ
 number_past lane number (CallWith body) = number_behind lane number body
-number_past lane number (RenewalAt moment) = next_number number
+number_past lane number (RenewalAt moment) = number_renewed lane number
 
 -- all of them in order, numbered on, each under the next request id
 abbrev pub outgoing_octets : Option Lane → ℕ → ℕ → List Outgoing → List ℕ

@@ -12,7 +12,8 @@ use Rattle.ua_channel.specs.Outgoing.{AreWritable, Outgoing, asks_at, client_beh
 use Rattle.ua_channel.specs.ServerReads.{AtServer, ServerReads}
 use Rattle.ua_channel.specs.ServerTold.{Told}
 
--- calls and renewals that a client sends, and then answers to any that are unanswered; either may be none
+-- calls and renewals that a client sends where it took all that was answered before, and then answers to any that are unanswered; either may be
+-- none
 pub record Round : Type 0 where
   pub outgoing : List Outgoing
   pub answers : List Answer
@@ -52,18 +53,20 @@ rounds_behind server channel at (r ∷ rounds) = rounds_behind server channel (r
 
 -- ---- what goes over the connection, and what it tells
 
--- the octets that the client sends in a round, and those that the server answers
+-- the octets that the client sends in a round
 abbrev pub round_up : BothEnds → Round → List ℕ
 round_up at round = outgoing_octets (Some (lane_from at.client)) at.server.next at.id round.outgoing
 
+-- those that the server answers in it
 abbrev pub round_down : Limits → ℕ → BothEnds → Round → List ℕ
 round_down server channel at round = answers_octets (answers_lane server channel at round.outgoing) (both_sent at round.outgoing).client.next round.answers
 
--- those of rounds
+-- all that the client sends in rounds
 abbrev pub rounds_up : Limits → ℕ → BothEnds → List Round → List ℕ
 rounds_up server channel at [] = []
 rounds_up server channel at (r ∷ rounds) = round_up at r ++ rounds_up server channel (round_behind server channel at r) rounds
 
+-- all that the server answers in them
 abbrev pub rounds_down : Limits → ℕ → BothEnds → List Round → List ℕ
 rounds_down server channel at [] = []
 rounds_down server channel at (r ∷ rounds) = round_down server channel at r ++ rounds_down server channel (round_behind server channel at r) rounds
@@ -73,7 +76,7 @@ abbrev pub rounds_told : Limits → ℕ → BothEnds → List Round → List Tol
 rounds_told server channel at [] = []
 rounds_told server channel at (r ∷ rounds) = outgoing_told at.client.newest at.server.issued at.id r.outgoing ++ rounds_told server channel (round_behind server channel at r) rounds
 
--- what they tell the client: each call its own reply, and each token
+-- what they tell the client: each call that is answered its own reply, or where that is past its limits that it was given up, and each token
 abbrev pub rounds_heard : Limits → ℕ → BothEnds → List Round → List ClientTold
 rounds_heard server channel at [] = []
 rounds_heard server channel at (r ∷ rounds) = answers_told (answers_lane server channel at r.outgoing) r.answers ++ rounds_heard server channel (round_behind server channel at r) rounds

@@ -11,7 +11,8 @@ use Rattle.ua_client.specs.Sent.{bodies_of}
 
 -- ---- one turn, by the requests that are asked in it; none where it is a renewal
 
--- calls of these bodies under this token and request ids from this one on: each body whole and once, in order (OPC 10000-6, 6.7.2)
+-- calls of these bodies under this token and request ids from this one on: each body whole and once, in order (OPC 10000-6, 6.7.2); how many
+-- tokens were issued is no matter to them
 abbrev pub calls_told : ℕ → ℕ → List (List ℕ) → List Told
 calls_told token id bodies = outgoing_told token token id (map CallWith bodies)
 
