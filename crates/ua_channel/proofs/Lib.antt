@@ -57,3 +57,7 @@ mod MergedFollowing
 pub mod Groups
 mod Connected
 mod ExampleRounds
+mod MergedLists
+mod ServerMergesOn
+mod ClientMergesOn
+mod AskedOn

@@ -3,7 +3,8 @@
 //!
 //! Each function does nothing; its contract is the law. What it says of frames is by the rules of an
 //! end, a `Run` of them and the `events` that they tell; `server_follows_merged` and
-//! `client_follows_merged` say it of a running channel.
+//! `client_follows_merged` say it of a running channel. `server_reads_merged` and `client_reads_merged`
+//! go on from where an end stands, as the laws of `both_ends` do, and say where it then stands.
 
 ghost use Rattle.std.specs.Prelude.{◌≡◌, ◌↔◌, ◌+◌, ◌++◌, [], ℕ, List, length, map};
 ghost use Rattle.std.specs.List.{filter, range_with_len};
@@ -15,16 +16,19 @@ ghost use Rattle.ua_chunk.specs.Merge.{Sent, outcome_under, outcomes, sent_under
 ghost use Rattle.ua_chunk.specs.Open.{open_ids};
 ghost use Rattle.ua_chunk.specs.Refusal.{TakesMessages};
 ghost use Rattle.ua_chunk.specs.declared.chunk.Chunk.{Chunk};
-ghost use Rattle.ua_channel.specs.Asks.{Placed};
+ghost use Rattle.ua_channel.specs.Asks.{Placed, asked_in};
 ghost use Rattle.ua_channel.specs.Client.{client_limits, ClientEnded, ClientGoes};
+ghost use Rattle.ua_channel.specs.ClientReads.{AtClient, ClientReads};
 ghost use Rattle.ua_channel.specs.ClientTable.{client_rules};
 ghost use Rattle.ua_channel.specs.ClientTokens.{responses, tokens_of};
 ghost use Rattle.ua_channel.specs.ClientTold.{ClientTold, Why, told_item};
 ghost use Rattle.ua_channel.specs.Conversation.{FitMessages};
+ghost use Rattle.ua_channel.specs.MergedReads.{ClientMerge, ServerMerge, placed_later, told_of_merge, with_merged, with_merged_back};
 ghost use Rattle.ua_channel.specs.Merges.{AreMerged, ClientReadsMerged, MergedAtClient, MergedAtServer, ServerReadsMerged, is_message_under, is_told_under, told_merged, told_merged_back, tokens_renewed, tokens_told};
 ghost use Rattle.ua_channel.specs.Paired.{told_of_calls};
 ghost use Rattle.ua_channel.specs.Received.{messages, openings, received};
 ghost use Rattle.ua_channel.specs.ServerMessages.{message_of, messages_in};
+ghost use Rattle.ua_channel.specs.ServerReads.{AtServer, ServerReads};
 ghost use Rattle.ua_channel.specs.ServerRules.{server_rules};
 ghost use Rattle.ua_channel.specs.ServerStands.{Ended, Goes, RefusedAt, channel_of, limits_of};
 ghost use Rattle.ua_channel.specs.ServerTold.{Told, issued};
@@ -103,4 +107,42 @@ pub fn client_follows_merged()
         ClientReadsMerged (client_limits x) asks octets all → told ≡ all }
     ensures not_failed { (x : ClientChannel) (asks : List Placed) (octets more : List ℕ) (told all : List ClientTold) (why : Why) → ClientEnded x asks octets told why →
         ClientReadsMerged (client_limits x) asks (octets ++ more) all → ⊥ }
+{}
+
+/// From where a server stands it reads merged messages, with renewals among them, and stands behind them
+/// with a token more for each renewal, the last token that a chunk used, and the number that is next. So
+/// merges are chained with what comes before and behind: `server_follows` follows them all. It is told
+/// each message at its last chunk, once under its request id, and each renewal with the next token.
+pub fn server_reads_merged()
+    ensures reads { (limits : Limits) (channel : ℕ) (octets : List ℕ) (told : List Told) (at : AtServer) (ms : List Sent) (more : List Frame) (next : ℕ) →
+        ServerReads limits channel octets told at → ServerMerge limits channel at ms more next →
+        ServerReads limits channel (octets ++ frames_octets more) (told ++ told_of_merge ms at.issued more) (with_merged at more next) }
+    ensures messages { (limits : Limits) (channel : ℕ) (octets : List ℕ) (told : List Told) (at : AtServer) (ms : List Sent) (more : List Frame) (next : ℕ) →
+        ServerReads limits channel octets told at → ServerMerge limits channel at ms more next →
+        messages_in (told_of_merge ms at.issued more) ≡ map message_of (outcomes ms (messages more)) }
+    ensures once { (limits : Limits) (channel : ℕ) (octets : List ℕ) (told : List Told) (at : AtServer) (ms : List Sent) (more : List Frame) (next : ℕ) →
+        ServerReads limits channel octets told at → ServerMerge limits channel at ms more next →
+        (id : ℕ) → filter (is_message_under id) (messages_in (told_of_merge ms at.issued more)) ≡ map message_of (outcome_under (sent_under id ms)) }
+    ensures tokens { (limits : Limits) (channel : ℕ) (octets : List ℕ) (told : List Told) (at : AtServer) (ms : List Sent) (more : List Frame) (next : ℕ) →
+        ServerReads limits channel octets told at → ServerMerge limits channel at ms more next →
+        tokens_told (told_of_merge ms at.issued more) ≡ range_with_len (at.issued + 1) (length (openings more)) }
+{}
+
+/// The same of a client and merged replies, with the answers to renewals among them, where the client asks
+/// on in the middle of them, calls and renewals, each under the next request id. It stands behind them with
+/// the calls and renewals that were not answered, and is told each reply at its last chunk, once under the
+/// request id of its call, and each token.
+pub fn client_reads_merged()
+    ensures reads { (limits : Limits) (asks later : List Placed) (octets : List ℕ) (told : List ClientTold) (at : AtClient) (ms : List Sent) (more : List Frame) (next : ℕ) →
+        ClientReads limits asks octets told at → ClientMerge limits at (asked_in asks) later ms more next →
+        ClientReads limits (asks ++ placed_later (length octets) later) (octets ++ frames_octets more) (told ++ told_merged_back ms more) (with_merged_back at (asked_in later) more next) }
+    ensures messages { (limits : Limits) (asks later : List Placed) (octets : List ℕ) (told : List ClientTold) (at : AtClient) (ms : List Sent) (more : List Frame) (next : ℕ) →
+        ClientReads limits asks octets told at → ClientMerge limits at (asked_in asks) later ms more next →
+        told_of_calls (told_merged_back ms more) ≡ map told_item (outcomes ms (messages more)) }
+    ensures once { (limits : Limits) (asks later : List Placed) (octets : List ℕ) (told : List ClientTold) (at : AtClient) (ms : List Sent) (more : List Frame) (next : ℕ) →
+        ClientReads limits asks octets told at → ClientMerge limits at (asked_in asks) later ms more next →
+        (id : ℕ) → filter (is_told_under id) (told_merged_back ms more) ≡ map told_item (outcome_under (sent_under id ms)) }
+    ensures tokens { (limits : Limits) (asks later : List Placed) (octets : List ℕ) (told : List ClientTold) (at : AtClient) (ms : List Sent) (more : List Frame) (next : ℕ) →
+        ClientReads limits asks octets told at → ClientMerge limits at (asked_in asks) later ms more next →
+        tokens_renewed (told_merged_back ms more) ≡ tokens_of (responses (openings more)) }
 {}

@@ -1,0 +1,132 @@
+-- What is asked on, behind octets that came and in the middle of others, changes nothing of how those that came are read.
+use Rattle.std.proofs.Common.{◌≡◌, inl, inr, ◌⊎◌, ℕ, ◌≤◌, List, [], ◌∷◌, ◌++◌, length, refl, sym, ◌∙◌, ap, subst, arith, append-nil, append_assoc, length-append}
+use Rattle.std.specs.List.{AllByRecursion}
+use Rattle.ua_builtin.specs.Reasons.{first_reason}
+use Rattle.ua_frame.specs.declared.frame.Frame.{Frame}
+use Rattle.ua_frame.specs.declared.limits.Limits.{Limits}
+use Rattle.ua_frame.specs.Frames.{frame_octets, frames_octets}
+use Rattle.ua_frame.specs.Run.{Going, Run, Stopped, WrongFrame, WrongHeader, events}
+use Rattle.ua_frame.proofs.Streams.{frames_octets-push}
+use Rattle.ua_channel.specs.Asks.{Asking, Placed, asked_before, end_of}
+use Rattle.ua_channel.specs.Client.{ClientEnded, ClientGoes, client_limits}
+use Rattle.ua_channel.specs.ClientReads.{AtClient, ClientReads}
+use Rattle.ua_channel.specs.ClientTable.{client_reasons, client_rules}
+use Rattle.ua_channel.specs.ClientTold.{ClientTold, Why}
+use Rattle.ua_channel.specs.Content.{content}
+use Rattle.ua_channel.specs.Merges.{ClientReadsMerged}
+use Rattle.ua_channel.specs.Received.{received}
+use Rattle.ua_channel.specs.declared.client.channel.ClientChannel.{ClientChannel}
+use Rattle.ua_channel.proofs.AskedLater.{asked_later}
+use Rattle.ua_channel.proofs.Askings.{all-weaken, asked_before-push}
+use Rattle.ua_channel.proofs.ClientMerges.{takes_merged, tells_merged}
+use Rattle.ua_channel.proofs.ReadOn.{begins_told, never_refused}
+
+-- asks at a place or behind it were not made before it
+pub asked_before-later : (place : ℕ) (asks later : List Placed) → AllByRecursion (λ (a : Placed). place ≤ a.0) later → asked_before place (asks ++ later) ≡ asked_before place asks
+asked_before-later place asks [] behind = ap (asked_before place) (append-nil asks)
+asked_before-later place asks (a ∷ later) behind =
+    ap (asked_before place) (sym (append_assoc asks (a ∷ []) later)) ∙ (asked_before-later place (asks ++ a ∷ []) later behind.1 ∙ asked_before-push place asks a behind.0)
+
+-- octets that go on are read as they were
+pub going_on : (limits : Limits) (asks later : List Placed) (octets : List ℕ) (frames : List Frame) (rest : List ℕ) → AllByRecursion (λ (a : Placed). length octets ≤ a.0) later
+    → Run (client_rules limits asks) octets frames rest Going → Run (client_rules limits (asks ++ later)) octets frames rest Going
+going_on limits asks [] octets frames rest behind run = subst (λ (t : List Placed). Run (client_rules limits t) octets frames rest Going) (sym (append-nil asks)) run
+going_on limits asks (a ∷ later) octets frames rest behind run =
+    subst (λ (t : List Placed). Run (client_rules limits t) octets frames rest Going) (append_assoc asks (a ∷ []) later)
+    (going_on limits (asks ++ a ∷ []) later octets frames rest behind.1 (asked_later limits asks a octets frames rest behind.0 run))
+
+module _ (limits : Limits) (asks later : List Placed) (octets : List ℕ) (frames : List Frame) (rest : List ℕ) (why : Why) (behind : AllByRecursion (λ (a : Placed). length octets ≤ a.0) later)
+    (run : Run (client_rules limits asks) octets frames rest (Stopped why)) where
+  behind_frames : AllByRecursion (λ (a : Placed). length (frames_octets frames) ≤ a.0) later
+  behind_frames =
+      all-weaken (λ (a : Placed). length octets ≤ a.0) (λ (a : Placed). length (frames_octets frames) ≤ a.0) later
+      (λ a le. omega (arith, le, ap length run.whole, length-append (frames_octets frames) rest)) behind
+
+  good_on : Run (client_rules limits (asks ++ later)) (frames_octets frames) frames [] Going
+  good_on =
+      going_on limits asks later (frames_octets frames) frames [] behind_frames
+      (record { whole = sym (append-nil (frames_octets frames)); good = run.good; ends = (refl, inl (omega arith)) })
+
+  within : (f : Frame) (more : List ℕ) → rest ≡ frame_octets f ++ more → end_of frames f ≤ length octets
+  within f more parts =
+      omega (
+        arith,
+        ap length run.whole,
+        length-append (frames_octets frames) rest,
+        ap length parts,
+        length-append (frame_octets f) more,
+        ap length (frames_octets-push frames f),
+        length-append (frames_octets frames) (frame_octets f),
+      )
+
+  asked_here : (f : Frame) (more : List ℕ) → rest ≡ frame_octets f ++ more → asked_before (end_of frames f) (asks ++ later) ≡ asked_before (end_of frames f) asks
+  asked_here f more parts =
+      asked_before-later (end_of frames f) asks later
+      (all-weaken (λ (a : Placed). length octets ≤ a.0) (λ (a : Placed). end_of frames f ≤ a.0) later (λ a le. omega (arith, le, within f more parts)) behind)
+
+  wrong_on : (WrongHeader (client_rules limits asks) frames rest why ⊎ WrongFrame (client_rules limits asks) frames rest why)
+      → (WrongHeader (client_rules limits (asks ++ later)) frames rest why ⊎ WrongFrame (client_rules limits (asks ++ later)) frames rest why)
+  wrong_on (inl w) = inl (record { fault = w.fault; code = w.code; whole = w.whole; fault_is = w.fault_is; code_is = w.code_is; why_is = w.why_is })
+  wrong_on (inr w) =
+      inr (record {
+        frame = w.frame;
+        more = w.more;
+        parts = w.parts;
+        sized = w.sized;
+        let_in = w.let_in;
+        refused = ap (λ (asked : List Asking). first_reason (client_reasons limits (received frames) asked (content w.frame))) (asked_here w.frame w.more w.parts) ∙ w.refused;
+      })
+
+  -- and so are octets that are refused
+  pub stopped_on : Run (client_rules limits (asks ++ later)) octets frames rest (Stopped why)
+  stopped_on = record { whole = run.whole; good = good_on.good; ends = (refl, wrong_on run.ends.1) }
+
+-- ---- a channel whose client asks on
+
+module _ (x : ClientChannel) (asks later : List Placed) (octets more : List ℕ) (told all : List ClientTold) (behind : AllByRecursion (λ (a : Placed). length octets ≤ a.0) later) where
+  -- all that was read to its end
+  record Reads : Type 0 where
+    frames : List Frame
+    run : Run (client_rules (client_limits x) (asks ++ later)) (octets ++ more) frames [] Going
+    told_is : events (client_rules (client_limits x) (asks ++ later)) frames ≡ all
+
+  begins_on : ClientGoes x asks octets told → Reads → (rest : List ClientTold) × (all ≡ told ++ rest)
+  begins_on g r =
+      let b = begins_told (client_rules (client_limits x) (asks ++ later)) octets more g.frames r.frames g.rest Going (going_on (client_limits x) asks later octets g.frames g.rest behind g.stands.run) r.run in
+      (b.0, sym r.told_is ∙ (b.1 ∙ ap (λ (t : List ClientTold). t ++ b.0) g.told_is))
+
+  not_failed_on : (why : Why) → ClientEnded x asks octets told why → Reads → ⊥
+  not_failed_on why e r =
+      never_refused (client_rules (client_limits x) (asks ++ later)) octets more e.frames r.frames e.rest why Going (λ s. cc) (stopped_on (client_limits x) asks later octets e.frames e.rest why behind e.run) r.run
+
+  reads : (at : AtClient) → ClientReads (client_limits x) (asks ++ later) (octets ++ more) all at → Reads
+  reads at r = record { frames = r.frames; run = r.run; told_is = r.told_is }
+
+  reads_merged : ClientReadsMerged (client_limits x) (asks ++ later) (octets ++ more) all → Reads
+  reads_merged r = record {
+    frames = r.before ++ r.more;
+    run =
+        subst (λ (t : List ℕ). Run (client_rules (client_limits x) (asks ++ later)) t (r.before ++ r.more) [] Going) (sym r.whole)
+        (takes_merged (client_limits x) (asks ++ later) r.before r.more r.messages r.merged r.start r.run);
+    told_is = tells_merged (client_limits x) (asks ++ later) r.before r.more r.messages r.merged ∙ r.told_is;
+  }
+
+pub begins_asking : (x : ClientChannel) (asks later : List Placed) (octets more : List ℕ) (told all : List ClientTold) (at : AtClient) → ClientGoes x asks octets told
+    → AllByRecursion (λ (a : Placed). length octets ≤ a.0) later → ClientReads (client_limits x) (asks ++ later) (octets ++ more) all at
+    → (rest : List ClientTold) × (all ≡ told ++ rest)
+begins_asking x asks later octets more told all at g behind r = begins_on x asks later octets more told all behind g (reads x asks later octets more told all behind at r)
+
+pub not_failed_asking : (x : ClientChannel) (asks later : List Placed) (octets more : List ℕ) (told all : List ClientTold) (at : AtClient) (why : Why) → ClientEnded x asks octets told why
+    → AllByRecursion (λ (a : Placed). length octets ≤ a.0) later → ClientReads (client_limits x) (asks ++ later) (octets ++ more) all at
+    → ⊥
+not_failed_asking x asks later octets more told all at why e behind r = not_failed_on x asks later octets more told all behind why e (reads x asks later octets more told all behind at r)
+
+pub begins_merged : (x : ClientChannel) (asks later : List Placed) (octets more : List ℕ) (told all : List ClientTold) → ClientGoes x asks octets told
+    → AllByRecursion (λ (a : Placed). length octets ≤ a.0) later → ClientReadsMerged (client_limits x) (asks ++ later) (octets ++ more) all
+    → (rest : List ClientTold) × (all ≡ told ++ rest)
+begins_merged x asks later octets more told all g behind r = begins_on x asks later octets more told all behind g (reads_merged x asks later octets more told all behind r)
+
+pub not_failed_merged : (x : ClientChannel) (asks later : List Placed) (octets more : List ℕ) (told all : List ClientTold) (why : Why) → ClientEnded x asks octets told why
+    → AllByRecursion (λ (a : Placed). length octets ≤ a.0) later → ClientReadsMerged (client_limits x) (asks ++ later) (octets ++ more) all
+    → ⊥
+not_failed_merged x asks later octets more told all why e behind r = not_failed_on x asks later octets more told all behind why e (reads_merged x asks later octets more told all behind r)

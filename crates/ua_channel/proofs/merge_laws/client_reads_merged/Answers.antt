@@ -1,0 +1,14 @@
+use Rattle.ua_channel.proofs.ClientMergesOn.{reads_merged, reads_messages, reads_once, reads_tokens}
+use Rattle.ua_channel.proofs.merge_laws.client_reads_merged.Goals as goal
+
+pub returns-clause-reads : goal.returns-clause-reads
+returns-clause-reads c = reads_merged
+
+pub returns-clause-messages : goal.returns-clause-messages
+returns-clause-messages c = reads_messages
+
+pub returns-clause-once : goal.returns-clause-once
+returns-clause-once c = reads_once
+
+pub returns-clause-tokens : goal.returns-clause-tokens
+returns-clause-tokens c = reads_tokens
