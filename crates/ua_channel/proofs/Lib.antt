@@ -61,3 +61,4 @@ mod MergedLists
 mod ServerMergesOn
 mod ClientMergesOn
 mod AskedOn
+mod AskedBefore

@@ -30,6 +30,7 @@ pub mod Paired
 -- What one end reads of what the other writes.
 pub mod ServerReads
 pub mod ClientReads
+pub mod AskedEarlier
 pub mod InStep
 -- What a client sends from where it stands, and what a server answers to it, as lists.
 pub mod Outgoing

@@ -18,6 +18,7 @@
 #![tactic(auto)]
 
 mod agreement;
+pub mod asking_laws;
 pub mod both_ends;
 mod client;
 pub mod client_laws;

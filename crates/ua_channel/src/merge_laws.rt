@@ -5,6 +5,7 @@
 //! end, a `Run` of them and the `events` that they tell; `server_follows_merged` and
 //! `client_follows_merged` say it of a running channel. `server_reads_merged` and `client_reads_merged`
 //! go on from where an end stands, as the laws of `both_ends` do, and say where it then stands.
+//! Where a client asks on in the middle of octets, merged or not, `asking_laws` say it of its channel.
 
 ghost use Rattle.std.specs.Prelude.{◌≡◌, ◌↔◌, ◌+◌, ◌++◌, [], ℕ, List, length, map};
 ghost use Rattle.std.specs.List.{filter, range_with_len};
