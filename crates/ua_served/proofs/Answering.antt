@@ -125,13 +125,13 @@ all_by P true m ms from one h k = (one, h)
 all_by P false m ms from one h k = k
 
 -- what is so of all tokens is so of those from the last one used on
-all_held : (P : ℕ → Type 0) (n : ℕ) (ms : List ℕ) → AllByRecursion P ms → AllByRecursion P (from_last n ms)
+pub all_held : (P : ℕ → Type 0) (n : ℕ) (ms : List ℕ) → AllByRecursion P ms → AllByRecursion P (from_last n ms)
 all_held P n [] h = tt
 all_held P n (m ∷ ms) h = all_by P (eqb m n && not (is_in n ms)) m ms (from_last n ms) h.0 h.1 (all_held P n ms h.1)
 
 -- ---- the tokens that are held behind a reply
 
-latest_in : (n k : ℕ) (ks : List ℕ) → latest (k ∷ ks) ≡ Some n → is_in n (k ∷ ks) ≡ true
+pub latest_in : (n k : ℕ) (ks : List ℕ) → latest (k ∷ ks) ≡ Some n → is_in n (k ∷ ks) ≡ true
 latest_in n k [] e = ap (λ (b : Bool). b || false) (eq-eqb k n (some_is k n e))
 latest_in n k (j ∷ ks) e = ap (λ (b : Bool). eqb k n || b) (latest_in n j ks e) ∙ or_true (eqb k n)
 

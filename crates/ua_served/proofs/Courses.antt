@@ -18,7 +18,6 @@ use Rattle.ua_services.specs.declared.request.Request.{Request}
 use Rattle.ua_server.specs.Said.{said}
 use Rattle.ua_server.specs.State.{State}
 use Rattle.ua_server.specs.declared.step.End.TheVariants as ending
-use Rattle.ua_server.proofs.SaidInParts.{said-append, said-more}
 use Rattle.ua_client.specs.Carried.{Carries}
 use Rattle.ua_client.specs.Client.{Closes, ClosesAt, IsReady, OpensClient, OpensNothing, closing_at, closing_by, connection_of}
 use Rattle.ua_client.specs.Hearing.{channel_of, untaken_of}
@@ -52,7 +51,7 @@ use Rattle.ua_served.proofs.Pushes.{held_push, ids_push, number_push, octets_pus
 use Rattle.ua_served.proofs.Reaching.{closing_read}
 use Rattle.ua_served.proofs.Replying.{some-append, state_closed, state_renewal}
 use Rattle.ua_served.proofs.Rounds.{closing_there}
-use Rattle.ua_served.proofs.Saying.{end_is, left_by_run, said_by_run, spent-append, spent-enough}
+use Rattle.ua_served.proofs.Saying.{end_is, left_by_run, said_by_run, said_over}
 use Rattle.ua_served.proofs.Staying.{said_there}
 use Rattle.ua_served.proofs.Talks.{asked_judged, asked_number, asked_refused, asked_replied, asked_sent, asked_state, got_on, renewal_sent, renewed_judged, renewing_refused, rounds_octets, talking_as, talks_asked, talks_renewed}
 
@@ -235,13 +234,8 @@ module _ (b : Beginning) (octets more : List ℕ) (told : List Told) (q : Server
   -- a CLO is not answered
   closing_said : said_to b more ≡ said_to b octets
   closing_said =
-      let ms : List DateTime = spent told b.moment ++ spent (Closed ∷ []) b.moment in
       said_by_run b more q.frames [] Over q.run
-      ∙ (ap (λ (k : List Told). said b.channel b.first k Over (spent k b.moment)) q.told_is
-      ∙ (ap (λ (m : List DateTime). said b.channel b.first (told ++ Closed ∷ []) Over m) (spent-append told (Closed ∷ []) b.moment)
-      ∙ (said-append b.channel b.first told (Closed ∷ []) Over ms
-      ∙ (append-nil (said b.channel b.first told Going ms)
-      ∙ (said-more b.channel b.first told Going (spent told b.moment) (spent (Closed ∷ []) b.moment) (spent-enough told b.moment) ∙ sym here)))))
+      ∙ (ap (λ (k : List Told). said b.channel b.first k Over (spent k b.moment)) q.told_is ∙ (said_over b told ∙ sym here))
 
 -- it closes
 pub talked_all : (b : Beginning) (limits : Limits) (url : Option (List ℕ)) (moment : DateTime) (turns : List (Option (List Request))) (x : Connection) (first now after : Option Traffic) (replies : List Reply)

@@ -4,19 +4,20 @@ pub mod Saying
 mod Stepped
 mod Pieces
 mod Lines
-mod Reaching
+pub mod Reaching
 mod Ending
 mod Untaken
-mod Opened
-mod Answering
+pub mod Opened
+pub mod Answering
 mod Staying
-mod Replying
+pub mod Replying
 mod RenewedTaken
-mod Renewed
+pub mod Renewed
 mod Rounds
 mod Talks
 mod Refused
 mod Begun
 pub mod Pushes
+pub mod Conversing
 mod Courses
 pub mod Fitting

@@ -1,5 +1,5 @@
 -- That what a client over a line sends is what a server reads.
-use Rattle.std.proofs.Common.{◌≡◌, ℕ, ◌+◌, ◌<◌, ◌≤◌, ◌^◌, Bool, true, false, not, leb, IsTrue, List, [], ◌∷◌, ◌++◌, Option, Some, None, length, refl, sym, ◌∙◌, ap, subst, arith}
+use Rattle.std.proofs.Common.{◌≡◌, ℕ, ◌+◌, ◌<◌, ◌≤◌, ◌^◌, Bool, true, false, not, leb, IsTrue, List, [], ◌∷◌, ◌++◌, Option, Some, None, length, map, refl, sym, ◌∙◌, ap, subst, arith}
 use Rattle.std.specs.Prelude.{if◌then◌else◌}
 use Rattle.std.specs.List.{AllByRecursion}
 use Rattle.std.proofs.lemmas.Bool.{leb-false, not-false}
@@ -20,6 +20,7 @@ use Rattle.ua_channel.specs.ClientAsks.{is_too_large, most_tokens, no_id}
 use Rattle.ua_channel.specs.ClientReads.{AtClient, ClientReads, lane_from}
 use Rattle.ua_channel.specs.ClientSends.{close_frame, hello_frame, hello_to, renewal_frame}
 use Rattle.ua_channel.specs.ClientTokens.{channel_in, held_tokens, responses}
+use Rattle.ua_channel.specs.InStep.{AreInStep}
 use Rattle.ua_channel.specs.Outgoing.{renewal_by}
 use Rattle.ua_channel.specs.Outgoing.Outgoing.{CallWith}
 use Rattle.ua_channel.specs.Received.{Received, latest, received}
@@ -64,7 +65,7 @@ module _ (x : ClientChannel) (s : Site) (c : AtClient) (at : At x s) (r : Client
 
 -- ---- what is not refused
 
-none_parts : {A : Type 0} (b : Bool) (x : A) (o : Option A) → (if b then Some x else o) ≡ None → (b ≡ false) × (o ≡ None)
+pub none_parts : {A : Type 0} (b : Bool) (x : A) (o : Option A) → (if b then Some x else o) ≡ None → (b ≡ false) × (o ≡ None)
 none_parts true x o e = absurd cc
 none_parts false x o e = (refl, e)
 
@@ -107,6 +108,14 @@ not_exhausted s h =
 
 -- ---- calls, one behind the other
 
+module _ (limits client : Limits) (url : Option (List ℕ)) (channel : ℕ) (on : channel < 2 ^ 32) (c : AtClient) where
+  pub calls_read : (octets : List ℕ) (told : List Told) (s : AtServer) (id : ℕ) (ms : List Request) → AreInStep limits client url channel s c → latest c.tokens ≡ Some c.newest
+      → ServerReads limits channel octets told s → AreAsked c.ack id ms
+      → ServerReads limits channel (octets ++ calls_octets (Some (lane_from c)) s.next id (bodies_of ms)) (told ++ calls_told c.newest id (bodies_of ms)) (behind_calls s (lane_from c) (bodies_of ms))
+  calls_read octets told s id ms t newest r asked =
+      subst (λ (ts : List Told). ServerReads limits channel (octets ++ calls_octets (Some (lane_from c)) s.next id (bodies_of ms)) (told ++ ts) (behind_calls s (lane_from c) (bodies_of ms))) (none_told c.newest s.issued c.newest id (bodies_of ms))
+      (reads_sendable limits client url channel on octets told s c id (map CallWith (bodies_of ms)) r t newest asked (omega (arith, none_issued s.issued (bodies_of ms), r.few_issued))).0
+
 -- the number behind them
 pub calls_counted : (s : AtServer) (lane : Lane) (bodies : List (List ℕ)) → numbers_behind (Some lane) s.next bodies ≡ (behind_calls s lane bodies).next
 calls_counted s lane [] = refl
@@ -133,10 +142,7 @@ module _ (limits : Limits) (url : Option (List ℕ)) (channel : ℕ) (octets : L
       subst (λ (o : List ℕ). ServerReads limits channel (octets ++ o) (told ++ calls_told c.newest (id_at site) (bodies_of requests)) (behind_calls s (lane_from c) (bodies_of requests)))
       (ap (λ (n : ℕ). calls_octets (Some (lane_from c)) n (id_at site) (bodies_of requests)) (sym t.number_is)
       ∙ ap (λ (l : Option Lane). calls_octets l site.number (id_at site) (bodies_of requests)) (sym (lane_here x site c t.stands t.client_reads)))
-      (subst (λ (ts : List Told). ServerReads limits channel (octets ++ calls_octets (Some (lane_from c)) s.next (id_at site) (bodies_of requests)) (told ++ ts) (behind_calls s (lane_from c) (bodies_of requests)))
-      (none_told c.newest s.issued c.newest (id_at site) (bodies_of requests))
-      (reads_sendable limits (client_limits x) url channel on octets told s c (id_at site) (map CallWith (bodies_of requests)) t.server_reads t.in_step t.client_reads.newest_is
-      (requests_asked requests judged) (omega (arith, none_issued s.issued (bodies_of requests), t.server_reads.few_issued))).0)
+      (calls_read limits (client_limits x) url channel on c octets told s (id_at site) requests t.in_step t.client_reads.newest_is t.server_reads (requests_asked requests judged))
 
   -- and the number behind them
   pub numbers_read : (requests : List Request) → numbers_behind (lane_behind site.before) site.number (bodies_of requests) ≡ (behind_calls s (lane_from c) (bodies_of requests)).next

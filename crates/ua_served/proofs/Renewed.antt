@@ -43,8 +43,8 @@ use Rattle.ua_served.specs.Says.{said_to, spent}
 use Rattle.ua_served.specs.Together.{AreServing, renewal_answer}
 use Rattle.ua_served.proofs.Reaching.{not_exhausted, renewal_read}
 use Rattle.ua_served.proofs.RenewedTaken.{TellsLast, just_answer}
-use Rattle.ua_served.proofs.Saying.{spent-enough}
-use Rattle.ua_served.proofs.Staying.{behind_told, left_more, said_more}
+use Rattle.ua_served.proofs.Saying.{left_on, spent-enough}
+use Rattle.ua_served.proofs.Staying.{behind_told, said_more}
 
 -- ---- lists
 
@@ -60,7 +60,7 @@ neither : (a b : Bool) → a ≡ false → b ≡ false → (a || b) ≡ false
 neither a b p q = cc
 
 -- a token past all of these is none of them
-none_past : (most : ℕ) (tokens : List ℕ) → AllByRecursion (λ (token : ℕ). token ≤ most) tokens → is_in (most + 1) tokens ≡ false
+pub none_past : (most : ℕ) (tokens : List ℕ) → AllByRecursion (λ (token : ℕ). token ≤ most) tokens → is_in (most + 1) tokens ≡ false
 none_past most [] h = refl
 none_past most (token ∷ tokens) h = neither (eqb token (most + 1)) (is_in (most + 1) tokens) (ne_eqb token (most + 1) (λ e. omega (arith, e, h.0))) (none_past most tokens h.1)
 
@@ -107,7 +107,7 @@ module _ (b : Beginning) (url : Option (List ℕ)) (octets : List ℕ) (told : L
       ∙ ap (λ (o : List ℕ). said_to b octets ++ o) (append-nil (renewal_answer b c.next id token)))
 
   left_renewed : left b.channel b.first (told ++ opens) (spent (told ++ opens) b.moment) ≡ left_by b.channel (course before.state c.next (b.moment ∷ []) before.agreement) opens
-  left_renewed = left_more b octets told s t.together.server_reads opens ∙ ap (λ (k : Course). left_by b.channel k opens) course_is
+  left_renewed = left_on b told opens ∙ ap (λ (k : Course). left_by b.channel k opens) course_is
 
   -- ---- what the client reads of that
 

@@ -27,7 +27,6 @@ use Rattle.ua_server.specs.Answer.{answer}
 use Rattle.ua_server.specs.Reply.{answered, answered_by}
 use Rattle.ua_server.specs.Said.{Course, behind_first, first_of, left, left_by, say, start, used_in, with_more}
 use Rattle.ua_server.specs.State.{State}
-use Rattle.ua_server.proofs.SaidInParts.{left-append, left-more}
 use Rattle.ua_client.specs.Replies.{AreReplies, IsReplyBy}
 use Rattle.ua_client.specs.Sent.{bodies_of}
 use Rattle.ua_client.specs.Told.{is_told_of, told_of}
@@ -38,7 +37,7 @@ use Rattle.ua_served.specs.Replies.{reply_read, reply_unless, requests_replies, 
 use Rattle.ua_served.specs.Says.{spent, state_told}
 use Rattle.ua_served.specs.Turns.{calls_told}
 use Rattle.ua_served.proofs.Answering.{answer_told, answers_told}
-use Rattle.ua_served.proofs.Saying.{spent-append, spent-enough}
+use Rattle.ua_served.proofs.Saying.{left_on}
 
 -- each of the requests can be encoded
 abbrev pub AreWritable : List Request → Type 0
@@ -48,7 +47,7 @@ AreWritable requests = AllByRecursion (λ (m : Request). IsTrue (request.encodab
 reads_back : (m : Request) → IsTrue (request.encodable m) → request_read (request.canonical m) ≡ Ok m
 reads_back m fits = (request_read-found (request.canonical m) m).1 (body_reads_back request lawful_request m fits).0
 
-answered_is : (s : State) (moment : DateTime) (m : Request) → IsTrue (request.encodable m) → answered s moment (request.canonical m) ≡ answer s moment m
+pub answered_is : (s : State) (moment : DateTime) (m : Request) → IsTrue (request.encodable m) → answered s moment (request.canonical m) ≡ answer s moment m
 answered_is s moment m fits = ap (λ (r : Result Request RequestFault). answered_by r s moment) (reads_back m fits)
 
 -- ---- moments
@@ -88,13 +87,6 @@ calls_state channel c token id (msg ∷ ms) m rest fits e =
     calls_state channel next token (id + 1) ms m rest fits.1 (ap behind_first e)
     ∙ (ap (λ (t : DateTime). state_behind (answered c.state t (request.canonical msg)).0 m ms) (ap first_of e) ∙ ap (λ (g : State × Response). state_behind g.0 m ms) (answered_is c.state m msg fits.0))
 
--- the course behind more that is told, where each answer has its moment
-course_more : (b : Beginning) (told more : List Told) → left b.channel b.first (told ++ more) (spent (told ++ more) b.moment) ≡ left_by b.channel (with_more (left b.channel b.first told (spent told b.moment)) (spent more b.moment)) more
-course_more b told more =
-    ap (λ (ms : List DateTime). left b.channel b.first (told ++ more) ms) (spent-append told more b.moment)
-    ∙ (left-append b.channel b.first told more (spent told b.moment ++ spent more b.moment)
-    ∙ ap (λ (k : Course). left_by b.channel k more) (left-more b.channel b.first told (spent told b.moment) (spent more b.moment) (spent-enough told b.moment)))
-
 -- the moments that are there behind what was told, with those for these calls
 pub moments_there : (b : Beginning) (told : List Told) (token id : ℕ) (bodies : List (List ℕ))
     → (left b.channel b.first told (spent told b.moment)).moments ++ spent (calls_told token id bodies) b.moment ≡ replicate (length bodies) b.moment ++ []
@@ -108,15 +100,15 @@ bodies_length (m ∷ ms) = let more = bodies_length ms in omega (arith, more)
 
 pub state_calls : (b : Beginning) (told : List Told) (token id : ℕ) (ms : List Request) → AreWritable ms → state_told b (told ++ calls_told token id (bodies_of ms)) ≡ state_behind (state_told b told) b.moment ms
 state_calls b told token id ms fits =
-    ap (λ (k : Course). k.state) (course_more b told (calls_told token id (bodies_of ms)))
+    ap (λ (k : Course). k.state) (left_on b told (calls_told token id (bodies_of ms)))
     ∙ calls_state b.channel (with_more (left b.channel b.first told (spent told b.moment)) (spent (calls_told token id (bodies_of ms)) b.moment)) token id ms b.moment [] fits
     (moments_there b told token id (bodies_of ms) ∙ ap (λ (n : ℕ). replicate n b.moment ++ []) (bodies_length ms))
 
 pub state_renewal : (b : Beginning) (told : List Told) (id handle token lifetime : ℕ) → state_told b (told ++ Opened id handle token lifetime ∷ []) ≡ state_told b told
-state_renewal b told id handle token lifetime = ap (λ (k : Course). k.state) (course_more b told (Opened id handle token lifetime ∷ []))
+state_renewal b told id handle token lifetime = ap (λ (k : Course). k.state) (left_on b told (Opened id handle token lifetime ∷ []))
 
 pub state_closed : (b : Beginning) (told : List Told) → state_told b (told ++ Closed ∷ []) ≡ state_told b told
-state_closed b told = ap (λ (k : Course). k.state) (course_more b told (Closed ∷ []))
+state_closed b told = ap (λ (k : Course). k.state) (left_on b told (Closed ∷ []))
 
 -- ---- replies
 

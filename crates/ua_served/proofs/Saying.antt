@@ -1,5 +1,5 @@
 -- What a server says of octets, by a reading of them; and that it says nothing else of more octets first.
-use Rattle.std.proofs.Common.{◌≡◌, ℕ, ◌≤◌, List, [], ◌++◌, length, replicate, sym, ◌∙◌, ap, arith, append-nil}
+use Rattle.std.proofs.Common.{◌≡◌, ℕ, ◌≤◌, List, [], ◌∷◌, ◌++◌, length, replicate, sym, ◌∙◌, ap, arith, append-nil}
 use Rattle.std.proofs.lemmas.List.{replicate-append-replicate, length-replicate}
 use Rattle.ua_builtin.specs.declared.date_time.DateTime.{DateTime}
 use Rattle.ua_frame.specs.declared.frame.Frame.{Frame}
@@ -10,9 +10,9 @@ use Rattle.ua_frame.proofs.Readings.{reading}
 use Rattle.ua_frame.proofs.Unique.{unique}
 use Rattle.ua_channel.proofs.ReadOn.{events_on}
 use Rattle.ua_channel.specs.ServerRules.{server_rules}
-use Rattle.ua_channel.specs.ServerTold.{Told}
-use Rattle.ua_server.specs.Said.{last_words, left, said, said_of, used_in}
-use Rattle.ua_server.proofs.SaidInParts.{said-append, said-more, used_in-append}
+use Rattle.ua_channel.specs.ServerTold.{Told, Closed}
+use Rattle.ua_server.specs.Said.{Course, last_words, left, left_by as course_by, said, said_of, used_in, with_more}
+use Rattle.ua_server.proofs.SaidInParts.{left-append, left-more, said-append, said-more, used_in-append}
 use Rattle.ua_served.specs.Beginning.{Beginning}
 use Rattle.ua_served.specs.Says.{end_by, left_by, read_by, said_to, spent, told_by}
 use Rattle.ua_served.proofs.Further.{behind, run_further}
@@ -51,6 +51,33 @@ spent-append a c moment = ap (λ (n : ℕ). replicate n moment) (used_in-append 
 
 pub spent-enough : (a : List Told) (moment : DateTime) → used_in a ≤ length (spent a moment)
 spent-enough a moment = let len = length-replicate (used_in a) moment in omega (arith, len)
+
+-- how far a server is behind more that is told, where each answer has its moment
+pub left_on : (b : Beginning) (told more : List Told) → left b.channel b.first (told ++ more) (spent (told ++ more) b.moment) ≡ course_by b.channel (with_more (left b.channel b.first told (spent told b.moment)) (spent more b.moment)) more
+left_on b told more =
+    ap (λ (ms : List DateTime). left b.channel b.first (told ++ more) ms) (spent-append told more b.moment)
+    ∙ (left-append b.channel b.first told more (spent told b.moment ++ spent more b.moment)
+    ∙ ap (λ (k : Course). course_by b.channel k more) (left-more b.channel b.first told (spent told b.moment) (spent more b.moment) (spent-enough told b.moment)))
+
+-- and what it says of that
+pub said_on : (b : Beginning) (told more : List Told) → said b.channel b.first (told ++ more) Going (spent (told ++ more) b.moment)
+    ≡ said b.channel b.first told Going (spent told b.moment) ++ said_of b.channel (with_more (left b.channel b.first told (spent told b.moment)) (spent more b.moment)) more
+said_on b told more =
+    let ms : List DateTime = spent told b.moment ++ spent more b.moment in
+    ap (λ (m : List DateTime). said b.channel b.first (told ++ more) Going m) (spent-append told more b.moment)
+    ∙ (said-append b.channel b.first told more Going ms
+    ∙ (ap (λ (o : List ℕ). o ++ (said_of b.channel (left b.channel b.first told ms) more ++ [])) (said-more b.channel b.first told Going (spent told b.moment) (spent more b.moment) (spent-enough told b.moment))
+    ∙ (ap (λ (o : List ℕ). said b.channel b.first told Going (spent told b.moment) ++ o) (append-nil (said_of b.channel (left b.channel b.first told ms) more))
+    ∙ ap (λ (k : Course). said b.channel b.first told Going (spent told b.moment) ++ said_of b.channel k more)
+    (left-more b.channel b.first told (spent told b.moment) (spent more b.moment) (spent-enough told b.moment)))))
+
+-- nothing more is said of a CLO
+pub said_over : (b : Beginning) (told : List Told) → said b.channel b.first (told ++ Closed ∷ []) Over (spent (told ++ Closed ∷ []) b.moment) ≡ said b.channel b.first told Going (spent told b.moment)
+said_over b told =
+    let ms : List DateTime = spent told b.moment ++ spent (Closed ∷ []) b.moment in
+    ap (λ (m : List DateTime). said b.channel b.first (told ++ Closed ∷ []) Over m) (spent-append told (Closed ∷ []) b.moment)
+    ∙ (said-append b.channel b.first told (Closed ∷ []) Over ms
+    ∙ (append-nil (said b.channel b.first told Going ms) ∙ said-more b.channel b.first told Going (spent told b.moment) (spent (Closed ∷ []) b.moment) (spent-enough told b.moment)))
 
 -- what is said of more that is told, in one piece
 said_first : (b : Beginning) (a c : List Told) (end : End ℕ) → (further : List ℕ) ×

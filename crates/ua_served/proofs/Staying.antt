@@ -1,5 +1,5 @@
 -- That both ends in one process stay in step.
-use Rattle.std.proofs.Common.{◌≡◌, ◌⊎◌, inl, inr, ℕ, ◌+◌, ◌<◌, ◌≤◌, ◌^◌, List, [], ◌∷◌, ◌++◌, Option, Some, length, refl, sym, ◌∙◌, ap, subst, arith, append-nil, length-append}
+use Rattle.std.proofs.Common.{◌≡◌, ◌⊎◌, inl, inr, ℕ, ◌+◌, ◌<◌, ◌≤◌, ◌^◌, List, [], ◌∷◌, ◌++◌, Option, Some, length, refl, sym, ◌∙◌, ap, subst, arith, length-append}
 use Rattle.std.specs.List.{AllByRecursion}
 use Rattle.ua_octets.specs.Format.{Extends}
 use Rattle.ua_builtin.specs.declared.date_time.DateTime.{DateTime}
@@ -20,7 +20,7 @@ use Rattle.ua_channel.specs.declared.client.channel.ClientChannel.{ClientChannel
 use Rattle.ua_channel.proofs.Following.{client_told}
 use Rattle.ua_services.specs.declared.request.Request.{Request}
 use Rattle.ua_server.specs.Said.{Course, left, left_by, said, said_of, with_more}
-use Rattle.ua_server.proofs.SaidInParts.{course, left-append, left-more, said-append, said-more}
+use Rattle.ua_server.proofs.SaidInParts.{course}
 use Rattle.ua_client.specs.Calls.{Answered, LastCame, asked_at, sent_at}
 use Rattle.ua_client.specs.Renewing.{IsSettled}
 use Rattle.ua_client.specs.Sent.{bodies_of}
@@ -38,7 +38,7 @@ use Rattle.ua_served.proofs.Answering.{AreHeard, answers_told, calls_asked, call
 use Rattle.ua_served.proofs.Ending.{LastChunk}
 use Rattle.ua_served.proofs.Lists.{meets}
 use Rattle.ua_served.proofs.Reaching.{few_ids, numbers_read, requests_asked, requests_read}
-use Rattle.ua_served.proofs.Saying.{said_by_run, spent-append, spent-enough}
+use Rattle.ua_served.proofs.Saying.{left_on, said_by_run, said_on}
 use Rattle.ua_served.proofs.Untaken.{took_all, took_no_more}
 
 -- ---- what a server says of more
@@ -51,25 +51,11 @@ module _ (b : Beginning) (octets : List ℕ) (told : List Told) (s : AtServer) (
   abbrev pub behind_told : List Told → Course
   behind_told more = with_more (left b.channel b.first told (spent told b.moment)) (spent more b.moment)
 
-  left_then : (more : List Told) → left b.channel b.first told (spent told b.moment ++ spent more b.moment) ≡ behind_told more
-  left_then more = left-more b.channel b.first told (spent told b.moment) (spent more b.moment) (spent-enough told b.moment)
-
-  pub left_more : (more : List Told) → left b.channel b.first (told ++ more) (spent (told ++ more) b.moment) ≡ left_by b.channel (behind_told more) more
-  left_more more =
-      ap (λ (ms : List DateTime). left b.channel b.first (told ++ more) ms) (spent-append told more b.moment)
-      ∙ (left-append b.channel b.first told more (spent told b.moment ++ spent more b.moment) ∙ ap (λ (k : Course). left_by b.channel k more) (left_then more))
-
   pub said_more : (later : List ℕ) (more : List Told) (t : AtServer) → ServerReads b.limits b.channel later (told ++ more) t → said_to b later ≡ said_to b octets ++ said_of b.channel (behind_told more) more
   said_more later more t q =
-      let ms : List DateTime = spent told b.moment ++ spent more b.moment in
-      let whole : said_to b later ≡ said b.channel b.first (told ++ more) Going (spent (told ++ more) b.moment) =
-      said_by_run b later q.frames [] Going q.run ∙ ap (λ (k : List Told). said b.channel b.first k Going (spent k b.moment)) q.told_is in
-      whole
-      ∙ (ap (λ (m : List DateTime). said b.channel b.first (told ++ more) Going m) (spent-append told more b.moment)
-      ∙ (said-append b.channel b.first told more Going ms
-      ∙ (ap (λ (o : List ℕ). o ++ (said_of b.channel (left b.channel b.first told ms) more ++ [])) (said-more b.channel b.first told Going (spent told b.moment) (spent more b.moment) (spent-enough told b.moment) ∙ sym said_there)
-      ∙ (ap (λ (o : List ℕ). said_to b octets ++ o) (append-nil (said_of b.channel (left b.channel b.first told ms) more))
-      ∙ ap (λ (k : Course). said_to b octets ++ said_of b.channel k more) (left_then more)))))
+      said_by_run b later q.frames [] Going q.run
+      ∙ (ap (λ (k : List Told). said b.channel b.first k Going (spent k b.moment)) q.told_is
+      ∙ (said_on b told more ∙ ap (λ (o : List ℕ). o ++ said_of b.channel (behind_told more) more) (sym said_there)))
 
 pub bodies_count : (requests : List Request) → length (bodies_of requests) ≡ length requests
 bodies_count [] = refl
@@ -150,7 +136,7 @@ module _ (b : Beginning) (url : Option (List ℕ)) (octets : List ℕ) (told : L
       ∙ ap (λ (k : Course). site.octets ++ said_of b.channel k calls) course_is)
 
   left_then_is : left b.channel b.first (told ++ calls) (spent (told ++ calls) b.moment) ≡ left_by b.channel (course before.state before.number moments (Some g)) calls
-  left_then_is = left_more b octets told s t.together.server_reads calls ∙ ap (λ (k : Course). left_by b.channel k calls) course_is
+  left_then_is = left_on b told calls ∙ ap (λ (k : Course). left_by b.channel k calls) course_is
 
   newest_then : heard_then.at.newest ≡ c.newest
   newest_then = heard_then.newest ∙ newest_stays c (id_at site) bodies

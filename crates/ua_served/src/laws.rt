@@ -27,11 +27,13 @@ ghost use Rattle.ua_client.specs.Replies.{AreReplies};
 ghost use Rattle.ua_client.specs.Sent.{bodies_of};
 ghost use Rattle.ua_client.specs.Site.{Site, At, id_at};
 ghost use Rattle.ua_client.specs.declared.reply.Reply.{Reply};
+ghost use Rattle.ua_served.specs.Accepted.{AreAccepted, acknowledged};
 ghost use Rattle.ua_served.specs.Beginning.{Beginning};
 ghost use Rattle.ua_served.specs.Course.{opening_octets};
 ghost use Rattle.ua_served.specs.Says.{said_to};
+ghost use Rattle.ua_served.specs.Sends.{conversation_octets};
 ghost use Rattle.ua_served.specs.Together.{AreServing, AreTogether, behind_calls, opening_answer, renewal_answer};
-ghost use Rattle.ua_served.specs.Turns.{calls_told};
+ghost use Rattle.ua_served.specs.Turns.{calls_told, conversation_told};
 
 use ua_client::laws::clients_are_settled;
 
@@ -40,6 +42,14 @@ pub fn openings_reach_the_server()
     ensures { (limits : Limits) (channel : ℕ) (client : Limits) (url : Option (List ℕ)) (moment : DateTime) →
         IsTrue (hello.encodable (hello_to client url)) → url_length url ≤ 4095 → IsTrue (date_time.encodable moment) →
         ServerReads limits channel (opening_octets client url moment) (Agreed (agreement_of limits (hello_to client url)) ∷ (Opened 1 0 1 3600000 ∷ [])) (with_token (greeted_at (hello_to client url))) }
+{}
+
+/// All that a client says whose turns are accepted, from the HEL to the CLO, a server reads: it refuses
+/// none of it, and is told of just these turns, in their order. The CLO closes the channel.
+pub fn conversations_reach_the_server()
+    ensures { (limits client : Limits) (url : Option (List ℕ)) (channel : ℕ) (moment : DateTime) (turns : List (Option (List Request))) →
+        IsTrue (hello.encodable (hello_to client url)) → url_length url ≤ 4095 → channel < 2 ^ 32 → IsTrue (date_time.encodable moment) → AreAccepted (acknowledged limits client url) turns →
+        ServerCloses limits channel (conversation_octets limits client url channel moment turns) (conversation_told limits client url turns) }
 {}
 
 /// What a server says of the opening, in one process: its ACK, and the OPN response with the first
