@@ -88,9 +88,10 @@ pub fn ends_connect()
 
 /// Where they are connected, any rounds of calls, renewals and answers, each of which may be, leave them
 /// connected: the server is told just what the client sent, in order, each body whole, once and under its
-/// own request id, and each renewal; and the client just what was answered, each call that is its own reply,
-/// or where that is past its limits that it was given up, and each further token. What is sent in a round may
-/// be answered in that one or in any later one; the client sends where it took all that was answered before.
+/// own request id, and each renewal; and the client just what was answered, each call that is answered its
+/// own reply, or where that is past its limits that it was given up, and each further token. What is sent in
+/// a round may be answered in that one or in any later one; the client sends where it took all that was
+/// answered before.
 pub fn rounds_reach_both_ends()
     ensures { (server client : Limits) (url : Option (List ℕ)) (channel : ℕ) (up : List ℕ) (told : List Told) (asks : List Placed) (down : List ℕ) (heard : List ClientTold) (at : BothEnds) (rounds : List Round) →
         channel < 2 ^ 32 → AreConnected server client url channel up told asks down heard at → AreRounds server channel at rounds →

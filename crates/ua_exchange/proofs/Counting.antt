@@ -1,18 +1,20 @@
 -- The turns that stand last, counted one by one, and the tokens that are held behind them.
-use Rattle.std.proofs.Common.{◌≡◌, ℕ, zero, suc, ◌+◌, ◌-◌, ◌<◌, ◌≤◌, min, Bool, true, false, cond, List, [], ◌∷◌, ◌++◌, length, take, nat_le, refl, sym, ◌∙◌, ap, arith, append_assoc, append-nil, length-append, length-take-le}
+use Rattle.std.proofs.Common.{◌≡◌, ℕ, zero, suc, ◌+◌, ◌-◌, ◌<◌, ◌≤◌, min, Bool, true, false, cond, List, [], ◌∷◌, ◌++◌, Option, Some, None, length, take, nat_le, refl, sym, ◌∙◌, ap, arith, append_assoc, append-nil, length-append, length-take-le}
 use Rattle.std.proofs.Math.Seq.{take-append-add}
 use Rattle.std.proofs.lemmas.Bool.{le-leb, leb-false, leb-true, lt-leb}
 use Rattle.std.proofs.lemmas.List.{take_all, take_at}
 use Rattle.std.specs.List.{list_any}
 use Rattle.ua_channel.specs.ClientAsks.{most_pending, most_tokens}
-use Rattle.ua_chunk.specs.Gathered.{after_last}
 use Rattle.ua_chunk.proofs.Lists.{after_last_push}
 use Rattle.ua_services.specs.declared.request.Request.{Request}
-use Rattle.ua_exchange.specs.Accepted.{before_group, last_calls, tokens_held}
-use Rattle.ua_exchange.specs.Turns.{is_call, is_renewal}
+use Rattle.ua_served.specs.Accepted.{held_behind, tokens_held}
+use Rattle.ua_served.proofs.Pushes.{held_push}
+use Rattle.ua_exchange.specs.Accepted.{before_group, is_renewal, last_calls, tokens_counted}
+use Rattle.ua_exchange.specs.Turns.{served_turn, served_turns}
 use Rattle.ua_exchange.specs.declared.turn.Turn.{Turn}
 use Rattle.ua_exchange.specs.declared.turn.Turn.TheVariants.{Ask, Renew}
-use Rattle.ua_exchange.specs.inside.Counting.{AreCalls, Counts}
+use Rattle.ua_exchange.specs.inside.Counting.{AreCalls, CountsLast}
+use Rattle.ua_exchange.proofs.Words.{served-push}
 
 -- ---- requests
 
@@ -64,20 +66,32 @@ last_behind : (ts : List Turn) → (front : List Turn) × (ts ≡ front ++ last_
 last_behind [] = ([], refl)
 last_behind (t ∷ ts) = split_at (list_any is_renewal (t ∷ ts)) t ts (last_calls ts) (last_behind ts)
 
--- nothing stands behind the last request of turns that end with one
-ends-with-call : (before calls : List Turn) → AreCalls calls → 0 < length calls → after_last is_call (before ++ calls) ≡ []
+-- how many tokens a client holds behind these turns, all of which are answered
+abbrev pub held : List Turn → ℕ
+held turns = tokens_held 1 (served_turns turns)
+
+held-push : (before : List Turn) (t : Turn) → held (before ++ t ∷ []) ≡ held_behind (held before) (served_turn t)
+held-push before t = ap (tokens_held 1) (served-push before t) ∙ held_push 1 (served_turns before) (served_turn t)
+
+-- it holds one behind turns that end with a request
+ends-with-call : (before calls : List Turn) → AreCalls calls → 0 < length calls → held (before ++ calls) ≡ 1
 ends-with-call before [] are some = absurd (omega (arith, some))
-ends-with-call before (Ask m ∷ []) are some = after_last_push is_call before (Ask m)
-ends-with-call before (Ask m ∷ (t ∷ ts)) are some =
-    ap (after_last is_call) (sym (append_assoc before (Ask m ∷ []) (t ∷ ts))) ∙ ends-with-call (before ++ Ask m ∷ []) (t ∷ ts) are (omega arith)
+ends-with-call before (Ask m ∷ []) are some = held-push before (Ask m)
+ends-with-call before (Ask m ∷ (t ∷ ts)) are some = ap held (sym (append_assoc before (Ask m ∷ []) (t ∷ ts))) ∙ ends-with-call (before ++ Ask m ∷ []) (t ∷ ts) are (omega arith)
 ends-with-call before (Renew ∷ ts) are some = absurd are
+
+some-held : (n : ℕ) (turns : List (Option (List Request))) → 0 < n → 0 < tokens_held n turns
+some-held n [] some = some
+some-held n (Some [] ∷ ts) some = some-held n ts some
+some-held n (Some (m ∷ ms) ∷ ts) some = some-held 1 ts (omega arith)
+some-held n (None ∷ ts) some = some-held (n + 1) ts (omega arith)
 
 -- ---- one turn more
 
-pub counts-none : Counts [] 0 0
-counts-none = record { front = []; last = []; parts = refl; are_calls = tt; calls_are = refl; no_more = refl; renewals_are = refl }
+pub counts-none : CountsLast [] 0 0
+counts-none = record { front = []; last = []; parts = refl; are_calls = tt; calls_are = refl; no_more = refl; held_is = refl }
 
-pub counts-call : (before : List Turn) (renewals calls : ℕ) (m : Request) → Counts before renewals calls → Counts (before ++ Ask m ∷ []) renewals (calls + 1)
+pub counts-call : (before : List Turn) (renewals calls : ℕ) (m : Request) → CountsLast before renewals calls → CountsLast (before ++ Ask m ∷ []) renewals (calls + 1)
 counts-call before renewals calls m k = record {
   front = k.front;
   last = k.last ++ Ask m ∷ [];
@@ -85,11 +99,11 @@ counts-call before renewals calls m k = record {
   are_calls = calls-more k.last m k.are_calls;
   calls_are = omega (arith, k.calls_are, length-append k.last (Ask m ∷ []));
   no_more = k.no_more;
-  renewals_are = k.renewals_are;
+  held_is = k.held_is;
 }
 
 -- a renewal more, where these stand last behind the requests
-counts-renewed : (before : List Turn) (renewals : ℕ) → renewals ≡ length (after_last is_call before) → Counts (before ++ Renew ∷ []) (renewals + 1) 0
+counts-renewed : (before : List Turn) (renewals : ℕ) → held before ≡ renewals + 1 → CountsLast (before ++ Renew ∷ []) (renewals + 1) 0
 counts-renewed before renewals is = record {
   front = before ++ Renew ∷ [];
   last = [];
@@ -97,17 +111,17 @@ counts-renewed before renewals is = record {
   are_calls = tt;
   calls_are = refl;
   no_more = after_last_push is_renewal before Renew;
-  renewals_are = omega (arith, is, ap length (after_last_push is_call before Renew), length-append (after_last is_call before) (Renew ∷ []));
+  held_is = held-push before Renew ∙ ap (λ (n : ℕ). n + 1) is;
 }
 
-pub counts-renewal : (before : List Turn) (renewals calls : ℕ) → Counts before renewals calls → calls ≡ 0 → Counts (before ++ Renew ∷ []) (renewals + 1) 0
+pub counts-renewal : (before : List Turn) (renewals calls : ℕ) → CountsLast before renewals calls → calls ≡ 0 → CountsLast (before ++ Renew ∷ []) (renewals + 1) 0
 counts-renewal before renewals calls k none =
     let same : before ≡ k.front = k.parts ∙ (ap (λ (ts : List Turn). k.front ++ ts) (none-last k.last (omega (arith, none, k.calls_are))) ∙ append-nil k.front) in
-    counts-renewed before renewals (k.renewals_are ∙ ap (λ (ts : List Turn). length (after_last is_call ts)) (sym same))
+    counts-renewed before renewals (ap held same ∙ k.held_is)
 
-pub counts-first : (before : List Turn) (renewals calls : ℕ) → Counts before renewals calls → (calls ≡ 0 → ⊥) → Counts (before ++ Renew ∷ []) 1 0
+pub counts-first : (before : List Turn) (renewals calls : ℕ) → CountsLast before renewals calls → (calls ≡ 0 → ⊥) → CountsLast (before ++ Renew ∷ []) 1 0
 counts-first before renewals calls k some =
-    counts-renewed before 0 (sym (ap length (ap (after_last is_call) k.parts ∙ ends-with-call k.front k.last k.are_calls (omega (arith, some, k.calls_are)))))
+    counts-renewed before 0 (ap held k.parts ∙ ends-with-call k.front k.last k.are_calls (omega (arith, some, k.calls_are)))
 
 -- ---- the tokens that are held
 
@@ -117,14 +131,12 @@ group-alone answered waiting calls few none =
     let last : length (last_calls (answered ++ waiting)) ≡ length waiting = ap length (last-calls answered waiting calls ∙ ap (λ (ts : List Turn). ts ++ waiting) none) in
     take_at answered waiting (length (answered ++ waiting) - min (length (last_calls (answered ++ waiting))) most_pending) (omega (arith, length-append answered waiting, last, few))
 
-counted-few : (before : List Turn) (renewals calls : ℕ) → Counts before renewals calls → calls ≤ most_pending → tokens_held before ≡ renewals + 1
+counted-few : (before : List Turn) (renewals calls : ℕ) → CountsLast before renewals calls → calls ≤ most_pending → tokens_counted before ≡ renewals + 1
 counted-few before renewals calls k few =
-    ap (λ (ts : List Turn). length (after_last is_call (before_group ts)) + 1) k.parts
-    ∙ (ap (λ (ts : List Turn). length (after_last is_call ts) + 1) (group-alone k.front k.last k.are_calls (omega (arith, few, k.calls_are)) k.no_more)
-    ∙ ap (λ (n : ℕ). n + 1) (sym k.renewals_are))
+    ap tokens_counted k.parts ∙ (ap held (group-alone k.front k.last k.are_calls (omega (arith, few, k.calls_are)) k.no_more) ∙ k.held_is)
 
 -- more than 64 requests are a group, and those in front of it are answered
-counted-many : (before : List Turn) (renewals calls : ℕ) → Counts before renewals calls → most_pending < calls → tokens_held before ≡ 1
+counted-many : (before : List Turn) (renewals calls : ℕ) → CountsLast before renewals calls → most_pending < calls → tokens_counted before ≡ 1
 counted-many before renewals calls k many =
     let count : ℕ = length k.last - most_pending in
     let last : last_calls (k.front ++ k.last) ≡ k.last = last-calls k.front k.last k.are_calls ∙ ap (λ (ts : List Turn). ts ++ k.last) k.no_more in
@@ -132,29 +144,28 @@ counted-many before renewals calls k many =
     omega (arith, ap length last, length-append k.front k.last, many, k.calls_are) in
     let group : before_group (k.front ++ k.last) ≡ k.front ++ take count k.last = ap (λ (n : ℕ). take n (k.front ++ k.last)) at ∙ take-append-add k.front k.last count in
     let some : 0 < length (take count k.last) = omega (arith, length-take-le count k.last (omega arith), many, k.calls_are) in
-    ap (λ (ts : List Turn). length (after_last is_call (before_group ts)) + 1) k.parts
-    ∙ ap (λ (ts : List Turn). length ts + 1) (ap (after_last is_call) group ∙ ends-with-call k.front (take count k.last) (calls-take count k.last k.are_calls) some)
+    ap tokens_counted k.parts ∙ (ap held group ∙ ends-with-call k.front (take count k.last) (calls-take count k.last k.are_calls) some)
 
 -- they are 16 or more just where 15 renewals or more are counted, in front of no more than 64 requests
 crowded-by : (b : Bool) (held renewals : ℕ) → held ≡ renewals + 1 → nat_le 15 renewals ≡ b → nat_le most_tokens held ≡ b
 crowded-by true held renewals is e = le-leb most_tokens held (omega (arith, is, leb-true 15 renewals e))
 crowded-by false held renewals is e = lt-leb most_tokens held (omega (arith, is, leb-false 15 renewals e))
 
-pub crowded-few : (before : List Turn) (renewals calls : ℕ) → Counts before renewals calls → calls ≤ most_pending → nat_le most_tokens (tokens_held before) ≡ nat_le 15 renewals
-crowded-few before renewals calls k few = crowded-by (nat_le 15 renewals) (tokens_held before) renewals (counted-few before renewals calls k few) refl
+pub crowded-few : (before : List Turn) (renewals calls : ℕ) → CountsLast before renewals calls → calls ≤ most_pending → nat_le most_tokens (tokens_counted before) ≡ nat_le 15 renewals
+crowded-few before renewals calls k few = crowded-by (nat_le 15 renewals) (tokens_counted before) renewals (counted-few before renewals calls k few) refl
 
-pub crowded-many : (before : List Turn) (renewals calls : ℕ) → Counts before renewals calls → most_pending < calls → nat_le most_tokens (tokens_held before) ≡ false
-crowded-many before renewals calls k many = lt-leb most_tokens (tokens_held before) (omega (arith, counted-many before renewals calls k many))
+pub crowded-many : (before : List Turn) (renewals calls : ℕ) → CountsLast before renewals calls → most_pending < calls → nat_le most_tokens (tokens_counted before) ≡ false
+crowded-many before renewals calls k many = lt-leb most_tokens (tokens_counted before) (omega (arith, counted-many before renewals calls k many))
 
 -- a client whose calls are all answered holds no more tokens
-held-by : (before last : List Turn) → last_calls before ≡ last → length (after_last is_call before) ≤ length (after_last is_call (before_group before))
+held-by : (before last : List Turn) → last_calls before ≡ last → held before ≤ tokens_counted before
 held-by before [] none =
     let whole : before_group before ≡ before = take_all (length before - min (length (last_calls before)) most_pending) before (omega (arith, ap length none)) in
-    omega (arith, ap (λ (ts : List Turn). length (after_last is_call ts)) whole)
+    omega (arith, ap held whole)
 held-by before (t ∷ ts) some =
     let parts = last_behind before in
-    let nothing : after_last is_call before ≡ [] = ap (after_last is_call) parts.1 ∙ ends-with-call parts.0 (last_calls before) (last-are before) (omega (arith, ap length some)) in
-    omega (arith, ap length nothing)
+    let one : held before ≡ 1 = ap held parts.1 ∙ ends-with-call parts.0 (last_calls before) (last-are before) (omega (arith, ap length some)) in
+    omega (arith, one, some-held 1 (served_turns (before_group before)) (omega arith))
 
-pub held-within : (before : List Turn) → length (after_last is_call before) + 1 ≤ tokens_held before
-held-within before = let h = held-by before (last_calls before) refl in omega (arith, h)
+pub held-within : (before : List Turn) → held before ≤ tokens_counted before
+held-within before = held-by before (last_calls before) refl

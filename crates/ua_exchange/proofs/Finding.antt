@@ -4,12 +4,12 @@ use Rattle.std.proofs.lemmas.List.{length-take-le, take-append-drop, take_all, t
 use Rattle.ua_frame.proofs.Afters.{AllAfter-nil, AllAfter-push}
 use Rattle.ua_exchange.specs.Accepted.{is_crowded}
 use Rattle.ua_exchange.specs.declared.turn.Turn.{Turn}
-use Rattle.ua_exchange.specs.inside.Counting.{Counts, FirstCrowded, HaveRoom}
+use Rattle.ua_exchange.specs.inside.Counting.{CountsLast, FirstCrowded, HaveRoom}
 use Rattle.ua_exchange.proofs.Counting.{counts-none}
 
 -- the turns up to this index were counted, and there is room for each renewal among them
 pub record CountedSoFar (turns : List Turn) (index renewals calls : ℕ) : Type 0 where
-  pub counts : Counts (take index turns) renewals calls
+  pub counts : CountsLast (take index turns) renewals calls
   pub have_room : HaveRoom (take index turns)
   pub few : renewals + calls ≤ index
 
@@ -22,10 +22,10 @@ turns-on turns index t less is = take_more turns index t less ∙ ap (λ (u : Tu
 
 module _ (turns : List Turn) (index renewals calls : ℕ) (so : CountedSoFar turns index renewals calls) where
   module _ (t : Turn) (less : index < length turns) (is : t ≡ get_or turns index t) where
-    pub counted-more : is_crowded (take index turns) t ≡ false → (more others : ℕ) → ((before : List Turn) → Counts before renewals calls → Counts (before ++ t ∷ []) more others) → more + others ≤ renewals + calls + 1
+    pub counted-more : is_crowded (take index turns) t ≡ false → (more others : ℕ) → ((before : List Turn) → CountsLast before renewals calls → CountsLast (before ++ t ∷ []) more others) → more + others ≤ renewals + calls + 1
         → CountedSoFar turns (index + 1) more others
     counted-more room more others counts few = record {
-      counts = subst (λ (ts : List Turn). Counts ts more others) (sym (turns-on turns index t less is)) (counts (take index turns) so.counts);
+      counts = subst (λ (ts : List Turn). CountsLast ts more others) (sym (turns-on turns index t less is)) (counts (take index turns) so.counts);
       have_room = subst HaveRoom (sym (turns-on turns index t less is)) (AllAfter-push (λ (before : List Turn) (u : Turn). is_crowded before u ≡ false) (take index turns) t so.have_room room);
       few = let was = so.few in omega (arith, few, was);
     }

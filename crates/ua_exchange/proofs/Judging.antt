@@ -1,24 +1,22 @@
--- That a client over a line to a server takes the turns that are accepted, and refuses the first that is not for the reason that is given;
--- but for a renewal that is asked with requests in front of it.
-use Rattle.std.proofs.Common.{◌≡◌, ℕ, Bool, true, false, not, List, [], ◌∷◌, ◌++◌, Option, Some, None, option_map, length, map, take, nat_le, refl, sym, ◌∙◌, ap, subst, arith, append_assoc}
+-- That a client takes the turns that are accepted, and refuses the first that is not for the reason that is given; but for a renewal that is
+-- asked with requests in front of it.
+use Rattle.std.proofs.Common.{◌≡◌, ℕ, Bool, true, false, leb, List, [], ◌∷◌, ◌++◌, Option, Some, None, option_map, length, take, nat_le, refl, sym, ◌∙◌, ap, subst, arith, append_assoc}
 use Rattle.std.proofs.lemmas.Bool.{leb-false, lt-leb}
 use Rattle.std.proofs.lemmas.List.{length-map, take_at}
 use Rattle.ua_builtin.specs.Reasons.{first_reason}
-use Rattle.ua_builtin.specs.declared.date_time.DateTime.{DateTime}
+use Rattle.ua_builtin.proofs.FirstReasons.{first_reason-map}
 use Rattle.ua_frame.specs.After.{AllAfter, AllFrom}
-use Rattle.ua_frame.specs.declared.limits.Limits.{Limits}
-use Rattle.ua_channel.specs.ClientAsks.{is_too_large, most_tokens, no_id}
+use Rattle.ua_channel.specs.ClientAsks.{most_tokens, no_id}
 use Rattle.ua_channel.specs.declared.client.fault.AskFault.TheVariants.{TooManyTokens, Exhausted, RequestTooLarge}
-use Rattle.ua_services.specs.Request.{request}
 use Rattle.ua_services.specs.declared.request.Request.{Request as Message}
-use Rattle.ua_server.specs.State.{State}
 use Rattle.ua_client.specs.declared.fault.ClientFault.{ClientFault}
 use Rattle.ua_client.specs.declared.fault.ClientFault.TheVariants as client
 use Rattle.ua_served.specs.Accepted as judged
-use Rattle.ua_exchange.specs.Accepted.{AreAccepted, FirstRefused, IsAccepted, fault_of, is_crowded, tokens_held, turn_refusal}
+use Rattle.ua_served.proofs.Reaching.{none_parts}
+use Rattle.ua_exchange.specs.Accepted.{AreAccepted, FirstRefused, IsAccepted, fault_at, is_crowded, tokens_counted, turn_refusal}
 use Rattle.ua_exchange.specs.Exchanged.{IsRefusedFor}
-use Rattle.ua_exchange.specs.Programs.{AreOurs, acknowledged}
-use Rattle.ua_exchange.specs.Turns.{asked_by, id_behind}
+use Rattle.ua_exchange.specs.Programs.{acknowledged}
+use Rattle.ua_exchange.specs.Turns.{id_behind, served_turn, served_turns}
 use Rattle.ua_exchange.specs.declared.fault.PairFault.{PairFault}
 use Rattle.ua_exchange.specs.declared.fault.PairFault.TheVariants.{NotWritable, Request}
 use Rattle.ua_exchange.specs.declared.turn.Turn.{Turn}
@@ -26,20 +24,29 @@ use Rattle.ua_exchange.specs.declared.turn.Turn.TheVariants.{Ask, Renew}
 use Rattle.ua_exchange.specs.inside.Counting.{FirstCrowded, HaveRoom}
 use Rattle.ua_exchange.proofs.Counting.{held-within}
 use Rattle.ua_exchange.proofs.Lists.{from-front, from-place}
-use Rattle.ua_exchange.proofs.Same.{asked-push, same}
+use Rattle.ua_exchange.proofs.Words.{served-push}
 
 -- ---- one turn
 
-reasons-ask : (n : ℕ) (a b c : Bool) → first_reason ((NotWritable n, a) ∷ (Request n Exhausted, b) ∷ (Request n RequestTooLarge, c) ∷ [])
-    ≡ option_map (fault_of n) (first_reason ((client.NotWritable, a) ∷ (client.Exhausted, b) ∷ (client.TooLarge, c) ∷ []))
-reasons-ask n true b c = refl
-reasons-ask n false true c = refl
-reasons-ask n false false true = refl
-reasons-ask n false false false = refl
+-- a client of `ua_served` takes a turn behind others, or this is why it does not
+abbrev refusal_served : List Turn → Turn → Option ClientFault
+refusal_served before t = judged.turn_refusal acknowledged (served_turns before) (served_turn t)
 
-reasons-renew : (n : ℕ) (b : Bool) → first_reason ((Request n TooManyTokens, false) ∷ (Request n Exhausted, b) ∷ []) ≡ option_map (fault_of n) (first_reason ((client.TooManyTokens, false) ∷ (client.Exhausted, b) ∷ []))
-reasons-renew n true = refl
-reasons-renew n false = refl
+fewer : (before : List Turn) → nat_le most_tokens (tokens_counted before) ≡ false → nat_le most_tokens (judged.tokens_held 1 (served_turns before)) ≡ false
+fewer before room =
+    let few = leb-false most_tokens (tokens_counted before) room in
+    lt-leb most_tokens (judged.tokens_held 1 (served_turns before)) (omega (arith, few, held-within before))
+
+-- where there is room for it, a turn is judged by what counts as held as by what is held
+same-judged : (before : List Turn) (t : Turn) → is_crowded before t ≡ false → first_reason (judged.turn_reasons acknowledged (tokens_counted before) (id_behind before) (served_turn t)) ≡ refusal_served before t
+same-judged before (Ask m) room = refl
+same-judged before Renew room =
+    ap (λ (b : Bool). first_reason ((client.TooManyTokens, b) ∷ (client.Exhausted, nat_le no_id (id_behind before)) ∷ [])) (room ∙ sym (fewer before room))
+
+refusal-same : (before : List Turn) (t : Turn) → is_crowded before t ≡ false → turn_refusal before t ≡ option_map (fault_at (length before)) (refusal_served before t)
+refusal-same before t room =
+    first_reason-map (fault_at (length before)) (judged.turn_reasons acknowledged (tokens_counted before) (id_behind before) (served_turn t))
+    ∙ ap (option_map (fault_at (length before))) (same-judged before t room)
 
 -- ---- turns that are parted
 
@@ -57,21 +64,21 @@ record Parted (turns : List Turn) (front : List (Option (List Message))) (one : 
   pub turn : Turn
   pub behind : List Turn
   pub parts : turns ≡ before ++ turn ∷ behind
-  pub before_is : map asked_by before ≡ front
-  pub turn_is : asked_by turn ≡ one
+  pub before_is : served_turns before ≡ front
+  pub turn_is : served_turn turn ≡ one
 
-parted : (turns : List Turn) (front : List (Option (List Message))) (one : Option (List Message)) (rest : List (Option (List Message))) → map asked_by turns ≡ front ++ one ∷ rest → Parted turns front one
+parted : (turns : List Turn) (front : List (Option (List Message))) (one : Option (List Message)) (rest : List (Option (List Message))) → served_turns turns ≡ front ++ one ∷ rest → Parted turns front one
 parted [] [] one rest e = absurd cc
 parted [] (f ∷ front) one rest e = absurd cc
-parted (t ∷ ts) [] one rest e = record { before = []; turn = t; behind = ts; parts = refl; before_is = refl; turn_is = head_is (asked_by t) one (map asked_by ts) rest e }
+parted (t ∷ ts) [] one rest e = record { before = []; turn = t; behind = ts; parts = refl; before_is = refl; turn_is = head_is (served_turn t) one (served_turns ts) rest e }
 parted (t ∷ ts) (f ∷ front) one rest e =
-    let p = parted ts front one rest (tail_is (asked_by t) f (map asked_by ts) (front ++ one ∷ rest) e) in
+    let p = parted ts front one rest (tail_is (served_turn t) f (served_turns ts) (front ++ one ∷ rest) e) in
     record {
       before = t ∷ p.before;
       turn = p.turn;
       behind = p.behind;
       parts = ap (λ (us : List Turn). t ∷ us) p.parts;
-      before_is = both_are (asked_by t) f (map asked_by p.before) front (head_is (asked_by t) f (map asked_by ts) (front ++ one ∷ rest) e) p.before_is;
+      before_is = both_are (served_turn t) f (served_turns p.before) front (head_is (served_turn t) f (served_turns ts) (front ++ one ∷ rest) e) p.before_is;
       turn_is = p.turn_is;
     }
 
@@ -87,79 +94,81 @@ room-there before behind t room = (from-place (λ (b : List Turn) (u : Turn). is
 
 -- ---- by both
 
-module _ (limits : Limits) (ours : AreOurs limits) (first : State) (moment : DateTime) where
-  fewer : (before : List Turn) → nat_le most_tokens (tokens_held before) ≡ false → nat_le most_tokens (judged.tokens_held 1 (map asked_by before)) ≡ false
-  fewer before room =
-      let few = leb-false most_tokens (tokens_held before) room in
-      lt-leb most_tokens (judged.tokens_held 1 (map asked_by before)) (omega (arith, few, held-within before, (same limits ours first moment before).held))
+accepted-from : (start turns : List Turn) → AllFrom (judged.IsAccepted acknowledged) (served_turns start) (served_turns turns) → AllFrom (λ (b : List Turn) (u : Turn). is_crowded b u ≡ false) start turns → AllFrom IsAccepted start turns
+accepted-from start [] h room = tt
+accepted-from start (t ∷ ts) h room = (
+  refusal-same start t room.0 ∙ ap (option_map (fault_at (length start))) h.0,
+  accepted-from (start ++ t ∷ []) ts (subst (λ (us : List (Option (List Message))). AllFrom (judged.IsAccepted acknowledged) us (served_turns ts)) (sym (served-push start t)) h.1) room.1,
+)
 
-  refusal-same : (before : List Turn) (t : Turn) → is_crowded before t ≡ false → turn_refusal before t ≡ option_map (fault_of (length before)) (judged.turn_refusal acknowledged (map asked_by before) (asked_by t))
-  refusal-same before (Ask m) room =
-      reasons-ask (length before) (not (request.encodable m)) (nat_le no_id (id_behind before)) (is_too_large acknowledged (request.canonical m))
-      ∙ ap (λ (i : ℕ). option_map (fault_of (length before)) (first_reason (judged.turn_reasons acknowledged (judged.tokens_held 1 (map asked_by before)) i (Some (m ∷ []))))) (sym (same limits ours first moment before).ids)
-  refusal-same before Renew room =
-      let n : ℕ = length before in
-      let late : Bool = nat_le no_id (id_behind before) in
-      ap (λ (b : Bool). first_reason ((Request n TooManyTokens, b) ∷ (Request n Exhausted, late) ∷ [])) room
-      ∙ (reasons-renew n late
-      ∙ (ap (λ (b : Bool). option_map (fault_of n) (first_reason ((client.TooManyTokens, b) ∷ (client.Exhausted, late) ∷ []))) (sym (fewer before room))
-      ∙ ap (λ (i : ℕ). option_map (fault_of n) (first_reason (judged.turn_reasons acknowledged (judged.tokens_held 1 (map asked_by before)) i None))) (sym (same limits ours first moment before).ids)))
+pub accepted-all : (turns : List Turn) → judged.AreAccepted acknowledged (served_turns turns) → HaveRoom turns → AreAccepted turns
+unfolding AllAfter
+accepted-all turns h room = accepted-from [] turns h room
 
-  accepted-from : (start turns : List Turn) → AllFrom (judged.IsAccepted acknowledged) (map asked_by start) (map asked_by turns) → AllFrom (λ (b : List Turn) (u : Turn). is_crowded b u ≡ false) start turns → AllFrom IsAccepted start turns
-  accepted-from start [] h room = tt
-  accepted-from start (t ∷ ts) h room = (
-    refusal-same start t room.0 ∙ ap (option_map (fault_of (length start))) h.0,
-    accepted-from (start ++ t ∷ []) ts (subst (λ (us : List (Option (List Message))). AllFrom (judged.IsAccepted acknowledged) us (map asked_by ts)) (sym (asked-push start t)) h.1) room.1,
-  )
+-- a turn that is accepted a client takes
+room-accepted : (before : List Turn) (t : Turn) → IsAccepted before t → is_crowded before t ≡ false
+room-accepted before (Ask m) e = refl
+room-accepted before Renew e = (none_parts (leb most_tokens (tokens_counted before)) _ _ e).0
 
-  pub accepted-all : (turns : List Turn) → judged.AreAccepted acknowledged (map asked_by turns) → HaveRoom turns → AreAccepted turns
-  unfolding AllAfter
-  accepted-all turns h room = accepted-from [] turns h room
+none_named : (n : ℕ) (o : Option ClientFault) → option_map (fault_at n) o ≡ None → o ≡ None
+none_named n None e = refl
+none_named n (Some fault) e = absurd cc
 
-  -- the first that is not taken
-  refused-first : (turns : List Turn) (place : ℕ) (fault : ClientFault) → judged.FirstRefused acknowledged (map asked_by turns) place fault → HaveRoom turns → FirstRefused turns (fault_of place fault)
-  refused-first turns place fault r room =
-      let p = parted turns r.before r.turn r.behind r.parts in
-      let whole : HaveRoom (p.before ++ p.turn ∷ p.behind) = subst HaveRoom p.parts room in
-      let there : judged.turn_refusal acknowledged (map asked_by p.before) (asked_by p.turn) ≡ Some fault =
-      ap (λ (ts : List (Option (List Message))). judged.turn_refusal acknowledged ts (asked_by p.turn)) p.before_is ∙ (ap (judged.turn_refusal acknowledged r.before) p.turn_is ∙ r.refused) in
-      let at : length p.before ≡ place = sym (length-map p.before asked_by) ∙ (ap length p.before_is ∙ r.place_is) in
-      record {
-        before = p.before;
-        turn = p.turn;
-        behind = p.behind;
-        parts = p.parts;
-        accepted = accepted-all p.before (subst (judged.AreAccepted acknowledged) (sym p.before_is) r.accepted) (room-before p.before p.behind p.turn whole);
-        refused = refusal-same p.before p.turn (room-there p.before p.behind p.turn whole) ∙ (ap (option_map (fault_of (length p.before))) there ∙ ap (λ (n : ℕ). Some (fault_of n fault)) at);
-      }
+served-from : (start turns : List Turn) → AllFrom IsAccepted start turns → AllFrom (judged.IsAccepted acknowledged) (served_turns start) (served_turns turns)
+served-from start [] h = tt
+served-from start (t ∷ ts) h = (
+  none_named (length start) (refusal_served start t) (sym (refusal-same start t (room-accepted start t h.0)) ∙ h.0),
+  subst (λ (us : List (Option (List Message))). AllFrom (judged.IsAccepted acknowledged) us (served_turns ts)) (served-push start t) (served-from (start ++ t ∷ []) ts h.1),
+)
 
-  -- among the first of more turns
-  refused-among : (asked more : List Turn) (fault : PairFault) → FirstRefused asked fault → FirstRefused (asked ++ more) fault
-  refused-among asked more fault r = record {
-    before = r.before;
-    turn = r.turn;
-    behind = r.behind ++ more;
-    parts = ap (λ (ts : List Turn). ts ++ more) r.parts ∙ append_assoc r.before (r.turn ∷ r.behind) more;
-    accepted = r.accepted;
-    refused = r.refused;
-  }
+pub served-all : (turns : List Turn) → AreAccepted turns → judged.AreAccepted acknowledged (served_turns turns)
+unfolding AllAfter
+served-all turns h = served-from [] turns h
 
-  -- a turn is not taken, or memory was refused
-  pub refused-for : (asked more : List Turn) (place : ℕ) (fault : ClientFault) → (judged.IsTurnFault fault → judged.FirstRefused acknowledged (map asked_by asked) place fault) → HaveRoom asked → IsRefusedFor (asked ++ more) (fault_of place fault)
-  refused-for asked more place client.NotWritable r room = refused-among asked more (NotWritable place) (refused-first asked place client.NotWritable (r tt) room)
-  refused-for asked more place client.Exhausted r room = refused-among asked more (Request place Exhausted) (refused-first asked place client.Exhausted (r tt) room)
-  refused-for asked more place client.TooLarge r room = refused-among asked more (Request place RequestTooLarge) (refused-first asked place client.TooLarge (r tt) room)
-  refused-for asked more place client.TooManyTokens r room = refused-among asked more (Request place TooManyTokens) (refused-first asked place client.TooManyTokens (r tt) room)
-  refused-for asked more place (client.Peer code) r room = tt
-  refused-for asked more place (client.Refused code) r room = tt
-  refused-for asked more place (client.Service code) r room = tt
-  refused-for asked more place client.Ended r room = tt
-  refused-for asked more place client.Read r room = tt
-  refused-for asked more place client.Write r room = tt
-  refused-for asked more place client.TooLong r room = tt
-  refused-for asked more place client.UnknownResponse r room = tt
-  refused-for asked more place client.OutOfMemory r room = tt
-  refused-for asked more place client.Closed r room = tt
+-- the first that is not taken
+refused-first : (turns : List Turn) (place : ℕ) (fault : ClientFault) → judged.FirstRefused acknowledged (served_turns turns) place fault → HaveRoom turns → FirstRefused turns (fault_at place fault)
+refused-first turns place fault r room =
+    let p = parted turns r.before r.turn r.behind r.parts in
+    let whole : HaveRoom (p.before ++ p.turn ∷ p.behind) = subst HaveRoom p.parts room in
+    let there : refusal_served p.before p.turn ≡ Some fault =
+    ap (λ (ts : List (Option (List Message))). judged.turn_refusal acknowledged ts (served_turn p.turn)) p.before_is ∙ (ap (judged.turn_refusal acknowledged r.before) p.turn_is ∙ r.refused) in
+    let at : length p.before ≡ place = sym (length-map p.before served_turn) ∙ (ap length p.before_is ∙ r.place_is) in
+    record {
+      before = p.before;
+      turn = p.turn;
+      behind = p.behind;
+      parts = p.parts;
+      accepted = accepted-all p.before (subst (judged.AreAccepted acknowledged) (sym p.before_is) r.accepted) (room-before p.before p.behind p.turn whole);
+      refused = refusal-same p.before p.turn (room-there p.before p.behind p.turn whole) ∙ (ap (option_map (fault_at (length p.before))) there ∙ ap (λ (n : ℕ). Some (fault_at n fault)) at);
+    }
+
+-- among the first of more turns
+refused-among : (asked more : List Turn) (fault : PairFault) → FirstRefused asked fault → FirstRefused (asked ++ more) fault
+refused-among asked more fault r = record {
+  before = r.before;
+  turn = r.turn;
+  behind = r.behind ++ more;
+  parts = ap (λ (ts : List Turn). ts ++ more) r.parts ∙ append_assoc r.before (r.turn ∷ r.behind) more;
+  accepted = r.accepted;
+  refused = r.refused;
+}
+
+-- a turn is not taken, or memory was refused
+pub refused-for : (asked more : List Turn) (place : ℕ) (fault : ClientFault) → (judged.IsTurnFault fault → judged.FirstRefused acknowledged (served_turns asked) place fault) → HaveRoom asked → IsRefusedFor (asked ++ more) (fault_at place fault)
+refused-for asked more place client.NotWritable r room = refused-among asked more (NotWritable place) (refused-first asked place client.NotWritable (r tt) room)
+refused-for asked more place client.Exhausted r room = refused-among asked more (Request place Exhausted) (refused-first asked place client.Exhausted (r tt) room)
+refused-for asked more place client.TooLarge r room = refused-among asked more (Request place RequestTooLarge) (refused-first asked place client.TooLarge (r tt) room)
+refused-for asked more place client.TooManyTokens r room = refused-among asked more (Request place TooManyTokens) (refused-first asked place client.TooManyTokens (r tt) room)
+refused-for asked more place (client.Peer code) r room = tt
+refused-for asked more place (client.Refused code) r room = tt
+refused-for asked more place (client.Service code) r room = tt
+refused-for asked more place client.Ended r room = tt
+refused-for asked more place client.Read r room = tt
+refused-for asked more place client.Write r room = tt
+refused-for asked more place client.TooLong r room = tt
+refused-for asked more place client.UnknownResponse r room = tt
+refused-for asked more place client.OutOfMemory r room = tt
+refused-for asked more place client.Closed r room = tt
 
 -- ---- a renewal for which too many tokens are held
 
@@ -169,7 +178,7 @@ first-true n false c e = absurd cc
 
 crowded-refusal : (before : List Turn) (t : Turn) (place : ℕ) → is_crowded before t ≡ true → length before ≡ place → turn_refusal before t ≡ Some (Request place TooManyTokens)
 crowded-refusal before (Ask m) place e at = absurd cc
-crowded-refusal before Renew place e at = first-true (length before) (nat_le most_tokens (tokens_held before)) (nat_le no_id (id_behind before)) e ∙ ap (λ (n : ℕ). Some (Request n TooManyTokens)) at
+crowded-refusal before Renew place e at = first-true (length before) (nat_le most_tokens (tokens_counted before)) (nat_le no_id (id_behind before)) e ∙ ap (λ (n : ℕ). Some (Request n TooManyTokens)) at
 
 -- the turns in front of it
 pub front-is : (turns : List Turn) (place : ℕ) (f : FirstCrowded turns place) → take place turns ≡ f.before

@@ -1,14 +1,12 @@
 mod Lists
 mod Texts
-mod Tokens
+mod Words
 mod Waiting
-mod Asking
 mod Saying
 mod Hearing
 mod Heard
 mod Held
 mod Counting
 mod Finding
-mod Same
 mod Judging
 mod Conversed

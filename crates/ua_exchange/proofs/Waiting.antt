@@ -5,9 +5,20 @@ use Rattle.std.proofs.lemmas.Bool.{eq-eqb, ne_eqb}
 use Rattle.ua_channel.specs.Asks.{is_in}
 use Rattle.ua_channel.specs.ClientReads.{without_id}
 use Rattle.ua_services.specs.declared.request.Request.{Request}
-use Rattle.ua_exchange.specs.Groups.{calls_from, renewals_from}
 use Rattle.ua_exchange.specs.declared.turn.Turn.{Turn}
 use Rattle.ua_exchange.specs.declared.turn.Turn.TheVariants.{Ask, Renew}
+
+-- the request ids of the requests, where the first turn has this id
+abbrev pub calls_from : ℕ → List Turn → List ℕ
+calls_from id [] = []
+calls_from id (Ask m ∷ ts) = id ∷ calls_from (id + 1) ts
+calls_from id (Renew ∷ ts) = calls_from (id + 1) ts
+
+-- the request ids of the renewals
+abbrev pub renewals_from : ℕ → List Turn → List ℕ
+renewals_from id [] = []
+renewals_from id (Ask m ∷ ts) = renewals_from (id + 1) ts
+renewals_from id (Renew ∷ ts) = id ∷ renewals_from (id + 1) ts
 
 -- ---- with one turn more
 

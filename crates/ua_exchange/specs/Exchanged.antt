@@ -5,16 +5,17 @@ use Rattle.ua_frame.specs.Run.{Over}
 use Rattle.ua_nodes.specs.Table.{Nodes}
 use Rattle.ua_server.specs.Said.{said}
 use Rattle.ua_server.specs.State.{State}
+use Rattle.ua_served.specs.Says.{spent}
 use Rattle.ua_exchange.specs.Accepted.{FirstRefused}
-use Rattle.ua_exchange.specs.Handed.{all_told, moments_of}
 use Rattle.ua_exchange.specs.Programs.{begun_over, channel}
+use Rattle.ua_exchange.specs.Turns.{all_told}
 use Rattle.ua_exchange.specs.declared.fault.PairFault.{PairFault}
 use Rattle.ua_exchange.specs.declared.fault.PairFault.TheVariants.{NotWritable, Request, OutOfMemory}
 use Rattle.ua_exchange.specs.declared.turn.Turn.{Turn}
 
 -- all that a server in this state says to a client that has these turns, with this moment for each answer
 abbrev pub all_said : State → DateTime → List Turn → List ℕ
-all_said first moment turns = said channel first (all_told turns) Over (moments_of moment turns)
+all_said first moment turns = said channel first (all_told turns) Over (spent (all_told turns) moment)
 
 -- the same of a server over these nodes, as the connection begins
 abbrev pub down_octets : Nodes → DateTime → List Turn → List ℕ

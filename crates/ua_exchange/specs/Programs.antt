@@ -1,15 +1,32 @@
 -- What the two ends are: those of the program `ua`.
 use Rattle.std.specs.Prelude.{ℕ, ◌+◌, ◌*◌, List, Some, codes}
+use Rattle.std.proofs.Common.{lit≤}
+use Rattle.ua_builtin.specs.declared.date_time.DateTime.{DateTime}
 use Rattle.ua_frame.specs.Limits.{HasSizes}
 use Rattle.ua_frame.specs.declared.ack.Ack.{Ack}
-use Rattle.ua_frame.specs.declared.hello.Hello.{Hello}
 use Rattle.ua_frame.specs.declared.limits.Limits.{Limits}
-use Rattle.ua_channel.specs.Agreement.{Agreement}
+use Rattle.ua_channel.specs.Agreement.{Agreement, agreement_of}
+use Rattle.ua_channel.specs.ClientSends.{hello_to}
 use Rattle.ua_nodes.specs.Table.{Nodes}
 use Rattle.ua_server.specs.State.{State, fresh}
 use Rattle.ua_server.specs.declared.endpoint.Endpoint.{Endpoint}
+use Rattle.ua_served.specs.Accepted as judged
+use Rattle.ua_served.specs.Beginning.{Beginning}
 
 -- the limits of both: frames of 65535 octets each way, messages of 1048576 octets and 256 chunks
+abbrev pub program_limits : Limits
+program_limits = record {
+  receive_buffer_size = 65535;
+  send_buffer_size = 65535;
+  max_message_size = 1048576;
+  max_chunk_count = 256;
+  receives = lit≤ tt;
+  sends = lit≤ tt;
+  takes_octets = lit≤ tt;
+  takes_chunks = lit≤ tt;
+}
+
+-- limits of these sizes
 abbrev pub AreOurs : Limits → Type 0
 AreOurs limits = HasSizes limits 65535 65535 1048576 256
 
@@ -25,28 +42,21 @@ endpoint = record { url = Some url; application_uri = Some (codes "urn:ua:server
 abbrev pub channel : ℕ
 channel = 1
 
--- what the client says first
-abbrev pub greeting : Hello
-greeting = record {
-  protocol_version = 0;
-  receive_buffer_size = 65535;
-  send_buffer_size = 65535;
-  max_message_size = 1048576;
-  max_chunk_count = 256;
-  endpoint_url = Some url;
-}
-
--- what the server acknowledges
+-- what the server acknowledges to the client
 abbrev pub acknowledged : Ack
-acknowledged = record { protocol_version = 0; receive_buffer_size = 65535; send_buffer_size = 65535; max_message_size = 1048576; max_chunk_count = 256 }
+acknowledged = judged.acknowledged program_limits program_limits (Some url)
 
 -- what they agree to
 abbrev pub agreement : Agreement
-agreement = record { ack = acknowledged; octets = 1048576; chunks = 256 }
+agreement = agreement_of program_limits (hello_to program_limits (Some url))
 
 -- the server's state as the connection begins
 abbrev pub begun_over : Nodes → State
 begun_over nodes = fresh nodes endpoint
+
+-- how it begins over services in a state, with one moment for each answer
+abbrev pub beginning : State → DateTime → Beginning
+beginning first moment = record { limits = program_limits; channel = channel; first = first; moment = moment }
 
 -- the most octets that either end holds of what is not whole: of a frame 65535, and of 4 unfinished messages 1048576 each
 abbrev pub most_held : ℕ

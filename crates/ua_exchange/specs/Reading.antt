@@ -1,41 +1,25 @@
--- What each end reads of what the other says of turns.
-use Rattle.std.specs.Prelude.{◌≡◌, ℕ, suc, ◌+◌, ◌≤◌, length, List, [], ◌∷◌, ◌++◌, Some}
+-- What a client reads of what a server says of turns that are asked in groups.
+use Rattle.std.specs.Prelude.{◌≡◌, ℕ, ◌+◌, length, List, [], ◌∷◌, ◌++◌}
 use Rattle.ua_builtin.specs.declared.date_time.DateTime.{DateTime}
 use Rattle.ua_frame.specs.After.{each_after}
-use Rattle.ua_frame.specs.Frames.{frames_octets}
 use Rattle.ua_frame.specs.Run.{Going, Run, events}
 use Rattle.ua_frame.specs.declared.frame.Frame.{Frame}
 use Rattle.ua_frame.specs.declared.limits.Limits.{Limits}
 use Rattle.ua_chunk.specs.Cutting.{cut_refusal}
-use Rattle.ua_channel.specs.Asks.{Asking, Placed, asked_in}
+use Rattle.ua_channel.specs.Asks.{Asking, Placed}
 use Rattle.ua_channel.specs.Asks.Asking.{Call, Renewal}
-use Rattle.ua_channel.specs.ClientAsks.{no_id}
-use Rattle.ua_channel.specs.ClientReads.{AtClient, ClientReads, told_reply}
+use Rattle.ua_channel.specs.ClientReads.{told_reply}
 use Rattle.ua_channel.specs.ClientTable.{client_rules}
 use Rattle.ua_channel.specs.ClientTold.{ClientTold as Heard, ClientTold as heard}
-use Rattle.ua_channel.specs.ServerReads.{AtServer, ServerReads}
 use Rattle.ua_services.specs.Response.{response}
-use Rattle.ua_server.specs.Said.{Course, said, left}
+use Rattle.ua_server.specs.Said.{said}
 use Rattle.ua_server.specs.State.{State}
-use Rattle.ua_exchange.specs.Handed.{asking_told, spent}
-use Rattle.ua_exchange.specs.Groups.{upto, calls_from, renewals_from}
-use Rattle.ua_exchange.specs.Programs.{acknowledged, agreement, channel, greeting}
-use Rattle.ua_exchange.specs.Replies.{lane_back, response_behind, state_behind}
-use Rattle.ua_exchange.specs.Turns.{asking_frames, id_behind, number_behind, token_behind}
+use Rattle.ua_served.specs.Says.{spent}
+use Rattle.ua_exchange.specs.Programs.{acknowledged, channel}
+use Rattle.ua_exchange.specs.Replies.{lane_back, response_behind}
+use Rattle.ua_exchange.specs.Turns.{asking_told, id_behind, token_behind}
 use Rattle.ua_exchange.specs.declared.turn.Turn.{Turn}
 use Rattle.ua_exchange.specs.declared.turn.Turn.TheVariants.{Ask, Renew}
-
--- ---- at the server
-
--- a server with these limits reads what the client says up to and with these turns, and is told of them
-pub record AskingReads (limits : Limits) (moment : DateTime) (turns : List Turn) : Type 0 where
-  pub at : AtServer
-  pub reads : ServerReads limits channel (frames_octets (asking_frames moment turns)) (asking_told turns) at
-  pub hello_is : at.hello ≡ greeting
-  pub issued_is : at.issued ≡ token_behind turns
-  pub used_within : at.used ≤ at.issued
-  pub next_is : at.next ≡ number_behind turns
-  pub few : id_behind turns ≤ no_id
 
 -- ---- what the server says
 
@@ -43,17 +27,9 @@ pub record AskingReads (limits : Limits) (moment : DateTime) (turns : List Turn)
 abbrev pub said_to : State → DateTime → List Turn → List ℕ
 said_to first moment turns = said channel first (asking_told turns) Going (spent (asking_told turns) moment)
 
--- how far it is then, with this number next, and these moments left
-abbrev pub course_behind : State → DateTime → List Turn → ℕ → List DateTime → Course
-course_behind first moment turns number moments = record { state = state_behind first moment turns; number = number; moments = moments; agreement = Some agreement }
+-- ---- what the client is told
 
--- the number of its next chunk
-abbrev pub NumberIs : State → DateTime → List Turn → ℕ → Type 0
-NumberIs first moment turns number = left channel first (asking_told turns) (spent (asking_told turns) moment) ≡ course_behind first moment turns number []
-
--- ---- at the client
-
--- what it is told of a turn behind these: the reply to a request, or that it was given up; the token that a renewal brings
+-- of a turn behind these: the reply to a request, or that it was given up; the token that a renewal brings
 abbrev pub heard_behind : State → DateTime → List Turn → Turn → List Heard
 heard_behind first moment before (Ask m) =
     told_reply (cut_refusal (lane_back before) (response.canonical (response_behind first moment before m))) (id_behind before) (response.canonical (response_behind first moment before m)) ∷ []
@@ -67,6 +43,14 @@ turns_heard first moment turns = each_after (heard_behind first moment) turns
 abbrev pub all_heard : State → DateTime → List Turn → List Heard
 all_heard first moment turns = heard.Agreed acknowledged ∷ (heard.Opened channel 1 ∷ turns_heard first moment turns)
 
+-- ---- what it asks, group by group
+
+-- no turn stands behind a renewal: it is the last of its group
+abbrev pub EndsAtRenewal : List Turn → Type 0
+EndsAtRenewal [] = Unit {0}
+EndsAtRenewal (Ask m ∷ ts) = EndsAtRenewal ts
+EndsAtRenewal (Renew ∷ ts) = ts ≡ []
+
 -- what a client asks in a turn, under this request id
 abbrev pub asking_under : ℕ → Turn → Asking
 asking_under id (Ask m) = Call id
@@ -75,24 +59,6 @@ asking_under id Renew = Renewal id
 -- the same of the turn behind those that wait, with its place: where the answers end to those that are answered
 abbrev pub asked_behind : State → DateTime → List Turn → List Turn → Turn → Placed
 asked_behind first moment answered waiting t = (length (said_to first moment answered), asking_under (id_behind (answered ++ waiting)) t)
-
--- a client with these limits reads what the server says of the turns that are answered, where it asked these, and the others wait
-pub record Hearing (limits : Limits) (first : State) (moment : DateTime) (asks : List Placed) (answered waiting : List Turn) : Type 0 where
-  pub at : AtClient
-  pub reads : ClientReads limits asks (said_to first moment answered) (all_heard first moment answered) at
-  pub asked_is : length (asked_in asks) ≡ length answered + length waiting
-  pub ack_is : at.ack ≡ acknowledged
-  pub channel_is : at.channel ≡ channel
-  pub oldest : ℕ
-  pub others : ℕ
-  pub tokens_are : at.tokens ≡ upto oldest (suc others)
-  pub newest_here : oldest + others ≡ token_behind answered
-  pub newest_is : at.newest ≡ token_behind answered
-  pub pending_are : at.pending ≡ calls_from (id_behind answered) waiting
-  pub renewals_are : at.renewals ≡ renewals_from (id_behind answered) waiting
-  pub next_is : NumberIs first moment answered at.next
-
--- ---- all that a client reads, group by group
 
 -- the turns of groups, one group behind the other
 abbrev pub in_order : List (List Turn) → List Turn

@@ -4,7 +4,7 @@
 ghost use Rattle.std.specs.Prelude.{◌≡◌, ◌+◌, ◌≤◌, ◌<◌, ◌^◌, ◌∷◌, ◌++◌, [], List, IfSome};
 ghost use Rattle.ua_exchange.specs.Accepted.{is_crowded};
 ghost use Rattle.ua_exchange.specs.declared.turn.Turn.{Turn};
-ghost use Rattle.ua_exchange.specs.inside.Counting.{Counts, FindsCrowded};
+ghost use Rattle.ua_exchange.specs.inside.Counting.{CountsLast, FindsCrowded};
 
 use crate::turn::Turn;
 
@@ -24,7 +24,7 @@ struct Last {
 impl Last {
     /// Whether a turn behind these is a renewal that is refused since too many tokens count as held.
     fn is_crowded(self, turn: &Turn) -> bool
-        ensures { (before : List Turn) → Counts before self.renewals self.calls → result ≡ is_crowded before turn.now }
+        ensures { (before : List Turn) → CountsLast before self.renewals self.calls → result ≡ is_crowded before turn.now }
     {
         match turn {
             Turn::Ask(_) => false,
@@ -35,7 +35,7 @@ impl Last {
     /// The same with one turn more.
     fn with(self, turn: &Turn) -> Last
         requires { self.renewals + self.calls < 2 ^ 63 }
-        ensures counts { (before : List Turn) → Counts before self.renewals self.calls → Counts (before ++ turn.now ∷ []) result.renewals result.calls }
+        ensures counts { (before : List Turn) → CountsLast before self.renewals self.calls → CountsLast (before ++ turn.now ∷ []) result.renewals result.calls }
         ensures few { result.renewals + result.calls ≤ self.renewals + self.calls + 1 }
     {
         let Last { renewals, calls } = self;

@@ -1,14 +1,14 @@
 //! A client and a server that run through turns.
 
 ghost use Rattle.std.specs.Prelude.{◌≡◌, IfOk, IfErr, map, Some};
+ghost use Rattle.ua_channel.specs.ServerReads.{ServerCloses};
 ghost use Rattle.ua_nodes.specs.Sound.{IsSound};
 ghost use Rattle.ua_server.specs.declared.step.End.TheVariants.{Closed};
 ghost use Rattle.ua_exchange.specs.Accepted.{AreAccepted};
 ghost use Rattle.ua_exchange.specs.Exchanged.{IsRefusedFor, down_octets};
-ghost use Rattle.ua_exchange.specs.Handed.{Tells, all_told};
-ghost use Rattle.ua_exchange.specs.Programs.{begun_over};
+ghost use Rattle.ua_exchange.specs.Programs.{begun_over, channel, program_limits};
 ghost use Rattle.ua_exchange.specs.Replies.{state_behind, turns_replies};
-ghost use Rattle.ua_exchange.specs.Turns.{up_octets};
+ghost use Rattle.ua_exchange.specs.Turns.{all_told, up_octets};
 ghost use Rattle.ua_exchange.specs.inside.Conversed.{IsConversed};
 ghost use Rattle.ua_exchange.specs.inside.Counting.{FindsCrowded, front_of};
 
@@ -102,7 +102,7 @@ pub fn exchange(
     ensures up { IfOk result (λ t. t.up.items ≡ up_octets moment turns.now) }
 
     // The services are handed just these requests, in their order, each under its own request id.
-    ensures handed { IfOk result (λ t. Tells t.up.items (all_told turns.now)) }
+    ensures handed { IfOk result (λ t. ServerCloses program_limits channel t.up.items (all_told turns.now)) }
     ensures down { IfOk result (λ t. t.down.items ≡ down_octets table moment turns.now) }
     ensures replies { IfOk result (λ t. map Some t.replies.items ≡ turns_replies (begun_over table) moment turns.now) }
     ensures closed { IfOk result (λ t. t.end ≡ Closed) }

@@ -22,12 +22,12 @@ pub enum PairFault {
 
 impl PairFault {
     ghost use Rattle.std.specs.Prelude.{◌≡◌};
-    ghost use Rattle.ua_exchange.specs.Accepted.{fault_of};
+    ghost use Rattle.ua_exchange.specs.Accepted.{fault_at};
 
     /// Why a client does not take the turn at this place; want of memory where its fault is no reason
     /// against a turn.
     pub(crate) fn of_client(place: usize, fault: ClientFault) -> PairFault
-        ensures { result ≡ fault_of place fault }
+        ensures { result ≡ fault_at place fault }
     {
         match fault {
             ClientFault::NotWritable => PairFault::NotWritable(place),

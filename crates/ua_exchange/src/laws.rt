@@ -16,11 +16,9 @@ ghost use Rattle.ua_server.specs.Served.{channel_in};
 ghost use Rattle.ua_server.specs.State.{State};
 ghost use Rattle.ua_exchange.specs.Accepted.{AreAccepted};
 ghost use Rattle.ua_exchange.specs.Exchanged.{all_said};
-ghost use Rattle.ua_exchange.specs.Groups.{EndsAtRenewal};
-ghost use Rattle.ua_exchange.specs.Reading.{TellsClient, all_heard, asks_of, in_order};
-ghost use Rattle.ua_exchange.specs.Handed.{all_told};
 ghost use Rattle.ua_exchange.specs.Programs.{AreOurs, channel, most_held};
-ghost use Rattle.ua_exchange.specs.Turns.{up_octets};
+ghost use Rattle.ua_exchange.specs.Reading.{EndsAtRenewal, TellsClient, all_heard, asks_of, in_order};
+ghost use Rattle.ua_exchange.specs.Turns.{all_told, up_octets};
 ghost use Rattle.ua_exchange.specs.declared.turn.Turn.{Turn};
 
 use ua_channel::ClientChannel;

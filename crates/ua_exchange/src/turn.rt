@@ -14,9 +14,9 @@ pub enum Turn {
 }
 
 impl AsTurn for Turn {
-    ghost use Rattle.ua_exchange.specs.Turns.{asked_by};
+    ghost use Rattle.ua_exchange.specs.Turns.{served_turn};
 
-    ghost turn = { asked_by };
+    ghost turn = { served_turn };
 
     fn requests(&self) -> Option<&[Request]> {
         match self {

@@ -1,8 +1,8 @@
--- What an exchange needs of what a `Client` and a `Server` in one process come to, with the limits of the program and the turns of an
--- exchange.
+-- What an exchange needs of what a `Client` and a `Server` in one process come to.
 use Rattle.std.specs.Prelude.{◌≡◌, ℕ, List, map, Option, Some, OnOk, IfErr}
 use Rattle.ua_builtin.specs.declared.date_time.DateTime.{DateTime}
 use Rattle.ua_frame.specs.declared.limits.Limits.{Limits}
+use Rattle.ua_channel.specs.ServerReads.{ServerCloses}
 use Rattle.ua_server.specs.State.{State}
 use Rattle.ua_server.specs.declared.step.End.TheVariants.{Closed}
 use Rattle.ua_client.specs.declared.reply.Reply.{Reply}
@@ -11,29 +11,29 @@ use Rattle.ua_served.specs.Beginning.{Beginning}
 use Rattle.ua_served.specs.Replies.{turns_replies, turns_state}
 use Rattle.ua_served.specs.Says.{said_to}
 use Rattle.ua_served.specs.Sends.{conversation_octets}
+use Rattle.ua_served.specs.Turns.{conversation_told}
 use Rattle.ua_served.specs.declared.conversation.Transcript.{Transcript}
 use Rattle.ua_served.specs.declared.stage.Stage.TheVariants.{Ended}
-use Rattle.ua_exchange.specs.Programs.{AreOurs, channel, url}
-use Rattle.ua_exchange.specs.Turns.{asked_by}
+use Rattle.ua_exchange.specs.Programs.{channel, program_limits, url}
+use Rattle.ua_exchange.specs.Turns.{served_turns}
 use Rattle.ua_exchange.specs.declared.turn.Turn.{Turn}
 
 -- how the server begins, with these limits, over services in this state
-abbrev pub beginning : Limits → State → DateTime → Beginning
-beginning limits first moment = record { limits = limits; channel = channel; first = first; moment = moment }
+abbrev pub beginning_by : Limits → State → DateTime → Beginning
+beginning_by limits first moment = record { limits = limits; channel = channel; first = first; moment = moment }
 
 -- what an exchange needs of what `converse` says of the transcript of these turns, of both ends with these limits, for this address, over
 -- services in this state
 pub record ConversesBy (limits : Limits) (address : Option (List ℕ)) (first : State) (moment : DateTime) (turns : List Turn) (t : Transcript) : Type 0 where
-  pub down : t.down.items ≡ said_to (beginning limits first moment) t.up.items
+  pub down : t.down.items ≡ said_to (beginning_by limits first moment) t.up.items
   pub closed : OnOk t.outcome (t.stage ≡ Ended Closed)
-  pub sent : OnOk t.outcome (t.up.items ≡ conversation_octets limits limits address channel moment (map asked_by turns))
-  pub replied : OnOk t.outcome (map (λ (r : Reply). Some r) t.replies.items ≡ turns_replies (beginning limits first moment) limits address first 1 (map asked_by turns))
-  pub state : OnOk t.outcome (t.services ≡ turns_state first moment (map asked_by turns))
-  pub accepted : OnOk t.outcome (judged.AreAccepted (judged.acknowledged limits limits address) (map asked_by turns))
-  pub refused : IfErr t.outcome (λ fault. judged.IsTurnFault fault → judged.FirstRefused (judged.acknowledged limits limits address) (map asked_by turns) t.taken fault)
+  pub sent : OnOk t.outcome (t.up.items ≡ conversation_octets limits limits address channel moment (served_turns turns))
+  pub heard : OnOk t.outcome (ServerCloses limits channel t.up.items (conversation_told limits limits address (served_turns turns)))
+  pub replied : OnOk t.outcome (map (λ (r : Reply). Some r) t.replies.items ≡ turns_replies (beginning_by limits first moment) limits address first 1 (served_turns turns))
+  pub state : OnOk t.outcome (t.services ≡ turns_state first moment (served_turns turns))
+  pub accepted : OnOk t.outcome (judged.AreAccepted (judged.acknowledged limits limits address) (served_turns turns))
+  pub refused : IfErr t.outcome (λ fault. judged.IsTurnFault fault → judged.FirstRefused (judged.acknowledged limits limits address) (served_turns turns) t.taken fault)
 
 -- the same with the limits and the address of the program
-pub record IsConversed (first : State) (moment : DateTime) (turns : List Turn) (t : Transcript) : Type 0 where
-  pub limits : Limits
-  pub ours : AreOurs limits
-  pub by : ConversesBy limits (Some url) first moment turns t
+abbrev pub IsConversed : State → DateTime → List Turn → Transcript → Type 0
+IsConversed first moment turns t = ConversesBy program_limits (Some url) first moment turns t

@@ -1,9 +1,9 @@
 -- How the renewals are found that are not asked, since too many tokens count as held: turns are counted one by one.
-use Rattle.std.specs.Prelude.{◌≡◌, ℕ, true, false, length, take, List, [], ◌∷◌, ◌++◌, Option, Some, None}
-use Rattle.ua_chunk.specs.Gathered.{after_last}
+use Rattle.std.specs.Prelude.{◌≡◌, ℕ, ◌+◌, true, false, length, take, List, [], ◌∷◌, ◌++◌, Option, Some, None}
 use Rattle.ua_frame.specs.After.{AllAfter}
+use Rattle.ua_served.specs.Accepted.{tokens_held}
 use Rattle.ua_exchange.specs.Accepted.{is_crowded, last_calls}
-use Rattle.ua_exchange.specs.Turns.{is_call}
+use Rattle.ua_exchange.specs.Turns.{served_turns}
 use Rattle.ua_exchange.specs.declared.turn.Turn.{Turn}
 use Rattle.ua_exchange.specs.declared.turn.Turn.TheVariants.{Ask, Renew}
 
@@ -13,15 +13,15 @@ AreCalls [] = Unit {0}
 AreCalls (Ask m ∷ ts) = AreCalls ts
 AreCalls (Renew ∷ ts) = ⊥
 
--- of these turns so many stand last that are requests, and so many in front of those that are renewals
-pub record Counts (before : List Turn) (renewals calls : ℕ) : Type 0 where
+-- of these turns so many stand last that are requests; in front of those a client holds a token for each of so many renewals, and one
+pub record CountsLast (before : List Turn) (renewals calls : ℕ) : Type 0 where
   pub front : List Turn
   pub last : List Turn
   pub parts : before ≡ front ++ last
   pub are_calls : AreCalls last
   pub calls_are : calls ≡ length last
   pub no_more : last_calls front ≡ []
-  pub renewals_are : renewals ≡ length (after_last is_call front)
+  pub held_is : tokens_held 1 (served_turns front) ≡ renewals + 1
 
 -- no renewal among these turns is refused since too many tokens count as held
 abbrev pub HaveRoom : List Turn → Type 0

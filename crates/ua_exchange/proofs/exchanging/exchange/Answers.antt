@@ -1,5 +1,4 @@
-use Rattle.std.proofs.Common.{FitsSigned, List, rules, subst, sym, w64}
-use Rattle.ua_served.proofs.Fitting.{moment_fits}
+use Rattle.std.proofs.Common.{List, subst, sym}
 use Rattle.ua_exchange.specs.Exchanged.{IsRefusedFor}
 use Rattle.ua_exchange.specs.Programs.{begun_over}
 use Rattle.ua_exchange.specs.declared.turn.Turn.{Turn}
@@ -31,23 +30,16 @@ returns-clause-accepted c =
     accepted-turns (begun_over c.args.table) c.args.moment c.args.turns.now c.in_ok-found.found (all_taken c) c.in_default.field-0 c.in_default.is c.in_default-crowded.ensures.found
 
 pub returns-clause-up : goal.returns-clause-up
-returns-clause-up c =
-    up-all (begun_over c.args.table) c.args.moment c.args.turns.now c.in_ok-found.found (all_taken c) c.in_default.field-0 c.in_default.is
+returns-clause-up c = up-all (begun_over c.args.table) c.args.moment c.args.turns.now c.in_ok-found.found (all_taken c) c.in_default.field-0 c.in_default.is
 
 pub returns-clause-handed : goal.returns-clause-handed
-returns-clause-handed c =
-    let dated : FitsSigned w64 c.args.moment.ticks = search rules in
-    handed-all (begun_over c.args.table) c.args.moment c.args.turns.now c.in_ok-found.found (all_taken c) c.in_default.field-0 c.in_default.is c.in_default-crowded.ensures.found (moment_fits c.args.moment dated)
+returns-clause-handed c = handed-all (begun_over c.args.table) c.args.moment c.args.turns.now c.in_ok-found.found (all_taken c) c.in_default.field-0 c.in_default.is
 
 pub returns-clause-down : goal.returns-clause-down
-returns-clause-down c =
-    let dated : FitsSigned w64 c.args.moment.ticks = search rules in
-    down-all (begun_over c.args.table) c.args.moment c.args.turns.now c.in_ok-found.found (all_taken c) c.in_default.field-0 c.in_default.is c.in_default-crowded.ensures.found (moment_fits c.args.moment dated)
+returns-clause-down c = down-all (begun_over c.args.table) c.args.moment c.args.turns.now c.in_ok-found.found (all_taken c) c.in_default.field-0 c.in_default.is
 
 pub returns-clause-replies : goal.returns-clause-replies
-returns-clause-replies c =
-    replies-all (begun_over c.args.table) c.args.moment c.args.turns.now c.in_ok-found.found (all_taken c) c.in_default.field-0 c.in_default.is
+returns-clause-replies c = replies-all (begun_over c.args.table) c.args.moment c.args.turns.now c.in_ok-found.found (all_taken c) c.in_default.field-0 c.in_default.is
 
 pub returns-clause-services : goal.returns-clause-services
-returns-clause-services c =
-    services-all (begun_over c.args.table) c.args.moment c.args.turns.now c.in_ok-found.found (all_taken c) c.in_default.field-0 c.in_default.is
+returns-clause-services c = services-all (begun_over c.args.table) c.args.moment c.args.turns.now c.in_ok-found.found (all_taken c) c.in_default.field-0 c.in_default.is
