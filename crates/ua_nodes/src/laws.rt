@@ -45,7 +45,7 @@ pub fn a_node_keeps_the_last_good_item()
 /// A Write of what is kept of items, where each node takes the values of its own type, gives the same
 /// answers and leaves the same nodes as a Write of the items themselves (OPC 10000-4, 5.11.4). Takes no
 /// memory.
-pub fn values_that_no_node_takes_change_no_write(table: &NodeTable)
+pub fn values_that_their_nodes_cannot_take_change_no_write(table: &NodeTable)
     ensures answers { (items : List WriteValue) → write_answers table.now (map (thinned (nodes_take table.now)) items) ≡ write_answers table.now items }
     ensures nodes { (items : List WriteValue) (moment : DateTime) → after_write (map (thinned (nodes_take table.now)) items) moment table.now ≡ after_write items moment table.now }
 {

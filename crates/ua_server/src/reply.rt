@@ -12,7 +12,7 @@ use crate::services::Services;
 use crate::watch::{AnsweredRequest, items_asked};
 use std::alloc::{AllocError, Global};
 use ua_builtin::{DateTime, Source, StatusCode, WriteFault};
-use ua_nodes::values_that_no_node_takes_change_no_write;
+use ua_nodes::values_that_their_nodes_cannot_take_change_no_write;
 use ua_services::{Request, RequestFault, Response, read_request_for, response_body};
 
 impl Services {
@@ -74,7 +74,7 @@ impl Services {
         ensures items { IfOk result (λ kept. count_asked (request_read (S.octets src.old)) ≡ items_asked kept) }
         ensures refused { IfErr result (λ fault. (request_read (S.octets src.old) ≡ Err fault) ⊎ (fault ≡ RequestFault.OutOfMemory)) }
     {
-        values_that_no_node_takes_change_no_write(&self.nodes);
+        values_that_their_nodes_cannot_take_change_no_write(&self.nodes);
         read_request_for(alloc, src, self)
     }
 

@@ -2,7 +2,7 @@ use Rattle.std.proofs.Common.{subst}
 use Rattle.std.specs.List.{IsDistinct}
 use Rattle.std.specs.Map.{keys_of}
 use Rattle.ua_nodes.proofs.Thinned.{after_write-thinned, write_answers-thinned}
-use Rattle.ua_nodes.proofs.laws.values_that_no_node_takes_change_no_write.Goals as goal
+use Rattle.ua_nodes.proofs.laws.values_that_their_nodes_cannot_take_change_no_write.Goals as goal
 use Rattle.ua_nodes.specs.Table.{Nodes, same_id}
 
 pub returns-clause-answers : goal.returns-clause-answers

@@ -7,7 +7,7 @@ use Rattle.ua_server.proofs.services.Services.read_kept.Goals as goal
 
 pub returns-clause-answer : goal.returns-clause-answer
 returns-clause-answer g c =
-    let law = c.values_that_no_node_takes_change_no_write.ensures in
+    let law = c.values_that_their_nodes_cannot_take_change_no_write.ensures in
     let there : ChangesNothing c.self.inside.nodes = record { answers = law.answers; left = law.nodes } in
     let same = subst (λ (s : State). ChangesNothing s.nodes) c.self.view_is there in
     answer_is c.args.self.now (request_read (g.S.Source.octets c.args.src.now)) c.read_request_for.result same c.read_request_for.ensures.read
