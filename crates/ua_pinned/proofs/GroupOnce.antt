@@ -33,6 +33,7 @@ use Rattle.ua_client.specs.declared.fault.ClientFault.{ClientFault}
 use Rattle.ua_client.specs.declared.fault.ClientFault.TheVariants as fault
 use Rattle.ua_client.specs.declared.reply.Reply.{Reply}
 use Rattle.ua_client.specs.declared.reply.Reply.TheVariants.{Response as Responds, Aborted}
+use Rattle.ua_server.proofs.LeftOver.{front_or_whole}
 use Rattle.ua_pinned.proofs.CallsAlike.{EndsBy, behind_parts, goes_front, one_fault}
 use Rattle.ua_pinned.proofs.CallsAlike.EndsBy.{ByPeer, ByOurs, ByEnd}
 use Rattle.ua_pinned.proofs.ClientsAlike.{to_tells}
@@ -157,25 +158,16 @@ slots_misanswered requests id all told more slots e h m = by (slot_at requests i
         (subst (λ (t : ClientTold). IsReplyBy (kind_of m.request) (id + m.place) t r) (told_head is.0 m.last [] (told_of (id + m.place) more) (sym is.1 ∙ all_is)) is.2) m.misanswers
 
 -- two fronts of what is told that end at such a message are one
-longer_before : (told before xs : List ClientTold) (last x : ClientTold) → told ++ x ∷ xs ≡ before ++ last ∷ [] → (ys : List ClientTold) × (before ≡ told ++ ys)
-longer_before told before xs last x e = by (either_first told before (x ∷ xs) (last ∷ []) e)
-  where
-    by : ((more : List ClientTold) × (before ≡ told ++ more)) ⊎ ((more : List ClientTold) × (told ≡ before ++ more)) → (ys : List ClientTold) × (before ≡ told ++ ys)
-    by (inl m) = m
-    by (inr (ys, p)) = ([], shorter ys p)
-      where
-        shorter : (zs : List ClientTold) → told ≡ before ++ zs → before ≡ told ++ []
-        shorter [] p = sym (append-nil told ∙ (p ∙ append-nil before))
-        shorter (z ∷ zs) p = absurd (omega (arith, ap length e, ap length p, length-append told (x ∷ xs), length-append before (last ∷ []), length-append before (z ∷ zs)))
-
 misanswers_once : (requests : List Request) (id : ℕ) (all told other more rest : List ClientTold) → all ≡ told ++ more → all ≡ other ++ rest → IsMisanswered requests id told → IsMisanswered requests id other → told ≡ other
 misanswers_once requests id all told other more rest e d p q = by (either_first told other more rest (sym e ∙ d))
   where
     further : (a b xs : List ClientTold) → b ≡ a ++ xs → IsMisanswered requests id a → IsMisanswered requests id b → a ≡ b
     further a b [] f m n = sym (f ∙ append-nil a)
-    further a b (x ∷ xs) f m n =
-        let l = longer_before a n.before xs n.last x (sym f ∙ n.told_is) in
-        absurd (slots_misanswered requests id n.before a l.0 n.slots l.1 n.slots_are m)
+    further a b (x ∷ xs) f m n = within (front_or_whole a (x ∷ xs) n.before n.last (sym n.told_is ∙ f))
+      where
+        within : (x ∷ xs ≡ []) ⊎ ((more : List ClientTold) × (n.before ≡ a ++ more)) → a ≡ b
+        within (inl none) = absurd cc
+        within (inr l) = absurd (slots_misanswered requests id n.before a l.0 n.slots l.1 n.slots_are m)
 
     by : ((xs : List ClientTold) × (other ≡ told ++ xs)) ⊎ ((xs : List ClientTold) × (told ≡ other ++ xs)) → told ≡ other
     by (inl l) = further told other l.0 l.1 p q

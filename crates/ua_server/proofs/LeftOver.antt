@@ -23,9 +23,9 @@ use Rattle.ua_server.specs.ServingParts.{IsKept}
 -- ---- lists
 
 -- a list with one item more that begins with another: nothing is behind that one, or the list does without the item
-shorter : {A : Type 0} (first later most : List A) (last : A) → most ++ last ∷ [] ≡ first ++ later → (later ≡ []) ⊎ ((more : List A) × (most ≡ first ++ more))
-shorter {A = A} [] later most last e = inr (most, refl)
-shorter {A = A} (x ∷ first) later [] last e = inl (none-behind first later (tails e))
+pub front_or_whole : {A : Type 0} (first later most : List A) (last : A) → most ++ last ∷ [] ≡ first ++ later → (later ≡ []) ⊎ ((more : List A) × (most ≡ first ++ more))
+front_or_whole {A = A} [] later most last e = inr (most, refl)
+front_or_whole {A = A} (x ∷ first) later [] last e = inl (none-behind first later (tails e))
   where
     tails : last ∷ [] ≡ x ∷ (first ++ later) → [] ≡ first ++ later
     tails p = cc
@@ -33,7 +33,7 @@ shorter {A = A} (x ∷ first) later [] last e = inl (none-behind first later (ta
     none-behind : (first later : List A) → [] ≡ first ++ later → later ≡ []
     none-behind [] later p = sym p
     none-behind (y ∷ first) later p = absurd cc
-shorter {A = A} (x ∷ first) later (y ∷ most) last e = on (shorter first later most last (tails e))
+front_or_whole {A = A} (x ∷ first) later (y ∷ most) last e = on (front_or_whole first later most last (tails e))
   where
     tails : (y ∷ most) ++ last ∷ [] ≡ (x ∷ first) ++ later → most ++ last ∷ [] ≡ first ++ later
     tails p = cc
@@ -75,7 +75,7 @@ module _ (limits : Limits) (channel : ℕ) where
   pub quiet-left : (read piece : List ℕ) (before after : List Frame) (rest left : List ℕ) → 0 < length piece → Run rules read before rest Going → Run rules (read ++ piece) after left Going
       → used_in (events rules after) ≡ used_in (events rules before) → IsUsedUp limits channel (read ++ piece) → ⊥
   quiet-left read piece before after rest left some run later same (inl none) = omega (arith, some, ap length none, length-append read piece)
-  quiet-left read piece before after rest left some run later same (inr u) = by (shorter before front.0 u.frames u.frame front.1)
+  quiet-left read piece before after rest left some run later same (inr u) = by (front_or_whole before front.0 u.frames u.frame front.1)
     where
       front : (more : List Frame) × (u.frames ++ u.frame ∷ [] ≡ before ++ more)
       front = begins_run rules read piece before (u.frames ++ u.frame ∷ []) rest Going run u.run
@@ -105,7 +105,7 @@ module _ (limits : Limits) (channel : ℕ) where
       ap used_in (events-push rules frames frame) ∙ (used_in-append (events rules frames) (rules.tells frames frame) ∙ ap (λ (n : ℕ). used_in (events rules frames) + n) none) in
       let other : used_in (events rules (u.frames ++ u.frame ∷ [])) ≡ used_in (events rules u.frames) + 1 =
       ap used_in (events-push rules u.frames u.frame) ∙ (used_in-append (events rules u.frames) (rules.tells u.frames u.frame) ∙ ap (λ (n : ℕ). used_in (events rules u.frames) + n) u.uses_one) in
-      by-front (shorter frames (frame ∷ []) u.frames u.frame (sym same)) count other same
+      by-front (front_or_whole frames (frame ∷ []) u.frames u.frame (sym same)) count other same
     where
       by-front : (frame ∷ [] ≡ []) ⊎ ((more : List Frame) × (u.frames ≡ frames ++ more)) → used_in (events rules (frames ++ frame ∷ [])) ≡ used_in (events rules frames) + 0
           → used_in (events rules (u.frames ++ u.frame ∷ [])) ≡ used_in (events rules u.frames) + 1 → frames ++ frame ∷ [] ≡ u.frames ++ u.frame ∷ [] → ⊥
