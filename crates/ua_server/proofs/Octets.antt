@@ -11,6 +11,7 @@ use Rattle.ua_chunk.specs.declared.lane.Lane.{Lane}
 use Rattle.ua_channel.specs.ServerSends.{IsReply, replied_by, replied}
 use Rattle.ua_builtin.specs.declared.status_code.StatusCode.{StatusCode}
 use Rattle.ua_server.specs.Requests.{code_by, is_abort}
+use Rattle.ua_server.specs.Status.{bad_response_too_large}
 use Rattle.ua_server.specs.declared.watch.AnsweredRequest.{AnsweredRequest}
 
 -- the chunks of a message are none
@@ -31,7 +32,7 @@ unfolding pieces
 chunks-plain lane [] number id h = absurd (omega (arith, h))
 chunks-plain lane (x ∷ body) number id h = pieces-plain lane number id (length body) lane.room (x ∷ body)
 
-abort-told : (lane : Lane) (number id : ℕ) → is_abort (frame_octets (frame_of (abort_chunk lane number id (of_code 0x80B9_0000)))) ≡ true
+abort-told : (lane : Lane) (number id : ℕ) → is_abort (frame_octets (frame_of (abort_chunk lane number id (of_code bad_response_too_large)))) ≡ true
 unfolding frame_octets
 abort-told lane number id = refl
 
@@ -48,7 +49,7 @@ reply-aborts lane body octets number id h e = ap is_abort e ∙ by (cut_refusal 
 abbrev pub with-code : AnsweredRequest → StatusCode → AnsweredRequest
 with-code r code = record { kind = r.kind; items = r.items; code = code }
 
-code-aborted : (o : Option CutFault) (code : StatusCode) → is_some o ≡ true → of_code 0x80B9_0000 ≡ code_by o code
+code-aborted : (o : Option CutFault) (code : StatusCode) → is_some o ≡ true → of_code bad_response_too_large ≡ code_by o code
 code-aborted None code e = absurd cc
 code-aborted (Some fault) code e = refl
 
@@ -57,7 +58,7 @@ code-whole None code e = refl
 code-whole (Some fault) code e = absurd cc
 
 pub sent-aborted : (r : AnsweredRequest) (lane : Lane) (body octets : List ℕ) (number id next : ℕ) → 0 < length body → IsReply lane body number id octets next → is_abort octets ≡ true
-    → with-code r (of_code 0x80B9_0000) ≡ with-code r (code_by (cut_refusal lane body) r.code)
+    → with-code r (of_code bad_response_too_large) ≡ with-code r (code_by (cut_refusal lane body) r.code)
 sent-aborted r lane body octets number id next some reply is =
     ap (with-code r) (code-aborted (cut_refusal lane body) r.code (sym (reply-aborts lane body octets number id some reply.0) ∙ is))
 

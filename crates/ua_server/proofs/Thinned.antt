@@ -27,6 +27,7 @@ use Rattle.ua_server.specs.Reply.{answered_by}
 use Rattle.ua_server.specs.Requests.{count_asked, items_asked, kind_asked}
 use Rattle.ua_server.specs.Sessions.{good_header}
 use Rattle.ua_server.specs.State.{State, is_activated, is_own, with_nodes}
+use Rattle.ua_server.specs.Status.{bad_session_id_invalid, bad_session_not_activated}
 
 -- ---- the items
 
@@ -62,7 +63,7 @@ pub record ChangesNothing (nodes : Nodes) : Type 0 where
 
 -- why a Write with so many items is refused, by whether its session is its own, and is activated
 abbrev reasons : Bool → Bool → ℕ → List (ℕ × Bool)
-reasons own active count = (0x8025_0000, not own) ∷ (0x8027_0000, not active) ∷ count_reasons count
+reasons own active count = (bad_session_id_invalid, not own) ∷ (bad_session_not_activated, not active) ∷ count_reasons count
 
 refused_alike : (own : Bool) (m n : ℕ) (s : State) (moment : DateTime) (asking : RequestHeader) (one other : State × Response)
     → unless (first_reason (reasons own false m)) s moment asking one ≡ unless (first_reason (reasons own false n)) s moment asking other

@@ -18,6 +18,7 @@ use Rattle.ua_variant.specs.Data.{DataFields, DataValueData, VariantData, bare, 
 use Rattle.ua_variant.specs.declared.values.DataValue.{DataValue}
 use Rattle.ua_server.specs.Sessions.{good_header, session_reasons}
 use Rattle.ua_server.specs.State.{State, is_activated, with_nodes}
+use Rattle.ua_server.specs.Status.{bad_nothing_to_do, bad_too_many_operations, bad_timestamps_to_return_invalid, bad_max_age_invalid}
 
 -- the items of an array, none of null
 abbrev pub items_of : {A : Type 0} → Option (List A) → List A
@@ -33,21 +34,16 @@ most_items = 1000
 abbrev pub most_age : ℕ
 most_age = 0x8000_0000_0000_0000
 
--- why the items are not looked at, for how many they are
---   Bad_NothingToDo                    there are no items
---   Bad_TooManyOperations              there are more than 1000
+-- why the items are not looked at, for how many they are: there are none, or more than 1000
 abbrev pub count_reasons : ℕ → List (ℕ × Bool)
-count_reasons n = (0x800F_0000, nat_eq n 0) ∷ (0x8010_0000, nat_lt most_items n) ∷ []
+count_reasons n = (bad_nothing_to_do, nat_eq n 0) ∷ (bad_too_many_operations, nat_lt most_items n) ∷ []
 
--- why a Read is refused, in the order in which it is judged (OPC 10000-4, 5.11.2): for its session, and then
---   Bad_TimestampsToReturnInvalid      the number names no times
---   Bad_MaxAgeInvalid                  the pattern of the age is above that of -0
---   Bad_NothingToDo, Bad_TooManyOperations
+-- why a Read is refused, in the order in which it is judged (OPC 10000-4, 5.11.2): for its session, for the times, for the age, and for how many items it has
 abbrev pub read_reasons : State → ReadRequest → List (ℕ × Bool)
 read_reasons s m =
     session_reasons s m.request_header
-    ++ ((0x802B_0000, is_none (stamps_numbered m.timestamps_to_return))
-    ∷ (0x8070_0000, nat_lt most_age m.max_age.bits)
+    ++ ((bad_timestamps_to_return_invalid, is_none (stamps_numbered m.timestamps_to_return))
+    ∷ (bad_max_age_invalid, nat_lt most_age m.max_age.bits)
     ∷ count_reasons (length (items_of m.nodes_to_read)))
 
 -- the times that are asked for; none where the number names none

@@ -1,5 +1,6 @@
 pub mod Endpoint
 pub mod State
+pub mod Status
 pub mod Sessions
 pub mod Attributes
 pub mod Answer

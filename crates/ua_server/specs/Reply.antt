@@ -9,12 +9,13 @@ use Rattle.ua_services.specs.declared.request.Request.{Request}
 use Rattle.ua_services.specs.declared.response.Response.{Response}
 use Rattle.ua_server.specs.Answer.{fault_of, answer}
 use Rattle.ua_server.specs.State.{State}
+use Rattle.ua_server.specs.Status.{bad_decoding_error, bad_service_unsupported}
 
 -- the fault that answers octets that are no request, under their RequestHandle: Bad_ServiceUnsupported where their NodeId announces none, else Bad_DecodingError; octets are never want of memory
 abbrev pub misread_answer : RequestFault → DateTime → Response
-misread_answer (Unsupported handle) moment = fault_of handle 0x800B_0000 moment
-misread_answer (Unreadable handle) moment = fault_of handle 0x8007_0000 moment
-misread_answer OutOfMemory moment = fault_of 0 0x8007_0000 moment
+misread_answer (Unsupported handle) moment = fault_of handle bad_service_unsupported moment
+misread_answer (Unreadable handle) moment = fault_of handle bad_decoding_error moment
+misread_answer OutOfMemory moment = fault_of 0 bad_decoding_error moment
 
 -- the state that is left, and the response, by the request that octets are, or the fault that says why they are none
 abbrev pub answered_by : Result Request RequestFault → State → DateTime → State × Response

@@ -18,6 +18,7 @@ use Rattle.ua_server.specs.Attributes.{items_of}
 use Rattle.ua_server.specs.Reply.{answered}
 use Rattle.ua_server.specs.Said.{Course, start, first_of, lane_at, say}
 use Rattle.ua_server.specs.State.{State}
+use Rattle.ua_server.specs.Status.{bad_response_too_large}
 use Rattle.ua_server.specs.declared.watch.AnsweredRequest.{AnsweredRequest}
 
 -- ---- one request
@@ -44,7 +45,7 @@ count_asked (Err fault) = 0
 -- the code of an answer with this service result: where the client takes no such body, that of the abort, Bad_ResponseTooLarge (OPC 10000-6, 6.7.3)
 abbrev pub code_by : Option CutFault → StatusCode → StatusCode
 code_by None code = code
-code_by (Some fault) code = of_code 0x80B9_0000
+code_by (Some fault) code = of_code bad_response_too_large
 
 -- the code of a response that goes there
 abbrev pub code_at : Option Lane → Response → StatusCode

@@ -19,20 +19,13 @@ use Rattle.ua_structures.specs.declared.session.CloseSessionRequest.{CloseSessio
 use Rattle.ua_structures.specs.declared.session.CreateSessionRequest.{CreateSessionRequest}
 use Rattle.ua_server.specs.Endpoint.{description_of, are_served}
 use Rattle.ua_server.specs.State.{State, session_id, session_token, is_own, is_activated, activated}
+use Rattle.ua_server.specs.Status.{bad_identity_token_rejected, bad_session_id_invalid, bad_session_not_activated, bad_too_many_sessions}
 
 -- the header of a good response
 abbrev pub good_header : DateTime → RequestHeader → ResponseHeader
 good_header moment asking = response_header_of moment asking.request_handle (of_code 0)
 
 -- ---- requests under a session (OPC 10000-4, 5.7.1)
-
--- there is no session, or the token is not its own
-abbrev pub bad_session_id_invalid : ℕ
-bad_session_id_invalid = 0x8025_0000
-
--- the session is not activated
-abbrev pub bad_session_not_activated : ℕ
-bad_session_not_activated = 0x8027_0000
 
 -- why a request under a session is refused for its token: these stand before any other reason
 abbrev pub token_reasons : State → RequestHeader → List (ℕ × Bool)
@@ -61,10 +54,9 @@ endpoints_given s moment m = GetEndpoints (record {
 abbrev pub most_sessions : ℕ
 most_sessions = 4294967295
 
--- why no session is made
---   Bad_TooManySessions                there is a session, or as many were made as are made
+-- why no session is made: there is one, or as many were made as are made
 abbrev pub create_reasons : State → List (ℕ × Bool)
-create_reasons s = (0x8056_0000, not (is_none s.session) || nat_eq s.made most_sessions) ∷ []
+create_reasons s = (bad_too_many_sessions, not (is_none s.session) || nat_eq s.made most_sessions) ∷ []
 
 -- the next session, with the timeout that is asked for, the one endpoint, and the most octets of a request
 abbrev pub session_given : State → DateTime → CreateSessionRequest → Response
@@ -88,10 +80,9 @@ is_anonymous_by (Some n) (Xml text) = false
 abbrev pub is_anonymous : ExtensionObject → Bool
 is_anonymous object = is_anonymous_by (standard_number object.type_id) object.body
 
--- why a session is not activated, in the order in which it is judged: for the token, and then
---   Bad_IdentityTokenRejected          the identity is neither none nor anonymous
+-- why a session is not activated, in the order in which it is judged: for the token, and for an identity that is neither none nor anonymous
 abbrev pub activate_reasons : State → ActivateSessionRequest → List (ℕ × Bool)
-activate_reasons s m = token_reasons s m.request_header ++ ((0x8021_0000, not (is_anonymous m.user_identity_token)) ∷ [])
+activate_reasons s m = token_reasons s m.request_header ++ ((bad_identity_token_rejected, not (is_anonymous m.user_identity_token)) ∷ [])
 
 -- the state with its session activated
 abbrev pub with_activated : State → State
