@@ -11,4 +11,5 @@ pub mod ResponseRead
 pub mod Lengths
 mod RequestSkipped
 mod RequestThinned
+mod ThinCounted
 mod NumberWritten

@@ -392,6 +392,7 @@ pub fn read_request_for<S: Source, T: TakesTypes>(
     types: &T,
 ) -> Result<Request, RequestFault>
     ensures read { (result ≡ thin_read (T.takes types.now) (request_read (S.octets src.old))) ⊎ (result ≡ Err RequestFault.OutOfMemory) }
+    ensures counted { IfOk result (λ m. request.count m ≤ length (S.octets src.old)) }
 {
     let kind = body_kind(alloc, src)?;
     match kind {
