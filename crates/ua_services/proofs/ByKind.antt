@@ -9,18 +9,14 @@ use Rattle.ua_services.proofs.ResponseLawful.{are_responses}
 use Rattle.ua_services.specs.Request.{request, requests, Structure}
 use Rattle.ua_services.specs.Response.{response, responses, Structure as Held}
 use Rattle.ua_services.specs.declared.request.RequestKind.{RequestKind}
-use Rattle.ua_services.specs.declared.request.RequestKind.TheVariants.{GetEndpoints, CreateSession, ActivateSession, CloseSession, Read, Write}
+use Rattle.ua_services.specs.declared.request.RequestKind.TheVariants.{Read}
 use Rattle.ua_services.specs.declared.response.ResponseKind.{ResponseKind}
-use Rattle.ua_services.specs.declared.response.ResponseKind.TheVariants.{GetEndpoints as EndpointsGiven, CreateSession as SessionCreated, ActivateSession as SessionActivated, CloseSession as SessionClosed, Read as WasRead, Write as WasWritten, ServiceFault as Fault}
+use Rattle.ua_services.specs.declared.response.ResponseKind.TheVariants.{Read as WasRead}
 
 pub request-encodable : (k : RequestKind) (m : Structure k) → request.encodable (requests.make k m) ≡ (requests.format k).encodable m
 unfolding request node_id
-request-encodable GetEndpoints m = refl
-request-encodable CreateSession m = refl
-request-encodable ActivateSession m = refl
-request-encodable CloseSession m = refl
 request-encodable Read m = refl
-request-encodable Write m = refl
+request-encodable k m = refl
 
 pub request-canonical : (k : RequestKind) (m : Structure k) → request.canonical (requests.make k m) ≡ node_id.canonical (standard (requests.number k)) ++ (requests.format k).canonical m
 unfolding request
@@ -28,13 +24,8 @@ request-canonical = canonical-made requests are_requests
 
 pub response-encodable : (k : ResponseKind) (m : Held k) → response.encodable (responses.make k m) ≡ (responses.format k).encodable m
 unfolding response node_id
-response-encodable EndpointsGiven m = refl
-response-encodable SessionCreated m = refl
-response-encodable SessionActivated m = refl
-response-encodable SessionClosed m = refl
 response-encodable WasRead m = refl
-response-encodable WasWritten m = refl
-response-encodable Fault m = refl
+response-encodable k m = refl
 
 pub response-canonical : (k : ResponseKind) (m : Held k) → response.canonical (responses.make k m) ≡ node_id.canonical (standard (responses.number k)) ++ (responses.format k).canonical m
 unfolding response

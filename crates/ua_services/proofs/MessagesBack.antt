@@ -13,11 +13,13 @@ use Rattle.ua_services.specs.Response.{response, responses, response_parts, resp
 use Rattle.ua_services.specs.declared.request.Request.{Request}
 use Rattle.ua_services.specs.declared.request.Request.TheVariants.{Write as WriteMessage}
 use Rattle.ua_services.specs.declared.request.RequestKind.{RequestKind}
-use Rattle.ua_services.specs.declared.request.RequestKind.TheVariants.{GetEndpoints, CreateSession, ActivateSession, CloseSession, Read, Write}
+use Rattle.ua_services.specs.declared.request.RequestKind.TheVariants as asked
+use Rattle.ua_services.specs.declared.request.RequestKind.TheVariants.{Write}
 use Rattle.ua_services.specs.declared.response.Response.{Response}
 use Rattle.ua_services.specs.declared.response.Response.TheVariants.{Read as ReadMessage}
 use Rattle.ua_services.specs.declared.response.ResponseKind.{ResponseKind}
-use Rattle.ua_services.specs.declared.response.ResponseKind.TheVariants.{GetEndpoints as EndpointsGiven, CreateSession as SessionCreated, ActivateSession as SessionActivated, CloseSession as SessionClosed, Read as WasRead, Write as WasWritten, ServiceFault as Fault}
+use Rattle.ua_services.specs.declared.response.ResponseKind.TheVariants as given
+use Rattle.ua_services.specs.declared.response.ResponseKind.TheVariants.{Read as WasRead}
 use Rattle.ua_services.proofs.ByKind.{request-encodable, response-encodable}
 use Rattle.ua_services.proofs.MessagesLawful.{AreKinds}
 use Rattle.ua_services.proofs.RequestLawful.{are_requests}
@@ -45,12 +47,12 @@ body_holds kinds are v b h = kind_holds kinds are (announced kinds h.0.head) v h
 
 -- of each kind but Write
 back_request : (k : RequestKind) → (k ≡ Write → ⊥) → AllWriteBack (requests.format k)
-back_request GetEndpoints other = back_get_endpoints_request
-back_request CreateSession other = back_create_session_request
-back_request ActivateSession other = back_activate_session_request
-back_request CloseSession other = back_close_session_request
-back_request Read other = back_read_request
-back_request Write other = absurd (other refl)
+back_request asked.GetEndpoints other = back_get_endpoints_request
+back_request asked.CreateSession other = back_create_session_request
+back_request asked.ActivateSession other = back_activate_session_request
+back_request asked.CloseSession other = back_close_session_request
+back_request asked.Read other = back_read_request
+back_request asked.Write other = absurd (other refl)
 
 request_holds : (octets : List ℕ) (m : Request) → request_read octets ≡ Ok m → Holds requests m
 unfolding request
@@ -71,13 +73,13 @@ write_back octets m e =
 
 -- of each kind but Read
 back_response : (k : ResponseKind) → (k ≡ WasRead → ⊥) → AllWriteBack (responses.format k)
-back_response EndpointsGiven other = back_get_endpoints_response
-back_response SessionCreated other = back_create_session_response
-back_response SessionActivated other = back_activate_session_response
-back_response SessionClosed other = back_close_session_response
-back_response WasRead other = absurd (other refl)
-back_response WasWritten other = back_write_response
-back_response Fault other = back_service_fault
+back_response given.GetEndpoints other = back_get_endpoints_response
+back_response given.CreateSession other = back_create_session_response
+back_response given.ActivateSession other = back_activate_session_response
+back_response given.CloseSession other = back_close_session_response
+back_response given.Read other = absurd (other refl)
+back_response given.Write other = back_write_response
+back_response given.ServiceFault other = back_service_fault
 
 response_holds : (octets : List ℕ) (m : Response) → response_read octets ≡ Ok m → Holds responses m
 unfolding response

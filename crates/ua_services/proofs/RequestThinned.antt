@@ -1,25 +1,23 @@
 -- A request that is read without the values that nodes could not take, against what is kept of the one that is read whole.
-use Rattle.std.specs.Prelude.{◌≡◌, ℕ, ◌<◌, ◌≤◌, Bool, List, [], ◌∷◌, length, Option, Some, None, Result, Ok, Err, ◌⊎◌}
+use Rattle.std.specs.Prelude.{◌≡◌, ℕ, ◌<◌, ◌≤◌, Bool, List, [], ◌∷◌, length, Option, Some, None, Result, Ok, Err}
 use Rattle.std.proofs.Common.{refl, sym, ◌∙◌, ap, inl, inr}
 use Rattle.ua_builtin.specs.Exact.{◌>>=◌, image_read}
 use Rattle.ua_builtin.specs.Format.{Gives, most_levels}
 use Rattle.ua_builtin.specs.declared.node_id.NodeId.{NodeId}
 use Rattle.ua_octets.specs.declared.fault.ReadFault.{ReadFault}
 use Rattle.ua_octets.specs.declared.fault.ReadFault.TheVariants.{NoValue}
-use Rattle.ua_structures.specs.Attribute.{read_request, write_request}
-use Rattle.ua_structures.specs.Discovery.{get_endpoints_request}
-use Rattle.ua_structures.specs.Session.{create_session_request, activate_session_request, close_session_request}
+use Rattle.ua_structures.specs.Attribute.{write_request}
 use Rattle.ua_structures.specs.Thin.{thinned_request}
 use Rattle.ua_structures.specs.declared.attribute.WriteRequest.{WriteRequest}
 use Rattle.ua_structures.specs.declared.thin.ValueType.{ValueType}
 use Rattle.ua_services.specs.Message.{found_or, handle_behind, if_last}
-use Rattle.ua_services.specs.Request.{kind_read, request_read, thin_read, thin_request}
+use Rattle.ua_services.specs.Request.{kind_read, request_read, requests, thin_read, thin_request}
 use Rattle.ua_services.specs.declared.fault.RequestFault.{RequestFault}
-use Rattle.ua_services.specs.declared.fault.RequestFault.TheVariants.{OutOfMemory, Unreadable}
+use Rattle.ua_services.specs.declared.fault.RequestFault.TheVariants.{Unreadable}
 use Rattle.ua_services.specs.declared.request.Request.{Request}
-use Rattle.ua_services.specs.declared.request.Request.TheVariants.{GetEndpoints as GetEndpointsMessage, CreateSession as CreateSessionMessage, ActivateSession as ActivateSessionMessage, CloseSession as CloseSessionMessage, Read as ReadMessage, Write as WriteMessage}
+use Rattle.ua_services.specs.declared.request.Request.TheVariants.{Write as WriteMessage}
 use Rattle.ua_services.specs.declared.request.RequestKind.{RequestKind}
-use Rattle.ua_services.specs.declared.request.RequestKind.TheVariants.{GetEndpoints, CreateSession, ActivateSession, CloseSession, Read, Write}
+use Rattle.ua_services.specs.declared.request.RequestKind.TheVariants.{Write}
 use Rattle.ua_services.proofs.BodyRead.{image_fails, image_found}
 use Rattle.ua_services.proofs.RequestRead.{IsUnread, Reads, read_behind, kind_fails, kind_left, kind_whole}
 use Rattle.ua_services.proofs.RequestSkipped.{image_err, made_of}
@@ -42,12 +40,8 @@ found_whole make takes same (Some x) fault = last_whole takes (make x.0) x.1 fau
 
 -- a request of another kind than Write
 pub kept_whole : (takes : Takes) (k : RequestKind) (octets : List ℕ) → (k ≡ Write → ⊥) → thin_read takes (kind_read k octets) ≡ kind_read k octets
-kept_whole takes GetEndpoints octets other = found_whole GetEndpointsMessage takes (λ m. refl) (get_endpoints_request.decode most_levels octets) (Unreadable (handle_behind octets))
-kept_whole takes CreateSession octets other = found_whole CreateSessionMessage takes (λ m. refl) (create_session_request.decode most_levels octets) (Unreadable (handle_behind octets))
-kept_whole takes ActivateSession octets other = found_whole ActivateSessionMessage takes (λ m. refl) (activate_session_request.decode most_levels octets) (Unreadable (handle_behind octets))
-kept_whole takes CloseSession octets other = found_whole CloseSessionMessage takes (λ m. refl) (close_session_request.decode most_levels octets) (Unreadable (handle_behind octets))
-kept_whole takes Read octets other = found_whole ReadMessage takes (λ m. refl) (read_request.decode most_levels octets) (Unreadable (handle_behind octets))
 kept_whole takes Write octets other = absurd (other refl)
+kept_whole takes k octets other = found_whole (requests.make k) takes (λ m. refl) ((requests.format k).decode most_levels octets) (Unreadable (handle_behind octets))
 
 -- ---- a Write behind its NodeId
 

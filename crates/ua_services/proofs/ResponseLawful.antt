@@ -8,28 +8,23 @@ use Rattle.ua_structures.proofs.HeaderLawful.{lawful_service_fault}
 use Rattle.ua_structures.proofs.SessionLawful.{lawful_create_session_response, lawful_activate_session_response, lawful_close_session_response}
 use Rattle.ua_services.specs.Response.{response, responses, response_parts}
 use Rattle.ua_services.specs.declared.response.Response.{Response}
-use Rattle.ua_services.specs.declared.response.Response.TheVariants.{GetEndpoints as GetEndpointsMessage, CreateSession as CreateSessionMessage, ActivateSession as ActivateSessionMessage, CloseSession as CloseSessionMessage, Read as ReadMessage, Write as WriteMessage, ServiceFault as ServiceFaultMessage}
+use Rattle.ua_services.specs.declared.response.Response.TheVariants.{Read as ReadMessage}
 use Rattle.ua_services.specs.declared.response.ResponseKind.{ResponseKind}
-use Rattle.ua_services.specs.declared.response.ResponseKind.TheVariants.{GetEndpoints, CreateSession, ActivateSession, CloseSession, Read, Write, ServiceFault as Fault}
+use Rattle.ua_services.specs.declared.response.ResponseKind.TheVariants as kind
 use Rattle.ua_services.proofs.MessagesLawful.{IsKind, AreKinds, lawful_message_of}
 
 response_back : (v : Response) → v ≡ responses.make (response_parts v).0 (response_parts v).1
-response_back (GetEndpointsMessage m) = refl
-response_back (CreateSessionMessage m) = refl
-response_back (ActivateSessionMessage m) = refl
-response_back (CloseSessionMessage m) = refl
 response_back (ReadMessage m) = refl
-response_back (WriteMessage m) = refl
-response_back (ServiceFaultMessage m) = refl
+response_back m = refl
 
 is_response : (k : ResponseKind) → IsKind responses k
-is_response GetEndpoints = record { forth = λ m. refl; numbers = refl; lawful = lawful_get_endpoints_response }
-is_response CreateSession = record { forth = λ m. refl; numbers = refl; lawful = lawful_create_session_response }
-is_response ActivateSession = record { forth = λ m. refl; numbers = refl; lawful = lawful_activate_session_response }
-is_response CloseSession = record { forth = λ m. refl; numbers = refl; lawful = lawful_close_session_response }
-is_response Read = record { forth = λ m. refl; numbers = refl; lawful = lawful_read_response }
-is_response Write = record { forth = λ m. refl; numbers = refl; lawful = lawful_write_response }
-is_response Fault = record { forth = λ m. refl; numbers = refl; lawful = lawful_service_fault }
+is_response kind.GetEndpoints = record { forth = λ m. refl; numbers = refl; lawful = lawful_get_endpoints_response }
+is_response kind.CreateSession = record { forth = λ m. refl; numbers = refl; lawful = lawful_create_session_response }
+is_response kind.ActivateSession = record { forth = λ m. refl; numbers = refl; lawful = lawful_activate_session_response }
+is_response kind.CloseSession = record { forth = λ m. refl; numbers = refl; lawful = lawful_close_session_response }
+is_response kind.Read = record { forth = λ m. refl; numbers = refl; lawful = lawful_read_response }
+is_response kind.Write = record { forth = λ m. refl; numbers = refl; lawful = lawful_write_response }
+is_response kind.ServiceFault = record { forth = λ m. refl; numbers = refl; lawful = lawful_service_fault }
 
 pub are_responses : AreKinds responses
 are_responses = record { back = response_back; each = is_response }

@@ -35,6 +35,11 @@ pub record Kind (V : Type 0) : Type 1 where
   pub format : Format structure
   pub make : structure → V
 
+-- the first of these kinds that has this number
+abbrev pub with_number : {K : Type 0} → (K → ℕ) → ℕ → List K → Option K
+with_number number n [] = None
+with_number number n (k ∷ ks) = cond (nat_eq n (number k)) (Some k) (with_number number n ks)
+
 -- the kinds of a message: the structure that each holds, and how octets encode it; the number of its encoding; how a message is made of its kind and structure
 pub record Kinds (K V : Type 0) : Type 1 where
   pub structure : K → Type 0

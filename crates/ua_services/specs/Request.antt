@@ -1,5 +1,5 @@
 -- Requests: the kinds by the number of their encoding.
-use Rattle.std.specs.Prelude.{◌≡◌, ℕ, List, Bool, cond, nat_eq, Option, Some, None, Result, Ok, Err}
+use Rattle.std.specs.Prelude.{◌≡◌, ℕ, List, [], ◌∷◌, Bool, Option, Some, None, Result, Ok, Err}
 use Rattle.ua_builtin.specs.Exact.{◌>>=◌}
 use Rattle.ua_builtin.specs.Format.{Format, most_levels}
 use Rattle.ua_builtin.specs.declared.node_id.NodeId.{NodeId}
@@ -17,11 +17,11 @@ use Rattle.ua_structures.specs.declared.header.RequestHeader.{RequestHeader}
 use Rattle.ua_structures.specs.declared.thin.ValueType.{ValueType}
 use Rattle.ua_octets.specs.declared.fault.ReadFault.{ReadFault}
 use Rattle.ua_octets.specs.declared.fault.ReadFault.TheVariants.{NoValue}
-use Rattle.ua_services.specs.Message.{Kind, Kinds, announced, kind_at, message_of, IsNoBody, body_of, if_last, id_of, handle_of, handle_behind, found_or}
+use Rattle.ua_services.specs.Message.{Kind, Kinds, announced, kind_at, message_of, with_number, IsNoBody, body_of, if_last, id_of, handle_of, handle_behind, found_or}
 use Rattle.ua_services.specs.declared.request.Request.{Request}
-use Rattle.ua_services.specs.declared.request.Request.TheVariants.{GetEndpoints as GetEndpointsMessage, CreateSession as CreateSessionMessage, ActivateSession as ActivateSessionMessage, CloseSession as CloseSessionMessage, Read as ReadMessage, Write as WriteMessage}
+use Rattle.ua_services.specs.declared.request.Request.TheVariants as message
 use Rattle.ua_services.specs.declared.request.RequestKind.{RequestKind}
-use Rattle.ua_services.specs.declared.request.RequestKind.TheVariants.{GetEndpoints, CreateSession, ActivateSession, CloseSession, Read, Write}
+use Rattle.ua_services.specs.declared.request.RequestKind.TheVariants as kind
 use Rattle.ua_services.specs.declared.fault.RequestFault.{RequestFault}
 use Rattle.ua_services.specs.declared.fault.RequestFault.TheVariants.{Unsupported, Unreadable, OutOfMemory}
 
@@ -29,22 +29,27 @@ use Rattle.ua_services.specs.declared.fault.RequestFault.TheVariants.{Unsupporte
 
 -- each kind of request (OPC 10000-6, A.3)
 abbrev pub request_row : RequestKind → Kind Request
-request_row GetEndpoints = record { number = 428; structure = GetEndpointsRequest; format = get_endpoints_request; make = GetEndpointsMessage }
-request_row CreateSession = record { number = 461; structure = CreateSessionRequest; format = create_session_request; make = CreateSessionMessage }
-request_row ActivateSession = record { number = 467; structure = ActivateSessionRequest; format = activate_session_request; make = ActivateSessionMessage }
-request_row CloseSession = record { number = 473; structure = CloseSessionRequest; format = close_session_request; make = CloseSessionMessage }
-request_row Read = record { number = 631; structure = ReadRequest; format = read_request; make = ReadMessage }
-request_row Write = record { number = 673; structure = WriteRequest; format = write_request; make = WriteMessage }
+request_row kind.GetEndpoints = record { number = 428; structure = GetEndpointsRequest; format = get_endpoints_request; make = message.GetEndpoints }
+request_row kind.CreateSession = record { number = 461; structure = CreateSessionRequest; format = create_session_request; make = message.CreateSession }
+request_row kind.ActivateSession = record { number = 467; structure = ActivateSessionRequest; format = activate_session_request; make = message.ActivateSession }
+request_row kind.CloseSession = record { number = 473; structure = CloseSessionRequest; format = close_session_request; make = message.CloseSession }
+request_row kind.Read = record { number = 631; structure = ReadRequest; format = read_request; make = message.Read }
+request_row kind.Write = record { number = 673; structure = WriteRequest; format = write_request; make = message.Write }
+
+-- the kinds of request
+abbrev pub request_kinds : List RequestKind
+request_kinds =
+    kind.GetEndpoints
+    ∷ kind.CreateSession
+    ∷ kind.ActivateSession
+    ∷ kind.CloseSession
+    ∷ kind.Read
+    ∷ kind.Write
+    ∷ []
 
 -- the kind of request whose binary encoding has this number, if there is one (OPC 10000-6, A.3)
 abbrev pub numbered : ℕ → Option RequestKind
-numbered n =
-    cond (nat_eq n 428) (Some GetEndpoints)
-    (cond (nat_eq n 461) (Some CreateSession)
-    (cond (nat_eq n 467) (Some ActivateSession)
-    (cond (nat_eq n 473) (Some CloseSession)
-    (cond (nat_eq n 631) (Some Read)
-    (cond (nat_eq n 673) (Some Write) None)))))
+numbered n = with_number (λ k. (request_row k).number) n request_kinds
 
 -- the structure that a request of each kind holds
 abbrev pub Structure : RequestKind → Type 0
@@ -52,14 +57,14 @@ Structure k = (request_row k).structure
 
 -- the kind and the structure of a request
 abbrev pub request_parts : Request → (k : RequestKind) × Structure k
-request_parts (GetEndpointsMessage m) = (GetEndpoints, m)
-request_parts (CreateSessionMessage m) = (CreateSession, m)
-request_parts (ActivateSessionMessage m) = (ActivateSession, m)
-request_parts (CloseSessionMessage m) = (CloseSession, m)
-request_parts (ReadMessage m) = (Read, m)
-request_parts (WriteMessage m) = (Write, m)
+request_parts (message.GetEndpoints m) = (kind.GetEndpoints, m)
+request_parts (message.CreateSession m) = (kind.CreateSession, m)
+request_parts (message.ActivateSession m) = (kind.ActivateSession, m)
+request_parts (message.CloseSession m) = (kind.CloseSession, m)
+request_parts (message.Read m) = (kind.Read, m)
+request_parts (message.Write m) = (kind.Write, m)
 
--- the kinds of request
+-- the kinds of request, with what is known of each
 abbrev pub requests : Kinds RequestKind Request
 requests = record {
   structure = Structure;
@@ -76,12 +81,12 @@ kind_of m = (request_parts m).0
 
 -- the header of a request of any kind
 abbrev pub header_of : Request → RequestHeader
-header_of (GetEndpointsMessage m) = m.request_header
-header_of (CreateSessionMessage m) = m.request_header
-header_of (ActivateSessionMessage m) = m.request_header
-header_of (CloseSessionMessage m) = m.request_header
-header_of (ReadMessage m) = m.request_header
-header_of (WriteMessage m) = m.request_header
+header_of (message.GetEndpoints m) = m.request_header
+header_of (message.CreateSession m) = m.request_header
+header_of (message.ActivateSession m) = m.request_header
+header_of (message.CloseSession m) = m.request_header
+header_of (message.Read m) = m.request_header
+header_of (message.Write m) = m.request_header
 
 -- the request that a NodeId announces
 abbrev pub request_kind : NodeId → Option RequestKind
@@ -90,6 +95,10 @@ request_kind = announced requests
 -- the NodeId of the encoding, and behind it the structure that it announces (OPC 10000-6, 5.2.9)
 unfoldable pub request : Format Request
 request = message_of requests
+
+-- the request of this kind that octets begin with behind its NodeId, and the octets behind it
+unfoldable pub request_of_kind : RequestKind → ℕ → List ℕ → Option (Request × List ℕ)
+request_of_kind k levels = kind_at requests levels (Some k)
 
 -- ---- what a body is read as
 
@@ -139,12 +148,8 @@ kind_read k octets = found_or (kind_at requests most_levels (Some k) octets >>= 
 
 -- of a Write its items, without the values that their nodes could not take; of others all (OPC 10000-4, 5.11.4)
 abbrev pub thin_request : (NodeId → ValueType → Bool) → Request → Request
-thin_request takes (GetEndpointsMessage m) = GetEndpointsMessage m
-thin_request takes (CreateSessionMessage m) = CreateSessionMessage m
-thin_request takes (ActivateSessionMessage m) = ActivateSessionMessage m
-thin_request takes (CloseSessionMessage m) = CloseSessionMessage m
-thin_request takes (ReadMessage m) = ReadMessage m
-thin_request takes (WriteMessage m) = WriteMessage (thinned_request takes m)
+thin_request takes (message.Write m) = message.Write (thinned_request takes m)
+thin_request takes m = m
 
 -- what is kept of what was read, or the fault
 abbrev pub thin_read : (NodeId → ValueType → Bool) → Result Request RequestFault → Result Request RequestFault

@@ -1,5 +1,5 @@
 -- Responses: the kinds by the number of their encoding.
-use Rattle.std.specs.Prelude.{◌≡◌, ℕ, List, cond, nat_eq, Option, Some, None, Result, ◌⊎◌}
+use Rattle.std.specs.Prelude.{◌≡◌, ℕ, List, [], ◌∷◌, Option, Some, None, Result, ◌⊎◌}
 use Rattle.ua_builtin.specs.Exact.{◌>>=◌}
 use Rattle.ua_builtin.specs.Format.{Format, most_levels}
 use Rattle.ua_builtin.specs.declared.node_id.NodeId.{NodeId}
@@ -17,35 +17,40 @@ use Rattle.ua_structures.specs.declared.header.ResponseHeader.{ResponseHeader}
 use Rattle.ua_structures.specs.declared.header.ServiceFault.{ServiceFault}
 use Rattle.ua_octets.specs.declared.fault.ReadFault.{ReadFault}
 use Rattle.ua_octets.specs.declared.fault.ReadFault.TheVariants.{NoValue}
-use Rattle.ua_services.specs.Message.{Kind, Kinds, announced, message_of, IsNoBody, body_of, id_of, found_or, kind_at, if_last}
+use Rattle.ua_services.specs.Message.{Kind, Kinds, announced, message_of, with_number, IsNoBody, body_of, id_of, found_or, kind_at, if_last}
 use Rattle.ua_services.specs.declared.request.RequestKind.{RequestKind}
 use Rattle.ua_services.specs.declared.response.Response.{Response}
-use Rattle.ua_services.specs.declared.response.Response.TheVariants.{GetEndpoints as GetEndpointsMessage, CreateSession as CreateSessionMessage, ActivateSession as ActivateSessionMessage, CloseSession as CloseSessionMessage, Read as ReadMessage, Write as WriteMessage, ServiceFault as ServiceFaultMessage}
+use Rattle.ua_services.specs.declared.response.Response.TheVariants as message
 use Rattle.ua_services.specs.declared.response.ResponseKind.{ResponseKind}
-use Rattle.ua_services.specs.declared.response.ResponseKind.TheVariants.{GetEndpoints, CreateSession, ActivateSession, CloseSession, Read, Write, ServiceFault as Fault}
+use Rattle.ua_services.specs.declared.response.ResponseKind.TheVariants as kind
 use Rattle.ua_services.specs.declared.fault.ResponseFault.{ResponseFault}
 use Rattle.ua_services.specs.declared.fault.ResponseFault.TheVariants.{Unknown, Unreadable, OutOfMemory}
 
 -- each kind of response (OPC 10000-6, A.3)
 abbrev pub response_row : ResponseKind → Kind Response
-response_row GetEndpoints = record { number = 431; structure = GetEndpointsResponse; format = get_endpoints_response; make = GetEndpointsMessage }
-response_row CreateSession = record { number = 464; structure = CreateSessionResponse; format = create_session_response; make = CreateSessionMessage }
-response_row ActivateSession = record { number = 470; structure = ActivateSessionResponse; format = activate_session_response; make = ActivateSessionMessage }
-response_row CloseSession = record { number = 476; structure = CloseSessionResponse; format = close_session_response; make = CloseSessionMessage }
-response_row Read = record { number = 634; structure = ReadResponse; format = read_response; make = ReadMessage }
-response_row Write = record { number = 676; structure = WriteResponse; format = write_response; make = WriteMessage }
-response_row Fault = record { number = 397; structure = ServiceFault; format = service_fault; make = ServiceFaultMessage }
+response_row kind.GetEndpoints = record { number = 431; structure = GetEndpointsResponse; format = get_endpoints_response; make = message.GetEndpoints }
+response_row kind.CreateSession = record { number = 464; structure = CreateSessionResponse; format = create_session_response; make = message.CreateSession }
+response_row kind.ActivateSession = record { number = 470; structure = ActivateSessionResponse; format = activate_session_response; make = message.ActivateSession }
+response_row kind.CloseSession = record { number = 476; structure = CloseSessionResponse; format = close_session_response; make = message.CloseSession }
+response_row kind.Read = record { number = 634; structure = ReadResponse; format = read_response; make = message.Read }
+response_row kind.Write = record { number = 676; structure = WriteResponse; format = write_response; make = message.Write }
+response_row kind.ServiceFault = record { number = 397; structure = ServiceFault; format = service_fault; make = message.ServiceFault }
+
+-- the kinds of response
+abbrev pub response_kinds : List ResponseKind
+response_kinds =
+    kind.GetEndpoints
+    ∷ kind.CreateSession
+    ∷ kind.ActivateSession
+    ∷ kind.CloseSession
+    ∷ kind.Read
+    ∷ kind.Write
+    ∷ kind.ServiceFault
+    ∷ []
 
 -- the kind of response whose binary encoding has this number, if there is one (OPC 10000-6, A.3)
 abbrev pub numbered : ℕ → Option ResponseKind
-numbered n =
-    cond (nat_eq n 431) (Some GetEndpoints)
-    (cond (nat_eq n 464) (Some CreateSession)
-    (cond (nat_eq n 470) (Some ActivateSession)
-    (cond (nat_eq n 476) (Some CloseSession)
-    (cond (nat_eq n 634) (Some Read)
-    (cond (nat_eq n 676) (Some Write)
-    (cond (nat_eq n 397) (Some Fault) None))))))
+numbered n = with_number (λ k. (response_row k).number) n response_kinds
 
 -- the structure that a response of each kind holds
 abbrev pub Structure : ResponseKind → Type 0
@@ -53,15 +58,15 @@ Structure k = (response_row k).structure
 
 -- the kind and the structure of a response
 abbrev pub response_parts : Response → (k : ResponseKind) × Structure k
-response_parts (GetEndpointsMessage m) = (GetEndpoints, m)
-response_parts (CreateSessionMessage m) = (CreateSession, m)
-response_parts (ActivateSessionMessage m) = (ActivateSession, m)
-response_parts (CloseSessionMessage m) = (CloseSession, m)
-response_parts (ReadMessage m) = (Read, m)
-response_parts (WriteMessage m) = (Write, m)
-response_parts (ServiceFaultMessage m) = (Fault, m)
+response_parts (message.GetEndpoints m) = (kind.GetEndpoints, m)
+response_parts (message.CreateSession m) = (kind.CreateSession, m)
+response_parts (message.ActivateSession m) = (kind.ActivateSession, m)
+response_parts (message.CloseSession m) = (kind.CloseSession, m)
+response_parts (message.Read m) = (kind.Read, m)
+response_parts (message.Write m) = (kind.Write, m)
+response_parts (message.ServiceFault m) = (kind.ServiceFault, m)
 
--- the kinds of response
+-- the kinds of response, with what is known of each
 abbrev pub responses : Kinds ResponseKind Response
 responses = record {
   structure = Structure;
@@ -78,13 +83,13 @@ kind_of m = (response_parts m).0
 
 -- the header of a response of any kind
 abbrev pub header_of : Response → ResponseHeader
-header_of (GetEndpointsMessage m) = m.response_header
-header_of (CreateSessionMessage m) = m.response_header
-header_of (ActivateSessionMessage m) = m.response_header
-header_of (CloseSessionMessage m) = m.response_header
-header_of (ReadMessage m) = m.response_header
-header_of (WriteMessage m) = m.response_header
-header_of (ServiceFaultMessage m) = m.response_header
+header_of (message.GetEndpoints m) = m.response_header
+header_of (message.CreateSession m) = m.response_header
+header_of (message.ActivateSession m) = m.response_header
+header_of (message.CloseSession m) = m.response_header
+header_of (message.Read m) = m.response_header
+header_of (message.Write m) = m.response_header
+header_of (message.ServiceFault m) = m.response_header
 
 -- the response that a NodeId announces
 abbrev pub response_kind : NodeId → Option ResponseKind
@@ -92,20 +97,24 @@ response_kind = announced responses
 
 -- the kind of response that a request asks for
 abbrev pub own_answer : RequestKind → ResponseKind
-own_answer RequestKind.GetEndpoints = GetEndpoints
-own_answer RequestKind.CreateSession = CreateSession
-own_answer RequestKind.ActivateSession = ActivateSession
-own_answer RequestKind.CloseSession = CloseSession
-own_answer RequestKind.Read = Read
-own_answer RequestKind.Write = Write
+own_answer RequestKind.GetEndpoints = kind.GetEndpoints
+own_answer RequestKind.CreateSession = kind.CreateSession
+own_answer RequestKind.ActivateSession = kind.ActivateSession
+own_answer RequestKind.CloseSession = kind.CloseSession
+own_answer RequestKind.Read = kind.Read
+own_answer RequestKind.Write = kind.Write
 
 -- a response of this kind answers a request: it is the one that is asked for, or a fault (OPC 10000-4, 5.3)
 abbrev pub Answers : ResponseKind → RequestKind → Type 0
-Answers response request = (response ≡ own_answer request) ⊎ (response ≡ Fault)
+Answers response request = (response ≡ own_answer request) ⊎ (response ≡ kind.ServiceFault)
 
 -- the NodeId of the encoding, and behind it the structure that it announces (OPC 10000-6, 5.2.9)
 unfoldable pub response : Format Response
 response = message_of responses
+
+-- the response of this kind that octets begin with behind its NodeId, and the octets behind it
+unfoldable pub response_of_kind : ResponseKind → ℕ → List ℕ → Option (Response × List ℕ)
+response_of_kind k levels = kind_at responses levels (Some k)
 
 -- ---- what a body is read as
 

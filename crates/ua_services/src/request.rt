@@ -5,11 +5,12 @@ ghost use Rattle.ua_builtin.specs.Exact.{skipped};
 ghost use Rattle.ua_builtin.specs.Format.{most_levels, Gives, StaysBehind};
 ghost use Rattle.ua_octets.specs.declared.fault.WriteFault.TheVariants.{NotWritable};
 ghost use Rattle.ua_services.specs.Message.{IsBody, handle_behind, kind_at};
-ghost use Rattle.ua_services.specs.Request.{request, requests, request_kind, unread_with, kind_read, kind_alone, request_read, thin_read, Misread};
-ghost use Rattle.ua_services.specs.declared.request.Request.TheVariants.{GetEndpoints, CreateSession, ActivateSession, CloseSession, Read, Write};
+ghost use Rattle.ua_services.specs.Request.{request, requests, request_kind, request_of_kind, unread_with, kind_read, kind_alone, request_read, thin_read, Misread};
+ghost use Rattle.ua_services.specs.declared.request.Request.TheVariants as holding;
+ghost use Rattle.ua_services.specs.declared.request.RequestKind.TheVariants as kinds;
 
 use crate::fault::RequestFault;
-use crate::message::{Held, append_message, empty_body, read_held, standard_number};
+use crate::message::{Held, Message, empty_body, read_held, standard_number};
 use std::alloc::{AllocError, Global};
 use ua_builtin::{MOST_LEVELS, NodeId, ReadFault, Skip, Source, Wire, WriteFault};
 use ua_structures::{
@@ -38,23 +39,31 @@ pub enum Request {
     Write(WriteRequest),
 }
 
+/// An answer about a request by its kind: the same of the structure of each.
+macro_rules! by_kind {
+    ($request:expr, $message:ident => $answer:expr) => {
+        match $request {
+            Request::GetEndpoints($message) => $answer,
+            Request::CreateSession($message) => $answer,
+            Request::ActivateSession($message) => $answer,
+            Request::CloseSession($message) => $answer,
+            Request::Read($message) => $answer,
+            Request::Write($message) => $answer,
+        }
+    };
+}
+
 // By hand, so that a crate that lets a request go calls this, and proves nothing of what lies in it.
 impl Drop for Request {
     fn drop(self) {
-        match self {
-            Request::GetEndpoints(message) => drop(message),
-            Request::CreateSession(message) => drop(message),
-            Request::ActivateSession(message) => drop(message),
-            Request::CloseSession(message) => drop(message),
-            Request::Read(message) => drop(message),
-            Request::Write(message) => drop(message),
-        }
+        by_kind!(self, message => drop(message))
     }
 }
 
 impl Request {
     ghost use Rattle.std.specs.Prelude.{◌≡◌, ◌≢◌, IfOk, IfErr};
     ghost use Rattle.ua_services.specs.Request.{kind_of, header_of};
+    ghost use Rattle.ua_services.specs.declared.request.Request.TheVariants.{Read, Write};
     ghost use Rattle.ua_services.specs.declared.request.RequestKind.TheVariants.{Read as ReadKind, Write as WriteKind};
 
     /// The Read, or the request itself where it is another one.
@@ -99,14 +108,7 @@ impl Request {
     pub fn header(&self) -> &RequestHeader
         ensures { result.now ≡ header_of self.now }
     {
-        match self {
-            Request::GetEndpoints(message) => &message.request_header,
-            Request::CreateSession(message) => &message.request_header,
-            Request::ActivateSession(message) => &message.request_header,
-            Request::CloseSession(message) => &message.request_header,
-            Request::Read(message) => &message.request_header,
-            Request::Write(message) => &message.request_header,
-        }
+        by_kind!(self, message => &message.request_header)
     }
 }
 
@@ -125,48 +127,102 @@ fn announced_kind(id: &NodeId) -> Option<RequestKind>
     }
 }
 
-impl Held<Request> for GetEndpointsRequest {
-    ghost held = { GetEndpoints };
+impl Held<Request, RequestKind> for GetEndpointsRequest {
+    ghost held = { holding.GetEndpoints };
+
+    ghost kind = { kinds.GetEndpoints };
+
+    ghost NUMBER = { 428 };
+
+    const NUMBER: u32 = 428;
+
+    #[tactic(auto, unfolding(crate::specs::Request::request, crate::specs::Request::request_of_kind, ua_builtin::specs::NodeId::node_id))]
+    fn lawful_held() {}
 
     fn hold(self) -> Request {
         Request::GetEndpoints(self)
     }
 }
 
-impl Held<Request> for CreateSessionRequest {
-    ghost held = { CreateSession };
+impl Held<Request, RequestKind> for CreateSessionRequest {
+    ghost held = { holding.CreateSession };
+
+    ghost kind = { kinds.CreateSession };
+
+    ghost NUMBER = { 461 };
+
+    const NUMBER: u32 = 461;
+
+    #[tactic(auto, unfolding(crate::specs::Request::request, crate::specs::Request::request_of_kind, ua_builtin::specs::NodeId::node_id))]
+    fn lawful_held() {}
 
     fn hold(self) -> Request {
         Request::CreateSession(self)
     }
 }
 
-impl Held<Request> for ActivateSessionRequest {
-    ghost held = { ActivateSession };
+impl Held<Request, RequestKind> for ActivateSessionRequest {
+    ghost held = { holding.ActivateSession };
+
+    ghost kind = { kinds.ActivateSession };
+
+    ghost NUMBER = { 467 };
+
+    const NUMBER: u32 = 467;
+
+    #[tactic(auto, unfolding(crate::specs::Request::request, crate::specs::Request::request_of_kind, ua_builtin::specs::NodeId::node_id))]
+    fn lawful_held() {}
 
     fn hold(self) -> Request {
         Request::ActivateSession(self)
     }
 }
 
-impl Held<Request> for CloseSessionRequest {
-    ghost held = { CloseSession };
+impl Held<Request, RequestKind> for CloseSessionRequest {
+    ghost held = { holding.CloseSession };
+
+    ghost kind = { kinds.CloseSession };
+
+    ghost NUMBER = { 473 };
+
+    const NUMBER: u32 = 473;
+
+    #[tactic(auto, unfolding(crate::specs::Request::request, crate::specs::Request::request_of_kind, ua_builtin::specs::NodeId::node_id))]
+    fn lawful_held() {}
 
     fn hold(self) -> Request {
         Request::CloseSession(self)
     }
 }
 
-impl Held<Request> for ReadRequest {
-    ghost held = { Read };
+impl Held<Request, RequestKind> for ReadRequest {
+    ghost held = { holding.Read };
+
+    ghost kind = { kinds.Read };
+
+    ghost NUMBER = { 631 };
+
+    const NUMBER: u32 = 631;
+
+    #[tactic(auto, unfolding(crate::specs::Request::request, crate::specs::Request::request_of_kind, ua_builtin::specs::NodeId::node_id))]
+    fn lawful_held() {}
 
     fn hold(self) -> Request {
         Request::Read(self)
     }
 }
 
-impl Held<Request> for WriteRequest {
-    ghost held = { Write };
+impl Held<Request, RequestKind> for WriteRequest {
+    ghost held = { holding.Write };
+
+    ghost kind = { kinds.Write };
+
+    ghost NUMBER = { 673 };
+
+    const NUMBER: u32 = 673;
+
+    #[tactic(auto, unfolding(crate::specs::Request::request, crate::specs::Request::request_of_kind, ua_builtin::specs::NodeId::node_id))]
+    fn lawful_held() {}
 
     fn hold(self) -> Request {
         Request::Write(self)
@@ -181,19 +237,27 @@ fn read_kind<S: Source>(
     kind: RequestKind,
 ) -> Result<Request, ReadFault>
     requires levels { depth ≤ most_levels }
-    ensures exact { Gives (kind_at requests depth (Some kind)) (S.octets src.old) (S.octets src.new) result }
+    ensures exact { Gives (request_of_kind kind depth) (S.octets src.old) (S.octets src.new) result }
     ensures behind { StaysBehind (S.octets src.old) (S.octets src.new) }
 {
     match kind {
-        RequestKind::GetEndpoints => read_held::<GetEndpointsRequest, _, _>(alloc, src, depth),
-        RequestKind::CreateSession => read_held::<CreateSessionRequest, _, _>(alloc, src, depth),
-        RequestKind::ActivateSession => read_held::<ActivateSessionRequest, _, _>(
+        RequestKind::GetEndpoints => read_held::<GetEndpointsRequest, _, _, _>(alloc, src, depth),
+        RequestKind::CreateSession => read_held::<CreateSessionRequest, _, _, _>(alloc, src, depth),
+        RequestKind::ActivateSession => read_held::<ActivateSessionRequest, _, _, _>(
             alloc, src, depth,
         ),
-        RequestKind::CloseSession => read_held::<CloseSessionRequest, _, _>(alloc, src, depth),
-        RequestKind::Read => read_held::<ReadRequest, _, _>(alloc, src, depth),
-        RequestKind::Write => read_held::<WriteRequest, _, _>(alloc, src, depth),
+        RequestKind::CloseSession => read_held::<CloseSessionRequest, _, _, _>(alloc, src, depth),
+        RequestKind::Read => read_held::<ReadRequest, _, _, _>(alloc, src, depth),
+        RequestKind::Write => read_held::<WriteRequest, _, _, _>(alloc, src, depth),
     }
+}
+
+impl Message<RequestKind> for Request {
+    ghost use Rattle.ua_services.specs.Request.{request, request_of_kind};
+
+    ghost encoding = { request };
+
+    ghost of_kind = { request_of_kind };
 }
 
 impl Wire for Request {
@@ -205,7 +269,7 @@ impl Wire for Request {
     #[tactic(auto, using(crate::proofs::RequestLawful::lawful_request))]
     fn lawful() {}
 
-    #[tactic(auto, unfolding(crate::specs::Request::request))]
+    #[tactic(auto, unfolding(crate::specs::Request::request, crate::specs::Request::request_of_kind))]
     fn read_value<S: Source>(alloc: Global, src: &mut S, depth: u32) -> Result<Request, ReadFault> {
         let id = NodeId::read_value(alloc, src, depth)?;
         let Some(kind) = announced_kind(&id) else {
@@ -215,26 +279,11 @@ impl Wire for Request {
     }
 
     fn is_encodable(&self) -> bool {
-        match self {
-            Request::GetEndpoints(message) => message.is_encodable(),
-            Request::CreateSession(message) => message.is_encodable(),
-            Request::ActivateSession(message) => message.is_encodable(),
-            Request::CloseSession(message) => message.is_encodable(),
-            Request::Read(message) => message.is_encodable(),
-            Request::Write(message) => message.is_encodable(),
-        }
+        by_kind!(self, message => message.is_encodable_held())
     }
 
-    #[tactic(auto, unfolding(ua_builtin::specs::NodeId::node_id))]
     fn append(&self, out: &mut Vec<u8>) -> Result<(), AllocError> {
-        match self {
-            Request::GetEndpoints(message) => append_message(428, message, out),
-            Request::CreateSession(message) => append_message(461, message, out),
-            Request::ActivateSession(message) => append_message(467, message, out),
-            Request::CloseSession(message) => append_message(473, message, out),
-            Request::Read(message) => append_message(631, message, out),
-            Request::Write(message) => append_message(673, message, out),
-        }
+        by_kind!(self, message => message.append_held(out))
     }
 }
 
@@ -403,6 +452,7 @@ pub fn read_request_for<S: Source, T: TakesTypes>(
 }
 
 // Passes over the structure of a request of that kind. Of a Read and a Write no item is kept.
+#[tactic(auto, unfolding(crate::specs::Request::request_of_kind))]
 fn skip_kind<S: Source>(
     alloc: Global,
     src: &mut S,

@@ -3,12 +3,13 @@
 ghost use Rattle.std.specs.Prelude.{◌≡◌, ◌≤◌, ◌++◌, ◌⊎◌, length, IfOk, IfErr, OnOk, OnErr, IsErrOf, IsFalse, ◌↔◌};
 ghost use Rattle.ua_builtin.specs.Format.{most_levels, Gives, StaysBehind};
 ghost use Rattle.ua_octets.specs.declared.fault.WriteFault.TheVariants.{NotWritable};
-ghost use Rattle.ua_services.specs.Message.{IsBody, kind_at};
-ghost use Rattle.ua_services.specs.Response.{response, responses, response_kind, unread_by, kind_read, response_read, Misread};
-ghost use Rattle.ua_services.specs.declared.response.Response.TheVariants.{GetEndpoints, CreateSession, ActivateSession, CloseSession, Read, Write, ServiceFault};
+ghost use Rattle.ua_services.specs.Message.{IsBody};
+ghost use Rattle.ua_services.specs.Response.{response, response_kind, response_of_kind, unread_by, kind_read, response_read, Misread};
+ghost use Rattle.ua_services.specs.declared.response.Response.TheVariants as holding;
+ghost use Rattle.ua_services.specs.declared.response.ResponseKind.TheVariants as kinds;
 
 use crate::fault::ResponseFault;
-use crate::message::{Held, append_message, empty_body, read_held, standard_number};
+use crate::message::{Held, Message, empty_body, read_held, standard_number};
 use crate::request::RequestKind;
 use std::alloc::{AllocError, Global};
 use ua_builtin::{MOST_LEVELS, NodeId, ReadFault, Source, Wire, WriteFault};
@@ -40,24 +41,32 @@ pub enum Response {
     ServiceFault(ServiceFault),
 }
 
+/// An answer about a response by its kind: the same of the structure of each.
+macro_rules! by_kind {
+    ($response:expr, $message:ident => $answer:expr) => {
+        match $response {
+            Response::GetEndpoints($message) => $answer,
+            Response::CreateSession($message) => $answer,
+            Response::ActivateSession($message) => $answer,
+            Response::CloseSession($message) => $answer,
+            Response::Read($message) => $answer,
+            Response::Write($message) => $answer,
+            Response::ServiceFault($message) => $answer,
+        }
+    };
+}
+
 // By hand, so that a crate that lets a response go calls this, and proves nothing of what lies in it.
 impl Drop for Response {
     fn drop(self) {
-        match self {
-            Response::GetEndpoints(message) => drop(message),
-            Response::CreateSession(message) => drop(message),
-            Response::ActivateSession(message) => drop(message),
-            Response::CloseSession(message) => drop(message),
-            Response::Read(message) => drop(message),
-            Response::Write(message) => drop(message),
-            Response::ServiceFault(message) => drop(message),
-        }
+        by_kind!(self, message => drop(message))
     }
 }
 
 impl Response {
     ghost use Rattle.std.specs.Prelude.{◌≡◌, ◌≢◌, ◌↔◌, IsTrue, IfOk, IfErr};
     ghost use Rattle.ua_services.specs.Response.{kind_of, header_of, Answers};
+    ghost use Rattle.ua_services.specs.declared.response.Response.TheVariants.{CreateSession, Read};
     ghost use Rattle.ua_services.specs.declared.response.ResponseKind.TheVariants.{CreateSession as CreateSessionKind, Read as ReadKind};
 
     /// The answer to a Read, or the response itself where it is another one.
@@ -103,15 +112,7 @@ impl Response {
     pub fn header(&self) -> &ResponseHeader
         ensures { result.now ≡ header_of self.now }
     {
-        match self {
-            Response::GetEndpoints(message) => &message.response_header,
-            Response::CreateSession(message) => &message.response_header,
-            Response::ActivateSession(message) => &message.response_header,
-            Response::CloseSession(message) => &message.response_header,
-            Response::Read(message) => &message.response_header,
-            Response::Write(message) => &message.response_header,
-            Response::ServiceFault(message) => &message.response_header,
-        }
+        by_kind!(self, message => &message.response_header)
     }
 
     /// Whether this answers a request of that kind: it is of the request's own kind, or a
@@ -147,56 +148,119 @@ fn announced_kind(id: &NodeId) -> Option<ResponseKind>
     }
 }
 
-impl Held<Response> for GetEndpointsResponse {
-    ghost held = { GetEndpoints };
+impl Held<Response, ResponseKind> for GetEndpointsResponse {
+    ghost held = { holding.GetEndpoints };
+
+    ghost kind = { kinds.GetEndpoints };
+
+    ghost NUMBER = { 431 };
+
+    const NUMBER: u32 = 431;
+
+    #[tactic(auto, unfolding(crate::specs::Response::response, crate::specs::Response::response_of_kind, ua_builtin::specs::NodeId::node_id))]
+    fn lawful_held() {}
 
     fn hold(self) -> Response {
         Response::GetEndpoints(self)
     }
 }
 
-impl Held<Response> for CreateSessionResponse {
-    ghost held = { CreateSession };
+impl Held<Response, ResponseKind> for CreateSessionResponse {
+    ghost held = { holding.CreateSession };
+
+    ghost kind = { kinds.CreateSession };
+
+    ghost NUMBER = { 464 };
+
+    const NUMBER: u32 = 464;
+
+    #[tactic(auto, unfolding(crate::specs::Response::response, crate::specs::Response::response_of_kind, ua_builtin::specs::NodeId::node_id))]
+    fn lawful_held() {}
 
     fn hold(self) -> Response {
         Response::CreateSession(self)
     }
 }
 
-impl Held<Response> for ActivateSessionResponse {
-    ghost held = { ActivateSession };
+impl Held<Response, ResponseKind> for ActivateSessionResponse {
+    ghost held = { holding.ActivateSession };
+
+    ghost kind = { kinds.ActivateSession };
+
+    ghost NUMBER = { 470 };
+
+    const NUMBER: u32 = 470;
+
+    #[tactic(auto, unfolding(crate::specs::Response::response, crate::specs::Response::response_of_kind, ua_builtin::specs::NodeId::node_id))]
+    fn lawful_held() {}
 
     fn hold(self) -> Response {
         Response::ActivateSession(self)
     }
 }
 
-impl Held<Response> for CloseSessionResponse {
-    ghost held = { CloseSession };
+impl Held<Response, ResponseKind> for CloseSessionResponse {
+    ghost held = { holding.CloseSession };
+
+    ghost kind = { kinds.CloseSession };
+
+    ghost NUMBER = { 476 };
+
+    const NUMBER: u32 = 476;
+
+    #[tactic(auto, unfolding(crate::specs::Response::response, crate::specs::Response::response_of_kind, ua_builtin::specs::NodeId::node_id))]
+    fn lawful_held() {}
 
     fn hold(self) -> Response {
         Response::CloseSession(self)
     }
 }
 
-impl Held<Response> for ReadResponse {
-    ghost held = { Read };
+impl Held<Response, ResponseKind> for ReadResponse {
+    ghost held = { holding.Read };
+
+    ghost kind = { kinds.Read };
+
+    ghost NUMBER = { 634 };
+
+    const NUMBER: u32 = 634;
+
+    #[tactic(auto, unfolding(crate::specs::Response::response, crate::specs::Response::response_of_kind, ua_builtin::specs::NodeId::node_id))]
+    fn lawful_held() {}
 
     fn hold(self) -> Response {
         Response::Read(self)
     }
 }
 
-impl Held<Response> for WriteResponse {
-    ghost held = { Write };
+impl Held<Response, ResponseKind> for WriteResponse {
+    ghost held = { holding.Write };
+
+    ghost kind = { kinds.Write };
+
+    ghost NUMBER = { 676 };
+
+    const NUMBER: u32 = 676;
+
+    #[tactic(auto, unfolding(crate::specs::Response::response, crate::specs::Response::response_of_kind, ua_builtin::specs::NodeId::node_id))]
+    fn lawful_held() {}
 
     fn hold(self) -> Response {
         Response::Write(self)
     }
 }
 
-impl Held<Response> for ServiceFault {
-    ghost held = { ServiceFault };
+impl Held<Response, ResponseKind> for ServiceFault {
+    ghost held = { holding.ServiceFault };
+
+    ghost kind = { kinds.ServiceFault };
+
+    ghost NUMBER = { 397 };
+
+    const NUMBER: u32 = 397;
+
+    #[tactic(auto, unfolding(crate::specs::Response::response, crate::specs::Response::response_of_kind, ua_builtin::specs::NodeId::node_id))]
+    fn lawful_held() {}
 
     fn hold(self) -> Response {
         Response::ServiceFault(self)
@@ -211,20 +275,30 @@ fn read_kind<S: Source>(
     kind: ResponseKind,
 ) -> Result<Response, ReadFault>
     requires levels { depth ≤ most_levels }
-    ensures exact { Gives (kind_at responses depth (Some kind)) (S.octets src.old) (S.octets src.new) result }
+    ensures exact { Gives (response_of_kind kind depth) (S.octets src.old) (S.octets src.new) result }
     ensures behind { StaysBehind (S.octets src.old) (S.octets src.new) }
 {
     match kind {
-        ResponseKind::GetEndpoints => read_held::<GetEndpointsResponse, _, _>(alloc, src, depth),
-        ResponseKind::CreateSession => read_held::<CreateSessionResponse, _, _>(alloc, src, depth),
-        ResponseKind::ActivateSession => read_held::<ActivateSessionResponse, _, _>(
+        ResponseKind::GetEndpoints => read_held::<GetEndpointsResponse, _, _, _>(alloc, src, depth),
+        ResponseKind::CreateSession => read_held::<CreateSessionResponse, _, _, _>(
             alloc, src, depth,
         ),
-        ResponseKind::CloseSession => read_held::<CloseSessionResponse, _, _>(alloc, src, depth),
-        ResponseKind::Read => read_held::<ReadResponse, _, _>(alloc, src, depth),
-        ResponseKind::Write => read_held::<WriteResponse, _, _>(alloc, src, depth),
-        ResponseKind::ServiceFault => read_held::<ServiceFault, _, _>(alloc, src, depth),
+        ResponseKind::ActivateSession => read_held::<ActivateSessionResponse, _, _, _>(
+            alloc, src, depth,
+        ),
+        ResponseKind::CloseSession => read_held::<CloseSessionResponse, _, _, _>(alloc, src, depth),
+        ResponseKind::Read => read_held::<ReadResponse, _, _, _>(alloc, src, depth),
+        ResponseKind::Write => read_held::<WriteResponse, _, _, _>(alloc, src, depth),
+        ResponseKind::ServiceFault => read_held::<ServiceFault, _, _, _>(alloc, src, depth),
     }
+}
+
+impl Message<ResponseKind> for Response {
+    ghost use Rattle.ua_services.specs.Response.{response, response_of_kind};
+
+    ghost encoding = { response };
+
+    ghost of_kind = { response_of_kind };
 }
 
 impl Wire for Response {
@@ -236,7 +310,7 @@ impl Wire for Response {
     #[tactic(auto, using(crate::proofs::ResponseLawful::lawful_response))]
     fn lawful() {}
 
-    #[tactic(auto, unfolding(crate::specs::Response::response))]
+    #[tactic(auto, unfolding(crate::specs::Response::response, crate::specs::Response::response_of_kind))]
     fn read_value<S: Source>(
         alloc: Global,
         src: &mut S,
@@ -250,28 +324,11 @@ impl Wire for Response {
     }
 
     fn is_encodable(&self) -> bool {
-        match self {
-            Response::GetEndpoints(message) => message.is_encodable(),
-            Response::CreateSession(message) => message.is_encodable(),
-            Response::ActivateSession(message) => message.is_encodable(),
-            Response::CloseSession(message) => message.is_encodable(),
-            Response::Read(message) => message.is_encodable(),
-            Response::Write(message) => message.is_encodable(),
-            Response::ServiceFault(message) => message.is_encodable(),
-        }
+        by_kind!(self, message => message.is_encodable_held())
     }
 
-    #[tactic(auto, unfolding(ua_builtin::specs::NodeId::node_id))]
     fn append(&self, out: &mut Vec<u8>) -> Result<(), AllocError> {
-        match self {
-            Response::GetEndpoints(message) => append_message(431, message, out),
-            Response::CreateSession(message) => append_message(464, message, out),
-            Response::ActivateSession(message) => append_message(470, message, out),
-            Response::CloseSession(message) => append_message(476, message, out),
-            Response::Read(message) => append_message(634, message, out),
-            Response::Write(message) => append_message(676, message, out),
-            Response::ServiceFault(message) => append_message(397, message, out),
-        }
+        by_kind!(self, message => message.append_held(out))
     }
 }
 

@@ -1,4 +1,4 @@
-use Rattle.std.proofs.Common.{sym, Some, Err}
+use Rattle.std.proofs.Common.{sym, Some}
 use Rattle.ua_services.specs.Request.{request_read, unread_with}
 use Rattle.ua_services.proofs.RequestRead.{id_fails, not_supported, read-kind, refused_by}
 use Rattle.ua_services.proofs.request.body_kind.Goals as goal
