@@ -48,15 +48,21 @@ is_too_large a body = passes a.max_message_size (length body) || passes a.max_ch
 abbrev pub call_lane : Ack → ℕ → ℕ → Lane
 call_lane a channel token = record { channel = channel; token = token; room = room_of a; octets = a.max_message_size; chunks = a.max_chunk_count }
 
--- why an open channel asks no call where so many are unanswered, this request id is next, and the body is too large or not, in the order
--- in which it is judged
-abbrev pub reasons_of_call : ℕ → ℕ → Bool → List (AskFault × Bool)
-reasons_of_call pending next large = (TooManyPending, nat_le most_pending pending) ∷ (Exhausted, nat_le no_id next) ∷ (RequestTooLarge, large) ∷ []
+-- why no call of a body is asked, which is too large or not, where this request id is next, in the order in which it is judged
+abbrev pub reasons_of_body : ℕ → Bool → List (AskFault × Bool)
+reasons_of_body next large = (Exhausted, nat_le no_id next) ∷ (RequestTooLarge, large) ∷ []
 
--- why it asks no renewal where one is unanswered or not, so many tokens are held, and this request id is next, in the order in which it is
--- judged
+-- the same of an open channel where so many calls are unanswered
+abbrev pub reasons_of_call : ℕ → ℕ → Bool → List (AskFault × Bool)
+reasons_of_call pending next large = (TooManyPending, nat_le most_pending pending) ∷ reasons_of_body next large
+
+-- why no further token is asked for where so many are held and this request id is next, in the order in which it is judged
+abbrev pub reasons_of_token : ℕ → ℕ → List (AskFault × Bool)
+reasons_of_token tokens next = (TooManyTokens, nat_le most_tokens tokens) ∷ (Exhausted, nat_le no_id next) ∷ []
+
+-- the same where a renewal is unanswered or not
 abbrev pub reasons_of_renewal : Bool → ℕ → ℕ → List (AskFault × Bool)
-reasons_of_renewal pending tokens next = (RenewPending, pending) ∷ (TooManyTokens, nat_le most_tokens tokens) ∷ (Exhausted, nat_le no_id next) ∷ []
+reasons_of_renewal pending tokens next = (RenewPending, pending) ∷ reasons_of_token tokens next
 
 -- ---- by what was received and asked, wherever the octets end
 

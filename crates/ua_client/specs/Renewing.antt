@@ -1,14 +1,14 @@
 -- How a client renews the token of its channel: it sends an OPN, and waits until a further token came (OPC 10000-4, 5.6.2; OPC 10000-6,
 -- 6.7.2).
-use Rattle.std.specs.Prelude.{◌≡◌, ◌⊎◌, ◌<◌, ◌≤◌, ◌++◌, nat_le, ℕ, Bool, true, false, List, [], ◌∷◌, length, Option, Some, None, Result, Ok, Err}
+use Rattle.std.specs.Prelude.{◌≡◌, ◌⊎◌, ◌<◌, ◌≤◌, ◌++◌, map, ℕ, Bool, true, false, List, [], ◌∷◌, length, Option, Some, None, Result, Ok, Err}
 use Rattle.std.specs.List.{AllByRecursion, filter, list_any}
-use Rattle.ua_builtin.specs.Reasons.{first_reason}
+use Rattle.ua_builtin.specs.Reasons.{first_reason, renamed_reason}
 use Rattle.ua_builtin.specs.declared.date_time.DateTime.{DateTime}
 use Rattle.ua_chunk.specs.Sequence.{next_number}
 use Rattle.ua_channel.specs.Asks.{Placed, asked_in, calls, pending_calls, pending_renewals, renewals}
 use Rattle.ua_channel.specs.Asks.Asking.{Renewal}
 use Rattle.ua_channel.specs.Client.{ClientGoesTelling, HasNoChannel, SameClient}
-use Rattle.ua_channel.specs.ClientAsks.{most_tokens, no_id}
+use Rattle.ua_channel.specs.ClientAsks.{reasons_of_token}
 use Rattle.ua_channel.specs.ClientTokens.{held_tokens, opened_ids}
 use Rattle.ua_channel.specs.ClientTold.{ClientTold}
 use Rattle.ua_channel.specs.ClientTold.ClientTold.{Agreed, Opened, Answered, GaveUp, Renewed}
@@ -21,6 +21,7 @@ use Rattle.ua_channel.specs.declared.client.fault.AskFault.TheVariants as ask_fa
 use Rattle.ua_client.specs.Carried.{IsPart}
 use Rattle.ua_client.specs.Hearing.{channel_of, most_reads, Moves, StopsAt}
 use Rattle.ua_client.specs.Opening.{is_opened, any_done, WaitsAt}
+use Rattle.ua_client.specs.Sent.{by_channel}
 use Rattle.ua_client.specs.Site.{Site, At, id_at, lane_behind}
 use Rattle.ua_client.specs.Told.{told_of}
 use Rattle.ua_client.specs.declared.connection.Connection.{Connection}
@@ -59,7 +60,7 @@ pub record IsIdle (x : ClientChannel) (s : Site) : Type 0 where
 -- why a renewal is not asked there, in the order in which it is judged: the client holds 16 tokens, from the last one that the server
 -- used to the newest; or all request ids were used
 abbrev pub renewal_reasons : Site → List (ClientFault × Bool)
-renewal_reasons s = (fault.TooManyTokens, nat_le most_tokens (length (held_tokens s.before))) ∷ (fault.Exhausted, nat_le no_id (id_at s)) ∷ []
+renewal_reasons s = map (renamed_reason by_channel) (reasons_of_token (length (held_tokens s.before)) (id_at s))
 
 -- why it is not asked there, if it is not
 abbrev pub renewal_refusal : Site → Option ClientFault

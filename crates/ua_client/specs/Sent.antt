@@ -1,12 +1,12 @@
 -- What a client sends: the chunks of its calls, and which of them it does not ask.
-use Rattle.std.specs.Prelude.{◌≡◌, ◌<◌, ◌+◌, ◌++◌, nat_le, not, ℕ, Bool, true, false, List, [], ◌∷◌, map, length, take, Option, Some, None, Result, Ok, Err}
-use Rattle.ua_builtin.specs.Reasons.{or_else}
+use Rattle.std.specs.Prelude.{◌≡◌, ◌<◌, ◌+◌, ◌++◌, not, ℕ, Bool, true, false, List, [], ◌∷◌, map, length, take, Option, Some, None, Result, Ok, Err}
+use Rattle.ua_builtin.specs.Reasons.{or_else, renamed_reason}
 use Rattle.ua_chunk.specs.declared.lane.Lane.{Lane}
 use Rattle.ua_services.specs.Request.{request}
 use Rattle.ua_services.specs.declared.request.Request.{Request}
 use Rattle.ua_channel.specs.Asks.{Placed, asked_in, next_id}
 use Rattle.ua_channel.specs.Client.{ClientStands, client_next, ask_refusal}
-use Rattle.ua_channel.specs.ClientAsks.{is_too_large, no_id}
+use Rattle.ua_channel.specs.ClientAsks.{is_too_large, reasons_of_body}
 use Rattle.ua_channel.specs.ClientTable.{of_ack}
 use Rattle.ua_channel.specs.Outgoing.{asks_at, outgoing_number, outgoing_octets}
 use Rattle.ua_channel.specs.Outgoing.Outgoing.{CallWith}
@@ -41,14 +41,19 @@ bodies_of requests = map request.canonical requests
 
 -- ---- what is not asked
 
+-- a reason of the channel against an ask, as a fault of the client
+abbrev pub by_channel : AskFault → ClientFault
+by_channel ask_fault.Exhausted = fault.Exhausted
+by_channel ask_fault.RequestTooLarge = fault.TooLarge
+by_channel ask_fault.TooManyTokens = fault.TooManyTokens
+by_channel other = fault.Closed
+
 -- why a request is not asked under this request id of a server that sent this ACK, in the order in which it is judged: it cannot be
--- encoded; all request ids were used; or the server takes no message of so many octets or chunks (OPC 10000-6, 7.1.2.4)
+-- encoded; or what is against its body: all request ids were used; or the server takes no message of so many octets or chunks
+-- (OPC 10000-6, 7.1.2.4)
 abbrev pub request_reasons : Option Ack → ℕ → Request → List (ClientFault × Bool)
 request_reasons ack id m =
-    (fault.NotWritable, not (request.encodable m))
-    ∷ (fault.Exhausted, nat_le no_id id)
-    ∷ (fault.TooLarge, of_ack (λ (a : Ack). is_too_large a (request.canonical m)) ack)
-    ∷ []
+    (fault.NotWritable, not (request.encodable m)) ∷ map (renamed_reason by_channel) (reasons_of_body id (of_ack (λ (a : Ack). is_too_large a (request.canonical m)) ack))
 
 -- why requests are not asked under request ids from this one on: the reasons against the first of them, then those against the next
 abbrev pub group_reasons : Option Ack → ℕ → List Request → List (ClientFault × Bool)

@@ -1,14 +1,14 @@
 -- Which turns a client takes, and why the first that it does not take is refused.
-use Rattle.std.specs.Prelude.{◌≡◌, ℕ, zero, suc, ◌+◌, nat_le, Bool, List, [], ◌∷◌, ◌++◌, length, Option, Some, None}
-use Rattle.ua_builtin.specs.Reasons.{first_reason}
+use Rattle.std.specs.Prelude.{◌≡◌, ℕ, zero, suc, ◌+◌, Bool, List, [], ◌∷◌, ◌++◌, length, map, Option, Some, None}
+use Rattle.ua_builtin.specs.Reasons.{first_reason, renamed_reason}
 use Rattle.ua_frame.specs.After.{AllAfter}
 use Rattle.ua_frame.specs.Agreement.{ack_to}
 use Rattle.ua_frame.specs.declared.ack.Ack.{Ack}
 use Rattle.ua_frame.specs.declared.limits.Limits.{Limits}
-use Rattle.ua_channel.specs.ClientAsks.{most_tokens, no_id}
+use Rattle.ua_channel.specs.ClientAsks.{reasons_of_token}
 use Rattle.ua_channel.specs.ClientSends.{hello_to}
 use Rattle.ua_services.specs.declared.request.Request.{Request}
-use Rattle.ua_client.specs.Sent.{group_reasons}
+use Rattle.ua_client.specs.Sent.{by_channel, group_reasons}
 use Rattle.ua_client.specs.declared.fault.ClientFault.{ClientFault}
 use Rattle.ua_client.specs.declared.fault.ClientFault.TheVariants as fault
 use Rattle.ua_served.specs.Turns.{ids_behind}
@@ -41,7 +41,7 @@ tokens_held held (t ∷ turns) = tokens_held (held_behind held t) turns
 -- ids were used
 abbrev pub turn_reasons : Ack → ℕ → ℕ → Option (List Request) → List (ClientFault × Bool)
 turn_reasons a held id (Some requests) = group_reasons (Some a) id requests
-turn_reasons a held id None = (fault.TooManyTokens, nat_le most_tokens held) ∷ (fault.Exhausted, nat_le no_id id) ∷ []
+turn_reasons a held id None = map (renamed_reason by_channel) (reasons_of_token held id)
 
 -- the first of these reasons against a turn behind others, if there is one; the token and the request id of the opening were used before
 abbrev pub turn_refusal : Ack → List (Option (List Request)) → Option (List Request) → Option ClientFault
