@@ -1,7 +1,6 @@
 -- What a server agrees to is told first, and once.
-use Rattle.std.proofs.Common.{◌≡◌, ℕ, ◌+◌, ◌==◌, Bool, true, false, IsTrue, List, [], ◌∷◌, ◌++◌, map, Option, Some, None, option_map, refl, sym, ◌∙◌, ap, subst, append_assoc, append-nil}
+use Rattle.std.proofs.Common.{◌≡◌, ℕ, ◌+◌, ◌==◌, Bool, true, false, IsTrue, List, [], ◌∷◌, map, Option, Some, None, option_map, refl, sym, ◌∙◌, ap, subst}
 use Rattle.std.specs.Prelude.{if◌then◌else◌}
-use Rattle.ua_frame.specs.After.{AllFrom, AllAfter}
 use Rattle.ua_frame.specs.Hello.{hello_in}
 use Rattle.ua_frame.specs.Kinds.{lets_in}
 use Rattle.ua_frame.specs.Run.{Fits}
@@ -29,16 +28,7 @@ use Rattle.ua_channel.specs.ServerTold.Told.{Agreed, Opened, Asked, GaveUp, Clos
 use Rattle.ua_channel.specs.declared.server.ServerChannel.{ServerChannel}
 use Rattle.ua_channel.proofs.Frames.{hel_only}
 use Rattle.ua_channel.proofs.Replies.{agreed_told}
-
--- ---- the last of good frames
-
-last_from : {A : Type 0} (P : List A → A → Type 0) (start xs : List A) (y : A) → AllFrom P start (xs ++ y ∷ []) → P (start ++ xs) y
-last_from {A = A} P start [] y h = subst (λ (s : List A). P s y) (sym (append-nil start)) h.0
-last_from {A = A} P start (x ∷ xs) y h = subst (λ (s : List A). P s y) (append_assoc start (x ∷ []) xs) (last_from P (start ++ x ∷ []) xs y h.1)
-
-pub last_of : {A : Type 0} (P : List A → A → Type 0) (xs : List A) (y : A) → AllAfter P (xs ++ y ∷ []) → P xs y
-unfolding AllAfter
-last_of P xs y h = last_from P [] xs y h
+use Rattle.ua_channel.proofs.Stepping.{last_of}
 
 -- ---- what a frame of a kind tells
 

@@ -17,12 +17,13 @@ use Rattle.ua_channel.specs.declared.server_fault.ChannelFault.TheVariants as fa
 use Rattle.ua_channel.specs.declared.step_fault.StepFault.{StepFault}
 use Rattle.ua_channel.specs.declared.step_fault.StepFault.TheVariants as step
 use Rattle.ua_channel.specs.ServerAnswers.{SendsOctets, ServerAnswers, AnswersAt}
-use Rattle.ua_channel.specs.inside.ServerSteps.{StandsWith, Nexts, Answered}
+use Rattle.ua_channel.specs.inside.ServerSteps.{StandsWith, Nexts, AnswersTo}
 use Rattle.ua_channel.specs.inside.StepFaults.{of_step}
 use Rattle.ua_channel.specs.ServerSends.{opened_frame}
-use Rattle.ua_channel.specs.ServerStands.{channel_of, next_of, rules_of, Goes, GoesTelling, Ended, RefusedAt}
+use Rattle.ua_channel.specs.ServerStands.{channel_of, limits_of, next_of, rules_of, Goes, GoesTelling, Ended, IsDone, RefusedAt, StarvedAt}
 use Rattle.ua_channel.specs.ServerTold.{Told, Told as told}
 use Rattle.ua_channel.specs.declared.numbers.Numbers.{Numbers}
+use Rattle.ua_channel.proofs.Servers.{starved_behind}
 
 -- a channel goes on telling where the number of its next chunk moves on
 pub telling_counted : (x : ServerChannel) (numbers : Numbers) (octets : List ℕ) (before : List Told) (e : Told) → GoesTelling x octets before e → GoesTelling (record x { numbers = numbers }) octets before e
@@ -46,7 +47,7 @@ opened_sends x numbers moment octets sent before e id handle token lifetime numb
 
 -- ---- whole pieces
 
-counts_of : (channel number : ℕ) (moment : DateTime) (piece : List ℕ) (n : ℕ) (answer : Result ServerEvent ChannelFault) (new : ServerChannel) (octets : List ℕ) (before : List Told) → 0 < n → n ≤ length piece → Answered channel number moment answer new (octets ++ take n piece) before → AnswersAt channel number moment piece n answer new octets before
+counts_of : (channel number : ℕ) (moment : DateTime) (piece : List ℕ) (n : ℕ) (answer : Result ServerEvent ChannelFault) (new : ServerChannel) (octets : List ℕ) (before : List Told) → 0 < n → n ≤ length piece → AnswersTo channel number moment answer new (octets ++ take n piece) before → AnswersAt channel number moment piece n answer new octets before
 counts_of channel number moment piece n (Ok NeedMore) new octets before some within h = absurd h
 counts_of channel number moment piece n (Ok (Send sent)) new octets before some within h = ((some, within), h)
 counts_of channel number moment piece n (Ok (Asked id message)) new octets before some within h = ((some, within), h)
@@ -58,11 +59,11 @@ counts_of channel number moment piece n (Err fault.Closed) new octets before som
 
 -- an event
 pub answers_event : (channel channel' number number' : ℕ) (moment : DateTime) (piece : List ℕ) (n : ℕ) (e : Event) (answer : Result ServerEvent ChannelFault) (mid new : ServerChannel) (octets : List ℕ) (before : List Told) → channel' ≡ channel → number' ≡ number → Nexts piece n (Ok (Some e)) mid octets before
-    → (StandsWith e mid (octets ++ take n piece) before → Answered channel' number' moment answer new (octets ++ take n piece) before) → AnswersAt channel number moment piece n answer new octets before
+    → (StandsWith e mid (octets ++ take n piece) before → AnswersTo channel' number' moment answer new (octets ++ take n piece) before) → AnswersAt channel number moment piece n answer new octets before
 answers_event channel channel' number number' moment piece n e answer mid new octets before same again h by =
     counts_of channel number moment piece n answer new octets before h.0 h.1
-    (subst (λ (k : ℕ). Answered channel k moment answer new (octets ++ take n piece) before) again
-    (subst (λ (k : ℕ). Answered k number' moment answer new (octets ++ take n piece) before) same (by h.2)))
+    (subst (λ (k : ℕ). AnswersTo channel k moment answer new (octets ++ take n piece) before) again
+    (subst (λ (k : ℕ). AnswersTo k number' moment answer new (octets ++ take n piece) before) same (by h.2)))
 
 -- no event
 pub answers_nothing : (channel number : ℕ) (moment : DateTime) (piece : List ℕ) (n : ℕ) (new : ServerChannel) (octets : List ℕ) (before : List Told) → Nexts piece n (Ok None) new octets before → next_of new ≡ number → AnswersAt channel number moment piece n (Ok NeedMore) new octets before
@@ -71,8 +72,9 @@ answers_nothing channel number moment piece n new octets before h same =
 
 answers_step : (channel number : ℕ) (moment : DateTime) (piece : List ℕ) (n : ℕ) (s : StepFault) (new : ServerChannel) (octets : List ℕ) (before : List Told) → Nexts piece n (Err s) new octets before → AnswersAt channel number moment piece n (Err (of_step s)) new octets before
 answers_step channel number moment piece n (step.Refused code) new octets before h = (h.0, h.1, refl)
+answers_step channel number moment piece n (step.Peer code) new octets before h = absurd h.1
 answers_step channel number moment piece n step.OutOfMemory new octets before h = (h.0, h.1.done)
-answers_step channel number moment piece n step.Closed new octets before h = h
+answers_step channel number moment piece n step.Closed new octets before h = absurd h.1
 
 -- a fault
 pub answers_fault : (channel number : ℕ) (moment : DateTime) (piece : List ℕ) (n : ℕ) (s : StepFault) (f : ChannelFault) (new : ServerChannel) (octets : List ℕ) (before : List Told) → Nexts piece n (Err s) new octets before → f ≡ of_step s → AnswersAt channel number moment piece n (Err f) new octets before
@@ -106,3 +108,34 @@ starved_with channel number moment piece n bound f x new octets before is new_is
     let done : AnswersAt channel number moment piece n (Err fault.OutOfMemory) (record x { bound = bound }) octets before = (starved.0, record { phase = starved.1.phase; empty = starved.1.empty }) in
     subst (λ (y : ServerChannel). AnswersAt channel number moment piece n (Err f) y octets before) (sym new_is)
     (subst (λ (g : ChannelFault). AnswersAt channel number moment piece n (Err g) (record x { bound = bound }) octets before) (sym is) done)
+
+-- where it stands behind the frame of an event for whose answer memory was refused
+pub starved_event : (mid d : ServerChannel) (octets : List ℕ) (told : List Told) (e : Event) (answer : Result ServerEvent ChannelFault) → limits_of d ≡ limits_of mid → channel_of d ≡ channel_of mid → IsDone d → StandsWith e mid octets told → (e ≡ inner.Closed → answer ≡ Ok event.Closed) → answer ≡ Err fault.OutOfMemory
+    → StarvedAt d octets told
+starved_event mid d octets told (inner.Agreed a) answer limits channel done h closes is = starved_behind mid d octets told _ limits channel done h
+starved_event mid d octets told (inner.Opened id handle token lifetime) answer limits channel done h closes is = starved_behind mid d octets told _ limits channel done h
+starved_event mid d octets told (inner.Asked id token message) answer limits channel done h closes is = starved_behind mid d octets told _ limits channel done h
+starved_event mid d octets told (inner.Aborted id) answer limits channel done h closes is = starved_behind mid d octets told _ limits channel done h
+starved_event mid d octets told inner.Closed answer limits channel done h closes is = let no = sym (closes refl) ∙ is in absurd cc
+
+-- where it stands with a fault
+starved_step : (piece : List ℕ) (n : ℕ) (s : StepFault) (new : ServerChannel) (octets : List ℕ) (told : List Told) → Nexts piece n (Err s) new octets told → of_step s ≡ fault.OutOfMemory → StarvedAt new (octets ++ take n piece) told
+starved_step piece n (step.Refused code) new octets told h is = absurd cc
+starved_step piece n (step.Peer code) new octets told h is = absurd h.1
+starved_step piece n step.OutOfMemory new octets told h is = h.1
+starved_step piece n step.Closed new octets told h is = absurd h.1
+
+err_is : (f g : ChannelFault) → ◌≡◌ {A = Result ServerEvent ChannelFault} (Err f) (Err g) → f ≡ g
+err_is f g e = cc
+
+pub starved_fault : (piece : List ℕ) (n : ℕ) (s : StepFault) (f : ChannelFault) (new : ServerChannel) (octets : List ℕ) (told : List Told) → Nexts piece n (Err s) new octets told → f ≡ of_step s → ◌≡◌ {A = Result ServerEvent ChannelFault} (Err f) (Err fault.OutOfMemory)
+    → StarvedAt new (octets ++ take n piece) told
+starved_fault piece n s f new octets told h is failed = starved_step piece n s new octets told h (sym is ∙ err_is f fault.OutOfMemory failed)
+
+pub done_by : (channel number : ℕ) (moment : DateTime) (answer : Result ServerEvent ChannelFault) (d : ServerChannel) (octets : List ℕ) (told : List Told) → answer ≡ Err fault.OutOfMemory → AnswersTo channel number moment answer d octets told → IsDone d
+done_by channel number moment answer d octets told is h = subst (λ (a : Result ServerEvent ChannelFault). AnswersTo channel number moment a d octets told) is h
+
+-- with another bound
+pub starved_bound : (x new : ServerChannel) (bound : ℕ) (octets : List ℕ) (told : List Told) → new ≡ record x { bound = bound } → StarvedAt x octets told → StarvedAt new octets told
+starved_bound x new bound octets told is s =
+    subst (λ (z : ServerChannel). StarvedAt z octets told) (sym is) (record { done = record { phase = s.done.phase; empty = s.done.empty }; frames = s.frames; rest = s.rest; whole = s.whole; good = s.good; told_is = s.told_is; header = s.header; sound = s.sound; within = s.within })

@@ -11,24 +11,25 @@ use Rattle.ua_chunk.specs.declared.delivered.Delivered.{Delivered}
 use Rattle.ua_chunk.specs.declared.fault.AssembleFault.{AssembleFault}
 use Rattle.ua_chunk.specs.declared.fault.AssembleFault.TheVariants.{Sequence, Unreadable, TooManyOpen, MessageTooLarge, TooManyChunks, OutOfMemory, Closed}
 use Rattle.ua_channel.proofs.MessageParts.{ends_in}
-use Rattle.ua_channel.specs.inside.ClientParts.{event_parts, IsStopFor, Judged, why_of, stop_of_chunk, refused_reasons, unasked_reasons, known_reasons, IsAccepted, IsDeliveredWith, IsTakenWith, left_behind}
+use Rattle.ua_channel.specs.inside.ClientParts.{event_parts, IsStopFor, Judged, why_of, refused_reasons, unasked_reasons, known_reasons, IsAccepted, IsDeliveredWith, IsTakenWith, left_behind}
+use Rattle.ua_channel.specs.inside.StepFaults.{of_chunk_fault}
 use Rattle.ua_channel.specs.ClientTokens.{from_last}
 use Rattle.ua_channel.specs.ClientTold.{Why, told_item}
 use Rattle.ua_channel.specs.declared.client.event.Event.{Event}
-use Rattle.ua_channel.specs.declared.client.fault.Stop.{Stop}
-use Rattle.ua_channel.specs.declared.client.fault.Stop.TheVariants as stop
+use Rattle.ua_channel.specs.declared.step_fault.StepFault.{StepFault}
+use Rattle.ua_channel.specs.declared.step_fault.StepFault.TheVariants as stop
 use Rattle.ua_channel.specs.declared.client.talking.Talking.{Talking}
 use Rattle.ua_channel.proofs.ClientGreets.{judged_same}
 
 -- ---- tables one behind the other
 
-pub stops_among : (rs ss : List (Why × Bool)) (s : Stop) → IsStopFor rs s → IsStopFor (rs ++ ss) s
+pub stops_among : (rs ss : List (Why × Bool)) (s : StepFault) → IsStopFor rs s → IsStopFor (rs ++ ss) s
 stops_among rs ss (stop.Refused code) h = first_among rs ss (record { code = code.code; peer = false }) h
 stops_among rs ss (stop.Peer code) h = first_among rs ss (record { code = code.code; peer = true }) h
 stops_among rs ss stop.OutOfMemory h = tt
 stops_among rs ss stop.Closed h = h
 
-pub judged_behind : {A : Type 0} (rs ss : List (Why × Bool)) (P Q : A → Type 0) (r : Result A Stop) → first_reason rs ≡ None → ((a : A) → P a → Q a) → Judged ss P r → Judged (rs ++ ss) Q r
+pub judged_behind : {A : Type 0} (rs ss : List (Why × Bool)) (P Q : A → Type 0) (r : Result A StepFault) → first_reason rs ≡ None → ((a : A) → P a → Q a) → Judged ss P r → Judged (rs ++ ss) Q r
 judged_behind rs ss P Q r none more h = judged_same ss (rs ++ ss) P Q r (first_behind rs ss none) (λ a first p. more a p) h
 
 -- ---- the assembler
@@ -36,7 +37,7 @@ judged_behind rs ss P Q r none more h = judged_same ss (rs ++ ss) P Q r (first_b
 pub accepts : (rs : List (AssembleFault × Bool)) → first_reason rs ≡ None → first_reason (map (renamed_reason why_of) rs) ≡ None
 accepts rs none = first_reason-map why_of rs ∙ ap (option_map why_of) none
 
-pub refuses : (rs : List (AssembleFault × Bool)) (fault : AssembleFault) → IsFor (first_reason rs) fault → IsStopFor (map (renamed_reason why_of) rs) (stop_of_chunk fault)
+pub refuses : (rs : List (AssembleFault × Bool)) (fault : AssembleFault) → IsFor (first_reason rs) fault → IsStopFor (map (renamed_reason why_of) rs) (of_chunk_fault 0x80B9_0000 fault)
 refuses rs Sequence h = first_reason-map why_of rs ∙ ap (option_map why_of) h
 refuses rs Unreadable h = first_reason-map why_of rs ∙ ap (option_map why_of) h
 refuses rs TooManyOpen h = first_reason-map why_of rs ∙ ap (option_map why_of) h
@@ -64,11 +65,10 @@ module _ (old mid new : Talking) (cs : List Chunk) (c : Chunk) (d : Option Deliv
       last_is = ap last_number same_assembler ∙ acc.last_is;
       limits = subst (λ (a : Assembler). SameLimits old.assembler a) (sym same_assembler) acc.limits;
       tells = ap (map told_item) acc.items_are ∙ h.event_is.tells;
-      good = h.event_is.good;
       parts = ends_in cs c d (event_parts e) h.event_is.parts acc.parts_are;
     }
 
-  pub known_judged : (r : Result (Option Event) Stop) → first_reason (refused_reasons old cs c) ≡ None → Judged (unasked_reasons mid c.request) (IsDeliveredWith mid c.request c.token (ends c) d new) r
+  pub known_judged : (r : Result (Option Event) StepFault) → first_reason (refused_reasons old cs c) ≡ None → Judged (unasked_reasons mid c.request) (IsDeliveredWith mid c.request c.token (ends c) d new) r
       → Judged (known_reasons old cs c) (IsTakenWith old cs c new) r
   known_judged r none j =
       judged_behind (refused_reasons old cs c) (unasked_reasons old c.request) (IsDeliveredWith mid c.request c.token (ends c) d new) (IsTakenWith old cs c new) r none both_taken

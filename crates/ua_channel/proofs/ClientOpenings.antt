@@ -12,7 +12,8 @@ use Rattle.ua_services.specs.declared.open.OpenAnswer.{OpenAnswer}
 use Rattle.ua_services.specs.declared.open.OpenAnswer.TheVariants.{Open, Fault}
 use Rattle.ua_structures.specs.declared.secure_channel.OpenResponse.{OpenResponse}
 use Rattle.ua_channel.specs.Asks.{Asking}
-use Rattle.ua_channel.specs.inside.ClientParts.{stop_of_open, IsStopFor, Judged, JudgesAnswer, IsAnsweredBy, body_reasons, answer_reasons}
+use Rattle.ua_channel.specs.inside.ClientParts.{IsStopFor, Judged, JudgesAnswer, IsAnsweredBy, body_reasons, answer_reasons}
+use Rattle.ua_channel.specs.inside.StepFaults.{of_open_fault}
 use Rattle.ua_channel.specs.ClientTable.{client_reasons}
 use Rattle.ua_channel.specs.ClientTokens.{answer_in}
 use Rattle.ua_channel.specs.ClientTold.{Why, ours}
@@ -20,8 +21,8 @@ use Rattle.ua_channel.specs.Content.{Opening, opening_numbered, opening_secured,
 use Rattle.ua_channel.specs.Content.Content.{Opens}
 use Rattle.ua_channel.specs.Received.{Received}
 use Rattle.ua_channel.specs.declared.client.answer.Answer.{Answer}
-use Rattle.ua_channel.specs.declared.client.fault.Stop.{Stop}
-use Rattle.ua_channel.specs.declared.client.fault.Stop.TheVariants as stop
+use Rattle.ua_channel.specs.declared.step_fault.StepFault.{StepFault}
+use Rattle.ua_channel.specs.declared.step_fault.StepFault.TheVariants as stop
 use Rattle.ua_channel.proofs.ClientAsking.{first_unset}
 use Rattle.ua_channel.proofs.Openings.{HasHeaders}
 
@@ -62,15 +63,15 @@ module _ (limits : Limits) (before : Received) (asked : List Asking) where
   unfolding opening_of why
   refuses_headers body fault h = refused_found body (policy_header.decode body) fault h
 
-judges_fault : (body : List ℕ) (fault : OpenFault) → open_refusal body ≡ Some fault → JudgesAnswer (opening_of body) (Err (stop_of_open fault))
+judges_fault : (body : List ℕ) (fault : OpenFault) → open_refusal body ≡ Some fault → JudgesAnswer (opening_of body) (Err (of_open_fault fault))
 unfolding open_code
 judges_fault body Unreadable h = λ limits before asked. refuses_headers limits before asked body Unreadable h
 judges_fault body Policy h = λ limits before asked. refuses_headers limits before asked body Policy h
 judges_fault body OutOfMemory h = λ limits before asked. tt
 
 -- what a fault of the headers comes to
-pub judges_headers : (body : List ℕ) (fault : OpenFault) (e : Stop) → open_refusal body ≡ Some fault → e ≡ stop_of_open fault → JudgesAnswer (opening_of body) (Err e)
-judges_headers body fault e h is = subst (λ (x : Stop). JudgesAnswer (opening_of body) (Err x)) (sym is) (judges_fault body fault h)
+pub judges_headers : (body : List ℕ) (fault : OpenFault) (e : StepFault) → open_refusal body ≡ Some fault → e ≡ of_open_fault fault → JudgesAnswer (opening_of body) (Err e)
+judges_headers body fault e h is = subst (λ (x : StepFault). JudgesAnswer (opening_of body) (Err x)) (sym is) (judges_fault body fault h)
 
 -- ---- what is behind them
 
@@ -93,7 +94,7 @@ module _ (on sequence request : ℕ) (body behind : List ℕ) (h : HasHeaders bo
   refused_by limits before asked (Some (Open r)) why is first = bad_response limits before asked r why (leb 0x8000_0000 r.response_header.service_result.code) is refl first
 
   -- what a fault of the body comes to
-  pub judges_body : (e : Stop) → IsStopFor (body_reasons (answer_read behind)) e → JudgesAnswer (opening_of body) (Err e)
+  pub judges_body : (e : StepFault) → IsStopFor (body_reasons (answer_read behind)) e → JudgesAnswer (opening_of body) (Err e)
   judges_body (stop.Refused code) r = λ limits before asked. refused_by limits before asked (answer_read behind) (ours code.code) refl r
   judges_body (stop.Peer code) r = λ limits before asked. refused_by limits before asked (answer_read behind) (record { code = code.code; peer = true }) refl r
   judges_body stop.OutOfMemory r = λ limits before asked. tt

@@ -1,15 +1,15 @@
 -- What a client's channel makes of a frame in each of its phases.
-use Rattle.std.proofs.Common.{◌≡◌, ◌+◌, ◌*◌, List, [], Option, Some, None, Result, Ok, refl, sym, ◌∙◌, ap, subst}
+use Rattle.std.proofs.Common.{◌≡◌, ◌+◌, ◌*◌, List, [], Option, Some, Result, Ok, refl, sym, ◌∙◌, ap, subst}
 use Rattle.ua_frame.specs.declared.frame.Frame.{Frame}
 use Rattle.ua_frame.specs.declared.gate.Gate.{Gate}
 use Rattle.ua_frame.specs.declared.limits.Limits.{Limits}
 use Rattle.ua_frame.specs.Frames.{LetsIn}
 use Rattle.ua_frame.specs.Reader.{open_reader}
 use Rattle.ua_channel.specs.Asks.{Asking}
-use Rattle.ua_channel.specs.Client.{InPhase, IsClientDone, client_bound_behind}
+use Rattle.ua_channel.specs.Client.{InPhase, client_bound_behind}
 use Rattle.ua_channel.specs.inside.ClientAsking.{client_phase_gate}
 use Rattle.ua_channel.specs.ClientAsks.{Talks}
-use Rattle.ua_channel.specs.inside.ClientParts.{IsStopFor, Judged, JudgesWhole, GoesOnBehind, TookFrame, OpensChannel, StaysOpen, IsOpenedBy, TakesFrame, greeted, failure_of}
+use Rattle.ua_channel.specs.inside.ClientParts.{Judged, JudgesWhole, TookFrame, StaysOpen, IsOpenedBy, TakesFrame, greeted}
 use Rattle.ua_channel.specs.ClientTable.{client_gate, client_reasons, gate_agreed, ack_gate, answer_gate, reply_gate}
 use Rattle.ua_channel.specs.ClientTokens.{responses}
 use Rattle.ua_channel.specs.Content.{Content, content}
@@ -19,8 +19,7 @@ use Rattle.ua_channel.specs.declared.client.agreed.Agreed.{Agreed}
 use Rattle.ua_channel.specs.declared.client.channel.ClientChannel.{ClientChannel}
 use Rattle.ua_channel.specs.declared.client.event.Event.{Event}
 use Rattle.ua_channel.specs.declared.client.event.Event.TheVariants as event
-use Rattle.ua_channel.specs.declared.client.fault.Stop.{Stop}
-use Rattle.ua_channel.specs.declared.client.fault.Stop.TheVariants as stop
+use Rattle.ua_channel.specs.declared.step_fault.StepFault.{StepFault}
 use Rattle.ua_channel.specs.declared.client.phase.Phase.{Phase}
 use Rattle.ua_channel.specs.declared.client.phase.Phase.TheVariants.{Waiting, Agreed as AgreedTo, Open, Done}
 use Rattle.ua_channel.specs.declared.client.talking.Talking.{Talking}
@@ -34,7 +33,6 @@ pub greeting_takes : (limits : Limits) (c : Content) (g : Agreed) (new : ClientC
 greeting_takes limits c g new is phase bound =
     subst (λ (d : Content). TookFrame limits nothing_received [] d new (Some (event.Agreed g.ack))) (sym is) (record {
       tells = refl;
-      good = tt;
       parts = tt;
       phase_is = subst (λ (p : Phase). InPhase limits p (after nothing_received (Acks (Some g.ack))) []) (sym phase) (refl, refl);
       bound_is = bound;
@@ -42,10 +40,9 @@ greeting_takes limits c g new is phase bound =
 
 -- ---- an opening
 
-pub opening_takes : (limits : Limits) (g : Agreed) (c : Content) (t : Talking) (new : ClientChannel) → IsOpenedBy limits g c t → new.phase ≡ Open t → OpensChannel limits g c new (Some (event.Opened t.channel t.newest))
+pub opening_takes : (limits : Limits) (g : Agreed) (c : Content) (t : Talking) (new : ClientChannel) → IsOpenedBy limits g c t → new.phase ≡ Open t → StaysOpen limits (greeted g) [] c new (Some (event.Opened t.channel t.newest))
 opening_takes limits g c t new h phase = record {
   tells = h.tells;
-  good = tt;
   parts = tt;
   phase_is = subst (λ (p : Phase). InPhase limits p (after (greeted g) c) []) (sym phase) h.talks;
   ack_is = h.ack_is;
@@ -56,7 +53,6 @@ opening_takes limits g c t new h phase = record {
 pub reply_stays : (limits : Limits) (before : Received) (asked : List Asking) (c : Content) (t : Talking) (new : ClientChannel) (e : Option Event) → TakesFrame limits before asked c t e → new.phase ≡ Open t → StaysOpen limits before asked c new e
 reply_stays limits before asked c t new e h phase = record {
   tells = h.tells;
-  good = h.good;
   parts = h.parts;
   phase_is = subst (λ (p : Phase). InPhase limits p (after before c) asked) (sym phase) h.talks;
   ack_is = h.ack_is;
@@ -78,7 +74,7 @@ gate_in limits Done before asked h = absurd h
 let_in_phase : (limits : Limits) (p : Phase) (before : Received) (asked : List Asking) (f : Frame) → InPhase limits p before asked → LetsIn (client_gate before) f → LetsIn (client_phase_gate p) f
 let_in_phase limits p before asked f h l = subst (λ (g : Gate). LetsIn g f) (sym (gate_in limits p before asked h)) l
 
-module _ (limits : Limits) (p : Phase) (before : Received) (asked : List Asking) (f : Frame) (new : ClientChannel) (r : Result (Option Event) Stop) (in_phase : InPhase limits p before asked) (let_in : LetsIn (client_gate before) f) where
+module _ (limits : Limits) (p : Phase) (before : Received) (asked : List Asking) (f : Frame) (new : ClientChannel) (r : Result (Option Event) StepFault) (in_phase : InPhase limits p before asked) (let_in : LetsIn (client_gate before) f) where
   pub waiting_judged : p ≡ Waiting → (LetsIn ack_gate f → Judged (client_reasons limits nothing_received [] (content f)) (TookFrame limits nothing_received [] (content f) new) r)
       → Judged (client_reasons limits before asked (content f)) (TookFrame limits before asked (content f) new) r
   waiting_judged is h =
@@ -86,15 +82,15 @@ module _ (limits : Limits) (p : Phase) (before : Received) (asked : List Asking)
       subst (λ (k : List Asking). Judged (client_reasons limits before k (content f)) (TookFrame limits before k (content f) new) r) (sym here.1)
       (subst (λ (b : Received). Judged (client_reasons limits b [] (content f)) (TookFrame limits b [] (content f) new) r) (sym here.0) (h (let_in_phase limits Waiting before asked f here let_in)))
 
-  pub agreed_judged : (g : Agreed) → p ≡ AgreedTo g → new.bound ≡ client_bound_behind limits before.ack → (LetsIn (answer_gate g.ack.send_buffer_size) f → Judged (client_reasons limits (greeted g) [] (content f)) (OpensChannel limits g (content f) new) r)
+  pub agreed_judged : (g : Agreed) → p ≡ AgreedTo g → new.bound ≡ client_bound_behind limits before.ack → (LetsIn (answer_gate g.ack.send_buffer_size) f → Judged (client_reasons limits (greeted g) [] (content f)) (StaysOpen limits (greeted g) [] (content f) new) r)
       → Judged (client_reasons limits before asked (content f)) (TookFrame limits before asked (content f) new) r
   agreed_judged g is bound h =
       let here : InPhase limits (AgreedTo g) before asked = subst (λ (q : Phase). InPhase limits q before asked) is in_phase in
       let size : new.bound ≡ client_bound_behind limits (Some g.ack) = bound ∙ ap (λ (b : Received). client_bound_behind limits b.ack) here.0 in
       subst (λ (k : List Asking). Judged (client_reasons limits before k (content f)) (TookFrame limits before k (content f) new) r) (sym here.1)
       (subst (λ (b : Received). Judged (client_reasons limits b [] (content f)) (TookFrame limits b [] (content f) new) r) (sym here.0)
-      (judged_same (client_reasons limits (greeted g) [] (content f)) (client_reasons limits (greeted g) [] (content f)) (OpensChannel limits g (content f) new) (TookFrame limits (greeted g) [] (content f) new) r refl
-      (λ e none w. record { tells = w.tells; good = w.good; parts = w.parts; phase_is = w.phase_is; bound_is = size ∙ sym (ap (client_bound_behind limits) w.ack_is) }) (h (let_in_phase limits (AgreedTo g) before asked f here let_in))))
+      (judged_same (client_reasons limits (greeted g) [] (content f)) (client_reasons limits (greeted g) [] (content f)) (StaysOpen limits (greeted g) [] (content f) new) (TookFrame limits (greeted g) [] (content f) new) r refl
+      (λ e none w. record { tells = w.tells; parts = w.parts; phase_is = w.phase_is; bound_is = size ∙ sym (ap (client_bound_behind limits) w.ack_is) }) (h (let_in_phase limits (AgreedTo g) before asked f here let_in))))
 
   pub open_judged : (t : Talking) → p ≡ Open t → new.bound ≡ client_bound_behind limits before.ack
       → (Talks limits t before asked → LetsIn (reply_gate t.agreed.ack.send_buffer_size) f → Judged (client_reasons limits before asked (content f)) (StaysOpen limits before asked (content f) new) r)
@@ -102,37 +98,15 @@ module _ (limits : Limits) (p : Phase) (before : Received) (asked : List Asking)
   open_judged t is bound h =
       let here : InPhase limits (Open t) before asked = subst (λ (q : Phase). InPhase limits q before asked) is in_phase in
       judged_same (client_reasons limits before asked (content f)) (client_reasons limits before asked (content f)) (StaysOpen limits before asked (content f) new) (TookFrame limits before asked (content f) new) r refl
-      (λ e none w. record { tells = w.tells; good = w.good; parts = w.parts; phase_is = w.phase_is; bound_is = bound ∙ sym (ap (client_bound_behind limits) w.ack_is) }) (h here (let_in_phase limits (Open t) before asked f here let_in))
+      (λ e none w. record { tells = w.tells; parts = w.parts; phase_is = w.phase_is; bound_is = bound ∙ sym (ap (client_bound_behind limits) w.ack_is) }) (h here (let_in_phase limits (Open t) before asked f here let_in))
 
 -- ---- a whole frame
 
 module _ (limits : Limits) (before : Received) (asked : List Asking) (c : Content) (new : ClientChannel) where
-  whole_by : (e : Option Event) → GoesOnBehind limits before asked c new e → JudgesWhole limits before asked c new (Ok e)
-  whole_by None h = h
-  whole_by (Some (event.Agreed ack)) h = h
-  whole_by (Some (event.Opened channel token)) h = h
-  whole_by (Some (event.Answered id message)) h = h
-  whole_by (Some (event.Aborted id code)) h = h
-  whole_by (Some (event.Renewed token)) h = h
-  whole_by (Some (event.Failed code peer)) h = absurd h.takes.good
-
   pub whole_ok : (mid : ClientChannel) (e : Option Event) → Judged (client_reasons limits before asked c) (TookFrame limits before asked c mid) (Ok e) → new.phase ≡ mid.phase → new.bound ≡ mid.bound → new.reader ≡ open_reader (client_phase_gate mid.phase) []
       → JudgesWhole limits before asked c new (Ok e)
-  whole_ok mid e h phase bound reader =
-      whole_by e (record {
-        accepted = h.0;
-        takes = record {
-          tells = h.1.tells;
-          good = h.1.good;
-          parts = h.1.parts;
-          phase_is = subst (λ (p : Phase). InPhase limits p (after before c) asked) (sym phase) h.1.phase_is;
-          bound_is = bound ∙ h.1.bound_is;
-        };
-        reader_is = reader ∙ ap (λ (g : Gate). open_reader g []) (gate_in limits mid.phase (after before c) asked h.1.phase_is);
-      })
-
-  pub whole_err : (s : Stop) → IsStopFor (client_reasons limits before asked c) s → IsClientDone new → new.bound ≡ client_bound_behind limits before.ack → JudgesWhole limits before asked c new (failure_of s)
-  whole_err (stop.Refused code) h done bound = record { refused = h; done = done; bound_is = bound }
-  whole_err (stop.Peer code) h done bound = record { refused = h; done = done; bound_is = bound }
-  whole_err stop.OutOfMemory h done bound = done
-  whole_err stop.Closed h done bound = h
+  whole_ok mid e h phase bound reader = record {
+    accepted = h.0;
+    takes = record { tells = h.1.tells; parts = h.1.parts; phase_is = subst (λ (p : Phase). InPhase limits p (after before c) asked) (sym phase) h.1.phase_is; bound_is = bound ∙ h.1.bound_is };
+    reader_is = reader ∙ ap (λ (g : Gate). open_reader g []) (gate_in limits mid.phase (after before c) asked h.1.phase_is);
+  }

@@ -1,271 +1,229 @@
--- What one step of a client's channel comes to.
-use Rattle.std.proofs.Common.{◌≡◌, ℕ, ◌<◌, ◌≤◌, inl, inr, Bool, List, [], ◌∷◌, ◌++◌, Option, Some, None, Result, Ok, Err, length, take, refl, sym, ◌∙◌, ap, subst, arith, append-nil, append_assoc, length-append}
-use Rattle.std.specs.List.{AllByRecursion, concat}
+-- What a client's channel makes of one call of its reader.
+use Rattle.std.proofs.Common.{◌≡◌, ℕ, ◌+◌, ◌-◌, ◌<◌, ◌≤◌, max, min, inl, List, [], ◌∷◌, ◌++◌, Option, Some, None, Result, Ok, Err, length, take, drop, refl, sym, ◌∙◌, ap, subst, arith, append-nil, length-append}
+use Rattle.std.specs.List.{AllByRecursion}
 use Rattle.std.specs.Prelude.{IfOk}
-use Rattle.std.proofs.lemmas.Bool.{cases_lt}
-use Rattle.std.proofs.lemmas.List.{take-take, length-take-le}
+use Rattle.std.proofs.lemmas.List.{length-take-le}
 use Rattle.ua_builtin.specs.Reasons.{first_reason}
+use Rattle.ua_builtin.specs.declared.date_time.DateTime.{DateTime}
 use Rattle.ua_frame.specs.declared.fault.FrameFault.{FrameFault}
-use Rattle.ua_frame.specs.declared.fault.FrameFault.TheVariants as frame_fault
 use Rattle.ua_frame.specs.declared.frame.Frame.{Frame}
-use Rattle.ua_frame.specs.declared.gate.Gate.{Gate}
 use Rattle.ua_frame.specs.declared.limits.Limits.{Limits}
-use Rattle.ua_frame.specs.Frames.{frame_octets, frames_octets, IsSized, LetsIn, IsPartial, header_fault, header_code}
-use Rattle.ua_frame.specs.Reader.{Reader, open_reader, TakesAll, TakesFrame, Refuses, Takes as ReaderTakes}
-use Rattle.ua_frame.specs.Run.{refusal, events, Run, Going, Stopped, WrongHeader, WrongFrame}
-use Rattle.ua_frame.proofs.Fronts.{fault_front}
-use Rattle.ua_frame.proofs.Streams.{frames_octets-push, run_part, run_frame, events-push}
-use Rattle.ua_channel.specs.Asks.{Asking, Placed, asked_before, asked_in, end_of}
-use Rattle.ua_channel.specs.Stops.{StopsAt}
-use Rattle.ua_channel.specs.Client.{SameClient, ClientStands, ClientGoes, ClientGoesTelling, ClientEnded, IsClientDone, InPhase, client_rules_of, client_limits, phase_of, client_bound, client_bound_behind}
-use Rattle.ua_channel.specs.inside.ClientParts.{JudgesWhole, GoesOnBehind, Stopped as StoppedBy, FailsBy, IsFront, StepsOnce, told_by_frame, event_parts}
-use Rattle.ua_channel.specs.ClientAnswers.{ComesInParts}
+use Rattle.ua_frame.specs.Frames.{frame_octets, frames_octets, LetsIn}
+use Rattle.ua_frame.specs.Reader.{Reader, open_reader, TakesAll, TakesFrame, Takes}
+use Rattle.ua_frame.specs.Run.{Rules, refusal, events, Going}
+use Rattle.ua_frame.proofs.Streams.{frames_octets-push, events-push}
+use Rattle.ua_channel.specs.Asks.{Asking, Placed, asked_in, end_of}
+use Rattle.ua_channel.specs.Client.{ClientStands, ClientGoes, ClientGoesTelling, ClientEnded, ClientStarvedAt, IsClientDone, InPhase, client_rules_of, client_limits, phase_of, client_bound, client_bound_behind}
+use Rattle.ua_channel.specs.inside.ClientParts.{AnswersEvent, ClientNexts, ClientSteps, ClientTook, ComesTo, GoesOnBehind, IsStopFor, JudgesWhole, StopsBy, counted, event_parts, failure_of}
+use Rattle.ua_channel.specs.ClientAnswers.{ClientAnswers, ComesInParts}
 use Rattle.ua_channel.specs.inside.Parts.{MayEndIn}
+use Rattle.ua_channel.specs.inside.StepFaults.{of_frame_fault}
 use Rattle.ua_channel.specs.ClientTable.{client_gate, client_rules, client_reasons}
-use Rattle.ua_channel.specs.ClientTold.{ClientTold, ClientTold as told, Why, ours}
+use Rattle.ua_channel.specs.ClientTold.{ClientTold, Why, ours, peers}
 use Rattle.ua_channel.specs.Content.{content}
 use Rattle.ua_channel.specs.Received.{Received, received}
+use Rattle.ua_channel.specs.ServerAnswers.{Progress}
 use Rattle.ua_channel.specs.declared.client.channel.ClientChannel.{ClientChannel}
+use Rattle.ua_channel.specs.declared.client.event.ClientEvent.{ClientEvent}
+use Rattle.ua_channel.specs.declared.client.event.ClientEvent.TheVariants as client_event
 use Rattle.ua_channel.specs.declared.client.event.Event.{Event}
-use Rattle.ua_channel.specs.declared.client.event.Event.TheVariants as event
 use Rattle.ua_channel.specs.declared.client.fault.ClientTakeFault.{ClientTakeFault}
-use Rattle.ua_channel.specs.declared.client.fault.ClientTakeFault.TheVariants.{Closed, OutOfMemory}
+use Rattle.ua_channel.specs.declared.client.fault.ClientTakeFault.TheVariants as take_fault
 use Rattle.ua_channel.specs.declared.client.phase.Phase.{Phase}
+use Rattle.ua_channel.specs.declared.step_fault.StepFault.{StepFault}
+use Rattle.ua_channel.specs.declared.step_fault.StepFault.TheVariants.{Refused, Peer, Closed, OutOfMemory}
 use Rattle.ua_channel.proofs.Askings.{asked_before-all, all-weaken}
 use Rattle.ua_channel.proofs.OneFrameMore.{received-push}
+use Rattle.ua_channel.proofs.Pieces.{nexts_there, shifted}
+use Rattle.ua_channel.proofs.Stepping.{Breaks, Halts, fault_comes, frame_at, frame_breaks, frame_broken, frame_halts, frame_run, part}
 
-none_some : {A : Type 0} (a : A) → None ≡ Some a → ⊥
-none_some a e = cc
-
--- what a step answers that took so many octets, by what came of its frame
-abbrev pub StepsWith : List ℕ → ℕ → Result (Option Event) ClientTakeFault → ClientChannel → List Placed → List ℕ → List ClientTold → Type 0
-StepsWith piece n (Ok e) new asks octets before = StepsOnce piece (Ok (n, e)) new asks octets before
-StepsWith piece n (Err fault) new asks octets before = StepsOnce piece (Err fault) new asks octets before
+-- a channel with another reader, phase and bound
+abbrev pub client_parts : ClientChannel → Reader → Phase → ℕ → ClientChannel
+client_parts x r p b = record x { reader = r; phase = p; bound = b }
 
 placed_more : (asks : List Placed) (octets more : List ℕ) → AllByRecursion (λ (a : Placed). a.0 ≤ length octets) asks → AllByRecursion (λ (a : Placed). a.0 ≤ length (octets ++ more)) asks
 placed_more asks octets more placed = all-weaken (λ (a : Placed). a.0 ≤ length octets) (λ (a : Placed). a.0 ≤ length (octets ++ more)) asks (λ a within. omega (arith, within, length-append octets more)) placed
 
-module _ (x : ClientChannel) (asks : List Placed) (octets : List ℕ) (told_before : List ClientTold) (frames : List Frame) (rest : List ℕ) (h : ClientStands x asks octets frames rest) (was : events (client_rules_of x asks) frames ≡ told_before) where
-  held_is : x.reader.held ≡ rest
-  held_is = ap (λ (r : Reader). r.held) h.reader_is
+-- where it ended at what is refused
+ended_by : (x : ClientChannel) (asks : List Placed) (octets rest : List ℕ) (frames : List Frame) (told : List ClientTold) (why : Why) → IsClientDone x → Halts (client_rules_of x asks) octets frames rest why → events (client_rules_of x asks) frames ≡ told → client_bound x ≡ client_bound_behind (client_limits x) (received frames).ack
+    → ClientEnded x asks octets told why
+ended_by x asks octets rest frames told why done h told_is bound = record { done = done; frames = frames; rest = rest; run = h.run; stops = h.stops; told_is = told_is; bound_is = bound }
 
-  gate_is : x.reader.gate ≡ client_gate (received frames)
-  gate_is = ap (λ (r : Reader). r.gate) h.reader_is
+-- where it ended for want of memory
+starved_by : (x : ClientChannel) (asks : List Placed) (octets rest : List ℕ) (frames : List Frame) (told : List ClientTold) → IsClientDone x → Breaks (client_rules_of x asks) octets frames rest → events (client_rules_of x asks) frames ≡ told → ClientStarvedAt x asks octets told
+starved_by x asks octets rest frames told done b told_is = record { done = done; frames = frames; rest = rest; whole = b.whole; good = b.good; told_is = told_is; header = b.header; sound = b.sound; within = b.within }
 
-  -- ---- octets that end no frame
+-- ---- a piece without the end of a frame
 
-  pub part_goes : (y : ClientChannel) (front : List ℕ) → client_limits y ≡ client_limits x → phase_of y ≡ phase_of x → client_bound y ≡ client_bound x → IsPartial x.reader.gate (x.reader.held ++ front) → y.reader ≡ open_reader x.reader.gate (x.reader.held ++ front)
-      → ClientGoes y asks (octets ++ front) told_before
-  part_goes y front limits phase bound partial reader = record {
-    frames = frames;
-    rest = rest ++ front;
-    stands = record {
-      run =
-          subst (λ (l : Limits). Run (client_rules l asks) (octets ++ front) frames (rest ++ front) Going) (sym limits)
-          (run_part (client_rules_of x asks) octets rest front frames h.run (subst (λ (t : List ℕ). IsPartial (client_gate (received frames)) (t ++ front)) held_is (subst (λ (g : Gate). IsPartial g (x.reader.held ++ front)) gate_is partial)));
-      placed = placed_more asks octets front h.placed;
-      reader_is = reader ∙ (ap (λ (g : Gate). open_reader g (x.reader.held ++ front)) gate_is ∙ ap (λ (t : List ℕ). open_reader (client_gate (received frames)) (t ++ front)) held_is);
-      phase_is = subst (λ (l : Limits). InPhase l (phase_of y) (received frames) (asked_in asks)) (sym limits) (subst (λ (p : Phase). InPhase (client_limits x) p (received frames) (asked_in asks)) (sym phase) h.phase_is);
-      bound_is = bound ∙ (h.bound_is ∙ ap (λ (l : Limits). client_bound_behind l (received frames).ack) (sym limits));
-    };
-    told_is = was;
-  }
-
-  -- ---- a whole frame
-
-  module _ (y : ClientChannel) (f : Frame) (p : List ℕ) (limits : client_limits y ≡ client_limits x) (some : 0 < length p) (whole : rest ++ p ≡ frame_octets f) (sized : IsSized f) (let_in : LetsIn (client_gate (received frames)) f) where
-    placed_end : length octets < end_of frames f
-    placed_end =
-        omega (
-          arith,
-          some,
-          ap length h.run.whole,
-          ap length (frames_octets-push frames f),
-          length-append (frames_octets frames) (frame_octets f),
-          length-append (frames_octets frames) rest,
-          length-append rest p,
-          ap length whole,
-        )
-
-    all_asked : asked_before (end_of frames f) asks ≡ asked_in asks
-    all_asked = asked_before-all (end_of frames f) (length octets) asks placed_end h.placed
-
-    judged_so : refusal (client_rules_of x asks) frames f ≡ first_reason (client_reasons (client_limits x) (received frames) (asked_in asks) (content f))
-    judged_so = ap (λ (asked : List Asking). first_reason (client_reasons (client_limits x) (received frames) asked (content f))) all_asked
-
-    module _ (e : Option Event) (g : GoesOnBehind (client_limits x) (received frames) (asked_in asks) (content f) y e) where
-      stands_more : ClientStands y asks (octets ++ p) (frames ++ f ∷ []) []
-      stands_more = record {
-        run =
-            subst (λ (l : Limits). Run (client_rules l asks) (octets ++ p) (frames ++ f ∷ []) [] Going) (sym limits)
-            (run_frame (client_rules_of x asks) octets rest p frames f Going h.run whole sized let_in (judged_so ∙ g.accepted) (refl, inl (omega arith)));
-        placed = placed_more asks octets p h.placed;
-        reader_is = g.reader_is ∙ ap (λ (b : Received). open_reader (client_gate b) []) (sym (received-push frames f));
-        phase_is =
-            subst (λ (l : Limits). InPhase l (phase_of y) (received (frames ++ f ∷ [])) (asked_in asks)) (sym limits)
-            (subst (λ (b : Received). InPhase (client_limits x) (phase_of y) b (asked_in asks)) (sym (received-push frames f)) g.takes.phase_is);
-        bound_is = g.takes.bound_is ∙ (ap (λ (b : Received). client_bound_behind (client_limits x) b.ack) (sym (received-push frames f)) ∙ ap (λ (l : Limits). client_bound_behind l (received (frames ++ f ∷ [])).ack) (sym limits));
-      }
-
-      pub silent_goes : told_by_frame e ≡ [] → ClientGoes y asks (octets ++ p) told_before
-      silent_goes none = record {
-        frames = frames ++ f ∷ [];
-        rest = [];
-        stands = stands_more;
-        told_is = events-push (client_rules_of x asks) frames f ∙ (ap (λ (t : List ClientTold). events (client_rules_of x asks) frames ++ t) (g.takes.tells ∙ none) ∙ (append-nil (events (client_rules_of x asks) frames) ∙ was));
-      }
-
-      pub telling_goes : (t : ClientTold) → told_by_frame e ≡ t ∷ [] → ClientGoesTelling y asks (octets ++ p) told_before t
-      telling_goes t one = record { frames = frames; frame = f; stands = stands_more; told_is = was; tells = g.takes.tells ∙ one }
-
-      ends_so : (parts : Option (List (List ℕ))) → MayEndIn (received frames).messages (content f) parts → ComesInParts parts y asks (octets ++ p)
-      ends_so None ends = tt
-      ends_so (Some parts) ends = record { frames = frames; frame = f; stands = stands_more; ends = ends }
-
-      pub telling_parts : ComesInParts (event_parts e) y asks (octets ++ p)
-      telling_parts = ends_so (event_parts e) g.takes.parts
-
-    wrong_frame : (why : Why) → first_reason (client_reasons (client_limits x) (received frames) (asked_in asks) (content f)) ≡ Some why → WrongFrame (client_rules_of x asks) frames (rest ++ p) why
-    wrong_frame why refused = record { frame = f; more = []; parts = whole ∙ sym (append-nil (frame_octets f)); sized = sized; let_in = let_in; refused = judged_so ∙ refused }
-
-    stopped_at : (why : Why) → StoppedBy (client_limits x) (received frames) (asked_in asks) (content f) y why → ClientEnded y asks (octets ++ p) told_before why
-    unfolding wrong_frame
-    stopped_at why s = record {
-      done = s.done;
-      frames = frames;
-      rest = rest ++ p;
-      run =
-          subst (λ (l : Limits). Run (client_rules l asks) (octets ++ p) frames (rest ++ p) (Stopped why)) (sym limits) (record {
-            whole = ap (λ (t : List ℕ). t ++ p) h.run.whole ∙ append_assoc (frames_octets frames) rest p;
-            good = h.run.good;
-            ends = (refl, inr (wrong_frame why s.refused));
-          });
-      stops = subst (λ (l : Limits). StopsAt (client_rules l asks) frames (rest ++ p) why) (sym limits) (inr (wrong_frame why s.refused, refl));
-      told_is = was;
-      bound_is = s.bound_is ∙ ap (λ (l : Limits). client_bound_behind l (received frames).ack) (sym limits);
+pub part_goes : (x : ClientChannel) (r : Reader) (asks : List Placed) (octets piece : List ℕ) (n : ℕ) (told : List ClientTold) → ClientGoes x asks octets told → TakesAll x.reader piece n r → ClientGoes (client_parts x r x.phase x.bound) asks (octets ++ take n piece) told
+part_goes x r asks octets piece n told g t =
+    let p = part ClientTold Why (client_rules_of x asks) octets g.rest piece g.frames x.reader r g.stands.run g.stands.reader_is n t in
+    record {
+      frames = g.frames;
+      rest = g.rest ++ take n piece;
+      stands = record { run = p.0; placed = placed_more asks octets (take n piece) g.stands.placed; reader_is = p.1; phase_is = g.stands.phase_is; bound_is = g.stands.bound_is };
+      told_is = g.told_is;
     }
 
-    pub frame_steps : (piece : List ℕ) (n : ℕ) (r : Result (Option Event) ClientTakeFault) → take n piece ≡ p → JudgesWhole (client_limits x) (received frames) (asked_in asks) (content f) y r → StepsWith piece n r y asks octets told_before
-    frame_steps piece n (Ok None) is j = subst (λ (t : List ℕ). ClientGoes y asks (octets ++ t) told_before) (sym is) (silent_goes None j refl)
-    frame_steps piece n (Ok (Some (event.Agreed ack))) is j = subst (λ (t : List ℕ). ClientGoesTelling y asks (octets ++ t) told_before (told.Agreed ack)) (sym is) (telling_goes (Some (event.Agreed ack)) j (told.Agreed ack) refl)
-    frame_steps piece n (Ok (Some (event.Opened channel token))) is j =
-        subst (λ (t : List ℕ). ClientGoesTelling y asks (octets ++ t) told_before (told.Opened channel token)) (sym is) (telling_goes (Some (event.Opened channel token)) j (told.Opened channel token) refl)
-    frame_steps piece n (Ok (Some (event.Answered id message))) is j =
-        subst (λ (t : List ℕ). ClientGoesTelling y asks (octets ++ t) told_before (told.Answered id (concat message))) (sym is) (telling_goes (Some (event.Answered id message)) j (told.Answered id (concat message)) refl)
-    frame_steps piece n (Ok (Some (event.Aborted id code))) is j = subst (λ (t : List ℕ). ClientGoesTelling y asks (octets ++ t) told_before (told.GaveUp id code)) (sym is) (telling_goes (Some (event.Aborted id code)) j (told.GaveUp id code) refl)
-    frame_steps piece n (Ok (Some (event.Renewed token))) is j = subst (λ (t : List ℕ). ClientGoesTelling y asks (octets ++ t) told_before (told.Renewed token)) (sym is) (telling_goes (Some (event.Renewed token)) j (told.Renewed token) refl)
-    frame_steps piece n (Ok (Some (event.Failed code peer))) is j =
-        subst (λ (t : List ℕ). ClientEnded y asks (octets ++ t) told_before (record { code = code.code; peer = peer })) (sym is) (stopped_at (record { code = code.code; peer = peer }) j)
-    frame_steps piece n (Err OutOfMemory) is j = j
-    frame_steps piece n (Err Closed) is j = j
+-- ---- a frame
 
-    pub frame_parts : (piece : List ℕ) (n : ℕ) (r : Result (Option Event) ClientTakeFault) → take n piece ≡ p → JudgesWhole (client_limits x) (received frames) (asked_in asks) (content f) y r → IfOk r (λ e. ComesInParts (event_parts e) y asks (octets ++ take n piece))
-    frame_parts piece n (Ok None) is j = tt
-    frame_parts piece n (Ok (Some (event.Agreed ack))) is j = tt
-    frame_parts piece n (Ok (Some (event.Opened channel token))) is j = tt
-    frame_parts piece n (Ok (Some (event.Answered id message))) is j = subst (λ (t : List ℕ). ComesInParts (Some message) y asks (octets ++ t)) (sym is) (telling_parts (Some (event.Answered id message)) j)
-    frame_parts piece n (Ok (Some (event.Aborted id code))) is j = tt
-    frame_parts piece n (Ok (Some (event.Renewed token))) is j = tt
-    frame_parts piece n (Ok (Some (event.Failed code peer))) is j = tt
-    frame_parts piece n (Err fault) is j = tt
+module _ (x : ClientChannel) (asks : List Placed) (octets piece : List ℕ) (n : ℕ) (told : List ClientTold) (f : Frame) (r : Reader) (g : ClientGoes x asks octets told) (t : TakesFrame x.reader piece n f r) where
+  at : TakesFrame (open_reader (client_gate (received g.frames)) g.rest) piece n f r
+  at = frame_at ClientTold Why (client_rules_of x asks) octets g.rest piece g.frames x.reader r g.stands.run g.stands.reader_is n f t
 
-  -- ---- a header that is refused
+  placed_end : length octets < end_of g.frames f
+  placed_end =
+      omega (
+        arith,
+        at.some,
+        length-take-le n piece at.within,
+        ap length g.stands.run.whole,
+        ap length (frames_octets-push g.frames f),
+        length-append (frames_octets g.frames) (frame_octets f),
+        length-append (frames_octets g.frames) g.rest,
+        length-append g.rest (take n piece),
+        ap length at.octets,
+      )
 
-  short_held : (front : List ℕ) (fault : FrameFault) → header_fault (client_gate (received frames)) (rest ++ front) ≡ Some fault → length rest < 8
-  short_held front fault wrong =
-      elim h.run.ends.1 [
-        | inl short ↦ short
-        | inr good ↦ elim (cases_lt (length rest) 8) [ inl short ↦ short | inr long ↦ absurd (none_some fault (sym good.0 ∙ (sym (fault_front (client_gate (received frames)) rest front long) ∙ wrong))) ]
-      ]
+  judged_so : refusal (client_rules_of x asks) g.frames f ≡ first_reason (client_reasons (client_limits x) (received g.frames) (asked_in asks) (content f))
+  judged_so = ap (λ (asked : List Asking). first_reason (client_reasons (client_limits x) (received g.frames) asked (content f))) (asked_before-all (end_of g.frames f) (length octets) asks placed_end g.stands.placed)
 
-  pub header_ends : (y : ClientChannel) (z : Reader) (front : List ℕ) (fault : FrameFault) (code : ℕ) → client_limits y ≡ client_limits x → IsClientDone y → client_bound y ≡ client_bound x → Refuses x.reader front fault z → header_code fault ≡ Some code
-      → (length x.reader.held < 8 → length (x.reader.held ++ front) ≤ 8) → ClientEnded y asks (octets ++ front) told_before (ours code)
-  header_ends y z front fault code limits done bound refuses code_is eighth =
-      let wrong : header_fault (client_gate (received frames)) (rest ++ front) ≡ Some fault =
-      ap (λ (t : List ℕ). header_fault (client_gate (received frames)) (t ++ front)) (sym held_is) ∙ (ap (λ (g : Gate). header_fault g (x.reader.held ++ front)) (sym gate_is) ∙ refuses.fault_is) in
-      let eight : 8 ≤ length (rest ++ front) = subst (λ (t : List ℕ). 8 ≤ length (t ++ front)) held_is refuses.header in
-      let few : length (rest ++ front) ≤ 8 = subst (λ (t : List ℕ). length (t ++ front) ≤ 8) held_is (eighth (subst (λ (t : List ℕ). length t < 8) (sym held_is) (short_held front fault wrong))) in
-      let header : WrongHeader (client_rules_of x asks) frames (rest ++ front) (ours code) = record { fault = fault; code = code; whole = eight; fault_is = wrong; code_is = code_is; why_is = refl } in
-      record {
-        done = done;
-        frames = frames;
-        rest = rest ++ front;
-        run =
-            subst (λ (l : Limits). Run (client_rules l asks) (octets ++ front) frames (rest ++ front) (Stopped (ours code))) (sym limits) (record {
-              whole = ap (λ (t : List ℕ). t ++ front) h.run.whole ∙ append_assoc (frames_octets frames) rest front;
-              good = h.run.good;
-              ends = (refl, inl header);
-            });
-        stops = subst (λ (l : Limits). StopsAt (client_rules l asks) frames (rest ++ front) (ours code)) (sym limits) (inl (header, omega (arith, eight, few)));
-        told_is = was;
-        bound_is = bound ∙ (h.bound_is ∙ ap (λ (l : Limits). client_bound_behind l (received frames).ack) (sym limits));
+  module _ (z : Reader) (p : Phase) (b : ℕ) where
+    behind : ClientChannel
+    behind = client_parts x z p b
+
+    module _ (e : Option Event) (h : GoesOnBehind (client_limits x) (received g.frames) (asked_in asks) (content f) behind e) where
+      stands_more : ClientStands behind asks (octets ++ take n piece) (g.frames ++ f ∷ []) []
+      unfolding behind
+      stands_more = record {
+        run = frame_run ClientTold Why (client_rules_of x asks) octets g.rest piece g.frames x.reader r g.stands.run g.stands.reader_is n f t Going (judged_so ∙ h.accepted) (refl, inl (omega arith));
+        placed = placed_more asks octets (take n piece) g.stands.placed;
+        reader_is = h.reader_is ∙ ap (λ (a : Received). open_reader (client_gate a) []) (sym (received-push g.frames f));
+        phase_is = subst (λ (a : Received). InPhase (client_limits x) p a (asked_in asks)) (sym (received-push g.frames f)) h.takes.phase_is;
+        bound_is = h.takes.bound_is ∙ ap (λ (a : Received). client_bound_behind (client_limits x) a.ack) (sym (received-push g.frames f));
       }
 
--- ---- from where it goes on
+      ends_so : (parts : Option (List (List ℕ))) → MayEndIn (received g.frames).messages (content f) parts → ComesInParts parts behind asks (octets ++ take n piece)
+      ends_so None ends = tt
+      ends_so (Some parts) ends = record { frames = g.frames; frame = f; stands = stands_more; ends = ends }
 
-front_taken : (held piece front : List ℕ) (n : ℕ) → IsFront held piece front → n ≤ length front → take n front ≡ take n piece
-front_taken held piece front n f within = ap (take n) f.parts ∙ take-take n (length front) piece within
+    goes : (e : Option Event) → GoesOnBehind (client_limits x) (received g.frames) (asked_in asks) (content f) behind e → ClientSteps piece n (Ok e) behind asks octets told
+    unfolding behind
+    goes None h = record {
+      frames = g.frames ++ f ∷ [];
+      rest = [];
+      stands = stands_more None h;
+      told_is = events-push (client_rules_of x asks) g.frames f ∙ (ap (λ (u : List ClientTold). events (client_rules_of x asks) g.frames ++ u) h.takes.tells ∙ (append-nil (events (client_rules_of x asks) g.frames) ∙ g.told_is));
+    }
+    goes (Some e) h = record { frames = g.frames; frame = f; stands = stands_more (Some e) h; told_is = g.told_is; tells = h.takes.tells }
 
-pub goes_part : (x y : ClientChannel) (piece front : List ℕ) (n : ℕ) → IsFront x.reader.held piece front → TakesAll x.reader front n y.reader → y ≡ record x { reader = y.reader }
-    → (asks : List Placed) (octets : List ℕ) (told_before : List ClientTold) → ClientGoes x asks octets told_before → ClientGoes y asks (octets ++ take n piece) told_before
-goes_part x y piece front n f t is = λ asks octets told_before g.
-    let whole : take n piece ≡ front = ap (λ (k : ℕ). take k piece) t.all ∙ sym f.parts in
-    subst (λ (o : List ℕ). ClientGoes y asks (octets ++ o) told_before) (sym whole)
-    (part_goes x asks octets told_before g.frames g.rest g.stands g.told_is y front (ap client_limits is) (ap phase_of is) (ap client_bound is) t.partial t.new_is)
+    stops : (fault : StepFault) → IsStopFor (client_reasons (client_limits x) (received g.frames) (asked_in asks) (content f)) fault → IsClientDone behind → b ≡ client_bound_behind (client_limits x) (received g.frames).ack → StopsBy fault behind asks (octets ++ take n piece) told
+    unfolding behind
+    stops (Refused code) why done bound =
+        ended_by (client_parts x z p b) asks (octets ++ take n piece) (g.rest ++ take n piece) g.frames told (ours code.code) done
+        (frame_halts ClientTold Why (client_rules_of x asks) octets g.rest piece g.frames x.reader r g.stands.run g.stands.reader_is n f t (ours code.code) (judged_so ∙ why)) g.told_is bound
+    stops (Peer code) why done bound =
+        ended_by (client_parts x z p b) asks (octets ++ take n piece) (g.rest ++ take n piece) g.frames told (peers code.code) done
+        (frame_halts ClientTold Why (client_rules_of x asks) octets g.rest piece g.frames x.reader r g.stands.run g.stands.reader_is n f t (peers code.code) (judged_so ∙ why)) g.told_is bound
+    stops OutOfMemory why done bound =
+        starved_by (client_parts x z p b) asks (octets ++ take n piece) (g.rest ++ take n piece) g.frames told done
+        (frame_breaks ClientTold Why (client_rules_of x asks) octets g.rest piece g.frames x.reader r g.stands.run g.stands.reader_is n f t) g.told_is
+    stops Closed why done bound = why
 
-pub goes_frame : (x mid y : ClientChannel) (piece front : List ℕ) (n : ℕ) (f w : Frame) (r : Result (Option Event) ClientTakeFault) → IsFront x.reader.held piece front → TakesFrame x.reader front n f mid.reader → mid ≡ record x { reader = mid.reader } → f ≡ w
-    → ((before : Received) (asked : List Asking) → InPhase (client_limits mid) (phase_of mid) before asked → client_bound mid ≡ client_bound_behind (client_limits mid) before.ack → mid.reader ≡ open_reader (client_gate before) [] → LetsIn (client_gate before) w
-    → JudgesWhole (client_limits mid) before asked (content w) y r)
-    → SameClient mid y → (asks : List Placed) (octets : List ℕ) (told_before : List ClientTold) → ClientGoes x asks octets told_before
-    → StepsWith piece n r y asks octets told_before × IfOk r (λ e. ComesInParts (event_parts e) y asks (octets ++ take n piece))
-goes_frame x mid y piece front n f w r fr t is frame_is judges same = λ asks octets told_before g.
-    let h = g.stands in
-    let limits_same : client_limits mid ≡ client_limits x = ap client_limits is in
-    let gate : x.reader.gate ≡ client_gate (received g.frames) = ap (λ (z : Reader). z.gate) h.reader_is in
-    let held : x.reader.held ≡ g.rest = ap (λ (z : Reader). z.held) h.reader_is in
-    let let_in : LetsIn (client_gate (received g.frames)) f = subst (λ (k : Gate). LetsIn k f) gate t.let_in in
-    let taken : take n front ≡ take n piece = front_taken x.reader.held piece front n fr t.within in
-    let whole : g.rest ++ take n piece ≡ frame_octets f = ap (λ (o : List ℕ). g.rest ++ o) (sym taken) ∙ (ap (λ (o : List ℕ). o ++ take n front) (sym held) ∙ t.octets) in
-    let some : 0 < length (take n piece) = omega (arith, ap length taken, length-take-le n front t.within, t.some) in
-    let phase : InPhase (client_limits mid) (phase_of mid) (received g.frames) (asked_in asks) =
-    subst (λ (l : Limits). InPhase l (phase_of mid) (received g.frames) (asked_in asks)) (sym limits_same) (subst (λ (p : Phase). InPhase (client_limits x) p (received g.frames) (asked_in asks)) (sym (ap phase_of is)) h.phase_is) in
-    let bound : client_bound mid ≡ client_bound_behind (client_limits mid) (received g.frames).ack = ap client_bound is ∙ (h.bound_is ∙ ap (λ (l : Limits). client_bound_behind l (received g.frames).ack) (sym limits_same)) in
-    let reader : mid.reader ≡ open_reader (client_gate (received g.frames)) [] = t.new_is ∙ ap (λ (k : Gate). open_reader k []) gate in
-    let judged : JudgesWhole (client_limits x) (received g.frames) (asked_in asks) (content f) y r =
-    subst (λ (l : Limits). JudgesWhole l (received g.frames) (asked_in asks) (content f) y r) limits_same (subst (λ (k : Frame). JudgesWhole (client_limits mid) (received g.frames) (asked_in asks) (content k) y r) (sym frame_is) (judges (received g.frames) (asked_in asks) phase bound reader (subst (λ (k : Frame). LetsIn (client_gate (received g.frames)) k) frame_is let_in))) in (
-      frame_steps x asks octets told_before g.frames g.rest h g.told_is y f (take n piece) (sym same.limits ∙ limits_same) some whole t.sized let_in piece n r refl judged,
-      frame_parts x asks octets told_before g.frames g.rest h g.told_is y f (take n piece) (sym same.limits ∙ limits_same) some whole t.sized let_in piece n r refl judged,
-    )
+    frame_steps : (answer : Result (Option Event) StepFault) → JudgesWhole (client_limits x) (received g.frames) (asked_in asks) (content f) behind answer
+        → ClientSteps piece n answer behind asks octets told × IfOk answer (λ e. ComesInParts (event_parts e) behind asks (octets ++ take n piece))
+    unfolding behind
+    frame_steps (Ok e) j = (goes e j, ends_so e j (event_parts e) j.takes.parts)
+    frame_steps (Err fault) j = (stops fault j.0 j.1 j.2, tt)
 
--- a fault of the reader hands no message out
-pub fault_parts : (y : ClientChannel) (asks : List Placed) (octets : List ℕ) (fault : FrameFault) (e : Option Event) → FailsBy fault (Ok e) → ComesInParts (event_parts e) y asks octets
-fault_parts y asks octets fault None fails = tt
-fault_parts y asks octets fault (Some (event.Agreed ack)) fails = tt
-fault_parts y asks octets fault (Some (event.Opened channel token)) fails = tt
-fault_parts y asks octets fault (Some (event.Answered id message)) fails = absurd fails
-fault_parts y asks octets fault (Some (event.Aborted id code)) fails = tt
-fault_parts y asks octets fault (Some (event.Renewed token)) fails = tt
-fault_parts y asks octets fault (Some (event.Failed code peer)) fails = tt
+-- one call of the reader that has a frame
+pub step_frame : (x y : ClientChannel) (r : Reader) (piece : List ℕ) (n : ℕ) (f : Frame) (answer : Result (Option Event) StepFault) → TakesFrame x.reader piece n f r → y ≡ client_parts x y.reader y.phase y.bound
+    → ((before : Received) (asked : List Asking) → InPhase (client_limits x) (phase_of x) before asked → client_bound x ≡ client_bound_behind (client_limits x) before.ack → r ≡ open_reader (client_gate before) [] → LetsIn (client_gate before) f
+    → JudgesWhole (client_limits x) before asked (content f) y answer)
+    → (asks : List Placed) (octets : List ℕ) (told : List ClientTold) → ClientGoes x asks octets told → ClientSteps piece n answer y asks octets told × IfOk answer (λ e. ComesInParts (event_parts e) y asks (octets ++ take n piece))
+unfolding behind
+step_frame x y r piece n f answer t kept judges asks octets told g =
+    let here = at x asks octets piece n told f r g t in
+    subst (λ (c : ClientChannel). ClientSteps piece n answer c asks octets told × IfOk answer (λ e. ComesInParts (event_parts e) c asks (octets ++ take n piece))) (sym kept)
+    (frame_steps x asks octets piece n told f r g t y.reader y.phase y.bound answer
+    (subst (λ (c : ClientChannel). JudgesWhole (client_limits x) (received g.frames) (asked_in asks) (content f) c answer) kept
+    (judges (received g.frames) (asked_in asks) g.stands.phase_is g.stands.bound_is here.new_is here.let_in)))
 
-refused_at : (x : ClientChannel) (z : Reader) (front : List ℕ) (fault : FrameFault) (code : ℕ) → ReaderTakes x.reader front (Err fault) z → header_code fault ≡ Some code → Refuses x.reader front fault z
-refused_at x z front frame_fault.UnknownType code t e = t
-refused_at x z front frame_fault.OutOfPlace code t e = t
-refused_at x z front frame_fault.TooLarge code t e = t
-refused_at x z front frame_fault.TooSmall code t e = t
-refused_at x z front frame_fault.OutOfMemory code t e = absurd (none_some code e)
-refused_at x z front frame_fault.Closed code t e = absurd (none_some code e)
+-- ---- a fault of the reader
 
-pub goes_fault : (x y : ClientChannel) (z : Reader) (piece front : List ℕ) (fault : FrameFault) (r : Result (Option Event) ClientTakeFault) → IsFront x.reader.held piece front → ReaderTakes x.reader front (Err fault) z → FailsBy fault r → IsClientDone y
-    → client_limits y ≡ client_limits x → client_bound y ≡ client_bound x → (asks : List Placed) (octets : List ℕ) (told_before : List ClientTold) → ClientGoes x asks octets told_before → StepsWith piece (length front) r y asks octets told_before
-goes_fault x y z piece front fault (Ok None) f t fails done limits bound = λ asks octets told_before g. absurd fails
-goes_fault x y z piece front fault (Ok (Some (event.Agreed ack))) f t fails done limits bound = λ asks octets told_before g. absurd fails
-goes_fault x y z piece front fault (Ok (Some (event.Opened channel token))) f t fails done limits bound = λ asks octets told_before g. absurd fails
-goes_fault x y z piece front fault (Ok (Some (event.Answered id message))) f t fails done limits bound = λ asks octets told_before g. absurd fails
-goes_fault x y z piece front fault (Ok (Some (event.Aborted id code))) f t fails done limits bound = λ asks octets told_before g. absurd fails
-goes_fault x y z piece front fault (Ok (Some (event.Renewed token))) f t fails done limits bound = λ asks octets told_before g. absurd fails
-goes_fault x y z piece front fault (Ok (Some (event.Failed code peer))) f t fails done limits bound = λ asks octets told_before g.
-    subst (λ (b : Bool). ClientEnded y asks (octets ++ take (length front) piece) told_before (record { code = code.code; peer = b })) (sym fails.1)
-    (subst (λ (o : List ℕ). ClientEnded y asks (octets ++ o) told_before (ours code.code)) f.parts
-    (header_ends x asks octets told_before g.frames g.rest g.stands g.told_is y z front fault code.code limits done bound (refused_at x z front fault code.code t fails.0) fails.0 f.eighth))
-goes_fault x y z piece front fault (Err OutOfMemory) f t fails done limits bound = λ asks octets told_before g. done
-goes_fault x y z piece front fault (Err Closed) f t fails done limits bound = λ asks octets told_before g. absurd fails
+pub step_fault : (x y : ClientChannel) (r : Reader) (piece : List ℕ) (n : ℕ) (fault : FrameFault) (e : StepFault) → n ≡ min (max (8 - length x.reader.held) 1) (length piece) → Takes x.reader piece (Err fault) r → e ≡ of_frame_fault fault
+    → IsClientDone y → y ≡ client_parts x y.reader y.phase x.bound → (asks : List Placed) (octets : List ℕ) (told : List ClientTold) → ClientGoes x asks octets told → ClientSteps piece n (Err e) y asks octets told
+step_fault x y r piece n fault e n_is t is done kept asks octets told g =
+    let now : IsClientDone (client_parts x y.reader y.phase x.bound) = record { phase = done.phase; empty = done.empty } in
+    subst (λ (s : StepFault). ClientSteps piece n (Err s) y asks octets told) (sym is)
+    (subst (λ (z : ClientChannel). ClientSteps piece n (Err (of_frame_fault fault)) z asks octets told) (sym kept)
+    (fault_comes ClientTold Why (client_rules_of x asks) octets g.rest piece g.frames x.reader r g.stands.run g.stands.reader_is n (omega (arith, n_is)) (λ few. omega (arith, n_is, few)) (λ past. omega (arith, n_is, past)) (λ (s : StepFault). ClientSteps piece n (Err s) (client_parts x y.reader y.phase x.bound) asks octets told)
+    (λ code h. ended_by (client_parts x y.reader y.phase x.bound) asks (octets ++ take n piece) (g.rest ++ take n piece) g.frames told (ours code) now h g.told_is g.stands.bound_is)
+    (λ b. starved_by (client_parts x y.reader y.phase x.bound) asks (octets ++ take n piece) (g.rest ++ take n piece) g.frames told now b g.told_is) fault t))
+
+-- ---- a piece
+
+module _ (piece : List ℕ) (taken n : ℕ) (room : taken < length piece) (old now next : ClientChannel) (t : ClientTook old now piece taken) (a b : Result (Option Event) StepFault) (is : a ≡ b) where
+  -- a step that tells something, or fails
+  pub next_by : ((asks : List Placed) (octets : List ℕ) (told : List ClientTold) → ClientGoes now asks octets told → ClientSteps (take (length piece - taken) (drop taken piece)) n a next asks octets told) → Progress (take (length piece - taken) (drop taken piece)) n a → (b ≡ Ok None → ⊥)
+      → (asks : List Placed) (octets : List ℕ) (told : List ClientTold) → ClientGoes old asks octets told → ClientNexts piece (taken + n) b next asks octets told
+  next_by steps progress some asks octets told g =
+      nexts_there piece taken n room (λ z. ClientGoes next asks z told) (λ e z. ComesTo e next asks z told) (λ fault z. StopsBy fault next asks z told) octets b some (subst (λ (c : Result (Option Event) StepFault). Progress (take (length piece - taken) (drop taken piece)) n c) is progress)
+      (subst (λ (c : Result (Option Event) StepFault). ClientSteps (take (length piece - taken) (drop taken piece)) n c next asks (octets ++ take taken piece) told) is (steps asks (octets ++ take taken piece) told (t.goes asks octets told g)))
+
+  -- a step that hands a message out
+  pub parts_there : ((asks : List Placed) (octets : List ℕ) (told : List ClientTold) → ClientGoes now asks octets told → IfOk a (λ e. ComesInParts (event_parts e) next asks (octets ++ take n (take (length piece - taken) (drop taken piece)))))
+      → (asks : List Placed) (octets : List ℕ) (told : List ClientTold) → ClientGoes old asks octets told → IfOk b (λ e. ComesInParts (event_parts e) next asks (octets ++ take (taken + n) piece))
+  parts_there parts asks octets told g =
+      shifted piece taken n room (λ (z : List ℕ). IfOk b (λ e. ComesInParts (event_parts e) next asks z)) octets
+      (subst (λ (c : Result (Option Event) StepFault). IfOk c (λ e. ComesInParts (event_parts e) next asks ((octets ++ take taken piece) ++ take n (take (length piece - taken) (drop taken piece))))) is (parts asks (octets ++ take taken piece) told (t.goes asks octets told g)))
+
+-- ---- what is answered
+
+-- behind the frame of an event
+starved_behind : (mid d : ClientChannel) (asks : List Placed) (octets : List ℕ) (told : List ClientTold) (e : ClientTold) → client_limits d ≡ client_limits mid → IsClientDone d → ClientGoesTelling mid asks octets told e → ClientStarvedAt d asks octets told
+starved_behind mid d asks octets told e limits done g =
+    let same : client_rules_of mid asks ≡ client_rules_of d asks = ap (λ (l : Limits). client_rules l asks) (sym limits) in
+    starved_by d asks octets (frame_octets g.frame) g.frames told done
+    (subst (λ (R : Rules ClientTold Why). Breaks R octets g.frames (frame_octets g.frame)) same (frame_broken (client_rules_of mid asks) octets g.frames g.frame g.stands.run))
+    (ap (λ (R : Rules ClientTold Why). events R g.frames) (sym same) ∙ g.told_is)
+
+pub starved_event : (moment : DateTime) (mid d : ClientChannel) (asks : List Placed) (octets : List ℕ) (told : List ClientTold) (e : ClientTold) (answer : Result ClientEvent ClientTakeFault) → client_limits d ≡ client_limits mid → ClientGoesTelling mid asks octets told e → AnswersEvent moment answer d asks octets told
+    → answer ≡ Err take_fault.OutOfMemory → ClientStarvedAt d asks octets told
+starved_event moment mid d asks octets told e answer limits g h is = starved_behind mid d asks octets told e limits (subst (λ (a : Result ClientEvent ClientTakeFault). AnswersEvent moment a d asks octets told) is h) g
+
+-- an event
+pub answers_event : (moment : DateTime) (piece : List ℕ) (n : ℕ) (answer : Result ClientEvent ClientTakeFault) (new : ClientChannel) (asks : List Placed) (octets : List ℕ) (told : List ClientTold) → AnswersEvent moment answer new asks (octets ++ take n piece) told
+    → ClientAnswers moment piece (counted n answer) new asks octets told
+answers_event moment piece n (Ok client_event.NeedMore) new asks octets told h = absurd h
+answers_event moment piece n (Ok (client_event.Send sent)) new asks octets told h = h
+answers_event moment piece n (Ok client_event.Open) new asks octets told h = h
+answers_event moment piece n (Ok (client_event.Answered id message)) new asks octets told h = h
+answers_event moment piece n (Ok (client_event.Aborted id code)) new asks octets told h = h
+answers_event moment piece n (Ok (client_event.Failed code peer)) new asks octets told h = h
+answers_event moment piece n (Ok (client_event.Renewed token)) new asks octets told h = h
+answers_event moment piece n (Err take_fault.OutOfMemory) new asks octets told h = h
+answers_event moment piece n (Err take_fault.Closed) new asks octets told h = h
+
+-- a fault
+pub answers_fault : (moment : DateTime) (piece : List ℕ) (n : ℕ) (fault : StepFault) (new : ClientChannel) (asks : List Placed) (octets : List ℕ) (told : List ClientTold) → ClientNexts piece n (Err fault) new asks octets told
+    → ClientAnswers moment piece (counted n (failure_of fault)) new asks octets told
+answers_fault moment piece n (Refused code) new asks octets told h = h.1
+answers_fault moment piece n (Peer code) new asks octets told h = h.1
+answers_fault moment piece n OutOfMemory new asks octets told h = h.1.done
+answers_fault moment piece n Closed new asks octets told h = absurd h.1
+
+pub starved_fault : (piece : List ℕ) (n : ℕ) (fault : StepFault) (new : ClientChannel) (asks : List Placed) (octets : List ℕ) (told : List ClientTold) → ClientNexts piece n (Err fault) new asks octets told → failure_of fault ≡ Err take_fault.OutOfMemory → ClientStarvedAt new asks (octets ++ take n piece) told
+starved_fault piece n (Refused code) new asks octets told h is = absurd cc
+starved_fault piece n (Peer code) new asks octets told h is = absurd cc
+starved_fault piece n OutOfMemory new asks octets told h is = h.1
+starved_fault piece n Closed new asks octets told h is = absurd h.1
+
+-- with another bound
+pub answers_bound : (moment : DateTime) (piece : List ℕ) (x new : ClientChannel) (bound : ℕ) (asks : List Placed) (octets : List ℕ) (told : List ClientTold) (f : ClientTakeFault) → new ≡ record x { bound = bound } → ClientAnswers moment piece (Err f) x asks octets told → ClientAnswers moment piece (Err f) new asks octets told
+answers_bound moment piece x new bound asks octets told take_fault.OutOfMemory is h = subst IsClientDone (sym is) (record { phase = h.phase; empty = h.empty })
+answers_bound moment piece x new bound asks octets told take_fault.Closed is h = absurd h
+
+pub starved_bound : (x new : ClientChannel) (bound : ℕ) (asks : List Placed) (octets : List ℕ) (told : List ClientTold) → new ≡ record x { bound = bound } → ClientStarvedAt x asks octets told → ClientStarvedAt new asks octets told
+starved_bound x new bound asks octets told is s =
+    subst (λ (z : ClientChannel). ClientStarvedAt z asks octets told) (sym is) (record { done = record { phase = s.done.phase; empty = s.done.empty }; frames = s.frames; rest = s.rest; whole = s.whole; good = s.good; told_is = s.told_is; header = s.header; sound = s.sound; within = s.within })

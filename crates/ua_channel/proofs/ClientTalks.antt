@@ -21,7 +21,7 @@ use Rattle.ua_structures.specs.declared.secure_channel.OpenResponse.{OpenRespons
 use Rattle.ua_channel.specs.Asks.{Asking, is_in, calls, renewals, pending_calls, pending_renewals}
 use Rattle.ua_channel.specs.ClientAsks.{Talks}
 use Rattle.ua_channel.specs.inside.Parts.{MayEndIn}
-use Rattle.ua_channel.specs.inside.ClientParts.{event_parts, why_of, IsStopFor, Judged, IsOpenedBy, TellsRenewal, TakesFrame, IsGood, told_by_frame, IsAnswerOf, IsOpenedWith, IsRenewedWith, IsTakenWith, answer_reasons, first_reasons, renewal_reasons, chunk_reasons, greeted, left_pending}
+use Rattle.ua_channel.specs.inside.ClientParts.{event_parts, why_of, IsStopFor, Judged, IsOpenedBy, TellsRenewal, TakesFrame, told_by_frame, IsAnswerOf, IsOpenedWith, IsRenewedWith, IsTakenWith, answer_reasons, first_reasons, renewal_reasons, chunk_reasons, greeted, left_pending}
 use Rattle.ua_channel.specs.ClientTable.{client_reasons, is_awaited}
 use Rattle.ua_channel.specs.ClientTokens.{answer_in, response_listed, id_listed, responses, opened_ids, channel_in, tokens_of, from_last, held_by, held_tokens}
 use Rattle.ua_channel.specs.ClientTold.{ClientTold, ClientTold as told, ours, client_tells, told_response}
@@ -31,7 +31,7 @@ use Rattle.ua_channel.specs.Received.{Received, after, listed, latest, number_or
 use Rattle.ua_channel.specs.declared.client.agreed.Agreed.{Agreed}
 use Rattle.ua_channel.specs.declared.client.answer.Answer.{Answer}
 use Rattle.ua_channel.specs.declared.client.event.Event.{Event}
-use Rattle.ua_channel.specs.declared.client.fault.Stop.{Stop}
+use Rattle.ua_channel.specs.declared.step_fault.StepFault.{StepFault}
 use Rattle.ua_channel.specs.declared.client.talking.Talking.{Talking}
 use Rattle.ua_channel.proofs.Carried.{content_opn, content_msg}
 use Rattle.ua_channel.proofs.ClientGreets.{judged_same}
@@ -260,7 +260,7 @@ not_false : (b : Bool) → not b ≡ false → b ≡ true
 not_false true e = refl
 not_false false e = absurd cc
 
-pub first_judged : (limits : Limits) (g : Agreed) (f : Frame) (a : Answer) (r : Result Talking Stop) → f.kind ≡ Opn → IsAnswerOf (opening_of f.body) a → Judged (first_reasons a) (IsOpenedWith limits g a) r
+pub first_judged : (limits : Limits) (g : Agreed) (f : Frame) (a : Answer) (r : Result Talking StepFault) → f.kind ≡ Opn → IsAnswerOf (opening_of f.body) a → Judged (first_reasons a) (IsOpenedWith limits g a) r
     → Judged (client_reasons limits (greeted g) [] (content f)) (IsOpenedBy limits g (content f)) r
 first_judged limits g f a r is ans h =
     subst (λ (c : Content). Judged (client_reasons limits (greeted g) [] c) (IsOpenedBy limits g c) r) (sym (content_opn f is))
@@ -268,7 +268,7 @@ first_judged limits g f a r is ans h =
     (ans.remain limits (greeted g) [] ∙ first_remain g a)
     (λ t none w. record { tells = opened_tells limits g a t (opening_of f.body) w ans; talks = opened_talks limits g a t (opening_of f.body) w ans none; ack_is = refl }) h)
 
-pub stopped_opn : (limits : Limits) (before : Received) (asked : List Asking) (f : Frame) (stop : Stop) → f.kind ≡ Opn
+pub stopped_opn : (limits : Limits) (before : Received) (asked : List Asking) (f : Frame) (stop : StepFault) → f.kind ≡ Opn
     → ((l : Limits) (b : Received) (k : List Asking) → IsStopFor (client_reasons l b k (Opens (opening_of f.body))) stop) → IsStopFor (client_reasons limits before asked (content f)) stop
 stopped_opn limits before asked f stop is h = subst (λ (c : Content). IsStopFor (client_reasons limits before asked c) stop) (sym (content_opn f is)) (h limits before asked)
 
@@ -280,7 +280,6 @@ module _ (limits : Limits) (t : Talking) (before : Received) (asked : List Askin
       let fourth = first_tail (ours 0x8088_0000) (not (may_follow (last_number t.assembler) a.sequence)) ((ours 0x8009_0000, not (is_in a.request (listed t.renewal))) ∷ []) third in
       record {
         tells = renewed_tells limits t before asked a h new o w.1 ans ∙ sym (ap told_by_frame w.0);
-        good = subst IsGood (sym w.0) tt;
         parts = subst (λ (d : Option Event). MayEndIn before.messages (Opens o) (event_parts d)) (sym w.0) tt;
         talks =
             renewed_talks limits t before asked a h new o w.1 ans
@@ -289,7 +288,7 @@ module _ (limits : Limits) (t : Talking) (before : Received) (asked : List Askin
         ack_is = refl;
       }
 
-  pub renewal_judged : (f : Frame) (a : Answer) (r : Result (Option Event) Stop) → f.kind ≡ Opn → IsAnswerOf (opening_of f.body) a → Judged (renewal_reasons t a) (TellsRenewal t a before.messages new) r
+  pub renewal_judged : (f : Frame) (a : Answer) (r : Result (Option Event) StepFault) → f.kind ≡ Opn → IsAnswerOf (opening_of f.body) a → Judged (renewal_reasons t a) (TellsRenewal t a before.messages new) r
       → Judged (client_reasons limits before asked (content f)) (TakesFrame limits before asked (content f) new) r
   renewal_judged f a r is ans j =
       subst (λ (c : Content). Judged (client_reasons limits before asked c) (TakesFrame limits before asked c new) r) (sym (content_opn f is))
@@ -304,14 +303,13 @@ module _ (limits : Limits) (t : Talking) (before : Received) (asked : List Askin
       let third = first_tail (ours 0x8087_0000) (not (is_in c.token t.tokens.items)) (refused ++ (ours 0x8009_0000, not (is_in c.request t.pending.items)) ∷ []) second in
       record {
         tells = w.tells;
-        good = w.good;
         parts = w.parts;
         talks = taken_talks limits t before asked c h new e w (not_false (is_in c.token t.tokens.items) (first_unset (ours 0x8087_0000) (not (is_in c.token t.tokens.items)) (refused ++ (ours 0x8009_0000, not (is_in c.request t.pending.items)) ∷ []) second))
             (not_false (is_in c.request t.pending.items) (last_unset (ours 0x8009_0000) (not (is_in c.request t.pending.items)) refused third));
         ack_is = refl;
       }
 
-  pub chunk_judged : (f : Frame) (c : Chunk) (r : Result (Option Event) Stop) → f.kind ≡ Msg → chunk_in f ≡ Some c → Judged (chunk_reasons t before.messages c) (IsTakenWith t before.messages c new) r
+  pub chunk_judged : (f : Frame) (c : Chunk) (r : Result (Option Event) StepFault) → f.kind ≡ Msg → chunk_in f ≡ Some c → Judged (chunk_reasons t before.messages c) (IsTakenWith t before.messages c new) r
       → Judged (client_reasons limits before asked (content f)) (TakesFrame limits before asked (content f) new) r
   chunk_judged f c r is found j =
       subst (λ (d : Content). Judged (client_reasons limits before asked d) (TakesFrame limits before asked d new) r) (sym (content_msg f c is found))

@@ -17,12 +17,12 @@ use Rattle.ua_channel.specs.declared.server.ServerChannel.{ServerChannel}
 use Rattle.ua_channel.specs.declared.server_event.Event.{Event}
 use Rattle.ua_channel.specs.declared.server_event.Event.TheVariants as event
 use Rattle.ua_channel.specs.declared.step_fault.StepFault.{StepFault}
-use Rattle.ua_channel.specs.declared.step_fault.StepFault.TheVariants.{Refused, Closed, OutOfMemory}
+use Rattle.ua_channel.specs.declared.step_fault.StepFault.TheVariants.{Refused, Peer, Closed, OutOfMemory}
 use Rattle.ua_channel.specs.Agreement.{Agreement}
 use Rattle.ua_channel.specs.Content.{Content, opening_of, content}
 use Rattle.ua_channel.specs.Content.Content.{Greets, Opens, Sends, Closes}
 use Rattle.ua_channel.specs.Received.{Received, nothing_received, or_before, after}
-use Rattle.ua_channel.specs.inside.ServerParts.{AgreesTo, JudgesHello, JudgesFirst, Judges, JudgesClose}
+use Rattle.ua_channel.specs.inside.ServerParts.{AgreesTo, IsRefusalFor, IsRefused, JudgesHello, JudgesFirst, Judges, JudgesClose}
 use Rattle.ua_channel.specs.ServerStands.{HasGreeted, Stays, InServerPhase, limits_of, channel_of, bound_behind, bound_after, Holds}
 use Rattle.ua_channel.specs.inside.ServerFrames.{phase_gate, GoesOn, JudgesFrame}
 use Rattle.ua_channel.specs.ServerRules.{opening_gate}
@@ -68,42 +68,16 @@ placed x p k is h = subst (λ (q : Phase). IsTrue (lets_in (phase_gate q) k)) (s
 
 -- ---- faults
 
-module _ (old new : ServerChannel) (before : Received) (done : new.phase ≡ Done) (bound : new.bound ≡ old.bound) where
-  judged : (c : Content) (e : StepFault) (r : Running) → Judges (limits_of old) (channel_of old) before c (Err e) r → JudgesFrame old before c (Err e) new
-  judged c (Refused code) r h = (h, done, bound)
-  judged c OutOfMemory r h = done
-  judged c Closed r h = h
+module _ (limits : Limits) (channel : ℕ) (before : Received) where
+  -- what is against what a frame carries is against the frame
+  pub refuses : (f : Frame) (c : Content) (e : StepFault) → content f ≡ c → IsRefusalFor (IsRefused limits channel before c) e → IsRefusalFor (IsRefused limits channel before (content f)) e
+  refuses f c e is h = subst (λ (d : Content). IsRefusalFor (IsRefused limits channel before d) e) (sym is) h
 
-  judged_close : (c : Content) (e : StepFault) → JudgesClose (limits_of old) (channel_of old) before c (Err e) → JudgesFrame old before c (Err e) new
-  judged_close c (Refused code) h = (h, done, bound)
-  judged_close c OutOfMemory h = absurd h
-  judged_close c Closed h = h
-
-  judged_first : (c : Content) (e : StepFault) → JudgesFirst (limits_of old) (channel_of old) before c (Err e) → JudgesFrame old before c (Err e) new
-  judged_first c (Refused code) h = (h, done, bound)
-  judged_first c OutOfMemory h = done
-  judged_first c Closed h = h
-
-  judged_hello : (body : List ℕ) (e : StepFault) → JudgesHello (limits_of old) body (Err e) → JudgesFrame old before (Greets (hello_in body)) (Err e) new
-  judged_hello body (Refused code) h = (h (channel_of old) before, done, bound)
-  judged_hello body OutOfMemory h = done
-  judged_hello body Closed h = h
-
-  -- what a fault of each part comes to
-  pub opn_fault : (f : Frame) (e : StepFault) (r : Running) → f.kind ≡ Opn → Judges (limits_of old) (channel_of old) before (Opens (opening_of f.body)) (Err e) r → JudgesFrame old before (content f) (Err e) new
-  opn_fault f e r is h = subst (λ (c : Content). JudgesFrame old before c (Err e) new) (sym (content_opn f is)) (judged (Opens (opening_of f.body)) e r h)
-
-  pub msg_fault : (f : Frame) (chunk : Chunk) (e : StepFault) (r : Running) → f.kind ≡ Msg → chunk_in f ≡ Some chunk → Judges (limits_of old) (channel_of old) before (Sends chunk) (Err e) r → JudgesFrame old before (content f) (Err e) new
-  msg_fault f chunk e r is found h = subst (λ (c : Content). JudgesFrame old before c (Err e) new) (sym (content_msg f chunk is found)) (judged (Sends chunk) e r h)
-
-  pub clo_fault : (f : Frame) (chunk : Chunk) (e : StepFault) → f.kind ≡ Clo → chunk_in f ≡ Some chunk → JudgesClose (limits_of old) (channel_of old) before (Closes chunk) (Err e) → JudgesFrame old before (content f) (Err e) new
-  clo_fault f chunk e is found h = subst (λ (c : Content). JudgesFrame old before c (Err e) new) (sym (content_clo f chunk is found)) (judged_close (Closes chunk) e h)
-
-  pub first_fault : (f : Frame) (e : StepFault) → f.kind ≡ Opn → JudgesFirst (limits_of old) (channel_of old) before (Opens (opening_of f.body)) (Err e) → JudgesFrame old before (content f) (Err e) new
-  first_fault f e is h = subst (λ (c : Content). JudgesFrame old before c (Err e) new) (sym (content_opn f is)) (judged_first (Opens (opening_of f.body)) e h)
-
-  pub hello_fault : (f : Frame) (e : StepFault) → f.kind ≡ Hel → JudgesHello (limits_of old) f.body (Err e) → JudgesFrame old before (content f) (Err e) new
-  hello_fault f e is h = subst (λ (c : Content). JudgesFrame old before c (Err e) new) (sym (content_hel f is)) (judged_hello f.body e h)
+  pub refuses_hello : (body : List ℕ) (e : StepFault) → JudgesHello limits body (Err e) → IsRefusalFor (IsRefused limits channel before (Greets (hello_in body))) e
+  refuses_hello body (Refused code) h = h channel before
+  refuses_hello body (Peer code) h = h
+  refuses_hello body OutOfMemory h = tt
+  refuses_hello body Closed h = h
 
 -- ---- frames that are taken
 

@@ -7,8 +7,9 @@ pub mod Carried
 pub mod Frames
 pub mod Phases
 mod ServerMessages
-pub mod Servers
+pub mod Stepping
 pub mod Pieces
+pub mod Servers
 pub mod Starts
 pub mod OpeningFrames
 pub mod Answering
@@ -28,7 +29,6 @@ pub mod ClientTalks
 pub mod ClientPhases
 pub mod ClientChunks
 pub mod ClientSteps
-pub mod ClientAdvances
 mod MemoryLines
 pub mod ClientReadings
 pub mod ReadOn
@@ -43,7 +43,6 @@ pub mod ClientSending
 pub mod InStep
 mod PairedCalls
 pub mod AgreedFirst
-mod Starving
 pub mod Opened
 mod Conversing
 mod ServerConversing

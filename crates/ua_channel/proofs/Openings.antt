@@ -126,6 +126,7 @@ module _ (channel count on sequence request : ℕ) (body behind : List ℕ) (h :
   -- what a fault of the body comes to
   pub judges_body : (e : StepFault) → ReadsAsked behind (Err e) → JudgesOpening channel count body (Err e)
   judges_body (step.Refused code) r = λ limits before same. refuses_body limits before r.1 ∙ ap (λ (n : ℕ). Some n) (sym r.0)
+  judges_body (step.Peer code) r = r
   judges_body step.OutOfMemory r = tt
   judges_body step.Closed r = r
 

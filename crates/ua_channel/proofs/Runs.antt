@@ -29,7 +29,7 @@ use Rattle.ua_channel.specs.Received.{Received, number_or, after}
 use Rattle.ua_channel.specs.inside.Parts.{MayEndIn, parts_in}
 use Rattle.ua_channel.specs.inside.ServerEvents.{told_of, told_list, parts_of}
 use Rattle.ua_channel.specs.inside.StepFaults.{fault_code, of_chunk_fault}
-use Rattle.ua_channel.specs.inside.ServerParts.{JudgesFirst, JudgesOpening, OpensSo, Judges, TakesSo, ids_reasons}
+use Rattle.ua_channel.specs.inside.ServerParts.{IsRefusalFor, IsRefused, JudgesOpening, OpensSo, TakesSo, ids_reasons}
 use Rattle.ua_channel.specs.ServerStands.{HasGreeted, Stays}
 use Rattle.ua_channel.specs.ServerRefusals.{last_used, or_first, server_reasons}
 use Rattle.ua_channel.specs.ServerTold.{Told, Told as told, told_under, issued}
@@ -108,20 +108,20 @@ module _ (limits : Limits) (r : Running) (before : Received) (channel : ℕ) (c 
     },
   )
 
-  judged_fault : (fault : AssembleFault) (r' : Running) → first_reason (ids_reasons c channel r.used r.issued) ≡ None → IsFor (refusal (octet_limit r.assembler) (chunk_limit r.assembler) (last_number r.assembler) before.messages c) fault
-      → Judges limits channel before (Sends c) (Err (of_chunk_fault 0x80B8_0000 fault)) r'
-  judged_fault Sequence r' ids h = sends_judged ids ∙ ap (option_map refused_code) h
-  judged_fault Unreadable r' ids h = sends_judged ids ∙ ap (option_map refused_code) h
-  judged_fault TooManyOpen r' ids h = sends_judged ids ∙ ap (option_map refused_code) h
-  judged_fault MessageTooLarge r' ids h = sends_judged ids ∙ ap (option_map refused_code) h
-  judged_fault TooManyChunks r' ids h = sends_judged ids ∙ ap (option_map refused_code) h
-  judged_fault OutOfMemory r' ids h = tt
-  judged_fault Closed r' ids h = h
+  judged_fault : (fault : AssembleFault) → first_reason (ids_reasons c channel r.used r.issued) ≡ None → IsFor (refusal (octet_limit r.assembler) (chunk_limit r.assembler) (last_number r.assembler) before.messages c) fault
+      → IsRefusalFor (IsRefused limits channel before (Sends c)) (of_chunk_fault 0x80B8_0000 fault)
+  judged_fault Sequence ids h = sends_judged ids ∙ ap (option_map refused_code) h
+  judged_fault Unreadable ids h = sends_judged ids ∙ ap (option_map refused_code) h
+  judged_fault TooManyOpen ids h = sends_judged ids ∙ ap (option_map refused_code) h
+  judged_fault MessageTooLarge ids h = sends_judged ids ∙ ap (option_map refused_code) h
+  judged_fault TooManyChunks ids h = sends_judged ids ∙ ap (option_map refused_code) h
+  judged_fault OutOfMemory ids h = tt
+  judged_fault Closed ids h = h
 
   -- a chunk that is refused
-  pub refuses_message : (fault : AssembleFault) (e : StepFault) (r' : Running) → first_reason (ids_reasons c channel r.used r.issued) ≡ None → IsFor (refusal (octet_limit r.assembler) (chunk_limit r.assembler) (last_number r.assembler) before.messages c) fault → e ≡ of_chunk_fault 0x80B8_0000 fault
-      → Judges limits channel before (Sends c) (Err e) r'
-  refuses_message fault e r' ids h is = subst (λ (x : StepFault). Judges limits channel before (Sends c) (Err x) r') (sym is) (judged_fault fault r' ids h)
+  pub refuses_message : (fault : AssembleFault) (e : StepFault) → first_reason (ids_reasons c channel r.used r.issued) ≡ None → IsFor (refusal (octet_limit r.assembler) (chunk_limit r.assembler) (last_number r.assembler) before.messages c) fault → e ≡ of_chunk_fault 0x80B8_0000 fault
+      → IsRefusalFor (IsRefused limits channel before (Sends c)) e
+  refuses_message fault e ids h is = subst (IsRefusalFor (IsRefused limits channel before (Sends c))) (sym is) (judged_fault fault ids h)
 
 -- ---- an OPN
 
@@ -135,15 +135,11 @@ opened_in before c (Some (event.Aborted i)) id handle token lifetime is = tt
 opened_in before c (Some event.Closed) id handle token lifetime is = tt
 
 -- what a fault of an OPN comes to
-pub judges_opening : (limits : Limits) (channel count : ℕ) (before : Received) (body : List ℕ) (e : StepFault) (r : Running) → issued before ≡ count → JudgesOpening channel count body (Err e) → Judges limits channel before (Opens (opening_of body)) (Err e) r
-judges_opening limits channel count before body (step.Refused code) r is h = h limits before is
-judges_opening limits channel count before body step.OutOfMemory r is h = tt
-judges_opening limits channel count before body step.Closed r is h = h
-
-pub judges_first : (limits : Limits) (channel count : ℕ) (before : Received) (body : List ℕ) (e : StepFault) → issued before ≡ count → JudgesOpening channel count body (Err e) → JudgesFirst limits channel before (Opens (opening_of body)) (Err e)
-judges_first limits channel count before body (step.Refused code) is h = h limits before is
-judges_first limits channel count before body step.OutOfMemory is h = tt
-judges_first limits channel count before body step.Closed is h = h
+pub refuses_opening : (limits : Limits) (channel count : ℕ) (before : Received) (body : List ℕ) (e : StepFault) → issued before ≡ count → JudgesOpening channel count body (Err e) → IsRefusalFor (IsRefused limits channel before (Opens (opening_of body))) e
+refuses_opening limits channel count before body (step.Refused code) is h = h limits before is
+refuses_opening limits channel count before body (step.Peer code) is h = h
+refuses_opening limits channel count before body step.OutOfMemory is h = tt
+refuses_opening limits channel count before body step.Closed is h = h
 
 module _ (limits : Limits) (r : Running) (before : Received) (channel : ℕ) (body : List ℕ) (o : Opened) (stays : Stays limits r before) (so : OpensSo channel r.issued body o) where
   remain : first_reason (server_reasons limits channel before (Opens (opening_of body))) ≡ first_reason ((0x8088_0000, not (may_follow before.last o.sequence)) ∷ (0x8081_0000, eqb (issued before) 4294967295) ∷ [])
@@ -153,11 +149,10 @@ module _ (limits : Limits) (r : Running) (before : Received) (channel : ℕ) (bo
   pub refuses_number : IsFalse (may_follow (last_number r.assembler) o.sequence) → first_reason (server_reasons limits channel before (Opens (opening_of body))) ≡ Some 0x8088_0000
   refuses_number e = remain ∙ ap (λ (b : Bool). first_reason ((0x8088_0000, not b) ∷ (0x8081_0000, eqb (issued before) 4294967295) ∷ [])) (ap (λ (n : Option ℕ). may_follow n o.sequence) stays.last_is ∙ e)
 
-  renewal_fault : (fault : AssembleFault) (r' : Running) → fault ≡ Sequence → IsFalse (may_follow (last_number r.assembler) o.sequence) → Judges limits channel before (Opens (opening_of body)) (Err (of_chunk_fault 0x80B8_0000 fault)) r'
-  renewal_fault fault r' is e = subst (λ (x : AssembleFault). Judges limits channel before (Opens (opening_of body)) (Err (of_chunk_fault 0x80B8_0000 x)) r') (sym is) (refuses_number e)
-
-  pub refuses_renewal : (fault : AssembleFault) (e : StepFault) (r' : Running) → fault ≡ Sequence → IsFalse (may_follow (last_number r.assembler) o.sequence) → e ≡ of_chunk_fault 0x80B8_0000 fault → Judges limits channel before (Opens (opening_of body)) (Err e) r'
-  refuses_renewal fault e r' first breaks is = subst (λ (x : StepFault). Judges limits channel before (Opens (opening_of body)) (Err x) r') (sym is) (renewal_fault fault r' first breaks)
+  pub refuses_renewal : (fault : AssembleFault) (e : StepFault) → fault ≡ Sequence → IsFalse (may_follow (last_number r.assembler) o.sequence) → e ≡ of_chunk_fault 0x80B8_0000 fault → IsRefusalFor (IsRefused limits channel before (Opens (opening_of body))) e
+  refuses_renewal fault e first breaks is =
+      subst (IsRefusalFor (IsRefused limits channel before (Opens (opening_of body)))) (sym is)
+      (subst (λ (x : AssembleFault). IsRefusalFor (IsRefused limits channel before (Opens (opening_of body))) (of_chunk_fault 0x80B8_0000 x)) (sym first) (refuses_number breaks))
 
   remain_numbered : IsTrue (may_follow (last_number r.assembler) o.sequence) → first_reason (server_reasons limits channel before (Opens (opening_of body))) ≡ first_reason ((0x8081_0000, eqb r.issued 4294967295) ∷ [])
   remain_numbered e =

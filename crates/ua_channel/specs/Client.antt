@@ -1,13 +1,15 @@
 -- Where a client's channel stands after octets and asks, and what it answers when it is asked.
-use Rattle.std.specs.Prelude.{◌≡◌, ℕ, ◌≤◌, ◌+◌, ◌*◌, Bool, length, List, [], ◌∷◌, ◌++◌, Option, Some, None, MatchOption, Result}
+use Rattle.std.specs.Prelude.{◌≡◌, ◌⊎◌, ℕ, ◌≤◌, ◌+◌, ◌*◌, Bool, length, List, [], ◌∷◌, ◌++◌, Option, Some, None, MatchOption, Result}
 use Rattle.std.specs.List.{AllByRecursion}
 use Rattle.ua_builtin.specs.Reasons.{first_reason}
 use Rattle.ua_builtin.specs.declared.date_time.DateTime.{DateTime}
 use Rattle.ua_frame.specs.declared.ack.Ack.{Ack}
 use Rattle.ua_frame.specs.declared.frame.Frame.{Frame}
 use Rattle.ua_frame.specs.declared.limits.Limits.{Limits}
+use Rattle.ua_frame.specs.After.{AllAfter}
+use Rattle.ua_frame.specs.Frames.{frames_octets, header_fault, size_of}
 use Rattle.ua_frame.specs.Reader.{open_reader}
-use Rattle.ua_frame.specs.Run.{Rules, Run, Going, Stopped, events}
+use Rattle.ua_frame.specs.Run.{Rules, Run, Fits, Going, Stopped, events}
 use Rattle.ua_chunk.specs.Open.{open_octets}
 use Rattle.ua_channel.specs.Asks.{Asking, Placed, asked_in}
 use Rattle.ua_channel.specs.ClientAsks.{Talks, ask_reasons, renew_reasons, Calls, JudgesBy, Renews, closing_octets}
@@ -122,6 +124,19 @@ pub record ClientEnded (x : ClientChannel) (asks : List Placed) (octets : List �
   pub stops : StopsAt (client_rules_of x asks) frames rest why
   pub told_is : events (client_rules_of x asks) frames ≡ told
   pub bound_is : client_bound x ≡ client_bound_behind (client_limits x) (received frames).ack
+
+-- memory was refused where these octets end, behind the good frames that told this: of the next frame they have a header with nothing wrong,
+-- up to its eighth octet, or more of the frame, at most all of it
+pub record ClientStarvedAt (x : ClientChannel) (asks : List Placed) (octets : List ℕ) (told : List ClientTold) : Type 0 where
+  pub done : IsClientDone x
+  pub frames : List Frame
+  pub rest : List ℕ
+  pub whole : octets ≡ frames_octets frames ++ rest
+  pub good : AllAfter (Fits (client_rules_of x asks)) frames
+  pub told_is : events (client_rules_of x asks) frames ≡ told
+  pub header : 8 ≤ length rest
+  pub sound : header_fault (client_gate (received frames)) rest ≡ None
+  pub within : (length rest ≡ 8) ⊎ (length rest ≤ size_of rest)
 
 -- ---- asks in a phase
 

@@ -36,21 +36,10 @@ Tells moment (event.Aborted id code) new asks octets before = ClientGoesTelling 
 Tells moment (event.Failed code peer) new asks octets before = ClientEnded new asks octets before (record { code = code.code; peer = peer })
 Tells moment (event.Renewed token) new asks octets before = ClientGoesTelling new asks octets before (told.Renewed token)
 
--- what is answered where an event came
-abbrev pub AnswersEvent : DateTime → Result ClientEvent ClientTakeFault → ClientChannel → List Placed → List ℕ → List ClientTold → Type 0
-AnswersEvent moment (Ok e) new asks octets before = Tells moment e new asks octets before
-AnswersEvent moment (Err OutOfMemory) new asks octets before = IsClientDone new
-AnswersEvent moment (Err Closed) new asks octets before = ⊥
-
 -- what is answered to a piece, after asks and octets that told this
 abbrev pub ClientAnswers : DateTime → List ℕ → Result (ℕ × ClientEvent) ClientTakeFault → ClientChannel → List Placed → List ℕ → List ClientTold → Type 0
 ClientAnswers moment piece (Ok (n, event.NeedMore)) new asks octets before = (n ≡ length piece) × ClientGoes new asks (octets ++ piece) before
-ClientAnswers moment piece (Ok (n, event.Send sent)) new asks octets before = Tells moment (event.Send sent) new asks (octets ++ take n piece) before
-ClientAnswers moment piece (Ok (n, event.Open)) new asks octets before = Tells moment event.Open new asks (octets ++ take n piece) before
-ClientAnswers moment piece (Ok (n, event.Answered id message)) new asks octets before = Tells moment (event.Answered id message) new asks (octets ++ take n piece) before
-ClientAnswers moment piece (Ok (n, event.Aborted id code)) new asks octets before = Tells moment (event.Aborted id code) new asks (octets ++ take n piece) before
-ClientAnswers moment piece (Ok (n, event.Failed code peer)) new asks octets before = Tells moment (event.Failed code peer) new asks (octets ++ take n piece) before
-ClientAnswers moment piece (Ok (n, event.Renewed token)) new asks octets before = Tells moment (event.Renewed token) new asks (octets ++ take n piece) before
+ClientAnswers moment piece (Ok (n, e)) new asks octets before = Tells moment e new asks (octets ++ take n piece) before
 ClientAnswers moment piece (Err OutOfMemory) new asks octets before = IsClientDone new
 ClientAnswers moment piece (Err Closed) new asks octets before = ⊥
 

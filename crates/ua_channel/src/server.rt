@@ -68,7 +68,7 @@ impl ServerChannel {
     ghost use Rattle.ua_channel.specs.inside.Parts.{HasShape};
     ghost use Rattle.ua_channel.specs.Received.{Received, received};
     ghost use Rattle.ua_channel.specs.ServerAnswers.{Progress, AnswersAt, ServerAnswers, AsksInParts, parts_asked};
-    ghost use Rattle.ua_channel.specs.inside.ServerSteps.{StandsWith, Steps, Nexts, Answered};
+    ghost use Rattle.ua_channel.specs.inside.ServerSteps.{AnswersTo, StandsWith, Steps, Nexts};
     ghost use Rattle.ua_channel.specs.inside.ServerEvents.{parts_of};
     ghost use Rattle.ua_channel.specs.ServerStands.{StarvedAt, Stays, limits_of, channel_of, next_of, bound_of, HasNoToken, IsWithoutToken, Holds, Stands, Goes, IsDone, bound_after, held_after};
     ghost use Rattle.ua_channel.specs.inside.ServerFrames.{phase_gate, LaneIs, JudgesFrame};
@@ -233,7 +233,7 @@ impl ServerChannel {
                 (n, answer)
             }
             Err(fault) => {
-                self.phase = Phase::Done;
+                self.fail();
                 let n = HEADER_LEN.saturating_sub(held).min(piece.len());
                 (n, Err(StepFault::of_frame(fault)))
             }
@@ -284,7 +284,7 @@ impl ServerChannel {
     fn answer(&mut self, event: Event, moment: DateTime) -> Result<ServerEvent, ChannelFault>
         ensures closes { event ≡ inner.Closed → result ≡ Ok handed.Closed }
         ensures answers { (octets : List ℕ) (told : List Told) → StandsWith event self.old octets told
-            → Answered (channel_of self.old) (next_of self.old) moment result self.new octets told }
+            → AnswersTo (channel_of self.old) (next_of self.old) moment result self.new octets told }
         ensures parts { (octets : List ℕ) → AsksInParts (parts_of (Some event)) self.old octets → IfOk result (λ e. AsksInParts (parts_asked e) self.new octets) }
         ensures limits { limits_of self.new ≡ limits_of self.old }
         ensures channel { channel_of self.new ≡ channel_of self.old }

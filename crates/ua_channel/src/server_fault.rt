@@ -43,7 +43,7 @@ impl ChannelFault {
         ensures { result ≡ of_step fault }
     {
         match fault {
-            StepFault::Refused(code) => ChannelFault::Refused {
+            StepFault::Refused(code) | StepFault::Peer(code) => ChannelFault::Refused {
                 code,
                 err_frame: error_frame(code),
             },

@@ -10,8 +10,13 @@ use ua_frame::FrameFault;
 /// Why a frame is not taken.
 #[derive(Clone, Copy)]
 pub enum StepFault {
+    /// This end refuses it.
     Refused(StatusCode),
+    /// It is an ERR, by which the server refuses: of a client alone.
+    Peer(StatusCode),
+    /// The channel is closed.
     Closed,
+    /// Memory was refused.
     OutOfMemory,
 }
 

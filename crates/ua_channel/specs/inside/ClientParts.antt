@@ -1,12 +1,11 @@
 -- What the parts of a client make of a frame, and of a piece.
-use Rattle.std.specs.Prelude.{◌≡◌, ℕ, ◌≤◌, ◌<◌, ◌==◌, Bool, true, false, ◌||◌, if◌then◌else◌, not, map, nat_le, is_none, length, take, List, [], ◌∷◌, ◌++◌, Option, Some, None, Result, Ok, Err}
+use Rattle.std.specs.Prelude.{◌≡◌, ℕ, ◌==◌, Bool, true, false, ◌||◌, if◌then◌else◌, not, map, nat_le, is_none, List, [], ◌∷◌, ◌++◌, Option, Some, None, Result, Ok, Err}
 use Rattle.std.specs.List.{concat, filter}
 use Rattle.ua_builtin.specs.Reasons.{first_reason, renamed_reason}
+use Rattle.ua_builtin.specs.declared.date_time.DateTime.{DateTime}
 use Rattle.ua_frame.specs.declared.ack.Ack.{Ack}
 use Rattle.ua_frame.specs.declared.error.ErrorFrame.{ErrorFrame}
-use Rattle.ua_frame.specs.declared.fault.FrameFault.{FrameFault}
 use Rattle.ua_frame.specs.declared.limits.Limits.{Limits}
-use Rattle.ua_frame.specs.Frames.{header_code}
 use Rattle.ua_frame.specs.Reader.{open_reader}
 use Rattle.ua_chunk.specs.Assembling.{Stands, SameLimits, octet_limit, chunk_limit, last_number}
 use Rattle.ua_chunk.specs.Delivered.{given}
@@ -17,61 +16,44 @@ use Rattle.ua_chunk.specs.View.{items_of, HasParts}
 use Rattle.ua_chunk.specs.declared.chunk.Chunk.{Chunk}
 use Rattle.ua_chunk.specs.declared.delivered.Delivered.{Delivered}
 use Rattle.ua_chunk.specs.declared.fault.AssembleFault.{AssembleFault}
-use Rattle.ua_chunk.specs.declared.fault.OpenFault.{OpenFault}
 use Rattle.ua_services.specs.declared.open.OpenAnswer.{OpenAnswer}
 use Rattle.ua_services.specs.declared.open.OpenAnswer.TheVariants.{Open as Opened}
 use Rattle.ua_structures.specs.declared.secure_channel.OpenResponse.{OpenResponse}
 use Rattle.ua_channel.specs.Asks.{Asking, Placed, is_in}
-use Rattle.ua_channel.specs.Client.{InPhase, ClientGoes, ClientGoesTelling, ClientEnded, IsClientDone, phase_of, client_bound, client_bound_behind}
+use Rattle.ua_channel.specs.Client.{InPhase, SameClient, ClientGoes, ClientGoesTelling, ClientEnded, ClientStarvedAt, IsClientDone, phase_of, client_bound, client_bound_behind, client_next}
+use Rattle.ua_channel.specs.ClientAnswers.{Tells}
 use Rattle.ua_channel.specs.ClientAsks.{Talks}
 use Rattle.ua_channel.specs.ClientTable.{client_gate, client_reasons, is_other, is_awaited, is_bad, result_of, code_in, is_outside, of_ack}
 use Rattle.ua_channel.specs.ClientTokens.{answer_in, responses, opened_ids, channel_in, held_tokens, from_last}
 use Rattle.ua_channel.specs.ClientTold.{ClientTold, ClientTold as told, Why, ours, peers, client_tells, told_item}
 use Rattle.ua_channel.specs.Content.{Opening, Content}
 use Rattle.ua_channel.specs.Content.Content.{Opens, Sends}
-use Rattle.ua_channel.specs.inside.Parts.{MayEndIn, parts_in}
+use Rattle.ua_channel.specs.inside.Parts.{IsFaultFor, MayEndIn, NextsBy, StepsBy, TookBy, parts_in}
 use Rattle.ua_channel.specs.Received.{Received, after, nothing_received, listed}
 use Rattle.ua_channel.specs.declared.step_fault.StepFault.{StepFault}
 use Rattle.ua_channel.specs.declared.client.agreed.Agreed.{Agreed}
 use Rattle.ua_channel.specs.declared.client.answer.Answer.{Answer}
 use Rattle.ua_channel.specs.declared.client.channel.ClientChannel.{ClientChannel}
+use Rattle.ua_channel.specs.declared.client.event.ClientEvent.{ClientEvent}
+use Rattle.ua_channel.specs.declared.client.event.ClientEvent.TheVariants as client_event
 use Rattle.ua_channel.specs.declared.client.event.Event.{Event}
 use Rattle.ua_channel.specs.declared.client.fault.ClientTakeFault.{ClientTakeFault}
 use Rattle.ua_channel.specs.declared.client.talking.Talking.{Talking}
-use Rattle.ua_channel.specs.declared.client.fault.Stop.{Stop}
-use Rattle.ua_channel.specs.declared.client.fault.Stop.TheVariants.{Refused, Peer, OutOfMemory, Closed}
 use Rattle.ua_channel.specs.inside.StepFaults as step_faults
-use Rattle.ua_channel.specs.declared.step_fault.StepFault.TheVariants as step
+use Rattle.ua_channel.specs.declared.step_fault.StepFault.TheVariants.{Refused, Peer, OutOfMemory, Closed}
 use Rattle.ua_channel.specs.declared.client.event.Event.TheVariants as event
 use Rattle.ua_channel.specs.declared.client.fault.ClientTakeFault.TheVariants as take_fault
 
 -- ---- faults
 
--- what stops a channel where a frame is not taken
-abbrev pub stop_of : StepFault → Stop
-stop_of (step.Refused code) = Refused code
-stop_of step.OutOfMemory = OutOfMemory
-stop_of step.Closed = Closed
-
--- what a fault of an assembler comes to: a message that is too large is refused with Bad_ResponseTooLarge
-abbrev pub stop_of_chunk : AssembleFault → Stop
-stop_of_chunk fault = stop_of (step_faults.of_chunk_fault 0x80B9_0000 fault)
-
--- what a fault of an OPN frame comes to
-abbrev pub stop_of_open : OpenFault → Stop
-stop_of_open fault = stop_of (step_faults.of_open_fault fault)
-
--- a channel stops for the first of these reasons, or for want of memory
-abbrev pub IsStopFor : List (Why × Bool) → Stop → Type 0
-IsStopFor reasons (Refused code) = first_reason reasons ≡ Some (ours code.code)
-IsStopFor reasons (Peer code) = first_reason reasons ≡ Some (peers code.code)
-IsStopFor reasons OutOfMemory = Unit {0}
-IsStopFor reasons Closed = ⊥
+-- a channel stops for the first of these reasons, ours or the server's, or for want of memory
+abbrev pub IsStopFor : List (Why × Bool) → StepFault → Type 0
+IsStopFor reasons fault = IsFaultFor (λ (code : ℕ). first_reason reasons ≡ Some (ours code)) (λ (code : ℕ). first_reason reasons ≡ Some (peers code)) fault
 
 -- what is made of a frame with these reasons against it: it is taken, and then this holds, or it stops the channel for the first of them
-abbrev pub Judged : {A : Type 0} → List (Why × Bool) → (A → Type 0) → Result A Stop → Type 0
+abbrev pub Judged : {A : Type 0} → List (Why × Bool) → (A → Type 0) → Result A StepFault → Type 0
 Judged reasons Good (Ok a) = (first_reason reasons ≡ None) × Good a
-Judged reasons Good (Err stop) = IsStopFor reasons stop
+Judged reasons Good (Err fault) = IsStopFor reasons fault
 
 -- ---- ACK and ERR
 
@@ -126,45 +108,29 @@ pub record IsAnswerOf (o : Opening) (a : Answer) : Type 0 where
   pub remain : (limits : Limits) (before : Received) (asked : List Asking) → first_reason (client_reasons limits before asked (Opens o)) ≡ first_reason (answer_reasons before asked a)
 
 -- what is made of an opening, whatever was received and asked before
-abbrev pub JudgesAnswer : Opening → Result Answer Stop → Type 0
+abbrev pub JudgesAnswer : Opening → Result Answer StepFault → Type 0
 JudgesAnswer o (Ok a) = IsAnswerOf o a
-JudgesAnswer o (Err stop) = (limits : Limits) (before : Received) (asked : List Asking) → IsStopFor (client_reasons limits before asked (Opens o)) stop
+JudgesAnswer o (Err fault) = (limits : Limits) (before : Received) (asked : List Asking) → IsStopFor (client_reasons limits before asked (Opens o)) fault
 
 -- ---- events
 
--- an event as what frames tell; a failure tells nothing
-abbrev pub told_by : Event → List ClientTold
-told_by (event.Agreed ack) = told.Agreed ack ∷ []
-told_by (event.Opened channel token) = told.Opened channel token ∷ []
-told_by (event.Answered id message) = told.Answered id (concat message) ∷ []
-told_by (event.Aborted id code) = told.GaveUp id code ∷ []
-told_by (event.Renewed token) = told.Renewed token ∷ []
-told_by (event.Failed code peer) = []
+-- an event as what a frame tells: the octets of a message are its parts, joined
+abbrev pub told_by : Event → ClientTold
+told_by (event.Agreed ack) = told.Agreed ack
+told_by (event.Opened channel token) = told.Opened channel token
+told_by (event.Answered id message) = told.Answered id (concat message)
+told_by (event.Aborted id code) = told.GaveUp id code
+told_by (event.Renewed token) = told.Renewed token
 
 -- what is told, if something is
 abbrev pub told_by_frame : Option Event → List ClientTold
 told_by_frame None = []
-told_by_frame (Some e) = told_by e
+told_by_frame (Some e) = told_by e ∷ []
 
 -- the parts of the message of an event, if it has one
 abbrev pub event_parts : Option Event → Option (List (List ℕ))
-event_parts None = None
-event_parts (Some (event.Agreed ack)) = None
-event_parts (Some (event.Opened channel token)) = None
 event_parts (Some (event.Answered id message)) = Some message
-event_parts (Some (event.Aborted id code)) = None
-event_parts (Some (event.Renewed token)) = None
-event_parts (Some (event.Failed code peer)) = None
-
--- it is no failure
-abbrev pub IsGood : Option Event → Type 0
-IsGood None = Unit {0}
-IsGood (Some (event.Agreed ack)) = Unit {0}
-IsGood (Some (event.Opened channel token)) = Unit {0}
-IsGood (Some (event.Answered id message)) = Unit {0}
-IsGood (Some (event.Aborted id code)) = Unit {0}
-IsGood (Some (event.Renewed token)) = Unit {0}
-IsGood (Some (event.Failed code peer)) = ⊥
+event_parts other = None
 
 -- ---- an open channel
 
@@ -266,7 +232,6 @@ pub record IsAccepted (old : Talking) (cs : List Chunk) (c : Chunk) (new : Talki
 -- an event is what was delivered, in the same parts
 pub record DeliversEvent (d : Option Delivered) (e : Option Event) : Type 0 where
   pub tells : map told_item (items_of d) ≡ told_by_frame e
-  pub good : IsGood e
   pub parts : event_parts e ≡ parts_in d
 
 -- what is kept of a channel with what a chunk of this request and token delivered, which it ended or not
@@ -285,7 +250,6 @@ pub record IsTakenWith (old : Talking) (cs : List Chunk) (c : Chunk) (new : Talk
   pub last_is : last_number new.assembler ≡ Some c.sequence
   pub limits : SameLimits old.assembler new.assembler
   pub tells : map told_item (given cs c) ≡ told_by_frame e
-  pub good : IsGood e
   pub parts : MayEndIn cs (Sends c) (event_parts e)
 
 -- whatever comes of it
@@ -297,7 +261,6 @@ any_event e = Unit {0}
 -- an open channel took a frame that carries this, and tells this
 pub record TakesFrame (limits : Limits) (before : Received) (asked : List Asking) (c : Content) (new : Talking) (e : Option Event) : Type 0 where
   pub tells : client_tells before c ≡ told_by_frame e
-  pub good : IsGood e
   pub parts : MayEndIn before.messages c (event_parts e)
   pub talks : Talks limits new (after before c) asked
   pub ack_is : (after before c).ack ≡ before.ack
@@ -305,39 +268,16 @@ pub record TakesFrame (limits : Limits) (before : Received) (asked : List Asking
 -- a frame that carries this was taken, and tells this; where the channel then is
 pub record TookFrame (limits : Limits) (before : Received) (asked : List Asking) (c : Content) (new : ClientChannel) (e : Option Event) : Type 0 where
   pub tells : client_tells before c ≡ told_by_frame e
-  pub good : IsGood e
   pub parts : MayEndIn before.messages c (event_parts e)
   pub phase_is : InPhase limits (phase_of new) (after before c) asked
   pub bound_is : client_bound new ≡ client_bound_behind limits (after before c).ack
 
--- a frame that carries this opened the channel, and tells it
-pub record OpensChannel (limits : Limits) (agreed : Agreed) (c : Content) (new : ClientChannel) (e : Option Event) : Type 0 where
-  pub tells : client_tells (greeted agreed) c ≡ told_by_frame e
-  pub good : IsGood e
-  pub parts : MayEndIn [] c (event_parts e)
-  pub phase_is : InPhase limits (phase_of new) (after (greeted agreed) c) []
-  pub ack_is : (after (greeted agreed) c).ack ≡ Some agreed.ack
-
--- a frame that carries this was taken by an open channel, and tells this
+-- a frame that carries this was taken behind the ACK, and tells this: the channel is open
 pub record StaysOpen (limits : Limits) (before : Received) (asked : List Asking) (c : Content) (new : ClientChannel) (e : Option Event) : Type 0 where
   pub tells : client_tells before c ≡ told_by_frame e
-  pub good : IsGood e
   pub parts : MayEndIn before.messages c (event_parts e)
   pub phase_is : InPhase limits (phase_of new) (after before c) asked
   pub ack_is : (after before c).ack ≡ before.ack
-
--- the event or the fault of a channel that is stopped
-abbrev pub failure_of : Stop → Result (Option Event) ClientTakeFault
-failure_of (Refused code) = Ok (Some (event.Failed code false))
-failure_of (Peer code) = Ok (Some (event.Failed code true))
-failure_of OutOfMemory = Err take_fault.OutOfMemory
-failure_of Closed = Err take_fault.Closed
-
--- the channel stopped for this, and holds nothing
-pub record Stopped (limits : Limits) (before : Received) (asked : List Asking) (c : Content) (new : ClientChannel) (why : Why) : Type 0 where
-  pub refused : first_reason (client_reasons limits before asked c) ≡ Some why
-  pub done : IsClientDone new
-  pub bound_is : client_bound new ≡ client_bound_behind limits before.ack
 
 -- the channel goes on behind a frame that carries this, whose event this is
 pub record GoesOnBehind (limits : Limits) (before : Received) (asked : List Asking) (c : Content) (new : ClientChannel) (e : Option Event) : Type 0 where
@@ -346,57 +286,51 @@ pub record GoesOnBehind (limits : Limits) (before : Received) (asked : List Aski
   pub reader_is : new.reader ≡ open_reader (client_gate (after before c)) []
 
 -- what a whole frame that carries this comes to
-abbrev pub JudgesWhole : Limits → Received → List Asking → Content → ClientChannel → Result (Option Event) ClientTakeFault → Type 0
-JudgesWhole limits before asked c new (Ok None) = GoesOnBehind limits before asked c new None
-JudgesWhole limits before asked c new (Ok (Some (event.Agreed ack))) = GoesOnBehind limits before asked c new (Some (event.Agreed ack))
-JudgesWhole limits before asked c new (Ok (Some (event.Opened channel token))) = GoesOnBehind limits before asked c new (Some (event.Opened channel token))
-JudgesWhole limits before asked c new (Ok (Some (event.Answered id message))) = GoesOnBehind limits before asked c new (Some (event.Answered id message))
-JudgesWhole limits before asked c new (Ok (Some (event.Aborted id code))) = GoesOnBehind limits before asked c new (Some (event.Aborted id code))
-JudgesWhole limits before asked c new (Ok (Some (event.Renewed token))) = GoesOnBehind limits before asked c new (Some (event.Renewed token))
-JudgesWhole limits before asked c new (Ok (Some (event.Failed code peer))) = Stopped limits before asked c new (record { code = code.code; peer = peer })
-JudgesWhole limits before asked c new (Err take_fault.OutOfMemory) = IsClientDone new
-JudgesWhole limits before asked c new (Err take_fault.Closed) = ⊥
+abbrev pub JudgesWhole : Limits → Received → List Asking → Content → ClientChannel → Result (Option Event) StepFault → Type 0
+JudgesWhole limits before asked c new (Ok e) = GoesOnBehind limits before asked c new e
+JudgesWhole limits before asked c new (Err fault) = IsStopFor (client_reasons limits before asked c) fault × IsClientDone new × (client_bound new ≡ client_bound_behind limits before.ack)
 
--- what a fault of the reader comes to
-abbrev pub FailsBy : FrameFault → Result (Option Event) ClientTakeFault → Type 0
-FailsBy fault (Ok None) = ⊥
-FailsBy fault (Ok (Some (event.Agreed ack))) = ⊥
-FailsBy fault (Ok (Some (event.Opened channel token))) = ⊥
-FailsBy fault (Ok (Some (event.Answered id message))) = ⊥
-FailsBy fault (Ok (Some (event.Aborted id code))) = ⊥
-FailsBy fault (Ok (Some (event.Renewed token))) = ⊥
-FailsBy fault (Ok (Some (event.Failed code peer))) = (header_code fault ≡ Some code.code) × (peer ≡ false)
-FailsBy fault (Err take_fault.OutOfMemory) = header_code fault ≡ None
-FailsBy fault (Err take_fault.Closed) = ⊥
+-- ---- a piece
 
--- this is the front of a piece: it doesn't go past the eighth octet of a frame, where that is still to come
-pub record IsFront (held piece front : List ℕ) : Type 0 where
-  pub within : length front ≤ length piece
-  pub parts : front ≡ take (length front) piece
-  pub some : 0 < length piece → 0 < length front
-  pub eighth : length held < 8 → length (held ++ front) ≤ 8
+-- the octets end with the frame of this event
+abbrev pub ComesTo : Event → ClientChannel → List Placed → List ℕ → List ClientTold → Type 0
+ComesTo e new asks octets before = ClientGoesTelling new asks octets before (told_by e)
 
--- ---- a step
+-- where the channel stands with a fault
+abbrev pub StopsBy : StepFault → ClientChannel → List Placed → List ℕ → List ClientTold → Type 0
+StopsBy (Refused code) new asks octets before = ClientEnded new asks octets before (ours code.code)
+StopsBy (Peer code) new asks octets before = ClientEnded new asks octets before (peers code.code)
+StopsBy OutOfMemory new asks octets before = ClientStarvedAt new asks octets before
+StopsBy Closed new asks octets before = ⊥
 
--- what is told where the octets end with the frame that tells it
-abbrev pub TellsEvent : Event → ClientChannel → List Placed → List ℕ → List ClientTold → Type 0
-TellsEvent (event.Agreed ack) new asks octets before = ClientGoesTelling new asks octets before (told.Agreed ack)
-TellsEvent (event.Opened channel token) new asks octets before = ClientGoesTelling new asks octets before (told.Opened channel token)
-TellsEvent (event.Answered id message) new asks octets before = ClientGoesTelling new asks octets before (told.Answered id (concat message))
-TellsEvent (event.Aborted id code) new asks octets before = ClientGoesTelling new asks octets before (told.GaveUp id code)
-TellsEvent (event.Renewed token) new asks octets before = ClientGoesTelling new asks octets before (told.Renewed token)
-TellsEvent (event.Failed code peer) new asks octets before = ClientEnded new asks octets before (record { code = code.code; peer = peer })
+-- one call of the reader, and what its frame comes to
+abbrev pub ClientSteps : List ℕ → ℕ → Result (Option Event) StepFault → ClientChannel → List Placed → List ℕ → List ClientTold → Type 0
+ClientSteps piece n result new asks octets before = StepsBy (λ o. ClientGoes new asks (octets ++ o) before) (λ e o. ComesTo e new asks (octets ++ o) before) (λ fault o. StopsBy fault new asks (octets ++ o) before) piece n result
 
--- what one step answers
-abbrev pub StepsOnce : List ℕ → Result (ℕ × Option Event) ClientTakeFault → ClientChannel → List Placed → List ℕ → List ClientTold → Type 0
-StepsOnce piece (Ok (n, None)) new asks octets before = ClientGoes new asks (octets ++ take n piece) before
-StepsOnce piece (Ok (n, Some e)) new asks octets before = TellsEvent e new asks (octets ++ take n piece) before
-StepsOnce piece (Err take_fault.OutOfMemory) new asks octets before = IsClientDone new
-StepsOnce piece (Err take_fault.Closed) new asks octets before = ⊥
+-- the steps of a piece, up to the first event
+abbrev pub ClientNexts : List ℕ → ℕ → Result (Option Event) StepFault → ClientChannel → List Placed → List ℕ → List ClientTold → Type 0
+ClientNexts piece n result new asks octets before = NextsBy (λ o. ClientGoes new asks (octets ++ o) before) (λ e o. ComesTo e new asks (octets ++ o) before) (λ fault o. StopsBy fault new asks (octets ++ o) before) piece n result
 
--- what the steps up to an event answer: the event, or the whole piece was taken
-abbrev pub Advances : List ℕ → Result (ℕ × Option Event) ClientTakeFault → ClientChannel → List Placed → List ℕ → List ClientTold → Type 0
-Advances piece (Ok (n, None)) new asks octets before = (n ≡ length piece) × ClientGoes new asks (octets ++ piece) before
-Advances piece (Ok (n, Some e)) new asks octets before = TellsEvent e new asks (octets ++ take n piece) before
-Advances piece (Err take_fault.OutOfMemory) new asks octets before = IsClientDone new
-Advances piece (Err take_fault.Closed) new asks octets before = ⊥
+-- so many octets of a piece were taken since it stood there, and nothing was told
+abbrev pub ClientTook : ClientChannel → ClientChannel → List ℕ → ℕ → Type 0
+ClientTook old now piece taken = TookBy ClientGoes (λ (a b : ClientChannel). SameClient a b × (client_next b ≡ client_next a)) old now piece taken
+
+-- ---- what is answered
+
+-- the event of a channel that this stops, or the fault of its call
+abbrev pub failure_of : StepFault → Result ClientEvent ClientTakeFault
+failure_of (Refused code) = Ok (client_event.Failed code false)
+failure_of (Peer code) = Ok (client_event.Failed code true)
+failure_of OutOfMemory = Err take_fault.OutOfMemory
+failure_of Closed = Err take_fault.Closed
+
+-- what is answered where an event came
+abbrev pub AnswersEvent : DateTime → Result ClientEvent ClientTakeFault → ClientChannel → List Placed → List ℕ → List ClientTold → Type 0
+AnswersEvent moment (Ok e) new asks octets before = Tells moment e new asks octets before
+AnswersEvent moment (Err take_fault.OutOfMemory) new asks octets before = IsClientDone new
+AnswersEvent moment (Err take_fault.Closed) new asks octets before = ⊥
+
+-- an answer with the number of octets that were taken
+abbrev pub counted : {A F : Type 0} → ℕ → Result A F → Result (ℕ × A) F
+counted n (Ok a) = Ok (n, a)
+counted n (Err fault) = Err fault

@@ -20,9 +20,5 @@ told_list (Some e) = told_of e ∷ []
 
 -- the parts of the message of an event, if it has one
 abbrev pub parts_of : Option Event → Option (List (List ℕ))
-parts_of None = None
-parts_of (Some (event.Agreed agreement)) = None
-parts_of (Some (event.Opened request handle token lifetime)) = None
 parts_of (Some (event.Asked request token message)) = Some message
-parts_of (Some (event.Aborted request)) = None
-parts_of (Some event.Closed) = None
+parts_of other = None

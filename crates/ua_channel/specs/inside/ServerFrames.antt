@@ -9,11 +9,10 @@ use Rattle.ua_channel.specs.declared.server.Phase.TheVariants.{Waiting, Greeted,
 use Rattle.ua_channel.specs.declared.server.ServerChannel.{ServerChannel}
 use Rattle.ua_channel.specs.declared.server_event.Event.{Event}
 use Rattle.ua_channel.specs.declared.step_fault.StepFault.{StepFault}
-use Rattle.ua_channel.specs.declared.step_fault.StepFault.TheVariants.{Refused, Closed, OutOfMemory}
 use Rattle.ua_channel.specs.Agreement.{lane_of}
 use Rattle.ua_channel.specs.Content.{Content}
 use Rattle.ua_channel.specs.Received.{Received, after}
-use Rattle.ua_channel.specs.inside.ServerParts.{TakesSo, IsRefused}
+use Rattle.ua_channel.specs.inside.ServerParts.{IsRefusalFor, IsRefused, TakesSo}
 use Rattle.ua_channel.specs.ServerRules.{opening_gate, running_gate}
 use Rattle.ua_channel.specs.ServerStands.{bound_after, limits_of, channel_of, Holds}
 
@@ -41,6 +40,4 @@ GoesOn true x before = (x.phase ≡ Done) × (x.bound ≡ bound_after (limits_of
 -- what is made of a frame that carries this, and where the channel then stands
 abbrev pub JudgesFrame : ServerChannel → Received → Content → Result (Option Event) StepFault → ServerChannel → Type 0
 JudgesFrame old before c (Ok e) new = TakesSo (limits_of old) (channel_of old) before c e × GoesOn (after before c).closed new (after before c)
-JudgesFrame old before c (Err (Refused code)) new = IsRefused (limits_of old) (channel_of old) before c code.code × (new.phase ≡ Done) × (new.bound ≡ old.bound)
-JudgesFrame old before c (Err OutOfMemory) new = new.phase ≡ Done
-JudgesFrame old before c (Err Closed) new = ⊥
+JudgesFrame old before c (Err fault) new = IsRefusalFor (IsRefused (limits_of old) (channel_of old) before c) fault × (new.phase ≡ Done) × (new.bound ≡ old.bound)

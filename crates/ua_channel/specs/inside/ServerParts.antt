@@ -13,19 +13,22 @@ use Rattle.ua_chunk.specs.Sequence.{may_follow}
 use Rattle.ua_channel.specs.declared.running.Running.{Running}
 use Rattle.ua_channel.specs.declared.server_event.Event.{Event}
 use Rattle.ua_channel.specs.declared.step_fault.StepFault.{StepFault}
-use Rattle.ua_channel.specs.declared.step_fault.StepFault.TheVariants.{Refused, Closed, OutOfMemory}
 use Rattle.ua_channel.specs.declared.server_opening.Asked.{Asked}
 use Rattle.ua_channel.specs.declared.server_opening.Opened.{Opened}
 use Rattle.ua_channel.specs.Agreement.{Agreement, agreement_of}
 use Rattle.ua_channel.specs.Content.{Content, opening_of}
 use Rattle.ua_channel.specs.Content.Content.{Greets, Opens}
-use Rattle.ua_channel.specs.inside.Parts.{MayEndIn}
+use Rattle.ua_channel.specs.inside.Parts.{IsFaultFor, MayEndIn}
 use Rattle.ua_channel.specs.Received.{Received, after}
 use Rattle.ua_channel.specs.inside.ServerEvents.{told_list, parts_of}
 use Rattle.ua_channel.specs.ServerRefusals.{type_wanted, server_reasons}
 use Rattle.ua_channel.specs.ServerRules.{receive_size}
 use Rattle.ua_channel.specs.ServerStands.{Stays}
 use Rattle.ua_channel.specs.ServerTold.{issued, lifetime_for, server_tells, Told as told}
+
+-- a fault of a server's part: it refuses with a code of which this holds, or memory was refused
+abbrev pub IsRefusalFor : (ℕ → Type 0) → StepFault → Type 0
+IsRefusalFor Refuses fault = IsFaultFor Refuses (λ (code : ℕ). ⊥) fault
 
 -- ---- HEL
 
@@ -40,9 +43,7 @@ pub record AgreesTo (limits : Limits) (body : List ℕ) (a : Agreement) : Type 0
 -- what is made of the body of a HEL
 abbrev pub JudgesHello : Limits → List ℕ → Result Agreement StepFault → Type 0
 JudgesHello limits body (Ok a) = AgreesTo limits body a
-JudgesHello limits body (Err (Refused code)) = (channel : ℕ) (before : Received) → first_reason (server_reasons limits channel before (Greets (hello_in body))) ≡ Some code.code
-JudgesHello limits body (Err OutOfMemory) = Unit {0}
-JudgesHello limits body (Err Closed) = ⊥
+JudgesHello limits body (Err fault) = IsRefusalFor (λ code. (channel : ℕ) (before : Received) → first_reason (server_reasons limits channel before (Greets (hello_in body))) ≡ Some code) fault
 
 -- ---- OPN
 
@@ -62,9 +63,7 @@ pub record IsAskedIn (octets : List ℕ) (a : Asked) : Type 0 where
 -- what is read of the octets behind a sequence header
 abbrev pub ReadsAsked : List ℕ → Result Asked StepFault → Type 0
 ReadsAsked octets (Ok a) = IsAskedIn octets a
-ReadsAsked octets (Err (Refused code)) = (code.code ≡ 0x8007_0000) × (body_of (message 446 open_request) octets ≡ None)
-ReadsAsked octets (Err OutOfMemory) = Unit {0}
-ReadsAsked octets (Err Closed) = ⊥
+ReadsAsked octets (Err fault) = IsRefusalFor (λ code. (code ≡ 0x8007_0000) × (body_of (message 446 open_request) octets ≡ None)) fault
 
 -- why a request is refused whose OPN names this channel, where so many tokens were issued: Bad_RequestTypeInvalid,
 -- Bad_SecurityModeRejected, Bad_TcpSecureChannelUnknown
@@ -85,9 +84,7 @@ pub record OpensSo (channel count : ℕ) (body : List ℕ) (o : Opened) : Type 0
 -- what is made of the body of an OPN where so many tokens were issued
 abbrev pub JudgesOpening : ℕ → ℕ → List ℕ → Result Opened StepFault → Type 0
 JudgesOpening channel count body (Ok o) = OpensSo channel count body o
-JudgesOpening channel count body (Err (Refused code)) = (limits : Limits) (before : Received) → issued before ≡ count → first_reason (server_reasons limits channel before (Opens (opening_of body))) ≡ Some code.code
-JudgesOpening channel count body (Err OutOfMemory) = Unit {0}
-JudgesOpening channel count body (Err Closed) = ⊥
+JudgesOpening channel count body (Err fault) = IsRefusalFor (λ code. (limits : Limits) (before : Received) → issued before ≡ count → first_reason (server_reasons limits channel before (Opens (opening_of body))) ≡ Some code) fault
 
 -- ---- an open channel
 
@@ -104,16 +101,12 @@ IsRefused limits channel before c code = first_reason (server_reasons limits cha
 -- what an open channel makes of a frame that carries this, and where it then stands
 abbrev pub Judges : Limits → ℕ → Received → Content → Result (Option Event) StepFault → Running → Type 0
 Judges limits channel before c (Ok e) r = TakesSo limits channel before c e × Stays limits r (after before c)
-Judges limits channel before c (Err (Refused code)) r = IsRefused limits channel before c code.code
-Judges limits channel before c (Err OutOfMemory) r = Unit {0}
-Judges limits channel before c (Err Closed) r = ⊥
+Judges limits channel before c (Err fault) r = IsRefusalFor (IsRefused limits channel before c) fault
 
 -- what an open channel makes of a close
 abbrev pub JudgesClose : Limits → ℕ → Received → Content → Result (Unit {0}) StepFault → Type 0
 JudgesClose limits channel before c (Ok done) = first_reason (server_reasons limits channel before c) ≡ None
-JudgesClose limits channel before c (Err (Refused code)) = IsRefused limits channel before c code.code
-JudgesClose limits channel before c (Err OutOfMemory) = ⊥
-JudgesClose limits channel before c (Err Closed) = ⊥
+JudgesClose limits channel before c (Err fault) = IsRefusalFor (IsRefused limits channel before c) fault
 
 -- why the ids of a chunk are refused: Bad_TcpSecureChannelUnknown, Bad_SecureChannelTokenUnknown
 abbrev pub ids_reasons : Chunk → ℕ → ℕ → ℕ → List (ℕ × Bool)
@@ -124,6 +117,4 @@ ids_reasons c channel used count = (0x807F_0000, not (c.channel == channel)) ∷
 -- what is made of the first OPN
 abbrev pub JudgesFirst : Limits → ℕ → Received → Content → Result (Running × Event) StepFault → Type 0
 JudgesFirst limits channel before c (Ok (r, e)) = TakesSo limits channel before c (Some e) × Stays limits r (after before c)
-JudgesFirst limits channel before c (Err (Refused code)) = IsRefused limits channel before c code.code
-JudgesFirst limits channel before c (Err OutOfMemory) = Unit {0}
-JudgesFirst limits channel before c (Err Closed) = ⊥
+JudgesFirst limits channel before c (Err fault) = IsRefusalFor (IsRefused limits channel before c) fault

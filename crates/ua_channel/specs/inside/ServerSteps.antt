@@ -1,5 +1,5 @@
 -- What a server's channel makes of a call of its reader, and of a piece.
-use Rattle.std.specs.Prelude.{◌≡◌, ℕ, ◌<◌, ◌≤◌, length, take, List, [], ◌∷◌, ◌++◌, Option, Some, None, Result, Ok, Err}
+use Rattle.std.specs.Prelude.{◌≡◌, ℕ, List, [], ◌∷◌, ◌++◌, Option, Result, Ok, Err}
 use Rattle.ua_builtin.specs.declared.date_time.DateTime.{DateTime}
 use Rattle.ua_channel.specs.declared.server.ServerChannel.{ServerChannel}
 use Rattle.ua_channel.specs.declared.server_event.Event.{Event}
@@ -8,6 +8,7 @@ use Rattle.ua_channel.specs.declared.server_event.ServerEvent.TheVariants.{NeedM
 use Rattle.ua_channel.specs.declared.server_fault.ChannelFault.{ChannelFault}
 use Rattle.ua_channel.specs.declared.server_fault.ChannelFault.TheVariants.{Refused, Closed, OutOfMemory}
 use Rattle.ua_channel.specs.declared.step_fault.StepFault.{StepFault}
+use Rattle.ua_channel.specs.inside.Parts.{NextsBy, StepsBy, TookBy}
 use Rattle.ua_channel.specs.inside.ServerEvents.{told_of}
 use Rattle.ua_channel.specs.ServerStands.{limits_of, channel_of, next_of, IsDone, Goes, GoesTelling, ClosedAt, RefusedAt, StarvedAt}
 use Rattle.ua_channel.specs.ServerTold.{Told, Told as told}
@@ -18,43 +19,41 @@ use Rattle.ua_channel.specs.declared.step_fault.StepFault.TheVariants as step
 
 -- where the channel stands with an event of a frame
 abbrev pub StandsWith : Event → ServerChannel → List ℕ → List Told → Type 0
-StandsWith (inner.Agreed a) new octets before = GoesTelling new octets before (told_of (inner.Agreed a))
-StandsWith (inner.Opened id handle token lifetime) new octets before = GoesTelling new octets before (told_of (inner.Opened id handle token lifetime))
-StandsWith (inner.Asked id token message) new octets before = GoesTelling new octets before (told_of (inner.Asked id token message))
-StandsWith (inner.Aborted id) new octets before = GoesTelling new octets before (told_of (inner.Aborted id))
 StandsWith inner.Closed new octets before = ClosedAt new octets (before ++ told.Closed ∷ [])
+StandsWith e new octets before = GoesTelling new octets before (told_of e)
+
+-- where the channel stands with a fault
+abbrev pub FailsWith : StepFault → ServerChannel → List ℕ → List Told → Type 0
+FailsWith (step.Refused code) new octets before = RefusedAt new octets before code.code
+FailsWith (step.Peer code) new octets before = ⊥
+FailsWith step.OutOfMemory new octets before = StarvedAt new octets before
+FailsWith step.Closed new octets before = ⊥
 
 -- one call of the reader, and what its frame comes to
 abbrev pub Steps : List ℕ → ℕ → Result (Option Event) StepFault → ServerChannel → List ℕ → List Told → Type 0
-Steps piece n (Ok None) new octets before = Goes new (octets ++ take n piece) before
-Steps piece n (Ok (Some e)) new octets before = StandsWith e new (octets ++ take n piece) before
-Steps piece n (Err (step.Refused code)) new octets before = RefusedAt new (octets ++ take n piece) before code.code
-Steps piece n (Err step.OutOfMemory) new octets before = StarvedAt new (octets ++ take n piece) before
-Steps piece n (Err step.Closed) new octets before = ⊥
+Steps piece n result new octets before = StepsBy (λ o. Goes new (octets ++ o) before) (λ e o. StandsWith e new (octets ++ o) before) (λ fault o. FailsWith fault new (octets ++ o) before) piece n result
 
--- the steps of a piece, up to the first event; with none the whole piece is taken
+-- the steps of a piece, up to the first event
 abbrev pub Nexts : List ℕ → ℕ → Result (Option Event) StepFault → ServerChannel → List ℕ → List Told → Type 0
-Nexts piece n (Ok None) new octets before = (n ≡ length piece) × Goes new (octets ++ piece) before
-Nexts piece n (Ok (Some e)) new octets before = (0 < n) × (n ≤ length piece) × StandsWith e new (octets ++ take n piece) before
-Nexts piece n (Err (step.Refused code)) new octets before = (n ≤ length piece) × RefusedAt new (octets ++ take n piece) before code.code
-Nexts piece n (Err step.OutOfMemory) new octets before = (n ≤ length piece) × StarvedAt new (octets ++ take n piece) before
-Nexts piece n (Err step.Closed) new octets before = ⊥
+Nexts piece n result new octets before = NextsBy (λ o. Goes new (octets ++ o) before) (λ e o. StandsWith e new (octets ++ o) before) (λ fault o. FailsWith fault new (octets ++ o) before) piece n result
+
+-- the same channel but for where it stands: its limits, its id, and its numbers
+pub record SameServer (a b : ServerChannel) : Type 0 where
+  pub limits : limits_of b ≡ limits_of a
+  pub channel : channel_of b ≡ channel_of a
+  pub numbers : b.numbers ≡ a.numbers
 
 -- so many octets of a piece were taken since it stood there, and nothing was told
-pub record Took (old now : ServerChannel) (piece : List ℕ) (taken : ℕ) : Type 0 where
-  pub within : taken ≤ length piece
-  pub goes : (octets : List ℕ) (before : List Told) → Goes old octets before → Goes now (octets ++ take taken piece) before
-  pub limits : limits_of now ≡ limits_of old
-  pub channel : channel_of now ≡ channel_of old
-  pub numbers : now.numbers ≡ old.numbers
+abbrev pub Took : ServerChannel → ServerChannel → List ℕ → ℕ → Type 0
+Took old now piece taken = TookBy (λ (x : ServerChannel) (k : Unit {0}). Goes x) SameServer old now piece taken
 
 -- what is answered to an event of the last frame
-abbrev pub Answered : ℕ → ℕ → DateTime → Result ServerEvent ChannelFault → ServerChannel → List ℕ → List Told → Type 0
-Answered channel number moment (Ok NeedMore) new octets before = ⊥
-Answered channel number moment (Ok (Send sent)) new octets before = SendsOctets channel number moment sent.items new octets before
-Answered channel number moment (Ok (Asked id message)) new octets before = Asks id message new octets before × (next_of new ≡ number)
-Answered channel number moment (Ok (Aborted id)) new octets before = GoesTelling new octets before (told.GaveUp id) × (next_of new ≡ number)
-Answered channel number moment (Ok event.Closed) new octets before = ClosedAt new octets (before ++ told.Closed ∷ [])
-Answered channel number moment (Err OutOfMemory) new octets before = IsDone new
-Answered channel number moment (Err (Refused code err)) new octets before = ⊥
-Answered channel number moment (Err Closed) new octets before = ⊥
+abbrev pub AnswersTo : ℕ → ℕ → DateTime → Result ServerEvent ChannelFault → ServerChannel → List ℕ → List Told → Type 0
+AnswersTo channel number moment (Ok NeedMore) new octets before = ⊥
+AnswersTo channel number moment (Ok (Send sent)) new octets before = SendsOctets channel number moment sent.items new octets before
+AnswersTo channel number moment (Ok (Asked id message)) new octets before = Asks id message new octets before × (next_of new ≡ number)
+AnswersTo channel number moment (Ok (Aborted id)) new octets before = GoesTelling new octets before (told.GaveUp id) × (next_of new ≡ number)
+AnswersTo channel number moment (Ok event.Closed) new octets before = ClosedAt new octets (before ++ told.Closed ∷ [])
+AnswersTo channel number moment (Err OutOfMemory) new octets before = IsDone new
+AnswersTo channel number moment (Err (Refused code err)) new octets before = ⊥
+AnswersTo channel number moment (Err Closed) new octets before = ⊥

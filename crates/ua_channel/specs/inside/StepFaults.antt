@@ -5,7 +5,7 @@ use Rattle.ua_frame.specs.declared.fault.FrameFault.{FrameFault}
 use Rattle.ua_chunk.specs.declared.fault.AssembleFault.{AssembleFault}
 use Rattle.ua_chunk.specs.declared.fault.OpenFault.{OpenFault}
 use Rattle.ua_channel.specs.declared.step_fault.StepFault.{StepFault}
-use Rattle.ua_channel.specs.declared.step_fault.StepFault.TheVariants.{Refused, Closed, OutOfMemory}
+use Rattle.ua_channel.specs.declared.step_fault.StepFault.TheVariants.{Refused, Peer, Closed, OutOfMemory}
 use Rattle.ua_frame.specs.Frames.{frame_octets}
 use Rattle.ua_frame.specs.Messages.{err_frame}
 use Rattle.ua_channel.specs.declared.server_fault.ChannelFault.{ChannelFault}
@@ -49,5 +49,6 @@ of_chunk_fault large fault = Refused (of_code (fault_code large fault))
 -- of a step, for the caller: with the ERR frame that says the code
 abbrev pub of_step : StepFault → ChannelFault
 of_step (Refused code) = channel_fault.Refused code (frame_octets (err_frame code))
+of_step (Peer code) = channel_fault.Refused code (frame_octets (err_frame code))
 of_step Closed = channel_fault.Closed
 of_step OutOfMemory = channel_fault.OutOfMemory

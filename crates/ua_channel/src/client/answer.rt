@@ -5,7 +5,7 @@ ghost use Rattle.ua_services.specs.Open.{answer_read};
 ghost use Rattle.ua_channel.specs.inside.ClientParts.{Judged, JudgesAnswer, body_reasons, response_reasons, IsResponse, IsAnsweredBy};
 ghost use Rattle.ua_channel.specs.Content.{opening_of};
 
-use crate::client::fault::Stop;
+use crate::step_fault::StepFault;
 use std::alloc::Global;
 use ua_builtin::{Octets, ReadFault, StatusCode};
 use ua_chunk::read_open;
@@ -22,36 +22,38 @@ pub struct Answer {
 }
 
 /// The channel and the token of a good response.
-fn judge_response(response: OpenResponse) -> Result<(u32, u32), Stop>
+fn judge_response(response: OpenResponse) -> Result<(u32, u32), StepFault>
     ensures { Judged (response_reasons response) (IsResponse response) result }
 {
     let code = response.response_header.service_result;
     if code.is_bad() {
-        return Err(Stop::Refused(code));
+        return Err(StepFault::Refused(code));
     }
     Ok((response.channel_id, response.token_id))
 }
 
 /// The channel and the token of the body of an OPN.
-fn judge_body(alloc: Global, body: &[u8]) -> Result<(u32, u32), Stop>
+fn judge_body(alloc: Global, body: &[u8]) -> Result<(u32, u32), StepFault>
     ensures { Judged (body_reasons (answer_read body.now)) (λ ids. IsAnsweredBy (answer_read body.now) ids) result }
 {
     let mut src = Octets::new(body);
     match read_open_response(alloc, &mut src) {
         Ok(OpenAnswer::Open(response)) => judge_response(response),
-        Ok(OpenAnswer::Fault(fault)) => Err(Stop::Refused(fault.response_header.service_result)),
-        Err(ReadFault::NoValue) => Err(Stop::Refused(StatusCode::BAD_DECODING_ERROR)),
-        Err(ReadFault::OutOfMemory) => Err(Stop::OutOfMemory),
+        Ok(OpenAnswer::Fault(fault)) => Err(StepFault::Refused(
+            fault.response_header.service_result,
+        )),
+        Err(ReadFault::NoValue) => Err(StepFault::Refused(StatusCode::BAD_DECODING_ERROR)),
+        Err(ReadFault::OutOfMemory) => Err(StepFault::OutOfMemory),
     }
 }
 
 /// What an OPN frame answers, but for what depends on the frames before it.
-pub fn judge_answer(alloc: Global, frame: Frame) -> Result<Answer, Stop>
+pub fn judge_answer(alloc: Global, frame: Frame) -> Result<Answer, StepFault>
     ensures { JudgesAnswer (opening_of frame.body) result }
 {
     let opening = match read_open(frame) {
         Ok(opening) => opening,
-        Err(fault) => return Err(Stop::of_open(fault)),
+        Err(fault) => return Err(StepFault::of_open(fault)),
     };
     match judge_body(alloc, &opening.body) {
         Ok((channel, token)) => Ok(Answer {
@@ -60,6 +62,6 @@ pub fn judge_answer(alloc: Global, frame: Frame) -> Result<Answer, Stop>
             channel,
             token,
         }),
-        Err(stop) => Err(stop),
+        Err(fault) => Err(fault),
     }
 }

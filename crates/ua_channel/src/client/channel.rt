@@ -8,15 +8,15 @@ ghost use Rattle.ua_frame.specs.Reader.{open_reader};
 ghost use Rattle.ua_frame.specs.declared.frame.Frame.{Frame};
 ghost use Rattle.ua_channel.specs.Asks.{Asking, Placed, asked_in, next_id};
 ghost use Rattle.ua_channel.specs.Asks.Asking.{Call, Renewal};
-ghost use Rattle.ua_channel.specs.Client.{ClientStands, ClientGoes, IsClientDone, InPhase, SameClient, client_limits, url_of, client_next, phase_of, client_bound, client_bound_behind, held_octets, call_refused, renewal_refused, closing_refused, JudgesLength, SendsCall, SendsRenewal, SendsClosing};
-ghost use Rattle.ua_channel.specs.ClientAnswers.{ClientAnswers, AnswersEvent, ComesInParts, ClientProgress, parts_handed};
+ghost use Rattle.ua_channel.specs.Client.{ClientStands, ClientGoes, ClientStarvedAt, IsClientDone, InPhase, SameClient, client_limits, url_of, client_next, phase_of, client_bound, client_bound_behind, held_octets, call_refused, renewal_refused, closing_refused, JudgesLength, SendsCall, SendsRenewal, SendsClosing};
+ghost use Rattle.ua_channel.specs.ClientAnswers.{ClientAnswers, ComesInParts, ClientProgress, parts_handed};
 ghost use Rattle.ua_channel.specs.ClientAsks.{call_reasons, closing_reasons, renewing_reasons, Talks, AnswersFor, IsCalled, IsClosed, IsRenewed, JudgesBy};
-ghost use Rattle.ua_channel.specs.inside.ClientParts.{Judged, JudgesWhole, TookFrame, OpensChannel, StaysOpen, FailsBy, IsFront, StepsOnce, Advances, TellsEvent, greeted, event_parts};
+ghost use Rattle.ua_channel.specs.inside.ClientParts.{AnswersEvent, ClientNexts, ClientSteps, ComesTo, Judged, JudgesWhole, TookFrame, StaysOpen, counted, greeted, event_parts};
 ghost use Rattle.ua_channel.specs.ClientSends.{hello_frame, hello_to};
 ghost use Rattle.ua_channel.specs.ClientTable.{client_gate, client_reasons, ack_gate, answer_gate, reply_gate};
 ghost use Rattle.ua_channel.specs.ClientTold.{ClientTold};
 ghost use Rattle.ua_channel.specs.Content.{content};
-ghost use Rattle.ua_channel.specs.inside.Parts.{HasShape};
+ghost use Rattle.ua_channel.specs.inside.Parts.{HasShape, Moves};
 ghost use Rattle.ua_channel.specs.Received.{Received, nothing_received, received};
 ghost use Rattle.ua_channel.specs.declared.client.fault.AskFault.TheVariants.{NotOpen};
 ghost use Rattle.ua_channel.specs.declared.client.fault.ClientTakeFault.TheVariants.{Closed, OutOfMemory};
@@ -24,17 +24,18 @@ ghost use Rattle.ua_channel.specs.declared.client.fault.ClientTakeFault.TheVaria
 use crate::client::address::Address;
 use crate::client::agreed::Agreed;
 use crate::client::event::{ClientEvent, Event};
-use crate::client::fault::{AskFault, ClientTakeFault, Stop};
+use crate::client::fault::{AskFault, ClientTakeFault};
 use crate::client::greeting::greet;
 use crate::client::octets::{close_octets, hello_octets, open_octets};
 use crate::client::phase::Phase;
 use crate::client::talking::Talking;
 use crate::numbers::Numbers;
 use crate::sizes::{FIRST_ID, LEAST_SIZE, MOST_OPEN};
+use crate::step_fault::StepFault;
 use std::alloc::{AllocError, Global};
 use std::mem;
 use ua_builtin::{DateTime, UaString};
-use ua_frame::{Frame, FrameFault, FrameReader, Gate, HEADER_LEN, Kind, Limits};
+use ua_frame::{Frame, FrameReader, Gate, HEADER_LEN, Kind, Limits};
 
 /// The client's end of a connection and its secure channel (OPC 10000-6, 6.7 and 7.1), with no IO:
 /// octets that came go in, octets to be sent come out.
@@ -242,16 +243,14 @@ impl ClientChannel {
     /// Ends the channel, which then holds nothing.
     fn end(&mut self)
         ensures done { IsClientDone self.new }
-        ensures same { SameClient self.old self.new }
-        ensures bound { client_bound self.new ≡ client_bound self.old }
-        ensures next { client_next self.new ≡ client_next self.old }
+        ensures kept { self.new ≡ record self.old { phase = phase_of self.new; reader = self.new.reader } }
     {
         self.phase = Phase::Done;
         self.reader.close();
     }
 
     /// Takes the frame behind a HEL.
-    fn on_greeting(&mut self, frame: Frame) -> Result<Option<Event>, Stop>
+    fn on_greeting(&mut self, frame: Frame) -> Result<Option<Event>, StepFault>
         ensures judges { LetsIn ack_gate frame → Judged (client_reasons (client_limits self.old) nothing_received [] (content frame))
             (TookFrame (client_limits self.old) nothing_received [] (content frame) self.new) result }
         ensures kept { self.new ≡ record self.old { phase = phase_of self.new; bound = client_bound self.new } }
@@ -264,14 +263,14 @@ impl ClientChannel {
                 self.phase = Phase::Agreed(agreed);
                 Ok(Some(Event::Agreed(agreed.ack)))
             }
-            Err(stop) => Err(stop),
+            Err(fault) => Err(fault),
         }
     }
 
     /// Takes the frame behind an ACK.
-    fn on_opening(&mut self, agreed: Agreed, frame: Frame) -> Result<Option<Event>, Stop>
+    fn on_opening(&mut self, agreed: Agreed, frame: Frame) -> Result<Option<Event>, StepFault>
         ensures judges { LetsIn (answer_gate agreed.ack.send_buffer_size) frame → Judged (client_reasons (client_limits self.old) (greeted agreed) [] (content frame))
-            (OpensChannel (client_limits self.old) agreed (content frame) self.new) result }
+            (StaysOpen (client_limits self.old) (greeted agreed) [] (content frame) self.new) result }
         ensures kept { self.new ≡ record self.old { phase = phase_of self.new } }
         ensures failed { OnErr result (self.new ≡ self.old) }
     {
@@ -281,12 +280,12 @@ impl ClientChannel {
                 self.phase = Phase::Open(talking);
                 Ok(Some(event))
             }
-            Err(stop) => Err(stop),
+            Err(fault) => Err(fault),
         }
     }
 
     /// Takes a frame of an open channel.
-    fn on_reply(&mut self, mut talking: Talking, frame: Frame) -> Result<Option<Event>, Stop>
+    fn on_reply(&mut self, mut talking: Talking, frame: Frame) -> Result<Option<Event>, StepFault>
         requires { HasShape frame }
         ensures judges { (before : Received) (asked : List Asking) → Talks (client_limits self.old) talking before asked
             → LetsIn (reply_gate talking.agreed.ack.send_buffer_size) frame
@@ -299,12 +298,12 @@ impl ClientChannel {
                 self.phase = Phase::Open(talking);
                 Ok(event)
             }
-            Err(stop) => Err(stop),
+            Err(fault) => Err(fault),
         }
     }
 
     /// Goes on by a frame.
-    fn on_frame(&mut self, frame: Frame) -> Result<Option<Event>, Stop>
+    fn on_frame(&mut self, frame: Frame) -> Result<Option<Event>, StepFault>
         requires { HasShape frame }
         ensures judges { (before : Received) (asked : List Asking) → InPhase (client_limits self.old) (phase_of self.old) before asked
             → client_bound self.old ≡ client_bound_behind (client_limits self.old) before.ack → LetsIn (client_gate before) frame
@@ -316,111 +315,78 @@ impl ClientChannel {
             Phase::Waiting => self.on_greeting(frame),
             Phase::Agreed(agreed) => self.on_opening(agreed, frame),
             Phase::Open(talking) => self.on_reply(talking, frame),
-            Phase::Done => Err(Stop::Closed),
+            Phase::Done => Err(StepFault::Closed),
         }
     }
 
     /// What a frame comes to, and the gate for the next one.
-    fn on_whole(&mut self, frame: Frame) -> Result<Option<Event>, ClientTakeFault>
+    fn on_whole(&mut self, frame: Frame) -> Result<Option<Event>, StepFault>
         requires shape { HasShape frame }
         requires empty { self.old.reader.held ≡ [] }
         ensures judges { (before : Received) (asked : List Asking) → InPhase (client_limits self.old) (phase_of self.old) before asked
             → client_bound self.old ≡ client_bound_behind (client_limits self.old) before.ack → self.old.reader ≡ open_reader (client_gate before) [] → LetsIn (client_gate before) frame
             → JudgesWhole (client_limits self.old) before asked (content frame) self.new result }
-        ensures same { SameClient self.old self.new }
-        ensures next { client_next self.new ≡ client_next self.old }
+        ensures kept { self.new ≡ record self.old { phase = phase_of self.new; reader = self.new.reader; bound = client_bound self.new } }
     {
         match self.on_frame(frame) {
             Ok(event) => {
                 self.reader.set_gate(self.phase.gate());
                 Ok(event)
             }
-            Err(stop) => {
+            Err(fault) => {
                 self.end();
-                stop.failure()
+                Err(fault)
             }
         }
     }
 
-    /// What a fault of the reader comes to.
-    fn on_fault(&mut self, fault: FrameFault) -> Result<Option<Event>, ClientTakeFault>
-        ensures failure { FailsBy fault result }
-        ensures done { IsClientDone self.new }
-        ensures same { SameClient self.old self.new }
-        ensures bound { client_bound self.new ≡ client_bound self.old }
-        ensures next { client_next self.new ≡ client_next self.old }
-    {
-        self.end();
-        match fault.code() {
-            Some(code) => Ok(Some(Event::Failed(code, false))),
-            None => Err(ClientTakeFault::OutOfMemory),
-        }
-    }
-
-    /// The front of a piece up to the eighth octet of a frame, or all of it where that is behind.
-    fn front<'a>(&self, piece: &'a [u8]) -> &'a [u8]
-        ensures { IsFront self.now.reader.held piece.now result.now }
-    {
-        let missing = HEADER_LEN.saturating_sub(self.reader.held());
-        if 0 < missing && missing < piece.len() {
-            &piece[..missing]
-        } else {
-            piece
-        }
-    }
-
-    /// One call of the reader, and what its frame comes to.
-    fn step(&mut self, piece: &[u8]) -> Result<(usize, Option<Event>), ClientTakeFault>
-        ensures steps { (asks : List Placed) (octets : List ℕ) (told : List ClientTold) → ClientGoes self.old asks octets told → StepsOnce piece.now result self.new asks octets told }
+    /// One call of the reader, and what its frame comes to, with the octets that were taken.
+    fn step(&mut self, piece: &[u8]) -> (usize, Result<Option<Event>, StepFault>)
+        ensures steps { (asks : List Placed) (octets : List ℕ) (told : List ClientTold) → ClientGoes self.old asks octets told → ClientSteps piece.now result.0 result.1 self.new asks octets told }
         ensures parts { (asks : List Placed) (octets : List ℕ) (told : List ClientTold) → ClientGoes self.old asks octets told
-            → IfOk result (λ r. ComesInParts (event_parts r.1) self.new asks (octets ++ take r.0 piece.now)) }
-        ensures progress { ClientProgress piece.now result }
+            → IfOk result.1 (λ e. ComesInParts (event_parts e) self.new asks (octets ++ take result.0 piece.now)) }
+        ensures moves { Moves piece.now result.0 }
         ensures same { SameClient self.old self.new }
         ensures next { client_next self.new ≡ client_next self.old }
     {
-        let front = self.front(piece);
-        match self.reader.take(front) {
-            Ok((n, found)) => match found {
-                None => Ok((n, None)),
-                Some(frame) => match self.on_whole(frame) {
-                    Ok(event) => Ok((n, event)),
-                    Err(fault) => Err(fault),
-                },
-            },
-            Err(fault) => match self.on_fault(fault) {
-                Ok(event) => Ok((front.len(), event)),
-                Err(fault) => Err(fault),
-            },
-        }
-    }
-
-    /// Takes octets up to the end of the first frame that tells something, else the whole piece.
-    fn advance(&mut self, piece: &[u8]) -> Result<(usize, Option<Event>), ClientTakeFault>
-        ensures advances { (asks : List Placed) (octets : List ℕ) (told : List ClientTold) → ClientGoes self.old asks octets told → Advances piece.now result self.new asks octets told }
-        ensures parts { (asks : List Placed) (octets : List ℕ) (told : List ClientTold) → ClientGoes self.old asks octets told
-            → IfOk result (λ r. ComesInParts (event_parts r.1) self.new asks (octets ++ take r.0 piece.now)) }
-        ensures progress { ClientProgress piece.now result }
-        ensures closed { IsClientDone self.old → (result ≡ Err Closed) × (self.new ≡ self.old) }
-        ensures same { SameClient self.old self.new }
-        ensures next { client_next self.new ≡ client_next self.old }
-    {
-        if let Phase::Done = self.phase {
-            return Err(ClientTakeFault::Closed);
-        }
-        let mut at = 0;
-        while at < piece.len() {
-            match self.step(&piece[at..]) {
-                Ok((n, None)) => at += n,
-                Ok((n, Some(event))) => return Ok((at + n, Some(event))),
-                Err(fault) => return Err(fault),
+        let held = self.reader.held();
+        match self.reader.take(piece) {
+            Ok((n, None)) => (n, Ok(None)),
+            Ok((n, Some(frame))) => (n, self.on_whole(frame)),
+            Err(fault) => {
+                self.end();
+                let n = HEADER_LEN.saturating_sub(held).max(1).min(piece.len());
+                (n, Err(StepFault::of_frame(fault)))
             }
         }
-        Ok((at, None))
+    }
+
+    /// Takes octets up to the end of the first frame that tells something, else the whole piece,
+    /// and says how many it took.
+    fn next_event(&mut self, piece: &[u8]) -> (usize, Result<Option<Event>, StepFault>)
+        ensures nexts { (asks : List Placed) (octets : List ℕ) (told : List ClientTold) → ClientGoes self.old asks octets told → ClientNexts piece.now result.0 result.1 self.new asks octets told }
+        ensures parts { (asks : List Placed) (octets : List ℕ) (told : List ClientTold) → ClientGoes self.old asks octets told
+            → IfOk result.1 (λ e. ComesInParts (event_parts e) self.new asks (octets ++ take result.0 piece.now)) }
+        ensures moves { Moves piece.now result.0 }
+        ensures same { SameClient self.old self.new }
+        ensures next { client_next self.new ≡ client_next self.old }
+    {
+        let mut taken = 0;
+        while taken < piece.len() {
+            let (n, answer) = self.step(&piece[taken..]);
+            taken += n;
+            match answer {
+                Ok(None) => {}
+                Ok(Some(event)) => return (taken, Ok(Some(event))),
+                Err(fault) => return (taken, Err(fault)),
+            }
+        }
+        (taken, Ok(None))
     }
 
     /// What is answered at an event. The moment is that of the OPN.
     fn answer(&mut self, event: Event, moment: DateTime) -> Result<ClientEvent, ClientTakeFault>
-        ensures answers { (asks : List Placed) (octets : List ℕ) (told : List ClientTold) → TellsEvent event self.old asks octets told
+        ensures answers { (asks : List Placed) (octets : List ℕ) (told : List ClientTold) → ComesTo event self.old asks octets told
             → AnswersEvent moment result self.new asks octets told }
         ensures parts { (asks : List Placed) (octets : List ℕ) → ComesInParts (event_parts (Some event)) self.old asks octets
             → IfOk result (λ e. ComesInParts (parts_handed e) self.new asks octets) }
@@ -439,35 +405,31 @@ impl ClientChannel {
             Event::Answered(id, message) => Ok(ClientEvent::Answered(id, message)),
             Event::Aborted(id, code) => Ok(ClientEvent::Aborted(id, code)),
             Event::Renewed(token) => Ok(ClientEvent::Renewed(token)),
-            Event::Failed(code, peer) => Ok(ClientEvent::Failed { code, peer }),
         }
     }
 
     /// Takes octets up to the end of the first frame that tells something, and answers what that
-    /// comes to, else takes the whole piece. The moment is that of the OPN.
+    /// comes to, else takes the whole piece, and says how many it took. The moment is that of the OPN.
     fn go_on(
         &mut self,
         piece: &[u8],
         moment: DateTime,
-    ) -> Result<(usize, ClientEvent), ClientTakeFault>
+    ) -> (usize, Result<ClientEvent, ClientTakeFault>)
         ensures answers { (asks : List Placed) (octets : List ℕ) (told : List ClientTold) → ClientGoes self.old asks octets told
-            → ClientAnswers moment piece.now result self.new asks octets told }
+            → ClientAnswers moment piece.now (counted result.0 result.1) self.new asks octets told }
         ensures parts { (asks : List Placed) (octets : List ℕ) (told : List ClientTold) → ClientGoes self.old asks octets told
-            → IfOk result (λ r. ComesInParts (parts_handed r.1) self.new asks (octets ++ take r.0 piece.now)) }
-        ensures progress { ClientProgress piece.now result }
-        ensures closed { IsClientDone self.old → (result ≡ Err Closed) × (self.new ≡ self.old) }
+            → IfOk result.1 (λ e. ComesInParts (parts_handed e) self.new asks (octets ++ take result.0 piece.now)) }
+        ensures moves { Moves piece.now result.0 }
+        ensures starves { (asks : List Placed) (octets : List ℕ) (told : List ClientTold) → ClientGoes self.old asks octets told → IsErrOf result.1 OutOfMemory
+            → ClientStarvedAt self.new asks (octets ++ take result.0 piece.now) told }
         ensures same { SameClient self.old self.new }
         ensures next { client_next self.new ≡ client_next self.old }
     {
-        match self.advance(piece) {
-            Ok((n, found)) => match found {
-                None => Ok((n, ClientEvent::NeedMore)),
-                Some(event) => match self.answer(event, moment) {
-                    Ok(answer) => Ok((n, answer)),
-                    Err(fault) => Err(fault),
-                },
-            },
-            Err(fault) => Err(fault),
+        let (n, outcome) = self.next_event(piece);
+        match outcome {
+            Ok(None) => (n, Ok(ClientEvent::NeedMore)),
+            Ok(Some(event)) => (n, self.answer(event, moment)),
+            Err(fault) => (n, ClientEvent::of_fault(fault)),
         }
     }
 
@@ -486,18 +448,25 @@ impl ClientChannel {
             → IfOk result (λ r. ComesInParts (parts_handed r.1) self.new asks (octets ++ take r.0 piece.now)) }
         ensures progress { ClientProgress piece.now result }
         ensures closed { IsClientDone self.old → (result ≡ Err Closed) × (self.new ≡ self.old) }
+        // Where memory is refused, it is within a frame whose header is there and good.
+        ensures starves { (asks : List Placed) (octets : List ℕ) (told : List ClientTold) → ClientGoes self.old asks octets told → IsErrOf result OutOfMemory
+            → (n : ℕ) × (n ≤ length piece.now) × ClientStarvedAt self.new asks (octets ++ take n piece.now) told }
         // After want of memory, the bound is what it was before the call.
         ensures starved { IsErrOf result OutOfMemory → client_bound self.new ≡ client_bound self.old }
         ensures same { SameClient self.old self.new }
         ensures next { client_next self.new ≡ client_next self.old }
     {
+        if let Phase::Done = self.phase {
+            return Err(ClientTakeFault::Closed);
+        }
         let bound = self.bound;
-        match self.go_on(piece, moment) {
-            Err(ClientTakeFault::OutOfMemory) => {
+        let (n, answer) = self.go_on(piece, moment);
+        match answer {
+            Ok(event) => Ok((n, event)),
+            Err(fault) => {
                 self.bound = bound;
-                Err(ClientTakeFault::OutOfMemory)
+                Err(fault)
             }
-            taken => taken,
         }
     }
 }

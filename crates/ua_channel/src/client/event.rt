@@ -1,5 +1,7 @@
 //! What comes of the octets that a client takes.
 
+use crate::client::fault::ClientTakeFault;
+use crate::step_fault::StepFault;
 use ua_builtin::StatusCode;
 use ua_chunk::Message;
 use ua_frame::Ack;
@@ -41,6 +43,21 @@ pub enum Event {
     Aborted(u32, StatusCode),
     /// A further token.
     Renewed(u32),
-    /// The connection failed, for this reason, which is the peer's or not.
-    Failed(StatusCode, bool),
+}
+
+impl ClientEvent {
+    ghost use Rattle.std.specs.Prelude.{◌≡◌};
+    ghost use Rattle.ua_channel.specs.inside.ClientParts.{failure_of};
+
+    /// The event of a channel that this stops, or the fault of its call.
+    pub(crate) fn of_fault(fault: StepFault) -> Result<ClientEvent, ClientTakeFault>
+        ensures { result ≡ failure_of fault }
+    {
+        match fault {
+            StepFault::Refused(code) => Ok(ClientEvent::Failed { code, peer: false }),
+            StepFault::Peer(code) => Ok(ClientEvent::Failed { code, peer: true }),
+            StepFault::OutOfMemory => Err(ClientTakeFault::OutOfMemory),
+            StepFault::Closed => Err(ClientTakeFault::Closed),
+        }
+    }
 }

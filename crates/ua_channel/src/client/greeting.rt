@@ -11,8 +11,8 @@ ghost use Rattle.ua_channel.specs.Content.Content.{Acks};
 ghost use Rattle.ua_channel.specs.Received.{nothing_received};
 
 use crate::client::agreed::Agreed;
-use crate::client::fault::Stop;
 use crate::sizes::LEAST_SIZE;
+use crate::step_fault::StepFault;
 use std::alloc::{AllocError, Global};
 use ua_builtin::{StatusCode, Wire};
 use ua_frame::{Ack, ErrorFrame, Frame, Kind, Limits};
@@ -32,13 +32,13 @@ fn read_error(alloc: Global, body: &[u8]) -> Result<Option<ErrorFrame>, AllocErr
 }
 
 /// Why the body of an ERR stops a channel: its code, which is the peer's.
-pub fn stop_of_error(alloc: Global, body: &[u8]) -> Stop
+pub fn stop_of_error(alloc: Global, body: &[u8]) -> StepFault
     ensures { IsStopFor (error_reasons (whole_of error body.now)) result }
 {
     match read_error(alloc, body) {
-        Ok(Some(error)) => Stop::Peer(error.error),
-        Ok(None) => Stop::Refused(StatusCode::BAD_DECODING_ERROR),
-        Err(_) => Stop::OutOfMemory,
+        Ok(Some(error)) => StepFault::Peer(error.error),
+        Ok(None) => StepFault::Refused(StatusCode::BAD_DECODING_ERROR),
+        Err(_) => StepFault::OutOfMemory,
     }
 }
 
@@ -54,26 +54,26 @@ fn is_outside(limits: &Limits, ack: &Ack) -> bool
 }
 
 /// What the body of an ACK agrees to, within what a client with these limits allows.
-fn judge_ack(alloc: Global, limits: &Limits, body: &[u8]) -> Result<Agreed, Stop>
+fn judge_ack(alloc: Global, limits: &Limits, body: &[u8]) -> Result<Agreed, StepFault>
     ensures { Judged (ack_reasons limits.now (whole_of ack body.now)) (IsAgreed (whole_of ack body.now)) result }
 {
     let Some(ack) = read_ack(alloc, body)? else {
-        return Err(Stop::Refused(StatusCode::BAD_DECODING_ERROR));
+        return Err(StepFault::Refused(StatusCode::BAD_DECODING_ERROR));
     };
     if is_outside(limits, &ack) {
-        return Err(Stop::Refused(StatusCode::BAD_TCP_NOT_ENOUGH_RESOURCES));
+        return Err(StepFault::Refused(StatusCode::BAD_TCP_NOT_ENOUGH_RESOURCES));
     }
     Ok(Agreed { ack })
 }
 
 /// What a frame of a server agrees to that had nothing but a HEL.
-pub fn greet(alloc: Global, limits: &Limits, frame: Frame) -> Result<Agreed, Stop>
+pub fn greet(alloc: Global, limits: &Limits, frame: Frame) -> Result<Agreed, StepFault>
     ensures { LetsIn ack_gate frame
         → Judged (client_reasons limits.now nothing_received [] (content frame)) (λ a. content frame ≡ Acks (Some a.ack)) result }
 {
     match frame.kind {
         Kind::Ack => judge_ack(alloc, limits, &frame.body),
         Kind::Err => Err(stop_of_error(alloc, &frame.body)),
-        _ => Err(Stop::Closed),
+        _ => Err(StepFault::Closed),
     }
 }

@@ -22,11 +22,12 @@ ghost use Rattle.ua_channel.specs.Received.{Received};
 use crate::client::agreed::Agreed;
 use crate::client::answer::{Answer, judge_answer};
 use crate::client::event::Event;
-use crate::client::fault::{AskFault, Stop};
+use crate::client::fault::AskFault;
 use crate::client::greeting::stop_of_error;
 use crate::client::octets::renewal_octets;
 use crate::numbers::Numbers;
 use crate::sizes::{CHUNK_HEADERS, FIRST_ID, OPENING_ID};
+use crate::step_fault::StepFault;
 use std::alloc::Global;
 use ua_builtin::{DateTime, StatusCode};
 use ua_chunk::{Assembler, Chunk, Delivered, Lane, cut, read_chunk};
@@ -111,15 +112,15 @@ impl Talking {
         limits: &Limits,
         agreed: Agreed,
         answer: Answer,
-    ) -> Result<Talking, Stop>
+    ) -> Result<Talking, StepFault>
         ensures { Judged (first_reasons answer) (IsOpenedWith limits.now agreed answer) result }
     {
         if answer.request != OPENING_ID {
-            return Err(Stop::Refused(StatusCode::BAD_UNKNOWN_RESPONSE));
+            return Err(StepFault::Refused(StatusCode::BAD_UNKNOWN_RESPONSE));
         }
         let mut tokens = Vec::new(alloc);
         let Ok(()) = tokens.push(answer.token) else {
-            return Err(Stop::OutOfMemory);
+            return Err(StepFault::OutOfMemory);
         };
         Ok(Talking {
             agreed,
@@ -144,40 +145,40 @@ impl Talking {
         limits: &Limits,
         agreed: Agreed,
         frame: Frame,
-    ) -> Result<Talking, Stop>
+    ) -> Result<Talking, StepFault>
         ensures { LetsIn (answer_gate agreed.ack.send_buffer_size) frame
             → Judged (client_reasons limits.now (greeted agreed) [] (content frame)) (IsOpenedBy limits.now agreed (content frame)) result }
     {
         match frame.kind {
             Kind::Opn => match judge_answer(alloc, frame) {
                 Ok(answer) => Talking::open(alloc, limits, agreed, answer),
-                Err(stop) => Err(stop),
+                Err(fault) => Err(fault),
             },
             Kind::Err => Err(stop_of_error(alloc, &frame.body)),
-            _ => Err(Stop::Closed),
+            _ => Err(StepFault::Closed),
         }
     }
 
     // ---- what comes
 
     /// Takes the answer to a renewal.
-    fn on_answer(&mut self, answer: Answer) -> Result<(), Stop>
+    fn on_answer(&mut self, answer: Answer) -> Result<(), StepFault>
         ensures { (cs : List Chunk) → Stands self.old.assembler cs → Judged (renewal_reasons self.old answer) (λ _. IsRenewedWith self.old answer cs self.new) result }
     {
         if answer.channel != self.channel {
-            return Err(Stop::Refused(StatusCode::BAD_TCP_SECURE_CHANNEL_UNKNOWN));
+            return Err(StepFault::Refused(StatusCode::BAD_TCP_SECURE_CHANNEL_UNKNOWN));
         }
         if self.tokens.contains(&answer.token) {
-            return Err(Stop::Refused(StatusCode::BAD_SECURE_CHANNEL_TOKEN_UNKNOWN));
+            return Err(StepFault::Refused(StatusCode::BAD_SECURE_CHANNEL_TOKEN_UNKNOWN));
         }
         if let Err(fault) = self.assembler.step(answer.sequence) {
-            return Err(Stop::of_chunk(fault));
+            return Err(StepFault::of_chunk(fault, StatusCode::BAD_RESPONSE_TOO_LARGE));
         }
         if self.renewal != Some(answer.request) {
-            return Err(Stop::Refused(StatusCode::BAD_UNKNOWN_RESPONSE));
+            return Err(StepFault::Refused(StatusCode::BAD_UNKNOWN_RESPONSE));
         }
         let Ok(()) = self.tokens.push(answer.token) else {
-            return Err(Stop::OutOfMemory);
+            return Err(StepFault::OutOfMemory);
         };
         self.newest = answer.token;
         self.renewal = None;
@@ -185,35 +186,35 @@ impl Talking {
     }
 
     /// Takes the answer to a renewal, and tells the token.
-    fn on_renewed(&mut self, answer: Answer) -> Result<Option<Event>, Stop>
+    fn on_renewed(&mut self, answer: Answer) -> Result<Option<Event>, StepFault>
         ensures { (cs : List Chunk) → Stands self.old.assembler cs → Judged (renewal_reasons self.old answer) (TellsRenewal self.old answer cs self.new) result }
     {
         match self.on_answer(answer) {
             Ok(()) => Ok(Some(Event::Renewed(answer.token))),
-            Err(stop) => Err(stop),
+            Err(fault) => Err(fault),
         }
     }
 
     /// Whether a chunk is on this channel, under a token that is held.
-    fn judge_chunk(&self, chunk: &Chunk) -> Result<(), Stop>
+    fn judge_chunk(&self, chunk: &Chunk) -> Result<(), StepFault>
         ensures { Judged (token_reasons self.now chunk.now) any_event result }
     {
         if chunk.channel != self.channel {
-            return Err(Stop::Refused(StatusCode::BAD_TCP_SECURE_CHANNEL_UNKNOWN));
+            return Err(StepFault::Refused(StatusCode::BAD_TCP_SECURE_CHANNEL_UNKNOWN));
         }
         if !self.tokens.contains(&chunk.token) {
-            return Err(Stop::Refused(StatusCode::BAD_SECURE_CHANNEL_TOKEN_UNKNOWN));
+            return Err(StepFault::Refused(StatusCode::BAD_SECURE_CHANNEL_TOKEN_UNKNOWN));
         }
         Ok(())
     }
 
     /// Takes what the assembler makes of a chunk.
-    fn accept(&mut self, chunk: Chunk) -> Result<Option<Delivered>, Stop>
+    fn accept(&mut self, chunk: Chunk) -> Result<Option<Delivered>, StepFault>
         ensures { (cs : List Chunk) → Stands self.old.assembler cs → Judged (refused_reasons self.old cs chunk) (IsAccepted self.old cs chunk self.new) result }
     {
         match self.assembler.accept(chunk) {
             Ok(delivered) => Ok(delivered),
-            Err(fault) => Err(Stop::of_chunk(fault)),
+            Err(fault) => Err(StepFault::of_chunk(fault, StatusCode::BAD_RESPONSE_TOO_LARGE)),
         }
     }
 
@@ -224,12 +225,12 @@ impl Talking {
         token: u32,
         ends: bool,
         delivered: Option<Delivered>,
-    ) -> Result<Option<Event>, Stop>
+    ) -> Result<Option<Event>, StepFault>
         ensures { Judged (unasked_reasons self.old request) (IsDeliveredWith self.old request token ends delivered self.new) result }
     {
         if !self.pending.contains(&request) {
             drop(delivered);
-            return Err(Stop::Refused(StatusCode::BAD_UNKNOWN_RESPONSE));
+            return Err(StepFault::Refused(StatusCode::BAD_UNKNOWN_RESPONSE));
         }
         release_before(&mut self.tokens, token);
         if ends {
@@ -239,28 +240,28 @@ impl Talking {
     }
 
     /// Takes a chunk of this channel under a token that is held.
-    fn on_known(&mut self, chunk: Chunk) -> Result<Option<Event>, Stop>
+    fn on_known(&mut self, chunk: Chunk) -> Result<Option<Event>, StepFault>
         ensures { (cs : List Chunk) → Stands self.old.assembler cs → Judged (known_reasons self.old cs chunk) (IsTakenWith self.old cs chunk self.new) result }
     {
         let (request, token, ends) = (chunk.request, chunk.token, !chunk.flag.is_more());
         match self.accept(chunk) {
             Ok(delivered) => self.on_delivered(request, token, ends, delivered),
-            Err(stop) => Err(stop),
+            Err(fault) => Err(fault),
         }
     }
 
     /// Takes a chunk of a message.
-    fn on_chunk(&mut self, chunk: Chunk) -> Result<Option<Event>, Stop>
+    fn on_chunk(&mut self, chunk: Chunk) -> Result<Option<Event>, StepFault>
         ensures { (cs : List Chunk) → Stands self.old.assembler cs → Judged (chunk_reasons self.old cs chunk) (IsTakenWith self.old cs chunk self.new) result }
     {
         match self.judge_chunk(&chunk) {
             Ok(()) => self.on_known(chunk),
-            Err(stop) => Err(stop),
+            Err(fault) => Err(fault),
         }
     }
 
     /// Takes a frame.
-    pub fn on_frame(&mut self, alloc: Global, frame: Frame) -> Result<Option<Event>, Stop>
+    pub fn on_frame(&mut self, alloc: Global, frame: Frame) -> Result<Option<Event>, StepFault>
         requires { HasShape frame }
         ensures { (limits : Limits) (before : Received) (asked : List Asking) → Talks limits self.old before asked
             → LetsIn (reply_gate self.old.agreed.ack.send_buffer_size) frame
@@ -270,10 +271,10 @@ impl Talking {
             Kind::Msg => self.on_chunk(read_chunk(frame)),
             Kind::Opn => match judge_answer(alloc, frame) {
                 Ok(answer) => self.on_renewed(answer),
-                Err(stop) => Err(stop),
+                Err(fault) => Err(fault),
             },
             Kind::Err => Err(stop_of_error(alloc, &frame.body)),
-            _ => Err(Stop::Closed),
+            _ => Err(StepFault::Closed),
         }
     }
 

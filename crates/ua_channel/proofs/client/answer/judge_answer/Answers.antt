@@ -15,5 +15,5 @@ returns-in-Ok-judge_body c =
 
 pub returns : goal.returns
 returns c =
-    judges_body c.in-Ok.opening.channel c.in-Ok.opening.sequence c.in-Ok.opening.request c.args.frame.body c.in-Ok.opening.body (has_headers c.args.frame c.in-Ok.opening c.in-Ok.ensures.found) c.in-Err-judge_body.stop
-    (subst (λ (t : List ℕ). IsStopFor (body_reasons (answer_read t)) c.in-Err-judge_body.stop) c.deref.ensures c.in-Err-judge_body.ensures)
+    judges_body c.in-Ok.opening.channel c.in-Ok.opening.sequence c.in-Ok.opening.request c.args.frame.body c.in-Ok.opening.body (has_headers c.args.frame c.in-Ok.opening c.in-Ok.ensures.found) c.in-Err-judge_body.fault
+    (subst (λ (t : List ℕ). IsStopFor (body_reasons (answer_read t)) c.in-Err-judge_body.fault) c.deref.ensures c.in-Err-judge_body.ensures)

@@ -9,4 +9,4 @@ returns-in-Ok c = λ limits before s.
 
 pub returns-in-Err : goal.returns-in-Err
 returns-in-Err c = λ limits before s.
-    refuses_message limits c.args.self.now before c.args.channel c.args.chunk s c.in-Err.fault c.of_chunk.result _ (sym c.in_default.ensures) (c.in-Err.ensures.faults before.messages s.assembles) c.of_chunk.ensures
+    refuses_message limits c.args.self.now before c.args.channel c.args.chunk s c.in-Err.fault c.of_chunk.result (sym c.in_default.ensures) (c.in-Err.ensures.faults before.messages s.assembles) c.of_chunk.ensures

@@ -2,18 +2,18 @@ use Rattle.std.proofs.Common.{ap, Some, ◌∷◌, []}
 use Rattle.std.proofs.lemmas.Bool.{eq-eqb, ne_eqb}
 use Rattle.std.proofs.lemmas.Result.{err_from_is_err_and}
 use Rattle.ua_channel.specs.ServerTold.{Told}
-use Rattle.ua_channel.proofs.Runs.{judges_opening, refuses_renewal, refuses_token, takes_renewal}
+use Rattle.ua_channel.proofs.Runs.{refuses_opening, refuses_renewal, refuses_token, takes_renewal}
 use Rattle.ua_channel.proofs.running.Running.on_renewal.Goals as goal
 
 pub returns-in_err-opened : goal.returns-in_err-opened
 returns-in_err-opened c = λ limits before s.
     let p = err_from_is_err_and c.from_residual.result c.from_residual.ensures.1 in
-    rw (p.1, p.2) (judges_opening limits c.args.channel c.args.self.now.issued before c.args.frame.body c.in_err-opened.field-0.0 c.args.self.now s.issued_is c.in_err-opened.ensures)
+    rw (p.1, p.2) (refuses_opening limits c.args.channel c.args.self.now.issued before c.args.frame.body c.in_err-opened.field-0.0 s.issued_is c.in_err-opened.ensures)
 
 pub returns-in-Err : goal.returns-in-Err
 returns-in-Err c = λ limits before s.
     let f = c.in-Err.ensures.follows before.messages s.assembles in
-    refuses_renewal limits c.args.self.now before c.args.channel c.args.frame.body c.in_ok-opened.opened s c.in_ok-opened.ensures c.in-Err.fault c.of_chunk.result _ f.0 f.1 c.of_chunk.ensures
+    refuses_renewal limits c.args.self.now before c.args.channel c.args.frame.body c.in_ok-opened.opened s c.in_ok-opened.ensures c.in-Err.fault c.of_chunk.result f.0 f.1 c.of_chunk.ensures
 
 pub returns-then-self : goal.returns-then-self
 returns-then-self c = λ limits before s.

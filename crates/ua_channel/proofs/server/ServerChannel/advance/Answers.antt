@@ -5,8 +5,7 @@ use Rattle.ua_channel.specs.declared.server_event.ServerEvent.{ServerEvent}
 use Rattle.ua_channel.specs.declared.server_fault.ChannelFault.{ChannelFault}
 use Rattle.ua_channel.specs.ServerAnswers.{AnswersAt, AsksInParts, parts_asked}
 use Rattle.ua_channel.specs.ServerStands.{StarvedAt, channel_of, next_of}
-use Rattle.ua_channel.proofs.Answering.{starved_with}
-use Rattle.ua_channel.proofs.Starving.{starved_bound}
+use Rattle.ua_channel.proofs.Answering.{starved_bound, starved_with}
 use Rattle.ua_channel.proofs.server.ServerChannel.advance.Goals.{in-OutOfMemory, in_default}
 use Rattle.ua_channel.proofs.server.ServerChannel.advance.Goals as goal
 

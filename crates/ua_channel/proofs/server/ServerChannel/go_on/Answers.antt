@@ -7,8 +7,7 @@ use Rattle.ua_channel.specs.ServerAnswers.{AsksInParts}
 use Rattle.ua_channel.specs.inside.ServerSteps.{Nexts}
 use Rattle.ua_channel.specs.inside.ServerEvents.{parts_of}
 use Rattle.ua_channel.specs.ServerStands.{channel_of, next_of}
-use Rattle.ua_channel.proofs.Answering.{answers_nothing, answers_event, answers_fault}
-use Rattle.ua_channel.proofs.Starving.{done_by, starved_behind, starved_step}
+use Rattle.ua_channel.proofs.Answering.{answers_nothing, answers_event, answers_fault, done_by, starved_event, starved_fault}
 use Rattle.ua_channel.proofs.server.ServerChannel.go_on.Goals as goal
 
 pub returns-in-Ok-None-clause-answers : goal.returns-in-Ok-None-clause-answers
@@ -42,11 +41,11 @@ returns-in-Ok-Some-clause-starves c = λ octets told g failed.
     let is : ◌≡◌ {A = Result (Option Event) StepFault} c.next_event-n.result.1 (Ok (Some c.in-Ok-Some.event)) = rw c.in-Ok-Some.field-0-is at c.in-Ok-Some.is in
     let nexts : Nexts c.args.piece.now c.next_event-n.result.0 (Ok (Some c.in-Ok-Some.event)) c.next_event-n.new.self octets told =
     subst (λ (o : Result (Option Event) StepFault). Nexts c.args.piece.now c.next_event-n.result.0 o c.next_event-n.new.self octets told) is (c.next_event-n.ensures.nexts octets told g) in
-    starved_behind c.next_event-n.new.self c.answer.new.self (octets ++ take c.next_event-n.result.0 c.args.piece.now) told c.answer.ensures.limits c.answer.ensures.channel
+    starved_event c.next_event-n.new.self c.answer.new.self (octets ++ take c.next_event-n.result.0 c.args.piece.now) told c.in-Ok-Some.event c.answer.result c.answer.ensures.limits c.answer.ensures.channel
     (done_by (channel_of c.next_event-n.new.self) (next_of c.next_event-n.new.self) c.args.moment c.answer.result c.answer.new.self (octets ++ take c.next_event-n.result.0 c.args.piece.now) told failed (c.answer.ensures.answers (octets ++ take c.next_event-n.result.0 c.args.piece.now) told nexts.2))
-    c.in-Ok-Some.event c.answer.result nexts.2 c.answer.ensures.closes failed
+    nexts.2 c.answer.ensures.closes failed
 
 pub returns-in-Err-clause-starves : goal.returns-in-Err-clause-starves
 returns-in-Err-clause-starves c = λ octets told g failed.
-    starved_step c.args.piece.now c.next_event-n.result.0 c.in-Err.fault c.of_step.result c.next_event-n.new.self octets told
+    starved_fault c.args.piece.now c.next_event-n.result.0 c.in-Err.fault c.of_step.result c.next_event-n.new.self octets told
     (subst (λ (o : Result (Option Event) StepFault). Nexts c.args.piece.now c.next_event-n.result.0 o c.next_event-n.new.self octets told) c.in-Err.is (c.next_event-n.ensures.nexts octets told g)) c.of_step.ensures failed

@@ -20,4 +20,5 @@ returns-in-Ok-default-Some-clause-parts c = λ octets told g.
 
 pub returns-in-Err-clause-steps : goal.returns-in-Err-clause-steps
 returns-in-Err-clause-steps c = λ octets told g.
-    step_fault c.args.self.now octets c.args.piece.now told c.take.new.self c.min-n.result g (c.min-n.ensures ∙ (ap (λ (k : ℕ). min k (length c.args.piece.now)) c.saturating_sub.ensures ∙ ap (λ (k : ℕ). min (8 - k) (length c.args.piece.now)) c.held-held.ensures.count)) c.in-Err.fault c.of_frame.result c.in-Err.ensures.takes c.of_frame.ensures
+    step_fault c.args.self.now c.fail.new.self c.take.new.self octets c.args.piece.now c.min-n.result told c.in-Err.fault c.of_frame.result g
+    (c.min-n.ensures ∙ (ap (λ (k : ℕ). min k (length c.args.piece.now)) c.saturating_sub.ensures ∙ ap (λ (k : ℕ). min (8 - k) (length c.args.piece.now)) c.held-held.ensures.count)) c.in-Err.ensures.takes c.of_frame.ensures c.fail.ensures.done c.fail.ensures.kept

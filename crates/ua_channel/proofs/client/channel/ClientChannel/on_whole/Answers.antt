@@ -1,14 +1,11 @@
-use Rattle.std.proofs.Common.{Result, Option, refl, sym, ◌∙◌, ap, subst}
+use Rattle.std.proofs.Common.{refl, ◌∙◌, ap}
 use Rattle.ua_frame.specs.declared.gate.Gate.{Gate}
 use Rattle.ua_frame.specs.Reader.{Reader}
 use Rattle.ua_channel.specs.Client.{client_limits}
 use Rattle.ua_channel.specs.inside.ClientAsking.{client_phase_gate}
-use Rattle.ua_channel.specs.inside.ClientParts.{JudgesWhole}
 use Rattle.ua_channel.specs.Content.{content}
 use Rattle.ua_channel.specs.declared.client.channel.ClientChannel.{ClientChannel}
-use Rattle.ua_channel.specs.declared.client.event.Event.{Event}
-use Rattle.ua_channel.specs.declared.client.fault.ClientTakeFault.{ClientTakeFault}
-use Rattle.ua_channel.proofs.ClientPhases.{whole_ok, whole_err}
+use Rattle.ua_channel.proofs.ClientPhases.{whole_ok}
 use Rattle.ua_channel.proofs.client.channel.ClientChannel.on_whole.Goals as goal
 
 abbrev with_gate : Reader → Gate → Reader
@@ -20,6 +17,4 @@ returns-in-Ok-clause-judges c = λ before asked in_phase bound reader let_in.
     (c.set_gate.ensures ∙ (ap (with_gate c.on_frame.new.self.reader) c.gate.ensures ∙ ap (λ (r : Reader). with_gate r (client_phase_gate c.on_frame.new.self.phase)) (ap (λ (x : ClientChannel). x.reader) c.on_frame.ensures.kept ∙ reader)))
 
 pub returns-in-Err-clause-judges : goal.returns-in-Err-clause-judges
-returns-in-Err-clause-judges c = λ before asked in_phase bound reader let_in.
-    subst (λ (r : Result (Option Event) ClientTakeFault). JudgesWhole (client_limits c.args.self.now) before asked (content c.args.frame) c.end.new.self r) (sym c.failure.ensures)
-    (whole_err (client_limits c.args.self.now) before asked (content c.args.frame) c.end.new.self c.in-Err.stop (c.in-Err.ensures.judges before asked in_phase bound let_in) c.end.ensures.done (c.end.ensures.bound ∙ (c.in-Err.ensures.failed ∙ bound)))
+returns-in-Err-clause-judges c = λ before asked in_phase bound reader let_in. (c.in-Err.ensures.judges before asked in_phase bound let_in, c.end.ensures.done, ap (λ (x : ClientChannel). x.bound) c.end.ensures.kept ∙ (c.in-Err.ensures.failed ∙ bound))

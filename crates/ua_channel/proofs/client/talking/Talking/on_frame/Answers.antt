@@ -11,7 +11,7 @@ returns-in-Ok c = λ limits before asked h let_in.
     renewal_judged limits c.args.self.now before asked c.on_renewed.new.self h c.args.frame c.in-Ok.answer c.on_renewed.result c.in-Opn.is c.in-Ok.ensures (c.on_renewed.ensures before.messages h.assembles)
 
 pub returns-in-Err-judge_answer : goal.returns-in-Err-judge_answer
-returns-in-Err-judge_answer c = λ limits before asked h let_in. stopped_opn limits before asked c.args.frame c.in-Err-judge_answer.stop c.in-Opn.is c.in-Err-judge_answer.ensures
+returns-in-Err-judge_answer c = λ limits before asked h let_in. stopped_opn limits before asked c.args.frame c.in-Err-judge_answer.fault c.in-Opn.is c.in-Err-judge_answer.ensures
 
 pub returns-in-Err : goal.returns-in-Err
 returns-in-Err c = λ limits before asked h let_in. stopped_err limits before asked c.args.frame c.deref.result.now c.stop_of_error.result c.in-Err.is c.deref.ensures c.stop_of_error.ensures
