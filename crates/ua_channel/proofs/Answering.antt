@@ -1,10 +1,8 @@
 -- What is answered to events, and to whole pieces.
-use Rattle.std.proofs.Common.{◌≡◌, ℕ, ◌<◌, ◌≤◌, List, ◌++◌, Some, None, Result, Ok, Err, refl, sym, ◌∙◌, ap, subst, length, take, drop, append_assoc, take-append-drop}
+use Rattle.std.proofs.Common.{◌≡◌, ℕ, ◌<◌, ◌≤◌, List, ◌++◌, Some, None, Result, Ok, Err, refl, sym, ◌∙◌, ap, subst, length, take}
 use Rattle.std.proofs.Math.Seq.{take-length}
 use Rattle.ua_builtin.specs.declared.date_time.DateTime.{DateTime}
 use Rattle.ua_frame.specs.Frames.{frame_octets}
-use Rattle.ua_frame.specs.Run.{Stopped}
-use Rattle.ua_frame.proofs.Ends.{ends_stay}
 use Rattle.ua_chunk.specs.Sequence.{next_number}
 use Rattle.ua_channel.specs.declared.server.ServerChannel.{ServerChannel}
 use Rattle.ua_channel.specs.declared.server_event.Event.{Event}
@@ -16,11 +14,11 @@ use Rattle.ua_channel.specs.declared.server_fault.ChannelFault.{ChannelFault}
 use Rattle.ua_channel.specs.declared.server_fault.ChannelFault.TheVariants as fault
 use Rattle.ua_channel.specs.declared.step_fault.StepFault.{StepFault}
 use Rattle.ua_channel.specs.declared.step_fault.StepFault.TheVariants as step
-use Rattle.ua_channel.specs.ServerAnswers.{SendsOctets, ServerAnswers, AnswersAt}
+use Rattle.ua_channel.specs.ServerAnswers.{SendsOctets, AnswersAt}
 use Rattle.ua_channel.specs.inside.ServerSteps.{StandsWith, Nexts, AnswersTo}
 use Rattle.ua_channel.specs.inside.StepFaults.{of_step}
 use Rattle.ua_channel.specs.ServerSends.{opened_frame}
-use Rattle.ua_channel.specs.ServerStands.{channel_of, limits_of, next_of, rules_of, Goes, GoesTelling, Ended, IsDone, RefusedAt, StarvedAt}
+use Rattle.ua_channel.specs.ServerStands.{channel_of, limits_of, next_of, Goes, GoesTelling, IsDone, StarvedAt}
 use Rattle.ua_channel.specs.ServerTold.{Told, Told as told}
 use Rattle.ua_channel.specs.declared.numbers.Numbers.{Numbers}
 use Rattle.ua_channel.proofs.Servers.{starved_behind}
@@ -79,24 +77,6 @@ answers_step channel number moment piece n step.Closed new octets before h = abs
 -- a fault
 pub answers_fault : (channel number : ℕ) (moment : DateTime) (piece : List ℕ) (n : ℕ) (s : StepFault) (f : ChannelFault) (new : ServerChannel) (octets : List ℕ) (before : List Told) → Nexts piece n (Err s) new octets before → f ≡ of_step s → AnswersAt channel number moment piece n (Err f) new octets before
 answers_fault channel number moment piece n s f new octets before h is = subst (λ (x : ChannelFault). AnswersAt channel number moment piece n (Err x) new octets before) (sym is) (answers_step channel number moment piece n s new octets before h)
-
--- ---- without the count of a refusal
-
-ended_behind : (x : ServerChannel) (octets more : List ℕ) (before : List Told) (code : ℕ) → RefusedAt x octets before code → Ended x (octets ++ more) before (Stopped code)
-ended_behind x octets more before code r = record {
-  done = r.done;
-  frames = r.frames;
-  rest = r.rest ++ more;
-  run = ends_stay (rules_of x) octets more r.frames r.rest (Stopped code) (λ e. absurd cc) r.run;
-  told_is = r.told_is;
-  bound_is = r.bound_is;
-}
-
-pub taken_fault : (channel number : ℕ) (moment : DateTime) (piece : List ℕ) (n : ℕ) (f : ChannelFault) (new : ServerChannel) (octets : List ℕ) (before : List Told) → AnswersAt channel number moment piece n (Err f) new octets before → ServerAnswers channel number moment piece (Err f) new octets before
-taken_fault channel number moment piece n (fault.Refused code err) new octets before h =
-    (subst (λ (z : List ℕ). Ended new z before (Stopped code.code)) (append_assoc octets (take n piece) (drop n piece) ∙ ap (λ (z : List ℕ). octets ++ z) (take-append-drop n piece)) (ended_behind new (octets ++ take n piece) (drop n piece) before code.code h.1), h.2)
-taken_fault channel number moment piece n fault.OutOfMemory new octets before h = h.1
-taken_fault channel number moment piece n fault.Closed new octets before h = h
 
 -- ---- after want of memory
 

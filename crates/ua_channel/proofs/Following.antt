@@ -2,7 +2,7 @@
 use Rattle.std.proofs.Common.{◌≡◌, ℕ, List, [], ◌++◌, sym, ◌∙◌, ap}
 use Rattle.ua_frame.specs.declared.frame.Frame.{Frame}
 use Rattle.ua_frame.specs.Laws.{IsSame}
-use Rattle.ua_frame.specs.Run.{End, Going, Over, Stopped, Rules, Run, events}
+use Rattle.ua_frame.specs.Run.{End, Going, Over, Rules, Run, events}
 use Rattle.ua_frame.proofs.Ends.{ends_stay}
 use Rattle.ua_frame.proofs.Unique.{unique}
 use Rattle.ua_channel.specs.Asks.{Placed}
@@ -10,7 +10,7 @@ use Rattle.ua_channel.specs.Client.{client_limits, client_rules_of, ClientEnded,
 use Rattle.ua_channel.specs.ClientReads.{AtClient, ClientReads}
 use Rattle.ua_channel.specs.ClientTold.{ClientTold, Why}
 use Rattle.ua_channel.specs.ServerReads.{AtServer, ServerCloses, ServerReads}
-use Rattle.ua_channel.specs.ServerStands.{Ended, Goes, RefusedAt, channel_of, limits_of, rules_of}
+use Rattle.ua_channel.specs.ServerStands.{ClosedAt, Goes, RefusedAt, channel_of, limits_of, rules_of}
 use Rattle.ua_channel.specs.ServerTold.{Told}
 use Rattle.ua_channel.specs.declared.client.channel.ClientChannel.{ClientChannel}
 use Rattle.ua_channel.specs.declared.server.ServerChannel.{ServerChannel}
@@ -48,30 +48,24 @@ server_begins x octets more told all at g r = begins (rules_of x) octets more g.
 pub server_told : (x : ServerChannel) (octets : List ℕ) (told all : List Told) (at : AtServer) → Goes x octets told → ServerReads (limits_of x) (channel_of x) octets all at → told ≡ all
 server_told x octets told all at g r = same_told (rules_of x) octets g.frames r.frames g.rest [] told all g.stands.run r.run g.told_is r.told_is
 
-pub server_not_refused : (x : ServerChannel) (octets more : List ℕ) (told all : List Told) (at : AtServer) (code : ℕ) → Ended x octets told (Stopped code) → ServerReads (limits_of x) (channel_of x) (octets ++ more) all at → ⊥
+pub server_not_refused : (x : ServerChannel) (octets more : List ℕ) (told all : List Told) (at : AtServer) (code : ℕ) → RefusedAt x octets told code → ServerReads (limits_of x) (channel_of x) (octets ++ more) all at → ⊥
 server_not_refused x octets more told all at code e r = never_refused (rules_of x) octets more e.frames r.frames e.rest code Going (λ s. cc) e.run r.run
 
-pub server_not_refused_at : (x : ServerChannel) (octets more : List ℕ) (told all : List Told) (at : AtServer) (code : ℕ) → RefusedAt x octets told code → ServerReads (limits_of x) (channel_of x) (octets ++ more) all at → ⊥
-server_not_refused_at x octets more told all at code e r = never_refused (rules_of x) octets more e.frames r.frames e.rest code Going (λ s. cc) e.run r.run
-
-pub server_not_closed : (x : ServerChannel) (octets more : List ℕ) (told all : List Told) (at : AtServer) → Ended x octets told Over → ServerReads (limits_of x) (channel_of x) (octets ++ more) all at → ⊥
+pub server_not_closed : (x : ServerChannel) (octets more : List ℕ) (told all : List Told) (at : AtServer) → ClosedAt x octets told → ServerReads (limits_of x) (channel_of x) (octets ++ more) all at → ⊥
 server_not_closed x octets more told all at e r =
-    let ends : Over ≡ Going = (same_end (rules_of x) octets more e.frames e.rest all Over Going (λ s. cc) e.run (server_hears x (octets ++ more) all at r)).ends in
+    let ends : Over ≡ Going = (same_end (rules_of x) octets more e.frames [] all Over Going (λ s. cc) e.run (server_hears x (octets ++ more) all at r)).ends in
     cc
 
 pub server_begins_close : (x : ServerChannel) (octets more : List ℕ) (told all : List Told) → Goes x octets told → ServerCloses (limits_of x) (channel_of x) (octets ++ more) all → (later : List Told) × (all ≡ told ++ later)
 server_begins_close x octets more told all g r = begins (rules_of x) octets more g.frames g.rest told all Over g.stands.run g.told_is (server_hears_all x (octets ++ more) all r)
 
-pub server_closed : (x : ServerChannel) (octets more : List ℕ) (told all : List Told) → Ended x octets told Over → ServerCloses (limits_of x) (channel_of x) (octets ++ more) all → told ≡ all
+pub server_closed : (x : ServerChannel) (octets more : List ℕ) (told all : List Told) → ClosedAt x octets told → ServerCloses (limits_of x) (channel_of x) (octets ++ more) all → told ≡ all
 unfolding server_hears_all
 server_closed x octets more told all e r =
-    sym e.told_is ∙ (ap (events (rules_of x)) (same_end (rules_of x) octets more e.frames e.rest all Over Over (λ s. cc) e.run (server_hears_all x (octets ++ more) all r)).frames ∙ r.told_is)
+    sym e.told_is ∙ (ap (events (rules_of x)) (same_end (rules_of x) octets more e.frames [] all Over Over (λ s. cc) e.run (server_hears_all x (octets ++ more) all r)).frames ∙ r.told_is)
 
-pub server_close_not_refused : (x : ServerChannel) (octets more : List ℕ) (told all : List Told) (code : ℕ) → Ended x octets told (Stopped code) → ServerCloses (limits_of x) (channel_of x) (octets ++ more) all → ⊥
+pub server_close_not_refused : (x : ServerChannel) (octets more : List ℕ) (told all : List Told) (code : ℕ) → RefusedAt x octets told code → ServerCloses (limits_of x) (channel_of x) (octets ++ more) all → ⊥
 server_close_not_refused x octets more told all code e r = never_refused (rules_of x) octets more e.frames r.frames e.rest code Over (λ s. cc) e.run r.run
-
-pub server_close_not_refused_at : (x : ServerChannel) (octets more : List ℕ) (told all : List Told) (code : ℕ) → RefusedAt x octets told code → ServerCloses (limits_of x) (channel_of x) (octets ++ more) all → ⊥
-server_close_not_refused_at x octets more told all code e r = never_refused (rules_of x) octets more e.frames r.frames e.rest code Over (λ s. cc) e.run r.run
 
 pub server_not_open : (x : ServerChannel) (octets : List ℕ) (told all : List Told) → Goes x octets told → ServerCloses (limits_of x) (channel_of x) octets all → ⊥
 server_not_open x octets told all g r =

@@ -2,7 +2,7 @@
 use Rattle.std.proofs.Common.{◌≡◌, ℕ, List, [], ◌++◌, sym, ◌∙◌, ap, subst}
 use Rattle.ua_frame.specs.declared.frame.Frame.{Frame}
 use Rattle.ua_frame.specs.declared.limits.Limits.{Limits}
-use Rattle.ua_frame.specs.Run.{End, Going, Over, Stopped, Rules, Run, events}
+use Rattle.ua_frame.specs.Run.{End, Going, Over, Rules, Run, events}
 use Rattle.ua_frame.proofs.Ends.{ends_stay}
 use Rattle.ua_frame.proofs.Unique.{unique}
 use Rattle.ua_channel.specs.Asks.{Placed}
@@ -11,7 +11,7 @@ use Rattle.ua_channel.specs.ClientTable.{client_rules}
 use Rattle.ua_channel.specs.ClientTold.{ClientTold, Why}
 use Rattle.ua_channel.specs.Merges.{ClientReadsMerged, ServerReadsMerged}
 use Rattle.ua_channel.specs.ServerRules.{server_rules}
-use Rattle.ua_channel.specs.ServerStands.{Ended, Goes, RefusedAt, channel_of, limits_of, rules_of}
+use Rattle.ua_channel.specs.ServerStands.{ClosedAt, Goes, RefusedAt, channel_of, limits_of, rules_of}
 use Rattle.ua_channel.specs.ServerTold.{Told}
 use Rattle.ua_channel.specs.declared.client.channel.ClientChannel.{ClientChannel}
 use Rattle.ua_channel.specs.declared.server.ServerChannel.{ServerChannel}
@@ -53,18 +53,13 @@ pub server_told : (x : ServerChannel) (octets : List ℕ) (told all : List Told)
 server_told x octets told all g r =
     same_told (rules_of x) octets g.frames (r.before ++ r.more) g.rest [] told all g.stands.run (server_run (limits_of x) (channel_of x) octets all r) g.told_is (server_events (limits_of x) (channel_of x) octets all r)
 
-pub server_not_refused : (x : ServerChannel) (octets more : List ℕ) (told all : List Told) (code : ℕ) → Ended x octets told (Stopped code)
+pub server_not_refused : (x : ServerChannel) (octets more : List ℕ) (told all : List Told) (code : ℕ) → RefusedAt x octets told code
     → ServerReadsMerged (limits_of x) (channel_of x) (octets ++ more) all → ⊥
 server_not_refused x octets more told all code e r =
     never_refused (rules_of x) octets more e.frames (r.before ++ r.more) e.rest code Going (λ s. cc) e.run (server_run (limits_of x) (channel_of x) (octets ++ more) all r)
 
-pub server_not_refused_at : (x : ServerChannel) (octets more : List ℕ) (told all : List Told) (code : ℕ) → RefusedAt x octets told code
-    → ServerReadsMerged (limits_of x) (channel_of x) (octets ++ more) all → ⊥
-server_not_refused_at x octets more told all code e r =
-    never_refused (rules_of x) octets more e.frames (r.before ++ r.more) e.rest code Going (λ s. cc) e.run (server_run (limits_of x) (channel_of x) (octets ++ more) all r)
-
-pub server_not_closed : (x : ServerChannel) (octets more : List ℕ) (told all : List Told) → Ended x octets told Over → ServerReadsMerged (limits_of x) (channel_of x) (octets ++ more) all → ⊥
-server_not_closed x octets more told all e r = not_over (rules_of x) octets more e.frames (r.before ++ r.more) e.rest e.run (server_run (limits_of x) (channel_of x) (octets ++ more) all r)
+pub server_not_closed : (x : ServerChannel) (octets more : List ℕ) (told all : List Told) → ClosedAt x octets told → ServerReadsMerged (limits_of x) (channel_of x) (octets ++ more) all → ⊥
+server_not_closed x octets more told all e r = not_over (rules_of x) octets more e.frames (r.before ++ r.more) [] e.run (server_run (limits_of x) (channel_of x) (octets ++ more) all r)
 
 -- ---- a client
 

@@ -4,7 +4,6 @@ use Rattle.std.specs.List.{concat}
 use Rattle.ua_builtin.specs.declared.date_time.DateTime.{DateTime}
 use Rattle.ua_frame.specs.Frames.{frame_octets}
 use Rattle.ua_frame.specs.Messages.{err_frame}
-use Rattle.ua_frame.specs.Run.{Stopped}
 use Rattle.ua_channel.specs.declared.server.ServerChannel.{ServerChannel}
 use Rattle.ua_channel.specs.declared.server_event.ServerEvent.{ServerEvent}
 use Rattle.ua_channel.specs.declared.server_event.ServerEvent.TheVariants.{NeedMore, Send, Asked, Aborted}
@@ -12,7 +11,7 @@ use Rattle.ua_channel.specs.declared.server_event.ServerEvent.TheVariants as eve
 use Rattle.ua_channel.specs.declared.server_fault.ChannelFault.{ChannelFault}
 use Rattle.ua_channel.specs.declared.server_fault.ChannelFault.TheVariants.{Refused, Closed, OutOfMemory}
 use Rattle.ua_channel.specs.ServerSends.{AreSent, counted_by}
-use Rattle.ua_channel.specs.ServerStands.{next_of, IsDone, Goes, GoesTelling, EndsMessage, Ended, ClosedAt, RefusedAt}
+use Rattle.ua_channel.specs.ServerStands.{next_of, IsDone, Goes, GoesTelling, EndsMessage, ClosedAt, RefusedAt}
 use Rattle.ua_channel.specs.ServerTold.{Told}
 use Rattle.ua_channel.specs.ServerTold.{Told as told}
 
@@ -54,20 +53,18 @@ abbrev pub Counts : List ℕ → ℕ → ServerEvent → Type 0
 Counts piece n NeedMore = n ≡ length piece
 Counts piece n other = (0 < n) × (n ≤ length piece)
 
--- what is answered to a piece, after octets whose frames told this
-abbrev pub ServerAnswers : ℕ → ℕ → DateTime → List ℕ → Result (ℕ × ServerEvent) ChannelFault → ServerChannel → List ℕ → List Told → Type 0
-ServerAnswers channel number moment piece (Ok (n, e)) new octets before = Counts piece n e × Hands channel number moment e new (octets ++ take n piece) before
-ServerAnswers channel number moment piece (Err (Refused code err)) new octets before = Ended new (octets ++ piece) before (Stopped code.code) × (err ≡ frame_octets (err_frame code))
-ServerAnswers channel number moment piece (Err OutOfMemory) new octets before = IsDone new
-ServerAnswers channel number moment piece (Err Closed) new octets before = ⊥
-
--- the same with the number of octets that were taken, also at a refusal: up to the end of the frame that is refused, or to the eighth
--- octet of the header that is
+-- what is answered to a piece, after octets whose frames told this, with the number of octets that were taken: at a refusal up to the end of
+-- the frame that is refused, or to the eighth octet of the header that is
 abbrev pub AnswersAt : ℕ → ℕ → DateTime → List ℕ → ℕ → Result ServerEvent ChannelFault → ServerChannel → List ℕ → List Told → Type 0
 AnswersAt channel number moment piece n (Ok e) new octets before = Counts piece n e × Hands channel number moment e new (octets ++ take n piece) before
 AnswersAt channel number moment piece n (Err (Refused code err)) new octets before = (n ≤ length piece) × RefusedAt new (octets ++ take n piece) before code.code × (err ≡ frame_octets (err_frame code))
 AnswersAt channel number moment piece n (Err OutOfMemory) new octets before = (n ≤ length piece) × IsDone new
 AnswersAt channel number moment piece n (Err Closed) new octets before = ⊥
+
+-- the same where a fault does not say how many octets were taken: some number of them was
+abbrev pub ServerAnswers : ℕ → ℕ → DateTime → List ℕ → Result (ℕ × ServerEvent) ChannelFault → ServerChannel → List ℕ → List Told → Type 0
+ServerAnswers channel number moment piece (Ok (n, e)) new octets before = AnswersAt channel number moment piece n (Ok e) new octets before
+ServerAnswers channel number moment piece (Err fault) new octets before = (n : ℕ) × AnswersAt channel number moment piece n (Err fault) new octets before
 
 -- what is taken is within the piece, and is something, where no fault comes, unless the piece is empty
 abbrev pub Progress : {A E : Type 0} → List ℕ → ℕ → Result A E → Type 0

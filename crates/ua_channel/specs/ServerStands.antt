@@ -6,7 +6,7 @@ use Rattle.ua_frame.specs.declared.limits.Limits.{Limits}
 use Rattle.ua_frame.specs.Reader.{open_reader}
 use Rattle.ua_frame.specs.After.{AllAfter}
 use Rattle.ua_frame.specs.Frames.{frames_octets, header_fault, size_of}
-use Rattle.ua_frame.specs.Run.{Rules, Run, Fits, events, End, Going, Stopped, Over}
+use Rattle.ua_frame.specs.Run.{Rules, Run, Fits, events, Going, Stopped, Over}
 use Rattle.ua_chunk.specs.Open.{open_octets}
 use Rattle.ua_channel.specs.declared.server.Phase.{Phase}
 use Rattle.ua_channel.specs.declared.server.Phase.TheVariants.{Waiting, Greeted, Open, Done}
@@ -140,15 +140,6 @@ pub record EndsMessage (x : ServerChannel) (octets : List ℕ) (parts : List (Li
   pub frame : Frame
   pub stands : Stands x octets (frames ++ frame ∷ []) []
   pub ends : EndsIn (received frames).messages (content frame) parts
-
--- it ended so after these octets, whose good frames told this
-pub record Ended (x : ServerChannel) (octets : List ℕ) (told : List Told) (end : End ℕ) : Type 0 where
-  pub done : IsDone x
-  pub frames : List Frame
-  pub rest : List ℕ
-  pub run : Run (rules_of x) octets frames rest end
-  pub told_is : events (rules_of x) frames ≡ told
-  pub bound_is : x.bound ≡ bound_after (limits_of x) (received frames)
 
 -- it closed at the last octet of these, that of a CLO, and its frames told this
 pub record ClosedAt (x : ServerChannel) (octets : List ℕ) (told : List Told) : Type 0 where

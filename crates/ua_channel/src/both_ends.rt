@@ -13,7 +13,6 @@ ghost use Rattle.ua_builtin.specs.declared.date_time.DateTime.{DateTime};
 ghost use Rattle.ua_frame.specs.Agreement.{ack_to, url_length};
 ghost use Rattle.ua_frame.specs.Frames.{frame_octets};
 ghost use Rattle.ua_frame.specs.Messages.{ack, ack_frame, hello};
-ghost use Rattle.ua_frame.specs.Run.{Over, Stopped};
 ghost use Rattle.ua_frame.specs.declared.ack.Ack.{Ack};
 ghost use Rattle.ua_frame.specs.declared.frame.Frame.{Frame};
 ghost use Rattle.ua_frame.specs.declared.limits.Limits.{Limits};
@@ -32,7 +31,7 @@ ghost use Rattle.ua_channel.specs.Client.{call_refused, client_limits, ClientEnd
 ghost use Rattle.ua_channel.specs.ClientTold.{ClientTold, ClientTold as client_told, Why};
 ghost use Rattle.ua_channel.specs.ServerReads.{AtServer, IsBodyFor, IsLaneTo, IsTakenAt, ServerCloses, ServerReads, greeted_at, with_message, with_token};
 ghost use Rattle.ua_channel.specs.ServerSends.{opened_frame, replied};
-ghost use Rattle.ua_channel.specs.ServerStands.{Ended, Goes, RefusedAt, channel_of, limits_of};
+ghost use Rattle.ua_channel.specs.ServerStands.{ClosedAt, Goes, RefusedAt, channel_of, limits_of};
 ghost use Rattle.ua_channel.specs.ServerTold.{Told, Told as server_told};
 ghost use Rattle.ua_channel.specs.declared.client.channel.ClientChannel.{ClientChannel};
 ghost use Rattle.ua_channel.specs.declared.server.ServerChannel.{ServerChannel};
@@ -118,11 +117,9 @@ pub fn server_follows()
         ServerReads (limits_of x) (channel_of x) (octets ++ more) all at → (later : List Told) × (all ≡ told ++ later) }
     ensures all { (x : ServerChannel) (octets : List ℕ) (told all : List Told) (at : AtServer) → Goes x octets told →
         ServerReads (limits_of x) (channel_of x) octets all at → told ≡ all }
-    ensures not_refused { (x : ServerChannel) (octets more : List ℕ) (told all : List Told) (at : AtServer) (code : ℕ) → Ended x octets told (Stopped code) →
+    ensures not_refused { (x : ServerChannel) (octets more : List ℕ) (told all : List Told) (at : AtServer) (code : ℕ) → RefusedAt x octets told code →
         ServerReads (limits_of x) (channel_of x) (octets ++ more) all at → ⊥ }
-    ensures not_refused_at { (x : ServerChannel) (octets more : List ℕ) (told all : List Told) (at : AtServer) (code : ℕ) → RefusedAt x octets told code →
-        ServerReads (limits_of x) (channel_of x) (octets ++ more) all at → ⊥ }
-    ensures not_closed { (x : ServerChannel) (octets more : List ℕ) (told all : List Told) (at : AtServer) → Ended x octets told Over →
+    ensures not_closed { (x : ServerChannel) (octets more : List ℕ) (told all : List Told) (at : AtServer) → ClosedAt x octets told →
         ServerReads (limits_of x) (channel_of x) (octets ++ more) all at → ⊥ }
 {}
 
@@ -132,11 +129,9 @@ pub fn server_follows_to_the_close()
     ensures begins { (x : ServerChannel) (octets more : List ℕ) (told all : List Told) → Goes x octets told →
         ServerCloses (limits_of x) (channel_of x) (octets ++ more) all → (later : List Told) × (all ≡ told ++ later) }
     ensures not_open { (x : ServerChannel) (octets : List ℕ) (told all : List Told) → Goes x octets told → ServerCloses (limits_of x) (channel_of x) octets all → ⊥ }
-    ensures closed { (x : ServerChannel) (octets more : List ℕ) (told all : List Told) → Ended x octets told Over →
+    ensures closed { (x : ServerChannel) (octets more : List ℕ) (told all : List Told) → ClosedAt x octets told →
         ServerCloses (limits_of x) (channel_of x) (octets ++ more) all → told ≡ all }
-    ensures not_refused { (x : ServerChannel) (octets more : List ℕ) (told all : List Told) (code : ℕ) → Ended x octets told (Stopped code) →
-        ServerCloses (limits_of x) (channel_of x) (octets ++ more) all → ⊥ }
-    ensures not_refused_at { (x : ServerChannel) (octets more : List ℕ) (told all : List Told) (code : ℕ) → RefusedAt x octets told code →
+    ensures not_refused { (x : ServerChannel) (octets more : List ℕ) (told all : List Told) (code : ℕ) → RefusedAt x octets told code →
         ServerCloses (limits_of x) (channel_of x) (octets ++ more) all → ⊥ }
 {}
 

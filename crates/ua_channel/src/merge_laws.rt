@@ -10,7 +10,7 @@
 ghost use Rattle.std.specs.Prelude.{◌≡◌, ◌↔◌, ◌+◌, ◌++◌, [], ℕ, List, length, map};
 ghost use Rattle.std.specs.List.{filter, range_with_len};
 ghost use Rattle.ua_frame.specs.Frames.{frames_octets};
-ghost use Rattle.ua_frame.specs.Run.{Going, Over, Run, Stopped, events};
+ghost use Rattle.ua_frame.specs.Run.{Going, Run, events};
 ghost use Rattle.ua_frame.specs.declared.frame.Frame.{Frame};
 ghost use Rattle.ua_frame.specs.declared.limits.Limits.{Limits};
 ghost use Rattle.ua_chunk.specs.Merge.{Sent, outcome_under, outcomes, sent_under};
@@ -31,7 +31,7 @@ ghost use Rattle.ua_channel.specs.Received.{messages, openings, received};
 ghost use Rattle.ua_channel.specs.ServerMessages.{message_of, messages_in};
 ghost use Rattle.ua_channel.specs.ServerReads.{AtServer, ServerReads};
 ghost use Rattle.ua_channel.specs.ServerRules.{server_rules};
-ghost use Rattle.ua_channel.specs.ServerStands.{Ended, Goes, RefusedAt, channel_of, limits_of};
+ghost use Rattle.ua_channel.specs.ServerStands.{ClosedAt, Goes, RefusedAt, channel_of, limits_of};
 ghost use Rattle.ua_channel.specs.ServerTold.{Told, issued};
 ghost use Rattle.ua_channel.specs.declared.client.channel.ClientChannel.{ClientChannel};
 ghost use Rattle.ua_channel.specs.declared.server.ServerChannel.{ServerChannel};
@@ -90,11 +90,9 @@ pub fn server_follows_merged()
         ServerReadsMerged (limits_of x) (channel_of x) (octets ++ more) all → (later : List Told) × (all ≡ told ++ later) }
     ensures all { (x : ServerChannel) (octets : List ℕ) (told all : List Told) → Goes x octets told →
         ServerReadsMerged (limits_of x) (channel_of x) octets all → told ≡ all }
-    ensures not_refused { (x : ServerChannel) (octets more : List ℕ) (told all : List Told) (code : ℕ) → Ended x octets told (Stopped code) →
+    ensures not_refused { (x : ServerChannel) (octets more : List ℕ) (told all : List Told) (code : ℕ) → RefusedAt x octets told code →
         ServerReadsMerged (limits_of x) (channel_of x) (octets ++ more) all → ⊥ }
-    ensures not_refused_at { (x : ServerChannel) (octets more : List ℕ) (told all : List Told) (code : ℕ) → RefusedAt x octets told code →
-        ServerReadsMerged (limits_of x) (channel_of x) (octets ++ more) all → ⊥ }
-    ensures not_closed { (x : ServerChannel) (octets more : List ℕ) (told all : List Told) → Ended x octets told Over →
+    ensures not_closed { (x : ServerChannel) (octets more : List ℕ) (told all : List Told) → ClosedAt x octets told →
         ServerReadsMerged (limits_of x) (channel_of x) (octets ++ more) all → ⊥ }
 {}
 

@@ -1,14 +1,13 @@
 -- Octets that come twice to a server's channel, which says at a refusal too how many it took.
-use Rattle.std.specs.Prelude.{◌≡◌, ℕ, ◌≤◌, List, ◌++◌, length, take, drop, Result, Ok, Err, IfOk, IsErrOf}
-use Rattle.std.proofs.Common.{refl, sym, ◌∙◌, ap, subst, append_assoc, take-append-drop}
+use Rattle.std.specs.Prelude.{◌≡◌, ℕ, ◌≤◌, List, ◌++◌, length, take, Result, Ok, Err, IfOk, IsErrOf}
+use Rattle.std.proofs.Common.{refl, sym, ◌∙◌, ap, subst}
 use Rattle.ua_builtin.specs.declared.date_time.DateTime.{DateTime}
 use Rattle.ua_frame.specs.Run.{Rules, Run, events, Stopped}
 use Rattle.ua_frame.specs.declared.limits.Limits.{Limits}
-use Rattle.ua_frame.proofs.Ends.{ends_stay}
 use Rattle.ua_channel.specs.ServerAnswers.{AnswersAt, ServerAnswers, AsksInParts}
 use Rattle.ua_channel.specs.ServerAnswers.{parts_asked}
 use Rattle.ua_channel.specs.ServerRules.{server_rules}
-use Rattle.ua_channel.specs.ServerStands.{limits_of, channel_of, next_of, rules_of, Ended, RefusedAt}
+use Rattle.ua_channel.specs.ServerStands.{limits_of, channel_of, next_of, rules_of, RefusedAt}
 use Rattle.ua_channel.specs.ServerTold.{Told}
 use Rattle.ua_channel.specs.Stops.{StopsAt}
 use Rattle.ua_channel.specs.declared.server.ServerChannel.{ServerChannel}
@@ -23,25 +22,9 @@ use Rattle.ua_pinned.proofs.StreamsAlike.{WrongAt, one_wrong_at}
 abbrev pub Outcome : Type 0
 Outcome = Result ServerEvent ChannelFault
 
-all_parts : (octets piece : List ℕ) (n : ℕ) → (octets ++ take n piece) ++ drop n piece ≡ octets ++ piece
-all_parts octets piece n = append_assoc octets (take n piece) (drop n piece) ∙ ap (λ (t : List ℕ). octets ++ t) (take-append-drop n piece)
-
--- what is refused at a place of the piece is refused in the whole piece
-ended : (x : ServerChannel) (octets piece : List ℕ) (told : List Told) (n code : ℕ) → RefusedAt x (octets ++ take n piece) told code → Ended x (octets ++ piece) told (Stopped code)
-ended x octets piece told n code r = record {
-  done = r.done;
-  frames = r.frames;
-  rest = r.rest ++ drop n piece;
-  run = subst (λ (t : List ℕ). Run (rules_of x) t r.frames (r.rest ++ drop n piece) (Stopped code)) (all_parts octets piece n) (ends_stay (rules_of x) (octets ++ take n piece) (drop n piece) r.frames r.rest (Stopped code) (λ e. cc) r.run);
-  told_is = r.told_is;
-  bound_is = r.bound_is;
-}
-
 as_answers : (channel number : ℕ) (moment : DateTime) (piece : List ℕ) (n : ℕ) (a : Outcome) (x : ServerChannel) (octets : List ℕ) (before : List Told) → AnswersAt channel number moment piece n a x octets before → ServerAnswers channel number moment piece (counted_with n a) x octets before
 as_answers channel number moment piece n (Ok e) x octets before h = h
-as_answers channel number moment piece n (Err (Refused code err)) x octets before h = (ended x octets piece before n code.code h.1, h.2)
-as_answers channel number moment piece n (Err OutOfMemory) x octets before h = h.1
-as_answers channel number moment piece n (Err Closed) x octets before h = absurd h
+as_answers channel number moment piece n (Err fault) x octets before h = (n, h)
 
 as_parts : (n : ℕ) (a : Outcome) (x : ServerChannel) (octets piece : List ℕ) → IfOk a (λ e. AsksInParts (parts_asked e) x (octets ++ take n piece)) → IfOk (counted_with n a) (λ r. AsksInParts (parts_asked r.1) x (octets ++ take r.0 piece))
 as_parts n (Ok e) x octets piece h = h

@@ -1,7 +1,7 @@
 -- Octets that come twice to a server's channel.
-use Rattle.std.specs.Prelude.{◌≡◌, ℕ, ◌≤◌, List, [], ◌∷◌, ◌++◌, length, take, Result, Ok, Err, IfOk, IsErrOf}
+use Rattle.std.specs.Prelude.{◌≡◌, ℕ, ◌≤◌, List, [], ◌∷◌, ◌++◌, length, take, drop, Result, Ok, Err, IfOk, IsErrOf}
 use Rattle.std.specs.List.{concat}
-use Rattle.std.proofs.Common.{refl, sym, ◌∙◌, ap, subst, append-nil}
+use Rattle.std.proofs.Common.{refl, sym, ◌∙◌, ap, subst, append-nil, append_assoc, take-append-drop}
 use Rattle.ua_chunk.specs.Gathered.{bodies, gathered}
 use Rattle.std.proofs.Math.Seq.{take-length}
 use Rattle.ua_builtin.specs.declared.date_time.DateTime.{DateTime}
@@ -12,6 +12,7 @@ use Rattle.ua_frame.specs.Messages.{err_frame}
 use Rattle.ua_frame.specs.Run.{Rules, Run, events, Going, Stopped, Over}
 use Rattle.ua_frame.specs.declared.frame.Frame.{Frame}
 use Rattle.ua_frame.specs.declared.limits.Limits.{Limits}
+use Rattle.ua_frame.proofs.Ends.{ends_stay}
 use Rattle.ua_frame.proofs.Unique.{unique}
 use Rattle.ua_channel.specs.Content.{content}
 use Rattle.ua_channel.specs.Content.Content.{Sends}
@@ -20,7 +21,7 @@ use Rattle.ua_channel.specs.ServerAnswers.{ServerAnswers, AsksInParts}
 use Rattle.ua_channel.specs.ServerAnswers.{parts_asked}
 use Rattle.ua_channel.specs.ServerRules.{server_rules}
 use Rattle.ua_channel.specs.ServerSends.{AreSent, counted_by}
-use Rattle.ua_channel.specs.ServerStands.{limits_of, channel_of, next_of, bound_of, bound_after, rules_of, Goes, GoesTelling, EndsMessage, Ended, ClosedAt}
+use Rattle.ua_channel.specs.ServerStands.{limits_of, channel_of, next_of, bound_of, bound_after, rules_of, Goes, GoesTelling, EndsMessage, ClosedAt, IsDone, RefusedAt}
 use Rattle.ua_channel.specs.ServerTold.{Told, Agreed, Opened}
 use Rattle.ua_channel.specs.ServerTold.{Told as told}
 use Rattle.ua_channel.specs.declared.server.ServerChannel.{ServerChannel}
@@ -50,13 +51,36 @@ Says channel number moment x octets e (Asked id message) = (token : ℕ) × (e �
 Says channel number moment x octets e (Aborted id) = e ≡ told.GaveUp id
 Says channel number moment x octets e event.Closed = ⊥
 
+-- what a channel that ended knows of the octets after which it is refused for this
+record Ended (x : ServerChannel) (octets : List ℕ) (told : List Told) (why : ℕ) : Type 0 where
+  done : IsDone x
+  frames : List Frame
+  rest : List ℕ
+  run : Run (rules_of x) octets frames rest (Stopped why)
+  told_is : events (rules_of x) frames ≡ told
+  bound_is : bound_of x ≡ bound_after (limits_of x) (received frames)
+
+all_parts : (octets piece : List ℕ) (n : ℕ) → (octets ++ take n piece) ++ drop n piece ≡ octets ++ piece
+all_parts octets piece n = append_assoc octets (take n piece) (drop n piece) ∙ ap (λ (t : List ℕ). octets ++ t) (take-append-drop n piece)
+
+-- what is refused at a place of the piece is refused in the whole piece
+ended : (x : ServerChannel) (octets piece : List ℕ) (told : List Told) (n code : ℕ) → RefusedAt x (octets ++ take n piece) told code → Ended x (octets ++ piece) told code
+ended x octets piece told n code r = record {
+  done = r.done;
+  frames = r.frames;
+  rest = r.rest ++ drop n piece;
+  run = subst (λ (t : List ℕ). Run (rules_of x) t r.frames (r.rest ++ drop n piece) (Stopped code)) (all_parts octets piece n) (ends_stay (rules_of x) (octets ++ take n piece) (drop n piece) r.frames r.rest (Stopped code) (λ e. cc) r.run);
+  told_is = r.told_is;
+  bound_is = r.bound_is;
+}
+
 -- what a channel answers, where memory was had, and where it then stands
 data Heard (channel number : ℕ) (moment : DateTime) (piece octets : List ℕ) (before : List Told) (a : Answer) (x : ServerChannel) : Type 0 where
   Nothing : (n : ℕ) → a ≡ answer_of n NeedMore → n ≡ length piece → Goes x (octets ++ piece) before → next_of x ≡ number → Heard channel number moment piece octets before a x
   Comes : (n : ℕ) (ev : ServerEvent) (e : Told) → a ≡ answer_of n ev → n ≤ length piece → GoesTelling x (octets ++ take n piece) before e
       → Says channel number moment x (octets ++ take n piece) e ev → next_of x ≡ counted_by e number → Heard channel number moment piece octets before a x
   Closes : (n : ℕ) → a ≡ answer_of n event.Closed → n ≤ length piece → ClosedAt x (octets ++ take n piece) (before ++ told.Closed ∷ []) → Heard channel number moment piece octets before a x
-  Fails : (code : StatusCode) (err : List ℕ) → a ≡ Err (Refused code err) → Ended x (octets ++ piece) before (Stopped code.code) → err ≡ frame_octets (err_frame code) → Heard channel number moment piece octets before a x
+  Fails : (code : StatusCode) (err : List ℕ) → a ≡ Err (Refused code err) → Ended x (octets ++ piece) before code.code → err ≡ frame_octets (err_frame code) → Heard channel number moment piece octets before a x
 
 -- the parts of the message that is handed out, if one is
 abbrev pub IfOkParts : Answer → ServerChannel → List ℕ → List ℕ → Type 0
@@ -73,9 +97,9 @@ heard channel number moment piece octets before (Ok (n, Send out)) x h parts had
 heard channel number moment piece octets before (Ok (n, Asked id message)) x h parts had = Comes n (Asked id message) _ refl h.0.1 h.1.0.goes (h.1.0.token, refl, parts) h.1.1
 heard channel number moment piece octets before (Ok (n, Aborted id)) x h parts had = Comes n (Aborted id) (told.GaveUp id) refl h.0.1 h.1.0 refl h.1.1
 heard channel number moment piece octets before (Ok (n, event.Closed)) x h parts had = Closes n refl h.0.1 h.1
-heard channel number moment piece octets before (Err (Refused code err)) x h parts had = Fails code err refl h.0 h.1
+heard channel number moment piece octets before (Err (Refused code err)) x h parts had = Fails code err refl (ended x octets piece before h.0 code.code h.1.1) h.1.2
 heard channel number moment piece octets before (Err OutOfMemory) x h parts had = absurd (had refl)
-heard channel number moment piece octets before (Err Closed) x h parts had = absurd h
+heard channel number moment piece octets before (Err Closed) x h parts had = absurd h.1
 
 -- ---- by the rules of both
 
@@ -106,7 +130,7 @@ to_lasts R x octets piece before n e same within c = record {
   told_is = subst (λ (S : Rules Told ℕ). events S c.frames ≡ before ++ e ∷ []) same c.told_is;
 }
 
-to_wrong : (R : Rules Told ℕ) (x : ServerChannel) (octets piece : List ℕ) (before : List Told) (why : ℕ) → rules_of x ≡ R → Ended x (octets ++ piece) before (Stopped why) → Wrong R octets piece before why
+to_wrong : (R : Rules Told ℕ) (x : ServerChannel) (octets piece : List ℕ) (before : List Told) (why : ℕ) → rules_of x ≡ R → Ended x (octets ++ piece) before why → Wrong R octets piece before why
 to_wrong R x octets piece before why same e = record {
   frames = e.frames;
   rest = e.rest;
@@ -240,7 +264,7 @@ module _ (channel number : ℕ) (moment : DateTime) (piece octets : List ℕ) (b
       by_equal a b (answer_of n event.Closed) (answer_of m event.Closed) x y octets piece before p q (one.0, tt)
       (record { first = c.done; second = d.done; bound = same_bound c.frames d.frames frames c.bound_is d.bound_is })
 
-  fails : (a b : Answer) (code other : StatusCode) (err another : List ℕ) → a ≡ Err (Refused code err) → b ≡ Err (Refused other another) → Ended x (octets ++ piece) before (Stopped code.code) → Ended y (octets ++ piece) before (Stopped other.code) → err ≡ frame_octets (err_frame code) → another ≡ frame_octets (err_frame other) → Both a b x y octets piece before
+  fails : (a b : Answer) (code other : StatusCode) (err another : List ℕ) → a ≡ Err (Refused code err) → b ≡ Err (Refused other another) → Ended x (octets ++ piece) before code.code → Ended y (octets ++ piece) before other.code → err ≡ frame_octets (err_frame code) → another ≡ frame_octets (err_frame other) → Both a b x y octets piece before
   unfolding to_wrong
   fails a b code other err another p q c d is are =
       let w = to_wrong (rules_of y) x octets piece before code.code rules c in

@@ -1,4 +1,4 @@
-use Rattle.ua_channel.proofs.Following.{server_begins_close, server_not_open, server_closed, server_close_not_refused, server_close_not_refused_at}
+use Rattle.ua_channel.proofs.Following.{server_begins_close, server_not_open, server_closed, server_close_not_refused}
 use Rattle.ua_channel.proofs.both_ends.server_follows_to_the_close.Goals as goal
 
 pub returns-clause-begins : goal.returns-clause-begins
@@ -12,6 +12,3 @@ returns-clause-closed c = server_closed
 
 pub returns-clause-not_refused : goal.returns-clause-not_refused
 returns-clause-not_refused c = server_close_not_refused
-
-pub returns-clause-not_refused_at : goal.returns-clause-not_refused_at
-returns-clause-not_refused_at c = server_close_not_refused_at

@@ -1,4 +1,4 @@
-use Rattle.ua_channel.proofs.MergedFollowing.{server_begins, server_not_closed, server_not_refused, server_not_refused_at, server_told}
+use Rattle.ua_channel.proofs.MergedFollowing.{server_begins, server_not_closed, server_not_refused, server_told}
 use Rattle.ua_channel.proofs.merge_laws.server_follows_merged.Goals as goal
 
 pub returns-clause-begins : goal.returns-clause-begins
@@ -9,9 +9,6 @@ returns-clause-all c = server_told
 
 pub returns-clause-not_refused : goal.returns-clause-not_refused
 returns-clause-not_refused c = server_not_refused
-
-pub returns-clause-not_refused_at : goal.returns-clause-not_refused_at
-returns-clause-not_refused_at c = server_not_refused_at
 
 pub returns-clause-not_closed : goal.returns-clause-not_closed
 returns-clause-not_closed c = server_not_closed

@@ -5,7 +5,6 @@ use Rattle.ua_channel.specs.declared.server_fault.ChannelFault.{ChannelFault}
 use Rattle.ua_channel.specs.declared.server_fault.ChannelFault.TheVariants as fault
 use Rattle.ua_channel.specs.ServerAnswers.{AnswersAt, AsksInParts, parts_asked}
 use Rattle.ua_channel.specs.ServerStands.{channel_of, next_of}
-use Rattle.ua_channel.proofs.Answering.{taken_fault}
 use Rattle.ua_channel.proofs.server.ServerChannel.take.Goals as goal
 
 pub returns-in-Ok-clause-answers : goal.returns-in-Ok-clause-answers
@@ -13,9 +12,10 @@ returns-in-Ok-clause-answers c = λ octets told g.
     subst (λ (a : Result ServerEvent ChannelFault). AnswersAt (channel_of c.args.self.now) (next_of c.args.self.now) c.args.moment c.args.piece.now c.advance-n.result.0 a c.advance-n.new.self octets told) c.in-Ok.is (c.advance-n.ensures.answers octets told g)
 
 pub returns-in-Err-clause-answers : goal.returns-in-Err-clause-answers
-returns-in-Err-clause-answers c = λ octets told g.
-    taken_fault (channel_of c.args.self.now) (next_of c.args.self.now) c.args.moment c.args.piece.now c.advance-n.result.0 c.in-Err.fault c.advance-n.new.self octets told
-    (subst (λ (a : Result ServerEvent ChannelFault). AnswersAt (channel_of c.args.self.now) (next_of c.args.self.now) c.args.moment c.args.piece.now c.advance-n.result.0 a c.advance-n.new.self octets told) c.in-Err.is (c.advance-n.ensures.answers octets told g))
+returns-in-Err-clause-answers c = λ octets told g. (
+  c.advance-n.result.0,
+  subst (λ (a : Result ServerEvent ChannelFault). AnswersAt (channel_of c.args.self.now) (next_of c.args.self.now) c.args.moment c.args.piece.now c.advance-n.result.0 a c.advance-n.new.self octets told) c.in-Err.is (c.advance-n.ensures.answers octets told g),
+)
 
 pub returns-in-Ok-clause-parts : goal.returns-in-Ok-clause-parts
 returns-in-Ok-clause-parts c = λ octets told g.
