@@ -15,15 +15,15 @@ use Rattle.ua_services.specs.Response.{response}
 use Rattle.ua_builtin.specs.declared.date_time.DateTime.{DateTime}
 use Rattle.ua_structures.specs.declared.header.RequestHeader.{RequestHeader}
 use Rattle.ua_services.specs.declared.response.Response.{Response}
-use Rattle.ua_services.specs.declared.response.Response.TheVariants.{GetEndpoints as GetEndpointsMessage, CreateSession as CreateSessionMessage, ActivateSession as ActivateSessionMessage, CloseSession as CloseSessionMessage, Read as ReadMessage, Write as WriteMessage, ServiceFault as ServiceFaultMessage}
-use Rattle.ua_services.specs.declared.response.ResponseKind.TheVariants.{GetEndpoints, CreateSession, ActivateSession, CloseSession, Read, Write, ServiceFault as Fault}
+use Rattle.ua_services.specs.declared.response.Response.TheVariants.{GetEndpoints as GetEndpointsMessage, CreateSession as CreateSessionMessage, ActivateSession as ActivateSessionMessage, Read as ReadMessage, Write as WriteMessage, ServiceFault as ServiceFaultMessage}
+use Rattle.ua_services.specs.declared.response.ResponseKind.TheVariants.{GetEndpoints, CreateSession, ActivateSession, Read, Write, ServiceFault as Fault}
 use Rattle.ua_structures.specs.Array.{array}
 use Rattle.ua_structures.specs.Attribute.{read_response, write_response}
 use Rattle.ua_structures.specs.Discovery.{endpoint_description, get_endpoints_response}
 use Rattle.ua_structures.specs.Field.{byte_string, string}
 use Rattle.ua_structures.specs.Header.{response_header, service_fault}
 use Rattle.ua_structures.specs.Plain.{null_signature, session_of, activated_of}
-use Rattle.ua_structures.specs.Session.{create_session_response, activate_session_response, close_session_response, signature_data, signed_software_certificate}
+use Rattle.ua_structures.specs.Session.{create_session_response, activate_session_response, signature_data, signed_software_certificate}
 use Rattle.ua_structures.specs.declared.attribute.ReadResponse.{ReadResponse}
 use Rattle.ua_structures.specs.declared.attribute.WriteResponse.{WriteResponse}
 use Rattle.ua_structures.specs.declared.header.ResponseHeader.{ResponseHeader}
@@ -87,10 +87,6 @@ activation_fits header h =
     ∙ both_are (response_header.encodable header) _ h
     (both_are (byte_string.encodable None) _ no_octets
     (both_are ((array (flat status_code)).encodable None) _ (no_array (flat status_code)) (no_array diagnostic_format)))
-
-pub close_fits : (header : ResponseHeader) → IsTrue (response_header.encodable header) → IsTrue (response.encodable (CloseSessionMessage (record { response_header = header })))
-unfolding close_session_response
-close_fits header h = response-encodable CloseSession _ ∙ h
 
 -- ---- Read and Write
 

@@ -1,5 +1,5 @@
 -- What a server answers to what is kept of a request is what it answers to the request itself.
-use Rattle.std.proofs.Common.{◌≡◌, ℕ, ◌+◌, Bool, true, false, not, ◌&&◌, cond, map, length, List, [], ◌∷◌, Option, None, Some, Result, Ok, Err, refl, sym, ◌∙◌, ap, inl, inr}
+use Rattle.std.proofs.Common.{◌≡◌, ℕ, Bool, true, false, not, ◌&&◌, map, length, List, [], ◌∷◌, Option, None, Some, Result, Ok, Err, refl, sym, ◌∙◌, ap, inl, inr}
 use Rattle.std.proofs.lemmas.List.{length-map}
 use Rattle.std.specs.Prelude.{option_map, ◌⊎◌, IfErr, IfOk}
 use Rattle.ua_builtin.specs.Reasons.{first_reason}
@@ -12,7 +12,7 @@ use Rattle.ua_services.specs.Request.{kind_of, thin_read, thin_request}
 use Rattle.ua_services.specs.declared.fault.RequestFault.{RequestFault}
 use Rattle.ua_services.specs.declared.fault.RequestFault.TheVariants.{OutOfMemory}
 use Rattle.ua_services.specs.declared.request.Request.{Request}
-use Rattle.ua_services.specs.declared.request.Request.TheVariants.{GetEndpoints, CreateSession, ActivateSession, CloseSession, Read, Write}
+use Rattle.ua_services.specs.declared.request.Request.TheVariants.{Write}
 use Rattle.ua_services.specs.declared.response.Response.{Response}
 use Rattle.ua_services.specs.declared.response.Response.TheVariants.{Write as WriteAnswer}
 use Rattle.ua_structures.specs.Plain.{statuses_of}
@@ -22,7 +22,7 @@ use Rattle.ua_structures.specs.declared.attribute.WriteValue.{WriteValue}
 use Rattle.ua_structures.specs.declared.header.RequestHeader.{RequestHeader}
 use Rattle.ua_structures.specs.declared.thin.ValueType.{ValueType}
 use Rattle.ua_server.specs.Answer.{answer, unless, write_items}
-use Rattle.ua_server.specs.Attributes.{count_reasons, items_of, statuses_given, takes_now, with_written, write_reasons}
+use Rattle.ua_server.specs.Attributes.{count_reasons, items_of, takes_now}
 use Rattle.ua_server.specs.Reply.{answered_by}
 use Rattle.ua_server.specs.Requests.{count_asked, items_asked, kind_asked}
 use Rattle.ua_server.specs.Sessions.{good_header}
@@ -39,20 +39,12 @@ count_kept : (f : WriteValue → WriteValue) (items : Option (List WriteValue)) 
 count_kept f items = ap length (items_kept f items) ∙ length-map (items_of items) f
 
 pub items_asked-kept : (takes : NodeId → ValueType → Bool) (m : Request) → items_asked (thin_request takes m) ≡ items_asked m
-items_asked-kept takes (GetEndpoints m) = refl
-items_asked-kept takes (CreateSession m) = refl
-items_asked-kept takes (ActivateSession m) = refl
-items_asked-kept takes (CloseSession m) = refl
-items_asked-kept takes (Read m) = refl
 items_asked-kept takes (Write m) = count_kept (thinned takes) m.nodes_to_write
+items_asked-kept takes m = refl
 
 pub kind_of-kept : (takes : NodeId → ValueType → Bool) (m : Request) → kind_of (thin_request takes m) ≡ kind_of m
-kind_of-kept takes (GetEndpoints m) = refl
-kind_of-kept takes (CreateSession m) = refl
-kind_of-kept takes (ActivateSession m) = refl
-kind_of-kept takes (CloseSession m) = refl
-kind_of-kept takes (Read m) = refl
 kind_of-kept takes (Write m) = refl
+kind_of-kept takes m = refl
 
 -- ---- a Write
 
@@ -99,12 +91,8 @@ write_kept : (s : State) (moment : DateTime) (m : WriteRequest) → ChangesNothi
 write_kept s moment m same = answered_alike s moment m (is_activated s.session) same refl
 
 pub answer-kept : (s : State) (moment : DateTime) (m : Request) → ChangesNothing s.nodes → answer s moment (thin_request (takes_now s) m) ≡ answer s moment m
-answer-kept s moment (GetEndpoints m) same = refl
-answer-kept s moment (CreateSession m) same = refl
-answer-kept s moment (ActivateSession m) same = refl
-answer-kept s moment (CloseSession m) same = refl
-answer-kept s moment (Read m) same = refl
 answer-kept s moment (Write m) same = write_kept s moment m same
+answer-kept s moment m same = refl
 
 -- ---- what was read
 

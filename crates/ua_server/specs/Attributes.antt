@@ -13,6 +13,7 @@ use Rattle.ua_structures.specs.Plain.{values_of, statuses_of}
 use Rattle.ua_structures.specs.declared.attribute.ReadRequest.{ReadRequest}
 use Rattle.ua_structures.specs.declared.attribute.ReadValueId.{ReadValueId}
 use Rattle.ua_structures.specs.declared.attribute.WriteRequest.{WriteRequest}
+use Rattle.ua_structures.specs.declared.header.RequestHeader.{RequestHeader}
 use Rattle.ua_structures.specs.declared.thin.ValueType.{ValueType}
 use Rattle.ua_variant.specs.Data.{DataFields, DataValueData, VariantData, bare, valued}
 use Rattle.ua_variant.specs.declared.values.DataValue.{DataValue}
@@ -37,6 +38,10 @@ most_age = 0x8000_0000_0000_0000
 -- why the items are not looked at, for how many they are: there are none, or more than 1000
 abbrev pub count_reasons : ℕ → List (ℕ × Bool)
 count_reasons n = (bad_nothing_to_do, nat_eq n 0) ∷ (bad_too_many_operations, nat_lt most_items n) ∷ []
+
+-- why a request with so many items under a session is refused before they are looked at: for its session, and then for how many they are
+abbrev pub items_reasons : State → RequestHeader → ℕ → List (ℕ × Bool)
+items_reasons s asking n = session_reasons s asking ++ count_reasons n
 
 -- why a Read is refused, in the order in which it is judged (OPC 10000-4, 5.11.2): for its session, for the times, for the age, and for how many items it has
 abbrev pub read_reasons : State → ReadRequest → List (ℕ × Bool)
@@ -72,7 +77,7 @@ takes_now s id t = is_activated s.session && nodes_take s.nodes id t
 
 -- why a Write is refused, in the order in which it is judged (OPC 10000-4, 5.11.4): for its session, and then for how many items it has
 abbrev pub write_reasons : State → WriteRequest → List (ℕ × Bool)
-write_reasons s m = session_reasons s m.request_header ++ count_reasons (length (items_of m.nodes_to_write))
+write_reasons s m = items_reasons s m.request_header (length (items_of m.nodes_to_write))
 
 -- the state with what the items of a Write leave of its nodes
 abbrev pub with_written : State → DateTime → WriteRequest → State

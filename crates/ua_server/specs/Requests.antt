@@ -11,7 +11,7 @@ use Rattle.ua_services.specs.Request.{kind_of, request_read}
 use Rattle.ua_services.specs.Response.{header_of, response}
 use Rattle.ua_services.specs.declared.fault.RequestFault.{RequestFault}
 use Rattle.ua_services.specs.declared.request.Request.{Request}
-use Rattle.ua_services.specs.declared.request.Request.TheVariants.{GetEndpoints, CreateSession, ActivateSession, CloseSession, Read, Write}
+use Rattle.ua_services.specs.declared.request.Request.TheVariants.{Read, Write}
 use Rattle.ua_services.specs.declared.request.RequestKind.{RequestKind}
 use Rattle.ua_services.specs.declared.response.Response.{Response}
 use Rattle.ua_server.specs.Attributes.{items_of}
@@ -25,12 +25,9 @@ use Rattle.ua_server.specs.declared.watch.AnsweredRequest.{AnsweredRequest}
 
 -- how many items it asks for: the nodes of a Read or of a Write, none of the others
 abbrev pub items_asked : Request → ℕ
-items_asked (GetEndpoints m) = 0
-items_asked (CreateSession m) = 0
-items_asked (ActivateSession m) = 0
-items_asked (CloseSession m) = 0
 items_asked (Read m) = length (items_of m.nodes_to_read)
 items_asked (Write m) = length (items_of m.nodes_to_write)
+items_asked m = 0
 
 -- the kind of what octets are read as, if they are a request
 abbrev pub kind_asked : Result Request RequestFault → Option RequestKind

@@ -13,17 +13,17 @@ ghost use Rattle.ua_nodes.specs.Read.{read_answer};
 ghost use Rattle.ua_nodes.specs.Table.{node_at};
 ghost use Rattle.ua_nodes.specs.Write.{write_answers, after_write};
 ghost use Rattle.ua_structures.specs.Header.{response_header};
-ghost use Rattle.ua_structures.specs.declared.attribute.WriteRequest.{WriteRequest};
 ghost use Rattle.ua_variant.specs.Formats.{data_value_format};
 ghost use Rattle.ua_server.specs.State.{with_nodes};
 ghost use Rattle.ua_server.specs.Answer.{read_items, write_items};
 ghost use Rattle.ua_server.specs.Reply.{IsBodyWithin};
-ghost use Rattle.ua_server.specs.Attributes.{items_of, most_items, value_from, count_reasons, read_reasons, read_answers, values_given, write_reasons, with_written, statuses_given};
+ghost use Rattle.ua_server.specs.Attributes.{items_of, most_items, value_from, count_reasons, items_reasons, read_reasons, read_answers, values_given, with_written, statuses_given};
 
 use crate::reply::body_of;
 use crate::services::Services;
 use crate::sessions::good_header;
 use std::alloc::{AllocError, Global};
+use std::mem;
 use ua_builtin::{DateTime, Identifier, NULL_COUNT, NodeId, StatusCode, Wire};
 use ua_nodes::Stamps;
 use ua_services::{
@@ -40,6 +40,16 @@ const READ_RESPONSE: u32 = 634;
 
 /// The greatest MaxAge, as the pattern of a Double: that of -0.
 const MOST_AGE: u64 = 0x8000_0000_0000_0000;
+
+/// How many items an array has, none where it is null.
+pub(crate) fn item_count<T>(items: &UaArray<T>) -> usize
+    ensures { result ≡ length (items_of items.now) }
+{
+    match items.as_items() {
+        Some(items) => items.len(),
+        None => 0,
+    }
+}
 
 /// Why so many items are not looked at.
 pub(crate) fn count_refusal(items: usize) -> Option<StatusCode>
@@ -94,7 +104,7 @@ impl Services {
         if request.max_age.bits > MOST_AGE {
             return Some(StatusCode::BAD_MAX_AGE_INVALID);
         }
-        count_refusal(request.nodes_to_read.as_items().unwrap_or(&[]).len())
+        count_refusal(item_count(&request.nodes_to_read))
     }
 
     /// The answer to an item.
@@ -198,20 +208,16 @@ impl Services {
         Ok((body, StatusCode::GOOD))
     }
 
-    /// Why a Write is refused: for its session, or for how many items it has.
-    fn write_refusal(
-        &self,
-        asking: &RequestHeader,
-        items: &UaArray<WriteValue>,
-    ) -> Option<StatusCode>
-        ensures refusal { (m : WriteRequest) → m.request_header ≡ asking.now → m.nodes_to_write ≡ items.now
-            → option_map (λ s. s.code) result ≡ first_reason (write_reasons self.now m) }
-        ensures few { result ≡ None → length (items_of items.now) ≤ most_items }
+    /// Why a request with so many items is refused before they are looked at: for its session, or for
+    /// how many they are.
+    pub(crate) fn items_refusal(&self, asking: &RequestHeader, items: usize) -> Option<StatusCode>
+        ensures refusal { option_map (λ s. s.code) result ≡ first_reason (items_reasons self.now asking.now items) }
+        ensures few { result ≡ None → items ≤ most_items }
     {
         if let Some(code) = self.session_refusal(asking) {
             return Some(code);
         }
-        count_refusal(items.as_items().unwrap_or(&[]).len())
+        count_refusal(items)
     }
 
     /// Writes items in order, and answers each. All memory is asked for first.
@@ -237,31 +243,26 @@ impl Services {
         Ok(statuses)
     }
 
-    /// Write (OPC 10000-4, 5.11.4).
+    /// Write (OPC 10000-4, 5.11.4). Takes the items out of the request.
     #[tactic(auto, using(crate::proofs::Answered::statuses_fit))]
     pub(crate) fn write(
         &mut self,
         alloc: Global,
-        request: WriteRequest,
+        request: &mut WriteRequest,
         moment: DateTime,
     ) -> Result<Response, AllocError>
-        ensures response { IfOk result (λ r. r ≡ (write_items self.old moment request).1) }
-        ensures state { IfOk result (λ r. self.new ≡ (write_items self.old moment request).0) }
+        ensures response { IfOk result (λ r. r ≡ (write_items self.old moment request.old).1) }
+        ensures state { IfOk result (λ r. self.new ≡ (write_items self.old moment request.old).0) }
         ensures kept { OnErr result (self.new ≡ self.old) }
         ensures encodable { IfOk result (λ r. IsTrue (response.encodable r)) }
     {
-        let WriteRequest {
-            request_header,
-            nodes_to_write,
-        } = request;
-        let handle = request_header.request_handle;
-        let refusal = self.write_refusal(&request_header, &nodes_to_write);
-        drop(request_header);
-        if let Some(code) = refusal {
-            drop(nodes_to_write);
+        let handle = request.request_header.request_handle;
+        let count = item_count(&request.nodes_to_write);
+        if let Some(code) = self.items_refusal(&request.request_header, count) {
             return Ok(self.fault(handle, code, moment));
         }
-        let statuses = self.write_items(alloc, nodes_to_write, moment)?;
+        let items = mem::replace(&mut request.nodes_to_write, UaArray::null());
+        let statuses = self.write_items(alloc, items, moment)?;
         let header = good_header(moment, handle);
         Ok(Response::Write(WriteResponse::of_results(header, statuses)))
     }

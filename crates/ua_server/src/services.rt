@@ -1,10 +1,8 @@
 //! The services of a server.
 
-ghost use Rattle.std.specs.Prelude.{◌≡◌, ◌≢◌, IsTrue, IfOk, OnErr};
+ghost use Rattle.std.specs.Prelude.{◌≡◌, IsTrue, IfOk, OnErr};
 ghost use Rattle.ua_nodes.specs.Sound.{IsSound};
-ghost use Rattle.ua_services.specs.Request.{kind_of};
 ghost use Rattle.ua_services.specs.Response.{response};
-ghost use Rattle.ua_services.specs.declared.request.RequestKind.TheVariants.{Write};
 ghost use Rattle.ua_server.specs.Answer.{fault_of, answer};
 ghost use Rattle.ua_server.specs.Endpoint.{Fits};
 ghost use Rattle.ua_server.specs.State.{fresh, begun};
@@ -89,27 +87,22 @@ impl Services {
         ensures kept { OnErr result (self.new ≡ self.old) }
         ensures encodable { IfOk result (λ r. IsTrue (response.encodable r)) }
     {
-        match request.into_write() {
-            Ok(message) => self.write(alloc, message, moment),
-            Err(other) => {
-                let response = self.respond(alloc, &other, moment);
-                drop(other);
-                response
-            }
-        }
+        let mut request = request;
+        let response = self.respond(alloc, &mut request, moment);
+        drop(request);
+        response
     }
 
-    /// The response to a request that keeps its values.
+    /// The response to a request, of which what the response or the nodes are to hold is taken out.
     #[tactic(auto, using(crate::proofs::Answered::kept_by))]
     fn respond(
         &mut self,
         alloc: Global,
-        request: &Request,
+        request: &mut Request,
         moment: DateTime,
     ) -> Result<Response, AllocError>
-        requires { kind_of request.now ≢ Write }
-        ensures response { IfOk result (λ r. r ≡ (answer self.old moment request.now).1) }
-        ensures state { IfOk result (λ r. self.new ≡ (answer self.old moment request.now).0) }
+        ensures response { IfOk result (λ r. r ≡ (answer self.old moment request.old).1) }
+        ensures state { IfOk result (λ r. self.new ≡ (answer self.old moment request.old).0) }
         ensures kept { OnErr result (self.new ≡ self.old) }
         ensures encodable { IfOk result (λ r. IsTrue (response.encodable r)) }
     {
@@ -119,7 +112,7 @@ impl Services {
             Request::ActivateSession(message) => self.activate_session(alloc, message, moment),
             Request::CloseSession(message) => Ok(self.close_session(message, moment)),
             Request::Read(message) => self.read(alloc, message, moment),
-            Request::Write(_) => unreachable!(),
+            Request::Write(message) => self.write(alloc, message, moment),
         }
     }
 }

@@ -185,7 +185,7 @@ impl Services {
     }
 
     /// CloseSession (OPC 10000-4, 5.7.4).
-    #[tactic(auto, using(crate::proofs::Answered::close_fits))]
+    #[tactic(auto, unfolding(ua_services::specs::Response::response, ua_builtin::specs::NodeId::node_id, ua_structures::specs::Session::close_session_response))]
     pub(crate) fn close_session(
         &mut self,
         request: &CloseSessionRequest,

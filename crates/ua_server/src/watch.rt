@@ -4,6 +4,7 @@ ghost use Rattle.std.specs.Prelude.{◌≡◌};
 ghost use Rattle.ua_server.specs.Happening.{IsTold};
 ghost use Rattle.ua_server.specs.Requests.{is_abort, items_asked};
 
+use crate::attributes::item_count;
 use ua_builtin::StatusCode;
 use ua_services::{Request, RequestKind};
 
@@ -58,12 +59,9 @@ pub(crate) fn items_asked(request: &Request) -> usize
     ensures { result ≡ items_asked request.now }
 {
     match request {
-        Request::Read(message) => message.nodes_to_read.as_items().unwrap_or(&[]).len(),
-        Request::Write(message) => message.nodes_to_write.as_items().unwrap_or(&[]).len(),
-        Request::GetEndpoints(_)
-        | Request::CreateSession(_)
-        | Request::ActivateSession(_)
-        | Request::CloseSession(_) => 0,
+        Request::Read(message) => item_count(&message.nodes_to_read),
+        Request::Write(message) => item_count(&message.nodes_to_write),
+        _ => 0,
     }
 }
 
