@@ -6,7 +6,7 @@ use Rattle.ua_builtin.specs.declared.node_id.NodeId.{NodeId}
 use Rattle.ua_builtin.specs.declared.status_code.StatusCode.{StatusCode}
 use Rattle.ua_client.specs.declared.reply.Reply.{Reply}
 use Rattle.ua_asking.specs.ScriptFaults.{of_line_answer}
-use Rattle.ua_asking.specs.ScriptPrinted.{AddsAll, AddsTold, asked_behind, asked_by, asked_for, fault_of, is_bad_reply, is_bad_told, read_told, replies_told, reply_told, text_of, unless_failed, write_told}
+use Rattle.ua_asking.specs.ScriptPrinted.{AddsAll, AddsTold, asked_behind, asking_step, asked_for, told_fault, is_bad_reply, is_bad_told, read_told, replies_told, reply_told, text_of, unless_failed, write_told}
 use Rattle.ua_asking.specs.declared.looping.fault.LoopFault.{LoopFault}
 use Rattle.ua_asking.specs.declared.looping.fault.LoopFault.TheVariants.{UnknownResponse}
 use Rattle.ua_services.specs.declared.response.Response.{Response}
@@ -48,46 +48,46 @@ write_failed names node r answer.OutOfMemory had have none kept = inl refl
 
 pub all-cons : (t : Result (List ℕ) LoopFault) (ts : List (Result (List ℕ) LoopFault)) (r : Result (Unit {0}) LoopFault) (a b c : List ℕ) → AddsTold t (Ok tt) a b → AddsAll ts r b c → AddsAll (t ∷ ts) r a c
 all-cons t ts (Ok done) a b c one all = (
-  ap (λ u. fault_of (u ∷ ts)) one.1 ∙ all.0,
+  ap (λ u. told_fault (u ∷ ts)) one.1 ∙ all.0,
   all.1 ∙ ap (λ u. u ++ text_of ts) one.2 ∙ append_assoc a one.0 (text_of ts) ∙ sym (ap (λ u. a ++ text_of (u ∷ ts)) one.1),
 )
 all-cons t ts (Err f) a b c one (inl none) = inl none
 all-cons t ts (Err f) a b c one (inr all) = inr (
-  ap (λ u. fault_of (u ∷ ts)) one.1 ∙ all.0,
+  ap (λ u. told_fault (u ∷ ts)) one.1 ∙ all.0,
   all.1 ∙ ap (λ u. u ++ text_of ts) one.2 ∙ append_assoc a one.0 (text_of ts) ∙ sym (ap (λ u. a ++ text_of (u ∷ ts)) one.1),
 )
 
 pub all-fault : (t : Result (List ℕ) LoopFault) (ts : List (Result (List ℕ) LoopFault)) (f : LoopFault) (a b : List ℕ) → AddsTold t (Err f) a b → AddsAll (t ∷ ts) (Err f) a b
 all-fault t ts f a b (inl none) = inl none
-all-fault t ts f a b (inr one) = inr (ap (λ u. fault_of (u ∷ ts)) one.0, one.1 ∙ sym (append-nil a) ∙ sym (ap (λ u. a ++ text_of (u ∷ ts)) one.0))
+all-fault t ts f a b (inr one) = inr (ap (λ u. told_fault (u ∷ ts)) one.0, one.1 ∙ sym (append-nil a) ∙ sym (ap (λ u. a ++ text_of (u ∷ ts)) one.0))
 
 pub all-last : (t : Result (List ℕ) LoopFault) (r : Result (Unit {0}) LoopFault) (a b : List ℕ) → AddsTold t r a b → AddsAll (t ∷ []) r a b
 all-last t (Ok done) a b one = all-cons t [] (Ok done) a b b one (refl, sym (append-nil b))
 all-last t (Err f) a b one = all-fault t [] f a b one
 
-fault_of-append : (ts us : List (Result (List ℕ) LoopFault)) → fault_of ts ≡ None → fault_of (ts ++ us) ≡ fault_of us
-fault_of-append [] us h = refl
-fault_of-append (Ok text ∷ ts) us h = fault_of-append ts us h
-fault_of-append (Err f ∷ ts) us h = absurd cc
+told_fault-append : (ts us : List (Result (List ℕ) LoopFault)) → told_fault ts ≡ None → told_fault (ts ++ us) ≡ told_fault us
+told_fault-append [] us h = refl
+told_fault-append (Ok text ∷ ts) us h = told_fault-append ts us h
+told_fault-append (Err f ∷ ts) us h = absurd cc
 
-text_of-append : (ts us : List (Result (List ℕ) LoopFault)) → fault_of ts ≡ None → text_of (ts ++ us) ≡ text_of ts ++ text_of us
+text_of-append : (ts us : List (Result (List ℕ) LoopFault)) → told_fault ts ≡ None → text_of (ts ++ us) ≡ text_of ts ++ text_of us
 text_of-append [] us h = refl
 text_of-append (Ok text ∷ ts) us h = ap (λ u. text ++ u) (text_of-append ts us h) ∙ sym (append_assoc text (text_of ts) (text_of us))
 text_of-append (Err f ∷ ts) us h = absurd cc
 
-fault-front : (ts us : List (Result (List ℕ) LoopFault)) (f : LoopFault) → fault_of ts ≡ Some f → (fault_of (ts ++ us) ≡ Some f) × (text_of (ts ++ us) ≡ text_of ts)
+fault-front : (ts us : List (Result (List ℕ) LoopFault)) (f : LoopFault) → told_fault ts ≡ Some f → (told_fault (ts ++ us) ≡ Some f) × (text_of (ts ++ us) ≡ text_of ts)
 fault-front [] us f h = absurd cc
 fault-front (Ok text ∷ ts) us f h = let p = fault-front ts us f h in (p.0, ap (λ u. text ++ u) p.1)
 fault-front (Err g ∷ ts) us f h = (h, refl)
 
 pub all-append : (ts us : List (Result (List ℕ) LoopFault)) (r : Result (Unit {0}) LoopFault) (a b c : List ℕ) → AddsAll ts (Ok tt) a b → AddsAll us r b c → AddsAll (ts ++ us) r a c
 all-append ts us (Ok done) a b c all more = (
-  fault_of-append ts us all.0 ∙ more.0,
+  told_fault-append ts us all.0 ∙ more.0,
   more.1 ∙ ap (λ u. u ++ text_of us) all.1 ∙ append_assoc a (text_of ts) (text_of us) ∙ sym (ap (λ u. a ++ u) (text_of-append ts us all.0)),
 )
 all-append ts us (Err f) a b c all (inl none) = inl none
 all-append ts us (Err f) a b c all (inr more) = inr (
-  fault_of-append ts us all.0 ∙ more.0,
+  told_fault-append ts us all.0 ∙ more.0,
   more.1 ∙ ap (λ u. u ++ text_of us) all.1 ∙ append_assoc a (text_of ts) (text_of us) ∙ sym (ap (λ u. a ++ u) (text_of-append ts us all.0)),
 )
 
@@ -108,7 +108,7 @@ told-drop names s ss (r ∷ rs) (suc place) = told-drop names s ss rs place
 -- ---- the lines
 
 -- a step that is no renewal asks a request
-pub asks : (s : Step) → s ≢ Renew → asked_by s ≡ Some s
+pub asks : (s : Step) → s ≢ Renew → asking_step s ≡ Some s
 asks (Read node range) h = refl
 asks (Write node value) h = refl
 asks Renew h = absurd (h refl)
@@ -144,10 +144,10 @@ module _ (names : Bool) (lines : List ScriptLine) (replies : List Reply) (index 
     adds = λ result new all. so.adds result new (subst (λ (ss : List (Option Step)). AddsAll (replies_told names ss (drop place (map Some replies))) result have new) (sym (asked_skip e)) all);
   }
 
-  asked_step : asked_by line.step ≡ Some line.step → asked_behind (drop index lines) ≡ Some line.step ∷ asked_behind (drop (index + 1) lines)
+  asked_step : asking_step line.step ≡ Some line.step → asked_behind (drop index lines) ≡ Some line.step ∷ asked_behind (drop (index + 1) lines)
   asked_step e = ap asked_behind lines_at ∙ rw e refl
 
-  told_here : asked_by line.step ≡ Some line.step → replies_told names (asked_behind (drop index lines)) (drop place (map Some replies))
+  told_here : asking_step line.step ≡ Some line.step → replies_told names (asked_behind (drop index lines)) (drop place (map Some replies))
       ≡ reply_told names (Some line.step) (slice_get replies place) ∷ replies_told names (asked_behind (drop (index + 1) lines)) (drop (place + 1) (map Some replies))
   told_here e =
       ap (λ (ss : List (Option Step)). replies_told names ss (drop place (map Some replies))) (asked_step e)
@@ -155,7 +155,7 @@ module _ (names : Bool) (lines : List ScriptLine) (replies : List Reply) (index 
       ∙ ap (λ (n : ℕ). reply_told names (Some line.step) (slice_get replies place) ∷ replies_told names (asked_behind (drop (index + 1) lines)) (drop n (map Some replies))) next_place
 
   -- a request whose answer was added
-  pub behind-step : (now : List ℕ) → asked_by line.step ≡ Some line.step → AddsTold (reply_told names (Some line.step) (slice_get replies place)) (Ok tt) have now → Behind names lines replies (index + 1) (place + 1) had now
+  pub behind-step : (now : List ℕ) → asking_step line.step ≡ Some line.step → AddsTold (reply_told names (Some line.step) (slice_get replies place)) (Ok tt) have now → Behind names lines replies (index + 1) (place + 1) had now
   behind-step now e one = record {
     adds = λ result new all. so.adds result new
         (subst (λ (ts : List (Result (List ℕ) LoopFault)). AddsAll ts result have new) (sym (told_here e))
@@ -163,7 +163,7 @@ module _ (names : Bool) (lines : List ScriptLine) (replies : List Reply) (index 
   }
 
   -- a request whose answer was not
-  pub behind-fault : (now : List ℕ) (f : LoopFault) → asked_by line.step ≡ Some line.step → AddsTold (reply_told names (Some line.step) (slice_get replies place)) (Err f) have now
+  pub behind-fault : (now : List ℕ) (f : LoopFault) → asking_step line.step ≡ Some line.step → AddsTold (reply_told names (Some line.step) (slice_get replies place)) (Err f) have now
       → AddsAll (replies_told names (asked_behind lines) (drop 2 (map Some replies))) (Err f) had now
   behind-fault now f e one =
       so.adds (Err f) now

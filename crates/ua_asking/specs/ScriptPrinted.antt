@@ -63,14 +63,14 @@ reply_told names step (Some (Aborted code)) = Err (Service code)
 -- ---- all replies
 
 -- the step, if it asks a request: all but renewals do
-abbrev pub asked_by : Step → Option Step
-asked_by (Read node range) = Some (Read node range)
-asked_by (Write node value) = Some (Write node value)
-asked_by Renew = None
+abbrev pub asking_step : Step → Option Step
+asking_step (Read node range) = Some (Read node range)
+asking_step (Write node value) = Some (Write node value)
+asking_step Renew = None
 
 -- the steps of lines that ask requests, in their order
 abbrev pub steps_asked : List ScriptLine → List Step
-steps_asked lines = filter_map (λ line. asked_by line.step) lines
+steps_asked lines = filter_map (λ line. asking_step line.step) lines
 
 -- what the requests behind ActivateSession are for: the steps of the lines in their order, and the end of the session
 abbrev pub asked_behind : List ScriptLine → List (Option Step)
@@ -123,10 +123,10 @@ text_of (Ok text ∷ told) = text ++ text_of told
 text_of (Err fault ∷ told) = []
 
 -- the first fault, if there is one
-abbrev pub fault_of : List (Result (List ℕ) LoopFault) → Option LoopFault
-fault_of [] = None
-fault_of (Ok text ∷ told) = fault_of told
-fault_of (Err fault ∷ told) = Some fault
+abbrev pub told_fault : List (Result (List ℕ) LoopFault) → Option LoopFault
+told_fault [] = None
+told_fault (Ok text ∷ told) = told_fault told
+told_fault (Err fault ∷ told) = Some fault
 
 -- the octets each way, and how the connection ended
 abbrev pub script_totals : Bool → Nodes → List ScriptLine → List ℕ
@@ -152,5 +152,5 @@ AddsTold told (Err fault) had have = (fault ≡ NoMemory) ⊎ ((told ≡ Err fau
 
 -- the texts in front of the first fault were added, and that fault was answered, or memory ran out
 abbrev pub AddsAll : List (Result (List ℕ) LoopFault) → Result (Unit {0}) LoopFault → List ℕ → List ℕ → Type 0
-AddsAll told (Ok done) had have = (fault_of told ≡ None) × (have ≡ had ++ text_of told)
-AddsAll told (Err fault) had have = (fault ≡ NoMemory) ⊎ ((fault_of told ≡ Some fault) × (have ≡ had ++ text_of told))
+AddsAll told (Ok done) had have = (told_fault told ≡ None) × (have ≡ had ++ text_of told)
+AddsAll told (Err fault) had have = (fault ≡ NoMemory) ⊎ ((told_fault told ≡ Some fault) × (have ≡ had ++ text_of told))

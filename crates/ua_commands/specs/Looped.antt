@@ -5,7 +5,7 @@ use Rattle.ua_exchange.specs.Accepted.{AreAccepted}
 use Rattle.ua_exchange.specs.Exchanged.{down_octets}
 use Rattle.ua_exchange.specs.Turns.{up_octets}
 use Rattle.ua_asking.specs.ScriptFaults.{Stops, Unread}
-use Rattle.ua_asking.specs.ScriptPrinted.{fault_of, script_told, text_of}
+use Rattle.ua_asking.specs.ScriptPrinted.{told_fault, script_told, text_of}
 use Rattle.ua_asking.specs.Script.{script_moment, script_turns}
 use Rattle.ua_asking.specs.declared.looping.fault.LoopFault.{LoopFault}
 use Rattle.ua_asking.specs.declared.looping.looped.Looped.{Looped}
@@ -26,7 +26,7 @@ pub record RunsScript (names : Bool) (nodes : Nodes) (text : List ℕ) (l : Loop
   pub up_is : l.up.items ≡ up_octets script_moment (script_turns lines)
   pub down_is : l.down.items ≡ down_octets nodes script_moment (script_turns lines)
   pub text_is : string_bytes l.text ≡ text_of (script_told names nodes lines)
-  pub fault_is : l.fault ≡ fault_of (script_told names nodes lines)
+  pub fault_is : l.fault ≡ told_fault (script_told names nodes lines)
 
 -- the text asks for steps, and why a client does not ask them all
 pub record StopsScript (text : List ℕ) (fault : LoopFault) : Type 0 where

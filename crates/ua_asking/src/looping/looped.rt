@@ -7,7 +7,7 @@ ghost use Rattle.ua_exchange.specs.Exchanged.{IsRefusedFor, down_octets};
 ghost use Rattle.ua_exchange.specs.Turns.{up_octets};
 ghost use Rattle.ua_asking.specs.Conversed.{Converses};
 ghost use Rattle.ua_asking.specs.ScriptFaults.{Stops, place_in};
-ghost use Rattle.ua_asking.specs.ScriptPrinted.{AreLoopLines, fault_of, is_bad_reply, script_has_bad, script_told, text_of};
+ghost use Rattle.ua_asking.specs.ScriptPrinted.{AreLoopLines, told_fault, is_bad_reply, script_has_bad, script_told, text_of};
 ghost use Rattle.ua_asking.specs.Script.{script_moment, script_turns as turns_of_script};
 ghost use Rattle.ua_nodes.specs.Sound.{IsSound};
 
@@ -127,7 +127,7 @@ pub fn run_lines(
     ensures up { IfOk result (λ l. l.up.items ≡ up_octets script_moment (turns_of_script lines.now)) }
     ensures down { IfOk result (λ l. l.down.items ≡ down_octets nodes script_moment (turns_of_script lines.now)) }
     ensures text { IfOk result (λ l. string_bytes l.text ≡ text_of (script_told names nodes lines.now)) }
-    ensures fault { IfOk result (λ l. l.fault ≡ fault_of (script_told names nodes lines.now)) }
+    ensures fault { IfOk result (λ l. l.fault ≡ told_fault (script_told names nodes lines.now)) }
     ensures lines { IfOk result (λ l. AreLoopLines names (string_bytes l.text)) }
     ensures bad { IfOk result (λ l. l.has_bad ≡ script_has_bad nodes lines.now) }
 {
