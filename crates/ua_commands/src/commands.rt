@@ -5,100 +5,18 @@ use std::alloc::{AllocError, Global};
 
 /// What a word of a command line is.
 #[derive(Clone, Copy)]
-struct Kind {
-    /// Whether the command needs it.
-    is_needed: bool,
-    /// Whether it is named, as `--cut 7`; else it is known by its place.
-    is_named: bool,
-    /// What a use of it does.
-    action: ArgAction,
-    /// The least values that it has.
-    least: usize,
-    /// The most values that it has.
-    most: usize,
-    /// Its value where none is given.
-    defaults: &'static [&'static str],
+enum Kind {
+    /// One that the command needs, by its place.
+    Needed,
+    /// One or more at the last place.
+    Several,
+    /// A flag, as `--hex`.
+    Flag,
+    /// A text, as `--range 1:2`.
+    Text,
+    /// A text that is this one where nothing is said, as `--cut 7`.
+    TextOr(&'static str),
 }
-
-/// One that the command needs, by its place.
-const NEEDED: Kind = Kind {
-    is_needed: true,
-    is_named: false,
-    action: ArgAction::Set,
-    least: 1,
-    most: 1,
-    defaults: &[],
-};
-
-/// One or more at the last place.
-const SEVERAL: Kind = Kind {
-    is_needed: true,
-    is_named: false,
-    action: ArgAction::Set,
-    least: 1,
-    most: usize::MAX,
-    defaults: &[],
-};
-
-/// A flag, as `--hex`.
-const FLAG: Kind = Kind {
-    is_needed: false,
-    is_named: true,
-    action: ArgAction::SetTrue,
-    least: 0,
-    most: 0,
-    defaults: &[],
-};
-
-/// How many connections are served: `--connections 2`, and 1 where nothing is said.
-const CONNECTIONS: Kind = Kind {
-    is_needed: false,
-    is_named: true,
-    action: ArgAction::Set,
-    least: 1,
-    most: 1,
-    defaults: &["1"],
-};
-
-/// The most octets that an end takes at once: `--cut 7`, and 65535 where nothing is said.
-const CUT: Kind = Kind {
-    is_needed: false,
-    is_named: true,
-    action: ArgAction::Set,
-    least: 1,
-    most: 1,
-    defaults: &["65535"],
-};
-
-/// A text, as `--range 1:2`.
-const TEXT: Kind = Kind {
-    is_needed: false,
-    is_named: true,
-    action: ArgAction::Set,
-    least: 1,
-    most: 1,
-    defaults: &[],
-};
-
-/// Which attribute is read: `--attribute 1`, and the Value where nothing is said.
-const NUMBER_OF_ATTRIBUTE: Kind = Kind {
-    is_needed: false,
-    is_named: true,
-    action: ArgAction::Set,
-    least: 1,
-    most: 1,
-    defaults: &["13"],
-};
-
-/// The id of a token policy: `--policy 0`, and `anonymous` where nothing is said.
-const POLICY_ID: Kind = Kind {
-    is_needed: false,
-    is_named: true,
-    action: ArgAction::Set,
-    least: 1,
-    most: 1,
-    defaults: &["anonymous"],
-};
 
 /// A word of a command: its name, what it is, and its help.
 #[derive(Clone, Copy)]
@@ -118,70 +36,70 @@ struct Words {
 
 const PORT: Word = Word {
     name: "PORT",
-    kind: NEEDED,
+    kind: Kind::Needed,
     help: "a port of this machine, from 1 to 65535",
 };
 
 const NODE_FILE: Word = Word {
     name: "NODES",
-    kind: NEEDED,
+    kind: Kind::Needed,
     help: "the node file",
 };
 
 const NAMES: Word = Word {
     name: "names",
-    kind: FLAG,
+    kind: Kind::Flag,
     help: "the standard's name stands behind each status code that has one",
 };
 
 const JSON: Word = Word {
     name: "json",
-    kind: FLAG,
+    kind: Kind::Flag,
     help: "each line is an object of JSON",
 };
 
 const POLICY: Word = Word {
     name: "policy",
-    kind: POLICY_ID,
+    kind: Kind::TextOr("anonymous"),
     help: "the id of the server's anonymous token policy, or auto to ask the server for it",
 };
 
 const STRICT: Word = Word {
     name: "strict",
-    kind: FLAG,
+    kind: Kind::Flag,
     help: "the status is 3 where a status code that is printed is bad",
 };
 
 const WHY: Word = Word {
     name: "why",
-    kind: FLAG,
+    kind: Kind::Flag,
     help: "behind a fault stands what is known of its reason",
 };
 
 const DISSECT: &[Word] = &[
     Word {
         name: "FILE",
-        kind: NEEDED,
+        kind: Kind::Needed,
         help: "the file of octets, or - for standard input",
     },
     Word {
         name: "hex",
-        kind: FLAG,
+        kind: Kind::Flag,
         help: "the file holds hexadecimal digits; white space is dropped",
     },
     Word {
         name: "server",
-        kind: FLAG,
+        kind: Kind::Flag,
         help: "the octets are those that a server sent",
     },
     Word {
         name: "fields",
-        kind: FLAG,
+        kind: Kind::Flag,
         help: "the fields of each message stand behind its line",
     },
     Word {
         name: "names",
-        kind: FLAG,
+        kind: Kind::Flag,
         help: "each status code has its standard name behind it",
     },
     WHY,
@@ -192,12 +110,12 @@ const SERVE: &[Word] = &[
     PORT,
     Word {
         name: "connections",
-        kind: CONNECTIONS,
+        kind: Kind::TextOr("1"),
         help: "how many connections are served, from 1 to 65535, or all",
     },
     Word {
         name: "requests",
-        kind: FLAG,
+        kind: Kind::Flag,
         help: "each request has a line as it is answered",
     },
     WHY,
@@ -207,7 +125,7 @@ const ENDPOINTS: &[Word] = &[
     PORT,
     Word {
         name: "policies",
-        kind: FLAG,
+        kind: Kind::Flag,
         help: "the token policies of each endpoint stand behind it",
     },
     JSON,
@@ -218,23 +136,23 @@ const READ: &[Word] = &[
     PORT,
     Word {
         name: "NODE",
-        kind: SEVERAL,
+        kind: Kind::Several,
         help: "a NodeId, as ns=1;s=Pump",
     },
     Word {
         name: "attribute",
-        kind: NUMBER_OF_ATTRIBUTE,
+        kind: Kind::TextOr("13"),
         help: "the number of the attribute that is read, from 1 to 27",
     },
     Word {
         name: "range",
-        kind: TEXT,
+        kind: Kind::Text,
         help: "the elements of arrays that are read, as 2 or 1:9",
     },
     NAMES,
     Word {
         name: "times",
-        kind: FLAG,
+        kind: Kind::Flag,
         help: "the source's and the server's timestamps stand behind each value",
     },
     JSON,
@@ -247,17 +165,17 @@ const WRITE: &[Word] = &[
     PORT,
     Word {
         name: "NODE",
-        kind: NEEDED,
+        kind: Kind::Needed,
         help: "a NodeId, as ns=1;s=Pump",
     },
     Word {
         name: "TYPE",
-        kind: NEEDED,
+        kind: Kind::Needed,
         help: "a type, as Int32 or Int32[]",
     },
     Word {
         name: "VALUE",
-        kind: NEEDED,
+        kind: Kind::Needed,
         help: "a value of the type; one that begins with - stands behind the word --",
     },
     NAMES,
@@ -271,17 +189,17 @@ const LOOP: &[Word] = &[
     NODE_FILE,
     Word {
         name: "SCRIPT",
-        kind: NEEDED,
+        kind: Kind::Needed,
         help: "the script: lines that read, write and renew",
     },
     Word {
         name: "cut",
-        kind: CUT,
+        kind: Kind::TextOr("65535"),
         help: "how many octets each end takes at once, from 1 to 65535",
     },
     Word {
         name: "tcp",
-        kind: FLAG,
+        kind: Kind::Flag,
         help: "the same octets go over a connection within this process, too",
     },
     NAMES,
@@ -333,23 +251,18 @@ fn commands() -> &'static [Words] {
     COMMANDS
 }
 
-/// What every word has.
-fn plain<'a>(alloc: Global, word: &Word) -> Arg<'a> {
-    Arg::new(alloc, word.name)
-        .required(word.kind.is_needed)
-        .action(word.kind.action)
-        .help(word.help)
-}
-
 /// A word as `clap` takes it.
 fn arg<'a>(alloc: Global, word: &Word) -> Arg<'a> {
-    let arg = plain(alloc, word)
-        .num_args(word.kind.least..=word.kind.most)
-        .default_values(word.kind.defaults);
-    if word.kind.is_named {
-        arg.long(word.name)
-    } else {
-        arg
+    let arg = Arg::new(alloc, word.name).help(word.help);
+    match word.kind {
+        Kind::Needed => arg.required(true),
+        Kind::Several => arg
+            .required(true)
+            .action(ArgAction::Set)
+            .num_args(1..=usize::MAX),
+        Kind::Flag => arg.long(word.name).action(ArgAction::SetTrue),
+        Kind::Text => arg.long(word.name),
+        Kind::TextOr(text) => arg.long(word.name).default_value(text),
     }
 }
 
