@@ -200,68 +200,72 @@ fn connections_of<'a>(matches: &ArgMatches<'a>) -> Result<u32, BadNumber<'a>>
     Ok(u32::from(number_of(matches, "connections")?))
 }
 
-fn endpoints_of<'a>(matches: &ArgMatches<'a>) -> Result<ListEndpoints, BadNumber<'a>>
-    ensures { IfOk result (λ asked. 1 ≤ asked.port) }
+fn endpoints_of<'a>(matches: &ArgMatches<'a>) -> Result<Task<'a>, BadNumber<'a>>
+    ensures { IfOk result CountsFromOne }
 {
     let style = EndpointStyle {
         policies: matches.get_flag("policies"),
         json: matches.get_flag("json"),
     };
-    Ok(ListEndpoints {
-        port: number_of(matches, "PORT")?,
-        style,
-    })
+    let port = number_of(matches, "PORT")?;
+    Ok(Task::Endpoints(ListEndpoints { port, style }))
 }
 
-fn dissect_of<'a>(matches: &ArgMatches<'a>) -> Dissect<'a> {
+fn dissect_of<'a>(matches: &ArgMatches<'a>) -> Task<'a>
+    ensures { CountsFromOne result }
+{
     let options = DissectOptions {
         side: side_of(matches),
         fields: matches.get_flag("fields"),
         names: matches.get_flag("names"),
     };
-    Dissect {
+    Task::Dissect(Dissect {
         file: text_of(matches, "FILE"),
         hex: matches.get_flag("hex"),
         options,
-    }
-}
-
-fn serve_of<'a>(matches: &ArgMatches<'a>) -> Result<Serve<'a>, BadNumber<'a>>
-    ensures { IfOk result (λ asked. (1 ≤ asked.port) × (1 ≤ asked.connections)) }
-{
-    Ok(Serve {
-        nodes: text_of(matches, "NODES"),
-        port: number_of(matches, "PORT")?,
-        connections: connections_of(matches)?,
-        requests: matches.get_flag("requests"),
     })
 }
 
-fn write_of<'a>(matches: &ArgMatches<'a>) -> Result<WriteNode<'a>, BadNumber<'a>>
-    ensures { IfOk result (λ asked. 1 ≤ asked.port) }
+fn serve_of<'a>(matches: &ArgMatches<'a>) -> Result<Task<'a>, BadNumber<'a>>
+    ensures { IfOk result CountsFromOne }
 {
-    Ok(WriteNode {
-        port: number_of(matches, "PORT")?,
+    let port = number_of(matches, "PORT")?;
+    let connections = connections_of(matches)?;
+    Ok(Task::Serve(Serve {
+        nodes: text_of(matches, "NODES"),
+        port,
+        connections,
+        requests: matches.get_flag("requests"),
+    }))
+}
+
+fn write_of<'a>(matches: &ArgMatches<'a>) -> Result<Task<'a>, BadNumber<'a>>
+    ensures { IfOk result CountsFromOne }
+{
+    let port = number_of(matches, "PORT")?;
+    Ok(Task::Write(WriteNode {
+        port,
         node: text_of(matches, "NODE"),
         kind: text_of(matches, "TYPE"),
         value: text_of(matches, "VALUE"),
         policy: text_of(matches, "policy"),
         style: style_of(matches),
         strict: matches.get_flag("strict"),
-    })
+    }))
 }
 
-fn loop_of<'a>(matches: &ArgMatches<'a>) -> Result<Loop<'a>, BadNumber<'a>>
-    ensures { IfOk result (λ asked. 1 ≤ asked.cut) }
+fn loop_of<'a>(matches: &ArgMatches<'a>) -> Result<Task<'a>, BadNumber<'a>>
+    ensures { IfOk result CountsFromOne }
 {
-    Ok(Loop {
+    let cut = number_of(matches, "cut")?;
+    Ok(Task::Loop(Loop {
         nodes: text_of(matches, "NODES"),
         script: text_of(matches, "SCRIPT"),
-        cut: number_of(matches, "cut")?,
+        cut,
         tcp: matches.get_flag("tcp"),
         names: matches.get_flag("names"),
         strict: matches.get_flag("strict"),
-    })
+    }))
 }
 
 /// The words for nodes.
@@ -269,22 +273,20 @@ fn nodes_of<'a>(alloc: Global, matches: &ArgMatches<'a>) -> Result<Vec<&'a str>,
     matches.get_strs("NODE").unwrap_or(&[]).to_vec(alloc)
 }
 
-fn read_of<'a>(
-    nodes: Vec<&'a str>,
-    matches: &ArgMatches<'a>,
-) -> Result<ReadNodes<'a>, BadNumber<'a>>
-    ensures port { IfOk result (λ asked. 1 ≤ asked.port) }
-    ensures attribute { IfOk result (λ asked. IsAttributeNumber asked.attribute) }
+fn read_of<'a>(nodes: Vec<&'a str>, matches: &ArgMatches<'a>) -> Result<Task<'a>, BadNumber<'a>>
+    ensures { IfOk result CountsFromOne }
 {
-    Ok(ReadNodes {
-        port: number_of(matches, "PORT")?,
+    let port = number_of(matches, "PORT")?;
+    let attribute = attribute_of(matches)?;
+    Ok(Task::Read(ReadNodes {
+        port,
         nodes,
-        attribute: attribute_of(matches)?,
+        attribute,
         range: matches.get_str("range"),
         policy: text_of(matches, "policy"),
         style: style_of(matches),
         strict: matches.get_flag("strict"),
-    })
+    }))
 }
 
 /// The commands, by their names.
@@ -322,12 +324,12 @@ fn task_of<'a>(
     ensures { IfOk result CountsFromOne }
 {
     match command {
-        Name::Dissect => Ok(Task::Dissect(dissect_of(matches))),
-        Name::Serve => Ok(Task::Serve(serve_of(matches)?)),
-        Name::Endpoints => Ok(Task::Endpoints(endpoints_of(matches)?)),
-        Name::Read => Ok(Task::Read(read_of(nodes, matches)?)),
-        Name::Write => Ok(Task::Write(write_of(matches)?)),
-        Name::Loop => Ok(Task::Loop(loop_of(matches)?)),
+        Name::Dissect => Ok(dissect_of(matches)),
+        Name::Serve => serve_of(matches),
+        Name::Endpoints => endpoints_of(matches),
+        Name::Read => read_of(nodes, matches),
+        Name::Write => write_of(matches),
+        Name::Loop => loop_of(matches),
         Name::Version => Ok(Task::Version),
     }
 }
