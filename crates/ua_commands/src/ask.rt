@@ -65,39 +65,46 @@ pub fn policy_of(alloc: Global, word: &str) -> Result<TokenPolicy, AllocError>
     }
 }
 
-/// What is asked of a server, and how its answers are printed.
-#[derive(Drop)]
-struct Asked {
+/// How a question is asked of a server, and how its answers are printed and counted.
+#[derive(Clone, Copy)]
+struct Asking<'a> {
+    /// A port of this machine.
     port: u16,
-    question: Question,
-    policy: TokenPolicy,
+    /// The id of a token policy, or `auto`.
+    policy: &'a str,
+    /// How the answers are printed.
     style: LineStyle,
+    /// Whether a bad status code counts.
+    strict: bool,
 }
 
-/// Asks the server on a port of this machine a question, and prints the answers.
+/// Asks a question of the server on a port of this machine, and prints the answers.
 fn ask<'a, R: Net + Clock + AllocGlobal, O: Write>(
     rt: &R,
-    asked: &Asked,
+    question: &Question,
+    how: &Asking<'a>,
     out: &mut O,
 ) -> Result<Verdict, Stop<'a>>
-    ensures answered { OnOk result (HasAnswered asked.now.style (O.contents out.old) (O.contents out.new)) }
-    ensures stopped { IfErr result (λ stop. (stop ≡ Output) ⊎ (out.new ≡ out.old) ⊎ HasAnswered asked.now.style (O.contents out.old) (O.contents out.new)) }
+    ensures answered { OnOk result (HasAnswered how.now.style (O.contents out.old) (O.contents out.new)) }
+    ensures stopped { IfErr result (λ stop. (stop ≡ Output) ⊎ (out.new ≡ out.old) ⊎ HasAnswered how.now.style (O.contents out.old) (O.contents out.new)) }
 {
-    let mut line = connect(rt, asked.port)?;
+    let policy = policy_of(rt.alloc(), how.policy)?;
+    let mut line = connect(rt, how.port)?;
     let mut moments = ClockMoments::new(rt);
     let mut text = String::new(rt.alloc());
     let ended = ask_over(
         rt.alloc(),
         &mut line,
         limits(),
-        asked.port,
-        &asked.question,
-        &asked.policy,
-        asked.style,
+        how.port,
+        question,
+        &policy,
+        how.style,
         &mut moments,
         &mut text,
     );
     drop(line);
+    drop(policy);
     say_lines(out, &text)?;
     Ok(ended?)
 }
@@ -125,6 +132,24 @@ pub fn write_question(alloc: Global, asked: &WriteNode<'_>) -> Result<Question, 
     Question::parse_write(alloc, asked.node, asked.kind, asked.value)
 }
 
+/// Asks what words ask for, if they do, and says what counts of the answers.
+fn ask_counted<'a, R: Net + Clock + AllocGlobal, O: Write>(
+    rt: &R,
+    question: Result<Question, WordFault>,
+    how: &Asking<'a>,
+    out: &mut O,
+) -> Result<Verdict, Stop<'a>>
+    ensures answered { OnOk result (HasAnswered how.now.style (O.contents out.old) (O.contents out.new)) }
+    ensures strict { IfOk result (λ verdict. verdict ≡ SomeBad → how.now.strict ≡ true) }
+    ensures stopped { IfErr result (λ stop. (stop ≡ Output) ⊎ (out.new ≡ out.old) ⊎ HasAnswered how.now.style (O.contents out.old) (O.contents out.new)) }
+{
+    let question = question?;
+    match ask(rt, &question, how, out) {
+        Ok(verdict) => Ok(counted(verdict, how.strict)),
+        Err(stop) => Err(stop),
+    }
+}
+
 /// Prints an attribute of nodes of the server on a port of this machine.
 pub fn read<'a, R: Net + Clock + AllocGlobal, O: Write>(
     rt: &R,
@@ -135,19 +160,13 @@ pub fn read<'a, R: Net + Clock + AllocGlobal, O: Write>(
     ensures strict { IfOk result (λ verdict. verdict ≡ SomeBad → asked.now.strict ≡ true) }
     ensures stopped { IfErr result (λ stop. (stop ≡ Output) ⊎ (out.new ≡ out.old) ⊎ HasAnswered asked.now.style (O.contents out.old) (O.contents out.new)) }
 {
-    let question = read_question(rt.alloc(), asked)?;
-    let policy = policy_of(rt.alloc(), asked.policy)?;
-    let (port, style) = (asked.port, asked.style);
-    let asking = Asked {
-        port,
-        question,
-        policy,
-        style,
+    let how = Asking {
+        port: asked.port,
+        policy: asked.policy,
+        style: asked.style,
+        strict: asked.strict,
     };
-    match ask(rt, &asking, out) {
-        Ok(verdict) => Ok(counted(verdict, asked.strict)),
-        Err(stop) => Err(stop),
-    }
+    ask_counted(rt, read_question(rt.alloc(), asked), &how, out)
 }
 
 /// Sets the Value of a node of the server on a port of this machine, and prints what became of it.
@@ -160,17 +179,11 @@ pub fn write<'a, R: Net + Clock + AllocGlobal, O: Write>(
     ensures strict { IfOk result (λ verdict. verdict ≡ SomeBad → asked.now.strict ≡ true) }
     ensures stopped { IfErr result (λ stop. (stop ≡ Output) ⊎ (out.new ≡ out.old) ⊎ HasAnswered asked.now.style (O.contents out.old) (O.contents out.new)) }
 {
-    let question = write_question(rt.alloc(), asked)?;
-    let policy = policy_of(rt.alloc(), asked.policy)?;
-    let (port, style) = (asked.port, asked.style);
-    let asking = Asked {
-        port,
-        question,
-        policy,
-        style,
+    let how = Asking {
+        port: asked.port,
+        policy: asked.policy,
+        style: asked.style,
+        strict: asked.strict,
     };
-    match ask(rt, &asking, out) {
-        Ok(verdict) => Ok(counted(verdict, asked.strict)),
-        Err(stop) => Err(stop),
-    }
+    ask_counted(rt, write_question(rt.alloc(), asked), &how, out)
 }
