@@ -141,7 +141,7 @@ fn request_text(alloc: Global, number: u32, request: AnsweredRequest) -> Result<
 }
 
 /// Why no line more of a request is printed.
-#[derive(Clone, Copy, PartialEq, Eq)]
+#[derive(Clone, Copy)]
 enum Halt {
     /// Memory was refused. Nothing was printed of that line.
     Memory,
