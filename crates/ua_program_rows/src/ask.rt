@@ -1,6 +1,6 @@
 //! What a server is asked, and what is printed of its answers, where it has said all before.
 
-use crate::fault::Fault;
+use crate::fault::{Fault, or_no_row};
 use crate::files::content;
 use crate::octets::digits;
 use crate::serve::moments;
@@ -92,7 +92,7 @@ fn asked<L: Line>(
 /// What words ask for.
 fn task_of<'a>(alloc: Global, words: &'a [&'a str]) -> Result<Task<'a>, Fault> {
     match parse(alloc, words) {
-        Ok(parsed) => parsed.task.map_err(|_| Fault::NoRow),
+        Ok(parsed) => or_no_row(parsed.task),
         Err(_) => Err(Fault::NoRow),
     }
 }
@@ -133,7 +133,7 @@ fn asking_of(
     strict: bool,
 ) -> Result<Asking, Fault> {
     Ok(Asking {
-        question: question.map_err(|_| Fault::NoRow)?,
+        question: or_no_row(question)?,
         policy: policy_of(alloc, policy)?,
         style,
         strict,

@@ -1,6 +1,6 @@
 //! A client over a connection in which the server has said all before.
 
-use crate::fault::Fault;
+use crate::fault::{Fault, or_no_row};
 use crate::files::content;
 use crate::octets::number_of;
 use crate::tcp::pair;
@@ -48,7 +48,7 @@ fn request_at(alloc: Global, up: &[u8], place: &str) -> Result<Request, Fault> {
     let Some(body) = up.get(number_of(from)?..number_of(to)?) else {
         return Err(Fault::NoRow);
     };
-    read_request(alloc, &mut Octets::new(body)).map_err(|_| Fault::NoRow)
+    or_no_row(read_request(alloc, &mut Octets::new(body)))
 }
 
 /// Asks one request.
@@ -80,8 +80,10 @@ fn converse<L: Line>(alloc: Global, line: &mut L, up: &[u8], places: &str) -> Re
     let write = request_at(alloc, up, write)?;
     let read = request_at(alloc, up, read)?;
     let close = request_at(alloc, up, close)?;
-    let ended = ask_all(alloc, line, [&write, &read, &close], renews);
-    ended.map_err(|_| Fault::Failed)
+    match ask_all(alloc, line, [&write, &read, &close], renews) {
+        Ok(()) => Ok(()),
+        Err(_) => Err(Fault::Failed),
+    }
 }
 
 fn ask_all<L: Line>(

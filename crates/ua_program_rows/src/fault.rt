@@ -4,7 +4,7 @@ use std::alloc::{AllocError, AllocFailed};
 use std::io;
 use ua_channel::LineFault;
 
-#[derive(Clone, Copy, PartialEq, Eq)]
+#[derive(Clone, Copy)]
 pub enum Fault {
     /// The line is no row.
     NoRow,
@@ -21,6 +21,14 @@ impl Fault {
             Fault::Failed => "a file or a connection fails",
             Fault::Memory => "out of memory",
         }
+    }
+}
+
+/// What a call gives, or that the line is no row, where it fails.
+pub fn or_no_row<T: Drop, E: Drop>(given: Result<T, E>) -> Result<T, Fault> {
+    match given {
+        Ok(value) => Ok(value),
+        Err(_) => Err(Fault::NoRow),
     }
 }
 

@@ -1,7 +1,7 @@
 //! The octets of a row: words of hexadecimal digits. `300*0001` is 0001 three hundred times, `@NAME`
 //! the octets of a file, and `@NAME:56` so many of its first ones.
 
-use crate::fault::Fault;
+use crate::fault::{Fault, or_no_row};
 use crate::files::content;
 use std::alloc::Global;
 use std::rt::Files;
@@ -41,12 +41,12 @@ fn repeated(alloc: Global, word: &str) -> Result<Vec<u8>, Fault> {
 
 /// The octets that digits name.
 fn decoded(alloc: Global, digits: &str) -> Result<Vec<u8>, Fault> {
-    hex::decode(alloc, digits).map_err(|_| Fault::NoRow)
+    or_no_row(hex::decode(alloc, digits))
 }
 
 /// The number that a word is.
 pub fn number_of(word: &str) -> Result<usize, Fault> {
-    word.parse::<usize>().map_err(|_| Fault::NoRow)
+    or_no_row(word.parse::<usize>())
 }
 
 /// Octets as a row has them, `nothing` where there are none.

@@ -1,7 +1,7 @@
 //! Runs of the program `ua` without a network.
 
 use crate::fault::Fault;
-use crate::run::told_of;
+use crate::run::run_row;
 use crate::texts::first_word;
 use std::alloc::Allocator;
 use std::fs::{Metadata, OpenOptions};
@@ -116,5 +116,5 @@ pub fn offline_row<R: Files + Net + Clock + AllocGlobal>(
         "alone" => true,
         _ => return Err(Fault::NoRow),
     };
-    told_of(&Offline { rt, listens }, taken, words)
+    run_row(&Offline { rt, listens }, taken, words)
 }

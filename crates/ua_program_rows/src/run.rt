@@ -23,15 +23,6 @@ pub fn run_row<R: Files + Net + Clock + AllocGlobal>(
     taken: u16,
     words: &str,
 ) -> Result<String, Fault> {
-    told_of(rt, taken, words)
-}
-
-/// What is printed of a run of these words, which fault is told, and the status.
-pub fn told_of<R: Files + Net + Clock + AllocGlobal>(
-    rt: &R,
-    taken: u16,
-    words: &str,
-) -> Result<String, Fault> {
     told(rt, &run_words(rt, &words_of(rt, taken, words)?, &[]))
 }
 
