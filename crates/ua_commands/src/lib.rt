@@ -32,7 +32,7 @@ pub use arguments::{
 pub use ask::{policy_of, read_question, write_question};
 pub use fault::Fault;
 pub use loop_line::{LoopLine, MOST_OCTETS};
-pub use looping::carry_over;
+pub use looping::{carry_over, run_script};
 pub use output::Stop;
 pub use program::{refuse_words, run};
 pub use reason::Reason;

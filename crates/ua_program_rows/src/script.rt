@@ -1,12 +1,13 @@
 //! What goes each way of a script.
 
-use crate::fault::Fault;
+use crate::fault::{Fault, or_no_row};
 use crate::files::content;
 use crate::octets::digits;
 use crate::texts::first_word;
 use std::alloc::Global;
 use std::rt::Files;
-use ua_asking::{Looped, parse_lines, run_lines};
+use ua_asking::Looped;
+use ua_commands::run_script;
 use ua_nodes::NodeTable;
 
 /// `script CUT NODES SCRIPT`: the octets each way of a script over the nodes of a file, in pieces of at
@@ -27,7 +28,7 @@ pub fn script<R: Files + AllocGlobal>(rt: &R, words: &str) -> Result<String, Fau
 
 /// The text that a file holds.
 pub fn file_text<R: Files + AllocGlobal>(rt: &R, name: &str) -> Result<String, Fault> {
-    String::from_utf8(content(rt, name)?).map_err(|_| Fault::NoRow)
+    or_no_row(String::from_utf8(content(rt, name)?))
 }
 
 /// What goes each way of a script over nodes, in pieces of at most so many octets.
@@ -35,10 +36,5 @@ pub fn looped(alloc: Global, nodes: &str, script: &str, cut: u16) -> Result<Loop
     let Ok(nodes) = NodeTable::load(alloc, nodes) else {
         return Err(Fault::NoRow);
     };
-    let Ok(lines) = parse_lines(alloc, script) else {
-        return Err(Fault::NoRow);
-    };
-    let looped = run_lines(alloc, nodes, &lines, cut, false);
-    drop(lines);
-    looped.map_err(|_| Fault::NoRow)
+    or_no_row(run_script(alloc, nodes, script, cut, false))
 }
