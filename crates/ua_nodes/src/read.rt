@@ -3,7 +3,9 @@
 ghost use Rattle.std.specs.Prelude.{◌≡◌, IfOk, IsTrue};
 ghost use Rattle.ua_variant.specs.View.{variant_of, data_value_of, value_within};
 ghost use Rattle.ua_variant.specs.Encodable.{data_value_encodable};
-ghost use Rattle.ua_nodes.specs.Attribute.{attribute_of, attribute_value};
+ghost use Rattle.ua_nodes.specs.declared.attribute.Attribute.TheVariants as attribute;
+ghost use Rattle.ua_nodes.specs.Attribute.{attribute_of, attribute_value, single, type_node};
+ghost use Rattle.ua_variant.specs.Data.{localized_text, node_id as id_leaf};
 ghost use Rattle.ua_nodes.specs.Range.{asked_range};
 ghost use Rattle.ua_nodes.specs.Read.{is_filled, is_default_encoding, read_item_reasons, judged, refused as refused_data, stamps_of, value_read, read_by, read_answer};
 ghost use Rattle.ua_nodes.specs.Sound.{IsSound};
@@ -25,6 +27,9 @@ use ua_variant::{Boxed, DataValue, HeldVariant, Scalar, Variant};
 
 /// The id of the attribute Value.
 pub(crate) const VALUE: u32 = 13;
+
+/// The NodeClass of a Variable (OPC 10000-3, 8.29).
+const VARIABLE: i32 = 2;
 
 impl NodeTable {
     /// The answer to an item of a Read, at a moment: the value of the attribute with the times that
@@ -121,43 +126,48 @@ impl Variable {
     {
         match attribute {
             Attribute::Value => self.value.try_clone(alloc),
-            other => self.described(alloc, id, other),
-        }
-    }
-
-    /// The same, of any attribute.
-    #[inline(never)]
-    fn described(
-        &self,
-        alloc: Global,
-        id: &NodeId,
-        attribute: Attribute,
-    ) -> Result<Variant, AllocError>
-        ensures { IfOk result (λ v. variant_of v ≡ attribute_value id.now self.now attribute) }
-    {
-        match attribute {
-            Attribute::NodeId => Ok(Variant::One(Scalar::NodeId(id.try_clone()?))),
-            Attribute::NodeClass => Ok(Variant::One(Scalar::Int32(2))),
-            Attribute::BrowseName => Ok(Variant::One(Scalar::QualifiedName(QualifiedName {
-                namespace: id.namespace,
-                name: self.name.try_clone()?,
-            }))),
-            Attribute::DisplayName => {
-                let text = LocalizedText {
-                    locale: UaString::null(),
-                    text: self.name.try_clone()?,
-                };
-                Ok(Variant::One(Scalar::LocalizedText(Boxed::new(alloc, text)?)))
-            }
-            Attribute::Value => self.value.try_clone(alloc),
-            Attribute::DataType => Ok(Variant::One(Scalar::NodeId(NodeId {
-                namespace: 0,
-                identifier: Identifier::Numeric(u32::from(self.kind)),
-            }))),
+            Attribute::NodeId => node_id(id),
+            Attribute::NodeClass => Ok(Variant::One(Scalar::Int32(VARIABLE))),
+            Attribute::BrowseName => self.browse_name(id),
+            Attribute::DisplayName => self.display_name(alloc),
+            Attribute::DataType => Ok(self.data_type()),
             Attribute::AccessLevel | Attribute::UserAccessLevel => {
                 Ok(Variant::One(Scalar::Byte(self.access.level())))
             }
         }
+    }
+
+    // What is seldom asked for is made apart, so that a Value has no room to make for it.
+
+    #[inline(never)]
+    fn browse_name(&self, id: &NodeId) -> Result<Variant, AllocError>
+        ensures { IfOk result (λ v. variant_of v ≡ attribute_value id.now self.now attribute.BrowseName) }
+    {
+        Ok(Variant::One(Scalar::QualifiedName(QualifiedName {
+            namespace: id.namespace,
+            name: self.name.try_clone()?,
+        })))
+    }
+
+    #[inline(never)]
+    fn display_name(&self, alloc: Global) -> Result<Variant, AllocError>
+        ensures { IfOk result (λ v. variant_of v ≡ single (localized_text (record { locale = None; text = self.now.name }))) }
+    {
+        let text = LocalizedText {
+            locale: UaString::null(),
+            text: self.name.try_clone()?,
+        };
+        Ok(Variant::One(Scalar::LocalizedText(Boxed::new(alloc, text)?)))
+    }
+
+    #[inline(never)]
+    fn data_type(&self) -> Variant
+        ensures { variant_of result ≡ single (id_leaf (type_node self.now.kind)) }
+    {
+        Variant::One(Scalar::NodeId(NodeId {
+            namespace: 0,
+            identifier: Identifier::Numeric(u32::from(self.kind)),
+        }))
     }
 
     /// A value, or none, with the status and times that go with it.
@@ -188,6 +198,13 @@ impl Variable {
             server_picoseconds: None,
         }
     }
+}
+
+#[inline(never)]
+fn node_id(id: &NodeId) -> Result<Variant, AllocError>
+    ensures { IfOk result (λ v. variant_of v ≡ single (id_leaf id.now)) }
+{
+    Ok(Variant::One(Scalar::NodeId(id.try_clone()?)))
 }
 
 /// A status alone.
