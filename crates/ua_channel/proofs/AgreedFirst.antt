@@ -27,27 +27,25 @@ use Rattle.ua_channel.specs.ServerTold.{Told, request_of, opened_by, told_under,
 use Rattle.ua_channel.specs.ServerTold.Told.{Agreed, Opened, Asked, GaveUp, Closed}
 use Rattle.ua_channel.specs.declared.server.ServerChannel.{ServerChannel}
 use Rattle.ua_channel.proofs.Frames.{hel_only}
-use Rattle.ua_channel.proofs.Replies.{agreed_told}
+use Rattle.ua_channel.proofs.Replies.{agreed_told, told_is}
 use Rattle.ua_channel.proofs.Stepping.{last_of}
+use Rattle.ua_channel.proofs.Conversing.{none_named}
 
 -- ---- what a frame of a kind tells
 
-same_told : (s t : Told) (ss : List Told) → s ∷ ss ≡ t ∷ [] → s ≡ t
-same_told s t ss e = cc
-
 greeted : (limits : Limits) (before : Received) (hello : Option Hello) (e : Told) → server_tells limits before (Greets hello) ≡ e ∷ [] → (a : Agreement) × (e ≡ Agreed a)
 greeted limits before None e t = absurd cc
-greeted limits before (Some h) e t = (agreement_of limits h, sym (same_told (Agreed (agreement_of limits h)) e [] t))
+greeted limits before (Some h) e t = (agreement_of limits h, sym (told_is (Agreed (agreement_of limits h)) e [] t))
 
 opened_not : (token : ℕ) (numbers : Option (ℕ × ℕ)) (request : Option OpenRequest) (a : Agreement) → opened_by token numbers request ≡ Agreed a ∷ [] → ⊥
-opened_not token (Some numbers) (Some request) a e = let x = same_told (Opened _ _ _ _) (Agreed a) [] e in cc
+opened_not token (Some numbers) (Some request) a e = let x = told_is (Opened _ _ _ _) (Agreed a) [] e in cc
 opened_not token (Some numbers) None a e = absurd cc
 opened_not token None request a e = absurd cc
 
 items_not : (token : ℕ) (items : List Item) (a : Agreement) → map (told_under token) items ≡ Agreed a ∷ [] → ⊥
 items_not token [] a e = absurd cc
-items_not token (Whole id octets ∷ is) a e = let x = same_told (Asked id token octets) (Agreed a) (map (told_under token) is) e in cc
-items_not token (Aborted id code reason ∷ is) a e = let x = same_told (GaveUp id) (Agreed a) (map (told_under token) is) e in cc
+items_not token (Whole id octets ∷ is) a e = let x = told_is (Asked id token octets) (Agreed a) (map (told_under token) is) e in cc
+items_not token (Aborted id code reason ∷ is) a e = let x = told_is (GaveUp id) (Agreed a) (map (told_under token) is) e in cc
 
 sent_not : (limits : Limits) (before : Received) (chunk : Option Chunk) (a : Agreement) → server_tells limits before (sends chunk) ≡ Agreed a ∷ [] → ⊥
 sent_not limits before None a e = absurd cc
@@ -55,7 +53,7 @@ sent_not limits before (Some c) a e = items_not c.token (given before.messages c
 
 closed_not : (limits : Limits) (before : Received) (chunk : Option Chunk) (a : Agreement) → server_tells limits before (closes chunk) ≡ Agreed a ∷ [] → ⊥
 closed_not limits before None a e = absurd cc
-closed_not limits before (Some c) a e = let x = same_told Closed (Agreed a) [] e in cc
+closed_not limits before (Some c) a e = let x = told_is Closed (Agreed a) [] e in cc
 
 agreeing_kind : (limits : Limits) (before : Received) (k : Kind) (f : Frame) (a : Agreement) → server_tells limits before (content_by k f) ≡ Agreed a ∷ [] → k ≡ Hel
 agreeing_kind limits before Hel f a e = refl
@@ -87,10 +85,6 @@ later_frame limits before f h a some place tells =
 
 -- ---- by what was told
 
-unmapped : {A B : Type 0} (f : A → B) (o : Option A) → option_map f o ≡ None → o ≡ None
-unmapped f None e = refl
-unmapped f (Some x) e = absurd cc
-
 mapped : {A B : Type 0} (f : A → B) (o : Option A) (y : B) → option_map f o ≡ Some y → (x : A) × (o ≡ Some x)
 mapped f None y e = absurd cc
 mapped f (Some x) y e = (x, refl)
@@ -104,7 +98,7 @@ module _ (x : ServerChannel) (octets : List ℕ) (before : List Told) (e : Told)
 
   -- what is told first is an agreement
   pub agrees_first : agreed_by before ≡ None → (a : Agreement) × (e ≡ Agreed a)
-  agrees_first none = first_frame (limits_of x) (received g.frames) g.frame e (unmapped (agreement_of (limits_of x)) (received g.frames).hello (agreement_is ∙ none)) place g.tells
+  agrees_first none = first_frame (limits_of x) (received g.frames) g.frame e (none_named (agreement_of (limits_of x)) (received g.frames).hello (agreement_is ∙ none)) place g.tells
 
   -- there is one
   pub agrees_once : (a b : Agreement) → agreed_by before ≡ Some a → e ≡ Agreed b → ⊥

@@ -1,6 +1,6 @@
 -- That the frames which a client takes are those of a conversation.
-use Rattle.std.proofs.Common.{◌≡◌, ℕ, ◌≤◌, Bool, true, false, IsTrue, not, leb, List, [], ◌∷◌, ◌++◌, Option, Some, None, map, refl, sym, ◌∙◌, ap, subst, arith}
-use Rattle.std.specs.List.{AllByRecursion}
+use Rattle.std.proofs.Common.{◌≡◌, ℕ, Bool, true, false, IsTrue, not, leb, List, [], ◌∷◌, ◌++◌, Option, Some, None, map, refl, sym, ◌∙◌, ap, subst}
+use Rattle.std.proofs.lemmas.Bool.{not-false, not_from_true}
 use Rattle.std.specs.Prelude.{◌↔◌}
 use Rattle.ua_builtin.specs.Reasons.{first_reason, renamed_reason}
 use Rattle.ua_builtin.proofs.FirstReasons.{first_behind, first_reason-map}
@@ -10,8 +10,8 @@ use Rattle.ua_frame.specs.declared.kind.Kind.{Kind}
 use Rattle.ua_frame.specs.declared.kind.Kind.TheVariants.{Hel, Msg, Opn, Clo}
 use Rattle.ua_frame.specs.declared.kind.Kind.TheVariants as kind
 use Rattle.ua_frame.specs.declared.limits.Limits.{Limits}
-use Rattle.ua_frame.specs.After.{AllAfter, AllFrom}
-use Rattle.ua_frame.specs.Frames.{Frames, frame_size}
+use Rattle.ua_frame.specs.After.{AllAfter}
+use Rattle.ua_frame.specs.Frames.{Frames}
 use Rattle.ua_frame.specs.Kinds.{lets_in}
 use Rattle.ua_frame.specs.Messages.{ack}
 use Rattle.ua_frame.specs.FirstWrong.{FirstWrong}
@@ -26,7 +26,7 @@ use Rattle.ua_structures.specs.declared.secure_channel.OpenResponse.{OpenRespons
 use Rattle.ua_chunk.specs.declared.chunk.Chunk.{Chunk}
 use Rattle.ua_chunk.specs.Layout.{chunk_in}
 use Rattle.ua_chunk.specs.Opening.{is_none_policy, policy_of}
-use Rattle.ua_chunk.specs.Refusal.{TakesMessages, message_refusal, reasons, refusal}
+use Rattle.ua_chunk.specs.Refusal.{message_refusal, reasons, refusal}
 use Rattle.ua_chunk.specs.Sequence.{may_follow}
 use Rattle.ua_chunk.proofs.Numbers.{apart}
 use Rattle.ua_channel.specs.Asks.{Asking, Placed, asked_before, end_of, is_in, pending_calls}
@@ -37,15 +37,15 @@ use Rattle.ua_channel.specs.ClientTokens.{answer_behind, answer_in, channel_in, 
 use Rattle.ua_channel.specs.ClientTold.{Why, ours}
 use Rattle.ua_channel.specs.Content.{Content, Opening, content, content_by, opening_of, sends}
 use Rattle.ua_channel.specs.Content.Content.{Greets, Acks, Fails, Opens, Sends, Closes, Nothing}
-use Rattle.ua_channel.specs.Conversation.{AreOrdered, IsFramed}
-use Rattle.ua_channel.specs.Received.{Received, after, messages, number_listed, numbers, numbers_in, or_before, received}
+use Rattle.ua_channel.specs.Conversation.{AreOrdered}
+use Rattle.ua_channel.specs.Received.{Received, after, messages, number_listed, numbers, or_before, received}
 use Rattle.ua_channel.proofs.ClientChunks.{accepts}
 use Rattle.ua_channel.proofs.ClientTakes.{judged_reply}
 use Rattle.ua_channel.proofs.ClientTalks.{no_responses, responses-push}
 use Rattle.ua_channel.specs.Refusals.{of_header}
-use Rattle.ua_channel.proofs.Conversing.{MessageFits, follow_numbers, numbers_follow, messages_fit, messages_join, messages_split, no_more, none_first, none_named, none_then, ordered_join, ordered_split, some_there}
+use Rattle.ua_channel.proofs.Conversing.{Converses, InOrder, IsGoodFrame, MessageFits, content_kind, converse, fit_first, follow_numbers, in_order, none_first, none_named, none_then, numbers_follow, ordered_first, out_of_order, some_there, taken}
 use Rattle.ua_channel.proofs.OneFrameMore.{received-nil, received-push}
-use Rattle.ua_channel.proofs.PairedCalls.{none_holds, was_pending}
+use Rattle.ua_channel.proofs.PairedCalls.{none_holds}
 
 -- ---- an OPN
 
@@ -73,7 +73,7 @@ module _ (limits : Limits) (asked : List Asking) (b : Received) where
       record {
         header = header.0;
         security_is = header.1;
-        policy = was_pending (is_none_policy (policy_of header.0)) (ap (of_header (λ h. not (is_none_policy (policy_of h)))) (sym header.1) ∙ all.1.1.0);
+        policy = not-false (is_none_policy (policy_of header.0)) (ap (of_header (λ h. not (is_none_policy (policy_of h)))) (sym header.1) ∙ all.1.1.0);
         response = found.0;
         answer_is = is;
         good = found.2;
@@ -82,7 +82,7 @@ module _ (limits : Limits) (asked : List Asking) (b : Received) where
         numbered = numbers.0;
         numbers_are = numbers.1;
         awaited =
-            was_pending (is_awaited (responses b.openings) (opened_ids b.openings) asked numbers.0.1)
+            not-false (is_awaited (responses b.openings) (opened_ids b.openings) asked numbers.0.1)
             (ap (of_numbers (λ n. not (is_awaited (responses b.openings) (opened_ids b.openings) asked n.1))) (sym numbers.1) ∙ all.1.1.1.1.1.1.1.1.1.1.1.1.0);
       }
 
@@ -93,7 +93,7 @@ module _ (limits : Limits) (asked : List Asking) (b : Received) where
   unfolding answer_in
   response_taken o g follow =
       let waited : of_numbers (λ n. not (is_awaited (responses b.openings) (opened_ids b.openings) asked n.1)) o.numbers ≡ false =
-      ap (of_numbers (λ n. not (is_awaited (responses b.openings) (opened_ids b.openings) asked n.1))) g.numbers_are ∙ no_more (is_awaited (responses b.openings) (opened_ids b.openings) asked g.numbered.1) g.awaited in
+      ap (of_numbers (λ n. not (is_awaited (responses b.openings) (opened_ids b.openings) asked n.1))) g.numbers_are ∙ not_from_true (is_awaited (responses b.openings) (opened_ids b.openings) asked g.numbered.1) g.awaited in
       rw (g.security_is, g.policy, g.answer_is, g.good, g.on, g.fresh, follow_numbers b.last o.numbers follow, waited) refl
 
   -- ---- a chunk
@@ -113,7 +113,7 @@ module _ (limits : Limits) (asked : List Asking) (b : Received) where
       let all = sym (judged_reply limits asked b c) ∙ e in
       let ids = none_holds (ids_of c) (none_first (ids_of c) (rows_of c ++ unasked_of c) all) in
       let last = none_holds (unasked_of c) (none_then (rows_of c) (unasked_of c) (none_then (ids_of c) (rows_of c ++ unasked_of c) all)) in
-      record { on = ids.0; held = was_pending (is_in c.token (held_tokens b)) ids.1.0; awaited = was_pending (is_in c.request (pending_calls b.messages asked)) last.0 }
+      record { on = ids.0; held = not-false (is_in c.token (held_tokens b)) ids.1.0; awaited = not-false (is_in c.request (pending_calls b.messages asked)) last.0 }
 
   reply_apart : (c : Chunk) → first_reason (client_reasons limits b asked (Sends c)) ≡ None → (may_follow b.last c.sequence ≡ true) × (message_refusal limits.max_message_size limits.max_chunk_count b.messages c ≡ None)
   unfolding ids_of rows_of unasked_of
@@ -135,13 +135,7 @@ module _ (limits : Limits) (asked : List Asking) (b : Received) where
 
 -- ---- one frame
 
--- what a frame that is taken carries
-record Good (limits : Limits) (asked : List Asking) (b : Received) (c : Content) : Type 0 where
-  carries : MayCarryBack limits b asked c
-  ordered : AreOrdered b.last (numbers_in c)
-  message : MessageFits limits b c
-
-good : (limits : Limits) (asked : List Asking) (b : Received) (c : Content) → first_reason (client_reasons limits b asked c) ≡ None → Good limits asked b c
+good : (limits : Limits) (asked : List Asking) (b : Received) (c : Content) → first_reason (client_reasons limits b asked c) ≡ None → IsGoodFrame (MayCarryBack limits b asked c) limits b c
 unfolding MessageFits
 good limits asked b (Greets hello) e = record { carries = tt; ordered = tt; message = tt }
 good limits asked b (Acks None) e = absurd cc
@@ -152,17 +146,17 @@ good limits asked b (Opens o) e = record { carries = response_good limits asked 
 good limits asked b (Sends c) e =
     let both = reply_apart limits asked b c e in
     record { carries = reply_good limits asked b c e; ordered = (both.0, tt); message = both.1 }
-good limits asked b (Closes c) e = record { carries = tt; ordered = (was_pending (may_follow b.last c.sequence) (none_holds (client_reasons limits b asked (Closes c)) e).1.1.1.1.1.1.1.0, tt); message = tt }
+good limits asked b (Closes c) e = record { carries = tt; ordered = (not-false (may_follow b.last c.sequence) (none_holds (client_reasons limits b asked (Closes c)) e).1.1.1.1.1.1.1.0, tt); message = tt }
 good limits asked b Nothing e = record { carries = tt; ordered = tt; message = tt }
 
-accepted : (limits : Limits) (asked : List Asking) (b : Received) (c : Content) → Good limits asked b c → first_reason (client_reasons limits b asked c) ≡ None
+accepted : (limits : Limits) (asked : List Asking) (b : Received) (c : Content) → IsGoodFrame (MayCarryBack limits b asked c) limits b c → first_reason (client_reasons limits b asked c) ≡ None
 unfolding MessageFits
 accepted limits asked b (Greets hello) g = refl
 accepted limits asked b (Acks ack) g = rw (g.carries.reads, g.carries.within) refl
 accepted limits asked b (Fails error) g = absurd g.carries
 accepted limits asked b (Opens o) g = response_taken limits asked b o g.carries g.ordered
 accepted limits asked b (Sends c) g = reply_taken limits asked b c g.carries g.ordered.0 g.message
-accepted limits asked b (Closes c) g = ap (λ (t : Bool). first_reason ((ours 0x8088_0000, t) ∷ [])) (no_more (may_follow b.last c.sequence) g.ordered.0)
+accepted limits asked b (Closes c) g = ap (λ (t : Bool). first_reason ((ours 0x8088_0000, t) ∷ [])) (not_from_true (may_follow b.last c.sequence) g.ordered.0)
 accepted limits asked b Nothing g = refl
 
 -- ---- the order
@@ -180,13 +174,9 @@ Order b ks = order_by b.ack (responses b.openings) ks
 IsPlaced : Received → Type 0
 IsPlaced b = b.ack ≡ None → responses b.openings ≡ []
 
-to_order : (b : Received) (ks : List Kind) (o : Option Ack) (rs : List OpenResponse) → b.ack ≡ o → responses b.openings ≡ rs → Order b ks → order_by o rs ks
+order_is : (b : Received) (ks : List Kind) (o : Option Ack) (rs : List OpenResponse) → b.ack ≡ o → responses b.openings ≡ rs → Order b ks ↔ order_by o rs ks
 unfolding Order
-to_order b ks o rs q r h = subst (λ (t : Option Ack). order_by t rs ks) q (subst (λ (t : List OpenResponse). order_by b.ack t ks) r h)
-
-from_order : (b : Received) (ks : List Kind) (o : Option Ack) (rs : List OpenResponse) → b.ack ≡ o → responses b.openings ≡ rs → order_by o rs ks → Order b ks
-unfolding Order
-from_order b ks o rs q r h = subst (λ (t : List OpenResponse). order_by b.ack t ks) (sym r) (subst (λ (t : Option Ack). order_by t rs ks) (sym q) h)
+order_is b ks o rs q r = subst (λ (t : Option Ack). Order b ks ↔ order_by t rs ks) q (subst (λ (t : List OpenResponse). Order b ks ↔ order_by b.ack t ks) r (λ h. h, λ h. h))
 
 nil_by : (o : Option Ack) (rs : List OpenResponse) → order_by o rs []
 unfolding order_by
@@ -205,79 +195,31 @@ module _ (limits : Limits) (asked : List Asking) (b : Received) (f : Frame) (ks 
   said_then : (said : Ack) → whole_of ack f.body ≡ Some said → (after b (Acks (whole_of ack f.body))).ack ≡ Some said
   said_then said e = ap (or_before b.ack) e
 
-  msg_next : (found : Option Chunk) (o : Option Ack) (rs : List OpenResponse) → b.ack ≡ o → responses b.openings ≡ rs → Order (after b (sends found)) ks → order_by o rs ks
-  msg_next None o rs q r next = to_order b ks o rs q r next
-  msg_next (Some c) o rs q r next = to_order (after b (Sends c)) ks o rs q r next
+  msg_order : (found : Option Chunk) (o : Option Ack) (rs : List OpenResponse) → b.ack ≡ o → responses b.openings ≡ rs → Order (after b (sends found)) ks ↔ order_by o rs ks
+  msg_order None o rs q r = order_is b ks o rs q r
+  msg_order (Some c) o rs q r = order_is (after b (Sends c)) ks o rs q r
 
-  msg_then : (found : Option Chunk) (o : Option Ack) (rs : List OpenResponse) → b.ack ≡ o → responses b.openings ≡ rs → order_by o rs ks → Order (after b (sends found)) ks
-  msg_then None o rs q r order = from_order b ks o rs q r order
-  msg_then (Some c) o rs q r order = from_order (after b (Sends c)) ks o rs q r order
-
-  -- a frame that is let in comes in order
-  order_here : (o : Option Ack) (rs : List OpenResponse) (k : Kind) → b.ack ≡ o → responses b.openings ≡ rs → IsPlaced b → IsTrue (lets_in (client_gate_behind o rs) k) → MayCarryBack limits b asked (content_by k f) → Order (after b (content_by k f)) ks → order_by o rs (k ∷ ks)
+  -- a frame comes in order exactly where it is let in
+  order_here : (o : Option Ack) (rs : List OpenResponse) (k : Kind) → b.ack ≡ o → responses b.openings ≡ rs → IsPlaced b → MayCarryBack limits b asked (content_by k f) → InOrder (client_gate_behind o rs) k (Order (after b (content_by k f)) ks) (order_by o rs (k ∷ ks))
   unfolding order_by IsPlaced
-  order_here None rs Hel q r placed kind may next = absurd cc
-  order_here None rs kind.Ack q r placed kind may next = to_order (after b (Acks (whole_of ack f.body))) ks (Some may.said) [] (said_then may.said may.reads) (placed q) next
-  order_here None rs kind.Err q r placed kind may next = absurd may
-  order_here None rs Msg q r placed kind may next = absurd cc
-  order_here None rs Opn q r placed kind may next = absurd cc
-  order_here None rs Clo q r placed kind may next = absurd cc
-  order_here (Some a) [] Hel q r placed kind may next = absurd cc
-  order_here (Some a) [] kind.Ack q r placed kind may next = absurd cc
-  order_here (Some a) [] kind.Err q r placed kind may next = absurd may
-  order_here (Some a) [] Msg q r placed kind may next = absurd cc
-  order_here (Some a) [] Opn q r placed kind may next = to_order (after b (Opens (opening_of f.body))) ks (Some a) (may.response ∷ []) q (more_responses [] may r) next
-  order_here (Some a) [] Clo q r placed kind may next = absurd cc
-  order_here (Some a) (p ∷ ps) Hel q r placed kind may next = absurd cc
-  order_here (Some a) (p ∷ ps) kind.Ack q r placed kind may next = absurd cc
-  order_here (Some a) (p ∷ ps) kind.Err q r placed kind may next = absurd may
-  order_here (Some a) (p ∷ ps) Msg q r placed kind may next = msg_next (chunk_in f) (Some a) (p ∷ ps) q r next
-  order_here (Some a) (p ∷ ps) Opn q r placed kind may next = to_order (after b (Opens (opening_of f.body))) ks (Some a) (p ∷ (ps ++ may.response ∷ [])) q (more_responses (p ∷ ps) may r) next
-  order_here (Some a) (p ∷ ps) Clo q r placed kind may next = absurd cc
-
-  -- ---- the other way round
-
-  order_then : (o : Option Ack) (rs : List OpenResponse) (k : Kind) → b.ack ≡ o → responses b.openings ≡ rs → IsPlaced b → MayCarryBack limits b asked (content_by k f) → order_by o rs (k ∷ ks) → Order (after b (content_by k f)) ks
-  unfolding order_by IsPlaced
-  order_then None rs Hel q r placed may order = absurd order
-  order_then None rs kind.Ack q r placed may order = from_order (after b (Acks (whole_of ack f.body))) ks (Some may.said) [] (said_then may.said may.reads) (placed q) order
-  order_then None rs kind.Err q r placed may order = absurd order
-  order_then None rs Msg q r placed may order = absurd order
-  order_then None rs Opn q r placed may order = absurd order
-  order_then None rs Clo q r placed may order = absurd order
-  order_then (Some a) [] Hel q r placed may order = absurd order
-  order_then (Some a) [] kind.Ack q r placed may order = absurd order
-  order_then (Some a) [] kind.Err q r placed may order = absurd order
-  order_then (Some a) [] Msg q r placed may order = absurd order
-  order_then (Some a) [] Opn q r placed may order = from_order (after b (Opens (opening_of f.body))) ks (Some a) (may.response ∷ []) q (more_responses [] may r) order
-  order_then (Some a) [] Clo q r placed may order = absurd order
-  order_then (Some a) (p ∷ ps) Hel q r placed may order = absurd order
-  order_then (Some a) (p ∷ ps) kind.Ack q r placed may order = absurd order
-  order_then (Some a) (p ∷ ps) kind.Err q r placed may order = absurd order
-  order_then (Some a) (p ∷ ps) Msg q r placed may order = msg_then (chunk_in f) (Some a) (p ∷ ps) q r order
-  order_then (Some a) (p ∷ ps) Opn q r placed may order = from_order (after b (Opens (opening_of f.body))) ks (Some a) (p ∷ (ps ++ may.response ∷ [])) q (more_responses (p ∷ ps) may r) order
-  order_then (Some a) (p ∷ ps) Clo q r placed may order = absurd order
-
-kind_then : (o : Option Ack) (rs : List OpenResponse) (k : Kind) (ks : List Kind) → order_by o rs (k ∷ ks) → IsTrue (lets_in (client_gate_behind o rs) k)
-unfolding order_by
-kind_then None rs Hel ks order = absurd order
-kind_then None rs kind.Ack ks order = refl
-kind_then None rs kind.Err ks order = absurd order
-kind_then None rs Msg ks order = absurd order
-kind_then None rs Opn ks order = absurd order
-kind_then None rs Clo ks order = absurd order
-kind_then (Some a) [] Hel ks order = absurd order
-kind_then (Some a) [] kind.Ack ks order = absurd order
-kind_then (Some a) [] kind.Err ks order = absurd order
-kind_then (Some a) [] Msg ks order = absurd order
-kind_then (Some a) [] Opn ks order = refl
-kind_then (Some a) [] Clo ks order = absurd order
-kind_then (Some a) (r ∷ rs) Hel ks order = absurd order
-kind_then (Some a) (r ∷ rs) kind.Ack ks order = absurd order
-kind_then (Some a) (r ∷ rs) kind.Err ks order = absurd order
-kind_then (Some a) (r ∷ rs) Msg ks order = refl
-kind_then (Some a) (r ∷ rs) Opn ks order = refl
-kind_then (Some a) (r ∷ rs) Clo ks order = absurd order
+  order_here None rs Hel q r placed may = out_of_order (λ e. cc) (λ e. e)
+  order_here None rs kind.Ack q r placed may = in_order refl (order_is (after b (Acks (whole_of ack f.body))) ks (Some may.said) [] (said_then may.said may.reads) (placed q))
+  order_here None rs kind.Err q r placed may = absurd may
+  order_here None rs Msg q r placed may = out_of_order (λ e. cc) (λ e. e)
+  order_here None rs Opn q r placed may = out_of_order (λ e. cc) (λ e. e)
+  order_here None rs Clo q r placed may = out_of_order (λ e. cc) (λ e. e)
+  order_here (Some a) [] Hel q r placed may = out_of_order (λ e. cc) (λ e. e)
+  order_here (Some a) [] kind.Ack q r placed may = out_of_order (λ e. cc) (λ e. e)
+  order_here (Some a) [] kind.Err q r placed may = absurd may
+  order_here (Some a) [] Msg q r placed may = out_of_order (λ e. cc) (λ e. e)
+  order_here (Some a) [] Opn q r placed may = in_order refl (order_is (after b (Opens (opening_of f.body))) ks (Some a) (may.response ∷ []) q (more_responses [] may r))
+  order_here (Some a) [] Clo q r placed may = out_of_order (λ e. cc) (λ e. e)
+  order_here (Some a) (p ∷ ps) Hel q r placed may = out_of_order (λ e. cc) (λ e. e)
+  order_here (Some a) (p ∷ ps) kind.Ack q r placed may = out_of_order (λ e. cc) (λ e. e)
+  order_here (Some a) (p ∷ ps) kind.Err q r placed may = absurd may
+  order_here (Some a) (p ∷ ps) Msg q r placed may = in_order refl (msg_order (chunk_in f) (Some a) (p ∷ ps) q r)
+  order_here (Some a) (p ∷ ps) Opn q r placed may = in_order refl (order_is (after b (Opens (opening_of f.body))) ks (Some a) (p ∷ (ps ++ may.response ∷ [])) q (more_responses (p ∷ ps) may r))
+  order_here (Some a) (p ∷ ps) Clo q r placed may = out_of_order (λ e. cc) (λ e. e)
 
 -- no CLO is let in
 no_close : (o : Option Ack) (rs : List OpenResponse) → IsTrue (lets_in (client_gate_behind o rs) Clo) → ⊥
@@ -287,23 +229,10 @@ no_close (Some a) (r ∷ rs) h = absurd cc
 
 -- ---- from some frames on
 
--- the rest of a conversation behind some frames
-record From (limits : Limits) (asks : List Placed) (start fs : List Frame) : Type 0 where
-  order : Order (received start) (map (λ (f : Frame). f.kind) fs)
-  framed : AllByRecursion IsFramed fs
-  fits : AllFrom (λ before f. frame_size f ≤ largest_taken (received before).ack) start fs
-  carries : AllFrom (λ before f. MayCarryBack limits (received before) (asked_before (end_of before f) asks) (content f)) start fs
-  ordered : AreOrdered (received start).last (numbers fs)
-  messages_fit : TakesMessages limits.max_message_size limits.max_chunk_count (received start).messages (messages fs)
-
 gate_largest : (o : Option Ack) (rs : List OpenResponse) → (client_gate_behind o rs).largest ≡ largest_taken o
 gate_largest None rs = refl
 gate_largest (Some a) [] = refl
 gate_largest (Some a) (r ∷ rs) = refl
-
-content_kind : (f : Frame) → content f ≡ content_by f.kind f
-unfolding content
-content_kind f = refl
 
 -- where responses come behind an Acknowledge, they do so with a frame more
 ack_stays : (o found : Option Ack) → or_before o found ≡ None → o ≡ None
@@ -331,66 +260,21 @@ module _ (limits : Limits) (asks : List Placed) where
   placed_next : (start : List Frame) (f : Frame) → IsPlaced (received start) → IsTrue (lets_in (client_gate (received start)) f.kind) → IsPlaced (received (start ++ f ∷ []))
   placed_next start f placed kind = subst IsPlaced (sym (received-push start f ∙ ap (after (received start)) (content_kind f))) (placed_more (received start) f f.kind placed kind)
 
-  order_frame : (asked : List Asking) (b : Received) (f : Frame) (ks : List Kind) → IsPlaced b → IsTrue (lets_in (client_gate b) f.kind) → MayCarryBack limits b asked (content f) → Order (after b (content f)) ks → Order b (f.kind ∷ ks)
-  order_frame asked b f ks placed kind =
-      subst (λ (c : Content). MayCarryBack limits b asked c → Order (after b c) ks → Order b (f.kind ∷ ks)) (sym (content_kind f))
-      (λ may next. from_order b (f.kind ∷ ks) b.ack (responses b.openings) refl refl (order_here limits asked b f ks b.ack (responses b.openings) f.kind refl refl placed kind may next))
+  order_frame : (asked : List Asking) (b : Received) (f : Frame) (ks : List Kind) → IsPlaced b → MayCarryBack limits b asked (content f) → InOrder (client_gate b) f.kind (Order (after b (content f)) ks) (Order b (f.kind ∷ ks))
+  unfolding Order
+  order_frame asked b f ks placed =
+      subst (λ (c : Content). MayCarryBack limits b asked c → InOrder (client_gate b) f.kind (Order (after b c) ks) (Order b (f.kind ∷ ks))) (sym (content_kind f)) (order_here limits asked b f ks b.ack (responses b.openings) f.kind refl refl placed)
 
-  frame_then : (asked : List Asking) (b : Received) (f : Frame) (ks : List Kind) → IsPlaced b → MayCarryBack limits b asked (content f) → Order b (f.kind ∷ ks) → Order (after b (content f)) ks
-  frame_then asked b f ks placed =
-      subst (λ (c : Content). MayCarryBack limits b asked c → Order b (f.kind ∷ ks) → Order (after b c) ks) (sym (content_kind f))
-      (λ may order. order_then limits asked b f ks b.ack (responses b.openings) f.kind refl refl placed may (to_order b (f.kind ∷ ks) b.ack (responses b.openings) refl refl order))
-
-  -- frames that are taken behind others are the rest of a conversation
-  converse : (start fs : List Frame) → IsPlaced (received start) → AllFrom (Fits (client_rules limits asks)) start fs → From limits asks start fs
-  unfolding numbers messages
-  converse start [] placed fits = record { order = order_nil (received start); framed = tt; fits = tt; carries = tt; ordered = tt; messages_fit = tt }
-  converse start (f ∷ fs) placed fits =
-      let one = fits.0 in
-      let asked : List Asking = asked_before (end_of start f) asks in
-      let g = good limits asked (received start) (content f) one.accepted in
-      let rest = converse (start ++ f ∷ []) fs (placed_next start f placed one.let_in.kind) fits.1 in
-      record {
-        order = order_frame asked (received start) f (map (λ (h : Frame). h.kind) fs) placed one.let_in.kind g.carries (subst (λ (b : Received). Order b (map (λ (h : Frame). h.kind) fs)) (received-push start f) rest.order);
-        framed = (record { sized = one.sized; flag = one.let_in.flag; least = one.let_in.least }, rest.framed);
-        fits = (omega (arith, one.let_in.largest, gate_largest (received start).ack (responses (received start).openings)), rest.fits);
-        carries = (g.carries, rest.carries);
-        ordered = ordered_join (received start) (content f) (numbers fs) g.ordered (subst (λ (b : Received). AreOrdered b.last (numbers fs)) (received-push start f) rest.ordered);
-        messages_fit =
-            messages_join limits (received start) (content f) (messages fs) g.message
-            (subst (λ (b : Received). TakesMessages limits.max_message_size limits.max_chunk_count b.messages (messages fs)) (received-push start f) rest.messages_fit);
-      }
-
-  -- and the other way round
-  taken : (start fs : List Frame) → IsPlaced (received start) → From limits asks start fs → AllFrom (Fits (client_rules limits asks)) start fs
-  unfolding numbers messages
-  taken start [] placed c = tt
-  taken start (f ∷ fs) placed c =
-      let asked : List Asking = asked_before (end_of start f) asks in
-      let ks : List Kind = map (λ (h : Frame). h.kind) fs in
-      let kind = kind_then (received start).ack (responses (received start).openings) f.kind ks (to_order (received start) (f.kind ∷ ks) (received start).ack (responses (received start).openings) refl refl c.order) in
-      let next = frame_then asked (received start) f ks placed c.carries.0 c.order in
-      let number = ordered_split (received start) (content f) (numbers fs) c.ordered in
-      let message = messages_split limits (received start) (content f) (messages fs) c.messages_fit in
-      let now = received-push start f in (
-        record {
-          goes_on = refl;
-          sized = c.framed.0.sized;
-          let_in = record { kind = kind; flag = c.framed.0.flag; largest = omega (arith, c.fits.0, gate_largest (received start).ack (responses (received start).openings)); least = c.framed.0.least };
-          accepted = accepted limits asked (received start) (content f) (record { carries = c.carries.0; ordered = number.0; message = message.0 });
-        },
-        taken (start ++ f ∷ []) fs (placed_next start f placed kind) (record {
-          order = subst (λ (b : Received). Order b ks) (sym now) next;
-          framed = c.framed.1;
-          fits = c.fits.1;
-          carries = c.carries.1;
-          ordered = subst (λ (b : Received). AreOrdered b.last (numbers fs)) (sym now) number.1;
-          messages_fit = subst (λ (b : Received). TakesMessages limits.max_message_size limits.max_chunk_count b.messages (messages fs)) (sym now) message.1;
-        }),
-      )
-
-  no_ack : (received []).ack ≡ None
-  no_ack = ap (λ (b : Received). b.ack) received-nil
+  rules_converse : Converses (client_rules limits asks) limits (λ (f : Frame). f.kind) Order IsPlaced (λ b. largest_taken b.ack) (λ before f. MayCarryBack limits (received before) (asked_before (end_of before f) asks) (content f))
+  rules_converse = record {
+    order_nil = order_nil;
+    goes_on = λ start f later order. refl;
+    largest = λ start. gate_largest (received start).ack (responses (received start).openings);
+    placed = placed_next;
+    in_order = λ start f later on. order_frame (asked_before (end_of start f) asks) (received start) f later;
+    good = λ start f. good limits (asked_before (end_of start f) asks) (received start) (content f);
+    accepted = λ start f. accepted limits (asked_before (end_of start f) asks) (received start) (content f);
+  }
 
   nothing_there : responses (received []).openings ≡ []
   nothing_there = ap (λ (b : Received). responses b.openings) received-nil ∙ no_responses
@@ -399,29 +283,19 @@ module _ (limits : Limits) (asks : List Placed) where
   unfolding IsPlaced
   nothing_placed none = nothing_there
 
+  nothing_order : (frames : List Frame) → Order (received []) (map (λ (f : Frame). f.kind) frames) ↔ order_by None [] (map (λ (f : Frame). f.kind) frames)
+  nothing_order frames = order_is (received []) (map (λ (f : Frame). f.kind) frames) None [] (ap (λ (b : Received). b.ack) received-nil) nothing_there
+
   -- the frames that a client takes are those of a conversation, or the beginning of one
   pub converses : (frames : List Frame) → AllAfter (Fits (client_rules limits asks)) frames ↔ ClientConversation limits asks frames
   unfolding AllAfter order_by
   converses frames = (
     λ fits.
-        let c = converse [] frames nothing_placed fits in
-        record {
-          order = to_order (received []) (map (λ (f : Frame). f.kind) frames) None [] no_ack nothing_there c.order;
-          framed = c.framed;
-          fits = c.fits;
-          carries = c.carries;
-          ordered = subst (λ (b : Received). AreOrdered b.last (numbers frames)) received-nil c.ordered;
-          messages_fit = (messages_fit limits (messages frames)).0 (subst (λ (b : Received). TakesMessages limits.max_message_size limits.max_chunk_count b.messages (messages frames)) received-nil c.messages_fit);
-        },
+        let c = converse (client_rules limits asks) limits (λ (f : Frame). f.kind) Order IsPlaced (λ b. largest_taken b.ack) (λ before f. MayCarryBack limits (received before) (asked_before (end_of before f) asks) (content f)) rules_converse [] frames nothing_placed fits in
+        record { order = (nothing_order frames).0 c.order; framed = c.framed; fits = c.fits; carries = c.carries; ordered = (ordered_first (numbers frames)).0 c.ordered; messages_fit = (fit_first limits (messages frames)).0 c.messages_fit },
     λ h.
-        taken [] frames nothing_placed (record {
-          order = from_order (received []) (map (λ (f : Frame). f.kind) frames) None [] no_ack nothing_there h.order;
-          framed = h.framed;
-          fits = h.fits;
-          carries = h.carries;
-          ordered = subst (λ (b : Received). AreOrdered b.last (numbers frames)) (sym received-nil) h.ordered;
-          messages_fit = subst (λ (b : Received). TakesMessages limits.max_message_size limits.max_chunk_count b.messages (messages frames)) (sym received-nil) ((messages_fit limits (messages frames)).1 h.messages_fit);
-        }),
+        taken (client_rules limits asks) limits (λ (f : Frame). f.kind) Order IsPlaced (λ b. largest_taken b.ack) (λ before f. MayCarryBack limits (received before) (asked_before (end_of before f) asks) (content f)) rules_converse [] frames nothing_placed
+        (record { order = (nothing_order frames).1 h.order; framed = h.framed; fits = h.fits; carries = h.carries; ordered = (ordered_first (numbers frames)).1 h.ordered; messages_fit = (fit_first limits (messages frames)).1 h.messages_fit }),
   )
 
 -- ---- octets without a wrong frame

@@ -27,27 +27,25 @@ use Rattle.ua_chunk.proofs.Fresh.{fresh}
 use Rattle.ua_chunk.proofs.Lists.{filter_append}
 use Rattle.ua_chunk.proofs.Once.{once}
 use Rattle.ua_channel.specs.Asks.{Asking, Placed, asked_before, calls, end_of, is_finished, is_in, pending_calls}
-use Rattle.ua_channel.specs.ClientConversation.{ClientConversation, IsClientOrder, IsClientOrderOpen, IsOrderAgreed, MayCarryBack, largest_taken}
+use Rattle.ua_channel.specs.ClientConversation.{ClientConversation, IsClientOrder, IsClientOrderOpen, MayCarryBack, largest_taken}
 use Rattle.ua_channel.specs.ClientTable.{client_rules}
 use Rattle.ua_channel.specs.ClientTokens.{answer_in, response_listed, responses, tokens_of}
 use Rattle.ua_channel.specs.ClientTold.{ClientTold, client_tells, told_item, told_response}
 use Rattle.ua_channel.specs.ClientTold.ClientTold.{Agreed, Opened, Answered, GaveUp, Renewed}
 use Rattle.ua_channel.specs.Content.{Content, Opening, closes, content, content_by}
-use Rattle.ua_channel.specs.Content.Content.{Greets, Acks, Fails, Opens, Sends, Closes, Nothing}
 use Rattle.ua_channel.specs.Conversation.{IsFramed}
 use Rattle.ua_channel.specs.Merges.{IsChunkOrOpening, MayAnswer, MergedAtClient, ended_by, is_told_under, renewed_in, told_back, told_merged_back, told_renewed, tokens_renewed}
 use Rattle.ua_channel.specs.Paired.{is_of_call, told_of_calls}
 use Rattle.ua_channel.specs.Received.{Received, chunks_in, has_some, messages, openings, openings_in, received}
-use Rattle.ua_channel.proofs.AskedLater.{frames_octets-append}
 use Rattle.ua_channel.proofs.Carried.{content_ack}
-use Rattle.ua_channel.proofs.ClientConversing.{continues}
+use Rattle.ua_channel.proofs.ClientConversing.{converses}
 use Rattle.ua_channel.proofs.ClientReading.{all_append as every_append}
 use Rattle.ua_channel.proofs.ClientTalks.{no_responses}
 use Rattle.ua_channel.proofs.MergedChunks.{EachEnds, comes, given_fresh}
-use Rattle.ua_channel.proofs.MergedFrames.{closed_behind, ends_then, fit_behind, messages_behind, messages_then, openings_then, ordered_behind}
+use Rattle.ua_channel.proofs.MergedFrames.{closed_behind, ends_then, fit_behind, messages_behind, messages_then, names_kept, of_either, openings_then, ordered_behind}
 use Rattle.ua_channel.proofs.OneFrameMore.{received-push}
 use Rattle.ua_channel.proofs.PairedCalls.{tells_delivered}
-use Rattle.ua_channel.proofs.ReadOn.{all_append, events_on}
+use Rattle.ua_channel.proofs.ReadOn.{all_append, events_on, more_octets}
 
 -- ---- the order
 
@@ -77,41 +75,27 @@ open_on (Msg ∷ ks) ls h more = open_on ks ls h more
 open_on (Opn ∷ ks) ls h more = open_on ks ls h more
 open_on (Clo ∷ ks) ls h more = absurd h
 
-agreed_kind : (k : Kind) (ks ls : List Kind) → IsOrderAgreed (k ∷ ks) → IsClientOrderOpen ls → IsOrderAgreed (k ∷ (ks ++ ls))
-agreed_kind Hel ks ls h more = absurd h
-agreed_kind kind.Ack ks ls h more = absurd h
-agreed_kind kind.Err ks ls h more = absurd h
-agreed_kind Msg ks ls h more = absurd h
-agreed_kind Opn ks ls h more = open_on ks ls h more
-agreed_kind Clo ks ls h more = absurd h
-
-agreed_on : (frames : List Frame) (ls : List Kind) → IsOrderAgreed (map (λ (f : Frame). f.kind) frames) → (openings frames ≡ [] → ⊥) → IsClientOrderOpen ls
-    → IsOrderAgreed (map (λ (f : Frame). f.kind) frames ++ ls)
-unfolding openings
-agreed_on [] ls h some more = absurd (some refl)
-agreed_on (f ∷ frames) ls h some more = agreed_kind f.kind (map (λ (g : Frame). g.kind) frames) ls h more
-
-first_kind : (k : Kind) (ks : List Kind) → IsClientOrder (k ∷ ks) → (k ≡ kind.Ack) × IsOrderAgreed ks
-first_kind Hel ks h = absurd h
-first_kind kind.Ack ks h = (refl, h)
-first_kind kind.Err ks h = absurd h
-first_kind Msg ks h = absurd h
-first_kind Opn ks h = absurd h
-first_kind Clo ks h = absurd h
-
-kinds_on : (k : Kind) (ks : List Kind) → k ≡ kind.Ack → IsOrderAgreed ks → IsClientOrder (k ∷ ks)
-kinds_on k ks e h = subst (λ (j : Kind). IsClientOrder (j ∷ ks)) (sym e) h
-
 -- behind an opening come chunks and openings
-order_on : (frames : List Frame) (ls : List Kind) → IsClientOrder (map (λ (f : Frame). f.kind) frames) → (openings frames ≡ [] → ⊥) → IsClientOrderOpen ls
-    → IsClientOrder (map (λ (f : Frame). f.kind) frames ++ ls)
+order_on : (ks ls : List Kind) → IsClientOrder ks → (ks ≡ [] → ⊥) → (ks ≡ kind.Ack ∷ [] → ⊥) → IsClientOrderOpen ls → IsClientOrder (ks ++ ls)
+order_on [] ls h some two more = absurd (some refl)
+order_on (Hel ∷ ks) ls h some two more = absurd h
+order_on (kind.Ack ∷ []) ls h some two more = absurd (two refl)
+order_on (kind.Ack ∷ Hel ∷ ks) ls h some two more = absurd h
+order_on (kind.Ack ∷ kind.Ack ∷ ks) ls h some two more = absurd h
+order_on (kind.Ack ∷ kind.Err ∷ ks) ls h some two more = absurd h
+order_on (kind.Ack ∷ Msg ∷ ks) ls h some two more = absurd h
+order_on (kind.Ack ∷ Opn ∷ ks) ls h some two more = open_on ks ls h more
+order_on (kind.Ack ∷ Clo ∷ ks) ls h some two more = absurd h
+order_on (kind.Err ∷ ks) ls h some two more = absurd h
+order_on (Msg ∷ ks) ls h some two more = absurd h
+order_on (Opn ∷ ks) ls h some two more = absurd h
+order_on (Clo ∷ ks) ls h some two more = absurd h
+
+kinds_there : (frames : List Frame) → (openings frames ≡ [] → ⊥) → (map (λ (f : Frame). f.kind) frames ≡ [] → ⊥) × (map (λ (f : Frame). f.kind) frames ≡ kind.Ack ∷ [] → ⊥)
 unfolding openings
-order_on [] ls h some more = absurd (some refl)
-order_on (f ∷ frames) ls h some more =
-    let first = first_kind f.kind (map (λ (g : Frame). g.kind) frames) h in
-    let nothing : openings_in (content f) ≡ [] = ap openings_in (content_ack f first.0) in
-    kinds_on f.kind (map (λ (g : Frame). g.kind) frames ++ ls) first.0
-    (agreed_on frames ls first.1 (λ none. some (ap (λ (os : List Opening). os ++ openings frames) nothing ∙ none)) more)
+kinds_there [] some = absurd (some refl)
+kinds_there (f ∷ []) some = (λ e. cc, λ e. some (ap (λ (os : List Opening). os ++ []) (ap openings_in (content_ack f cc))))
+kinds_there (f ∷ g ∷ frames) some = (λ e. cc, λ e. cc)
 
 none_there : {A : Type 0} (xs : List A) → has_some xs ≡ true → xs ≡ [] → ⊥
 none_there [] e none = absurd cc
@@ -125,7 +109,8 @@ order_behind : (before more : List Frame) → IsClientOrder (map (λ (f : Frame)
     → AllByRecursion (λ (f : Frame). IsChunkOrOpening (content f)) more
     → IsClientOrder (map (λ (f : Frame). f.kind) (before ++ more))
 order_behind before more h some is =
-    subst IsClientOrder (sym (map-append (λ (f : Frame). f.kind) before more)) (order_on before (map (λ (f : Frame). f.kind) more) h (some_opening before some) (order_all more is))
+    let there = kinds_there before (some_opening before some) in
+    subst IsClientOrder (sym (map-append (λ (f : Frame). f.kind) before more)) (order_on (map (λ (f : Frame). f.kind) before) (map (λ (f : Frame). f.kind) more) h there.0 there.1 (order_all more is))
 
 -- ---- calls that are unanswered
 
@@ -203,17 +188,10 @@ module _ (limits : Limits) (asks : List Placed) (ms : List Sent) (base : List Ch
 
   may_at : (us rest : List Chunk) (b : Received) (asked : List Asking) (k : Content) → IsChunkOrOpening k → b.messages ≡ base ++ us → IsMerge ms (us ++ (chunks_in k ++ rest)) → MayAnswer b asked k
       → MayCarryBack limits b asked k
-  may_at us rest b asked (Greets hello) is now merge h = absurd is
-  may_at us rest b asked (Acks ack) is now merge h = absurd is
-  may_at us rest b asked (Fails error) is now merge h = absurd is
-  may_at us rest b asked (Opens o) is now merge h = h
-  may_at us rest b asked (Sends c) is now merge h = record {
-    on = h.on;
-    held = h.held;
-    awaited = still_pending b.messages asked c.request (ap (λ (cs : List Chunk). is_finished cs c.request) now ∙ not_finished us rest c merge) h.was_asked;
-  }
-  may_at us rest b asked (Closes c) is now merge h = absurd is
-  may_at us rest b asked Nothing is now merge h = absurd is
+  may_at us rest b asked k is now merge =
+      of_either (λ (d : Content). IsMerge ms (us ++ (chunks_in d ++ rest)) → MayAnswer b asked d → MayCarryBack limits b asked d) (λ o merge h. h)
+      (λ c merge h.
+      record { on = h.on; held = h.held; awaited = still_pending b.messages asked c.request (ap (λ (cs : List Chunk). is_finished cs c.request) now ∙ not_finished us rest c merge) h.was_asked }) k is merge
 
   -- each chunk is of a call that is unanswered at its place
   may_carry : (start : List Frame) (us : List Chunk) (fs : List Frame) → (received start).messages ≡ base ++ us → AllByRecursion (λ (f : Frame). IsChunkOrOpening (content f)) fs
@@ -248,13 +226,9 @@ responses-append os more = flat_map-append (λ (o : Opening). response_listed (a
 module _ (limits : Limits) (asks : List Placed) (ms : List Sent) (base : List Chunk) (none : open_ids base ≡ []) where
   tells_at : (b : Received) (us rest : List Chunk) (k : Content) → IsChunkOrOpening k → has_some (responses b.openings) ≡ true → b.messages ≡ base ++ us → EachEnds ms us (chunks_in k ++ rest)
       → client_tells b k ≡ told_back ms k
-  tells_at b us rest (Greets hello) is some now all = absurd is
-  tells_at b us rest (Acks ack) is some now all = absurd is
-  tells_at b us rest (Fails error) is some now all = absurd is
-  tells_at b us rest (Opens o) is some now all = later_told (responses b.openings) (response_listed (answer_in o)) some
-  tells_at b us rest (Sends c) is some now all = ap (map told_item) (ap (λ (cs : List Chunk). given cs c) now ∙ (given_fresh base us c none ∙ all.0))
-  tells_at b us rest (Closes c) is some now all = absurd is
-  tells_at b us rest Nothing is some now all = absurd is
+  tells_at b us rest k is some now =
+      of_either (λ (d : Content). EachEnds ms us (chunks_in d ++ rest) → client_tells b d ≡ told_back ms d) (λ o all. later_told (responses b.openings) (response_listed (answer_in o)) some)
+      (λ c all. ap (map told_item) (ap (λ (cs : List Chunk). given cs c) now ∙ (given_fresh base us c none ∙ all.0))) k is
 
   still_open : (start : List Frame) (f : Frame) → IsChunkOrOpening (content f) → has_some (responses (received start).openings) ≡ true → has_some (responses (received (start ++ f ∷ [])).openings) ≡ true
   still_open start f is some =
@@ -297,13 +271,9 @@ unfolding responses
 tokens_of-one o = ap tokens_of (append-nil (response_listed (answer_in o)))
 
 tokens_at : (ms : List Sent) (k : Content) → IsChunkOrOpening k → tokens_renewed (told_back ms k) ≡ tokens_of (responses (openings_in k))
-tokens_at ms (Greets hello) is = absurd is
-tokens_at ms (Acks ack) is = absurd is
-tokens_at ms (Fails error) is = absurd is
-tokens_at ms (Opens o) is = tokens_listed (response_listed (answer_in o)) ∙ sym (tokens_of-one o)
-tokens_at ms (Sends c) is = no_tokens (ended_by ms c) ∙ sym tokens_of-nil
-tokens_at ms (Closes c) is = absurd is
-tokens_at ms Nothing is = absurd is
+tokens_at ms k is =
+    of_either (λ (d : Content). tokens_renewed (told_back ms d) ≡ tokens_of (responses (openings_in d))) (λ o. tokens_listed (response_listed (answer_in o)) ∙ sym (tokens_of-one o))
+    (λ c. no_tokens (ended_by ms c) ∙ sym tokens_of-nil) k is
 
 tokens_from : (ms : List Sent) (fs : List Frame) → AllByRecursion (λ (f : Frame). IsChunkOrOpening (content f)) fs → tokens_renewed (told_merged_back ms fs) ≡ tokens_of (responses (openings fs))
 unfolding openings
@@ -317,14 +287,9 @@ tokens_from ms (f ∷ fs) order =
 
 -- ---- calls of one request id
 
-under_step : (b : Bool) (d : Item) (fs : List ClientTold) (gs : List Item) → fs ≡ map told_item gs → cond b (told_item d ∷ fs) fs ≡ map told_item (cond b (d ∷ gs) gs)
-under_step true d fs gs e = ap (λ (t : List ClientTold). told_item d ∷ t) e
-under_step false d fs gs e = e
-
-items_under : (id : ℕ) (items : List Item) → filter (is_told_under id) (map told_item items) ≡ map told_item (filter (is_item_of id) items)
-items_under id [] = refl
-items_under id (Whole i octets ∷ items) = under_step (eqb i id) (Whole i octets) (filter (is_told_under id) (map told_item items)) (filter (is_item_of id) items) (items_under id items)
-items_under id (Aborted i code reason ∷ items) = under_step (eqb i id) (Aborted i code reason) (filter (is_told_under id) (map told_item items)) (filter (is_item_of id) items) (items_under id items)
+told_names : (id : ℕ) (d : Item) → is_told_under id (told_item d) ≡ is_item_of id d
+told_names id (Whole i octets) = refl
+told_names id (Aborted i code reason) = refl
 
 same_step : (b : Bool) (t : ClientTold) (xs ys : List ClientTold) → xs ≡ ys → cond b (t ∷ xs) xs ≡ cond b (t ∷ ys) ys
 same_step true t xs ys e = ap (λ (ts : List ClientTold). t ∷ ts) e
@@ -358,15 +323,11 @@ module _ (limits : Limits) (asks : List Placed) (before more : List Frame) (ms :
   }
 
   pub takes_merged : (octets : List ℕ) → Run (client_rules limits asks) octets before [] Going → Run (client_rules limits asks) (octets ++ frames_octets more) (before ++ more) [] Going
-  takes_merged octets run =
-      let c = (continues limits asks octets before []).0 run in
-      (continues limits asks (octets ++ frames_octets more) (before ++ more) []).1 (record {
-        whole =
-            ap (λ (t : List ℕ). t ++ frames_octets more) (c.whole ∙ append-nil (frames_octets before))
-            ∙ (sym (frames_octets-append before more) ∙ sym (append-nil (frames_octets (before ++ more))));
-        converses = converses_on c.converses;
-        partial = inl (omega arith);
-      })
+  takes_merged octets run = record {
+    whole = more_octets (client_rules limits asks) octets before more run;
+    good = (converses limits asks (before ++ more)).1 (converses_on ((converses limits asks before).0 run.good));
+    ends = (refl, inl (omega arith));
+  }
 
   pub tells_merged : events (client_rules limits asks) (before ++ more) ≡ events (client_rules limits asks) before ++ told_merged_back ms more
   tells_merged =
@@ -391,7 +352,7 @@ module _ (limits : Limits) (asks : List Placed) (before more : List Frame) (ms :
   tells_once id =
       calls_under id (told_merged_back ms more)
       ∙ (ap (filter (is_told_under id)) tells_messages
-      ∙ (items_under id (outcomes ms (messages more))
+      ∙ (names_kept told_item (is_told_under id) (is_item_of id) (told_names id) (outcomes ms (messages more))
       ∙ (ap (λ (items : List Item). map told_item (filter (is_item_of id) items)) (sym (comes limits ms (messages more) m.merged).all)
       ∙ ap (map told_item) (once ms (messages more) id (comes limits ms (messages more) m.merged).own))))
 

@@ -1,12 +1,10 @@
 -- What a client makes of an OPN.
 use Rattle.std.proofs.Common.{◌≡◌, ℕ, Bool, true, false, leb, List, [], ◌∷◌, Option, Some, None, Ok, Err, refl, sym, ◌∙◌, ap, subst}
-use Rattle.ua_octets.proofs.Readers.{some_is}
 use Rattle.ua_builtin.specs.Reasons.{first_reason}
 use Rattle.ua_frame.specs.declared.limits.Limits.{Limits}
 use Rattle.ua_chunk.specs.declared.fault.OpenFault.{OpenFault}
 use Rattle.ua_chunk.specs.declared.fault.OpenFault.TheVariants.{Unreadable, Policy, OutOfMemory}
-use Rattle.ua_chunk.specs.Layout.{sequence_header}
-use Rattle.ua_chunk.specs.Opening.{SecurityHeader, policy_of, policy_header, is_none_policy, sequence_fault, headers_fault, open_refusal}
+use Rattle.ua_chunk.specs.Opening.{SecurityHeader, policy_of, is_none_policy, open_refusal}
 use Rattle.ua_services.specs.Open.{answer_read}
 use Rattle.ua_services.specs.declared.open.OpenAnswer.{OpenAnswer}
 use Rattle.ua_services.specs.declared.open.OpenAnswer.TheVariants.{Open, Fault}
@@ -24,49 +22,35 @@ use Rattle.ua_channel.specs.declared.client.answer.Answer.{Answer}
 use Rattle.ua_channel.specs.declared.step_fault.StepFault.{StepFault}
 use Rattle.ua_channel.specs.declared.step_fault.StepFault.TheVariants as stop
 use Rattle.ua_channel.proofs.ClientAsking.{first_unset}
-use Rattle.ua_channel.proofs.Openings.{HasHeaders}
+use Rattle.ua_channel.proofs.Openings.{HasHeaders, open_code, refuses_headers}
 
 -- ---- headers that are refused
 
--- the code of a fault of the headers
-open_code : OpenFault → ℕ
-open_code Unreadable = 0x8007_0000
-open_code Policy = 0x8055_0000
-open_code OutOfMemory = 0
-
 module _ (limits : Limits) (before : Received) (asked : List Asking) where
-  why : Opening → Option Why
-  why o = first_reason (client_reasons limits before asked (Opens o))
+  why_not : Opening → Option Why
+  why_not o = first_reason (client_reasons limits before asked (Opens o))
 
-  refused_policy : (header : SecurityHeader) (octets : List ℕ) (found : Option ((ℕ × ℕ) × List ℕ)) → is_none_policy (policy_of header) ≡ false → why (opening_numbered header octets found) ≡ Some (ours 0x8055_0000)
-  unfolding why
+  unread_here : (body : List ℕ) → why_not (opening_secured body None) ≡ Some (ours 0x8007_0000)
+  unfolding why_not
+  unread_here body = refl
+
+  refused_policy : (header : SecurityHeader) (octets : List ℕ) (found : Option ((ℕ × ℕ) × List ℕ)) → is_none_policy (policy_of header) ≡ false → why_not (opening_numbered header octets found) ≡ Some (ours 0x8055_0000)
+  unfolding why_not
   refused_policy header octets None other = rw other refl
   refused_policy header octets (Some found) other = rw other refl
 
-  refused_numbers : (header : SecurityHeader) (octets : List ℕ) → is_none_policy (policy_of header) ≡ true → why (opening_numbered header octets None) ≡ Some (ours 0x8007_0000)
-  unfolding why answer_in
+  refused_numbers : (header : SecurityHeader) (octets : List ℕ) → is_none_policy (policy_of header) ≡ true → why_not (opening_numbered header octets None) ≡ Some (ours 0x8007_0000)
+  unfolding why_not answer_in
   refused_numbers header octets none = rw none refl
 
-  refused_header : (header : SecurityHeader) (octets : List ℕ) (found : Option ((ℕ × ℕ) × List ℕ)) (b : Bool) (fault : OpenFault) → is_none_policy (policy_of header) ≡ b → sequence_fault b found ≡ Some fault → why (opening_numbered header octets found) ≡ Some (ours (open_code fault))
-  unfolding open_code
-  refused_header header octets found false fault e h = refused_policy header octets found e ∙ ap (λ (x : OpenFault). Some (ours (open_code x))) (some_is Policy fault h)
-  refused_header header octets None true fault e h = refused_numbers header octets e ∙ ap (λ (x : OpenFault). Some (ours (open_code x))) (some_is Unreadable fault h)
-  refused_header header octets (Some found) true fault e h = absurd cc
-
-  refused_found : (body : List ℕ) (found : Option (SecurityHeader × List ℕ)) (fault : OpenFault) → headers_fault found ≡ Some fault → why (opening_secured body found) ≡ Some (ours (open_code fault))
-  unfolding open_code why
-  refused_found body None fault h = ap (λ (x : OpenFault). Some (ours (open_code x))) (some_is Unreadable fault h)
-  refused_found body (Some found) fault h = refused_header found.0 found.1 (sequence_header.decode found.1) (is_none_policy (policy_of found.0)) fault refl h
-
-  -- headers that are refused
-  refuses_headers : (body : List ℕ) (fault : OpenFault) → open_refusal body ≡ Some fault → first_reason (client_reasons limits before asked (Opens (opening_of body))) ≡ Some (ours (open_code fault))
-  unfolding opening_of why
-  refuses_headers body fault h = refused_found body (policy_header.decode body) fault h
+  headers_refused : (body : List ℕ) (fault : OpenFault) → open_refusal body ≡ Some fault → first_reason (client_reasons limits before asked (Opens (opening_of body))) ≡ Some (ours (open_code fault))
+  unfolding why_not
+  headers_refused body fault h = refuses_headers ours why_not unread_here refused_policy refused_numbers body fault h
 
 judges_fault : (body : List ℕ) (fault : OpenFault) → open_refusal body ≡ Some fault → JudgesAnswer (opening_of body) (Err (of_open_fault fault))
 unfolding open_code
-judges_fault body Unreadable h = λ limits before asked. refuses_headers limits before asked body Unreadable h
-judges_fault body Policy h = λ limits before asked. refuses_headers limits before asked body Policy h
+judges_fault body Unreadable h = λ limits before asked. headers_refused limits before asked body Unreadable h
+judges_fault body Policy h = λ limits before asked. headers_refused limits before asked body Policy h
 judges_fault body OutOfMemory h = λ limits before asked. tt
 
 -- what a fault of the headers comes to

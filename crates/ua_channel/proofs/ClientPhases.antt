@@ -11,7 +11,6 @@ use Rattle.ua_channel.specs.inside.ClientAsking.{client_phase_gate}
 use Rattle.ua_channel.specs.ClientAsks.{Talks}
 use Rattle.ua_channel.specs.inside.ClientParts.{Judged, JudgesWhole, TookFrame, StaysOpen, IsOpenedBy, TakesFrame, greeted}
 use Rattle.ua_channel.specs.ClientTable.{client_gate, client_reasons, gate_agreed, ack_gate, answer_gate, reply_gate}
-use Rattle.ua_channel.specs.ClientTokens.{responses}
 use Rattle.ua_channel.specs.Content.{Content, content}
 use Rattle.ua_channel.specs.Content.Content.{Acks}
 use Rattle.ua_channel.specs.Received.{Received, after, nothing_received}
@@ -25,6 +24,7 @@ use Rattle.ua_channel.specs.declared.client.phase.Phase.TheVariants.{Waiting, Ag
 use Rattle.ua_channel.specs.declared.client.talking.Talking.{Talking}
 use Rattle.ua_channel.proofs.ClientGreets.{judged_same}
 use Rattle.ua_channel.proofs.ClientStands.{gate_talking}
+use Rattle.ua_channel.proofs.ClientTalks.{no_responses}
 
 -- ---- an ACK
 
@@ -59,10 +59,6 @@ reply_stays limits before asked c t new e h phase = record {
 }
 
 -- ---- any frame
-
-no_responses : responses [] ≡ []
-unfolding responses
-no_responses = refl
 
 -- the gate of a phase is that of what was received
 pub gate_in : (limits : Limits) (p : Phase) (before : Received) (asked : List Asking) → InPhase limits p before asked → client_phase_gate p ≡ client_gate before

@@ -12,9 +12,7 @@ use Rattle.ua_frame.specs.declared.ack.Ack.{Ack}
 use Rattle.ua_frame.specs.declared.frame.Frame.{Frame}
 use Rattle.ua_frame.specs.declared.gate.Gate.{Gate}
 use Rattle.ua_frame.specs.declared.limits.Limits.{Limits}
-use Rattle.ua_frame.specs.declared.kind.Kind.{Kind}
 use Rattle.ua_frame.specs.declared.kind.Kind.TheVariants as kind
-use Rattle.ua_frame.specs.Kinds.{has_flag, least_size, lets_in}
 use Rattle.ua_frame.specs.Agreement.{ack_to}
 use Rattle.ua_frame.specs.After.{AllFrom, each_from}
 use Rattle.ua_frame.specs.Frames.{LetsIn, frame_octets, frame_size, frames_octets}
@@ -57,7 +55,7 @@ use Rattle.ua_chunk.proofs.OneMore.{open_push}
 use Rattle.ua_chunk.proofs.Fresh.{some_pieces}
 use Rattle.ua_chunk.proofs.Pieces.{next_small}
 use Rattle.ua_chunk.proofs.ReaderLaws.{abort_written}
-use Rattle.ua_channel.specs.Asks.{Asking, Placed, asked_before, asked_in, calls, end_of, id_of, is_in, next_id, pending_calls, pending_renewals, renewals}
+use Rattle.ua_channel.specs.Asks.{Asking, Placed, asked_before, asked_in, end_of, id_of, is_in, next_id, pending_calls, pending_renewals}
 use Rattle.ua_channel.specs.Asks.Asking.{Call, Renewal}
 use Rattle.ua_channel.specs.ClientReads.{AtClient, ClientAgrees, ClientReads, IsAnswered, IsLaneBack, told_reply, with_answer, with_call, with_renewal, with_reply, without_id}
 use Rattle.ua_channel.specs.ClientSends.{hello_to}
@@ -70,17 +68,17 @@ use Rattle.ua_channel.specs.Received.{Received, after, latest, nothing_received,
 use Rattle.ua_channel.specs.ServerReads.{IsBodyFor}
 use Rattle.ua_channel.specs.ServerSends.{opened_frame, replied, replied_by}
 use Rattle.ua_channel.proofs.AskedLater.{asked_later}
-use Rattle.ua_channel.proofs.Askings.{all-push, all-weaken, asked_in-push, pending_below, pending_calls-call, pending_calls-more, pending_calls-renewal, pending_renewals-call, pending_renewals-more, pending_renewals-renewal, renewal_below}
+use Rattle.ua_channel.proofs.Askings.{all-push, all-weaken, asked_in-push, pending_below, pending_calls-call, pending_calls-more, pending_calls-renewal, pending_renewals-call, pending_renewals-more, pending_renewals-renewal, renewal_below, no_asks}
 use Rattle.ua_channel.proofs.ClientAsking.{first_unset}
 use Rattle.ua_channel.proofs.ClientTakes.{IsReady, IsSent, all_asked, fits_one, fits_pieces, told_chunks, tokens_used}
-use Rattle.ua_channel.proofs.ClientTalks.{first_tail, responses-push, opened_ids-push, tokens_of-push, channel_in-push, no_ids, no_responses, no_tokens, awaited_later, later_tells}
+use Rattle.ua_channel.proofs.ClientTalks.{first_tail, responses-push, opened_ids-push, tokens_of-push, channel_in-push, no_ids, no_responses, no_tokens, awaited_later, later_tells, nothing_pending, nothing_renewed}
 use Rattle.ua_channel.proofs.Carried.{content_ack, content_opn}
 use Rattle.ua_channel.proofs.HeldTokens.{from_last-again, held_by-push, latest-from_last, latest-push, stays_in}
 use Rattle.ua_channel.proofs.OneFrameMore.{received-nil, received-push}
 use Rattle.ua_channel.proofs.ReadOn.{events_on, no_events, one_octets, run_on, run_one}
 use Rattle.ua_channel.proofs.ServerReading.{body_behind, body_delivered}
 use Rattle.ua_channel.proofs.WithChunks.{IsBehind, chunks_ack, cut_ordered, chunks_messages, chunks_openings, received_chunks, with_chunks}
-use Rattle.ua_channel.proofs.Written.{IsNumbered, IsOf, after_small, chunks_are, none_header, opening_carried, opening_size}
+use Rattle.ua_channel.proofs.Written.{IsNumbered, IsOf, after_small, chunks_are, none_header, opening_carried, opening_size, lets_opn}
 
 -- ---- ACK
 
@@ -199,31 +197,9 @@ module _ (channel number id handle token lifetime : ℕ) (moment : DateTime) (is
   first_tells a = rw (answer_is, no_responses) refl
 
 -- an OPN is let in behind an ACK
-lets_opn : (a : Ack) (rs : List OpenResponse) (f : Frame) → f.kind ≡ kind.Opn → f.flag ≡ 70 → frame_size f ≤ a.send_buffer_size → 32 ≤ frame_size f → LetsIn (gate_agreed a.send_buffer_size rs) f
-lets_opn a [] f is flag fits least = record {
-  kind = ap (lets_in (answer_gate a.send_buffer_size)) is;
-  flag = ap (λ (k : Kind). has_flag k f.flag) is ∙ ap (has_flag kind.Opn) flag;
-  largest = fits;
-  least = subst (λ (k : Kind). least_size k ≤ frame_size f) (sym is) least;
-}
-lets_opn a (r ∷ rs) f is flag fits least = record {
-  kind = ap (lets_in (reply_gate a.send_buffer_size)) is;
-  flag = ap (λ (k : Kind). has_flag k f.flag) is ∙ ap (has_flag kind.Opn) flag;
-  largest = fits;
-  least = subst (λ (k : Kind). least_size k ≤ frame_size f) (sym is) least;
-}
-
-no_asks : asked_in [] ≡ []
-unfolding asked_in
-no_asks = refl
-
-none_pending : (cs : List Chunk) → pending_calls cs [] ≡ []
-unfolding pending_calls calls
-none_pending cs = refl
-
-none_renewed : (ids : List ℕ) → pending_renewals ids [] ≡ []
-unfolding pending_renewals renewals
-none_renewed ids = refl
+opn_by : (a : Ack) (rs : List OpenResponse) (f : Frame) → f.kind ≡ kind.Opn → f.flag ≡ 70 → frame_size f ≤ a.send_buffer_size → 32 ≤ frame_size f → LetsIn (gate_agreed a.send_buffer_size rs) f
+opn_by a [] f kind flag fits least = lets_opn (answer_gate a.send_buffer_size) f refl kind flag fits least
+opn_by a (r ∷ rs) f kind flag fits least = lets_opn (reply_gate a.send_buffer_size) f refl kind flag fits least
 
 module _ (limits : Limits) (octets : List ℕ) (told : List ClientTold) (a : Ack) (channel number handle token lifetime : ℕ) (moment : DateTime)
     (r : ClientAgrees limits octets told a) (is : IsAnswered channel number 1 handle token lifetime moment) where
@@ -270,7 +246,7 @@ module _ (limits : Limits) (octets : List ℕ) (told : List ClientTold) (a : Ack
   unfolding f
   f_in =
       subst (λ (g : Gate). LetsIn g f) (sym (ap client_gate r.received_is))
-      (lets_opn a (responses []) f refl refl (omega (arith, f_size, r.large)) (omega (arith, f_size)))
+      (opn_by a (responses []) f refl refl (omega (arith, f_size, r.large)) (omega (arith, f_size)))
 
   pub reads_opened : ClientReads limits [] (octets ++ frame_octets (opened_frame channel number 1 handle token lifetime moment)) (told ++ event.Opened channel token ∷ [])
       (record { ack = a; channel = channel; tokens = token ∷ []; newest = token; pending = []; renewals = []; next = next_number number })
@@ -298,8 +274,8 @@ module _ (limits : Limits) (octets : List ℕ) (told : List ClientTold) (a : Ack
     channel_is = ap (λ (b : Received). channel_in (responses b.openings)) now ∙ ap channel_in one_response;
     tokens_are = ap held_tokens now ∙ one_token;
     newest_is = refl;
-    pending_are = ap (λ (b : Received). pending_calls b.messages (asked_in [])) now ∙ (ap (pending_calls []) no_asks ∙ none_pending []);
-    renewals_are = ap (λ (b : Received). pending_renewals (opened_ids b.openings) (asked_in [])) now ∙ (ap (pending_renewals (opened_ids (o ∷ []))) no_asks ∙ none_renewed (opened_ids (o ∷ [])));
+    pending_are = ap (λ (b : Received). pending_calls b.messages (asked_in [])) now ∙ (ap (pending_calls []) no_asks ∙ nothing_pending []);
+    renewals_are = ap (λ (b : Received). pending_renewals (opened_ids b.openings) (asked_in [])) now ∙ (ap (pending_renewals (opened_ids (o ∷ []))) no_asks ∙ nothing_renewed (opened_ids (o ∷ [])));
     asked_below = subst (λ (ss : List Asking). AllByRecursion (λ (x : Asking). id_of x < next_id ss) ss) (sym no_asks) tt;
     sent_below = subst (λ (b : Received). AllByRecursion (λ (c : Chunk). c.request < next_id (asked_in [])) b.messages) (sym now) tt;
     opened_below =
@@ -616,7 +592,7 @@ module _ (limits : Limits) (asks : List Placed) (octets : List ℕ) (told : List
   unfolding g
   g_in =
       subst (λ (x : Gate). LetsIn x g) (sym (ap (λ (a : Option Ack). client_gate_behind a (responses (received r.frames).openings)) r.ack_is))
-      (lets_opn at.ack (responses (received r.frames).openings) g refl refl (omega (arith, g_size, r.large)) (omega (arith, g_size)))
+      (opn_by at.ack (responses (received r.frames).openings) g refl refl (omega (arith, g_size, r.large)) (omega (arith, g_size)))
 
   later_now : received (r.frames ++ g ∷ []) ≡ after (received r.frames) (Opens p)
   later_now = received-push r.frames g ∙ ap (after (received r.frames)) p_carried

@@ -23,16 +23,12 @@ use Rattle.ua_channel.specs.declared.client.channel.ClientChannel.{ClientChannel
 use Rattle.ua_channel.specs.declared.client.phase.Phase.{Phase}
 use Rattle.ua_channel.specs.declared.client.phase.Phase.TheVariants.{Waiting, Open}
 use Rattle.ua_channel.specs.declared.client.talking.Talking.{Talking}
-use Rattle.ua_channel.proofs.Askings.{asked_in-push, all-push}
+use Rattle.ua_channel.proofs.Askings.{asked_in-push, all-push, no_asks}
 use Rattle.ua_channel.proofs.AskedLater.{asked_later}
 use Rattle.ua_channel.proofs.ClientAsking.{talks_as_before}
 use Rattle.ua_channel.proofs.OneFrameMore.{received-nil}
 
 -- ---- a channel that is made
-
-no_asks : asked_in [] ≡ []
-unfolding asked_in
-no_asks = refl
 
 pub stands_first : (x : ClientChannel) (gate : Gate) → x.reader ≡ open_reader gate [] → gate ≡ ack_gate → x.phase ≡ Waiting → x.bound ≡ 8192 → ClientStands x [] [] [] []
 stands_first x gate reader is phase bound = record {

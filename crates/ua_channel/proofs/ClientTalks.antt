@@ -2,7 +2,7 @@
 use Rattle.std.proofs.Common.{◌≡◌, ℕ, suc, ◌<◌, ◌≤◌, Bool, true, false, not, ◌||◌, eqb, List, [], ◌∷◌, ◌++◌, Option, Some, None, Result, length, map, refl, sym, ◌∙◌, ap, subst, arith}
 use Rattle.std.specs.Prelude.{if◌then◌else◌}
 use Rattle.std.specs.List.{AllByRecursion, filter, flat_map}
-use Rattle.std.proofs.lemmas.Bool.{eqb-true}
+use Rattle.std.proofs.lemmas.Bool.{eqb-true, not-false}
 use Rattle.std.proofs.lemmas.List.{map-append}
 use Rattle.std.proofs.lemmas.Grind.{flat_map-append}
 use Rattle.ua_builtin.specs.Reasons.{first_reason, renamed_reason}
@@ -71,11 +71,11 @@ pub no_tokens : tokens_of [] ≡ []
 unfolding tokens_of
 no_tokens = refl
 
-nothing_pending : pending_calls [] [] ≡ []
+pub nothing_pending : (cs : List Chunk) → pending_calls cs [] ≡ []
 unfolding pending_calls calls
-nothing_pending = refl
+nothing_pending cs = refl
 
-nothing_renewed : (ids : List ℕ) → pending_renewals ids [] ≡ []
+pub nothing_renewed : (ids : List ℕ) → pending_renewals ids [] ≡ []
 unfolding pending_renewals renewals
 nothing_renewed ids = refl
 
@@ -107,7 +107,7 @@ module _ (limits : Limits) (g : Agreed) (a : Answer) (t : Talking) (o : Opening)
     channel_is = ap channel_in one_response ∙ ap (λ (n : ℕ). Some n) (ans.channel_is ∙ sym h.channel_is);
     tokens_are = h.tokens_are ∙ sym one_token;
     newest_is = ap latest one_token ∙ ap (λ (n : ℕ). Some n) (sym h.newest_is);
-    pending_are = h.pending_are ∙ sym nothing_pending;
+    pending_are = h.pending_are ∙ sym (nothing_pending []);
     few_pending = omega (arith, ap length h.pending_are);
     renewal_is = ap listed h.renewal_is ∙ sym (nothing_renewed (opened_ids (o ∷ [])));
     next_is = h.next_is;
@@ -256,10 +256,6 @@ last_unset : {A : Type 0} (a : A) (b : Bool) (rs : List (A × Bool)) → first_r
 last_unset a b [] e = first_unset a b [] e
 last_unset a b (r ∷ rs) e = last_unset a b rs (first_tail r.0 r.1 (rs ++ (a, b) ∷ []) e)
 
-not_false : (b : Bool) → not b ≡ false → b ≡ true
-not_false true e = refl
-not_false false e = absurd cc
-
 pub first_judged : (limits : Limits) (g : Agreed) (f : Frame) (a : Answer) (r : Result Talking StepFault) → f.kind ≡ Opn → IsAnswerOf (opening_of f.body) a → Judged (first_reasons a) (IsOpenedWith limits g a) r
     → Judged (client_reasons limits (greeted g) [] (content f)) (IsOpenedBy limits g (content f)) r
 first_judged limits g f a r is ans h =
@@ -284,7 +280,7 @@ module _ (limits : Limits) (t : Talking) (before : Received) (asked : List Askin
         talks =
             renewed_talks limits t before asked a h new o w.1 ans
             (first_unset (ours 0x8087_0000) (is_in a.token t.tokens.items) ((ours 0x8088_0000, not (may_follow (last_number t.assembler) a.sequence)) ∷ (ours 0x8009_0000, not (is_in a.request (listed t.renewal))) ∷ []) second)
-            (not_false (is_in a.request (listed t.renewal)) (first_unset (ours 0x8009_0000) (not (is_in a.request (listed t.renewal))) [] fourth));
+            (not-false (is_in a.request (listed t.renewal)) (first_unset (ours 0x8009_0000) (not (is_in a.request (listed t.renewal))) [] fourth));
         ack_is = refl;
       }
 
@@ -304,8 +300,8 @@ module _ (limits : Limits) (t : Talking) (before : Received) (asked : List Askin
       record {
         tells = w.tells;
         parts = w.parts;
-        talks = taken_talks limits t before asked c h new e w (not_false (is_in c.token t.tokens.items) (first_unset (ours 0x8087_0000) (not (is_in c.token t.tokens.items)) (refused ++ (ours 0x8009_0000, not (is_in c.request t.pending.items)) ∷ []) second))
-            (not_false (is_in c.request t.pending.items) (last_unset (ours 0x8009_0000) (not (is_in c.request t.pending.items)) refused third));
+        talks = taken_talks limits t before asked c h new e w (not-false (is_in c.token t.tokens.items) (first_unset (ours 0x8087_0000) (not (is_in c.token t.tokens.items)) (refused ++ (ours 0x8009_0000, not (is_in c.request t.pending.items)) ∷ []) second))
+            (not-false (is_in c.request t.pending.items) (last_unset (ours 0x8009_0000) (not (is_in c.request t.pending.items)) refused third));
         ack_is = refl;
       }
 

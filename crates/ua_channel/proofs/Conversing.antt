@@ -1,11 +1,17 @@
 -- What a conversation says of one frame more, at both ends.
-use Rattle.std.proofs.Common.{◌≡◌, ℕ, Bool, true, false, not, List, [], ◌∷◌, ◌++◌, Option, Some, None, option_map, refl, ◌&&◌, length, sym, ◌∙◌, ap}
+use Rattle.std.proofs.Common.{◌≡◌, ℕ, Bool, true, false, IsTrue, not, List, [], ◌∷◌, ◌++◌, Option, Some, None, option_map, refl, ◌&&◌, length, sym, ◌∙◌, ap, ◌≤◌, map, subst, arith}
 use Rattle.std.specs.List.{AllByRecursion}
 use Rattle.std.specs.Prelude.{◌↔◌, is_none}
-use Rattle.std.proofs.lemmas.Bool.{le-ltb, ltb-false}
+use Rattle.std.proofs.lemmas.Bool.{le-ltb, ltb-false, not-false, not_from_true}
 use Rattle.ua_frame.specs.After.{AllAfter, AllFrom}
+use Rattle.ua_frame.specs.Frames.{frame_size}
+use Rattle.ua_frame.specs.Run.{Fits, Rules, refusal}
 use Rattle.ua_builtin.specs.Reasons.{first_reason}
+use Rattle.ua_frame.specs.declared.frame.Frame.{Frame}
+use Rattle.ua_frame.specs.declared.gate.Gate.{Gate}
+use Rattle.ua_frame.specs.declared.kind.Kind.{Kind}
 use Rattle.ua_frame.specs.declared.limits.Limits.{Limits}
+use Rattle.ua_frame.specs.Kinds.{lets_in}
 use Rattle.ua_chunk.specs.declared.chunk.Chunk.{Chunk}
 use Rattle.ua_chunk.specs.declared.flag.Flag.{Flag}
 use Rattle.ua_chunk.specs.declared.flag.Flag.TheVariants.{F, C, A}
@@ -15,12 +21,13 @@ use Rattle.ua_chunk.specs.Gathered.{gathered, joined}
 use Rattle.ua_chunk.specs.Open.{open_ids}
 use Rattle.ua_chunk.specs.Refusal.{FewOpen, TakesMessages, message_reasons, message_refusal, most_open, passes}
 use Rattle.ua_chunk.specs.Sequence.{may_follow}
-use Rattle.ua_channel.specs.Content.{Content}
+use Rattle.ua_channel.specs.Content.{Content, content, content_by}
 use Rattle.ua_channel.specs.Content.Content.{Greets, Acks, Fails, Opens, Sends, Closes, Nothing}
-use Rattle.ua_channel.specs.Conversation.{AreOrdered, FitMessages}
-use Rattle.ua_channel.specs.Received.{Received, after, chunks_in, number_listed, number_or, numbers_in}
+use Rattle.ua_channel.specs.Conversation.{AreOrdered, FitMessages, IsFramed}
+use Rattle.ua_channel.specs.Received.{Received, after, chunks_in, number_listed, number_or, numbers_in, messages, numbers, received}
 use Rattle.ua_channel.specs.ServerRefusals.{of_number}
-use Rattle.ua_channel.proofs.PairedCalls.{none_holds, was_pending}
+use Rattle.ua_channel.proofs.OneFrameMore.{received-nil, received-push}
+use Rattle.ua_channel.proofs.PairedCalls.{none_holds}
 
 -- ---- tables
 
@@ -42,19 +49,32 @@ pub some_there : {A : Type 0} (o : Option A) → is_none o ≡ false → (a : A)
 some_there None e = absurd cc
 some_there (Some a) e = (a, refl)
 
-pub no_more : (b : Bool) → b ≡ true → not b ≡ false
-no_more true e = refl
-no_more false e = absurd cc
+-- ---- the order
+
+-- here comes one of this kind exactly where this gate lets it in and what follows comes behind it
+pub record InOrder (gate : Gate) (k : Kind) (next here : Type 0) : Type 0 where
+  pub comes : IsTrue (lets_in gate k) → next → here
+  pub lets : here → IsTrue (lets_in gate k) × next
+
+pub content_kind : (f : Frame) → content f ≡ content_by f.kind f
+unfolding content
+content_kind f = refl
+
+pub in_order : {gate : Gate} {k : Kind} {next here : Type 0} → IsTrue (lets_in gate k) → next ↔ here → InOrder gate k next here
+in_order kind same = record { comes = λ let_in follows. same.0 follows; lets = λ order. (kind, same.1 order) }
+
+pub out_of_order : {gate : Gate} {k : Kind} {next here : Type 0} → (IsTrue (lets_in gate k) → ⊥) → (here → ⊥) → InOrder gate k next here
+out_of_order shut never = record { comes = λ kind follows. absurd (shut kind); lets = λ order. absurd (never order) }
 
 -- ---- numbers
 
 pub numbers_follow : (last : Option ℕ) (n : Option (ℕ × ℕ)) → of_number (λ k. not (may_follow last k)) n ≡ false → AreOrdered last (number_listed n)
 numbers_follow last None e = tt
-numbers_follow last (Some n) e = (was_pending (may_follow last n.0) e, tt)
+numbers_follow last (Some n) e = (not-false (may_follow last n.0) e, tt)
 
 pub follow_numbers : (last : Option ℕ) (n : Option (ℕ × ℕ)) → AreOrdered last (number_listed n) → of_number (λ k. not (may_follow last k)) n ≡ false
 follow_numbers last None h = refl
-follow_numbers last (Some n) h = no_more (may_follow last n.0) h.0
+follow_numbers last (Some n) h = not_from_true (may_follow last n.0) h.0
 
 -- ---- messages
 
@@ -70,53 +90,29 @@ MessageFits limits b Nothing = Unit {0}
 
 -- ---- lists of numbers and of chunks, with one frame more
 
-opening_split : (last : Option ℕ) (n : Option (ℕ × ℕ)) (ns : List ℕ) → AreOrdered last (number_listed n ++ ns) → AreOrdered last (number_listed n) × AreOrdered (number_or last n) ns
-opening_split last None ns h = (tt, h)
-opening_split last (Some n) ns h = ((h.0, tt), h.1)
+opening_apart : (last : Option ℕ) (n : Option (ℕ × ℕ)) (ns : List ℕ) → AreOrdered last (number_listed n ++ ns) ↔ (AreOrdered last (number_listed n) × AreOrdered (number_or last n) ns)
+opening_apart last None ns = (λ h. (tt, h), λ k. k.1)
+opening_apart last (Some n) ns = (λ h. ((h.0, tt), h.1), λ k. (k.0.0, k.1))
 
-opening_join : (last : Option ℕ) (n : Option (ℕ × ℕ)) (ns : List ℕ) → AreOrdered last (number_listed n) → AreOrdered (number_or last n) ns → AreOrdered last (number_listed n ++ ns)
-opening_join last None ns h k = k
-opening_join last (Some n) ns h k = (h.0, k)
+pub ordered_apart : (b : Received) (c : Content) (ns : List ℕ) → AreOrdered b.last (numbers_in c ++ ns) ↔ (AreOrdered b.last (numbers_in c) × AreOrdered (after b c).last ns)
+ordered_apart b (Greets hello) ns = (λ h. (tt, h), λ k. k.1)
+ordered_apart b (Acks ack) ns = (λ h. (tt, h), λ k. k.1)
+ordered_apart b (Fails error) ns = (λ h. (tt, h), λ k. k.1)
+ordered_apart b (Opens o) ns = opening_apart b.last o.numbers ns
+ordered_apart b (Sends c) ns = (λ h. ((h.0, tt), h.1), λ k. (k.0.0, k.1))
+ordered_apart b (Closes c) ns = (λ h. ((h.0, tt), h.1), λ k. (k.0.0, k.1))
+ordered_apart b Nothing ns = (λ h. (tt, h), λ k. k.1)
 
-pub ordered_split : (b : Received) (c : Content) (ns : List ℕ) → AreOrdered b.last (numbers_in c ++ ns) → AreOrdered b.last (numbers_in c) × AreOrdered (after b c).last ns
-ordered_split b (Greets hello) ns h = (tt, h)
-ordered_split b (Acks ack) ns h = (tt, h)
-ordered_split b (Fails error) ns h = (tt, h)
-ordered_split b (Opens o) ns h = opening_split b.last o.numbers ns h
-ordered_split b (Sends c) ns h = ((h.0, tt), h.1)
-ordered_split b (Closes c) ns h = ((h.0, tt), h.1)
-ordered_split b Nothing ns h = (tt, h)
-
-pub ordered_join : (b : Received) (c : Content) (ns : List ℕ) → AreOrdered b.last (numbers_in c) → AreOrdered (after b c).last ns → AreOrdered b.last (numbers_in c ++ ns)
-ordered_join b (Greets hello) ns h k = k
-ordered_join b (Acks ack) ns h k = k
-ordered_join b (Fails error) ns h k = k
-ordered_join b (Opens o) ns h k = opening_join b.last o.numbers ns h k
-ordered_join b (Sends c) ns h k = (h.0, k)
-ordered_join b (Closes c) ns h k = (h.0, k)
-ordered_join b Nothing ns h k = k
-
-pub messages_split : (limits : Limits) (b : Received) (c : Content) (cs : List Chunk) → TakesMessages limits.max_message_size limits.max_chunk_count b.messages (chunks_in c ++ cs)
-    → MessageFits limits b c × TakesMessages limits.max_message_size limits.max_chunk_count (after b c).messages cs
+pub messages_apart : (limits : Limits) (b : Received) (c : Content) (cs : List Chunk) → TakesMessages limits.max_message_size limits.max_chunk_count b.messages (chunks_in c ++ cs)
+    ↔ (MessageFits limits b c × TakesMessages limits.max_message_size limits.max_chunk_count (after b c).messages cs)
 unfolding MessageFits
-messages_split limits b (Greets hello) cs h = (tt, h)
-messages_split limits b (Acks ack) cs h = (tt, h)
-messages_split limits b (Fails error) cs h = (tt, h)
-messages_split limits b (Opens o) cs h = (tt, h)
-messages_split limits b (Sends c) cs h = h
-messages_split limits b (Closes c) cs h = (tt, h)
-messages_split limits b Nothing cs h = (tt, h)
-
-pub messages_join : (limits : Limits) (b : Received) (c : Content) (cs : List Chunk) → MessageFits limits b c → TakesMessages limits.max_message_size limits.max_chunk_count (after b c).messages cs
-    → TakesMessages limits.max_message_size limits.max_chunk_count b.messages (chunks_in c ++ cs)
-unfolding MessageFits
-messages_join limits b (Greets hello) cs h k = k
-messages_join limits b (Acks ack) cs h k = k
-messages_join limits b (Fails error) cs h k = k
-messages_join limits b (Opens o) cs h k = k
-messages_join limits b (Sends c) cs h k = (h, k)
-messages_join limits b (Closes c) cs h k = k
-messages_join limits b Nothing cs h k = k
+messages_apart limits b (Greets hello) cs = (λ h. (tt, h), λ k. k.1)
+messages_apart limits b (Acks ack) cs = (λ h. (tt, h), λ k. k.1)
+messages_apart limits b (Fails error) cs = (λ h. (tt, h), λ k. k.1)
+messages_apart limits b (Opens o) cs = (λ h. (tt, h), λ k. k.1)
+messages_apart limits b (Sends c) cs = (λ h. h, λ k. k)
+messages_apart limits b (Closes c) cs = (λ h. (tt, h), λ k. k.1)
+messages_apart limits b Nothing cs = (λ h. (tt, h), λ k. k.1)
 
 -- ---- messages in plain words
 
@@ -128,12 +124,12 @@ record FitFrom (limits : Limits) (us cs : List Chunk) : Type 0 where
   chunks_fit : AllFrom (λ us c. is_abort_flag c.flag ≡ false → passes limits.max_chunk_count (length (gathered us c)) ≡ false) us cs
 
 abort_reads : (f : Flag) (reads : Bool) → (is_abort_flag f && not reads) ≡ false → f ≡ A → reads ≡ true
-abort_reads f reads e is = was_pending reads (ap (λ (g : Flag). is_abort_flag g && not reads) (sym is) ∙ e)
+abort_reads f reads e is = not-false reads (ap (λ (g : Flag). is_abort_flag g && not reads) (sym is) ∙ e)
 
 reads_abort : (f : Flag) (reads : Bool) → (f ≡ A → reads ≡ true) → (is_abort_flag f && not reads) ≡ false
 reads_abort F reads h = refl
 reads_abort C reads h = refl
-reads_abort A reads h = no_more reads (h refl)
+reads_abort A reads h = not_from_true reads (h refl)
 
 within : (abort passed : Bool) → (not abort && passed) ≡ false → abort ≡ false → passed ≡ false
 within true passed e is = absurd cc
@@ -175,3 +171,86 @@ messages_fit limits cs = (
       record { aborts_read = f.aborts_read; few_open = f.few_open; octets_fit = f.octets_fit; chunks_fit = f.chunks_fit },
   λ f. takes_from limits [] cs (record { aborts_read = f.aborts_read; few_open = f.few_open; octets_fit = f.octets_fit; chunks_fit = f.chunks_fit }),
 )
+
+-- ---- frames behind frames
+
+-- a frame that may come so is taken
+pub record IsGoodFrame (May : Type 0) (limits : Limits) (b : Received) (c : Content) : Type 0 where
+  pub carries : May
+  pub ordered : AreOrdered b.last (numbers_in c)
+  pub message : MessageFits limits b c
+
+-- the rest of a conversation behind some frames
+pub record From {A : Type 0} (limits : Limits) (name : Frame → A) (Order : Received → List A → Type 0) (size : Received → ℕ) (May : List Frame → Frame → Type 0) (start fs : List Frame) : Type 0 where
+  pub order : Order (received start) (map name fs)
+  pub framed : AllByRecursion IsFramed fs
+  pub fits : AllFrom (λ before f. frame_size f ≤ size (received before)) start fs
+  pub carries : AllFrom May start fs
+  pub ordered : AreOrdered (received start).last (numbers fs)
+  pub messages_fit : TakesMessages limits.max_message_size limits.max_chunk_count (received start).messages (messages fs)
+
+-- what an end says of each frame of a conversation
+pub record Converses {E X A : Type 0} (R : Rules E X) (limits : Limits) (name : Frame → A) (Order : Received → List A → Type 0) (IsPlaced : Received → Type 0) (size : Received → ℕ) (May : List Frame → Frame → Type 0) : Type 0 where
+  pub order_nil : (b : Received) → Order b []
+  pub goes_on : (start : List Frame) (f : Frame) (later : List A) → Order (received start) (name f ∷ later) → R.over start ≡ false
+  pub largest : (start : List Frame) → (R.gate start).largest ≡ size (received start)
+  pub placed : (start : List Frame) (f : Frame) → IsPlaced (received start) → IsTrue (lets_in (R.gate start) f.kind) → IsPlaced (received (start ++ f ∷ []))
+  pub in_order : (start : List Frame) (f : Frame) (later : List A) → R.over start ≡ false → IsPlaced (received start) → May start f
+      → InOrder (R.gate start) f.kind (Order (after (received start) (content f)) later) (Order (received start) (name f ∷ later))
+  pub good : (start : List Frame) (f : Frame) → refusal R start f ≡ None → IsGoodFrame (May start f) limits (received start) (content f)
+  pub accepted : (start : List Frame) (f : Frame) → IsGoodFrame (May start f) limits (received start) (content f) → refusal R start f ≡ None
+
+module _ {E X A : Type 0} (R : Rules E X) (limits : Limits) (name : Frame → A) (Order : Received → List A → Type 0) (IsPlaced : Received → Type 0) (size : Received → ℕ) (May : List Frame → Frame → Type 0)
+    (w : Converses R limits name Order IsPlaced size May) where
+  -- frames that are taken behind others are the rest of a conversation
+  pub converse : (start fs : List Frame) → IsPlaced (received start) → AllFrom (Fits R) start fs → From limits name Order size May start fs
+  unfolding numbers messages
+  converse start [] placed fits = record { order = w.order_nil (received start); framed = tt; fits = tt; carries = tt; ordered = tt; messages_fit = tt }
+  converse start (f ∷ fs) placed fits =
+      let one = fits.0 in
+      let g = w.good start f one.accepted in
+      let rest = converse (start ++ f ∷ []) fs (w.placed start f placed one.let_in.kind) fits.1 in
+      let now = received-push start f in
+      record {
+        order = (w.in_order start f (map name fs) one.goes_on placed g.carries).comes one.let_in.kind (subst (λ (b : Received). Order b (map name fs)) now rest.order);
+        framed = (record { sized = one.sized; flag = one.let_in.flag; least = one.let_in.least }, rest.framed);
+        fits = (omega (arith, one.let_in.largest, w.largest start), rest.fits);
+        carries = (g.carries, rest.carries);
+        ordered = (ordered_apart (received start) (content f) (numbers fs)).1 (g.ordered, subst (λ (b : Received). AreOrdered b.last (numbers fs)) now rest.ordered);
+        messages_fit =
+            (messages_apart limits (received start) (content f) (messages fs)).1
+            (g.message, subst (λ (b : Received). TakesMessages limits.max_message_size limits.max_chunk_count b.messages (messages fs)) now rest.messages_fit);
+      }
+
+  -- and the other way round
+  pub taken : (start fs : List Frame) → IsPlaced (received start) → From limits name Order size May start fs → AllFrom (Fits R) start fs
+  unfolding numbers messages
+  taken start [] placed c = tt
+  taken start (f ∷ fs) placed c =
+      let on = w.goes_on start f (map name fs) c.order in
+      let next = (w.in_order start f (map name fs) on placed c.carries.0).lets c.order in
+      let number = (ordered_apart (received start) (content f) (numbers fs)).0 c.ordered in
+      let message = (messages_apart limits (received start) (content f) (messages fs)).0 c.messages_fit in
+      let now = received-push start f in (
+        record {
+          goes_on = on;
+          sized = c.framed.0.sized;
+          let_in = record { kind = next.0; flag = c.framed.0.flag; largest = omega (arith, c.fits.0, w.largest start); least = c.framed.0.least };
+          accepted = w.accepted start f (record { carries = c.carries.0; ordered = number.0; message = message.0 });
+        },
+        taken (start ++ f ∷ []) fs (w.placed start f placed next.0) (record {
+          order = subst (λ (b : Received). Order b (map name fs)) (sym now) next.1;
+          framed = c.framed.1;
+          fits = c.fits.1;
+          carries = c.carries.1;
+          ordered = subst (λ (b : Received). AreOrdered b.last (numbers fs)) (sym now) number.1;
+          messages_fit = subst (λ (b : Received). TakesMessages limits.max_message_size limits.max_chunk_count b.messages (messages fs)) (sym now) message.1;
+        }),
+      )
+
+-- from the first frame on
+pub ordered_first : (ns : List ℕ) → AreOrdered (received []).last ns ↔ AreOrdered None ns
+ordered_first ns = (subst (λ (b : Received). AreOrdered b.last ns) received-nil, subst (λ (b : Received). AreOrdered b.last ns) (sym received-nil))
+
+pub fit_first : (limits : Limits) (cs : List Chunk) → TakesMessages limits.max_message_size limits.max_chunk_count (received []).messages cs ↔ FitMessages limits cs
+fit_first limits cs = subst (λ (b : Received). TakesMessages limits.max_message_size limits.max_chunk_count b.messages cs ↔ FitMessages limits cs) (sym received-nil) (messages_fit limits cs)

@@ -1,11 +1,13 @@
 -- The tokens that are held: from the last place of the last one used.
 use Rattle.std.proofs.Common.{◌≡◌, inl, inr, ℕ, ◌<◌, List, [], ◌∷◌, ◌++◌, Bool, true, false, ◌&&◌, ◌||◌, not, Option, Some, None, length, drop, refl, sym, ◌∙◌, ap, arith, eqb}
 use Rattle.std.specs.Prelude.{if◌then◌else◌}
-use Rattle.std.proofs.lemmas.Bool.{cases_Bool, eqb-true}
+use Rattle.std.proofs.lemmas.Bool.{and_parts, both_ways, cases_Bool, eqb-true}
 use Rattle.ua_channel.specs.Asks.{is_in}
 use Rattle.ua_channel.specs.ClientTokens.{from_last, held_by}
 use Rattle.ua_channel.specs.inside.ClientParts.{drops_first}
 use Rattle.ua_channel.specs.Received.{latest_behind, latest}
+use Rattle.ua_channel.proofs.Askings.{or_false}
+use Rattle.ua_channel.proofs.OneFrameMore.{behind_push}
 
 -- ---- dropping the first
 
@@ -63,10 +65,6 @@ held_by-used (Some n) k ms e = sym (from_last-again k n ms e)
 
 -- ---- one token more
 
-or_false : (b : Bool) → (b || false) ≡ b
-or_false true = refl
-or_false false = refl
-
 or_assoc : (a b c : Bool) → (a || (b || c)) ≡ ((a || b) || c)
 or_assoc true b c = refl
 or_assoc false b c = refl
@@ -93,23 +91,15 @@ from_last-push : (n m : ℕ) (ms : List ℕ) → eqb m n ≡ false → (from_las
 from_last-push n m [] other some = absurd (some refl)
 from_last-push n m (k ∷ ms) other some = push_by (eqb k n && not (is_in n ms)) n m k ms other refl (from_last-push n m ms other) some
 
-and_first : (a b : Bool) → (a && b) ≡ true → a ≡ true
-and_first true b e = refl
-and_first false b e = e
-
 -- what is held of n begins with n
 begins_by : (stays : Bool) (n k : ℕ) (ms : List ℕ) → (eqb k n && not (is_in n ms)) ≡ stays → ((from_last n ms ≡ [] → ⊥) → is_in n (from_last n ms) ≡ true)
     → ((if stays then k ∷ ms else from_last n ms) ≡ [] → ⊥) → is_in n (if stays then k ∷ ms else from_last n ms) ≡ true
-begins_by true n k ms is more some = ap (λ (b : Bool). b || is_in n ms) (and_first (eqb k n) (not (is_in n ms)) is)
+begins_by true n k ms is more some = ap (λ (b : Bool). b || is_in n ms) (and_parts (eqb k n) (not (is_in n ms)) is).0
 begins_by false n k ms is more some = more some
 
 begins_with : (n : ℕ) (ms : List ℕ) → (from_last n ms ≡ [] → ⊥) → is_in n (from_last n ms) ≡ true
 begins_with n [] some = absurd (some refl)
 begins_with n (k ∷ ms) some = begins_by (eqb k n && not (is_in n ms)) n k ms refl (begins_with n ms) some
-
-both_ways : (b : Bool) → b ≡ true → b ≡ false → ⊥
-both_ways true e f = absurd cc
-both_ways false e f = absurd cc
 
 is_none_latest : {n : ℕ} {ms : List ℕ} → ms ≡ [] → latest ms ≡ Some n → ⊥
 is_none_latest {n = n} none some =
@@ -117,7 +107,7 @@ is_none_latest {n = n} none some =
     cc
 
 other_than : (n m : ℕ) (ms : List ℕ) → is_in n ms ≡ true → is_in m ms ≡ false → eqb m n ≡ false
-other_than n m ms has lacks = elim (cases_Bool (eqb m n)) [ inl same ↦ absurd (both_ways (is_in m ms) (ap (λ (k : ℕ). is_in k ms) (eqb-true m n same) ∙ has) lacks) | inr other ↦ other ]
+other_than n m ms has lacks = elim (cases_Bool (eqb m n)) [ inl same ↦ absurd (both_ways (is_in m ms) lacks (ap (λ (k : ℕ). is_in k ms) (eqb-true m n same) ∙ has)) | inr other ↦ other ]
 
 -- a further token is held behind the others, where it is none of them and there are some
 pub held_by-push : (used : Option ℕ) (m newest : ℕ) (ms : List ℕ) → latest (held_by used ms) ≡ Some newest → is_in m (held_by used ms) ≡ false → held_by used (ms ++ m ∷ []) ≡ held_by used ms ++ m ∷ []
@@ -126,12 +116,8 @@ held_by-push (Some n) m newest ms some fresh =
     let filled : from_last n ms ≡ [] → ⊥ = λ (none : from_last n ms ≡ []). is_none_latest none some in
     from_last-push n m ms (other_than n m (from_last n ms) (begins_with n ms filled) fresh) filled
 
-behind : {A : Type 0} (a : Option A) (xs : List A) (x : A) → latest_behind a (xs ++ x ∷ []) ≡ Some x
-behind a [] x = refl
-behind a (y ∷ xs) x = behind (Some y) xs x
-
 pub latest-push : {A : Type 0} (xs : List A) (x : A) → latest (xs ++ x ∷ []) ≡ Some x
-latest-push xs x = behind None xs x
+latest-push xs x = behind_push None xs x
 
 -- ---- the newest one stays
 

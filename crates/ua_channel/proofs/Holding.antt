@@ -18,7 +18,7 @@ largest_by : (b : Bool) (size : ℕ) → (if b then opening_gate size else runni
 largest_by true size = refl
 largest_by false size = refl
 
-largest_behind : (limits : Limits) (hello : Option Hello) (count : ℕ) → (server_gate_behind limits hello count).largest ≡ receive_size limits hello
+pub largest_behind : (limits : Limits) (hello : Option Hello) (count : ℕ) → (server_gate_behind limits hello count).largest ≡ receive_size limits hello
 largest_behind limits None count = refl
 largest_behind limits (Some h) count = largest_by (count == 0) (receive_size limits (Some h))
 

@@ -1,10 +1,7 @@
 -- What a channel was told of octets that end in merged messages.
-use Rattle.std.proofs.Common.{◌≡◌, ℕ, List, [], ◌++◌, sym, ◌∙◌, ap, subst}
-use Rattle.ua_frame.specs.declared.frame.Frame.{Frame}
+use Rattle.std.proofs.Common.{◌≡◌, ℕ, List, [], ◌++◌, sym, ◌∙◌, subst}
 use Rattle.ua_frame.specs.declared.limits.Limits.{Limits}
-use Rattle.ua_frame.specs.Run.{End, Going, Over, Rules, Run, events}
-use Rattle.ua_frame.proofs.Ends.{ends_stay}
-use Rattle.ua_frame.proofs.Unique.{unique}
+use Rattle.ua_frame.specs.Run.{Going, Run, events}
 use Rattle.ua_channel.specs.Asks.{Placed}
 use Rattle.ua_channel.specs.Client.{client_limits, client_rules_of, ClientEnded, ClientGoes}
 use Rattle.ua_channel.specs.ClientTable.{client_rules}
@@ -16,24 +13,8 @@ use Rattle.ua_channel.specs.ServerTold.{Told}
 use Rattle.ua_channel.specs.declared.client.channel.ClientChannel.{ClientChannel}
 use Rattle.ua_channel.specs.declared.server.ServerChannel.{ServerChannel}
 use Rattle.ua_channel.proofs.ClientMerges as back
-use Rattle.ua_channel.proofs.ReadOn.{begins_told, never_refused, same_told}
+use Rattle.ua_channel.proofs.ReadOn.{begins, never_refused, not_over, same_told}
 use Rattle.ua_channel.proofs.ServerMerges.{takes_merged, tells_merged}
-
--- ---- by any rules
-
--- what a beginning told is a beginning of what all tells
-begins : {E X : Type 0} (R : Rules E X) (octets more : List ℕ) (fs gs : List Frame) (rest : List ℕ) (told all : List E) → Run R octets fs rest Going → events R fs ≡ told
-    → Run R (octets ++ more) gs [] Going → events R gs ≡ all
-    → (later : List E) × (all ≡ told ++ later)
-begins {E = E} R octets more fs gs rest told all r is s are =
-    let b = begins_told R octets more fs gs rest Going r s in
-    (b.0, sym are ∙ (b.1 ∙ ap (λ (t : List E). t ++ b.0) is))
-
--- octets that go on have no beginning that is over
-not_over : {E X : Type 0} (R : Rules E X) (octets more : List ℕ) (fs gs : List Frame) (rest : List ℕ) → Run R octets fs rest Over → Run R (octets ++ more) gs [] Going → ⊥
-not_over {X = X} R octets more fs gs rest r s =
-    let ends : ◌≡◌ {A = End X} Over Going = (unique R (octets ++ more) fs gs (rest ++ more) [] Over Going (ends_stay R octets more fs rest Over (λ e. cc) r) s).ends in
-    cc
 
 -- ---- a server
 
@@ -47,7 +28,7 @@ server_events limits channel octets told r = tells_merged limits channel r.befor
 pub server_begins : (x : ServerChannel) (octets more : List ℕ) (told all : List Told) → Goes x octets told → ServerReadsMerged (limits_of x) (channel_of x) (octets ++ more) all
     → (later : List Told) × (all ≡ told ++ later)
 server_begins x octets more told all g r =
-    begins (rules_of x) octets more g.frames (r.before ++ r.more) g.rest told all g.stands.run g.told_is (server_run (limits_of x) (channel_of x) (octets ++ more) all r) (server_events (limits_of x) (channel_of x) (octets ++ more) all r)
+    begins (rules_of x) octets more g.frames (r.before ++ r.more) g.rest told all Going g.stands.run g.told_is (server_run (limits_of x) (channel_of x) (octets ++ more) all r) (server_events (limits_of x) (channel_of x) (octets ++ more) all r)
 
 pub server_told : (x : ServerChannel) (octets : List ℕ) (told all : List Told) → Goes x octets told → ServerReadsMerged (limits_of x) (channel_of x) octets all → told ≡ all
 server_told x octets told all g r =
@@ -75,7 +56,7 @@ client_events limits asks octets told r = back.tells_merged limits asks r.before
 pub client_begins : (x : ClientChannel) (asks : List Placed) (octets more : List ℕ) (told all : List ClientTold) → ClientGoes x asks octets told
     → ClientReadsMerged (client_limits x) asks (octets ++ more) all → (later : List ClientTold) × (all ≡ told ++ later)
 client_begins x asks octets more told all g r =
-    begins (client_rules_of x asks) octets more g.frames (r.before ++ r.more) g.rest told all g.stands.run g.told_is (client_run (client_limits x) asks (octets ++ more) all r) (client_events (client_limits x) asks (octets ++ more) all r)
+    begins (client_rules_of x asks) octets more g.frames (r.before ++ r.more) g.rest told all Going g.stands.run g.told_is (client_run (client_limits x) asks (octets ++ more) all r) (client_events (client_limits x) asks (octets ++ more) all r)
 
 pub client_told : (x : ClientChannel) (asks : List Placed) (octets : List ℕ) (told all : List ClientTold) → ClientGoes x asks octets told → ClientReadsMerged (client_limits x) asks octets all
     → told ≡ all

@@ -1,6 +1,6 @@
 -- What frames that carry chunks and openings bring behind other frames.
-use Rattle.std.proofs.Common.{◌≡◌, ℕ, false, List, [], ◌∷◌, ◌++◌, Option, Some, None, refl, sym, ◌∙◌, ap, subst, append-nil, append_assoc}
-use Rattle.std.specs.List.{AllByRecursion, flat_map}
+use Rattle.std.proofs.Common.{◌≡◌, ℕ, Bool, true, false, cond, List, [], ◌∷◌, ◌++◌, Option, Some, None, map, refl, sym, ◌∙◌, ap, subst, append-nil, append_assoc}
+use Rattle.std.specs.List.{AllByRecursion, filter, flat_map}
 use Rattle.std.proofs.lemmas.List.Concat.{flat_map-append}
 use Rattle.ua_frame.specs.declared.frame.Frame.{Frame}
 use Rattle.ua_frame.specs.declared.limits.Limits.{Limits}
@@ -8,7 +8,7 @@ use Rattle.ua_chunk.specs.declared.chunk.Chunk.{Chunk}
 use Rattle.ua_chunk.specs.Merge.{Sent}
 use Rattle.ua_chunk.specs.Open.{open_ids}
 use Rattle.ua_chunk.specs.Refusal.{TakesMessages, message_refusal}
-use Rattle.ua_channel.specs.Content.{Content, content}
+use Rattle.ua_channel.specs.Content.{Content, Opening, content}
 use Rattle.ua_channel.specs.Content.Content.{Greets, Acks, Fails, Opens, Sends, Closes, Nothing}
 use Rattle.ua_channel.specs.Conversation.{AreOrdered, FitMessages}
 use Rattle.ua_channel.specs.Merges.{AreMerged, IsChunkOrOpening}
@@ -39,16 +39,22 @@ messages_are frames = refl
 pub messages_behind : (before more : List Frame) → (received (before ++ more)).messages ≡ (received before).messages ++ messages more
 messages_behind before more = messages_are (before ++ more) ∙ (messages-append before more ∙ ap (λ (cs : List Chunk). cs ++ messages more) (sym (messages_are before)))
 
+-- ---- by what a frame carries
+
+-- what holds of openings and of chunks
+pub of_either : (P : Content → Type 0) → ((o : Opening) → P (Opens o)) → ((c : Chunk) → P (Sends c)) → (k : Content) → IsChunkOrOpening k → P k
+of_either P opens sends (Greets hello) is = absurd is
+of_either P opens sends (Acks ack) is = absurd is
+of_either P opens sends (Fails error) is = absurd is
+of_either P opens sends (Opens o) is = opens o
+of_either P opens sends (Sends c) is = sends c
+of_either P opens sends (Closes c) is = absurd is
+of_either P opens sends Nothing is = absurd is
+
 -- ---- no close
 
 no_closing : (k : Content) → IsChunkOrOpening k → closings_in k ≡ []
-no_closing (Greets hello) is = absurd is
-no_closing (Acks ack) is = absurd is
-no_closing (Fails error) is = absurd is
-no_closing (Opens o) is = refl
-no_closing (Sends c) is = refl
-no_closing (Closes c) is = absurd is
-no_closing Nothing is = absurd is
+no_closing k is = of_either (λ (d : Content). closings_in d ≡ []) (λ o. refl) (λ c. refl) k is
 
 no_closings : (frames : List Frame) → AllByRecursion (λ (f : Frame). IsChunkOrOpening (content f)) frames → closings frames ≡ []
 unfolding closings
@@ -97,32 +103,28 @@ pub closed_behind : (limits : Limits) (before more : List Frame) (ms : List Sent
 closed_behind limits before more ms none merged =
     ap open_ids (messages_behind before more) ∙ closed_fresh (received before).messages (messages more) none (comes limits ms (messages more) merged).none_open
 
+-- ---- names
+
+kept_or_not : {A B : Type 0} (name : A → B) (b : Bool) (x : A) (xs : List A) → cond b (name x ∷ map name xs) (map name xs) ≡ map name (cond b (x ∷ xs) xs)
+kept_or_not name true x xs = refl
+kept_or_not name false x xs = refl
+
+-- the names of the same are kept
+pub names_kept : {A B : Type 0} (name : A → B) (p : B → Bool) (q : A → Bool) → ((x : A) → p (name x) ≡ q x) → (xs : List A) → filter p (map name xs) ≡ map name (filter q xs)
+names_kept name p q same [] = refl
+names_kept name p q same (x ∷ xs) = rw (same x, names_kept name p q same xs) (kept_or_not name (q x) x (filter q xs))
+
 -- ---- one frame more
 
 pub openings_then : (b : Received) (k : Content) → IsChunkOrOpening k → (after b k).openings ≡ b.openings ++ openings_in k
-openings_then b (Greets hello) is = absurd is
-openings_then b (Acks ack) is = absurd is
-openings_then b (Fails error) is = absurd is
-openings_then b (Opens o) is = refl
-openings_then b (Sends c) is = sym (append-nil b.openings)
-openings_then b (Closes c) is = absurd is
-openings_then b Nothing is = absurd is
+openings_then b k is = of_either (λ (d : Content). (after b d).openings ≡ b.openings ++ openings_in d) (λ o. refl) (λ c. sym (append-nil b.openings)) k is
 
 -- where base stood before merged messages, and these of their chunks came
 pub messages_then : (base us : List Chunk) (b : Received) (k : Content) → IsChunkOrOpening k → b.messages ≡ base ++ us → (after b k).messages ≡ base ++ (us ++ chunks_in k)
-messages_then base us b (Greets hello) is now = absurd is
-messages_then base us b (Acks ack) is now = absurd is
-messages_then base us b (Fails error) is now = absurd is
-messages_then base us b (Opens o) is now = now ∙ ap (λ (cs : List Chunk). base ++ cs) (sym (append-nil us))
-messages_then base us b (Sends c) is now = ap (λ (cs : List Chunk). cs ++ c ∷ []) now ∙ append_assoc base us (c ∷ [])
-messages_then base us b (Closes c) is now = absurd is
-messages_then base us b Nothing is now = absurd is
+messages_then base us b k is now =
+    of_either (λ (d : Content). (after b d).messages ≡ base ++ (us ++ chunks_in d)) (λ o. now ∙ ap (λ (cs : List Chunk). base ++ cs) (sym (append-nil us)))
+    (λ c. ap (λ (cs : List Chunk). cs ++ c ∷ []) now ∙ append_assoc base us (c ∷ [])) k is
 
 pub ends_then : (ms : List Sent) (us rest : List Chunk) (k : Content) → IsChunkOrOpening k → EachEnds ms us (chunks_in k ++ rest) → EachEnds ms (us ++ chunks_in k) rest
-ends_then ms us rest (Greets hello) is all = absurd is
-ends_then ms us rest (Acks ack) is all = absurd is
-ends_then ms us rest (Fails error) is all = absurd is
-ends_then ms us rest (Opens o) is all = subst (λ (cs : List Chunk). EachEnds ms cs rest) (sym (append-nil us)) all
-ends_then ms us rest (Sends c) is all = all.1
-ends_then ms us rest (Closes c) is all = absurd is
-ends_then ms us rest Nothing is all = absurd is
+ends_then ms us rest k is =
+    of_either (λ (d : Content). EachEnds ms us (chunks_in d ++ rest) → EachEnds ms (us ++ chunks_in d) rest) (λ o all. subst (λ (cs : List Chunk). EachEnds ms cs rest) (sym (append-nil us)) all) (λ c all. all.1) k is

@@ -1,17 +1,20 @@
 -- What was received, with one frame more.
 use Rattle.std.proofs.Common.{◌≡◌, ℕ, List, [], ◌∷◌, ◌++◌, true, Option, Some, None, refl, sym, ap, append-nil}
+use Rattle.std.specs.List.{flat_map}
 use Rattle.std.proofs.lemmas.List.{flat_map_more}
 use Rattle.ua_frame.specs.declared.ack.Ack.{Ack}
 use Rattle.ua_frame.specs.declared.frame.Frame.{Frame}
+use Rattle.ua_frame.specs.After.{each_after}
 use Rattle.ua_frame.specs.declared.hello.Hello.{Hello}
 use Rattle.ua_chunk.specs.declared.chunk.Chunk.{Chunk}
+use Rattle.ua_chunk.specs.Delivered.{delivered}
 use Rattle.ua_channel.specs.Content.{Opening, Content, content}
 use Rattle.ua_channel.specs.Content.Content.{Greets, Acks, Fails, Opens, Sends, Closes, Nothing}
-use Rattle.ua_channel.specs.Received.{latest_behind, latest, has_some, listed, number_listed, hellos_in, acks_in, openings_in, chunks_in, closings_in, numbers_in, tokens_in, hellos, acks, openings, messages, closings, numbers, used_tokens, received_of, received, nothing_received, or_before, number_or, after}
+use Rattle.ua_channel.specs.Received.{Received, latest_behind, latest, has_some, listed, number_listed, hellos_in, acks_in, openings_in, chunks_in, closings_in, numbers_in, tokens_in, hellos, acks, openings, messages, closings, numbers, used_tokens, received_of, received, nothing_received, or_before, number_or, after}
 
 -- ---- the last of a list with one element more
 
-behind_push : {A : Type 0} (a : Option A) (xs : List A) (y : A) → latest_behind a (xs ++ y ∷ []) ≡ Some y
+pub behind_push : {A : Type 0} (a : Option A) (xs : List A) (y : A) → latest_behind a (xs ++ y ∷ []) ≡ Some y
 behind_push a [] y = refl
 behind_push a (x ∷ xs) y = behind_push (Some x) xs y
 
@@ -27,35 +30,9 @@ some_push : {A : Type 0} (xs : List A) (y : A) → has_some (xs ++ y ∷ []) ≡
 some_push [] y = refl
 some_push (x ∷ xs) y = refl
 
--- ---- each list with one frame more
-
-hellos-push : (fs : List Frame) (f : Frame) → hellos (fs ++ f ∷ []) ≡ hellos fs ++ hellos_in (content f)
-unfolding hellos
-hellos-push fs f = sym (flat_map_more (λ (g : Frame). hellos_in (content g)) [] fs f)
-
-acks-push : (fs : List Frame) (f : Frame) → acks (fs ++ f ∷ []) ≡ acks fs ++ acks_in (content f)
-unfolding acks
-acks-push fs f = sym (flat_map_more (λ (g : Frame). acks_in (content g)) [] fs f)
-
-openings-push : (fs : List Frame) (f : Frame) → openings (fs ++ f ∷ []) ≡ openings fs ++ openings_in (content f)
-unfolding openings
-openings-push fs f = sym (flat_map_more (λ (g : Frame). openings_in (content g)) [] fs f)
-
-messages-push : (fs : List Frame) (f : Frame) → messages (fs ++ f ∷ []) ≡ messages fs ++ chunks_in (content f)
-unfolding messages
-messages-push fs f = sym (flat_map_more (λ (g : Frame). chunks_in (content g)) [] fs f)
-
-closings-push : (fs : List Frame) (f : Frame) → closings (fs ++ f ∷ []) ≡ closings fs ++ closings_in (content f)
-unfolding closings
-closings-push fs f = sym (flat_map_more (λ (g : Frame). closings_in (content g)) [] fs f)
-
-numbers-push : (fs : List Frame) (f : Frame) → numbers (fs ++ f ∷ []) ≡ numbers fs ++ numbers_in (content f)
-unfolding numbers
-numbers-push fs f = sym (flat_map_more (λ (g : Frame). numbers_in (content g)) [] fs f)
-
-tokens-push : (fs : List Frame) (f : Frame) → used_tokens (fs ++ f ∷ []) ≡ used_tokens fs ++ tokens_in (content f)
-unfolding used_tokens
-tokens-push fs f = sym (flat_map_more (λ (g : Frame). tokens_in (content g)) [] fs f)
+-- what each frame has of something, with one frame more
+more : {A : Type 0} (of : Content → List A) (fs : List Frame) (f : Frame) → flat_map (λ (g : Frame). of (content g)) (fs ++ f ∷ []) ≡ flat_map (λ (g : Frame). of (content g)) fs ++ of (content f)
+more of fs f = sym (flat_map_more (λ (g : Frame). of (content g)) [] fs f)
 
 -- ---- what they come to
 
@@ -71,11 +48,16 @@ module _ (hs : List Hello) (ks : List Ack) (os : List Opening) (ts ns : List ℕ
 
 -- what was received with one frame more is what that frame makes of what was received before
 pub received-push : (fs : List Frame) (f : Frame) → received (fs ++ f ∷ []) ≡ after (received fs) (content f)
-unfolding received
+unfolding received hellos acks openings used_tokens numbers messages closings
 received-push fs f =
-    rw (hellos-push fs f, acks-push fs f, openings-push fs f, tokens-push fs f, numbers-push fs f, messages-push fs f, closings-push fs f)
+    rw (more hellos_in fs f, more acks_in fs f, more openings_in fs f, more tokens_in fs f, more numbers_in fs f, more chunks_in fs f, more closings_in fs f)
     (by_content (hellos fs) (acks fs) (openings fs) (used_tokens fs) (numbers fs) (messages fs) (closings fs) (content f))
 
 pub received-nil : received [] ≡ nothing_received
 unfolding received hellos acks openings used_tokens numbers messages closings
 received-nil = refl
+
+-- nothing is delivered before any frame
+pub none_delivered : delivered (received []).messages ≡ []
+unfolding each_after
+none_delivered = ap (λ (b : Received). delivered b.messages) received-nil

@@ -1,13 +1,13 @@
 -- The octets of an OPN frame that are written one behind the other.
-use Rattle.std.proofs.Common.{◌≡◌, ℕ, ◌+◌, List, ◌∷◌, ◌++◌, sym, ◌∙◌, ap, arith, length, length-append, append_assoc}
+use Rattle.std.proofs.Common.{◌≡◌, ℕ, ◌+◌, List, ◌∷◌, ◌++◌, sym, ◌∙◌, ap, arith, length, append_assoc}
 use Rattle.ua_octets.specs.Counted.{counted, null_count}
 use Rattle.ua_octets.specs.Number.{number_octets}
-use Rattle.ua_octets.proofs.NumbersRead.{length-number_octets}
 use Rattle.ua_frame.specs.Frames.{frame_octets}
 use Rattle.ua_frame.specs.Kinds.{kind_octets}
 use Rattle.ua_frame.specs.declared.kind.Kind.TheVariants.{Opn}
 use Rattle.ua_chunk.specs.Opening.{none_policy}
 use Rattle.ua_channel.specs.ServerSends.{opening_frame}
+use Rattle.ua_channel.proofs.Written.{opening_size}
 
 regrouped : (a b c d e f g body : List ℕ) → (a ++ ((b ++ c) ++ (d ++ e))) ++ ((f ++ g) ++ body) ≡ a ++ (b ++ (c ++ (d ++ (e ++ (f ++ (g ++ body))))))
 regrouped a b c d e f g body =
@@ -31,23 +31,7 @@ opening_octets channel sequence request len size body len_is size_is =
     let f = number_octets 4 sequence in
     let g = number_octets 4 request in
     let parts = regrouped a b none_policy d d f g body in
-    let count : size ≡ 8 + length ((a ++ ((b ++ none_policy) ++ (d ++ d))) ++ ((f ++ g) ++ body)) = omega (
-      arith,
-      size_is,
-      len_is,
-      length-append (a ++ ((b ++ none_policy) ++ (d ++ d))) ((f ++ g) ++ body),
-      length-append a ((b ++ none_policy) ++ (d ++ d)),
-      length-append (b ++ none_policy) (d ++ d),
-      length-append b none_policy,
-      length-append d d,
-      length-append (f ++ g) body,
-      length-append f g,
-      length-number_octets 4 channel,
-      length-number_octets 4 47,
-      length-number_octets 4 null_count,
-      length-number_octets 4 sequence,
-      length-number_octets 4 request,
-    ) in
+    let count : size ≡ 8 + length ((a ++ ((b ++ none_policy) ++ (d ++ d))) ++ ((f ++ g) ++ body)) = omega (arith, size_is, len_is, opening_size channel sequence request body) in
     behind_size size _ _ _ count (sym parts)
 
 eight : (old h a b c d e f g body : List ℕ) → ((((((((old ++ h) ++ a) ++ b) ++ c) ++ d) ++ e) ++ f) ++ g) ++ body ≡ old ++ (h ++ (a ++ (b ++ (c ++ (d ++ (e ++ (f ++ (g ++ body))))))))

@@ -28,44 +28,56 @@ use Rattle.ua_channel.specs.ServerTold.{Told as told, request_of, issued, server
 -- ---- headers that are refused
 
 -- the code of a fault of the headers
-pub open_code : OpenFault → ℕ
+unfoldable pub open_code : OpenFault → ℕ
 open_code Unreadable = 0x8007_0000
 open_code Policy = 0x8055_0000
 open_code OutOfMemory = 0
 
-module _ (limits : Limits) (channel : ℕ) (before : Received) where
-  why : Opening → Option ℕ
-  why o = first_reason (server_reasons limits channel before (Opens o))
-
-  refused_policy : (header : SecurityHeader) (octets : List ℕ) (found : Option ((ℕ × ℕ) × List ℕ)) → is_none_policy (policy_of header) ≡ false → why (opening_numbered header octets found) ≡ Some 0x8055_0000
-  unfolding why
-  refused_policy header octets None other = rw other refl
-  refused_policy header octets (Some found) other = rw other refl
-
-  refused_numbers : (header : SecurityHeader) (octets : List ℕ) → is_none_policy (policy_of header) ≡ true → why (opening_numbered header octets None) ≡ Some 0x8007_0000
-  unfolding why request_of
-  refused_numbers header octets none = rw none refl
-
-  refused_header : (header : SecurityHeader) (octets : List ℕ) (found : Option ((ℕ × ℕ) × List ℕ)) (b : Bool) (fault : OpenFault) → is_none_policy (policy_of header) ≡ b → sequence_fault b found ≡ Some fault → why (opening_numbered header octets found) ≡ Some (open_code fault)
+-- by any reasons that begin so
+module _ {X : Type 0} (name : ℕ → X) (why : Opening → Option X) (unread : (body : List ℕ) → why (opening_secured body None) ≡ Some (name 0x8007_0000))
+    (other : (header : SecurityHeader) (octets : List ℕ) (found : Option ((ℕ × ℕ) × List ℕ)) → is_none_policy (policy_of header) ≡ false → why (opening_numbered header octets found) ≡ Some (name 0x8055_0000))
+    (unnumbered : (header : SecurityHeader) (octets : List ℕ) → is_none_policy (policy_of header) ≡ true → why (opening_numbered header octets None) ≡ Some (name 0x8007_0000)) where
+  refused_header : (header : SecurityHeader) (octets : List ℕ) (found : Option ((ℕ × ℕ) × List ℕ)) (b : Bool) (fault : OpenFault) → is_none_policy (policy_of header) ≡ b → sequence_fault b found ≡ Some fault → why (opening_numbered header octets found) ≡ Some (name (open_code fault))
   unfolding open_code
-  refused_header header octets found false fault e h = refused_policy header octets found e ∙ ap (λ (x : OpenFault). Some (open_code x)) (some_is Policy fault h)
-  refused_header header octets None true fault e h = refused_numbers header octets e ∙ ap (λ (x : OpenFault). Some (open_code x)) (some_is Unreadable fault h)
+  refused_header header octets found false fault e h = other header octets found e ∙ ap (λ (x : OpenFault). Some (name (open_code x))) (some_is Policy fault h)
+  refused_header header octets None true fault e h = unnumbered header octets e ∙ ap (λ (x : OpenFault). Some (name (open_code x))) (some_is Unreadable fault h)
   refused_header header octets (Some found) true fault e h = absurd cc
 
-  refused_found : (body : List ℕ) (found : Option (SecurityHeader × List ℕ)) (fault : OpenFault) → headers_fault found ≡ Some fault → why (opening_secured body found) ≡ Some (open_code fault)
-  unfolding open_code why
-  refused_found body None fault h = ap (λ (x : OpenFault). Some (open_code x)) (some_is Unreadable fault h)
+  refused_found : (body : List ℕ) (found : Option (SecurityHeader × List ℕ)) (fault : OpenFault) → headers_fault found ≡ Some fault → why (opening_secured body found) ≡ Some (name (open_code fault))
+  unfolding open_code
+  refused_found body None fault h = unread body ∙ ap (λ (x : OpenFault). Some (name (open_code x))) (some_is Unreadable fault h)
   refused_found body (Some found) fault h = refused_header found.0 found.1 (sequence_header.decode found.1) (is_none_policy (policy_of found.0)) fault refl h
 
   -- headers that are refused
-  pub refuses_headers : (body : List ℕ) (fault : OpenFault) → open_refusal body ≡ Some fault → first_reason (server_reasons limits channel before (Opens (opening_of body))) ≡ Some (open_code fault)
-  unfolding opening_of why
+  pub refuses_headers : (body : List ℕ) (fault : OpenFault) → open_refusal body ≡ Some fault → why (opening_of body) ≡ Some (name (open_code fault))
+  unfolding opening_of
   refuses_headers body fault h = refused_found body (policy_header.decode body) fault h
+
+module _ (limits : Limits) (channel : ℕ) (before : Received) where
+  why_not : Opening → Option ℕ
+  why_not o = first_reason (server_reasons limits channel before (Opens o))
+
+  unread_here : (body : List ℕ) → why_not (opening_secured body None) ≡ Some 0x8007_0000
+  unfolding why_not
+  unread_here body = refl
+
+  refused_policy : (header : SecurityHeader) (octets : List ℕ) (found : Option ((ℕ × ℕ) × List ℕ)) → is_none_policy (policy_of header) ≡ false → why_not (opening_numbered header octets found) ≡ Some 0x8055_0000
+  unfolding why_not
+  refused_policy header octets None other = rw other refl
+  refused_policy header octets (Some found) other = rw other refl
+
+  refused_numbers : (header : SecurityHeader) (octets : List ℕ) → is_none_policy (policy_of header) ≡ true → why_not (opening_numbered header octets None) ≡ Some 0x8007_0000
+  unfolding why_not request_of
+  refused_numbers header octets none = rw none refl
+
+  headers_refused : (body : List ℕ) (fault : OpenFault) → open_refusal body ≡ Some fault → first_reason (server_reasons limits channel before (Opens (opening_of body))) ≡ Some (open_code fault)
+  unfolding why_not
+  headers_refused body fault h = refuses_headers (λ (n : ℕ). n) why_not unread_here refused_policy refused_numbers body fault h
 
 judges_fault : (channel count : ℕ) (body : List ℕ) (fault : OpenFault) → open_refusal body ≡ Some fault → JudgesOpening channel count body (Err (of_open_fault fault))
 unfolding open_code
-judges_fault channel count body Unreadable h = λ limits before same. refuses_headers limits channel before body Unreadable h
-judges_fault channel count body Policy h = λ limits before same. refuses_headers limits channel before body Policy h
+judges_fault channel count body Unreadable h = λ limits before same. headers_refused limits channel before body Unreadable h
+judges_fault channel count body Policy h = λ limits before same. headers_refused limits channel before body Policy h
 judges_fault channel count body OutOfMemory h = tt
 
 -- what a fault of the headers comes to

@@ -1,7 +1,7 @@
 -- That each call of a client is answered once.
 use Rattle.std.proofs.Common.{◌≡◌, ℕ, List, [], ◌∷◌, ◌++◌, Bool, true, false, cond, not, ◌&&◌, ◌||◌, eqb, ltb, map, Option, Some, None, refl, sym, ◌∙◌, ap, subst, append-nil, append_assoc}
 use Rattle.std.specs.List.{AllByRecursion, filter}
-use Rattle.std.proofs.lemmas.Bool.{or_parts, eqb-true}
+use Rattle.std.proofs.lemmas.Bool.{or_parts, eqb-true, not-false, not-true, or_right}
 use Rattle.std.proofs.lemmas.List.{map-append}
 use Rattle.ua_builtin.specs.Reasons.{first_reason}
 use Rattle.ua_builtin.specs.declared.status_code.StatusCode.{StatusCode}
@@ -34,7 +34,7 @@ use Rattle.ua_channel.specs.Content.Content.{Greets, Acks, Fails, Opens, Sends, 
 use Rattle.ua_channel.specs.Paired.{as_list, delivered_under, first, paired, told_of_calls, with_all, with_first}
 use Rattle.ua_channel.specs.Received.{Received, after, listed, received}
 use Rattle.ua_channel.proofs.Askings.{within_filter}
-use Rattle.ua_channel.proofs.OneFrameMore.{received-push, received-nil}
+use Rattle.ua_channel.proofs.OneFrameMore.{received-push, none_delivered}
 
 -- ---- what is told
 
@@ -84,11 +84,6 @@ told_from start (f ∷ fs) =
     ∙ (sym (append_assoc held (told_of_calls told) (told_of_calls more))
     ∙ (ap (λ (ts : List ClientTold). ts ++ told_of_calls more) (frame_told (received start) (content f) ∙ ap (λ (b : Received). map told_item (delivered b.messages)) (sym (received-push start f)))
     ∙ (told_from (start ++ f ∷ []) fs ∙ ap (λ (xs : List Frame). map told_item (delivered (received xs).messages)) (append_assoc start (f ∷ []) fs))))
-
--- nothing is delivered before any frame
-none_delivered : delivered (received []).messages ≡ []
-unfolding each_after
-none_delivered = ap (λ (b : Received). delivered b.messages) received-nil
 
 pub tells_delivered : (limits : Limits) (asks : List Placed) (frames : List Frame) → told_of_calls (events (client_rules limits asks) frames) ≡ map told_item (delivered (received frames).messages)
 unfolding each_after
@@ -156,21 +151,13 @@ passes_filter : (test : ℕ → Bool) (id : ℕ) (ids : List ℕ) → is_in id (
 passes_filter test id [] e = absurd cc
 passes_filter test id (j ∷ ids) e = by_filter (test j) (eqb j id) test id j (filter test ids) refl refl (passes_filter test id ids) e
 
-not_true : (b : Bool) → not b ≡ true → b ≡ false
-not_true true e = absurd cc
-not_true false e = refl
-
 still_pending : (cs : List Chunk) (asked : List Asking) (id : ℕ) → is_in id (pending_calls cs asked) ≡ true → is_finished cs id ≡ false
 unfolding pending_calls
-still_pending cs asked id e = not_true (is_finished cs id) (passes_filter (λ (j : ℕ). not (is_finished cs j)) id (calls asked) e)
+still_pending cs asked id e = not-true (is_finished cs id) (passes_filter (λ (j : ℕ). not (is_finished cs j)) id (calls asked) e)
 
 or_more : (a b c : Bool) → (b ≡ true → c ≡ true) → (a || b) ≡ true → (a || c) ≡ true
 or_more true b c h e = refl
 or_more false b c h e = h e
-
-or_right : (a b : Bool) → b ≡ true → (a || b) ≡ true
-or_right true b e = refl
-or_right false b e = e
 
 asked_step : (kept : Bool) (a : Asking) (id : ℕ) (some all : List Asking) → (is_in id (calls some) ≡ true → is_in id (calls all) ≡ true) → is_in id (calls (cond kept (a ∷ some) some)) ≡ true → is_in id (calls (a ∷ all)) ≡ true
 unfolding calls
@@ -242,14 +229,10 @@ none_holds [] e = tt
 none_holds ((a, true) ∷ rs) e = absurd cc
 none_holds ((a, false) ∷ rs) e = (refl, none_holds rs e)
 
-pub was_pending : (b : Bool) → not b ≡ false → b ≡ true
-was_pending true e = refl
-was_pending false e = absurd cc
-
 asked_for : (limits : Limits) (before : Received) (asked : List Asking) (c : Chunk) → first_reason (client_reasons limits before asked (Sends c)) ≡ None → is_in c.request (pending_calls before.messages asked) ≡ true
 asked_for limits before asked c e =
     let all = none_holds (client_reasons limits before asked (Sends c)) e in
-    was_pending (is_in c.request (pending_calls before.messages asked)) all.1.1.1.1.1.1.1.1.1.1.1.1.0
+    not-false (is_in c.request (pending_calls before.messages asked)) all.1.1.1.1.1.1.1.1.1.1.1.1.0
 
 frame_answers : (limits : Limits) (asks : List Placed) (place : ℕ) (before : Received) (c : Content) → first_reason (client_reasons limits before (asked_before place asks) c) ≡ None → Answers asks before.messages → Answers asks (after before c).messages
 frame_answers limits asks place before (Greets hello) e h = h

@@ -30,7 +30,7 @@ pub one_octets : (f : Frame) → frames_octets (f ∷ []) ≡ frame_octets f
 unfolding frames_octets
 one_octets f = append-nil (frame_octets f)
 
-more_octets : {E X : Type 0} (R : Rules E X) (octets : List ℕ) (fs gs : List Frame) → Run R octets fs [] Going → octets ++ frames_octets gs ≡ frames_octets (fs ++ gs) ++ []
+pub more_octets : {E X : Type 0} (R : Rules E X) (octets : List ℕ) (fs gs : List Frame) → Run R octets fs [] Going → octets ++ frames_octets gs ≡ frames_octets (fs ++ gs) ++ []
 more_octets R octets fs gs run =
     ap (λ (t : List ℕ). t ++ frames_octets gs) (run.whole ∙ append-nil (frames_octets fs)) ∙ (sym (frames_octets-append fs gs) ∙ sym (append-nil (frames_octets (fs ++ gs))))
 
@@ -93,6 +93,18 @@ pub begins_told : {E X : Type 0} (R : Rules E X) (octets more : List ℕ) (fs gs
 begins_told R octets more fs gs rest end r s =
     let b = begins_run R octets more fs gs rest end r s in
     (each_from R.tells fs b.0, ap (events R) b.1 ∙ events_on R fs b.0)
+
+pub begins : {E X : Type 0} (R : Rules E X) (octets more : List ℕ) (fs gs : List Frame) (rest : List ℕ) (told all : List E) (end : End X) → Run R octets fs rest Going → events R fs ≡ told → Run R (octets ++ more) gs [] end → events R gs ≡ all
+    → (later : List E) × (all ≡ told ++ later)
+begins {E = E} R octets more fs gs rest told all end r is s are =
+    let b = begins_told R octets more fs gs rest end r s in
+    (b.0, sym are ∙ (b.1 ∙ ap (λ (t : List E). t ++ b.0) is))
+
+-- no beginning of octets that go on is over
+pub not_over : {E X : Type 0} (R : Rules E X) (octets more : List ℕ) (fs gs : List Frame) (rest : List ℕ) → Run R octets fs rest Over → Run R (octets ++ more) gs [] Going → ⊥
+not_over {X = X} R octets more fs gs rest r s =
+    let ends : ◌≡◌ {A = End X} Over Going = (unique R (octets ++ more) fs gs (rest ++ more) [] Over Going (ends_stay R octets more fs rest Over (λ e. cc) r) s).ends in
+    cc
 
 -- no beginning is refused of octets that go on, or that end otherwise
 pub never_refused : {E X : Type 0} (R : Rules E X) (octets more : List ℕ) (fs gs : List Frame) (rest : List ℕ) (why : X) (end : End X) → (end ≡ Stopped why → ⊥) → Run R octets fs rest (Stopped why) → Run R (octets ++ more) gs [] end → ⊥

@@ -74,7 +74,7 @@ module _ (limits : Limits) (channel : ℕ) where
 
 -- ---- the token
 
-told_is : (s t : Told) (ss : List Told) → s ∷ ss ≡ t ∷ [] → s ≡ t
+pub told_is : (s t : Told) (ss : List Told) → s ∷ ss ≡ t ∷ [] → s ≡ t
 told_is s t ss e = cc
 
 token_of : Told → ℕ

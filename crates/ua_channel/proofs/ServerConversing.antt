@@ -1,7 +1,7 @@
 -- That the frames which a server takes are those of a conversation.
-use Rattle.std.proofs.Common.{◌≡◌, ◌⊎◌, inl, inr, ℕ, zero, suc, pos, int_eq, ◌≤◌, Bool, true, false, IsTrue, not, ◌&&◌, ◌||◌, eqb, ltb, List, [], ◌∷◌, ◌++◌, Option, Some, None, option_map, map, refl, sym, ◌∙◌, ap, subst, arith, length-append}
-use Rattle.std.specs.List.{AllByRecursion}
-use Rattle.std.specs.Prelude.{◌↔◌, if◌then◌else◌}
+use Rattle.std.proofs.Common.{◌≡◌, ◌⊎◌, inl, inr, ℕ, zero, suc, pos, int_eq, Bool, true, false, IsTrue, not, ◌&&◌, ◌||◌, eqb, ltb, List, [], ◌∷◌, ◌++◌, Option, Some, None, option_map, map, refl, sym, ◌∙◌, ap, subst, arith, length-append}
+use Rattle.std.proofs.lemmas.Bool.{not-false, not_from_true}
+use Rattle.std.specs.Prelude.{◌↔◌}
 use Rattle.ua_builtin.specs.Reasons.{first_reason, renamed_reason}
 use Rattle.ua_builtin.proofs.FirstReasons.{first_behind, first_reason-map}
 use Rattle.ua_frame.specs.declared.frame.Frame.{Frame}
@@ -11,9 +11,9 @@ use Rattle.ua_frame.specs.declared.kind.Kind.{Kind}
 use Rattle.ua_frame.specs.declared.kind.Kind.TheVariants.{Hel, Msg, Opn, Clo}
 use Rattle.ua_frame.specs.declared.kind.Kind.TheVariants as kind
 use Rattle.ua_frame.specs.declared.limits.Limits.{Limits}
-use Rattle.ua_frame.specs.After.{AllAfter, AllFrom}
+use Rattle.ua_frame.specs.After.{AllAfter}
 use Rattle.ua_frame.specs.Agreement.{is_buffer_small, is_url_long}
-use Rattle.ua_frame.specs.Frames.{Frames, frame_size}
+use Rattle.ua_frame.specs.Frames.{Frames}
 use Rattle.ua_frame.specs.Hello.{hello_in}
 use Rattle.ua_frame.specs.Kinds.{lets_in}
 use Rattle.ua_frame.specs.FirstWrong.{FirstWrong}
@@ -25,23 +25,23 @@ use Rattle.ua_frame.proofs.Unique.{unique}
 use Rattle.ua_chunk.specs.declared.chunk.Chunk.{Chunk}
 use Rattle.ua_chunk.specs.Layout.{chunk_in}
 use Rattle.ua_chunk.specs.Opening.{SecurityHeader, channel_of, is_none_policy, policy_of}
-use Rattle.ua_chunk.specs.Refusal.{TakesMessages, message_refusal, reasons, refusal}
+use Rattle.ua_chunk.specs.Refusal.{message_refusal, reasons, refusal}
 use Rattle.ua_chunk.specs.Sequence.{may_follow}
 use Rattle.ua_chunk.proofs.Numbers.{apart}
 use Rattle.ua_channel.specs.Content.{Content, Opening, content, content_by, closes, opening_of, sends}
 use Rattle.ua_channel.specs.Content.Content.{Greets, Acks, Fails, Opens, Sends, Closes, Nothing}
-use Rattle.ua_channel.specs.Conversation.{AreOrdered, Continues, HasEnded, IsConversation, IsFramed, IsGoodChunk, IsGoodRequest, IsOrderGreeted, IsOrderOpen, IsServerOrder, MayCarry, ServerConversation}
-use Rattle.ua_channel.specs.Received.{Received, after, messages, number_listed, numbers, numbers_in, or_before, received}
+use Rattle.ua_channel.specs.Conversation.{AreOrdered, Continues, HasEnded, IsConversation, IsGoodChunk, IsGoodRequest, IsOrderGreeted, IsOrderOpen, IsServerOrder, MayCarry, ServerConversation}
+use Rattle.ua_channel.specs.Received.{Received, after, messages, number_listed, numbers, or_before, received}
 use Rattle.ua_channel.specs.inside.ServerParts.{ids_reasons}
 use Rattle.ua_channel.specs.ServerRefusals.{is_taken, last_used, of_header, of_request, server_reasons, type_wanted}
-use Rattle.ua_channel.specs.ServerRules.{server_gate_behind, opening_gate, receive_size, running_gate, server_gate, server_rules}
+use Rattle.ua_channel.specs.ServerRules.{server_gate_behind, receive_size, running_gate, server_gate, server_rules}
 use Rattle.ua_channel.specs.ServerTold.{issued, request_of}
-use Rattle.ua_channel.proofs.Conversing.{MessageFits, follow_numbers, messages_fit, messages_join, messages_split, no_more, none_first, none_named, none_then, numbers_follow, ordered_join, ordered_split, some_there}
-use Rattle.ua_channel.proofs.Frames.{hel_only, opn_only}
+use Rattle.ua_channel.proofs.Conversing.{Converses, InOrder, IsGoodFrame, MessageFits, content_kind, converse, fit_first, follow_numbers, in_order, none_first, none_named, none_then, numbers_follow, ordered_first, out_of_order, some_there, taken}
 use Rattle.ua_channel.proofs.OneFrameMore.{received-nil, received-push}
 use Rattle.ua_channel.proofs.Phases.{greeted_by}
-use Rattle.ua_channel.proofs.PairedCalls.{none_holds, was_pending}
+use Rattle.ua_channel.proofs.PairedCalls.{none_holds}
 use Rattle.ua_channel.proofs.Runs.{refused_code, judged_closes, judged_sends}
+use Rattle.ua_channel.proofs.Holding.{largest_behind}
 
 -- ---- a HEL
 
@@ -74,11 +74,11 @@ module _ (limits : Limits) (channel : ℕ) (b : Received) where
       record {
         header = header.0;
         security_is = header.1;
-        policy = was_pending (is_none_policy (policy_of header.0)) (ap (of_header (λ h. not (is_none_policy (policy_of h)))) (sym header.1) ∙ all.1.1.1.0);
+        policy = not-false (is_none_policy (policy_of header.0)) (ap (of_header (λ h. not (is_none_policy (policy_of h)))) (sym header.1) ∙ all.1.1.1.0);
         request = request.0;
         request_is = request.1;
-        type_is = was_pending (int_eq request.0.request_type (pos (type_wanted (issued b)))) (ap (of_request (λ r. not (int_eq r.request_type (pos (type_wanted (issued b)))))) (sym request.1) ∙ all.1.1.1.1.1.0);
-        mode_is = was_pending (int_eq request.0.security_mode (pos 1)) (ap (of_request (λ r. not (int_eq r.security_mode (pos 1)))) (sym request.1) ∙ all.1.1.1.1.1.1.0);
+        type_is = not-false (int_eq request.0.request_type (pos (type_wanted (issued b)))) (ap (of_request (λ r. not (int_eq r.request_type (pos (type_wanted (issued b)))))) (sym request.1) ∙ all.1.1.1.1.1.0);
+        mode_is = not-false (int_eq request.0.security_mode (pos 1)) (ap (of_request (λ r. not (int_eq r.security_mode (pos 1)))) (sym request.1) ∙ all.1.1.1.1.1.1.0);
         on =
             on_channel (eqb (issued b) 0) (eqb (channel_of header.0) channel)
             (ap (λ (t : Bool). t && not (eqb (channel_of header.0) channel)) (sym (some_issued (issued b)))
@@ -104,7 +104,7 @@ module _ (limits : Limits) (channel : ℕ) (b : Received) where
   ids_good : (c : Chunk) → first_reason (ids_reasons c channel (last_used b) (issued b)) ≡ None → IsGoodChunk channel b c
   ids_good c e =
       let all = none_holds (ids_reasons c channel (last_used b) (issued b)) e in
-      record { on = was_pending (eqb c.channel channel) all.0; taken = was_pending (is_taken b c.token) all.1.0 }
+      record { on = not-false (eqb c.channel channel) all.0; taken = not-false (is_taken b c.token) all.1.0 }
 
   rows_of : Chunk → List (ℕ × Bool)
   rows_of c = map (renamed_reason refused_code) (reasons limits.max_message_size limits.max_chunk_count b.last b.messages c)
@@ -131,13 +131,7 @@ module _ (limits : Limits) (channel : ℕ) (b : Received) where
 
 -- ---- one frame
 
--- what a frame that is taken carries
-record Good (limits : Limits) (channel : ℕ) (b : Received) (c : Content) : Type 0 where
-  carries : MayCarry channel b c
-  ordered : AreOrdered b.last (numbers_in c)
-  message : MessageFits limits b c
-
-good : (limits : Limits) (channel : ℕ) (b : Received) (c : Content) → first_reason (server_reasons limits channel b c) ≡ None → Good limits channel b c
+good : (limits : Limits) (channel : ℕ) (b : Received) (c : Content) → first_reason (server_reasons limits channel b c) ≡ None → IsGoodFrame (MayCarry channel b c) limits b c
 unfolding MessageFits
 good limits channel b (Greets None) e = absurd cc
 good limits channel b (Greets (Some h)) e =
@@ -154,12 +148,12 @@ good limits channel b (Closes c) e =
     let last = (0x8088_0000, not (may_follow b.last c.sequence)) ∷ [] in
     record {
       carries = ids_good limits channel b c (none_first (ids_reasons c channel (last_used b) (issued b)) last rows);
-      ordered = (was_pending (may_follow b.last c.sequence) (none_holds last (none_then (ids_reasons c channel (last_used b) (issued b)) last rows)).0, tt);
+      ordered = (not-false (may_follow b.last c.sequence) (none_holds last (none_then (ids_reasons c channel (last_used b) (issued b)) last rows)).0, tt);
       message = tt;
     }
 good limits channel b Nothing e = record { carries = tt; ordered = tt; message = tt }
 
-accepted : (limits : Limits) (channel : ℕ) (b : Received) (c : Content) → Good limits channel b c → first_reason (server_reasons limits channel b c) ≡ None
+accepted : (limits : Limits) (channel : ℕ) (b : Received) (c : Content) → IsGoodFrame (MayCarry channel b c) limits b c → first_reason (server_reasons limits channel b c) ≡ None
 unfolding MessageFits
 accepted limits channel b (Greets hello) g = rw (g.carries.reads, g.carries.url, g.carries.sizes) refl
 accepted limits channel b (Acks ack) g = refl
@@ -169,7 +163,7 @@ accepted limits channel b (Sends c) g = message_taken limits channel b c g.carri
 accepted limits channel b (Closes c) g =
     judged_closes limits channel b c
     ∙ (first_behind (ids_reasons c channel (last_used b) (issued b)) ((0x8088_0000, not (may_follow b.last c.sequence)) ∷ []) (ids_taken limits channel b c g.carries)
-    ∙ ap (λ (t : Bool). first_reason ((0x8088_0000, t) ∷ [])) (no_more (may_follow b.last c.sequence) g.ordered.0))
+    ∙ ap (λ (t : Bool). first_reason ((0x8088_0000, t) ∷ [])) (not_from_true (may_follow b.last c.sequence) g.ordered.0))
 accepted limits channel b Nothing g = refl
 
 -- ---- the order
@@ -189,39 +183,17 @@ Order b cs = order_by b.closed b.hello (issued b) cs
 IsPlaced : Received → Type 0
 IsPlaced b = b.hello ≡ None → issued b ≡ 0
 
-chunk_kinds : (size : ℕ) (k : Kind) → IsTrue (lets_in (running_gate size) k) → (k ≡ Opn) ⊎ ((k ≡ Msg) ⊎ (k ≡ Clo))
-chunk_kinds size Hel h = absurd cc
-chunk_kinds size kind.Ack h = absurd cc
-chunk_kinds size kind.Err h = absurd cc
-chunk_kinds size Msg h = inr (inl refl)
-chunk_kinds size Opn h = inl refl
-chunk_kinds size Clo h = inr (inr refl)
+no_chunk : (found : Option Chunk) (cs : List Content) → (IsServerOrder (sends found ∷ cs) → ⊥) × (IsOrderGreeted (sends found ∷ cs) → ⊥)
+no_chunk None cs = (λ h. h, λ h. h)
+no_chunk (Some c) cs = (λ h. h, λ h. h)
 
-first_chunk : (found : Option Chunk) (cs : List Content) → IsServerOrder (sends found ∷ cs) → ⊥
-first_chunk None cs h = h
-first_chunk (Some c) cs h = h
+no_close : (found : Option Chunk) (cs : List Content) → (IsServerOrder (closes found ∷ cs) → ⊥) × (IsOrderGreeted (closes found ∷ cs) → ⊥)
+no_close None cs = (λ h. h, λ h. h)
+no_close (Some c) cs = (λ h. h, λ h. h)
 
-first_close : (found : Option Chunk) (cs : List Content) → IsServerOrder (closes found ∷ cs) → ⊥
-first_close None cs h = h
-first_close (Some c) cs h = h
-
-second_chunk : (found : Option Chunk) (cs : List Content) → IsOrderGreeted (sends found ∷ cs) → ⊥
-second_chunk None cs h = h
-second_chunk (Some c) cs h = h
-
-second_close : (found : Option Chunk) (cs : List Content) → IsOrderGreeted (closes found ∷ cs) → ⊥
-second_close None cs h = h
-second_close (Some c) cs h = h
-
-to_order : (b : Received) (cs : List Content) (closed : Bool) (o : Option Hello) (n : ℕ) → b.closed ≡ closed → b.hello ≡ o → issued b ≡ n → Order b cs → order_by closed o n cs
+order_is : (b : Received) (cs : List Content) (closed : Bool) (o : Option Hello) (n : ℕ) → b.closed ≡ closed → b.hello ≡ o → issued b ≡ n → Order b cs ↔ order_by closed o n cs
 unfolding Order
-to_order b cs closed o n p q r h =
-    subst (λ (t : Bool). order_by t o n cs) p (subst (λ (t : Option Hello). order_by b.closed t n cs) q (subst (λ (t : ℕ). order_by b.closed b.hello t cs) r h))
-
-from_order : (b : Received) (cs : List Content) (closed : Bool) (o : Option Hello) (n : ℕ) → b.closed ≡ closed → b.hello ≡ o → issued b ≡ n → order_by closed o n cs → Order b cs
-unfolding Order
-from_order b cs closed o n p q r h =
-    subst (λ (t : ℕ). order_by b.closed b.hello t cs) (sym r) (subst (λ (t : Option Hello). order_by b.closed t n cs) (sym q) (subst (λ (t : Bool). order_by t o n cs) (sym p) h))
+order_is b cs closed o n p q r = subst (λ (t : Bool). Order b cs ↔ order_by t o n cs) p (subst (λ (t : Option Hello). Order b cs ↔ order_by b.closed t n cs) q (subst (λ (t : ℕ). Order b cs ↔ order_by b.closed b.hello t cs) r (λ h. h, λ h. h)))
 
 nil_by : (closed : Bool) (o : Option Hello) (n : ℕ) → order_by closed o n []
 unfolding order_by
@@ -250,136 +222,44 @@ said_then : (b : Received) (hello : Option Hello) (said : Hello) → hello ≡ S
 said_then b hello said e = ap (or_before b.hello) e
 
 module _ (limits : Limits) (channel : ℕ) (b : Received) (f : Frame) (cs : List Content) (goes_on : b.closed ≡ false) where
-  msg_next : (h : Hello) (n : ℕ) (found : Option Chunk) → b.hello ≡ Some h → issued b ≡ suc n → Order (after b (sends found)) cs → order_by false (Some h) (suc n) (sends found ∷ cs)
+  msg_order : (h : Hello) (n : ℕ) (found : Option Chunk) → b.hello ≡ Some h → issued b ≡ suc n → Order (after b (sends found)) cs ↔ order_by false (Some h) (suc n) (sends found ∷ cs)
   unfolding order_by
-  msg_next h n None q r next = to_order b cs false (Some h) (suc n) goes_on q r next
-  msg_next h n (Some c) q r next = to_order (after b (Sends c)) cs false (Some h) (suc n) goes_on q r next
+  msg_order h n None q r = order_is b cs false (Some h) (suc n) goes_on q r
+  msg_order h n (Some c) q r = order_is (after b (Sends c)) cs false (Some h) (suc n) goes_on q r
 
-  clo_next : (h : Hello) (n : ℕ) (found : Option Chunk) → b.hello ≡ Some h → issued b ≡ suc n → Order (after b (closes found)) cs → order_by false (Some h) (suc n) (closes found ∷ cs)
+  clo_order : (h : Hello) (n : ℕ) (found : Option Chunk) → b.hello ≡ Some h → issued b ≡ suc n → Order (after b (closes found)) cs ↔ order_by false (Some h) (suc n) (closes found ∷ cs)
   unfolding order_by
-  clo_next h n None q r next = to_order b cs false (Some h) (suc n) goes_on q r next
-  clo_next h n (Some c) q r next = to_order (after b (Closes c)) cs true (Some h) (suc n) refl q r next
+  clo_order h n None q r = order_is b cs false (Some h) (suc n) goes_on q r
+  clo_order h n (Some c) q r = order_is (after b (Closes c)) cs true (Some h) (suc n) refl q r
 
-  open_next : (h : Hello) (n : ℕ) (k : Kind) → b.hello ≡ Some h → issued b ≡ suc n → (k ≡ Opn) ⊎ ((k ≡ Msg) ⊎ (k ≡ Clo)) → Order (after b (content_by k f)) cs → order_by false (Some h) (suc n) (content_by k f ∷ cs)
+  open_order : (h : Hello) (n : ℕ) (k : Kind) → b.hello ≡ Some h → issued b ≡ suc n → InOrder (running_gate (receive_size limits (Some h))) k (Order (after b (content_by k f)) cs) (order_by false (Some h) (suc n) (content_by k f ∷ cs))
   unfolding order_by
-  open_next h n Hel q r (inl e) next = absurd cc
-  open_next h n Hel q r (inr (inl e)) next = absurd cc
-  open_next h n Hel q r (inr (inr e)) next = absurd cc
-  open_next h n kind.Ack q r (inl e) next = absurd cc
-  open_next h n kind.Ack q r (inr (inl e)) next = absurd cc
-  open_next h n kind.Ack q r (inr (inr e)) next = absurd cc
-  open_next h n kind.Err q r (inl e) next = absurd cc
-  open_next h n kind.Err q r (inr (inl e)) next = absurd cc
-  open_next h n kind.Err q r (inr (inr e)) next = absurd cc
-  open_next h n Msg q r e next = msg_next h n (chunk_in f) q r next
-  open_next h n Opn q r e next = to_order (after b (Opens (opening_of f.body))) cs false (Some h) (suc (suc n)) goes_on q (one_issued b (opening_of f.body) (suc n) r) next
-  open_next h n Clo q r e next = clo_next h n (chunk_in f) q r next
+  open_order h n Hel q r = out_of_order (λ e. cc) (λ e. e)
+  open_order h n kind.Ack q r = out_of_order (λ e. cc) (λ e. e)
+  open_order h n kind.Err q r = out_of_order (λ e. cc) (λ e. e)
+  open_order h n Msg q r = in_order refl (msg_order h n (chunk_in f) q r)
+  open_order h n Opn q r = in_order refl (order_is (after b (Opens (opening_of f.body))) cs false (Some h) (suc (suc n)) goes_on q (one_issued b (opening_of f.body) (suc n) r))
+  open_order h n Clo q r = in_order refl (clo_order h n (chunk_in f) q r)
 
-  greeted_next : (h : Hello) (k : Kind) → b.hello ≡ Some h → issued b ≡ 0 → k ≡ Opn → Order (after b (content_by k f)) cs → order_by false (Some h) zero (content_by k f ∷ cs)
-  unfolding order_by
-  greeted_next h Hel q r e next = absurd cc
-  greeted_next h kind.Ack q r e next = absurd cc
-  greeted_next h kind.Err q r e next = absurd cc
-  greeted_next h Msg q r e next = absurd cc
-  greeted_next h Opn q r e next = to_order (after b (Opens (opening_of f.body))) cs false (Some h) (suc zero) goes_on q (one_issued b (opening_of f.body) zero r) next
-  greeted_next h Clo q r e next = absurd cc
-
-  first_next : (n : ℕ) (k : Kind) → issued b ≡ 0 → k ≡ Hel → MayCarry channel b (content_by k f) → Order (after b (content_by k f)) cs → order_by false None n (content_by k f ∷ cs)
-  unfolding order_by
-  first_next n Hel r e may next = to_order (after b (Greets (hello_in f.body))) cs false (Some may.said) zero goes_on (said_then b (hello_in f.body) may.said may.reads) r next
-  first_next n kind.Ack r e may next = absurd cc
-  first_next n kind.Err r e may next = absurd cc
-  first_next n Msg r e may next = absurd cc
-  first_next n Opn r e may next = absurd cc
-  first_next n Clo r e may next = absurd cc
-
-  -- a frame that is let in comes in order
-  order_here : (o : Option Hello) (n : ℕ) (k : Kind) → b.hello ≡ o → issued b ≡ n → IsPlaced b → IsTrue (lets_in (server_gate_behind limits o n) k) → MayCarry channel b (content_by k f) → Order (after b (content_by k f)) cs → order_by false o n (content_by k f ∷ cs)
-  unfolding IsPlaced
-  order_here None n k q r placed kind may next = first_next n k (placed q) (hel_only k kind) may next
-  order_here (Some h) zero k q r placed kind may next = greeted_next h k q r (opn_only (receive_size limits (Some h)) k kind) next
-  order_here (Some h) (suc n) k q r placed kind may next =
-      open_next h n k q r (chunk_kinds (receive_size limits (Some h)) k (subst (λ (g : Gate). IsTrue (lets_in g k)) (greeted_by (receive_size limits (Some h)) (suc n) (omega arith)) kind)) next
-
-  -- ---- the other way round
-
-  msg_open : (h : Hello) (n : ℕ) (found : Option Chunk) → b.hello ≡ Some h → issued b ≡ suc n → IsOrderOpen (sends found ∷ cs) → Order (after b (sends found)) cs
-  unfolding order_by
-  msg_open h n None q r order = from_order b cs false (Some h) (suc n) goes_on q r order
-  msg_open h n (Some c) q r order = from_order (after b (Sends c)) cs false (Some h) (suc n) goes_on q r order
-
-  clo_open : (h : Hello) (n : ℕ) (found : Option Chunk) → b.hello ≡ Some h → issued b ≡ suc n → IsOrderOpen (closes found ∷ cs) → Order (after b (closes found)) cs
-  unfolding order_by
-  clo_open h n None q r order = from_order b cs false (Some h) (suc n) goes_on q r order
-  clo_open h n (Some c) q r order = from_order (after b (Closes c)) cs true (Some h) (suc n) refl q r order
-
-  order_then : (o : Option Hello) (n : ℕ) (k : Kind) → b.hello ≡ o → issued b ≡ n → IsPlaced b → MayCarry channel b (content_by k f) → order_by false o n (content_by k f ∷ cs) → Order (after b (content_by k f)) cs
+  -- a frame comes in order exactly where it is let in
+  order_here : (o : Option Hello) (n : ℕ) (k : Kind) → b.hello ≡ o → issued b ≡ n → IsPlaced b → MayCarry channel b (content_by k f) → InOrder (server_gate_behind limits o n) k (Order (after b (content_by k f)) cs) (order_by false o n (content_by k f ∷ cs))
   unfolding order_by IsPlaced
-  order_then None n Hel q r placed may order = from_order (after b (Greets (hello_in f.body))) cs false (Some may.said) zero goes_on (said_then b (hello_in f.body) may.said may.reads) (placed q) order
-  order_then None n kind.Ack q r placed may order = absurd order
-  order_then None n kind.Err q r placed may order = absurd order
-  order_then None n Msg q r placed may order = absurd (first_chunk (chunk_in f) cs order)
-  order_then None n Opn q r placed may order = absurd order
-  order_then None n Clo q r placed may order = absurd (first_close (chunk_in f) cs order)
-  order_then (Some h) zero Hel q r placed may order = absurd order
-  order_then (Some h) zero kind.Ack q r placed may order = absurd order
-  order_then (Some h) zero kind.Err q r placed may order = absurd order
-  order_then (Some h) zero Msg q r placed may order = absurd (second_chunk (chunk_in f) cs order)
-  order_then (Some h) zero Opn q r placed may order = from_order (after b (Opens (opening_of f.body))) cs false (Some h) (suc zero) goes_on q (one_issued b (opening_of f.body) zero r) order
-  order_then (Some h) zero Clo q r placed may order = absurd (second_close (chunk_in f) cs order)
-  order_then (Some h) (suc n) Hel q r placed may order = absurd order
-  order_then (Some h) (suc n) kind.Ack q r placed may order = absurd order
-  order_then (Some h) (suc n) kind.Err q r placed may order = absurd order
-  order_then (Some h) (suc n) Msg q r placed may order = msg_open h n (chunk_in f) q r order
-  order_then (Some h) (suc n) Opn q r placed may order = from_order (after b (Opens (opening_of f.body))) cs false (Some h) (suc (suc n)) goes_on q (one_issued b (opening_of f.body) (suc n) r) order
-  order_then (Some h) (suc n) Clo q r placed may order = clo_open h n (chunk_in f) q r order
-
-  let_open : (h : Hello) (n : ℕ) (k : Kind) → IsTrue (lets_in (running_gate (receive_size limits (Some h))) k) → IsTrue (lets_in (server_gate_behind limits (Some h) (suc n)) k)
-  let_open h n k kind = subst (λ (g : Gate). IsTrue (lets_in g k)) (sym (greeted_by (receive_size limits (Some h)) (suc n) (omega arith))) kind
-
-  kind_then : (o : Option Hello) (n : ℕ) (k : Kind) → order_by false o n (content_by k f ∷ cs) → IsTrue (lets_in (server_gate_behind limits o n) k)
-  unfolding order_by
-  kind_then None n Hel order = refl
-  kind_then None n kind.Ack order = absurd order
-  kind_then None n kind.Err order = absurd order
-  kind_then None n Msg order = absurd (first_chunk (chunk_in f) cs order)
-  kind_then None n Opn order = absurd order
-  kind_then None n Clo order = absurd (first_close (chunk_in f) cs order)
-  kind_then (Some h) zero Hel order = absurd order
-  kind_then (Some h) zero kind.Ack order = absurd order
-  kind_then (Some h) zero kind.Err order = absurd order
-  kind_then (Some h) zero Msg order = absurd (second_chunk (chunk_in f) cs order)
-  kind_then (Some h) zero Opn order = refl
-  kind_then (Some h) zero Clo order = absurd (second_close (chunk_in f) cs order)
-  kind_then (Some h) (suc n) Hel order = absurd order
-  kind_then (Some h) (suc n) kind.Ack order = absurd order
-  kind_then (Some h) (suc n) kind.Err order = absurd order
-  kind_then (Some h) (suc n) Msg order = let_open h n Msg refl
-  kind_then (Some h) (suc n) Opn order = let_open h n Opn refl
-  kind_then (Some h) (suc n) Clo order = let_open h n Clo refl
+  order_here None n Hel q r placed may = in_order refl (order_is (after b (Greets (hello_in f.body))) cs false (Some may.said) zero goes_on (said_then b (hello_in f.body) may.said may.reads) (placed q))
+  order_here None n kind.Ack q r placed may = out_of_order (λ e. cc) (λ e. e)
+  order_here None n kind.Err q r placed may = out_of_order (λ e. cc) (λ e. e)
+  order_here None n Msg q r placed may = out_of_order (λ e. cc) (no_chunk (chunk_in f) cs).0
+  order_here None n Opn q r placed may = out_of_order (λ e. cc) (λ e. e)
+  order_here None n Clo q r placed may = out_of_order (λ e. cc) (no_close (chunk_in f) cs).0
+  order_here (Some h) zero Hel q r placed may = out_of_order (λ e. cc) (λ e. e)
+  order_here (Some h) zero kind.Ack q r placed may = out_of_order (λ e. cc) (λ e. e)
+  order_here (Some h) zero kind.Err q r placed may = out_of_order (λ e. cc) (λ e. e)
+  order_here (Some h) zero Msg q r placed may = out_of_order (λ e. cc) (no_chunk (chunk_in f) cs).1
+  order_here (Some h) zero Opn q r placed may = in_order refl (order_is (after b (Opens (opening_of f.body))) cs false (Some h) (suc zero) goes_on q (one_issued b (opening_of f.body) zero r))
+  order_here (Some h) zero Clo q r placed may = out_of_order (λ e. cc) (no_close (chunk_in f) cs).1
+  order_here (Some h) (suc n) k q r placed may =
+      subst (λ (g : Gate). InOrder g k (Order (after b (content_by k f)) cs) (order_by false (Some h) (suc n) (content_by k f ∷ cs))) (sym (greeted_by (receive_size limits (Some h)) (suc n) (omega arith))) (open_order h n k q r)
 
 -- ---- from some frames on
-
--- the rest of a conversation behind some frames
-record From (limits : Limits) (channel : ℕ) (start fs : List Frame) : Type 0 where
-  order : Order (received start) (map content fs)
-  framed : AllByRecursion IsFramed fs
-  fits : AllFrom (λ before f. frame_size f ≤ receive_size limits (received before).hello) start fs
-  carries : AllFrom (λ before f. MayCarry channel (received before) (content f)) start fs
-  ordered : AreOrdered (received start).last (numbers fs)
-  messages_fit : TakesMessages limits.max_message_size limits.max_chunk_count (received start).messages (messages fs)
-
-gate_largest : (limits : Limits) (o : Option Hello) (n : ℕ) → (server_gate_behind limits o n).largest ≡ receive_size limits o
-gate_largest limits None n = refl
-gate_largest limits (Some h) n = greeted_largest (receive_size limits (Some h)) (eqb n 0)
-  where
-    greeted_largest : (size : ℕ) (first : Bool) → (if first then opening_gate size else running_gate size).largest ≡ size
-    greeted_largest size true = refl
-    greeted_largest size false = refl
-
-content_kind : (f : Frame) → content f ≡ content_by f.kind f
-unfolding content
-content_kind f = refl
 
 -- where OPNs come behind a Hello, they do so with a frame more
 hello_stays : (o : Option Hello) (hello : Option Hello) → or_before o hello ≡ None → o ≡ None
@@ -409,93 +289,41 @@ module _ (limits : Limits) (channel : ℕ) where
   placed_next start f placed kind =
       subst IsPlaced (sym (received-push start f ∙ ap (after (received start)) (content_kind f))) (placed_more limits (received start) f f.kind (received start).hello refl placed kind)
 
-  order_frame : (b : Received) (f : Frame) (cs : List Content) → b.closed ≡ false → IsPlaced b → IsTrue (lets_in (server_gate limits b) f.kind) → MayCarry channel b (content f) → Order (after b (content f)) cs → Order b (content f ∷ cs)
-  order_frame b f cs e placed kind =
-      subst (λ (c : Content). MayCarry channel b c → Order (after b c) cs → Order b (c ∷ cs)) (sym (content_kind f))
-      (λ may next. from_order b (content_by f.kind f ∷ cs) false b.hello (issued b) e refl refl (order_here limits channel b f cs e b.hello (issued b) f.kind refl refl placed kind may next))
+  order_frame : (b : Received) (f : Frame) (cs : List Content) → b.closed ≡ false → IsPlaced b → MayCarry channel b (content f) → InOrder (server_gate limits b) f.kind (Order (after b (content f)) cs) (Order b (content f ∷ cs))
+  unfolding Order
+  order_frame b f cs e placed =
+      subst (λ (c : Content). MayCarry channel b c → InOrder (server_gate limits b) f.kind (Order (after b c) cs) (Order b (c ∷ cs))) (sym (content_kind f))
+      (λ may.
+      subst (λ (t : Bool). InOrder (server_gate limits b) f.kind (Order (after b (content_by f.kind f)) cs) (order_by t b.hello (issued b) (content_by f.kind f ∷ cs))) (sym e) (order_here limits channel b f cs e b.hello (issued b) f.kind refl refl placed may))
 
-  frame_then : (b : Received) (f : Frame) (cs : List Content) → b.closed ≡ false → IsPlaced b → MayCarry channel b (content f) → Order b (content f ∷ cs) → IsTrue (lets_in (server_gate limits b) f.kind) × Order (after b (content f)) cs
-  frame_then b f cs e placed =
-      subst (λ (c : Content). MayCarry channel b c → Order b (c ∷ cs) → IsTrue (lets_in (server_gate limits b) f.kind) × Order (after b c) cs) (sym (content_kind f))
-      (λ may order.
-      let here : order_by false b.hello (issued b) (content_by f.kind f ∷ cs) = to_order b (content_by f.kind f ∷ cs) false b.hello (issued b) e refl refl order in
-      (kind_then limits channel b f cs e b.hello (issued b) f.kind here, order_then limits channel b f cs e b.hello (issued b) f.kind refl refl placed may here))
-
-  largest_is : (b : Received) → (server_gate limits b).largest ≡ receive_size limits b.hello
-  largest_is b = gate_largest limits b.hello (issued b)
-
-  -- frames that are taken behind others are the rest of a conversation
-  converse : (start fs : List Frame) → IsPlaced (received start) → AllFrom (Fits (server_rules limits channel)) start fs → From limits channel start fs
-  unfolding numbers messages
-  converse start [] placed fits = record { order = order_nil (received start); framed = tt; fits = tt; carries = tt; ordered = tt; messages_fit = tt }
-  converse start (f ∷ fs) placed fits =
-      let one = fits.0 in
-      let g = good limits channel (received start) (content f) one.accepted in
-      let rest = converse (start ++ f ∷ []) fs (placed_next start f placed one.let_in.kind) fits.1 in
-      record {
-        order = order_frame (received start) f (map content fs) one.goes_on placed one.let_in.kind g.carries (subst (λ (b : Received). Order b (map content fs)) (received-push start f) rest.order);
-        framed = (record { sized = one.sized; flag = one.let_in.flag; least = one.let_in.least }, rest.framed);
-        fits = (omega (arith, one.let_in.largest, largest_is (received start)), rest.fits);
-        carries = (g.carries, rest.carries);
-        ordered = ordered_join (received start) (content f) (numbers fs) g.ordered (subst (λ (b : Received). AreOrdered b.last (numbers fs)) (received-push start f) rest.ordered);
-        messages_fit =
-            messages_join limits (received start) (content f) (messages fs) g.message
-            (subst (λ (b : Received). TakesMessages limits.max_message_size limits.max_chunk_count b.messages (messages fs)) (received-push start f) rest.messages_fit);
-      }
-
-  -- and the other way round
-  taken : (start fs : List Frame) → IsPlaced (received start) → From limits channel start fs → AllFrom (Fits (server_rules limits channel)) start fs
-  unfolding numbers messages
-  taken start [] placed c = tt
-  taken start (f ∷ fs) placed c =
-      let goes_on = not_closed (received start) (content f) (map content fs) c.order in
-      let next = frame_then (received start) f (map content fs) goes_on placed c.carries.0 c.order in
-      let number = ordered_split (received start) (content f) (numbers fs) c.ordered in
-      let message = messages_split limits (received start) (content f) (messages fs) c.messages_fit in
-      let now = received-push start f in (
-        record {
-          goes_on = goes_on;
-          sized = c.framed.0.sized;
-          let_in = record { kind = next.0; flag = c.framed.0.flag; largest = omega (arith, c.fits.0, largest_is (received start)); least = c.framed.0.least };
-          accepted = accepted limits channel (received start) (content f) (record { carries = c.carries.0; ordered = number.0; message = message.0 });
-        },
-        taken (start ++ f ∷ []) fs (placed_next start f placed next.0) (record {
-          order = subst (λ (b : Received). Order b (map content fs)) (sym now) next.1;
-          framed = c.framed.1;
-          fits = c.fits.1;
-          carries = c.carries.1;
-          ordered = subst (λ (b : Received). AreOrdered b.last (numbers fs)) (sym now) number.1;
-          messages_fit = subst (λ (b : Received). TakesMessages limits.max_message_size limits.max_chunk_count b.messages (messages fs)) (sym now) message.1;
-        }),
-      )
+  rules_converse : Converses (server_rules limits channel) limits content Order IsPlaced (λ b. receive_size limits b.hello) (λ before f. MayCarry channel (received before) (content f))
+  rules_converse = record {
+    order_nil = order_nil;
+    goes_on = λ start f later. not_closed (received start) (content f) later;
+    largest = λ start. largest_behind limits (received start).hello (issued (received start));
+    placed = placed_next;
+    in_order = λ start f later. order_frame (received start) f later;
+    good = λ start f. good limits channel (received start) (content f);
+    accepted = λ start f. accepted limits channel (received start) (content f);
+  }
 
   nothing_placed : IsPlaced (received [])
   unfolding IsPlaced
   nothing_placed none = ap issued received-nil
+
+  nothing_order : (frames : List Frame) → Order (received []) (map content frames) ↔ order_by false None 0 (map content frames)
+  nothing_order frames = order_is (received []) (map content frames) false None 0 (ap (λ (b : Received). b.closed) received-nil) (ap (λ (b : Received). b.hello) received-nil) (ap issued received-nil)
 
   -- the frames that a server takes are those of a conversation, or the beginning of one
   pub converses : (frames : List Frame) → AllAfter (Fits (server_rules limits channel)) frames ↔ ServerConversation limits channel frames
   unfolding AllAfter order_by
   converses frames = (
     λ fits.
-        let c = converse [] frames nothing_placed fits in
-        record {
-          order = to_order (received []) (map content frames) false None 0 (ap (λ (b : Received). b.closed) received-nil) (ap (λ (b : Received). b.hello) received-nil) (ap issued received-nil) c.order;
-          framed = c.framed;
-          fits = c.fits;
-          carries = c.carries;
-          ordered = subst (λ (b : Received). AreOrdered b.last (numbers frames)) received-nil c.ordered;
-          messages_fit = (messages_fit limits (messages frames)).0 (subst (λ (b : Received). TakesMessages limits.max_message_size limits.max_chunk_count b.messages (messages frames)) received-nil c.messages_fit);
-        },
+        let c = converse (server_rules limits channel) limits content Order IsPlaced (λ b. receive_size limits b.hello) (λ before f. MayCarry channel (received before) (content f)) rules_converse [] frames nothing_placed fits in
+        record { order = (nothing_order frames).0 c.order; framed = c.framed; fits = c.fits; carries = c.carries; ordered = (ordered_first (numbers frames)).0 c.ordered; messages_fit = (fit_first limits (messages frames)).0 c.messages_fit },
     λ h.
-        taken [] frames nothing_placed (record {
-          order = from_order (received []) (map content frames) false None 0 (ap (λ (b : Received). b.closed) received-nil) (ap (λ (b : Received). b.hello) received-nil) (ap issued received-nil) h.order;
-          framed = h.framed;
-          fits = h.fits;
-          carries = h.carries;
-          ordered = subst (λ (b : Received). AreOrdered b.last (numbers frames)) (sym received-nil) h.ordered;
-          messages_fit = subst (λ (b : Received). TakesMessages limits.max_message_size limits.max_chunk_count b.messages (messages frames)) (sym received-nil) ((messages_fit limits (messages frames)).1 h.messages_fit);
-        }),
+        taken (server_rules limits channel) limits content Order IsPlaced (λ b. receive_size limits b.hello) (λ before f. MayCarry channel (received before) (content f)) rules_converse [] frames nothing_placed
+        (record { order = (nothing_order frames).1 h.order; framed = h.framed; fits = h.fits; carries = h.carries; ordered = (ordered_first (numbers frames)).1 h.ordered; messages_fit = (fit_first limits (messages frames)).1 h.messages_fit }),
   )
 
 -- ---- octets without a wrong frame

@@ -1,5 +1,5 @@
 -- That a server takes merged messages with renewals among them, and what they tell it.
-use Rattle.std.proofs.Common.{◌≡◌, inl, ℕ, zero, suc, ◌+◌, ◌<◌, ◌≤◌, Bool, true, false, cond, eqb, List, [], ◌∷◌, ◌++◌, Option, Some, None, length, map, refl, sym, ◌∙◌, ap, subst, arith, append-nil, length-append}
+use Rattle.std.proofs.Common.{◌≡◌, inl, ℕ, zero, suc, ◌+◌, ◌<◌, ◌≤◌, false, List, [], ◌∷◌, ◌++◌, Option, Some, None, length, map, refl, sym, ◌∙◌, ap, subst, arith, append-nil, length-append}
 use Rattle.std.specs.List.{AllByRecursion, filter, flat_map, range_with_len}
 use Rattle.std.proofs.lemmas.List.{append_cancel_left, map-append}
 use Rattle.std.proofs.lemmas.List.Concat.{flat_map-append}
@@ -26,13 +26,12 @@ use Rattle.ua_channel.specs.Received.{Received, chunks_in, closings, closings_in
 use Rattle.ua_channel.specs.ServerMessages.{message_in, message_of, messages_in}
 use Rattle.ua_channel.specs.ServerRules.{receive_size, server_rules}
 use Rattle.ua_channel.specs.ServerTold.{Told, issued, opened_by, request_behind, request_of, server_tells, told_under}
-use Rattle.ua_channel.proofs.AskedLater.{frames_octets-append}
 use Rattle.ua_channel.proofs.ClientReading.{all_append as every_append}
 use Rattle.ua_channel.proofs.MergedChunks.{EachEnds, comes, given_fresh}
-use Rattle.ua_channel.proofs.MergedFrames.{closed_behind, ends_then, fit_behind, goes_on, messages_behind, messages_then, openings_then, ordered_behind}
+use Rattle.ua_channel.proofs.MergedFrames.{closed_behind, ends_then, fit_behind, goes_on, messages_behind, messages_then, names_kept, of_either, openings_then, ordered_behind}
 use Rattle.ua_channel.proofs.OneFrameMore.{received-push}
-use Rattle.ua_channel.proofs.ReadOn.{all_append, events_on}
-use Rattle.ua_channel.proofs.ServerConversing.{continues}
+use Rattle.ua_channel.proofs.ReadOn.{all_append, events_on, more_octets}
+use Rattle.ua_channel.proofs.ServerConversing.{converses}
 use Rattle.ua_channel.proofs.ServerMessages.{messages_delivered}
 
 -- ---- the order
@@ -122,13 +121,9 @@ request_token channel count token o g =
 
 module _ (channel : ℕ) (ms : List Sent) where
   token_at : (b : Received) (k : Content) → IsChunkOrOpening k → MayCarry channel b k → tokens_told (told_by_merged ms (issued b) k) ≡ range_with_len (issued b + 1) (length (openings_in k))
-  token_at b (Greets hello) is may = absurd is
-  token_at b (Acks ack) is may = absurd is
-  token_at b (Fails error) is may = absurd is
-  token_at b (Opens o) is may = request_token channel (issued b) (issued b + 1) o may
-  token_at b (Sends c) is may = no_tokens c.token (ended_by ms c)
-  token_at b (Closes c) is may = absurd is
-  token_at b Nothing is may = absurd is
+  token_at b k is =
+      of_either (λ (d : Content). MayCarry channel b d → tokens_told (told_by_merged ms (issued b) d) ≡ range_with_len (issued b + 1) (length (openings_in d)))
+      (λ o may. request_token channel (issued b) (issued b + 1) o may) (λ c may. no_tokens c.token (ended_by ms c)) k is
 
 range-append : (a m n : ℕ) → range_with_len a m ++ range_with_len (a + m) n ≡ range_with_len a (m + n)
 range-append a zero n =
@@ -165,13 +160,9 @@ module _ (channel : ℕ) (ms : List Sent) where
 
 module _ (limits : Limits) (channel : ℕ) (ms : List Sent) (base : List Chunk) (none : open_ids base ≡ []) where
   tells_at : (b : Received) (us rest : List Chunk) (k : Content) → IsChunkOrOpening k → b.messages ≡ base ++ us → EachEnds ms us (chunks_in k ++ rest) → server_tells limits b k ≡ told_by_merged ms (issued b) k
-  tells_at b us rest (Greets hello) is now all = absurd is
-  tells_at b us rest (Acks ack) is now all = absurd is
-  tells_at b us rest (Fails error) is now all = absurd is
-  tells_at b us rest (Opens o) is now all = refl
-  tells_at b us rest (Sends c) is now all = ap (map (told_under c.token)) (ap (λ (cs : List Chunk). given cs c) now ∙ (given_fresh base us c none ∙ all.0))
-  tells_at b us rest (Closes c) is now all = absurd is
-  tells_at b us rest Nothing is now all = absurd is
+  tells_at b us rest k is now =
+      of_either (λ (d : Content). EachEnds ms us (chunks_in d ++ rest) → server_tells limits b d ≡ told_by_merged ms (issued b) d) (λ o all. refl)
+      (λ c all. ap (map (told_under c.token)) (ap (λ (cs : List Chunk). given cs c) now ∙ (given_fresh base us c none ∙ all.0))) k is
 
   told_from : (start : List Frame) (us : List Chunk) (fs : List Frame) → (received start).messages ≡ base ++ us → AllByRecursion (λ (f : Frame). IsChunkOrOpening (content f)) fs
       → EachEnds ms us (messages fs)
@@ -189,16 +180,9 @@ module _ (limits : Limits) (channel : ℕ) (ms : List Sent) (base : List Chunk) 
 abbrev Message : Type 0
 Message = ℕ × Option (List ℕ)
 
-under_step : (b : Bool) (d : Item) (fs : List Message) (gs : List Item) → fs ≡ map message_of gs → cond b (message_of d ∷ fs) fs ≡ map message_of (cond b (d ∷ gs) gs)
-under_step true d fs gs e = ap (λ (t : List Message). message_of d ∷ t) e
-under_step false d fs gs e = e
-
-messages_under : (id : ℕ) (items : List Item) → filter (is_message_under id) (map message_of items) ≡ map message_of (filter (is_item_of id) items)
-messages_under id [] = refl
-messages_under id (Whole i octets ∷ items) =
-    under_step (eqb i id) (Whole i octets) (filter (is_message_under id) (map message_of items)) (filter (is_item_of id) items) (messages_under id items)
-messages_under id (Aborted i code reason ∷ items) =
-    under_step (eqb i id) (Aborted i code reason) (filter (is_message_under id) (map message_of items)) (filter (is_item_of id) items) (messages_under id items)
+message_names : (id : ℕ) (d : Item) → is_message_under id (message_of d) ≡ is_item_of id d
+message_names id (Whole i octets) = refl
+message_names id (Aborted i code reason) = refl
 
 -- ---- the law
 
@@ -215,16 +199,11 @@ module _ (limits : Limits) (channel : ℕ) (before more : List Frame) (ms : List
   }
 
   pub takes_merged : (octets : List ℕ) → Run (server_rules limits channel) octets before [] Going → Run (server_rules limits channel) (octets ++ frames_octets more) (before ++ more) [] Going
-  takes_merged octets run =
-      let c = (continues limits channel octets before []).0 run in
-      (continues limits channel (octets ++ frames_octets more) (before ++ more) []).1 (record {
-        whole =
-            ap (λ (t : List ℕ). t ++ frames_octets more) (c.whole ∙ append-nil (frames_octets before))
-            ∙ (sym (frames_octets-append before more) ∙ sym (append-nil (frames_octets (before ++ more))));
-        converses = converses_on c.converses c.goes_on;
-        goes_on = goes_on before more m.order c.goes_on;
-        partial = inl (omega arith);
-      })
+  takes_merged octets run = record {
+    whole = more_octets (server_rules limits channel) octets before more run;
+    good = (converses limits channel (before ++ more)).1 (converses_on ((converses limits channel before).0 run.good) run.ends.0);
+    ends = (goes_on before more m.order run.ends.0, inl (omega arith));
+  }
 
   pub tells_merged : events (server_rules limits channel) (before ++ more) ≡ events (server_rules limits channel) before ++ told_merged ms before more
   tells_merged =
@@ -248,7 +227,7 @@ module _ (limits : Limits) (channel : ℕ) (before more : List Frame) (ms : List
   pub tells_once : (id : ℕ) → filter (is_message_under id) (messages_in (told_merged ms before more)) ≡ map message_of (outcome_under (sent_under id ms))
   tells_once id =
       ap (filter (is_message_under id)) tells_messages
-      ∙ (messages_under id (outcomes ms (messages more))
+      ∙ (names_kept message_of (is_message_under id) (is_item_of id) (message_names id) (outcomes ms (messages more))
       ∙ (ap (λ (items : List Item). map message_of (filter (is_item_of id) items)) (sym (comes limits ms (messages more) m.merged).all)
       ∙ ap (map message_of) (once ms (messages more) id (comes limits ms (messages more) m.merged).own)))
 

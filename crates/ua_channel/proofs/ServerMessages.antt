@@ -17,7 +17,7 @@ use Rattle.ua_channel.specs.Received.{Received, after, received}
 use Rattle.ua_channel.specs.ServerMessages.{message_in, message_of, messages_in}
 use Rattle.ua_channel.specs.ServerRules.{server_rules}
 use Rattle.ua_channel.specs.ServerTold.{Told, issued, opened_by, request_of, server_tells, told_under}
-use Rattle.ua_channel.proofs.OneFrameMore.{received-push, received-nil}
+use Rattle.ua_channel.proofs.OneFrameMore.{received-push, none_delivered}
 
 abbrev Message : Type 0
 Message = ℕ × Option (List ℕ)
@@ -61,11 +61,6 @@ told_from limits start (f ∷ fs) =
     ∙ (sym (append_assoc had (messages_in told) (messages_in more))
     ∙ (ap (λ (ms : List Message). ms ++ messages_in more) (frame_told limits (received start) (content f) ∙ ap (λ (b : Received). map message_of (delivered b.messages)) (sym (received-push start f)))
     ∙ (told_from limits (start ++ f ∷ []) fs ∙ ap (λ (xs : List Frame). map message_of (delivered (received xs).messages)) (append_assoc start (f ∷ []) fs))))
-
--- nothing is delivered before any frame
-none_delivered : delivered (received []).messages ≡ []
-unfolding each_after
-none_delivered = ap (λ (b : Received). delivered b.messages) received-nil
 
 pub messages_delivered : (limits : Limits) (channel : ℕ) (frames : List Frame) → messages_in (events (server_rules limits channel) frames) ≡ map message_of (delivered (received frames).messages)
 unfolding each_after

@@ -13,9 +13,7 @@ use Rattle.ua_frame.specs.declared.hello.Hello.{Hello}
 use Rattle.ua_frame.specs.declared.limits.Limits.{Limits}
 use Rattle.ua_frame.specs.Agreement.{url_length}
 use Rattle.ua_frame.specs.Frames.{LetsIn, frame_octets, frame_size}
-use Rattle.ua_frame.specs.declared.kind.Kind.{Kind}
 use Rattle.ua_frame.specs.declared.kind.Kind.TheVariants.{Opn}
-use Rattle.ua_frame.specs.Kinds.{has_flag, least_size, lets_in}
 use Rattle.ua_frame.specs.Hello.{hello_gate}
 use Rattle.ua_frame.specs.Messages.{hello}
 use Rattle.ua_frame.specs.Run.{Fits}
@@ -67,7 +65,7 @@ use Rattle.ua_channel.proofs.Phases.{greeted_by}
 use Rattle.ua_channel.proofs.ReadOn.{events_on, no_events, run_last, run_on, run_one}
 use Rattle.ua_channel.proofs.ServerTakes.{IsReady, IsSent, fits_chunks, told_chunks}
 use Rattle.ua_channel.proofs.WithChunks.{IsBehind, behind_pieces, cut_ordered, chunks_closed, chunks_hello, chunks_messages, chunks_openings, received_chunks, with_chunks}
-use Rattle.ua_channel.proofs.Written.{IsNumbered, IsOf, after_small, chunks_are, header_sizes, none_header, none_is, opening_body, opening_carried, opening_size}
+use Rattle.ua_channel.proofs.Written.{IsNumbered, IsOf, after_small, chunks_are, header_sizes, none_header, none_is, opening_body, opening_carried, opening_size, lets_opn}
 use Rattle.ua_channel.specs.inside.ServerParts.{IsAskedIn, OpensSo, asked_reasons}
 use Rattle.ua_channel.specs.declared.server_opening.Asked.{Asked}
 use Rattle.ua_channel.specs.declared.server_opening.Opened.{Opened}
@@ -169,19 +167,9 @@ module _ (limits : Limits) (channel : ℕ) (octets : List ℕ) (told : List Told
 -- ---- one frame
 
 -- an OPN is let in where a HEL was said
-lets_opn : (first : Bool) (size : ℕ) (f : Frame) → f.kind ≡ Opn → f.flag ≡ 70 → frame_size f ≤ size → 32 ≤ frame_size f → LetsIn (if first then opening_gate size else running_gate size) f
-lets_opn true size f kind flag fits least = record {
-  kind = ap (lets_in (opening_gate size)) kind;
-  flag = ap (λ (k : Kind). has_flag k f.flag) kind ∙ ap (has_flag Opn) flag;
-  largest = fits;
-  least = subst (λ (k : Kind). least_size k ≤ frame_size f) (sym kind) least;
-}
-lets_opn false size f kind flag fits least = record {
-  kind = ap (lets_in (running_gate size)) kind;
-  flag = ap (λ (k : Kind). has_flag k f.flag) kind ∙ ap (has_flag Opn) flag;
-  largest = fits;
-  least = subst (λ (k : Kind). least_size k ≤ frame_size f) (sym kind) least;
-}
+opn_by : (first : Bool) (size : ℕ) (f : Frame) → f.kind ≡ Opn → f.flag ≡ 70 → frame_size f ≤ size → 32 ≤ frame_size f → LetsIn (if first then opening_gate size else running_gate size) f
+opn_by true size f kind flag fits least = lets_opn (opening_gate size) f refl kind flag fits least
+opn_by false size f kind flag fits least = lets_opn (running_gate size) f refl kind flag fits least
 
 -- ---- HEL
 
@@ -306,7 +294,7 @@ module _ (limits : Limits) (channel : ℕ) (octets : List ℕ) (told : List Told
 
     opn_in : LetsIn ((server_rules limits channel).gate r.frames) opn
     unfolding opn
-    opn_in = subst (λ (g : Gate). LetsIn g opn) (sym (ap (λ (o : Option Hello). server_gate_behind limits o (issued (received r.frames))) r.hello_is)) (lets_opn (eqb (issued (received r.frames)) 0) (receive_size limits (Some at.hello)) opn refl refl (omega (arith, opn_size, r.large)) (omega (arith, opn_size)))
+    opn_in = subst (λ (g : Gate). LetsIn g opn) (sym (ap (λ (o : Option Hello). server_gate_behind limits o (issued (received r.frames))) r.hello_is)) (opn_by (eqb (issued (received r.frames)) 0) (receive_size limits (Some at.hello)) opn refl refl (omega (arith, opn_size, r.large)) (omega (arith, opn_size)))
 
     reads_opn : ServerReads limits channel (octets ++ frame_octets opn) (told ++ event.Opened id 0 (at.issued + 1) 3600000 ∷ []) (with_token at)
     unfolding opn opened

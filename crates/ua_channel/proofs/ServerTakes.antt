@@ -1,5 +1,5 @@
 -- That a server takes the chunks of a message.
-use Rattle.std.proofs.Common.{◌≡◌, ℕ, ◌+◌, ◌<◌, ◌≤◌, ◌^◌, Bool, true, false, ◌&&◌, leb, List, [], ◌∷◌, ◌++◌, Option, Some, None, option_map, length, map, refl, sym, ◌∙◌, ap, subst, arith, append_assoc}
+use Rattle.std.proofs.Common.{◌≡◌, ℕ, ◌+◌, ◌<◌, ◌≤◌, ◌^◌, true, false, leb, List, [], ◌∷◌, ◌++◌, Option, Some, None, option_map, length, map, refl, sym, ◌∙◌, ap, subst, arith, append_assoc}
 use Rattle.std.specs.List.{AllByRecursion}
 use Rattle.std.proofs.lemmas.Bool.{and_from, and_parts, eq-eqb, le-leb}
 use Rattle.ua_builtin.specs.Reasons.{first_reason, renamed_reason}
@@ -48,16 +48,12 @@ pub record IsReady (h : Hello) (token : ℕ) (last : Option ℕ) (base us : List
   pub messages_are : b.messages ≡ base ++ us
   pub goes_on : b.closed ≡ false
 
-right : (a b : Bool) → (a && b) ≡ true → b ≡ true
-right true b e = e
-right false b e = absurd cc
-
 module _ (limits : Limits) (channel token : ℕ) (h : Hello) (base : List Chunk) (small : receive_size limits (Some h) < 2 ^ 32) (none : open_ids base ≡ []) where
   ready_more : (last : Option ℕ) (us : List Chunk) (c : Chunk) (b : Received) → c.token ≡ token → IsReady h token last base us b → IsReady h token (Some c.sequence) base (us ++ c ∷ []) (after b (Sends c))
   ready_more last us c b is r = record {
     hello_is = r.hello_is;
     some = r.some;
-    taken = and_from (leb c.token token) (leb token (issued b)) (le-leb c.token token (omega (arith, is))) (right (leb (last_used b) token) (leb token (issued b)) r.taken);
+    taken = and_from (leb c.token token) (leb token (issued b)) (le-leb c.token token (omega (arith, is))) (and_parts (leb (last_used b) token) (leb token (issued b)) r.taken).1;
     last_is = refl;
     messages_are = ap (λ (cs : List Chunk). cs ++ c ∷ []) r.messages_are ∙ append_assoc base us (c ∷ []);
     goes_on = r.goes_on;

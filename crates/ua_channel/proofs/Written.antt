@@ -1,14 +1,14 @@
 -- What the frames carry that an end writes.
-use Rattle.std.proofs.Common.{◌≡◌, ℕ, ◌+◌, ◌<◌, ◌≤◌, ◌^◌, true, IsTrue, ltb, List, [], ◌∷◌, ◌++◌, Some, None, length, refl, ◌∙◌, ap, arith, length-append}
+use Rattle.std.proofs.Common.{◌≡◌, ℕ, ◌+◌, ◌<◌, ◌≤◌, ◌^◌, true, IsTrue, ltb, List, [], ◌∷◌, ◌++◌, Some, None, length, refl, ◌∙◌, ap, arith, length-append, sym, subst}
 use Rattle.std.specs.List.{AllByRecursion}
 use Rattle.std.proofs.lemmas.Bool.{and_from, lt-ltb}
 use Rattle.std.proofs.lemmas.Slice.Eq.{bytes_eq-Decides}
 use Rattle.ua_octets.specs.Counted.{counted}
 use Rattle.ua_octets.specs.Number.{number_octets}
 use Rattle.ua_octets.proofs.NumbersRead.{length-number_octets}
-use Rattle.ua_frame.specs.declared.kind.Kind.TheVariants.{Msg}
-use Rattle.ua_frame.specs.Frames.{frame_size}
-use Rattle.ua_frame.specs.Kinds.{has_flag}
+use Rattle.ua_frame.specs.declared.kind.Kind.TheVariants.{Msg, Opn}
+use Rattle.ua_frame.specs.Frames.{frame_size, LetsIn}
+use Rattle.ua_frame.specs.Kinds.{has_flag, least_size, lets_in}
 use Rattle.ua_chunk.specs.declared.chunk.Chunk.{Chunk}
 use Rattle.ua_chunk.specs.declared.flag.Flag.{Flag}
 use Rattle.ua_chunk.specs.declared.flag.Flag.TheVariants.{F, C, A}
@@ -25,6 +25,9 @@ use Rattle.ua_chunk.proofs.ReaderLaws.{frame_of_chunk}
 use Rattle.ua_channel.specs.Content.{content, opening_numbered, opening_of, opening_secured}
 use Rattle.ua_channel.specs.Content.Content.{Sends}
 use Rattle.ua_channel.proofs.Carried.{content_msg}
+use Rattle.ua_frame.specs.declared.frame.Frame.{Frame}
+use Rattle.ua_frame.specs.declared.gate.Gate.{Gate}
+use Rattle.ua_frame.specs.declared.kind.Kind.{Kind}
 
 -- ---- chunks
 
@@ -68,6 +71,17 @@ flag_known A = refl
 -- its flag is one of its kind
 pub chunk_flag : (c : Chunk) → IsTrue (has_flag Msg (frame_of c).flag)
 chunk_flag c = flag_known c.flag
+
+-- ---- an OPN
+
+-- where a gate lets one in
+pub lets_opn : (gate : Gate) (f : Frame) → IsTrue (lets_in gate Opn) → f.kind ≡ Opn → f.flag ≡ 70 → frame_size f ≤ gate.largest → 32 ≤ frame_size f → LetsIn gate f
+lets_opn gate f opens kind flag fits least = record {
+  kind = ap (lets_in gate) kind ∙ opens;
+  flag = ap (λ (k : Kind). has_flag k f.flag) kind ∙ ap (has_flag Opn) flag;
+  largest = fits;
+  least = subst (λ (k : Kind). least_size k ≤ frame_size f) (sym kind) least;
+}
 
 -- ---- the chunks of a body
 
