@@ -103,7 +103,7 @@ none-before (i ∷ []) (u ∷ (v ∷ told)) t e h = absurd cc
 none-before (i ∷ (j ∷ items)) (u ∷ told) t e h = absurd cc
 
 module _ (tells : TellsDelivered) (once : PairsOnce) (no_other : PairsNoOther) where
-  at-most : (id : ℕ) (limits : Limits) (asks : List Placed) (frames : List Frame) → AllAfter (Fits (client_rules limits asks)) frames
+  pub at-most : (id : ℕ) (limits : Limits) (asks : List Placed) (frames : List Frame) → AllAfter (Fits (client_rules limits asks)) frames
       → delivered_under id (received frames).messages ≡ listed (first (delivered_under id (received frames).messages))
   unfolding paired
   at-most id limits asks frames fits = by (is_in id (calls (asked_in asks))) refl

@@ -1,22 +1,30 @@
-//! Laws of what a client hears of its calls, and of settled places, where the channel is open and all
-//! that was asked is answered.
+//! Laws of what a client hears of its calls, of settled places, where the channel is open and all that was
+//! asked is answered, and of a client whose peer keeps to the protocol.
 //!
 //! Each function does nothing; its contract is the law.
 
-ghost use Rattle.std.specs.Prelude.{◌≡◌, ◌+◌, ◌++◌, ℕ, List, [], Some};
+ghost use Rattle.std.specs.Prelude.{◌≡◌, ◌≤◌, ◌+◌, ◌++◌, ℕ, List, [], Some, length};
+ghost use Rattle.std.specs.List.{AllByRecursion};
+ghost use Rattle.ua_builtin.specs.declared.status_code.StatusCode.{StatusCode};
 ghost use Rattle.ua_chunk.specs.declared.lane.Lane.{Lane};
 ghost use Rattle.ua_services.specs.declared.request.Request.{Request};
 ghost use Rattle.ua_channel.specs.Asks.{Placed, asked_in, next_id, pending_calls};
-ghost use Rattle.ua_channel.specs.Client.{ClientGoes, ClientGoesTelling};
+ghost use Rattle.ua_channel.specs.Client.{ClientGoes, ClientGoesTelling, client_limits};
+ghost use Rattle.ua_channel.specs.ClientReads.{AtClient, ClientReads};
 ghost use Rattle.ua_channel.specs.ClientTold.{ClientTold};
 ghost use Rattle.ua_channel.specs.declared.client.channel.ClientChannel.{ClientChannel};
-ghost use Rattle.ua_client.specs.Calls.{Answered};
+ghost use Rattle.ua_client.specs.Calls.{Answered, BreaksAt, asked_at};
+ghost use Rattle.ua_client.specs.Hearing.{channel_of};
 ghost use Rattle.ua_client.specs.Opening.{IsOpened};
 ghost use Rattle.ua_client.specs.Renewing.{IsIdle, IsSettled, StandsSettled};
-ghost use Rattle.ua_client.specs.Site.{Site, At, lane_behind};
+ghost use Rattle.ua_client.specs.Replies.{AreReplies};
+ghost use Rattle.ua_client.specs.Site.{Site, At, id_at, lane_behind};
 ghost use Rattle.ua_client.specs.Told.{told_of, IsFirstOf};
+ghost use Rattle.ua_client.specs.declared.connection.Connection.{Connection};
+ghost use Rattle.ua_client.specs.declared.fault.ClientFault.TheVariants.{Peer, Refused};
 ghost use Rattle.ua_client.specs.declared.reply.Reply.{Reply};
 
+use ua_channel::asking_laws::client_follows_asking;
 use ua_channel::client_laws::{client_goes_on, client_pairs, client_tells_delivered};
 
 /// What is told of a call is the first that is told of it.
@@ -49,5 +57,30 @@ pub fn clients_are_settled()
     ensures idle { (x : ClientChannel) (s : Site) → StandsSettled x → At x s → IsIdle x s }
 {
     client_goes_on();
+    client_tells_delivered();
+}
+
+/// A client whose peer keeps to the protocol, while it asks on in the middle of what that says: where a
+/// client stands, its octets are a beginning of octets that a client reads, merged or not, and what it asks
+/// on is placed at their end or behind it, it was told a beginning of what they all tell, and the replies to
+/// a group of calls that is answered are those that they all tell. A group does not break off behind such a
+/// beginning for a refusal, of the peer or its own.
+pub fn clients_follow_asking()
+    ensures told { (x : ClientChannel) (s : Site) (later : List Placed) (more : List ℕ) (all : List ClientTold) (at : AtClient) → At x s →
+        AllByRecursion (λ (a : Placed). length s.octets ≤ a.0) later → ClientReads (client_limits x) (s.asks ++ later) (s.octets ++ more) all at →
+        (rest : List ClientTold) × (all ≡ s.told ++ rest) }
+    ensures replies { (requests : List Request) (s t : Site) (taken : List ℕ) (replies : List Reply) (x : ClientChannel) (later : List Placed) (more : List ℕ) (all : List ClientTold) (at : AtClient) →
+        Answered requests s t taken replies → At x t →
+        AllByRecursion (λ (a : Placed). length t.octets ≤ a.0) later → ClientReads (client_limits x) (t.asks ++ later) (t.octets ++ more) all at →
+        AreReplies requests (id_at s) all replies }
+    ensures not_peer { (requests : List Request) (s : Site) (new : Connection) (sent taken : List ℕ) (code : StatusCode) (later : List Placed) (more : List ℕ) (all : List ClientTold) (at : AtClient) →
+        BreaksAt requests s new sent taken (Peer code) → AllByRecursion (λ (a : Placed). length (s.octets ++ taken) ≤ a.0) later →
+        ClientReads (client_limits (channel_of new)) (asked_at s requests ++ later) ((s.octets ++ taken) ++ more) all at → ⊥ }
+    ensures not_refused { (requests : List Request) (s : Site) (new : Connection) (sent taken : List ℕ) (code : StatusCode) (later : List Placed) (more : List ℕ) (all : List ClientTold) (at : AtClient) →
+        BreaksAt requests s new sent taken (Refused code) → AllByRecursion (λ (a : Placed). length (s.octets ++ taken) ≤ a.0) later →
+        ClientReads (client_limits (channel_of new)) (asked_at s requests ++ later) ((s.octets ++ taken) ++ more) all at → ⊥ }
+{
+    client_follows_asking();
+    client_pairs();
     client_tells_delivered();
 }
