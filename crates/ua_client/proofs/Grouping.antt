@@ -27,7 +27,8 @@ use Rattle.ua_client.proofs.Settled.{answered-settled}
 
 -- ---- lists of groups
 
-concat-push : (groups : List (List Request)) (group : List Request) → all_of (groups ++ group ∷ []) ≡ all_of groups ++ group
+-- the requests of groups with one more
+pub concat-push : (groups : List (List Request)) (group : List Request) → all_of (groups ++ group ∷ []) ≡ all_of groups ++ group
 concat-push [] group = append-nil group
 concat-push (g ∷ groups) group = ap (λ (ms : List Request). g ++ ms) (concat-push groups group) ∙ sym (append_assoc g (all_of groups) group)
 

@@ -20,6 +20,7 @@ use Rattle.ua_client.specs.declared.connection.Connection.{Connection}
 use Rattle.ua_client.specs.declared.fault.ClientFault.{ClientFault}
 use Rattle.ua_client.specs.declared.fault.ClientFault.TheVariants as fault
 use Rattle.ua_client.specs.declared.reply.Reply.{Reply}
+use Rattle.ua_client.proofs.Grouping.{concat-push}
 use Rattle.ua_pinned.proofs.CallsAlike.{EndsBy, ended_reads, goes_front, goes_reads}
 use Rattle.ua_pinned.proofs.CallsAlike.EndsBy.{ByPeer, ByOurs, ByEnd}
 use Rattle.ua_pinned.proofs.FrontsAlike.{ReadsAll, all_once, either_first}
@@ -197,12 +198,8 @@ abbrev pub Grouped : List (List Request) → List Request → Type 0
 Grouped [] others = Unit {0}
 Grouped (g ∷ gs) others = IsGroup g (all_of gs ++ others) × Grouped gs others
 
-all_push : (gs : List (List Request)) (g : List Request) → all_of (gs ++ g ∷ []) ≡ all_of gs ++ g
-all_push [] g = append-nil g
-all_push (k ∷ gs) g = ap (λ (ms : List Request). k ++ ms) (all_push gs g) ∙ sym (append_assoc k (all_of gs) g)
-
 all_behind : (gs : List (List Request)) (g others : List Request) → all_of (gs ++ g ∷ []) ++ others ≡ all_of gs ++ (g ++ others)
-all_behind gs g others = ap (λ (ms : List Request). ms ++ others) (all_push gs g) ∙ append_assoc (all_of gs) g others
+all_behind gs g others = ap (λ (ms : List Request). ms ++ others) (concat-push gs g) ∙ append_assoc (all_of gs) g others
 
 grouped_last : (gs : List (List Request)) (g others : List Request) → Grouped (gs ++ g ∷ []) others → Grouped gs (g ++ others) × IsGroup g others
 grouped_last [] g others h = (tt, h.0)
@@ -238,7 +235,7 @@ module _ (b : Bool) (limits : Limits) (x client : ClientChannel) (same : client_
       walk_as b limits x o (all_of gs ++ (group ++ others)) (all_of (gs ++ group ∷ []) ++ others) s (taken ++ (part ++ later)) ((taken ++ part) ++ later) (sent ++ (sent_at m group ++ out)) ((sent ++ sent_at m group) ++ out) (taken ++ (part ++ rest)) ((taken ++ part) ++ rest)
       (replies ++ (added ++ further)) ((replies ++ added) ++ further) (length (all_of gs) + (length group + n)) (length (all_of (gs ++ group ∷ [])) + n)
       (sym (all_behind gs group others)) (sym (append_assoc taken part later)) (sym (append_assoc sent (sent_at m group) out)) (sym (append_assoc taken part rest)) (sym (append_assoc replies added further))
-      (let e = ap length (all_push gs group) in omega (arith, e, length-append (all_of gs) group))
+      (let e = ap length (concat-push gs group) in omega (arith, e, length-append (all_of gs) group))
       (prepend (group ++ others) (part ++ later) (sent_at m group ++ out) (part ++ rest) (added ++ further) (length group + n) r split.0
       (Step group others z t part later out rest added further n refl split.1
       (record { limits_are = behind.same.limits ∙ same; at = behind.at; came = behind.came; answered = a; more = later; parts = refl }) refl refl refl refl refl w))

@@ -38,6 +38,7 @@ use Rattle.ua_client.specs.Site.{Site, At, id_at, lane_behind}
 use Rattle.ua_client.specs.declared.fault.ClientFault.{ClientFault}
 use Rattle.ua_client.specs.declared.reply.Reply.{Reply}
 use Rattle.ua_client.proofs.Askings.{next-calls}
+use Rattle.ua_client.proofs.Grouping.{concat-push}
 use Rattle.ua_client.proofs.Settled.{NonePending, answered-settled}
 use Rattle.ua_served.specs.Accepted.{acknowledged, held_behind_calls, turn_reasons}
 use Rattle.ua_served.specs.Beginning.{Beginning}
@@ -55,10 +56,6 @@ use Rattle.ua_served.proofs.Replying.{AreWritable, moments_there, replies-append
 use Rattle.ua_served.proofs.Staying.{answered_taken, bodies_count, stay_together, told_together}
 
 -- ---- lists
-
-all_push : (groups : List (List Request)) (group : List Request) → all_of (groups ++ group ∷ []) ≡ all_of groups ++ group
-all_push [] group = append-nil group
-all_push (g ∷ groups) group = ap (λ (ms : List Request). g ++ ms) (all_push groups group) ∙ sym (append_assoc g (all_of groups) group)
 
 -- what more requests tell
 told_push : (token id : ℕ) (ms ns : List Request) → calls_told token id (bodies_of (ms ++ ns)) ≡ calls_told token id (bodies_of ms) ++ calls_told token (id + length ms) (bodies_of ns)
@@ -349,7 +346,7 @@ module _ (b : Beginning) (limits : Limits) (url : Option (List ℕ)) (octets : L
       let replied =
       group_replied b limits url (octets ++ sent) told_before token (id + length all) (held_behind_calls held (length all)) m before.channel before.served z t part (stands.same.limits ∙ same) down front law group added
       some_here stands.at stands.came answered said_here (writable acked (id + length all) group judged) in
-      let pushed : all ++ group ≡ all_of (groups ++ group ∷ []) = sym (all_push groups group) in
+      let pushed : all ++ group ≡ all_of (groups ++ group ∷ []) = sym (concat-push groups group) in
       let there = before.served in
       let lane : Option Lane = Some (call_lane (acknowledged b.limits limits url) b.channel token) in
       let lane_is : lane_behind m.before ≡ lane = lane_there b limits url (octets ++ sent) told_before token (id + length all) (held_behind_calls held (length all)) m before.channel there in
