@@ -29,19 +29,19 @@ passes_is limit n =
     let same : limit * 1 ≡ limit = omega arith in
     ap (λ (m : ℕ). not (eqb limit 0) && ltb m n) (sym same) ∙ over_is (eqb limit 0) (limit * 1) n
 
-pieces_pass : (limit k : ℕ) (b : List ℕ) → 0 < k → 0 < length b → passes limit (length (pieces k b)) ≡ over (limit_of limit k) (length b)
-pieces_pass limit k b pos some = more_pieces limit k b pos some ∙ over_is (eqb limit 0) (limit * k) (length b)
+pieces_pass : (limit k : ℕ) (b : List ℕ) → 0 < k → passes limit (length (pieces k b)) ≡ over (limit_of limit k) (length b)
+pieces_pass limit k b pos = more_pieces limit k (length b) b pos refl ∙ over_is (eqb limit 0) (limit * k) (length b)
 
 -- ---- reasons
 
 refused_by : Bool → Bool → Option CutFault
 refused_by a b = first_reason ((TooManyOctets, a) ∷ (TooManyChunks, b) ∷ [])
 
-refusal_is : (lane : Lane) (b : List ℕ) → 0 < lane.room → 0 < length b → cut_refusal lane b ≡ refused_by (over (limit_of lane.octets 1) (length b)) (over (limit_of lane.chunks lane.room) (length b))
+refusal_is : (lane : Lane) (b : List ℕ) → 0 < lane.room → cut_refusal lane b ≡ refused_by (over (limit_of lane.octets 1) (length b)) (over (limit_of lane.chunks lane.room) (length b))
 unfolding refused_by
-refusal_is lane b pos some =
+refusal_is lane b pos =
     ap (λ (t : Bool). refused_by t (passes lane.chunks (length (pieces lane.room b)))) (passes_is lane.octets (length b))
-    ∙ ap (λ (t : Bool). refused_by (over (limit_of lane.octets 1) (length b)) t) (pieces_pass lane.chunks lane.room b pos some)
+    ∙ ap (λ (t : Bool). refused_by (over (limit_of lane.octets 1) (length b)) t) (pieces_pass lane.chunks lane.room b pos)
 
 none_by : (a b : Bool) → (refused_by a b ≡ None) ↔ ((a ≡ false) × (b ≡ false))
 unfolding refused_by
@@ -63,10 +63,10 @@ within n (Some m) None = (λ h. ltb-false m n h.0, λ w. (le-ltb m n w, refl))
 within n (Some m) (Some k) = within_by n m k (ltb m k) refl
 
 -- a body is cut exactly where it has at most so many octets
-pub most_is : (lane : Lane) (b : List ℕ) → 0 < lane.room → 0 < length b → (cut_refusal lane b ≡ None) ↔ IsAtMost (length b) (most_octets lane)
+pub most_is : (lane : Lane) (b : List ℕ) → 0 < lane.room → (cut_refusal lane b ≡ None) ↔ IsAtMost (length b) (most_octets lane)
 unfolding most_octets
-most_is lane b pos some =
-    let same = refusal_is lane b pos some in
+most_is lane b pos =
+    let same = refusal_is lane b pos in
     let a = over (limit_of lane.octets 1) (length b) in
     let c = over (limit_of lane.chunks lane.room) (length b) in
     let none = none_by a c in

@@ -118,11 +118,26 @@ same_test : (t : Bool) (a b c d : ℕ) → ltb c d ≡ t → (c < d → a < b) �
 same_test true a b c d e f g = lt-ltb a b (f (ltb-true c d e)) ∙ sym e
 same_test false a b c d e f g = le-ltb a b (g (ltb-false c d e)) ∙ sym e
 
-pub more_pieces : (limit k : ℕ) (b : List ℕ) → 0 < k → 0 < length b → passes limit (length (pieces k b)) ≡ (not (eqb limit 0) && ltb (limit * k) (length b))
+some_more : (limit k : ℕ) (b : List ℕ) → 0 < k → 0 < length b → passes limit (length (pieces k b)) ≡ (not (eqb limit 0) && ltb (limit * k) (length b))
 unfolding pieces
-more_pieces limit k b pos some =
+some_more limit k b pos some =
     let c = counted_in (length b) limit k b pos (omega arith) some in
     ap (λ t. not (eqb limit 0) && t) (same_test (ltb (limit * k) (length b)) limit (length (pieces_in (length b) k b)) (limit * k) (length b) refl c.above c.below)
+
+no_pieces : (k : ℕ) → pieces k [] ≡ []
+unfolding pieces
+no_pieces k = refl
+
+none_more : (b : Bool) (n : ℕ) → (b && ltb n 0) ≡ false
+none_more true n = grind arith
+none_more false n = refl
+
+-- whether octets, of which there are so many, have more pieces than a limit
+pub more_pieces : (limit k len : ℕ) (b : List ℕ) → 0 < k → length b ≡ len → passes limit (length (pieces k b)) ≡ (not (eqb limit 0) && ltb (limit * k) len)
+more_pieces limit k len [] pos is =
+    ap (λ (ps : List (List ℕ)). passes limit (length ps)) (no_pieces k)
+    ∙ (none_more (not (eqb limit 0)) limit ∙ (sym (none_more (not (eqb limit 0)) (limit * k)) ∙ ap (λ (n : ℕ). not (eqb limit 0) && ltb (limit * k) n) is))
+more_pieces limit k len (x ∷ b) pos is = some_more limit k (x ∷ b) pos (omega arith) ∙ ap (λ (n : ℕ). not (eqb limit 0) && ltb (limit * k) n) is
 
 -- ---- chunks
 

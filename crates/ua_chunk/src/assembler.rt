@@ -13,7 +13,7 @@ use crate::pending::{Pending, PendingMessages};
 use std::alloc::{AllocError, Global};
 
 /// The most messages that may be unfinished.
-const MOST_OPEN: usize = 4;
+pub const MOST_OPEN: usize = 4;
 
 /// Behind the numbers above this one the count may start again.
 const LAST_BEFORE_RESTART: u32 = 4294966271;

@@ -15,14 +15,16 @@ use byteorder::{ByteOrder, LittleEndian};
 use std::alloc::AllocError;
 use ua_frame::{HEADER_LEN, Kind, header_octets};
 
-/// The octets of a chunk in front of its body.
-const HEADERS: usize = 24;
+/// The octets of a chunk in front of its body: the headers of its frame, of its token and of its
+/// sequence (OPC 10000-6, 6.7.2).
+pub const CHUNK_HEADERS: usize = 24;
 
 /// The greatest sequence number that senders use. The number 1 follows it.
 const LAST_NUMBER: u32 = 4294966272;
 
-/// The number behind one that senders use.
-fn next_number(sequence: u32) -> u32
+/// The sequence number behind one that senders use: they are 1, 2, 3, .. up to 4294966272, and then 1
+/// again (OPC 10000-6, 6.7.2.4).
+pub fn next_number(sequence: u32) -> u32
     requires { sequence ≤ 4294966272 }
     ensures next { result ≡ next_number sequence }
     ensures range { (0 < result) × (result ≤ 4294966272) }
@@ -34,29 +36,20 @@ fn next_number(sequence: u32) -> u32
     }
 }
 
-/// Whether octets have more pieces of this size than a limit, of which 0 is none.
-fn has_more_pieces(limit: u32, room: u32, body: &[u8]) -> bool
-    requires room { 0 < room }
-    requires body { 0 < length body.now }
-    ensures { result ≡ passes limit (length (pieces room body.now)) }
-{
-    limit != 0 && body.len() as u128 > u128::from(limit) * u128::from(room)
-}
-
 /// The octets of a body's chunks, if so many can be counted.
 fn octets_of_chunks(room: u32, len: usize) -> Option<usize>
     requires { 0 < room }
 {
     let chunks = len.div_ceil(room as usize);
-    chunks.checked_mul(HEADERS)?.checked_add(len)
+    chunks.checked_mul(CHUNK_HEADERS)?.checked_add(len)
 }
 
 /// What stands in front of the body of a chunk.
 #[inline(always)]
-fn headers(lane: &Lane, flag: Flag, size: u32, sequence: u32, request: u32) -> [u8; HEADERS]
+fn headers(lane: &Lane, flag: Flag, size: u32, sequence: u32, request: u32) -> [u8; CHUNK_HEADERS]
     ensures { result ≡ front_octets lane.now flag size sequence request }
 {
-    let mut octets = [0; HEADERS];
+    let mut octets = [0; CHUNK_HEADERS];
     octets[..HEADER_LEN].copy_from_slice(&header_octets(Kind::Msg, flag.octet(), size));
     let numbers = [lane.channel, lane.token, sequence, request];
     LittleEndian::write_u32_into(&numbers, &mut octets[HEADER_LEN..]);
@@ -76,7 +69,7 @@ fn append_chunk(
     ensures ok { OnOk result (out.new.items ≡ out.old.items ++ frame_octets (frame_of (chunk_of lane.now flag sequence request piece.now))) }
     ensures err { OnErr result (Extends out.old.items out.new.items) }
 {
-    let size = (HEADERS + piece.len()) as u32;
+    let size = (CHUNK_HEADERS + piece.len()) as u32;
     out.extend_from_slice(&headers(lane, flag, size, sequence, request))?;
     out.extend_from_slice(piece)?;
     Ok(())
@@ -131,11 +124,8 @@ pub fn cut(
     ensures faults { MatchResult result (λ _. cut_refusal lane.now body.now ≡ None) (IsCutFor (cut_refusal lane.now body.now)) }
     ensures err { OnErr result (out.new.items ≡ out.old.items) }
 {
-    if lane.octets != 0 && body.len() > lane.octets as usize {
-        return Err(CutFault::TooManyOctets);
-    }
-    if has_more_pieces(lane.chunks, lane.room, body) {
-        return Err(CutFault::TooManyChunks);
+    if let Some(fault) = lane.refusal(body.len()) {
+        return Err(fault);
     }
     let Some(size) = octets_of_chunks(lane.room, body.len()) else {
         return Err(CutFault::OutOfMemory);

@@ -1,7 +1,10 @@
 //! Where the chunks of a message go.
 
-ghost use Rattle.std.specs.Prelude.{◌≡◌};
-ghost use Rattle.ua_chunk.specs.Cutting.{least, limit_of};
+ghost use Rattle.std.specs.Prelude.{◌≡◌, ◌<◌, ℕ, List, length};
+ghost use Rattle.ua_chunk.specs.Cutting.{least, limit_of, pieces};
+ghost use Rattle.ua_chunk.specs.Refusal.{passes};
+
+use crate::fault::CutFault;
 
 /// A direction of a secure channel, with the limits of the messages that go there.
 #[derive(Clone, Copy, PartialEq, Eq, Debug)]
@@ -22,17 +25,41 @@ impl Lane {
     ghost use Rattle.std.specs.Prelude.{◌≡◌, ◌<◌, ◌↔◌, ℕ, List, None, length};
     ghost use Rattle.ua_chunk.specs.Cutting.{cut_refusal, most_octets, IsAtMost};
 
+    /// Why a body of so many octets is not cut here: the first reason that holds, and never want of
+    /// memory.
+    #[inline]
+    pub fn refusal(&self, len: usize) -> Option<CutFault>
+        requires { 0 < self.now.room }
+        ensures { (body : List ℕ) → length body ≡ len → result ≡ cut_refusal self.now body }
+    {
+        if self.octets != 0 && len > self.octets as usize {
+            return Some(CutFault::TooManyOctets);
+        }
+        if has_more_pieces(self.chunks, self.room, len) {
+            return Some(CutFault::TooManyChunks);
+        }
+        None
+    }
+
     /// The most octets that a body may have to be cut here; none where there is no such limit. The
     /// chunks are a limit, too: each of them has room for so many octets.
     pub fn most_octets(&self) -> Option<usize>
         ensures most { result ≡ most_octets self.now }
         // A body is cut exactly where it has at most so many.
-        ensures cut { (body : List ℕ) → 0 < self.now.room → 0 < length body → (cut_refusal self.now body ≡ None) ↔ IsAtMost (length body) result }
+        ensures cut { (body : List ℕ) → 0 < self.now.room → (cut_refusal self.now body ≡ None) ↔ IsAtMost (length body) result }
     {
         let octets = limit_of(self.octets, 1);
         let chunks = limit_of(self.chunks, self.room);
         least(octets, chunks)
     }
+}
+
+/// Whether a body of so many octets has more pieces of this size than a limit, of which 0 is none.
+fn has_more_pieces(limit: u32, room: u32, len: usize) -> bool
+    requires { 0 < room }
+    ensures { (body : List ℕ) → length body ≡ len → result ≡ passes limit (length (pieces room body)) }
+{
+    limit != 0 && len as u128 > u128::from(limit) * u128::from(room)
 }
 
 /// So many pieces of this size, as octets; none where the limit is 0.

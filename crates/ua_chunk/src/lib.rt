@@ -31,9 +31,9 @@ mod open_chunk;
 mod pending;
 
 pub use abort::abort_octets;
-pub use assembler::Assembler;
+pub use assembler::{Assembler, MOST_OPEN};
 pub use chunk::{Chunk, read_chunk};
-pub use cutting::cut;
+pub use cutting::{CHUNK_HEADERS, cut, next_number};
 pub use delivered::Delivered;
 pub use fault::{AssembleFault, CutFault, OpenFault};
 pub use flag::Flag;

@@ -41,5 +41,5 @@ pub use gate::Gate;
 pub use header::{HEADER_LEN, header_octets};
 pub use hello::Hello;
 pub use kind::Kind;
-pub use limits::Limits;
+pub use limits::{LEAST_BUFFER_SIZE, Limits};
 pub use reader::FrameReader;

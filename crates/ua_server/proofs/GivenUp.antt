@@ -19,19 +19,13 @@ pub passes_more : (most : Option ℕ) (n m : ℕ) → n ≤ m → Passes most n 
 passes_more None n m le p = absurd p
 passes_more (Some most) n m le p = omega (arith, le, p)
 
-passes_some : (most : Option ℕ) (n : ℕ) → Passes most n → 0 < n
-passes_some None n p = absurd p
-passes_some (Some most) n p = omega (arith, p)
-
 not_both : (most : Option ℕ) (n : ℕ) → Passes most n → IsAtMost n most → ⊥
 not_both None n p w = absurd p
 not_both (Some most) n p w = absurd (omega (arith, p, w))
 
 -- what passes the limit is not cut
 refused : (lane : Lane) (most : Option ℕ) (b : List ℕ) → 0 < lane.room → most ≡ most_octets lane → Passes most (length b) → cut_refusal lane b ≡ None → ⊥
-refused lane most b room is p e =
-    let some = passes_some most (length b) p in
-    not_both most (length b) p (subst (λ (m : Option ℕ). IsAtMost (length b) m) (sym is) ((most_is lane b room some).0 e))
+refused lane most b room is p e = not_both most (length b) p (subst (λ (m : Option ℕ). IsAtMost (length b) m) (sym is) ((most_is lane b room).0 e))
 
 replied_same : (a b : Option CutFault) (lane : Lane) (body whole : List ℕ) (number id : ℕ) → (a ≡ None → ⊥) → (b ≡ None → ⊥) → replied_by a lane body number id ≡ replied_by b lane whole number id
 replied_same None b lane body whole number id h k = absurd (h refl)

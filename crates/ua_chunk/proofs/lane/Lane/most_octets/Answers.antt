@@ -11,5 +11,5 @@ returns-clause-most c =
     ∙ ap (λ (o : Option ℕ). least (limit_of c.args.self.now.octets 1) o) c.limit_of-chunks.ensures
 
 pub returns-clause-cut : goal.returns-clause-cut
-returns-clause-cut c = λ body pos some.
-    subst (λ (o : Option ℕ). (cut_refusal c.args.self.now body ≡ None) ↔ IsAtMost (length body) o) (sym (returns-clause-most c)) (most_is c.args.self.now body pos some)
+returns-clause-cut c = λ body pos.
+    subst (λ (o : Option ℕ). (cut_refusal c.args.self.now body ≡ None) ↔ IsAtMost (length body) o) (sym (returns-clause-most c)) (most_is c.args.self.now body pos)
