@@ -12,6 +12,7 @@ ghost use Rattle.ua_structures.specs.Plain.{empty_read, empty_read_response, val
 
 use crate::array::UaArray;
 use crate::data_values::read_data_values;
+use crate::fields::{append_fields, are_encodable, read_fields};
 use crate::header::{RequestHeader, ResponseHeader};
 use std::alloc::{AllocError, Global};
 use ua_builtin::{
@@ -57,45 +58,27 @@ impl ReadValueId {
     }
 }
 
+#[tactic(auto, unfolding(crate::specs::Attribute::read_value_id), using(crate::proofs::AttributeLawful::lawful_read_value_id))]
 impl Wire for ReadValueId {
     ghost use Rattle.ua_structures.specs.Attribute.{read_value_id};
 
     ghost format = { read_value_id };
 
     #[inline]
-    #[tactic(auto, using(crate::proofs::AttributeLawful::lawful_read_value_id))]
     fn lawful() {}
 
-    #[tactic(auto, unfolding(crate::specs::Attribute::read_value_id))]
-    fn read_value<S: Source>(
-        alloc: Global,
-        src: &mut S,
-        depth: u32,
-    ) -> Result<ReadValueId, ReadFault> {
-        let node_id = NodeId::read_value(alloc, src, depth)?;
-        let attribute_id = u32::read_value(alloc, src, depth)?;
-        let index_range = UaString::read_value(alloc, src, depth)?;
-        let data_encoding = QualifiedName::read_value(alloc, src, depth)?;
-        Ok(ReadValueId {
-            node_id,
-            attribute_id,
-            index_range,
-            data_encoding,
+    fn read_value<S: Source>(alloc: Global, src: &mut S, depth: u32) -> Result<Self, ReadFault> {
+        read_fields!(alloc, src, depth => ReadValueId {
+            node_id, attribute_id, index_range, data_encoding
         })
     }
 
-    #[tactic(auto, unfolding(crate::specs::Attribute::read_value_id))]
     fn is_encodable(&self) -> bool {
-        self.node_id.is_encodable()
-            && self.attribute_id.is_encodable()
-            && self.index_range.is_encodable()
-            && self.data_encoding.is_encodable()
+        are_encodable!(self => node_id, attribute_id, index_range, data_encoding)
     }
 
-    #[tactic(auto, unfolding(crate::specs::Attribute::read_value_id))]
     fn append(&self, out: &mut Vec<u8>) -> Result<(), AllocError> {
-        append_two(&self.node_id, &self.attribute_id, out)?;
-        append_two(&self.index_range, &self.data_encoding, out)
+        append_fields!(self, out => node_id, attribute_id, index_range, data_encoding)
     }
 }
 
@@ -188,21 +171,16 @@ impl ReadRequest {
     }
 }
 
+#[tactic(auto, unfolding(crate::specs::Attribute::read_request), using(crate::proofs::AttributeLawful::lawful_read_request))]
 impl Wire for ReadRequest {
     ghost use Rattle.ua_structures.specs.Attribute.{read_request};
 
     ghost format = { read_request };
 
     #[inline]
-    #[tactic(auto, using(crate::proofs::AttributeLawful::lawful_read_request))]
     fn lawful() {}
 
-    #[tactic(auto, unfolding(crate::specs::Attribute::read_request))]
-    fn read_value<S: Source>(
-        alloc: Global,
-        src: &mut S,
-        depth: u32,
-    ) -> Result<ReadRequest, ReadFault> {
+    fn read_value<S: Source>(alloc: Global, src: &mut S, depth: u32) -> Result<Self, ReadFault> {
         let mut message = ReadRequest::empty();
         match message.read_into(alloc, src, depth) {
             Ok(()) => Ok(message),
@@ -213,18 +191,12 @@ impl Wire for ReadRequest {
         }
     }
 
-    #[tactic(auto, unfolding(crate::specs::Attribute::read_request))]
     fn is_encodable(&self) -> bool {
-        self.request_header.is_encodable()
-            && self.max_age.is_encodable()
-            && self.timestamps_to_return.is_encodable()
-            && self.nodes_to_read.is_encodable()
+        are_encodable!(self => request_header, max_age, timestamps_to_return, nodes_to_read)
     }
 
-    #[tactic(auto, unfolding(crate::specs::Attribute::read_request))]
     fn append(&self, out: &mut Vec<u8>) -> Result<(), AllocError> {
-        append_two(&self.request_header, &self.max_age, out)?;
-        append_two(&self.timestamps_to_return, &self.nodes_to_read, out)
+        append_fields!(self, out => request_header, max_age, timestamps_to_return, nodes_to_read)
     }
 }
 
@@ -298,21 +270,16 @@ impl ReadResponse {
     }
 }
 
+#[tactic(auto, unfolding(crate::specs::Attribute::read_response), using(crate::proofs::AttributeLawful::lawful_read_response))]
 impl Wire for ReadResponse {
     ghost use Rattle.ua_structures.specs.Attribute.{read_response};
 
     ghost format = { read_response };
 
     #[inline]
-    #[tactic(auto, using(crate::proofs::AttributeLawful::lawful_read_response))]
     fn lawful() {}
 
-    #[tactic(auto, unfolding(crate::specs::Attribute::read_response))]
-    fn read_value<S: Source>(
-        alloc: Global,
-        src: &mut S,
-        depth: u32,
-    ) -> Result<ReadResponse, ReadFault> {
+    fn read_value<S: Source>(alloc: Global, src: &mut S, depth: u32) -> Result<Self, ReadFault> {
         let mut message = ReadResponse::empty();
         match message.read_into(alloc, src, depth) {
             Ok(()) => Ok(message),
@@ -323,21 +290,12 @@ impl Wire for ReadResponse {
         }
     }
 
-    #[tactic(auto, unfolding(crate::specs::Attribute::read_response))]
     fn is_encodable(&self) -> bool {
-        self.response_header.is_encodable()
-            && self.results.is_encodable()
-            && self.diagnostic_infos.is_encodable()
+        are_encodable!(self => response_header, results, diagnostic_infos)
     }
 
-    #[tactic(auto, unfolding(crate::specs::Attribute::read_response))]
     fn append(&self, out: &mut Vec<u8>) -> Result<(), AllocError> {
-        append_three(
-            &self.response_header,
-            &self.results,
-            &self.diagnostic_infos,
-            out,
-        )
+        append_fields!(self, out => response_header, results, diagnostic_infos)
     }
 }
 
@@ -368,42 +326,25 @@ impl WriteValue {
     }
 }
 
+#[tactic(auto, unfolding(crate::specs::Attribute::write_value), using(crate::proofs::AttributeLawful::lawful_write_value))]
 impl Wire for WriteValue {
     ghost use Rattle.ua_structures.specs.Attribute.{write_value};
 
     ghost format = { write_value };
 
     #[inline]
-    #[tactic(auto, using(crate::proofs::AttributeLawful::lawful_write_value))]
     fn lawful() {}
 
-    #[tactic(auto, unfolding(crate::specs::Attribute::write_value))]
-    fn read_value<S: Source>(
-        alloc: Global,
-        src: &mut S,
-        depth: u32,
-    ) -> Result<WriteValue, ReadFault> {
-        let (node_id, (attribute_id, (index_range, value))) = Wire::read_value(alloc, src, depth)?;
-        Ok(WriteValue {
-            node_id,
-            attribute_id,
-            index_range,
-            value,
-        })
+    fn read_value<S: Source>(alloc: Global, src: &mut S, depth: u32) -> Result<Self, ReadFault> {
+        read_fields!(alloc, src, depth => WriteValue { node_id, attribute_id, index_range, value })
     }
 
-    #[tactic(auto, unfolding(crate::specs::Attribute::write_value))]
     fn is_encodable(&self) -> bool {
-        self.node_id.is_encodable()
-            && self.attribute_id.is_encodable()
-            && self.index_range.is_encodable()
-            && self.value.is_encodable()
+        are_encodable!(self => node_id, attribute_id, index_range, value)
     }
 
-    #[tactic(auto, unfolding(crate::specs::Attribute::write_value))]
     fn append(&self, out: &mut Vec<u8>) -> Result<(), AllocError> {
-        append_two(&self.node_id, &self.attribute_id, out)?;
-        append_two(&self.index_range, &self.value, out)
+        append_fields!(self, out => node_id, attribute_id, index_range, value)
     }
 }
 
@@ -455,37 +396,25 @@ impl WriteRequest {
     }
 }
 
+#[tactic(auto, unfolding(crate::specs::Attribute::write_request), using(crate::proofs::AttributeLawful::lawful_write_request))]
 impl Wire for WriteRequest {
     ghost use Rattle.ua_structures.specs.Attribute.{write_request};
 
     ghost format = { write_request };
 
     #[inline]
-    #[tactic(auto, using(crate::proofs::AttributeLawful::lawful_write_request))]
     fn lawful() {}
 
-    #[tactic(auto, unfolding(crate::specs::Attribute::write_request))]
-    fn read_value<S: Source>(
-        alloc: Global,
-        src: &mut S,
-        depth: u32,
-    ) -> Result<WriteRequest, ReadFault> {
-        let request_header = RequestHeader::read_value(alloc, src, depth)?;
-        let nodes_to_write = Wire::read_value(alloc, src, depth)?;
-        Ok(WriteRequest {
-            request_header,
-            nodes_to_write,
-        })
+    fn read_value<S: Source>(alloc: Global, src: &mut S, depth: u32) -> Result<Self, ReadFault> {
+        read_fields!(alloc, src, depth => WriteRequest { request_header, nodes_to_write })
     }
 
-    #[tactic(auto, unfolding(crate::specs::Attribute::write_request))]
     fn is_encodable(&self) -> bool {
-        self.request_header.is_encodable() && self.nodes_to_write.is_encodable()
+        are_encodable!(self => request_header, nodes_to_write)
     }
 
-    #[tactic(auto, unfolding(crate::specs::Attribute::write_request))]
     fn append(&self, out: &mut Vec<u8>) -> Result<(), AllocError> {
-        append_two(&self.request_header, &self.nodes_to_write, out)
+        append_fields!(self, out => request_header, nodes_to_write)
     }
 }
 
@@ -522,43 +451,26 @@ impl WriteResponse {
     }
 }
 
+#[tactic(auto, unfolding(crate::specs::Attribute::write_response), using(crate::proofs::AttributeLawful::lawful_write_response))]
 impl Wire for WriteResponse {
     ghost use Rattle.ua_structures.specs.Attribute.{write_response};
 
     ghost format = { write_response };
 
     #[inline]
-    #[tactic(auto, using(crate::proofs::AttributeLawful::lawful_write_response))]
     fn lawful() {}
 
-    #[tactic(auto, unfolding(crate::specs::Attribute::write_response))]
-    fn read_value<S: Source>(
-        alloc: Global,
-        src: &mut S,
-        depth: u32,
-    ) -> Result<WriteResponse, ReadFault> {
-        let (response_header, (results, diagnostic_infos)) = Wire::read_value(alloc, src, depth)?;
-        Ok(WriteResponse {
-            response_header,
-            results,
-            diagnostic_infos,
+    fn read_value<S: Source>(alloc: Global, src: &mut S, depth: u32) -> Result<Self, ReadFault> {
+        read_fields!(alloc, src, depth => WriteResponse {
+            response_header, results, diagnostic_infos
         })
     }
 
-    #[tactic(auto, unfolding(crate::specs::Attribute::write_response))]
     fn is_encodable(&self) -> bool {
-        self.response_header.is_encodable()
-            && self.results.is_encodable()
-            && self.diagnostic_infos.is_encodable()
+        are_encodable!(self => response_header, results, diagnostic_infos)
     }
 
-    #[tactic(auto, unfolding(crate::specs::Attribute::write_response))]
     fn append(&self, out: &mut Vec<u8>) -> Result<(), AllocError> {
-        append_three(
-            &self.response_header,
-            &self.results,
-            &self.diagnostic_infos,
-            out,
-        )
+        append_fields!(self, out => response_header, results, diagnostic_infos)
     }
 }

@@ -8,6 +8,7 @@ ghost use Rattle.ua_structures.specs.Header.{request_header as header_format};
 ghost use Rattle.ua_structures.specs.Plain.{application_of, endpoints_of};
 
 use crate::array::UaArray;
+use crate::fields::{append_fields, are_encodable, read_fields};
 use crate::header::{RequestHeader, ResponseHeader};
 use std::alloc::{AllocError, Global};
 use ua_builtin::{LocalizedText, ReadFault, Source, UaBytes, UaString, Wire};
@@ -80,66 +81,34 @@ impl ApplicationDescription {
     }
 }
 
+#[tactic(auto, unfolding(crate::specs::Discovery::application_description), using(crate::proofs::DiscoveryLawful::lawful_application_description))]
 impl Wire for ApplicationDescription {
     ghost use Rattle.ua_structures.specs.Discovery.{application_description};
 
     ghost format = { application_description };
 
     #[inline]
-    #[tactic(auto, using(crate::proofs::DiscoveryLawful::lawful_application_description))]
     fn lawful() {}
 
-    #[tactic(auto, unfolding(crate::specs::Discovery::application_description))]
-    fn read_value<S: Source>(
-        alloc: Global,
-        src: &mut S,
-        depth: u32,
-    ) -> Result<ApplicationDescription, ReadFault> {
-        let (
-            application_uri,
-            (
-                product_uri,
-                (
-                    application_name,
-                    (
-                        application_type,
-                        (gateway_server_uri, (discovery_profile_uri, discovery_urls)),
-                    ),
-                ),
-            ),
-        ) = Wire::read_value(alloc, src, depth)?;
-        Ok(ApplicationDescription {
-            application_uri,
-            product_uri,
-            application_name,
-            application_type,
-            gateway_server_uri,
-            discovery_profile_uri,
-            discovery_urls,
+    fn read_value<S: Source>(alloc: Global, src: &mut S, depth: u32) -> Result<Self, ReadFault> {
+        read_fields!(alloc, src, depth => ApplicationDescription {
+            application_uri, product_uri, application_name, application_type, gateway_server_uri,
+            discovery_profile_uri, discovery_urls
         })
     }
 
-    #[tactic(auto, unfolding(crate::specs::Discovery::application_description))]
     fn is_encodable(&self) -> bool {
-        self.application_uri.is_encodable()
-            && self.product_uri.is_encodable()
-            && self.application_name.is_encodable()
-            && self.application_type.is_encodable()
-            && self.gateway_server_uri.is_encodable()
-            && self.discovery_profile_uri.is_encodable()
-            && self.discovery_urls.is_encodable()
+        are_encodable!(self =>
+            application_uri, product_uri, application_name, application_type, gateway_server_uri,
+            discovery_profile_uri, discovery_urls
+        )
     }
 
-    #[tactic(auto, unfolding(crate::specs::Discovery::application_description))]
     fn append(&self, out: &mut Vec<u8>) -> Result<(), AllocError> {
-        append_three(
-            &self.application_uri,
-            &self.product_uri,
-            &self.application_name,
-            out,
-        )?;
-        append_two(&self.application_type, &self.gateway_server_uri, out)?;
-        append_two(&self.discovery_profile_uri, &self.discovery_urls, out)
+        append_fields!(self, out =>
+            application_uri, product_uri, application_name, application_type, gateway_server_uri,
+            discovery_profile_uri, discovery_urls
+        )
     }
 }
 
@@ -155,52 +124,31 @@ pub struct UserTokenPolicy {
     pub security_policy_uri: UaString,
 }
 
+#[tactic(auto, unfolding(crate::specs::Discovery::user_token_policy), using(crate::proofs::DiscoveryLawful::lawful_user_token_policy))]
 impl Wire for UserTokenPolicy {
     ghost use Rattle.ua_structures.specs.Discovery.{user_token_policy};
 
     ghost format = { user_token_policy };
 
     #[inline]
-    #[tactic(auto, using(crate::proofs::DiscoveryLawful::lawful_user_token_policy))]
     fn lawful() {}
 
-    #[tactic(auto, unfolding(crate::specs::Discovery::user_token_policy))]
-    fn read_value<S: Source>(
-        alloc: Global,
-        src: &mut S,
-        depth: u32,
-    ) -> Result<UserTokenPolicy, ReadFault> {
-        let (
-            policy_id,
-            (token_type, (issued_token_type, (issuer_endpoint_url, security_policy_uri))),
-        ) = Wire::read_value(alloc, src, depth)?;
-        Ok(UserTokenPolicy {
-            policy_id,
-            token_type,
-            issued_token_type,
-            issuer_endpoint_url,
-            security_policy_uri,
+    fn read_value<S: Source>(alloc: Global, src: &mut S, depth: u32) -> Result<Self, ReadFault> {
+        read_fields!(alloc, src, depth => UserTokenPolicy {
+            policy_id, token_type, issued_token_type, issuer_endpoint_url, security_policy_uri
         })
     }
 
-    #[tactic(auto, unfolding(crate::specs::Discovery::user_token_policy))]
     fn is_encodable(&self) -> bool {
-        self.policy_id.is_encodable()
-            && self.token_type.is_encodable()
-            && self.issued_token_type.is_encodable()
-            && self.issuer_endpoint_url.is_encodable()
-            && self.security_policy_uri.is_encodable()
+        are_encodable!(self =>
+            policy_id, token_type, issued_token_type, issuer_endpoint_url, security_policy_uri
+        )
     }
 
-    #[tactic(auto, unfolding(crate::specs::Discovery::user_token_policy))]
     fn append(&self, out: &mut Vec<u8>) -> Result<(), AllocError> {
-        append_three(
-            &self.policy_id,
-            &self.token_type,
-            &self.issued_token_type,
-            out,
-        )?;
-        append_two(&self.issuer_endpoint_url, &self.security_policy_uri, out)
+        append_fields!(self, out =>
+            policy_id, token_type, issued_token_type, issuer_endpoint_url, security_policy_uri
+        )
     }
 }
 
@@ -219,76 +167,34 @@ pub struct EndpointDescription {
     pub security_level: u8,
 }
 
+#[tactic(auto, unfolding(crate::specs::Discovery::endpoint_description), using(crate::proofs::DiscoveryLawful::lawful_endpoint_description))]
 impl Wire for EndpointDescription {
     ghost use Rattle.ua_structures.specs.Discovery.{endpoint_description};
 
     ghost format = { endpoint_description };
 
     #[inline]
-    #[tactic(auto, using(crate::proofs::DiscoveryLawful::lawful_endpoint_description))]
     fn lawful() {}
 
-    #[tactic(auto, unfolding(crate::specs::Discovery::endpoint_description))]
-    fn read_value<S: Source>(
-        alloc: Global,
-        src: &mut S,
-        depth: u32,
-    ) -> Result<EndpointDescription, ReadFault> {
-        let (
-            endpoint_url,
-            (
-                server,
-                (
-                    server_certificate,
-                    (
-                        security_mode,
-                        (
-                            security_policy_uri,
-                            (user_identity_tokens, (transport_profile_uri, security_level)),
-                        ),
-                    ),
-                ),
-            ),
-        ) = Wire::read_value(alloc, src, depth)?;
-        Ok(EndpointDescription {
-            endpoint_url,
-            server,
-            server_certificate,
-            security_mode,
-            security_policy_uri,
-            user_identity_tokens,
-            transport_profile_uri,
-            security_level,
+    fn read_value<S: Source>(alloc: Global, src: &mut S, depth: u32) -> Result<Self, ReadFault> {
+        read_fields!(alloc, src, depth => EndpointDescription {
+            endpoint_url, server, server_certificate, security_mode, security_policy_uri,
+            user_identity_tokens, transport_profile_uri, security_level
         })
     }
 
-    #[tactic(auto, unfolding(crate::specs::Discovery::endpoint_description))]
     fn is_encodable(&self) -> bool {
-        self.endpoint_url.is_encodable()
-            && self.server.is_encodable()
-            && self.server_certificate.is_encodable()
-            && self.security_mode.is_encodable()
-            && self.security_policy_uri.is_encodable()
-            && self.user_identity_tokens.is_encodable()
-            && self.transport_profile_uri.is_encodable()
-            && self.security_level.is_encodable()
+        are_encodable!(self =>
+            endpoint_url, server, server_certificate, security_mode, security_policy_uri,
+            user_identity_tokens, transport_profile_uri, security_level
+        )
     }
 
-    #[tactic(auto, unfolding(crate::specs::Discovery::endpoint_description))]
     fn append(&self, out: &mut Vec<u8>) -> Result<(), AllocError> {
-        append_three(
-            &self.endpoint_url,
-            &self.server,
-            &self.server_certificate,
-            out,
-        )?;
-        append_three(
-            &self.security_mode,
-            &self.security_policy_uri,
-            &self.user_identity_tokens,
-            out,
-        )?;
-        append_two(&self.transport_profile_uri, &self.security_level, out)
+        append_fields!(self, out =>
+            endpoint_url, server, server_certificate, security_mode, security_policy_uri,
+            user_identity_tokens, transport_profile_uri, security_level
+        )
     }
 }
 
@@ -319,43 +225,27 @@ impl GetEndpointsRequest {
     }
 }
 
+#[tactic(auto, unfolding(crate::specs::Discovery::get_endpoints_request), using(crate::proofs::DiscoveryLawful::lawful_get_endpoints_request))]
 impl Wire for GetEndpointsRequest {
     ghost use Rattle.ua_structures.specs.Discovery.{get_endpoints_request};
 
     ghost format = { get_endpoints_request };
 
     #[inline]
-    #[tactic(auto, using(crate::proofs::DiscoveryLawful::lawful_get_endpoints_request))]
     fn lawful() {}
 
-    #[tactic(auto, unfolding(crate::specs::Discovery::get_endpoints_request))]
-    fn read_value<S: Source>(
-        alloc: Global,
-        src: &mut S,
-        depth: u32,
-    ) -> Result<GetEndpointsRequest, ReadFault> {
-        let request_header = RequestHeader::read_value(alloc, src, depth)?;
-        let (endpoint_url, (locale_ids, profile_uris)) = Wire::read_value(alloc, src, depth)?;
-        Ok(GetEndpointsRequest {
-            request_header,
-            endpoint_url,
-            locale_ids,
-            profile_uris,
+    fn read_value<S: Source>(alloc: Global, src: &mut S, depth: u32) -> Result<Self, ReadFault> {
+        read_fields!(alloc, src, depth => GetEndpointsRequest {
+            request_header, endpoint_url, locale_ids, profile_uris
         })
     }
 
-    #[tactic(auto, unfolding(crate::specs::Discovery::get_endpoints_request))]
     fn is_encodable(&self) -> bool {
-        self.request_header.is_encodable()
-            && self.endpoint_url.is_encodable()
-            && self.locale_ids.is_encodable()
-            && self.profile_uris.is_encodable()
+        are_encodable!(self => request_header, endpoint_url, locale_ids, profile_uris)
     }
 
-    #[tactic(auto, unfolding(crate::specs::Discovery::get_endpoints_request))]
     fn append(&self, out: &mut Vec<u8>) -> Result<(), AllocError> {
-        append_two(&self.request_header, &self.endpoint_url, out)?;
-        append_two(&self.locale_ids, &self.profile_uris, out)
+        append_fields!(self, out => request_header, endpoint_url, locale_ids, profile_uris)
     }
 }
 
@@ -366,35 +256,24 @@ pub struct GetEndpointsResponse {
     pub endpoints: UaArray<EndpointDescription>,
 }
 
+#[tactic(auto, unfolding(crate::specs::Discovery::get_endpoints_response), using(crate::proofs::DiscoveryLawful::lawful_get_endpoints_response))]
 impl Wire for GetEndpointsResponse {
     ghost use Rattle.ua_structures.specs.Discovery.{get_endpoints_response};
 
     ghost format = { get_endpoints_response };
 
     #[inline]
-    #[tactic(auto, using(crate::proofs::DiscoveryLawful::lawful_get_endpoints_response))]
     fn lawful() {}
 
-    #[tactic(auto, unfolding(crate::specs::Discovery::get_endpoints_response))]
-    fn read_value<S: Source>(
-        alloc: Global,
-        src: &mut S,
-        depth: u32,
-    ) -> Result<GetEndpointsResponse, ReadFault> {
-        let (response_header, endpoints) = Wire::read_value(alloc, src, depth)?;
-        Ok(GetEndpointsResponse {
-            response_header,
-            endpoints,
-        })
+    fn read_value<S: Source>(alloc: Global, src: &mut S, depth: u32) -> Result<Self, ReadFault> {
+        read_fields!(alloc, src, depth => GetEndpointsResponse { response_header, endpoints })
     }
 
-    #[tactic(auto, unfolding(crate::specs::Discovery::get_endpoints_response))]
     fn is_encodable(&self) -> bool {
-        self.response_header.is_encodable() && self.endpoints.is_encodable()
+        are_encodable!(self => response_header, endpoints)
     }
 
-    #[tactic(auto, unfolding(crate::specs::Discovery::get_endpoints_response))]
     fn append(&self, out: &mut Vec<u8>) -> Result<(), AllocError> {
-        append_two(&self.response_header, &self.endpoints, out)
+        append_fields!(self, out => response_header, endpoints)
     }
 }

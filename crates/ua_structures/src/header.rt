@@ -10,6 +10,7 @@ ghost use Rattle.ua_structures.specs.Plain.{empty_request_header, empty_response
 ghost use Rattle.ua_structures.specs.inside.HeaderEnds.{behind_diagnostics, behind_result};
 
 use crate::array::UaArray;
+use crate::fields::{append_fields, are_encodable, read_fields};
 use std::alloc::{AllocError, Global};
 use ua_builtin::laws::{moment_is_encodable, status_is_encodable};
 use ua_builtin::{
@@ -183,21 +184,16 @@ fn take_timeout_alone<S: Source>(alloc: Global, src: &mut S) -> Option<u32>
     Some(timeout_hint)
 }
 
+#[tactic(auto, unfolding(crate::specs::Header::request_header), using(crate::proofs::HeaderLawful::lawful_request_header))]
 impl Wire for RequestHeader {
     ghost use Rattle.ua_structures.specs.Header.{request_header};
 
     ghost format = { request_header };
 
     #[inline]
-    #[tactic(auto, using(crate::proofs::HeaderLawful::lawful_request_header))]
     fn lawful() {}
 
-    #[tactic(auto, unfolding(crate::specs::Header::request_header))]
-    fn read_value<S: Source>(
-        alloc: Global,
-        src: &mut S,
-        depth: u32,
-    ) -> Result<RequestHeader, ReadFault> {
+    fn read_value<S: Source>(alloc: Global, src: &mut S, depth: u32) -> Result<Self, ReadFault> {
         let mut header = RequestHeader::empty();
         match header.read_into(alloc, src, depth) {
             Ok(()) => Ok(header),
@@ -208,27 +204,18 @@ impl Wire for RequestHeader {
         }
     }
 
-    #[tactic(auto, unfolding(crate::specs::Header::request_header))]
     fn is_encodable(&self) -> bool {
-        self.authentication_token.is_encodable()
-            && self.timestamp.is_encodable()
-            && self.request_handle.is_encodable()
-            && self.return_diagnostics.is_encodable()
-            && self.audit_entry_id.is_encodable()
-            && self.timeout_hint.is_encodable()
-            && self.additional_header.is_encodable()
+        are_encodable!(self =>
+            authentication_token, timestamp, request_handle, return_diagnostics, audit_entry_id,
+            timeout_hint, additional_header
+        )
     }
 
-    #[tactic(auto, unfolding(crate::specs::Header::request_header))]
     fn append(&self, out: &mut Vec<u8>) -> Result<(), AllocError> {
-        append_three(
-            &self.authentication_token,
-            &self.timestamp,
-            &self.request_handle,
-            out,
-        )?;
-        append_two(&self.return_diagnostics, &self.audit_entry_id, out)?;
-        append_two(&self.timeout_hint, &self.additional_header, out)
+        append_fields!(self, out =>
+            authentication_token, timestamp, request_handle, return_diagnostics, audit_entry_id,
+            timeout_hint, additional_header
+        )
     }
 }
 
@@ -354,21 +341,16 @@ fn take_nothing_more<S: Source>(alloc: Global, src: &mut S, depth: u32) -> Optio
     Some(texts)
 }
 
+#[tactic(auto, unfolding(crate::specs::Header::response_header), using(crate::proofs::HeaderLawful::lawful_response_header))]
 impl Wire for ResponseHeader {
     ghost use Rattle.ua_structures.specs.Header.{response_header};
 
     ghost format = { response_header };
 
     #[inline]
-    #[tactic(auto, using(crate::proofs::HeaderLawful::lawful_response_header))]
     fn lawful() {}
 
-    #[tactic(auto, unfolding(crate::specs::Header::response_header))]
-    fn read_value<S: Source>(
-        alloc: Global,
-        src: &mut S,
-        depth: u32,
-    ) -> Result<ResponseHeader, ReadFault> {
+    fn read_value<S: Source>(alloc: Global, src: &mut S, depth: u32) -> Result<Self, ReadFault> {
         let mut header = ResponseHeader::empty();
         match header.read_into(alloc, src, depth) {
             Ok(()) => Ok(header),
@@ -379,29 +361,17 @@ impl Wire for ResponseHeader {
         }
     }
 
-    #[tactic(auto, unfolding(crate::specs::Header::response_header))]
     fn is_encodable(&self) -> bool {
-        self.timestamp.is_encodable()
-            && self.request_handle.is_encodable()
-            && self.service_result.is_encodable()
-            && self.service_diagnostics.is_encodable()
-            && self.string_table.is_encodable()
-            && self.additional_header.is_encodable()
+        are_encodable!(self =>
+            timestamp, request_handle, service_result, service_diagnostics, string_table,
+            additional_header
+        )
     }
 
-    #[tactic(auto, unfolding(crate::specs::Header::response_header))]
     fn append(&self, out: &mut Vec<u8>) -> Result<(), AllocError> {
-        append_three(
-            &self.timestamp,
-            &self.request_handle,
-            &self.service_result,
-            out,
-        )?;
-        append_three(
-            &self.service_diagnostics,
-            &self.string_table,
-            &self.additional_header,
-            out,
+        append_fields!(self, out =>
+            timestamp, request_handle, service_result, service_diagnostics, string_table,
+            additional_header
         )
     }
 }
@@ -425,32 +395,24 @@ impl ServiceFault {
     }
 }
 
+#[tactic(auto, unfolding(crate::specs::Header::service_fault), using(crate::proofs::HeaderLawful::lawful_service_fault))]
 impl Wire for ServiceFault {
     ghost use Rattle.ua_structures.specs.Header.{service_fault};
 
     ghost format = { service_fault };
 
     #[inline]
-    #[tactic(auto, using(crate::proofs::HeaderLawful::lawful_service_fault))]
     fn lawful() {}
 
-    #[tactic(auto, unfolding(crate::specs::Header::service_fault))]
-    fn read_value<S: Source>(
-        alloc: Global,
-        src: &mut S,
-        depth: u32,
-    ) -> Result<ServiceFault, ReadFault> {
-        let response_header = Wire::read_value(alloc, src, depth)?;
-        Ok(ServiceFault { response_header })
+    fn read_value<S: Source>(alloc: Global, src: &mut S, depth: u32) -> Result<Self, ReadFault> {
+        read_fields!(alloc, src, depth => ServiceFault { response_header })
     }
 
-    #[tactic(auto, unfolding(crate::specs::Header::service_fault))]
     fn is_encodable(&self) -> bool {
-        self.response_header.is_encodable()
+        are_encodable!(self => response_header)
     }
 
-    #[tactic(auto, unfolding(crate::specs::Header::service_fault))]
     fn append(&self, out: &mut Vec<u8>) -> Result<(), AllocError> {
-        self.response_header.append(out)
+        append_fields!(self, out => response_header)
     }
 }

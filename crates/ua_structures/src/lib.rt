@@ -20,6 +20,7 @@ mod array;
 mod attribute;
 mod data_values;
 mod discovery;
+mod fields;
 mod header;
 pub mod laws;
 mod secure_channel;

@@ -4,6 +4,7 @@ ghost use Rattle.std.specs.Prelude.{◌≡◌, pos, IsTrue};
 ghost use Rattle.ua_structures.specs.Plain.{open_request_of, open_response_of, close_request_of};
 ghost use Rattle.ua_structures.specs.SecureChannel.{open_request, open_response, close_request};
 
+use crate::fields::{append_fields, are_encodable, read_fields};
 use crate::header::{RequestHeader, ResponseHeader};
 use std::alloc::{AllocError, Global};
 use ua_builtin::laws::moment_is_encodable;
@@ -74,61 +75,33 @@ impl OpenRequest {
     }
 }
 
+#[tactic(auto, unfolding(crate::specs::SecureChannel::open_request), using(crate::proofs::SecureChannelLawful::lawful_open_request))]
 impl Wire for OpenRequest {
     ghost use Rattle.ua_structures.specs.SecureChannel.{open_request};
 
     ghost format = { open_request };
 
     #[inline]
-    #[tactic(auto, using(crate::proofs::SecureChannelLawful::lawful_open_request))]
     fn lawful() {}
 
-    #[tactic(auto, unfolding(crate::specs::SecureChannel::open_request))]
-    fn read_value<S: Source>(
-        alloc: Global,
-        src: &mut S,
-        depth: u32,
-    ) -> Result<OpenRequest, ReadFault> {
-        let (
-            request_header,
-            (
-                client_protocol_version,
-                (request_type, (security_mode, (client_nonce, requested_lifetime))),
-            ),
-        ) = Wire::read_value(alloc, src, depth)?;
-        Ok(OpenRequest {
-            request_header,
-            client_protocol_version,
-            request_type,
-            security_mode,
-            client_nonce,
-            requested_lifetime,
+    fn read_value<S: Source>(alloc: Global, src: &mut S, depth: u32) -> Result<Self, ReadFault> {
+        read_fields!(alloc, src, depth => OpenRequest {
+            request_header, client_protocol_version, request_type, security_mode, client_nonce,
+            requested_lifetime
         })
     }
 
-    #[tactic(auto, unfolding(crate::specs::SecureChannel::open_request))]
     fn is_encodable(&self) -> bool {
-        self.request_header.is_encodable()
-            && self.client_protocol_version.is_encodable()
-            && self.request_type.is_encodable()
-            && self.security_mode.is_encodable()
-            && self.client_nonce.is_encodable()
-            && self.requested_lifetime.is_encodable()
+        are_encodable!(self =>
+            request_header, client_protocol_version, request_type, security_mode, client_nonce,
+            requested_lifetime
+        )
     }
 
-    #[tactic(auto, unfolding(crate::specs::SecureChannel::open_request))]
     fn append(&self, out: &mut Vec<u8>) -> Result<(), AllocError> {
-        append_three(
-            &self.request_header,
-            &self.client_protocol_version,
-            &self.request_type,
-            out,
-        )?;
-        append_three(
-            &self.security_mode,
-            &self.client_nonce,
-            &self.requested_lifetime,
-            out,
+        append_fields!(self, out =>
+            request_header, client_protocol_version, request_type, security_mode, client_nonce,
+            requested_lifetime
         )
     }
 }
@@ -176,60 +149,34 @@ impl OpenResponse {
     }
 }
 
+#[tactic(auto, unfolding(crate::specs::SecureChannel::open_response), using(crate::proofs::SecureChannelLawful::lawful_open_response))]
 impl Wire for OpenResponse {
     ghost use Rattle.ua_structures.specs.SecureChannel.{open_response};
 
     ghost format = { open_response };
 
     #[inline]
-    #[tactic(auto, using(crate::proofs::SecureChannelLawful::lawful_open_response))]
     fn lawful() {}
 
-    #[tactic(auto, unfolding(crate::specs::SecureChannel::open_response))]
-    fn read_value<S: Source>(
-        alloc: Global,
-        src: &mut S,
-        depth: u32,
-    ) -> Result<OpenResponse, ReadFault> {
-        let (
-            response_header,
-            (
-                server_protocol_version,
-                (channel_id, (token_id, (created_at, (revised_lifetime, server_nonce)))),
-            ),
-        ) = Wire::read_value(alloc, src, depth)?;
-        Ok(OpenResponse {
-            response_header,
-            server_protocol_version,
-            channel_id,
-            token_id,
-            created_at,
-            revised_lifetime,
-            server_nonce,
+    fn read_value<S: Source>(alloc: Global, src: &mut S, depth: u32) -> Result<Self, ReadFault> {
+        read_fields!(alloc, src, depth => OpenResponse {
+            response_header, server_protocol_version, channel_id, token_id, created_at,
+            revised_lifetime, server_nonce
         })
     }
 
-    #[tactic(auto, unfolding(crate::specs::SecureChannel::open_response))]
     fn is_encodable(&self) -> bool {
-        self.response_header.is_encodable()
-            && self.server_protocol_version.is_encodable()
-            && self.channel_id.is_encodable()
-            && self.token_id.is_encodable()
-            && self.created_at.is_encodable()
-            && self.revised_lifetime.is_encodable()
-            && self.server_nonce.is_encodable()
+        are_encodable!(self =>
+            response_header, server_protocol_version, channel_id, token_id, created_at,
+            revised_lifetime, server_nonce
+        )
     }
 
-    #[tactic(auto, unfolding(crate::specs::SecureChannel::open_response))]
     fn append(&self, out: &mut Vec<u8>) -> Result<(), AllocError> {
-        append_three(
-            &self.response_header,
-            &self.server_protocol_version,
-            &self.channel_id,
-            out,
-        )?;
-        append_two(&self.token_id, &self.created_at, out)?;
-        append_two(&self.revised_lifetime, &self.server_nonce, out)
+        append_fields!(self, out =>
+            response_header, server_protocol_version, channel_id, token_id, created_at,
+            revised_lifetime, server_nonce
+        )
     }
 }
 
@@ -253,32 +200,24 @@ impl CloseRequest {
     }
 }
 
+#[tactic(auto, unfolding(crate::specs::SecureChannel::close_request), using(crate::proofs::SecureChannelLawful::lawful_close_request))]
 impl Wire for CloseRequest {
     ghost use Rattle.ua_structures.specs.SecureChannel.{close_request};
 
     ghost format = { close_request };
 
     #[inline]
-    #[tactic(auto, using(crate::proofs::SecureChannelLawful::lawful_close_request))]
     fn lawful() {}
 
-    #[tactic(auto, unfolding(crate::specs::SecureChannel::close_request))]
-    fn read_value<S: Source>(
-        alloc: Global,
-        src: &mut S,
-        depth: u32,
-    ) -> Result<CloseRequest, ReadFault> {
-        let request_header = Wire::read_value(alloc, src, depth)?;
-        Ok(CloseRequest { request_header })
+    fn read_value<S: Source>(alloc: Global, src: &mut S, depth: u32) -> Result<Self, ReadFault> {
+        read_fields!(alloc, src, depth => CloseRequest { request_header })
     }
 
-    #[tactic(auto, unfolding(crate::specs::SecureChannel::close_request))]
     fn is_encodable(&self) -> bool {
-        self.request_header.is_encodable()
+        are_encodable!(self => request_header)
     }
 
-    #[tactic(auto, unfolding(crate::specs::SecureChannel::close_request))]
     fn append(&self, out: &mut Vec<u8>) -> Result<(), AllocError> {
-        self.request_header.append(out)
+        append_fields!(self, out => request_header)
     }
 }

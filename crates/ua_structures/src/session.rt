@@ -13,6 +13,7 @@ ghost use Rattle.ua_structures.specs.Session.{create_session_request, create_ses
 
 use crate::array::UaArray;
 use crate::discovery::{ApplicationDescription, EndpointDescription};
+use crate::fields::{append_fields, are_encodable, read_fields};
 use crate::header::{RequestHeader, ResponseHeader};
 use crate::signature::{SignatureData, SignedSoftwareCertificate};
 use std::alloc::{AllocError, Global};
@@ -38,33 +39,25 @@ pub struct AnonymousIdentityToken {
     pub policy_id: UaString,
 }
 
+#[tactic(auto, unfolding(crate::specs::Session::anonymous_identity_token), using(crate::proofs::SessionLawful::lawful_anonymous_identity_token))]
 impl Wire for AnonymousIdentityToken {
     ghost use Rattle.ua_structures.specs.Session.{anonymous_identity_token};
 
     ghost format = { anonymous_identity_token };
 
     #[inline]
-    #[tactic(auto, using(crate::proofs::SessionLawful::lawful_anonymous_identity_token))]
     fn lawful() {}
 
-    #[tactic(auto, unfolding(crate::specs::Session::anonymous_identity_token))]
-    fn read_value<S: Source>(
-        alloc: Global,
-        src: &mut S,
-        depth: u32,
-    ) -> Result<AnonymousIdentityToken, ReadFault> {
-        let policy_id = Wire::read_value(alloc, src, depth)?;
-        Ok(AnonymousIdentityToken { policy_id })
+    fn read_value<S: Source>(alloc: Global, src: &mut S, depth: u32) -> Result<Self, ReadFault> {
+        read_fields!(alloc, src, depth => AnonymousIdentityToken { policy_id })
     }
 
-    #[tactic(auto, unfolding(crate::specs::Session::anonymous_identity_token))]
     fn is_encodable(&self) -> bool {
-        self.policy_id.is_encodable()
+        are_encodable!(self => policy_id)
     }
 
-    #[tactic(auto, unfolding(crate::specs::Session::anonymous_identity_token))]
     fn append(&self, out: &mut Vec<u8>) -> Result<(), AllocError> {
-        self.policy_id.append(out)
+        append_fields!(self, out => policy_id)
     }
 }
 
@@ -116,86 +109,33 @@ impl CreateSessionRequest {
     }
 }
 
+#[tactic(auto, unfolding(crate::specs::Session::create_session_request), using(crate::proofs::SessionLawful::lawful_create_session_request))]
 impl Wire for CreateSessionRequest {
     ghost use Rattle.ua_structures.specs.Session.{create_session_request};
 
     ghost format = { create_session_request };
 
     #[inline]
-    #[tactic(auto, using(crate::proofs::SessionLawful::lawful_create_session_request))]
     fn lawful() {}
 
-    #[tactic(auto, unfolding(crate::specs::Session::create_session_request))]
-    fn read_value<S: Source>(
-        alloc: Global,
-        src: &mut S,
-        depth: u32,
-    ) -> Result<CreateSessionRequest, ReadFault> {
-        let request_header = RequestHeader::read_value(alloc, src, depth)?;
-        let (
-            client_description,
-            (
-                server_uri,
-                (
-                    endpoint_url,
-                    (
-                        session_name,
-                        (
-                            client_nonce,
-                            (
-                                client_certificate,
-                                (requested_session_timeout, max_response_message_size),
-                            ),
-                        ),
-                    ),
-                ),
-            ),
-        ) = Wire::read_value(alloc, src, depth)?;
-        Ok(CreateSessionRequest {
-            request_header,
-            client_description,
-            server_uri,
-            endpoint_url,
-            session_name,
-            client_nonce,
-            client_certificate,
-            requested_session_timeout,
-            max_response_message_size,
+    fn read_value<S: Source>(alloc: Global, src: &mut S, depth: u32) -> Result<Self, ReadFault> {
+        read_fields!(alloc, src, depth => CreateSessionRequest {
+            request_header, client_description, server_uri, endpoint_url, session_name,
+            client_nonce, client_certificate, requested_session_timeout, max_response_message_size
         })
     }
 
-    #[tactic(auto, unfolding(crate::specs::Session::create_session_request))]
     fn is_encodable(&self) -> bool {
-        self.request_header.is_encodable()
-            && self.client_description.is_encodable()
-            && self.server_uri.is_encodable()
-            && self.endpoint_url.is_encodable()
-            && self.session_name.is_encodable()
-            && self.client_nonce.is_encodable()
-            && self.client_certificate.is_encodable()
-            && self.requested_session_timeout.is_encodable()
-            && self.max_response_message_size.is_encodable()
+        are_encodable!(self =>
+            request_header, client_description, server_uri, endpoint_url, session_name,
+            client_nonce, client_certificate, requested_session_timeout, max_response_message_size
+        )
     }
 
-    #[tactic(auto, unfolding(crate::specs::Session::create_session_request))]
     fn append(&self, out: &mut Vec<u8>) -> Result<(), AllocError> {
-        append_three(
-            &self.request_header,
-            &self.client_description,
-            &self.server_uri,
-            out,
-        )?;
-        append_three(
-            &self.endpoint_url,
-            &self.session_name,
-            &self.client_nonce,
-            out,
-        )?;
-        append_three(
-            &self.client_certificate,
-            &self.requested_session_timeout,
-            &self.max_response_message_size,
-            out,
+        append_fields!(self, out =>
+            request_header, client_description, server_uri, endpoint_url, session_name,
+            client_nonce, client_certificate, requested_session_timeout, max_response_message_size
         )
     }
 }
@@ -251,94 +191,37 @@ impl CreateSessionResponse {
     }
 }
 
+#[tactic(auto, unfolding(crate::specs::Session::create_session_response), using(crate::proofs::SessionLawful::lawful_create_session_response))]
 impl Wire for CreateSessionResponse {
     ghost use Rattle.ua_structures.specs.Session.{create_session_response};
 
     ghost format = { create_session_response };
 
     #[inline]
-    #[tactic(auto, using(crate::proofs::SessionLawful::lawful_create_session_response))]
     fn lawful() {}
 
-    #[tactic(auto, unfolding(crate::specs::Session::create_session_response))]
-    fn read_value<S: Source>(
-        alloc: Global,
-        src: &mut S,
-        depth: u32,
-    ) -> Result<CreateSessionResponse, ReadFault> {
-        let (
-            response_header,
-            (
-                session_id,
-                (
-                    authentication_token,
-                    (
-                        revised_session_timeout,
-                        (
-                            server_nonce,
-                            (
-                                server_certificate,
-                                (
-                                    server_endpoints,
-                                    (
-                                        server_software_certificates,
-                                        (server_signature, max_request_message_size),
-                                    ),
-                                ),
-                            ),
-                        ),
-                    ),
-                ),
-            ),
-        ) = Wire::read_value(alloc, src, depth)?;
-        Ok(CreateSessionResponse {
-            response_header,
-            session_id,
-            authentication_token,
-            revised_session_timeout,
-            server_nonce,
-            server_certificate,
-            server_endpoints,
-            server_software_certificates,
-            server_signature,
-            max_request_message_size,
+    fn read_value<S: Source>(alloc: Global, src: &mut S, depth: u32) -> Result<Self, ReadFault> {
+        read_fields!(alloc, src, depth => CreateSessionResponse {
+            response_header, session_id, authentication_token, revised_session_timeout,
+            server_nonce, server_certificate, server_endpoints, server_software_certificates,
+            server_signature, max_request_message_size
         })
     }
 
-    #[tactic(auto, unfolding(crate::specs::Session::create_session_response))]
     fn is_encodable(&self) -> bool {
-        self.response_header.is_encodable()
-            && self.session_id.is_encodable()
-            && self.authentication_token.is_encodable()
-            && self.revised_session_timeout.is_encodable()
-            && self.server_nonce.is_encodable()
-            && self.server_certificate.is_encodable()
-            && self.server_endpoints.is_encodable()
-            && self.server_software_certificates.is_encodable()
-            && self.server_signature.is_encodable()
-            && self.max_request_message_size.is_encodable()
+        are_encodable!(self =>
+            response_header, session_id, authentication_token, revised_session_timeout,
+            server_nonce, server_certificate, server_endpoints, server_software_certificates,
+            server_signature, max_request_message_size
+        )
     }
 
-    #[tactic(auto, unfolding(crate::specs::Session::create_session_response))]
     fn append(&self, out: &mut Vec<u8>) -> Result<(), AllocError> {
-        append_three(
-            &self.response_header,
-            &self.session_id,
-            &self.authentication_token,
-            out,
-        )?;
-        append_three(
-            &self.revised_session_timeout,
-            &self.server_nonce,
-            &self.server_certificate,
-            out,
-        )?;
-        append_two(
-            &self.server_endpoints,
-            &self.server_software_certificates,
-            out,
-        )?;
-        append_two(&self.server_signature, &self.max_request_message_size, out)
+        append_fields!(self, out =>
+            response_header, session_id, authentication_token, revised_session_timeout,
+            server_nonce, server_certificate, server_endpoints, server_software_certificates,
+            server_signature, max_request_message_size
+        )
     }
 }
 
@@ -375,62 +258,33 @@ impl ActivateSessionRequest {
     }
 }
 
+#[tactic(auto, unfolding(crate::specs::Session::activate_session_request), using(crate::proofs::SessionLawful::lawful_activate_session_request))]
 impl Wire for ActivateSessionRequest {
     ghost use Rattle.ua_structures.specs.Session.{activate_session_request};
 
     ghost format = { activate_session_request };
 
     #[inline]
-    #[tactic(auto, using(crate::proofs::SessionLawful::lawful_activate_session_request))]
     fn lawful() {}
 
-    #[tactic(auto, unfolding(crate::specs::Session::activate_session_request))]
-    fn read_value<S: Source>(
-        alloc: Global,
-        src: &mut S,
-        depth: u32,
-    ) -> Result<ActivateSessionRequest, ReadFault> {
-        let request_header = RequestHeader::read_value(alloc, src, depth)?;
-        let (
-            client_signature,
-            (
-                client_software_certificates,
-                (locale_ids, (user_identity_token, user_token_signature)),
-            ),
-        ) = Wire::read_value(alloc, src, depth)?;
-        Ok(ActivateSessionRequest {
-            request_header,
-            client_signature,
-            client_software_certificates,
-            locale_ids,
-            user_identity_token,
-            user_token_signature,
+    fn read_value<S: Source>(alloc: Global, src: &mut S, depth: u32) -> Result<Self, ReadFault> {
+        read_fields!(alloc, src, depth => ActivateSessionRequest {
+            request_header, client_signature, client_software_certificates, locale_ids,
+            user_identity_token, user_token_signature
         })
     }
 
-    #[tactic(auto, unfolding(crate::specs::Session::activate_session_request))]
     fn is_encodable(&self) -> bool {
-        self.request_header.is_encodable()
-            && self.client_signature.is_encodable()
-            && self.client_software_certificates.is_encodable()
-            && self.locale_ids.is_encodable()
-            && self.user_identity_token.is_encodable()
-            && self.user_token_signature.is_encodable()
+        are_encodable!(self =>
+            request_header, client_signature, client_software_certificates, locale_ids,
+            user_identity_token, user_token_signature
+        )
     }
 
-    #[tactic(auto, unfolding(crate::specs::Session::activate_session_request))]
     fn append(&self, out: &mut Vec<u8>) -> Result<(), AllocError> {
-        append_three(
-            &self.request_header,
-            &self.client_signature,
-            &self.client_software_certificates,
-            out,
-        )?;
-        append_three(
-            &self.locale_ids,
-            &self.user_identity_token,
-            &self.user_token_signature,
-            out,
+        append_fields!(self, out =>
+            request_header, client_signature, client_software_certificates, locale_ids,
+            user_identity_token, user_token_signature
         )
     }
 }
@@ -460,44 +314,27 @@ impl ActivateSessionResponse {
     }
 }
 
+#[tactic(auto, unfolding(crate::specs::Session::activate_session_response), using(crate::proofs::SessionLawful::lawful_activate_session_response))]
 impl Wire for ActivateSessionResponse {
     ghost use Rattle.ua_structures.specs.Session.{activate_session_response};
 
     ghost format = { activate_session_response };
 
     #[inline]
-    #[tactic(auto, using(crate::proofs::SessionLawful::lawful_activate_session_response))]
     fn lawful() {}
 
-    #[tactic(auto, unfolding(crate::specs::Session::activate_session_response))]
-    fn read_value<S: Source>(
-        alloc: Global,
-        src: &mut S,
-        depth: u32,
-    ) -> Result<ActivateSessionResponse, ReadFault> {
-        let (response_header, (server_nonce, (results, diagnostic_infos))) = Wire::read_value(
-            alloc, src, depth,
-        )?;
-        Ok(ActivateSessionResponse {
-            response_header,
-            server_nonce,
-            results,
-            diagnostic_infos,
+    fn read_value<S: Source>(alloc: Global, src: &mut S, depth: u32) -> Result<Self, ReadFault> {
+        read_fields!(alloc, src, depth => ActivateSessionResponse {
+            response_header, server_nonce, results, diagnostic_infos
         })
     }
 
-    #[tactic(auto, unfolding(crate::specs::Session::activate_session_response))]
     fn is_encodable(&self) -> bool {
-        self.response_header.is_encodable()
-            && self.server_nonce.is_encodable()
-            && self.results.is_encodable()
-            && self.diagnostic_infos.is_encodable()
+        are_encodable!(self => response_header, server_nonce, results, diagnostic_infos)
     }
 
-    #[tactic(auto, unfolding(crate::specs::Session::activate_session_response))]
     fn append(&self, out: &mut Vec<u8>) -> Result<(), AllocError> {
-        append_two(&self.response_header, &self.server_nonce, out)?;
-        append_two(&self.results, &self.diagnostic_infos, out)
+        append_fields!(self, out => response_header, server_nonce, results, diagnostic_infos)
     }
 }
 
@@ -508,37 +345,27 @@ pub struct CloseSessionRequest {
     pub delete_subscriptions: bool,
 }
 
+#[tactic(auto, unfolding(crate::specs::Session::close_session_request), using(crate::proofs::SessionLawful::lawful_close_session_request))]
 impl Wire for CloseSessionRequest {
     ghost use Rattle.ua_structures.specs.Session.{close_session_request};
 
     ghost format = { close_session_request };
 
     #[inline]
-    #[tactic(auto, using(crate::proofs::SessionLawful::lawful_close_session_request))]
     fn lawful() {}
 
-    #[tactic(auto, unfolding(crate::specs::Session::close_session_request))]
-    fn read_value<S: Source>(
-        alloc: Global,
-        src: &mut S,
-        depth: u32,
-    ) -> Result<CloseSessionRequest, ReadFault> {
-        let request_header = RequestHeader::read_value(alloc, src, depth)?;
-        let delete_subscriptions = Wire::read_value(alloc, src, depth)?;
-        Ok(CloseSessionRequest {
-            request_header,
-            delete_subscriptions,
+    fn read_value<S: Source>(alloc: Global, src: &mut S, depth: u32) -> Result<Self, ReadFault> {
+        read_fields!(alloc, src, depth => CloseSessionRequest {
+            request_header, delete_subscriptions
         })
     }
 
-    #[tactic(auto, unfolding(crate::specs::Session::close_session_request))]
     fn is_encodable(&self) -> bool {
-        self.request_header.is_encodable() && self.delete_subscriptions.is_encodable()
+        are_encodable!(self => request_header, delete_subscriptions)
     }
 
-    #[tactic(auto, unfolding(crate::specs::Session::close_session_request))]
     fn append(&self, out: &mut Vec<u8>) -> Result<(), AllocError> {
-        append_two(&self.request_header, &self.delete_subscriptions, out)
+        append_fields!(self, out => request_header, delete_subscriptions)
     }
 }
 
@@ -548,32 +375,24 @@ pub struct CloseSessionResponse {
     pub response_header: ResponseHeader,
 }
 
+#[tactic(auto, unfolding(crate::specs::Session::close_session_response), using(crate::proofs::SessionLawful::lawful_close_session_response))]
 impl Wire for CloseSessionResponse {
     ghost use Rattle.ua_structures.specs.Session.{close_session_response};
 
     ghost format = { close_session_response };
 
     #[inline]
-    #[tactic(auto, using(crate::proofs::SessionLawful::lawful_close_session_response))]
     fn lawful() {}
 
-    #[tactic(auto, unfolding(crate::specs::Session::close_session_response))]
-    fn read_value<S: Source>(
-        alloc: Global,
-        src: &mut S,
-        depth: u32,
-    ) -> Result<CloseSessionResponse, ReadFault> {
-        let response_header = Wire::read_value(alloc, src, depth)?;
-        Ok(CloseSessionResponse { response_header })
+    fn read_value<S: Source>(alloc: Global, src: &mut S, depth: u32) -> Result<Self, ReadFault> {
+        read_fields!(alloc, src, depth => CloseSessionResponse { response_header })
     }
 
-    #[tactic(auto, unfolding(crate::specs::Session::close_session_response))]
     fn is_encodable(&self) -> bool {
-        self.response_header.is_encodable()
+        are_encodable!(self => response_header)
     }
 
-    #[tactic(auto, unfolding(crate::specs::Session::close_session_response))]
     fn append(&self, out: &mut Vec<u8>) -> Result<(), AllocError> {
-        self.response_header.append(out)
+        append_fields!(self, out => response_header)
     }
 }

@@ -3,6 +3,7 @@
 ghost use Rattle.std.specs.Prelude.{◌≡◌};
 ghost use Rattle.ua_structures.specs.Plain.{null_signature};
 
+use crate::fields::{append_fields, are_encodable, read_fields};
 use std::alloc::{AllocError, Global};
 use ua_builtin::{ReadFault, Source, UaBytes, UaString, Wire};
 use ua_octets::append_two;
@@ -14,36 +15,25 @@ pub struct SignedSoftwareCertificate {
     pub signature: UaBytes,
 }
 
+#[tactic(auto, unfolding(crate::specs::Session::signed_software_certificate), using(crate::proofs::SessionLawful::lawful_signed_software_certificate))]
 impl Wire for SignedSoftwareCertificate {
     ghost use Rattle.ua_structures.specs.Session.{signed_software_certificate};
 
     ghost format = { signed_software_certificate };
 
     #[inline]
-    #[tactic(auto, using(crate::proofs::SessionLawful::lawful_signed_software_certificate))]
     fn lawful() {}
 
-    #[tactic(auto, unfolding(crate::specs::Session::signed_software_certificate))]
-    fn read_value<S: Source>(
-        alloc: Global,
-        src: &mut S,
-        depth: u32,
-    ) -> Result<SignedSoftwareCertificate, ReadFault> {
-        let (certificate_data, signature) = Wire::read_value(alloc, src, depth)?;
-        Ok(SignedSoftwareCertificate {
-            certificate_data,
-            signature,
-        })
+    fn read_value<S: Source>(alloc: Global, src: &mut S, depth: u32) -> Result<Self, ReadFault> {
+        read_fields!(alloc, src, depth => SignedSoftwareCertificate { certificate_data, signature })
     }
 
-    #[tactic(auto, unfolding(crate::specs::Session::signed_software_certificate))]
     fn is_encodable(&self) -> bool {
-        self.certificate_data.is_encodable() && self.signature.is_encodable()
+        are_encodable!(self => certificate_data, signature)
     }
 
-    #[tactic(auto, unfolding(crate::specs::Session::signed_software_certificate))]
     fn append(&self, out: &mut Vec<u8>) -> Result<(), AllocError> {
-        append_two(&self.certificate_data, &self.signature, out)
+        append_fields!(self, out => certificate_data, signature)
     }
 }
 
@@ -66,35 +56,24 @@ impl SignatureData {
     }
 }
 
+#[tactic(auto, unfolding(crate::specs::Session::signature_data), using(crate::proofs::SessionLawful::lawful_signature_data))]
 impl Wire for SignatureData {
     ghost use Rattle.ua_structures.specs.Session.{signature_data};
 
     ghost format = { signature_data };
 
     #[inline]
-    #[tactic(auto, using(crate::proofs::SessionLawful::lawful_signature_data))]
     fn lawful() {}
 
-    #[tactic(auto, unfolding(crate::specs::Session::signature_data))]
-    fn read_value<S: Source>(
-        alloc: Global,
-        src: &mut S,
-        depth: u32,
-    ) -> Result<SignatureData, ReadFault> {
-        let (algorithm, signature) = Wire::read_value(alloc, src, depth)?;
-        Ok(SignatureData {
-            algorithm,
-            signature,
-        })
+    fn read_value<S: Source>(alloc: Global, src: &mut S, depth: u32) -> Result<Self, ReadFault> {
+        read_fields!(alloc, src, depth => SignatureData { algorithm, signature })
     }
 
-    #[tactic(auto, unfolding(crate::specs::Session::signature_data))]
     fn is_encodable(&self) -> bool {
-        self.algorithm.is_encodable() && self.signature.is_encodable()
+        are_encodable!(self => algorithm, signature)
     }
 
-    #[tactic(auto, unfolding(crate::specs::Session::signature_data))]
     fn append(&self, out: &mut Vec<u8>) -> Result<(), AllocError> {
-        append_two(&self.algorithm, &self.signature, out)
+        append_fields!(self, out => algorithm, signature)
     }
 }

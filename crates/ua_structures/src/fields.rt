@@ -1,0 +1,37 @@
+//! What structures do field by field.
+
+/// Reads the fields of a structure in order.
+macro_rules! read_fields {
+    ($alloc:expr, $src:expr, $depth:expr => $structure:ident { $($field:ident),+ }) => {{
+        $(let $field = Wire::read_value($alloc, $src, $depth)?;)+
+        Ok($structure { $($field),+ })
+    }};
+}
+
+/// Whether each field has a canonical encoding.
+macro_rules! are_encodable {
+    ($value:expr => $first:ident $(, $field:ident)*) => {
+        $value.$first.is_encodable() $(&& $value.$field.is_encodable())*
+    };
+}
+
+/// Adds the canonical encodings of the fields in order.
+macro_rules! append_fields {
+    ($value:expr, $out:expr => $first:ident) => {
+        $value.$first.append($out)
+    };
+    ($value:expr, $out:expr => $first:ident, $second:ident) => {
+        append_two(&$value.$first, &$value.$second, $out)
+    };
+    ($value:expr, $out:expr => $first:ident, $second:ident, $third:ident) => {
+        append_three(&$value.$first, &$value.$second, &$value.$third, $out)
+    };
+    ($value:expr, $out:expr => $first:ident, $second:ident $(, $field:ident)+) => {{
+        append_two(&$value.$first, &$value.$second, $out)?;
+        append_fields!($value, $out => $($field),+)
+    }};
+}
+
+pub(crate) use append_fields;
+pub(crate) use are_encodable;
+pub(crate) use read_fields;
