@@ -28,8 +28,9 @@ standard n = record { namespace = 0; identifier = Numeric n }
 
 -- ---- messages of several kinds
 
--- a kind of message: the number of its binary encoding (OPC 10000-6, A.3), the structure that it holds, how octets encode that, and the message that is made of it
+-- a kind of message: the name and the number of its binary encoding (OPC 10000-6, A.3), the structure that it holds, how octets encode that, and the message that is made of it
 pub record Kind (V : Type 0) : Type 1 where
+  pub name : List ℕ
   pub number : ℕ
   pub structure : Type 0
   pub format : Format structure

@@ -1,5 +1,5 @@
 -- Requests: the kinds by the number of their encoding.
-use Rattle.std.specs.Prelude.{◌≡◌, ℕ, List, [], ◌∷◌, Bool, Option, Some, None, Result, Ok, Err}
+use Rattle.std.specs.Prelude.{◌≡◌, ℕ, List, [], ◌∷◌, Bool, Option, Some, None, Result, Ok, Err, codes}
 use Rattle.ua_builtin.specs.Exact.{◌>>=◌}
 use Rattle.ua_builtin.specs.Format.{Format, most_levels}
 use Rattle.ua_builtin.specs.declared.node_id.NodeId.{NodeId}
@@ -29,12 +29,12 @@ use Rattle.ua_services.specs.declared.fault.RequestFault.TheVariants.{Unsupporte
 
 -- each kind of request (OPC 10000-6, A.3)
 abbrev pub request_row : RequestKind → Kind Request
-request_row kind.GetEndpoints = record { number = 428; structure = GetEndpointsRequest; format = get_endpoints_request; make = message.GetEndpoints }
-request_row kind.CreateSession = record { number = 461; structure = CreateSessionRequest; format = create_session_request; make = message.CreateSession }
-request_row kind.ActivateSession = record { number = 467; structure = ActivateSessionRequest; format = activate_session_request; make = message.ActivateSession }
-request_row kind.CloseSession = record { number = 473; structure = CloseSessionRequest; format = close_session_request; make = message.CloseSession }
-request_row kind.Read = record { number = 631; structure = ReadRequest; format = read_request; make = message.Read }
-request_row kind.Write = record { number = 673; structure = WriteRequest; format = write_request; make = message.Write }
+request_row kind.GetEndpoints = record { name = codes "GetEndpointsRequest"; number = 428; structure = GetEndpointsRequest; format = get_endpoints_request; make = message.GetEndpoints }
+request_row kind.CreateSession = record { name = codes "CreateSessionRequest"; number = 461; structure = CreateSessionRequest; format = create_session_request; make = message.CreateSession }
+request_row kind.ActivateSession = record { name = codes "ActivateSessionRequest"; number = 467; structure = ActivateSessionRequest; format = activate_session_request; make = message.ActivateSession }
+request_row kind.CloseSession = record { name = codes "CloseSessionRequest"; number = 473; structure = CloseSessionRequest; format = close_session_request; make = message.CloseSession }
+request_row kind.Read = record { name = codes "ReadRequest"; number = 631; structure = ReadRequest; format = read_request; make = message.Read }
+request_row kind.Write = record { name = codes "WriteRequest"; number = 673; structure = WriteRequest; format = write_request; make = message.Write }
 
 -- the kinds of request
 abbrev pub request_kinds : List RequestKind
@@ -50,6 +50,10 @@ request_kinds =
 -- the kind of request whose binary encoding has this number, if there is one (OPC 10000-6, A.3)
 abbrev pub numbered : ℕ → Option RequestKind
 numbered n = with_number (λ k. (request_row k).number) n request_kinds
+
+-- the name of a kind of request
+abbrev pub request_kind_name : RequestKind → List ℕ
+request_kind_name k = (request_row k).name
 
 -- the structure that a request of each kind holds
 abbrev pub Structure : RequestKind → Type 0

@@ -1,5 +1,5 @@
 -- Responses: the kinds by the number of their encoding.
-use Rattle.std.specs.Prelude.{◌≡◌, ℕ, List, [], ◌∷◌, Option, Some, None, Result, ◌⊎◌}
+use Rattle.std.specs.Prelude.{◌≡◌, ℕ, List, [], ◌∷◌, Option, Some, None, Result, ◌⊎◌, codes}
 use Rattle.ua_builtin.specs.Exact.{◌>>=◌}
 use Rattle.ua_builtin.specs.Format.{Format, most_levels}
 use Rattle.ua_builtin.specs.declared.node_id.NodeId.{NodeId}
@@ -28,13 +28,13 @@ use Rattle.ua_services.specs.declared.fault.ResponseFault.TheVariants.{Unknown, 
 
 -- each kind of response (OPC 10000-6, A.3)
 abbrev pub response_row : ResponseKind → Kind Response
-response_row kind.GetEndpoints = record { number = 431; structure = GetEndpointsResponse; format = get_endpoints_response; make = message.GetEndpoints }
-response_row kind.CreateSession = record { number = 464; structure = CreateSessionResponse; format = create_session_response; make = message.CreateSession }
-response_row kind.ActivateSession = record { number = 470; structure = ActivateSessionResponse; format = activate_session_response; make = message.ActivateSession }
-response_row kind.CloseSession = record { number = 476; structure = CloseSessionResponse; format = close_session_response; make = message.CloseSession }
-response_row kind.Read = record { number = 634; structure = ReadResponse; format = read_response; make = message.Read }
-response_row kind.Write = record { number = 676; structure = WriteResponse; format = write_response; make = message.Write }
-response_row kind.ServiceFault = record { number = 397; structure = ServiceFault; format = service_fault; make = message.ServiceFault }
+response_row kind.GetEndpoints = record { name = codes "GetEndpointsResponse"; number = 431; structure = GetEndpointsResponse; format = get_endpoints_response; make = message.GetEndpoints }
+response_row kind.CreateSession = record { name = codes "CreateSessionResponse"; number = 464; structure = CreateSessionResponse; format = create_session_response; make = message.CreateSession }
+response_row kind.ActivateSession = record { name = codes "ActivateSessionResponse"; number = 470; structure = ActivateSessionResponse; format = activate_session_response; make = message.ActivateSession }
+response_row kind.CloseSession = record { name = codes "CloseSessionResponse"; number = 476; structure = CloseSessionResponse; format = close_session_response; make = message.CloseSession }
+response_row kind.Read = record { name = codes "ReadResponse"; number = 634; structure = ReadResponse; format = read_response; make = message.Read }
+response_row kind.Write = record { name = codes "WriteResponse"; number = 676; structure = WriteResponse; format = write_response; make = message.Write }
+response_row kind.ServiceFault = record { name = codes "ServiceFault"; number = 397; structure = ServiceFault; format = service_fault; make = message.ServiceFault }
 
 -- the kinds of response
 abbrev pub response_kinds : List ResponseKind
@@ -51,6 +51,10 @@ response_kinds =
 -- the kind of response whose binary encoding has this number, if there is one (OPC 10000-6, A.3)
 abbrev pub numbered : ℕ → Option ResponseKind
 numbered n = with_number (λ k. (response_row k).number) n response_kinds
+
+-- the name of a kind of response
+abbrev pub response_kind_name : ResponseKind → List ℕ
+response_kind_name k = (response_row k).name
 
 -- the structure that a response of each kind holds
 abbrev pub Structure : ResponseKind → Type 0

@@ -42,79 +42,66 @@ pub fn empty_body(alloc: Global) -> Vec<u8>
     body
 }
 
-/// A message of several kinds, by what octets it is.
-pub trait Message<K>: Sized {
-    ghost use Rattle.std.specs.Prelude.{ℕ, List, Option};
-    ghost use Rattle.ua_builtin.specs.Format.{Format};
-
-    /// Which octets encode which message.
-    ghost encoding: { Format Self };
-
-    /// The message of a kind that octets begin with behind its NodeId, and the octets behind it.
-    ghost of_kind: { K → ℕ → List ℕ → Option (Self × List ℕ) };
+/// A match of a message, the same for each kind: what it holds and the number of its encoding have the
+/// names that are given. As the macros below, it takes the kinds from a macro that has them, as
+/// [`requests`](crate::requests) and [`responses`](crate::responses).
+#[macro_export]
+macro_rules! by_kind {
+    ($all:ident $kinds:ident [$($kind:ident($held:ident) = $of:literal,)+] $message:expr, $structure:ident, $number:ident => $answer:expr) => {
+        match $message {
+            $($all::$kind($structure) => {
+                let $number = $of;
+                $answer
+            })+
+        }
+    };
 }
 
-/// A structure that messages of one kind hold: all that is to be said of a kind.
-pub trait Held<M: Message<K>, K>: Wire + Drop {
-    /// The message that holds the structure.
-    ghost held: { Self → M };
-
-    /// The kind of that message.
-    ghost kind: { K };
-
-    ghost NUMBER: { ℕ };
-
-    /// The number of its binary encoding (OPC 10000-6, A.3).
-    const NUMBER: u32;
-
-    /// Shows that the message is read and encoded as its structure is, behind the NodeId with the
-    /// number, and can be encoded where the structure can.
-    fn lawful_held()
-        ensures known { IsTrue (node_id.encodable (standard NUMBER)) }
-        ensures read { (levels : ℕ) (octets : List ℕ) → M.of_kind kind levels octets ≡ image_read held (Self.format.decode levels) octets }
-        ensures encodable { (structure : Self) → M.encoding.encodable (held structure) ≡ Self.format.encodable structure }
-        ensures canonical { (structure : Self) → M.encoding.canonical (held structure) ≡ node_id.canonical (standard NUMBER) ++ Self.format.canonical structure };
-
-    /// The message that holds this structure.
-    fn hold(self) -> M
-        ensures { result ≡ held self };
-
-    /// Whether the message that holds this structure has a canonical encoding.
-    #[inline]
-    final fn is_encodable_held(&self) -> bool
-        ensures { result ≡ M.encoding.encodable (held self.now) }
-    {
-        Self::lawful_held();
-        self.is_encodable()
-    }
-
-    /// Adds the canonical encoding of the message that holds this structure. After an error some of
-    /// it may stand there.
-    #[inline]
-    final fn append_held(&self, out: &mut Vec<u8>) -> Result<(), AllocError>
-        requires { IsTrue (M.encoding.encodable (held self.now)) }
-        ensures ok { OnOk result (out.new.items ≡ out.old.items ++ M.encoding.canonical (held self.now)) }
-        ensures err { OnErr result (Extends out.old.items out.new.items) }
-    {
-        Self::lawful_held();
-        append_message(Self::NUMBER, self, out)
-    }
+/// The name of the structure that messages of a kind hold.
+macro_rules! name_of {
+    ($all:ident $kinds:ident [$($kind:ident($held:ident) = $of:literal,)+] $of_kind:expr) => {
+        match $of_kind {
+            $($kinds::$kind => stringify!($held),)+
+        }
+    };
 }
 
-/// Reads the structure of a message behind the NodeId of its kind, and makes the message of it.
-pub fn read_held<T: Held<M, K>, M: Message<K>, K, S: Source>(
-    alloc: Global,
-    src: &mut S,
-    depth: u32,
-) -> Result<M, ReadFault>
-    requires levels { depth ≤ most_levels }
-    ensures exact { Gives (M.of_kind T.kind depth) (S.octets src.old) (S.octets src.new) result }
-    ensures behind { StaysBehind (S.octets src.old) (S.octets src.new) }
-{
-    T::lawful_held();
-    let structure = T::read_value(alloc, src, depth)?;
-    Ok(structure.hold())
+/// The kind of a message.
+macro_rules! kind_of {
+    ($all:ident $kinds:ident [$($kind:ident($held:ident) = $of:literal,)+] $message:expr) => {
+        match $message {
+            $($all::$kind(_) => $kinds::$kind,)+
+        }
+    };
 }
+
+/// The kind whose encoding has a number, if there is one.
+macro_rules! numbered {
+    ($all:ident $kinds:ident [$($kind:ident($held:ident) = $of:literal,)+] $number:expr) => {
+        match $number {
+            $($of => Some($kinds::$kind),)+
+            _ => None,
+        }
+    };
+}
+
+/// The message of a kind, of the structure that is read, behind what is known of that kind.
+macro_rules! message_of_kind {
+    ($all:ident $kinds:ident [$($kind:ident($held:ident) = $of:literal,)+] $of_kind:expr, $known:ident, $read:expr) => {
+        match $of_kind {
+            $($kinds::$kind => {
+                $known($kinds::$kind);
+                let structure = $read?;
+                Ok($all::$kind(structure))
+            })+
+        }
+    };
+}
+
+pub(crate) use kind_of;
+pub(crate) use message_of_kind;
+pub(crate) use name_of;
+pub(crate) use numbered;
 
 /// Adds the canonical encoding of the NodeId of the standard's namespace with this number.
 #[inline]

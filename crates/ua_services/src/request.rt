@@ -1,22 +1,39 @@
 //! Requests.
 
-ghost use Rattle.std.specs.Prelude.{◌≡◌, ◌≤◌, ◌++◌, ◌⊎◌, length, IfOk, IfErr, OnOk, OnErr, IsErrOf, IsFalse, ◌↔◌};
-ghost use Rattle.ua_builtin.specs.Exact.{skipped};
+ghost use Rattle.std.specs.Prelude.{◌≡◌, ◌≤◌, ◌++◌, ◌⊎◌, ℕ, List, length, IfOk, IfErr, OnOk, OnErr, IsErrOf, IsFalse, ◌↔◌};
+ghost use Rattle.ua_builtin.specs.Exact.{image_read, skipped};
 ghost use Rattle.ua_builtin.specs.Format.{most_levels, Gives, StaysBehind};
 ghost use Rattle.ua_octets.specs.declared.fault.WriteFault.TheVariants.{NotWritable};
 ghost use Rattle.ua_services.specs.Message.{IsBody, handle_behind, kind_at};
 ghost use Rattle.ua_services.specs.Request.{request, requests, request_kind, request_of_kind, unread_with, kind_read, kind_alone, request_read, thin_read, Misread};
-ghost use Rattle.ua_services.specs.declared.request.Request.TheVariants as holding;
-ghost use Rattle.ua_services.specs.declared.request.RequestKind.TheVariants as kinds;
 
 use crate::fault::RequestFault;
-use crate::message::{Held, Message, empty_body, read_held, standard_number};
+use crate::message::{
+    append_message, empty_body, kind_of, message_of_kind, name_of, numbered, standard_number,
+};
+use crate::{by_kind, requests};
 use std::alloc::{AllocError, Global};
 use ua_builtin::{MOST_LEVELS, NodeId, ReadFault, Skip, Source, Wire, WriteFault};
 use ua_structures::{
     ActivateSessionRequest, CloseSessionRequest, CreateSessionRequest, GetEndpointsRequest,
     ReadRequest, RequestHeader, TakesTypes, WriteRequest,
 };
+
+/// The kinds of request, each with the structure that it holds and the number of its encoding
+/// (OPC 10000-6, A.3), in front of the words of a macro that is the same for each kind.
+#[macro_export]
+macro_rules! requests {
+    ($each:ident $(, $($words:tt)+)?) => {
+        $each!(Request RequestKind [
+            GetEndpoints(GetEndpointsRequest) = 428,
+            CreateSession(CreateSessionRequest) = 461,
+            ActivateSession(ActivateSessionRequest) = 467,
+            CloseSession(CloseSessionRequest) = 473,
+            Read(ReadRequest) = 631,
+            Write(WriteRequest) = 673,
+        ] $($($words)+)?)
+    };
+}
 
 /// The kinds of request, each with its own encoding (OPC 10000-6, A.3).
 #[derive(Clone, Copy, PartialEq, Eq)]
@@ -29,6 +46,18 @@ pub enum RequestKind {
     Write,
 }
 
+impl RequestKind {
+    ghost use Rattle.std.specs.Prelude.{◌≡◌};
+    ghost use Rattle.ua_services.specs.Request.{request_kind_name};
+
+    /// The name of the structure that a request of this kind is, as `ReadRequest`.
+    pub fn name(self) -> &'static str
+        ensures { result.now ≡ request_kind_name self }
+    {
+        requests!(name_of, self)
+    }
+}
+
 /// A request, as the body of a message (OPC 10000-6, 5.2.9).
 pub enum Request {
     GetEndpoints(GetEndpointsRequest),
@@ -39,24 +68,10 @@ pub enum Request {
     Write(WriteRequest),
 }
 
-/// An answer about a request by its kind: the same of the structure of each.
-macro_rules! by_kind {
-    ($request:expr, $message:ident => $answer:expr) => {
-        match $request {
-            Request::GetEndpoints($message) => $answer,
-            Request::CreateSession($message) => $answer,
-            Request::ActivateSession($message) => $answer,
-            Request::CloseSession($message) => $answer,
-            Request::Read($message) => $answer,
-            Request::Write($message) => $answer,
-        }
-    };
-}
-
 // By hand, so that a crate that lets a request go calls this, and proves nothing of what lies in it.
 impl Drop for Request {
     fn drop(self) {
-        by_kind!(self, message => drop(message))
+        requests!(by_kind, self, message, _number => drop(message))
     }
 }
 
@@ -94,21 +109,14 @@ impl Request {
     pub fn kind(&self) -> RequestKind
         ensures { result ≡ kind_of self.now }
     {
-        match self {
-            Request::GetEndpoints(_) => RequestKind::GetEndpoints,
-            Request::CreateSession(_) => RequestKind::CreateSession,
-            Request::ActivateSession(_) => RequestKind::ActivateSession,
-            Request::CloseSession(_) => RequestKind::CloseSession,
-            Request::Read(_) => RequestKind::Read,
-            Request::Write(_) => RequestKind::Write,
-        }
+        requests!(kind_of, self)
     }
 
     /// The header, which requests of every kind begin with.
     pub fn header(&self) -> &RequestHeader
         ensures { result.now ≡ header_of self.now }
     {
-        by_kind!(self, message => &message.request_header)
+        requests!(by_kind, self, message, _number => &message.request_header)
     }
 }
 
@@ -116,118 +124,15 @@ impl Request {
 fn announced_kind(id: &NodeId) -> Option<RequestKind>
     ensures { result ≡ request_kind id.now }
 {
-    match standard_number(id)? {
-        428 => Some(RequestKind::GetEndpoints),
-        461 => Some(RequestKind::CreateSession),
-        467 => Some(RequestKind::ActivateSession),
-        473 => Some(RequestKind::CloseSession),
-        631 => Some(RequestKind::Read),
-        673 => Some(RequestKind::Write),
-        _ => None,
-    }
+    requests!(numbered, standard_number(id)?)
 }
 
-impl Held<Request, RequestKind> for GetEndpointsRequest {
-    ghost held = { holding.GetEndpoints };
-
-    ghost kind = { kinds.GetEndpoints };
-
-    ghost NUMBER = { 428 };
-
-    const NUMBER: u32 = 428;
-
-    #[tactic(auto, unfolding(crate::specs::Request::request, crate::specs::Request::request_of_kind, ua_builtin::specs::NodeId::node_id))]
-    fn lawful_held() {}
-
-    fn hold(self) -> Request {
-        Request::GetEndpoints(self)
-    }
-}
-
-impl Held<Request, RequestKind> for CreateSessionRequest {
-    ghost held = { holding.CreateSession };
-
-    ghost kind = { kinds.CreateSession };
-
-    ghost NUMBER = { 461 };
-
-    const NUMBER: u32 = 461;
-
-    #[tactic(auto, unfolding(crate::specs::Request::request, crate::specs::Request::request_of_kind, ua_builtin::specs::NodeId::node_id))]
-    fn lawful_held() {}
-
-    fn hold(self) -> Request {
-        Request::CreateSession(self)
-    }
-}
-
-impl Held<Request, RequestKind> for ActivateSessionRequest {
-    ghost held = { holding.ActivateSession };
-
-    ghost kind = { kinds.ActivateSession };
-
-    ghost NUMBER = { 467 };
-
-    const NUMBER: u32 = 467;
-
-    #[tactic(auto, unfolding(crate::specs::Request::request, crate::specs::Request::request_of_kind, ua_builtin::specs::NodeId::node_id))]
-    fn lawful_held() {}
-
-    fn hold(self) -> Request {
-        Request::ActivateSession(self)
-    }
-}
-
-impl Held<Request, RequestKind> for CloseSessionRequest {
-    ghost held = { holding.CloseSession };
-
-    ghost kind = { kinds.CloseSession };
-
-    ghost NUMBER = { 473 };
-
-    const NUMBER: u32 = 473;
-
-    #[tactic(auto, unfolding(crate::specs::Request::request, crate::specs::Request::request_of_kind, ua_builtin::specs::NodeId::node_id))]
-    fn lawful_held() {}
-
-    fn hold(self) -> Request {
-        Request::CloseSession(self)
-    }
-}
-
-impl Held<Request, RequestKind> for ReadRequest {
-    ghost held = { holding.Read };
-
-    ghost kind = { kinds.Read };
-
-    ghost NUMBER = { 631 };
-
-    const NUMBER: u32 = 631;
-
-    #[tactic(auto, unfolding(crate::specs::Request::request, crate::specs::Request::request_of_kind, ua_builtin::specs::NodeId::node_id))]
-    fn lawful_held() {}
-
-    fn hold(self) -> Request {
-        Request::Read(self)
-    }
-}
-
-impl Held<Request, RequestKind> for WriteRequest {
-    ghost held = { holding.Write };
-
-    ghost kind = { kinds.Write };
-
-    ghost NUMBER = { 673 };
-
-    const NUMBER: u32 = 673;
-
-    #[tactic(auto, unfolding(crate::specs::Request::request, crate::specs::Request::request_of_kind, ua_builtin::specs::NodeId::node_id))]
-    fn lawful_held() {}
-
-    fn hold(self) -> Request {
-        Request::Write(self)
-    }
-}
+// Shows that a request of a kind is read as its structure is.
+#[inline]
+#[tactic(auto, unfolding(crate::specs::Request::request_of_kind))]
+fn lawful_kind(kind: RequestKind)
+    ensures { (levels : ℕ) (octets : List ℕ) → request_of_kind kind levels octets ≡ image_read (requests.make kind) ((requests.format kind).decode levels) octets }
+{}
 
 // Reads the structure of a request of that kind.
 fn read_kind<S: Source>(
@@ -240,24 +145,12 @@ fn read_kind<S: Source>(
     ensures exact { Gives (request_of_kind kind depth) (S.octets src.old) (S.octets src.new) result }
     ensures behind { StaysBehind (S.octets src.old) (S.octets src.new) }
 {
-    match kind {
-        RequestKind::GetEndpoints => read_held::<GetEndpointsRequest, _, _, _>(alloc, src, depth),
-        RequestKind::CreateSession => read_held::<CreateSessionRequest, _, _, _>(alloc, src, depth),
-        RequestKind::ActivateSession => read_held::<ActivateSessionRequest, _, _, _>(
-            alloc, src, depth,
-        ),
-        RequestKind::CloseSession => read_held::<CloseSessionRequest, _, _, _>(alloc, src, depth),
-        RequestKind::Read => read_held::<ReadRequest, _, _, _>(alloc, src, depth),
-        RequestKind::Write => read_held::<WriteRequest, _, _, _>(alloc, src, depth),
-    }
-}
-
-impl Message<RequestKind> for Request {
-    ghost use Rattle.ua_services.specs.Request.{request, request_of_kind};
-
-    ghost encoding = { request };
-
-    ghost of_kind = { request_of_kind };
+    requests!(
+        message_of_kind,
+        kind,
+        lawful_kind,
+        Wire::read_value(alloc, src, depth)
+    )
 }
 
 impl Wire for Request {
@@ -278,12 +171,14 @@ impl Wire for Request {
         read_kind(alloc, src, depth, kind)
     }
 
+    #[tactic(auto, unfolding(crate::specs::Request::request, ua_builtin::specs::NodeId::node_id))]
     fn is_encodable(&self) -> bool {
-        by_kind!(self, message => message.is_encodable_held())
+        requests!(by_kind, self, message, _number => message.is_encodable())
     }
 
+    #[tactic(auto, unfolding(crate::specs::Request::request, ua_builtin::specs::NodeId::node_id))]
     fn append(&self, out: &mut Vec<u8>) -> Result<(), AllocError> {
-        by_kind!(self, message => message.append_held(out))
+        requests!(by_kind, self, message, number => append_message(number, message, out))
     }
 }
 

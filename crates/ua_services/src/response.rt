@@ -1,22 +1,40 @@
 //! Responses.
 
-ghost use Rattle.std.specs.Prelude.{◌≡◌, ◌≤◌, ◌++◌, ◌⊎◌, length, IfOk, IfErr, OnOk, OnErr, IsErrOf, IsFalse, ◌↔◌};
+ghost use Rattle.std.specs.Prelude.{◌≡◌, ◌≤◌, ◌++◌, ◌⊎◌, ℕ, List, length, IfOk, IfErr, OnOk, OnErr, IsErrOf, IsFalse, ◌↔◌};
+ghost use Rattle.ua_builtin.specs.Exact.{image_read};
 ghost use Rattle.ua_builtin.specs.Format.{most_levels, Gives, StaysBehind};
 ghost use Rattle.ua_octets.specs.declared.fault.WriteFault.TheVariants.{NotWritable};
 ghost use Rattle.ua_services.specs.Message.{IsBody};
-ghost use Rattle.ua_services.specs.Response.{response, response_kind, response_of_kind, unread_by, kind_read, response_read, Misread};
-ghost use Rattle.ua_services.specs.declared.response.Response.TheVariants as holding;
-ghost use Rattle.ua_services.specs.declared.response.ResponseKind.TheVariants as kinds;
+ghost use Rattle.ua_services.specs.Response.{response, responses, response_kind, response_of_kind, unread_by, kind_read, own_answer, response_read, Misread};
 
 use crate::fault::ResponseFault;
-use crate::message::{Held, Message, empty_body, read_held, standard_number};
+use crate::message::{
+    append_message, empty_body, kind_of, message_of_kind, name_of, numbered, standard_number,
+};
 use crate::request::RequestKind;
+use crate::{by_kind, requests, responses};
 use std::alloc::{AllocError, Global};
 use ua_builtin::{MOST_LEVELS, NodeId, ReadFault, Source, Wire, WriteFault};
 use ua_structures::{
     ActivateSessionResponse, CloseSessionResponse, CreateSessionResponse, GetEndpointsResponse,
     ReadResponse, ResponseHeader, ServiceFault, WriteResponse,
 };
+
+/// The kinds of response, as [`requests`](crate::requests) has those of request.
+#[macro_export]
+macro_rules! responses {
+    ($each:ident $(, $($words:tt)+)?) => {
+        $each!(Response ResponseKind [
+            GetEndpoints(GetEndpointsResponse) = 431,
+            CreateSession(CreateSessionResponse) = 464,
+            ActivateSession(ActivateSessionResponse) = 470,
+            CloseSession(CloseSessionResponse) = 476,
+            Read(ReadResponse) = 634,
+            Write(WriteResponse) = 676,
+            ServiceFault(ServiceFault) = 397,
+        ] $($($words)+)?)
+    };
+}
 
 /// The kinds of response, each with its own encoding (OPC 10000-6, A.3).
 #[derive(Clone, Copy, PartialEq, Eq)]
@@ -30,6 +48,18 @@ pub enum ResponseKind {
     ServiceFault,
 }
 
+impl ResponseKind {
+    ghost use Rattle.std.specs.Prelude.{◌≡◌};
+    ghost use Rattle.ua_services.specs.Response.{response_kind_name};
+
+    /// The name of the structure that a response of this kind is, as `ReadResponse`.
+    pub fn name(self) -> &'static str
+        ensures { result.now ≡ response_kind_name self }
+    {
+        responses!(name_of, self)
+    }
+}
+
 /// A response, as the body of a message (OPC 10000-6, 5.2.9).
 pub enum Response {
     GetEndpoints(GetEndpointsResponse),
@@ -41,25 +71,10 @@ pub enum Response {
     ServiceFault(ServiceFault),
 }
 
-/// An answer about a response by its kind: the same of the structure of each.
-macro_rules! by_kind {
-    ($response:expr, $message:ident => $answer:expr) => {
-        match $response {
-            Response::GetEndpoints($message) => $answer,
-            Response::CreateSession($message) => $answer,
-            Response::ActivateSession($message) => $answer,
-            Response::CloseSession($message) => $answer,
-            Response::Read($message) => $answer,
-            Response::Write($message) => $answer,
-            Response::ServiceFault($message) => $answer,
-        }
-    };
-}
-
 // By hand, so that a crate that lets a response go calls this, and proves nothing of what lies in it.
 impl Drop for Response {
     fn drop(self) {
-        by_kind!(self, message => drop(message))
+        responses!(by_kind, self, message, _number => drop(message))
     }
 }
 
@@ -97,22 +112,14 @@ impl Response {
     pub fn kind(&self) -> ResponseKind
         ensures { result ≡ kind_of self.now }
     {
-        match self {
-            Response::GetEndpoints(_) => ResponseKind::GetEndpoints,
-            Response::CreateSession(_) => ResponseKind::CreateSession,
-            Response::ActivateSession(_) => ResponseKind::ActivateSession,
-            Response::CloseSession(_) => ResponseKind::CloseSession,
-            Response::Read(_) => ResponseKind::Read,
-            Response::Write(_) => ResponseKind::Write,
-            Response::ServiceFault(_) => ResponseKind::ServiceFault,
-        }
+        responses!(kind_of, self)
     }
 
     /// The header, which responses of every kind begin with.
     pub fn header(&self) -> &ResponseHeader
         ensures { result.now ≡ header_of self.now }
     {
-        by_kind!(self, message => &message.response_header)
+        responses!(by_kind, self, message, _number => &message.response_header)
     }
 
     /// Whether this answers a request of that kind: it is of the request's own kind, or a
@@ -120,152 +127,40 @@ impl Response {
     pub fn answers(&self, request: RequestKind) -> bool
         ensures { IsTrue result ↔ Answers (kind_of self.now) request }
     {
-        match self {
-            Response::GetEndpoints(_) => matches!(request, RequestKind::GetEndpoints),
-            Response::CreateSession(_) => matches!(request, RequestKind::CreateSession),
-            Response::ActivateSession(_) => matches!(request, RequestKind::ActivateSession),
-            Response::CloseSession(_) => matches!(request, RequestKind::CloseSession),
-            Response::Read(_) => matches!(request, RequestKind::Read),
-            Response::Write(_) => matches!(request, RequestKind::Write),
-            Response::ServiceFault(_) => true,
-        }
+        let kind = self.kind();
+        kind == ResponseKind::ServiceFault || kind == own_answer(request)
     }
+}
+
+/// The kind of response that each request asks for: the one of its name.
+macro_rules! named_alike {
+    ($all:ident $kinds:ident [$($kind:ident($held:ident) = $of:literal,)+] $request:expr) => {
+        match $request {
+            $($kinds::$kind => ResponseKind::$kind,)+
+        }
+    };
+}
+
+// The kind of response that a request asks for.
+fn own_answer(request: RequestKind) -> ResponseKind
+    ensures { result ≡ own_answer request }
+{
+    requests!(named_alike, request)
 }
 
 // The response that a NodeId announces.
 fn announced_kind(id: &NodeId) -> Option<ResponseKind>
     ensures { result ≡ response_kind id.now }
 {
-    match standard_number(id)? {
-        431 => Some(ResponseKind::GetEndpoints),
-        464 => Some(ResponseKind::CreateSession),
-        470 => Some(ResponseKind::ActivateSession),
-        476 => Some(ResponseKind::CloseSession),
-        634 => Some(ResponseKind::Read),
-        676 => Some(ResponseKind::Write),
-        397 => Some(ResponseKind::ServiceFault),
-        _ => None,
-    }
+    responses!(numbered, standard_number(id)?)
 }
 
-impl Held<Response, ResponseKind> for GetEndpointsResponse {
-    ghost held = { holding.GetEndpoints };
-
-    ghost kind = { kinds.GetEndpoints };
-
-    ghost NUMBER = { 431 };
-
-    const NUMBER: u32 = 431;
-
-    #[tactic(auto, unfolding(crate::specs::Response::response, crate::specs::Response::response_of_kind, ua_builtin::specs::NodeId::node_id))]
-    fn lawful_held() {}
-
-    fn hold(self) -> Response {
-        Response::GetEndpoints(self)
-    }
-}
-
-impl Held<Response, ResponseKind> for CreateSessionResponse {
-    ghost held = { holding.CreateSession };
-
-    ghost kind = { kinds.CreateSession };
-
-    ghost NUMBER = { 464 };
-
-    const NUMBER: u32 = 464;
-
-    #[tactic(auto, unfolding(crate::specs::Response::response, crate::specs::Response::response_of_kind, ua_builtin::specs::NodeId::node_id))]
-    fn lawful_held() {}
-
-    fn hold(self) -> Response {
-        Response::CreateSession(self)
-    }
-}
-
-impl Held<Response, ResponseKind> for ActivateSessionResponse {
-    ghost held = { holding.ActivateSession };
-
-    ghost kind = { kinds.ActivateSession };
-
-    ghost NUMBER = { 470 };
-
-    const NUMBER: u32 = 470;
-
-    #[tactic(auto, unfolding(crate::specs::Response::response, crate::specs::Response::response_of_kind, ua_builtin::specs::NodeId::node_id))]
-    fn lawful_held() {}
-
-    fn hold(self) -> Response {
-        Response::ActivateSession(self)
-    }
-}
-
-impl Held<Response, ResponseKind> for CloseSessionResponse {
-    ghost held = { holding.CloseSession };
-
-    ghost kind = { kinds.CloseSession };
-
-    ghost NUMBER = { 476 };
-
-    const NUMBER: u32 = 476;
-
-    #[tactic(auto, unfolding(crate::specs::Response::response, crate::specs::Response::response_of_kind, ua_builtin::specs::NodeId::node_id))]
-    fn lawful_held() {}
-
-    fn hold(self) -> Response {
-        Response::CloseSession(self)
-    }
-}
-
-impl Held<Response, ResponseKind> for ReadResponse {
-    ghost held = { holding.Read };
-
-    ghost kind = { kinds.Read };
-
-    ghost NUMBER = { 634 };
-
-    const NUMBER: u32 = 634;
-
-    #[tactic(auto, unfolding(crate::specs::Response::response, crate::specs::Response::response_of_kind, ua_builtin::specs::NodeId::node_id))]
-    fn lawful_held() {}
-
-    fn hold(self) -> Response {
-        Response::Read(self)
-    }
-}
-
-impl Held<Response, ResponseKind> for WriteResponse {
-    ghost held = { holding.Write };
-
-    ghost kind = { kinds.Write };
-
-    ghost NUMBER = { 676 };
-
-    const NUMBER: u32 = 676;
-
-    #[tactic(auto, unfolding(crate::specs::Response::response, crate::specs::Response::response_of_kind, ua_builtin::specs::NodeId::node_id))]
-    fn lawful_held() {}
-
-    fn hold(self) -> Response {
-        Response::Write(self)
-    }
-}
-
-impl Held<Response, ResponseKind> for ServiceFault {
-    ghost held = { holding.ServiceFault };
-
-    ghost kind = { kinds.ServiceFault };
-
-    ghost NUMBER = { 397 };
-
-    const NUMBER: u32 = 397;
-
-    #[tactic(auto, unfolding(crate::specs::Response::response, crate::specs::Response::response_of_kind, ua_builtin::specs::NodeId::node_id))]
-    fn lawful_held() {}
-
-    fn hold(self) -> Response {
-        Response::ServiceFault(self)
-    }
-}
+// Shows that a response of a kind is read as its structure is.
+#[inline]
+#[tactic(auto, unfolding(crate::specs::Response::response_of_kind))]
+fn lawful_kind(kind: ResponseKind)
+    ensures { (levels : ℕ) (octets : List ℕ) → response_of_kind kind levels octets ≡ image_read (responses.make kind) ((responses.format kind).decode levels) octets }
+{}
 
 // Reads the structure of a response of that kind.
 fn read_kind<S: Source>(
@@ -278,27 +173,12 @@ fn read_kind<S: Source>(
     ensures exact { Gives (response_of_kind kind depth) (S.octets src.old) (S.octets src.new) result }
     ensures behind { StaysBehind (S.octets src.old) (S.octets src.new) }
 {
-    match kind {
-        ResponseKind::GetEndpoints => read_held::<GetEndpointsResponse, _, _, _>(alloc, src, depth),
-        ResponseKind::CreateSession => read_held::<CreateSessionResponse, _, _, _>(
-            alloc, src, depth,
-        ),
-        ResponseKind::ActivateSession => read_held::<ActivateSessionResponse, _, _, _>(
-            alloc, src, depth,
-        ),
-        ResponseKind::CloseSession => read_held::<CloseSessionResponse, _, _, _>(alloc, src, depth),
-        ResponseKind::Read => read_held::<ReadResponse, _, _, _>(alloc, src, depth),
-        ResponseKind::Write => read_held::<WriteResponse, _, _, _>(alloc, src, depth),
-        ResponseKind::ServiceFault => read_held::<ServiceFault, _, _, _>(alloc, src, depth),
-    }
-}
-
-impl Message<ResponseKind> for Response {
-    ghost use Rattle.ua_services.specs.Response.{response, response_of_kind};
-
-    ghost encoding = { response };
-
-    ghost of_kind = { response_of_kind };
+    responses!(
+        message_of_kind,
+        kind,
+        lawful_kind,
+        Wire::read_value(alloc, src, depth)
+    )
 }
 
 impl Wire for Response {
@@ -323,12 +203,14 @@ impl Wire for Response {
         read_kind(alloc, src, depth, kind)
     }
 
+    #[tactic(auto, unfolding(crate::specs::Response::response, ua_builtin::specs::NodeId::node_id))]
     fn is_encodable(&self) -> bool {
-        by_kind!(self, message => message.is_encodable_held())
+        responses!(by_kind, self, message, _number => message.is_encodable())
     }
 
+    #[tactic(auto, unfolding(crate::specs::Response::response, ua_builtin::specs::NodeId::node_id))]
     fn append(&self, out: &mut Vec<u8>) -> Result<(), AllocError> {
-        by_kind!(self, message => message.append_held(out))
+        responses!(by_kind, self, message, number => append_message(number, message, out))
     }
 }
 
