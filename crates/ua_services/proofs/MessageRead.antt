@@ -18,7 +18,7 @@ use Rattle.ua_services.specs.declared.open.OpenAnswer.TheVariants.{Open, Fault}
 use Rattle.ua_services.specs.Open.{IsAnswer, IsNoAnswer, answer_found, answer_read}
 use Rattle.ua_services.specs.Message.{IsBody, IsNoBody, alone, kind_at, message, standard_number, body_of, found_or}
 use Rattle.ua_services.proofs.BodyRead.{whole, unread, body_reads, no_fault, body_is, body_found, none_found}
-use Rattle.ua_structures.proofs.HeaderLawful.{lawful_service_fault}
+use Rattle.ua_structures.proofs.HeaderSound.{sound_service_fault}
 use Rattle.ua_structures.proofs.SecureChannelLawful.{lawful_open_response}
 use Rattle.ua_services.proofs.BodyLaws.{one_message}
 use Rattle.ua_services.proofs.MessagesLawful.{lawful_message}
@@ -80,21 +80,21 @@ error_of (Err e) = Err e
 
 pub no_answer_id : (old new : List ℕ) (e : ReadFault) → Gives node_id.decode old new (Err e) → ◌≡◌ {A = Result OpenAnswer ReadFault} (Err e) (Err NoValue) → IsNoAnswer old
 no_answer_id old new e h is (Open m) body = no_message_id 449 open_response lawful_open_response old new e h (ap (λ (r : Result OpenAnswer ReadFault). error_of {B = OpenResponse} r) is) m body
-no_answer_id old new e h is (Fault m) body = no_message_id 397 service_fault lawful_service_fault old new e h (ap (λ (r : Result OpenAnswer ReadFault). error_of {B = ServiceFault} r) is) m body
+no_answer_id old new e h is (Fault m) body = no_message_id 397 service_fault sound_service_fault.lawful old new e h (ap (λ (r : Result OpenAnswer ReadFault). error_of {B = ServiceFault} r) is) m body
 
 pub no_answer : (old rest : List ℕ) (id : NodeId) → node_id.decode old ≡ Some (id, rest) → (standard_number id ≡ Some 449 → ⊥) → (standard_number id ≡ Some 397 → ⊥) → IsNoAnswer old
 no_answer old rest id found other more (Open m) body = not_message 449 open_response lawful_open_response old rest id found other m body
-no_answer old rest id found other more (Fault m) body = not_message 397 service_fault lawful_service_fault old rest id found more m body
+no_answer old rest id found other more (Fault m) body = not_message 397 service_fault sound_service_fault.lawful old rest id found more m body
 
 pub no_open : (old rest : List ℕ) (id : NodeId) (e : ReadFault) → node_id.decode old ≡ Some (id, rest) → standard_number id ≡ Some 449 → (◌≡◌ {A = Result OpenResponse ReadFault} (Err e) (Err NoValue) → IsNoBody open_response rest)
     → ◌≡◌ {A = Result OpenAnswer ReadFault} (Err e) (Err NoValue) → IsNoAnswer old
 no_open old rest id e found is none same (Open m) body = message_none 449 open_response lawful_open_response old rest id 449 found is refl (none (ap (λ (r : Result OpenAnswer ReadFault). error_of {B = OpenResponse} r) same)) m body
-no_open old rest id e found is none same (Fault m) body = not_message 397 service_fault lawful_service_fault old rest id found (two_numbers (standard_number id) 449 397 is (λ f. absurd (omega arith))) m body
+no_open old rest id e found is none same (Fault m) body = not_message 397 service_fault sound_service_fault.lawful old rest id found (two_numbers (standard_number id) 449 397 is (λ f. absurd (omega arith))) m body
 
 pub no_fault_answer : (old rest : List ℕ) (id : NodeId) (e : ReadFault) → node_id.decode old ≡ Some (id, rest) → standard_number id ≡ Some 397 → (◌≡◌ {A = Result ServiceFault ReadFault} (Err e) (Err NoValue) → IsNoBody service_fault rest)
     → ◌≡◌ {A = Result OpenAnswer ReadFault} (Err e) (Err NoValue) → IsNoAnswer old
 no_fault_answer old rest id e found is none same (Open m) body = not_message 449 open_response lawful_open_response old rest id found (two_numbers (standard_number id) 397 449 is (λ f. absurd (omega arith))) m body
-no_fault_answer old rest id e found is none same (Fault m) body = message_none 397 service_fault lawful_service_fault old rest id 397 found is refl (none (ap (λ (r : Result OpenAnswer ReadFault). error_of {B = ServiceFault} r) same)) m body
+no_fault_answer old rest id e found is none same (Fault m) body = message_none 397 service_fault sound_service_fault.lawful old rest id 397 found is refl (none (ap (λ (r : Result OpenAnswer ReadFault). error_of {B = ServiceFault} r) same)) m body
 
 -- ---- one answer a body
 
@@ -108,7 +108,7 @@ is_or_not (Some m) n = by_test m n (nat_eq m n) refl
 
 not_both_by : (octets rest : List ℕ) (id : NodeId) → node_id.decode octets ≡ Some (id, rest) → (standard_number id ≡ Some 449) ⊎ (standard_number id ≡ Some 449 → ⊥)
     → (m : OpenResponse) (w : ServiceFault) → IsBody (message 449 open_response) m octets → IsBody (message 397 service_fault) w octets → ⊥
-not_both_by octets rest id found (inl is) m w p q = not_message 397 service_fault lawful_service_fault octets rest id found (two_numbers (standard_number id) 449 397 is (λ f. absurd (omega arith))) w q
+not_both_by octets rest id found (inl is) m w p q = not_message 397 service_fault sound_service_fault.lawful octets rest id found (two_numbers (standard_number id) 449 397 is (λ f. absurd (omega arith))) w q
 not_both_by octets rest id found (inr other) m w p q = not_message 449 open_response lawful_open_response octets rest id found other m p
 
 not_both_at : (octets : List ℕ) (o : Option (NodeId × List ℕ)) → node_id.decode octets ≡ o → (m : OpenResponse) (w : ServiceFault) → IsBody (message 449 open_response) m octets → IsBody (message 397 service_fault) w octets → ⊥
@@ -122,7 +122,7 @@ pub one_answer : (a c : OpenAnswer) (octets : List ℕ) → IsAnswer a octets �
 one_answer (Open m) (Open w) octets p q = ap Open (one_message (message 449 open_response) (lawful_message 449 lawful_open_response) m w octets p q)
 one_answer (Open m) (Fault w) octets p q = absurd (not_both octets m w p q)
 one_answer (Fault m) (Open w) octets p q = absurd (not_both octets w m q p)
-one_answer (Fault m) (Fault w) octets p q = ap Fault (one_message (message 397 service_fault) (lawful_message 397 lawful_service_fault) m w octets p q)
+one_answer (Fault m) (Fault w) octets p q = ap Fault (one_message (message 397 service_fault) (lawful_message 397 sound_service_fault.lawful) m w octets p q)
 
 -- what a reader of answers answers, by what it says of Ok and of NoValue
 pub answer_answers : (octets : List ℕ) (r : Result OpenAnswer ReadFault) → IfOk r (λ a. IsAnswer a octets) → (IsErrOf r NoValue → IsNoAnswer octets)
@@ -131,10 +131,10 @@ answer_answers octets (Ok (Open m)) found none =
     inl (sym (ap (λ o. found_or (answer_found o (body_of (message 397 service_fault) octets)) NoValue) (body_found (message 449 open_response) (lawful_message 449 lawful_open_response) octets m found)))
 answer_answers octets (Ok (Fault m)) found none =
     let other : body_of (message 449 open_response) octets ≡ None = none_found (message 449 open_response) (lawful_message 449 lawful_open_response) octets (body_of (message 449 open_response) octets) refl (λ w h. not_both octets w m h found) in
-    inl (sym (ap (λ o. found_or (answer_found o (body_of (message 397 service_fault) octets)) NoValue) other ∙ ap (λ o. found_or (answer_found None o) NoValue) (body_found (message 397 service_fault) (lawful_message 397 lawful_service_fault) octets m found)))
+    inl (sym (ap (λ o. found_or (answer_found o (body_of (message 397 service_fault) octets)) NoValue) other ∙ ap (λ o. found_or (answer_found None o) NoValue) (body_found (message 397 service_fault) (lawful_message 397 sound_service_fault.lawful) octets m found)))
 answer_answers octets (Err NoValue) found none =
     let first : body_of (message 449 open_response) octets ≡ None = none_found (message 449 open_response) (lawful_message 449 lawful_open_response) octets (body_of (message 449 open_response) octets) refl (λ w h. none refl (Open w) h) in
-    let second : body_of (message 397 service_fault) octets ≡ None = none_found (message 397 service_fault) (lawful_message 397 lawful_service_fault) octets (body_of (message 397 service_fault) octets) refl (λ w h. none refl (Fault w) h) in
+    let second : body_of (message 397 service_fault) octets ≡ None = none_found (message 397 service_fault) (lawful_message 397 sound_service_fault.lawful) octets (body_of (message 397 service_fault) octets) refl (λ w h. none refl (Fault w) h) in
     inl (sym (ap (λ o. found_or (answer_found o (body_of (message 397 service_fault) octets)) NoValue) first ∙ ap (λ o. found_or (answer_found None o) NoValue) second))
 answer_answers octets (Err OutOfMemory) found none = inr refl
 
@@ -149,11 +149,11 @@ answer_read-found octets (Open m) h =
 answer_read-found octets (Fault m) h =
     let other : body_of (message 449 open_response) octets ≡ None =
     none_found (message 449 open_response) (lawful_message 449 lawful_open_response) octets (body_of (message 449 open_response) octets) refl (λ w g. not_both octets w m g h) in
-    ap (λ o. answer_found o (body_of (message 397 service_fault) octets)) other ∙ ap (λ o. answer_found None o) (body_found (message 397 service_fault) (lawful_message 397 lawful_service_fault) octets m h)
+    ap (λ o. answer_found o (body_of (message 397 service_fault) octets)) other ∙ ap (λ o. answer_found None o) (body_found (message 397 service_fault) (lawful_message 397 sound_service_fault.lawful) octets m h)
 
 answer_at : (octets : List ℕ) (a : OpenAnswer) (o : Option OpenResponse) (u : Option ServiceFault) → body_of (message 449 open_response) octets ≡ o → body_of (message 397 service_fault) octets ≡ u → answer_found o u ≡ Some a → IsAnswer a octets
 answer_at octets a (Some m) u e f is = subst (λ (x : OpenAnswer). IsAnswer x octets) (some_is (Open m) a is) (body_is (message 449 open_response) (lawful_message 449 lawful_open_response) octets m e)
-answer_at octets a None (Some m) e f is = subst (λ (x : OpenAnswer). IsAnswer x octets) (some_is (Fault m) a is) (body_is (message 397 service_fault) (lawful_message 397 lawful_service_fault) octets m f)
+answer_at octets a None (Some m) e f is = subst (λ (x : OpenAnswer). IsAnswer x octets) (some_is (Fault m) a is) (body_is (message 397 service_fault) (lawful_message 397 sound_service_fault.lawful) octets m f)
 answer_at octets a None None e f is = absurd cc
 
 pub answer_read-is : (octets : List ℕ) (a : OpenAnswer) → ((answer_read octets ≡ Some a) ↔ IsAnswer a octets)

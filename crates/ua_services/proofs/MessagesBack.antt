@@ -1,9 +1,8 @@
 -- Requests and responses that were read can be written back.
 use Rattle.std.specs.Prelude.{◌≡◌, ℕ, ◌≤◌, List, true, Option, Some, None, Ok}
-use Rattle.std.proofs.Common.{refl, sym, ap, subst, ◌∙◌}
+use Rattle.std.proofs.Common.{sym, ap, subst, ◌∙◌}
 use Rattle.ua_builtin.specs.Format.{Within, most_levels}
-use Rattle.ua_structures.proofs.FormatsBack.{AllWriteBack}
-use Rattle.ua_structures.proofs.StructuresBack.{back_get_endpoints_request, back_create_session_request, back_activate_session_request, back_close_session_request, back_read_request, where_write_request, back_get_endpoints_response, back_create_session_response, back_activate_session_response, back_close_session_response, where_read_response, back_write_response, back_service_fault}
+use Rattle.ua_structures.proofs.AttributeSound.{where_write_request, where_read_response}
 use Rattle.ua_structures.specs.WrittenBack.{write_unreserved, results_unreserved}
 use Rattle.ua_structures.specs.declared.attribute.ReadResponse.{ReadResponse}
 use Rattle.ua_structures.specs.declared.attribute.WriteRequest.{WriteRequest}
@@ -12,19 +11,15 @@ use Rattle.ua_services.specs.Request.{request, requests, request_parts, request_
 use Rattle.ua_services.specs.Response.{response, responses, response_parts, response_read, kind_of as kind_of_response}
 use Rattle.ua_services.specs.declared.request.Request.{Request}
 use Rattle.ua_services.specs.declared.request.Request.TheVariants.{Write as WriteMessage}
-use Rattle.ua_services.specs.declared.request.RequestKind.{RequestKind}
-use Rattle.ua_services.specs.declared.request.RequestKind.TheVariants as asked
 use Rattle.ua_services.specs.declared.request.RequestKind.TheVariants.{Write}
 use Rattle.ua_services.specs.declared.response.Response.{Response}
 use Rattle.ua_services.specs.declared.response.Response.TheVariants.{Read as ReadMessage}
-use Rattle.ua_services.specs.declared.response.ResponseKind.{ResponseKind}
-use Rattle.ua_services.specs.declared.response.ResponseKind.TheVariants as given
 use Rattle.ua_services.specs.declared.response.ResponseKind.TheVariants.{Read as WasRead}
 use Rattle.ua_services.proofs.ByKind.{request-encodable, response-encodable}
 use Rattle.ua_services.proofs.MessagesLawful.{AreKinds}
-use Rattle.ua_services.proofs.RequestLawful.{are_requests}
+use Rattle.ua_services.proofs.RequestLawful.{are_requests, request_written}
 use Rattle.ua_services.proofs.RequestRead.{request_read-found}
-use Rattle.ua_services.proofs.ResponseLawful.{are_responses}
+use Rattle.ua_services.proofs.ResponseLawful.{are_responses, response_written}
 use Rattle.ua_services.proofs.ResponseRead.{response_read-found}
 
 -- ---- what a message that was read holds
@@ -45,15 +40,6 @@ body_holds kinds are v b h = kind_holds kinds are (announced kinds h.0.head) v h
 
 -- ---- requests
 
--- of each kind but Write
-back_request : (k : RequestKind) → (k ≡ Write → ⊥) → AllWriteBack (requests.format k)
-back_request asked.GetEndpoints other = back_get_endpoints_request
-back_request asked.CreateSession other = back_create_session_request
-back_request asked.ActivateSession other = back_activate_session_request
-back_request asked.CloseSession other = back_close_session_request
-back_request asked.Read other = back_read_request
-back_request asked.Write other = absurd (other refl)
-
 request_holds : (octets : List ℕ) (m : Request) → request_read octets ≡ Ok m → Holds requests m
 unfolding request
 request_holds octets m e = body_holds requests are_requests m octets ((request_read-found octets m).0 e)
@@ -62,7 +48,7 @@ pub request_back : (octets : List ℕ) (m : Request) → request_read octets ≡
 request_back octets m e other =
     let p = request_parts m in
     let h = request_holds octets m e in
-    ap request.encodable (are_requests.back m) ∙ request-encodable p.0 p.1 ∙ (back_request p.0 other).agrees p.1 h.octets h.within
+    ap request.encodable (are_requests.back m) ∙ request-encodable p.0 p.1 ∙ ((request_written p.0).back other).agrees p.1 h.octets h.within
 
 pub write_back : (octets : List ℕ) (m : WriteRequest) → request_read octets ≡ Ok (WriteMessage m) → request.encodable (WriteMessage m) ≡ write_unreserved m
 write_back octets m e =
@@ -70,16 +56,6 @@ write_back octets m e =
     request-encodable Write m ∙ where_write_request.agrees m h.octets h.within
 
 -- ---- responses
-
--- of each kind but Read
-back_response : (k : ResponseKind) → (k ≡ WasRead → ⊥) → AllWriteBack (responses.format k)
-back_response given.GetEndpoints other = back_get_endpoints_response
-back_response given.CreateSession other = back_create_session_response
-back_response given.ActivateSession other = back_activate_session_response
-back_response given.CloseSession other = back_close_session_response
-back_response given.Read other = absurd (other refl)
-back_response given.Write other = back_write_response
-back_response given.ServiceFault other = back_service_fault
 
 response_holds : (octets : List ℕ) (m : Response) → response_read octets ≡ Ok m → Holds responses m
 unfolding response
@@ -89,7 +65,7 @@ pub response_back : (octets : List ℕ) (m : Response) → response_read octets 
 response_back octets m e other =
     let p = response_parts m in
     let h = response_holds octets m e in
-    ap response.encodable (are_responses.back m) ∙ response-encodable p.0 p.1 ∙ (back_response p.0 other).agrees p.1 h.octets h.within
+    ap response.encodable (are_responses.back m) ∙ response-encodable p.0 p.1 ∙ ((response_written p.0).back other).agrees p.1 h.octets h.within
 
 pub read_back : (octets : List ℕ) (m : ReadResponse) → response_read octets ≡ Ok (ReadMessage m) → response.encodable (ReadMessage m) ≡ results_unreserved m
 read_back octets m e =

@@ -7,7 +7,17 @@ use Rattle.ua_builtin.specs.NodeId.{node_id}
 use Rattle.ua_octets.proofs.Readers.{both_true, exact_never, exact_bind, exact_image, exact_same}
 use Rattle.ua_octets.proofs.Lawfulness.{bind_starts}
 use Rattle.ua_builtin.proofs.NodeIdLawful.{sound_node_id, lawful_node_id}
+use Rattle.ua_structures.proofs.FormatsBack.{AllWriteBack}
+use Rattle.ua_structures.proofs.Sound.{Sound}
 use Rattle.ua_services.specs.Message.{Kinds, standard, announced, OfKind, kind_at, message_depth, message_count, message_id, message_encodable, message_canonical, IsMessage, message_at, message_of, alone, message}
+
+-- a format is lawful; and where this holds, what was read in it can be written back
+pub record Written {A : Type 0} (P : Type 0) (f : Format A) : Type 0 where
+  pub lawful : IsLawful f
+  pub back : P → AllWriteBack f
+
+pub sound_but : {A P : Type 0} {f : Format A} → Sound f → Written P f
+sound_but sound = record { lawful = sound.lawful; back = λ p. sound.back }
 
 -- what is owed of a kind: a message of it has the parts that it was made of, its number announces it, and its structure is lawful
 pub record IsKind {K V : Type 0} (kinds : Kinds K V) (k : K) : Type 0 where

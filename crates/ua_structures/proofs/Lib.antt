@@ -3,17 +3,17 @@ pub mod ArrayRead
 pub mod ArrayLawful
 pub mod ItemsRead
 mod ItemsSkipped
-pub mod HeaderLawful
+pub mod HeaderSound
 mod HeaderRead
 mod Ahead
 mod Thinned
-pub mod AttributeLawful
-pub mod DiscoveryLawful
+pub mod AttributeSound
+pub mod DiscoverySound
 pub mod SecureChannelLawful
-pub mod SessionLawful
+pub mod SessionSound
 pub mod PlainLengths
 mod FlatsBack
 mod DiagnosticsBack
 mod VariantsBack
 pub mod FormatsBack
-pub mod StructuresBack
+pub mod Sound

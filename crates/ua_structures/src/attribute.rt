@@ -58,7 +58,7 @@ impl ReadValueId {
     }
 }
 
-#[tactic(auto, unfolding(crate::specs::Attribute::read_value_id), using(crate::proofs::AttributeLawful::lawful_read_value_id))]
+#[tactic(auto, unfolding(crate::specs::Attribute::read_value_id), using(crate::proofs::AttributeSound::sound_read_value_id))]
 impl Wire for ReadValueId {
     ghost use Rattle.ua_structures.specs.Attribute.{read_value_id};
 
@@ -68,8 +68,15 @@ impl Wire for ReadValueId {
     fn lawful() {}
 
     fn read_value<S: Source>(alloc: Global, src: &mut S, depth: u32) -> Result<Self, ReadFault> {
-        read_fields!(alloc, src, depth => ReadValueId {
-            node_id, attribute_id, index_range, data_encoding
+        let node_id = NodeId::read_value(alloc, src, depth)?;
+        let attribute_id = u32::read_value(alloc, src, depth)?;
+        let index_range = UaString::read_value(alloc, src, depth)?;
+        let data_encoding = QualifiedName::read_value(alloc, src, depth)?;
+        Ok(ReadValueId {
+            node_id,
+            attribute_id,
+            index_range,
+            data_encoding,
         })
     }
 
@@ -171,7 +178,7 @@ impl ReadRequest {
     }
 }
 
-#[tactic(auto, unfolding(crate::specs::Attribute::read_request), using(crate::proofs::AttributeLawful::lawful_read_request))]
+#[tactic(auto, unfolding(crate::specs::Attribute::read_request), using(crate::proofs::AttributeSound::sound_read_request))]
 impl Wire for ReadRequest {
     ghost use Rattle.ua_structures.specs.Attribute.{read_request};
 
@@ -270,7 +277,7 @@ impl ReadResponse {
     }
 }
 
-#[tactic(auto, unfolding(crate::specs::Attribute::read_response), using(crate::proofs::AttributeLawful::lawful_read_response))]
+#[tactic(auto, unfolding(crate::specs::Attribute::read_response), using(crate::proofs::AttributeSound::lawful_read_response))]
 impl Wire for ReadResponse {
     ghost use Rattle.ua_structures.specs.Attribute.{read_response};
 
@@ -326,7 +333,7 @@ impl WriteValue {
     }
 }
 
-#[tactic(auto, unfolding(crate::specs::Attribute::write_value), using(crate::proofs::AttributeLawful::lawful_write_value))]
+#[tactic(auto, unfolding(crate::specs::Attribute::write_value), using(crate::proofs::AttributeSound::lawful_write_value))]
 impl Wire for WriteValue {
     ghost use Rattle.ua_structures.specs.Attribute.{write_value};
 
@@ -396,7 +403,7 @@ impl WriteRequest {
     }
 }
 
-#[tactic(auto, unfolding(crate::specs::Attribute::write_request), using(crate::proofs::AttributeLawful::lawful_write_request))]
+#[tactic(auto, unfolding(crate::specs::Attribute::write_request), using(crate::proofs::AttributeSound::lawful_write_request))]
 impl Wire for WriteRequest {
     ghost use Rattle.ua_structures.specs.Attribute.{write_request};
 
@@ -451,7 +458,7 @@ impl WriteResponse {
     }
 }
 
-#[tactic(auto, unfolding(crate::specs::Attribute::write_response), using(crate::proofs::AttributeLawful::lawful_write_response))]
+#[tactic(auto, unfolding(crate::specs::Attribute::write_response), using(crate::proofs::AttributeSound::sound_write_response))]
 impl Wire for WriteResponse {
     ghost use Rattle.ua_structures.specs.Attribute.{write_response};
 

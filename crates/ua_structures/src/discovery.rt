@@ -81,7 +81,7 @@ impl ApplicationDescription {
     }
 }
 
-#[tactic(auto, unfolding(crate::specs::Discovery::application_description), using(crate::proofs::DiscoveryLawful::lawful_application_description))]
+#[tactic(auto, unfolding(crate::specs::Discovery::application_description), using(crate::proofs::DiscoverySound::sound_application_description))]
 impl Wire for ApplicationDescription {
     ghost use Rattle.ua_structures.specs.Discovery.{application_description};
 
@@ -124,7 +124,7 @@ pub struct UserTokenPolicy {
     pub security_policy_uri: UaString,
 }
 
-#[tactic(auto, unfolding(crate::specs::Discovery::user_token_policy), using(crate::proofs::DiscoveryLawful::lawful_user_token_policy))]
+#[tactic(auto, unfolding(crate::specs::Discovery::user_token_policy), using(crate::proofs::DiscoverySound::sound_user_token_policy))]
 impl Wire for UserTokenPolicy {
     ghost use Rattle.ua_structures.specs.Discovery.{user_token_policy};
 
@@ -167,7 +167,7 @@ pub struct EndpointDescription {
     pub security_level: u8,
 }
 
-#[tactic(auto, unfolding(crate::specs::Discovery::endpoint_description), using(crate::proofs::DiscoveryLawful::lawful_endpoint_description))]
+#[tactic(auto, unfolding(crate::specs::Discovery::endpoint_description), using(crate::proofs::DiscoverySound::sound_endpoint_description))]
 impl Wire for EndpointDescription {
     ghost use Rattle.ua_structures.specs.Discovery.{endpoint_description};
 
@@ -225,7 +225,7 @@ impl GetEndpointsRequest {
     }
 }
 
-#[tactic(auto, unfolding(crate::specs::Discovery::get_endpoints_request), using(crate::proofs::DiscoveryLawful::lawful_get_endpoints_request))]
+#[tactic(auto, unfolding(crate::specs::Discovery::get_endpoints_request), using(crate::proofs::DiscoverySound::sound_get_endpoints_request))]
 impl Wire for GetEndpointsRequest {
     ghost use Rattle.ua_structures.specs.Discovery.{get_endpoints_request};
 
@@ -256,7 +256,7 @@ pub struct GetEndpointsResponse {
     pub endpoints: UaArray<EndpointDescription>,
 }
 
-#[tactic(auto, unfolding(crate::specs::Discovery::get_endpoints_response), using(crate::proofs::DiscoveryLawful::lawful_get_endpoints_response))]
+#[tactic(auto, unfolding(crate::specs::Discovery::get_endpoints_response), using(crate::proofs::DiscoverySound::sound_get_endpoints_response))]
 impl Wire for GetEndpointsResponse {
     ghost use Rattle.ua_structures.specs.Discovery.{get_endpoints_response};
 

@@ -1,10 +1,21 @@
 //! What structures do field by field.
 
-/// Reads the fields of a structure in order.
+/// Reads the fields of a structure in order: the first where it stands, the others as nested pairs.
 macro_rules! read_fields {
-    ($alloc:expr, $src:expr, $depth:expr => $structure:ident { $($field:ident),+ }) => {{
-        $(let $field = Wire::read_value($alloc, $src, $depth)?;)+
-        Ok($structure { $($field),+ })
+    (pairs $last:ident) => {
+        $last
+    };
+    (pairs $first:ident, $($field:ident),+) => {
+        ($first, read_fields!(pairs $($field),+))
+    };
+    ($alloc:expr, $src:expr, $depth:expr => $structure:ident { $first:ident }) => {{
+        let $first = Wire::read_value($alloc, $src, $depth)?;
+        Ok($structure { $first })
+    }};
+    ($alloc:expr, $src:expr, $depth:expr => $structure:ident { $first:ident, $($field:ident),+ }) => {{
+        let $first = Wire::read_value($alloc, $src, $depth)?;
+        let read_fields!(pairs $($field),+) = Wire::read_value($alloc, $src, $depth)?;
+        Ok($structure { $first, $($field),+ })
     }};
 }
 

@@ -184,7 +184,7 @@ fn take_timeout_alone<S: Source>(alloc: Global, src: &mut S) -> Option<u32>
     Some(timeout_hint)
 }
 
-#[tactic(auto, unfolding(crate::specs::Header::request_header), using(crate::proofs::HeaderLawful::lawful_request_header))]
+#[tactic(auto, unfolding(crate::specs::Header::request_header), using(crate::proofs::HeaderSound::sound_request_header))]
 impl Wire for RequestHeader {
     ghost use Rattle.ua_structures.specs.Header.{request_header};
 
@@ -341,7 +341,7 @@ fn take_nothing_more<S: Source>(alloc: Global, src: &mut S, depth: u32) -> Optio
     Some(texts)
 }
 
-#[tactic(auto, unfolding(crate::specs::Header::response_header), using(crate::proofs::HeaderLawful::lawful_response_header))]
+#[tactic(auto, unfolding(crate::specs::Header::response_header), using(crate::proofs::HeaderSound::sound_response_header))]
 impl Wire for ResponseHeader {
     ghost use Rattle.ua_structures.specs.Header.{response_header};
 
@@ -395,7 +395,7 @@ impl ServiceFault {
     }
 }
 
-#[tactic(auto, unfolding(crate::specs::Header::service_fault), using(crate::proofs::HeaderLawful::lawful_service_fault))]
+#[tactic(auto, unfolding(crate::specs::Header::service_fault), using(crate::proofs::HeaderSound::sound_service_fault))]
 impl Wire for ServiceFault {
     ghost use Rattle.ua_structures.specs.Header.{service_fault};
 

@@ -39,7 +39,7 @@ pub struct AnonymousIdentityToken {
     pub policy_id: UaString,
 }
 
-#[tactic(auto, unfolding(crate::specs::Session::anonymous_identity_token), using(crate::proofs::SessionLawful::lawful_anonymous_identity_token))]
+#[tactic(auto, unfolding(crate::specs::Session::anonymous_identity_token), using(crate::proofs::SessionSound::lawful_anonymous_identity_token))]
 impl Wire for AnonymousIdentityToken {
     ghost use Rattle.ua_structures.specs.Session.{anonymous_identity_token};
 
@@ -109,7 +109,7 @@ impl CreateSessionRequest {
     }
 }
 
-#[tactic(auto, unfolding(crate::specs::Session::create_session_request), using(crate::proofs::SessionLawful::lawful_create_session_request))]
+#[tactic(auto, unfolding(crate::specs::Session::create_session_request), using(crate::proofs::SessionSound::sound_create_session_request))]
 impl Wire for CreateSessionRequest {
     ghost use Rattle.ua_structures.specs.Session.{create_session_request};
 
@@ -191,7 +191,7 @@ impl CreateSessionResponse {
     }
 }
 
-#[tactic(auto, unfolding(crate::specs::Session::create_session_response), using(crate::proofs::SessionLawful::lawful_create_session_response))]
+#[tactic(auto, unfolding(crate::specs::Session::create_session_response), using(crate::proofs::SessionSound::sound_create_session_response))]
 impl Wire for CreateSessionResponse {
     ghost use Rattle.ua_structures.specs.Session.{create_session_response};
 
@@ -258,7 +258,7 @@ impl ActivateSessionRequest {
     }
 }
 
-#[tactic(auto, unfolding(crate::specs::Session::activate_session_request), using(crate::proofs::SessionLawful::lawful_activate_session_request))]
+#[tactic(auto, unfolding(crate::specs::Session::activate_session_request), using(crate::proofs::SessionSound::sound_activate_session_request))]
 impl Wire for ActivateSessionRequest {
     ghost use Rattle.ua_structures.specs.Session.{activate_session_request};
 
@@ -314,7 +314,7 @@ impl ActivateSessionResponse {
     }
 }
 
-#[tactic(auto, unfolding(crate::specs::Session::activate_session_response), using(crate::proofs::SessionLawful::lawful_activate_session_response))]
+#[tactic(auto, unfolding(crate::specs::Session::activate_session_response), using(crate::proofs::SessionSound::sound_activate_session_response))]
 impl Wire for ActivateSessionResponse {
     ghost use Rattle.ua_structures.specs.Session.{activate_session_response};
 
@@ -345,7 +345,7 @@ pub struct CloseSessionRequest {
     pub delete_subscriptions: bool,
 }
 
-#[tactic(auto, unfolding(crate::specs::Session::close_session_request), using(crate::proofs::SessionLawful::lawful_close_session_request))]
+#[tactic(auto, unfolding(crate::specs::Session::close_session_request), using(crate::proofs::SessionSound::sound_close_session_request))]
 impl Wire for CloseSessionRequest {
     ghost use Rattle.ua_structures.specs.Session.{close_session_request};
 
@@ -375,7 +375,7 @@ pub struct CloseSessionResponse {
     pub response_header: ResponseHeader,
 }
 
-#[tactic(auto, unfolding(crate::specs::Session::close_session_response), using(crate::proofs::SessionLawful::lawful_close_session_response))]
+#[tactic(auto, unfolding(crate::specs::Session::close_session_response), using(crate::proofs::SessionSound::sound_close_session_response))]
 impl Wire for CloseSessionResponse {
     ghost use Rattle.ua_structures.specs.Session.{close_session_response};
 

@@ -15,7 +15,7 @@ pub struct SignedSoftwareCertificate {
     pub signature: UaBytes,
 }
 
-#[tactic(auto, unfolding(crate::specs::Session::signed_software_certificate), using(crate::proofs::SessionLawful::lawful_signed_software_certificate))]
+#[tactic(auto, unfolding(crate::specs::Session::signed_software_certificate), using(crate::proofs::SessionSound::sound_signed_software_certificate))]
 impl Wire for SignedSoftwareCertificate {
     ghost use Rattle.ua_structures.specs.Session.{signed_software_certificate};
 
@@ -56,7 +56,7 @@ impl SignatureData {
     }
 }
 
-#[tactic(auto, unfolding(crate::specs::Session::signature_data), using(crate::proofs::SessionLawful::lawful_signature_data))]
+#[tactic(auto, unfolding(crate::specs::Session::signature_data), using(crate::proofs::SessionSound::sound_signature_data))]
 impl Wire for SignatureData {
     ghost use Rattle.ua_structures.specs.Session.{signature_data};
 

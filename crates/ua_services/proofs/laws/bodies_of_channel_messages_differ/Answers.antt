@@ -1,7 +1,7 @@
 use Rattle.ua_structures.specs.Header.{service_fault}
 use Rattle.ua_structures.specs.SecureChannel.{open_request, open_response, close_request}
 use Rattle.ua_services.specs.Message.{message}
-use Rattle.ua_structures.proofs.HeaderLawful.{lawful_service_fault}
+use Rattle.ua_structures.proofs.HeaderSound.{sound_service_fault}
 use Rattle.ua_structures.proofs.SecureChannelLawful.{lawful_open_request, lawful_open_response, lawful_close_request}
 use Rattle.ua_services.proofs.MessagesLawful.{lawful_message}
 use Rattle.ua_services.proofs.BodyLaws.{one_message}
@@ -14,7 +14,7 @@ pub returns-clause-response : goal.returns-clause-response
 returns-clause-response c = one_message (message 449 open_response) (lawful_message 449 lawful_open_response)
 
 pub returns-clause-fault : goal.returns-clause-fault
-returns-clause-fault c = one_message (message 397 service_fault) (lawful_message 397 lawful_service_fault)
+returns-clause-fault c = one_message (message 397 service_fault) (lawful_message 397 sound_service_fault.lawful)
 
 pub returns-clause-close : goal.returns-clause-close
 returns-clause-close c = one_message (message 452 close_request) (lawful_message 452 lawful_close_request)

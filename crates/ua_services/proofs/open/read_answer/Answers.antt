@@ -4,7 +4,7 @@ use Rattle.ua_structures.specs.Header.{service_fault}
 use Rattle.ua_structures.specs.SecureChannel.{open_response}
 use Rattle.ua_services.specs.Message.{standard_number}
 use Rattle.ua_services.proofs.MessageRead.{no_answer_id, no_answer, no_open, no_fault_answer, message_found}
-use Rattle.ua_structures.proofs.HeaderLawful.{lawful_service_fault}
+use Rattle.ua_structures.proofs.HeaderSound.{sound_service_fault}
 use Rattle.ua_structures.proofs.SecureChannelLawful.{lawful_open_response}
 use Rattle.ua_services.proofs.open.read_answer.Goals as goal
 use Rattle.ua_services.proofs.open.read_answer.Goals.{in_default-via-in-Some+in_default, in_default-via-in_default}
@@ -34,7 +34,7 @@ returns-in_err-read_whole-in-Some-eq397-clause-none g c =
 pub returns-in-Some-eq397-clause-found : goal.returns-in-Some-eq397-clause-found
 returns-in-Some-eq397-clause-found g c =
     let is : standard_number c.in_ok-id.id ≡ Some 397 = cc in
-    message_found 397 service_fault lawful_service_fault (g.S.Source.octets c.args.src.now) (g.S.Source.octets c.read_value.new.src) c.in_ok-id.id 397 (Ok c.in_ok-read_whole-in-Some-eq397.field-0) c.in_ok-id.ensures.exact is refl c.in_ok-read_whole-in-Some-eq397.ensures.found
+    message_found 397 service_fault sound_service_fault.lawful (g.S.Source.octets c.args.src.now) (g.S.Source.octets c.read_value.new.src) c.in_ok-id.id 397 (Ok c.in_ok-read_whole-in-Some-eq397.field-0) c.in_ok-id.ensures.exact is refl c.in_ok-read_whole-in-Some-eq397.ensures.found
 
 pub returns-clause-none : goal.returns-clause-none
 returns-clause-none g c = λ e. no_answer (g.S.Source.octets c.args.src.now) (g.S.Source.octets c.read_value.new.src) c.in_ok-id.id c.in_ok-id.ensures.exact
