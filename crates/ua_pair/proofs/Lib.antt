@@ -1,5 +1,5 @@
 mod Elements
-mod Ends
+pub mod Behind
 mod Bodies
 mod OneLine
 mod Befores

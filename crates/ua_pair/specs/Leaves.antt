@@ -89,9 +89,13 @@ node_id id = same_text (shown (node_text id))
 
 -- ---- values that are shown by their octets
 
--- a value by the octets of its canonical encoding, a null one as `null`
+-- the octets of a value's canonical encoding, as text; `null` for a null one
+unfoldable pub encoded_text : {A : Type 0} → Format A → (A → Bool) → A → List ℕ
+encoded_text format is_null value = cond (is_null value) (codes "null") (written_text (format.encodable value) (format.canonical value))
+
+-- a value by its octets
 abbrev pub encoded : {A : Type 0} → Format A → (A → Bool) → A → Tree
-encoded format is_null value = same_text (cond (is_null value) (codes "null") (written_text (format.encodable value) (format.canonical value)))
+encoded format is_null value = same_text (encoded_text format is_null value)
 
 -- neither a namespace nor a name
 abbrev pub is_null_name : QualifiedName → Bool

@@ -4,15 +4,12 @@ use Rattle.ua_structures.specs.SecureChannel.{open_request}
 use Rattle.ua_structures.specs.declared.secure_channel.OpenRequest.{OpenRequest}
 use Rattle.ua_services.specs.Message.{message, body_of}
 use Rattle.ua_services.specs.Open.{answer_read}
-use Rattle.ua_services.specs.Request.{request_read, kind_alone}
-use Rattle.ua_services.specs.Response.{response_read, kind_of as response_kind_of}
+use Rattle.ua_services.specs.Request.{request_kind_name, request_read, kind_alone}
+use Rattle.ua_services.specs.Response.{response_kind_name, response_read, kind_of as response_kind_of}
 use Rattle.ua_services.specs.declared.open.OpenAnswer.{OpenAnswer}
 use Rattle.ua_services.specs.declared.open.OpenAnswer.TheVariants.{Open, Fault}
 use Rattle.ua_services.specs.declared.request.RequestKind.{RequestKind}
-use Rattle.ua_services.specs.declared.request.RequestKind.TheVariants as request
 use Rattle.ua_services.specs.declared.response.Response.{Response}
-use Rattle.ua_services.specs.declared.response.ResponseKind.{ResponseKind}
-use Rattle.ua_services.specs.declared.response.ResponseKind.TheVariants as response
 use Rattle.ua_services.specs.declared.fault.RequestFault.{RequestFault}
 use Rattle.ua_services.specs.declared.fault.RequestFault.TheVariants as request_fault
 use Rattle.ua_services.specs.declared.fault.ResponseFault.{ResponseFault}
@@ -34,15 +31,6 @@ opening_kind Server = kind.OpenResponse
 
 -- ---- requests
 
--- the name of a kind of request
-abbrev pub request_kind_name : RequestKind → List ℕ
-request_kind_name request.GetEndpoints = codes "GetEndpointsRequest"
-request_kind_name request.CreateSession = codes "CreateSessionRequest"
-request_kind_name request.ActivateSession = codes "ActivateSessionRequest"
-request_kind_name request.CloseSession = codes "CloseSessionRequest"
-request_kind_name request.Read = codes "ReadRequest"
-request_kind_name request.Write = codes "WriteRequest"
-
 -- the name of what was read as a request: its kind, or why there is none
 abbrev pub request_name_of : Result RequestKind RequestFault → List ℕ
 request_name_of (Ok kind) = request_kind_name kind
@@ -55,16 +43,6 @@ abbrev pub request_name : List ℕ → List ℕ
 request_name octets = request_name_of (kind_alone (request_read octets))
 
 -- ---- responses
-
--- the name of a kind of response
-abbrev pub response_kind_name : ResponseKind → List ℕ
-response_kind_name response.GetEndpoints = codes "GetEndpointsResponse"
-response_kind_name response.CreateSession = codes "CreateSessionResponse"
-response_kind_name response.ActivateSession = codes "ActivateSessionResponse"
-response_kind_name response.CloseSession = codes "CloseSessionResponse"
-response_kind_name response.Read = codes "ReadResponse"
-response_kind_name response.Write = codes "WriteResponse"
-response_kind_name response.ServiceFault = codes "ServiceFault"
 
 -- the name of what was read as a response: its kind, or why there is none
 abbrev pub response_name_of : Result Response ResponseFault → List ℕ

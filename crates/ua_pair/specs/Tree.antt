@@ -94,3 +94,16 @@ abbrev mutual
   pub field_lines : Bool → List ℕ → List ℕ → Fields → List ℕ
   field_lines names margin path no_fields = []
   field_lines names margin path (field name tree others) = lines names (field_margin margin tree) (field_path path name) tree ++ field_lines names margin path others
+
+-- ---- the same behind a text
+
+-- a text with the lines of these fields behind it, one field after the other
+abbrev pub with_fields : Bool → List ℕ → List ℕ → List ℕ → Fields → List ℕ
+with_fields names margin path start no_fields = start
+with_fields names margin path start (field name tree others) = with_fields names margin path (start ++ lines names (field_margin margin tree) (field_path path name) tree) others
+
+-- a text with the lines of a tree behind it
+abbrev pub with_lines : Bool → List ℕ → List ℕ → List ℕ → Tree → List ℕ
+with_lines names margin path start (text shown) = start ++ line margin path (shown names)
+with_lines names margin path start (array items) = start ++ array_lines names margin path items
+with_lines names margin path start (structure inner) = with_fields names margin path start inner

@@ -3,15 +3,15 @@
 ghost use Rattle.std.specs.List.{concat};
 ghost use Rattle.std.specs.Prelude.{◌≡◌, Some, IfOk};
 ghost use Rattle.ua_pair.specs.declared.side.Side.TheVariants.{Client, Server};
-ghost use Rattle.ua_pair.specs.Names.{request_kind_name as kind_name, response_kind_name as answer_kind_name, open_answer_name, request_name as name_of_request, response_name as name_of_response, message_name as name_of_message, opening_name as name_of_opening};
+ghost use Rattle.ua_pair.specs.Names.{open_answer_name, request_name as name_of_request, response_name as name_of_response, message_name as name_of_message, opening_name as name_of_opening};
 
 use crate::side::Side;
 use std::alloc::{AllocError, Global};
 use ua_builtin::{Octets, ReadFault, Source};
 use ua_chunk::Message;
 use ua_services::{
-    OpenAnswer, RequestFault, RequestKind, ResponseFault, ResponseKind, read_open_request,
-    read_open_response, read_response, skip_request,
+    OpenAnswer, RequestFault, ResponseFault, read_open_request, read_open_response, read_response,
+    skip_request,
 };
 
 /// The name of a body that its kind does not encode.
@@ -20,39 +20,12 @@ const UNREADABLE: &str = "unreadable";
 /// The name of a body of no known kind.
 const UNSUPPORTED: &str = "unsupported";
 
-fn request_kind_name(kind: RequestKind) -> &'static str
-    ensures { result.now ≡ kind_name kind }
-{
-    match kind {
-        RequestKind::GetEndpoints => "GetEndpointsRequest",
-        RequestKind::CreateSession => "CreateSessionRequest",
-        RequestKind::ActivateSession => "ActivateSessionRequest",
-        RequestKind::CloseSession => "CloseSessionRequest",
-        RequestKind::Read => "ReadRequest",
-        RequestKind::Write => "WriteRequest",
-    }
-}
-
-fn response_kind_name(kind: ResponseKind) -> &'static str
-    ensures { result.now ≡ answer_kind_name kind }
-{
-    match kind {
-        ResponseKind::GetEndpoints => "GetEndpointsResponse",
-        ResponseKind::CreateSession => "CreateSessionResponse",
-        ResponseKind::ActivateSession => "ActivateSessionResponse",
-        ResponseKind::CloseSession => "CloseSessionResponse",
-        ResponseKind::Read => "ReadResponse",
-        ResponseKind::Write => "WriteResponse",
-        ResponseKind::ServiceFault => "ServiceFault",
-    }
-}
-
 /// The name of a request.
 fn request_name<S: Source>(alloc: Global, src: &mut S) -> Result<&'static str, AllocError>
     ensures { IfOk result (λ name. name.now ≡ name_of_request (S.octets src.old)) }
 {
     match skip_request(alloc, src) {
-        Ok(kind) => Ok(request_kind_name(kind)),
+        Ok(kind) => Ok(kind.name()),
         Err(RequestFault::Unsupported(_)) => Ok(UNSUPPORTED),
         Err(RequestFault::Unreadable(_)) => Ok(UNREADABLE),
         Err(RequestFault::OutOfMemory) => Err(AllocError),
@@ -65,9 +38,9 @@ fn response_name<S: Source>(alloc: Global, src: &mut S) -> Result<&'static str, 
 {
     match read_response(alloc, src) {
         Ok(response) => {
-            let kind = response.kind();
+            let name = response.kind().name();
             drop(response);
-            Ok(response_kind_name(kind))
+            Ok(name)
         }
         Err(ResponseFault::Unknown) => Ok(UNSUPPORTED),
         Err(ResponseFault::Unreadable) => Ok(UNREADABLE),

@@ -57,12 +57,7 @@ impl<T: Lines> Lines for UaArray<T> {
 
     ghost tree = { array_of T.tree };
 
-    fn push_lines(
-        &self,
-        alloc: Global,
-        out: &mut String,
-        place: Place<'_>,
-    ) -> Result<(), AllocError> {
+    fn push_lines(&self, alloc: Global, out: &mut String, place: Place) -> Result<(), AllocError> {
         match self.as_items() {
             Some(items) => push_items(alloc, out, place, items),
             None => push_line(out, place, "null"),

@@ -1,6 +1,6 @@
 //! What reads and writes attributes, as lines.
 
-use crate::fields::lines::{Lines, Place};
+use crate::fields::lines::{Lines, Place, push_fields};
 use std::alloc::{AllocError, Global};
 use ua_services::{
     ReadRequest, ReadResponse, ReadValueId, WriteRequest, WriteResponse, WriteValue,
@@ -14,18 +14,12 @@ impl Lines for DataValue {
     ghost tree = { λ m. structure (data_value_entries m) };
 
     #[tactic(auto, unfolding(crate::specs::Attribute::data_value_entries))]
-    fn push_lines(
-        &self,
-        alloc: Global,
-        out: &mut String,
-        place: Place<'_>,
-    ) -> Result<(), AllocError> {
-        place.push_field(alloc, out, "value", &self.value)?;
-        place.push_field(alloc, out, "status", &self.status)?;
-        place.push_field(alloc, out, "source_timestamp", &self.source_timestamp)?;
-        place.push_field(alloc, out, "source_picoseconds", &self.source_picoseconds)?;
-        place.push_field(alloc, out, "server_timestamp", &self.server_timestamp)?;
-        place.push_field(alloc, out, "server_picoseconds", &self.server_picoseconds)
+    fn push_lines(&self, alloc: Global, out: &mut String, place: Place) -> Result<(), AllocError> {
+        push_fields!(self, alloc, out, place =>
+            push_field value, push_field status, push_field source_timestamp,
+            push_field source_picoseconds, push_field server_timestamp,
+            push_field server_picoseconds
+        )
     }
 }
 
@@ -36,16 +30,11 @@ impl Lines for ReadValueId {
     ghost tree = { λ m. structure (read_value_id_entries m) };
 
     #[tactic(auto, unfolding(crate::specs::Attribute::read_value_id_entries))]
-    fn push_lines(
-        &self,
-        alloc: Global,
-        out: &mut String,
-        place: Place<'_>,
-    ) -> Result<(), AllocError> {
-        place.push_field(alloc, out, "node_id", &self.node_id)?;
-        place.push_field(alloc, out, "attribute_id", &self.attribute_id)?;
-        place.push_field(alloc, out, "index_range", &self.index_range)?;
-        place.push_field(alloc, out, "data_encoding", &self.data_encoding)
+    fn push_lines(&self, alloc: Global, out: &mut String, place: Place) -> Result<(), AllocError> {
+        push_fields!(self, alloc, out, place =>
+            push_field node_id, push_field attribute_id, push_field index_range,
+            push_field data_encoding
+        )
     }
 }
 
@@ -56,21 +45,11 @@ impl Lines for ReadRequest {
     ghost tree = { λ m. structure (read_request_entries m) };
 
     #[tactic(auto, unfolding(crate::specs::Attribute::read_request_entries))]
-    fn push_lines(
-        &self,
-        alloc: Global,
-        out: &mut String,
-        place: Place<'_>,
-    ) -> Result<(), AllocError> {
-        place.push_part(alloc, out, "request_header", &self.request_header)?;
-        place.push_field(alloc, out, "max_age", &self.max_age)?;
-        place.push_field(
-            alloc,
-            out,
-            "timestamps_to_return",
-            &self.timestamps_to_return,
-        )?;
-        place.push_field(alloc, out, "nodes_to_read", &self.nodes_to_read)
+    fn push_lines(&self, alloc: Global, out: &mut String, place: Place) -> Result<(), AllocError> {
+        push_fields!(self, alloc, out, place =>
+            push_part request_header, push_field max_age, push_field timestamps_to_return,
+            push_field nodes_to_read
+        )
     }
 }
 
@@ -81,15 +60,10 @@ impl Lines for ReadResponse {
     ghost tree = { λ m. structure (read_response_entries m) };
 
     #[tactic(auto, unfolding(crate::specs::Attribute::read_response_entries))]
-    fn push_lines(
-        &self,
-        alloc: Global,
-        out: &mut String,
-        place: Place<'_>,
-    ) -> Result<(), AllocError> {
-        place.push_part(alloc, out, "response_header", &self.response_header)?;
-        place.push_field(alloc, out, "results", &self.results)?;
-        place.push_field(alloc, out, "diagnostic_infos", &self.diagnostic_infos)
+    fn push_lines(&self, alloc: Global, out: &mut String, place: Place) -> Result<(), AllocError> {
+        push_fields!(self, alloc, out, place =>
+            push_part response_header, push_field results, push_field diagnostic_infos
+        )
     }
 }
 
@@ -100,16 +74,10 @@ impl Lines for WriteValue {
     ghost tree = { λ m. structure (write_value_entries m) };
 
     #[tactic(auto, unfolding(crate::specs::Attribute::write_value_entries))]
-    fn push_lines(
-        &self,
-        alloc: Global,
-        out: &mut String,
-        place: Place<'_>,
-    ) -> Result<(), AllocError> {
-        place.push_field(alloc, out, "node_id", &self.node_id)?;
-        place.push_field(alloc, out, "attribute_id", &self.attribute_id)?;
-        place.push_field(alloc, out, "index_range", &self.index_range)?;
-        place.push_part(alloc, out, "value", &self.value)
+    fn push_lines(&self, alloc: Global, out: &mut String, place: Place) -> Result<(), AllocError> {
+        push_fields!(self, alloc, out, place =>
+            push_field node_id, push_field attribute_id, push_field index_range, push_part value
+        )
     }
 }
 
@@ -120,14 +88,8 @@ impl Lines for WriteRequest {
     ghost tree = { λ m. structure (write_request_entries m) };
 
     #[tactic(auto, unfolding(crate::specs::Attribute::write_request_entries))]
-    fn push_lines(
-        &self,
-        alloc: Global,
-        out: &mut String,
-        place: Place<'_>,
-    ) -> Result<(), AllocError> {
-        place.push_part(alloc, out, "request_header", &self.request_header)?;
-        place.push_field(alloc, out, "nodes_to_write", &self.nodes_to_write)
+    fn push_lines(&self, alloc: Global, out: &mut String, place: Place) -> Result<(), AllocError> {
+        push_fields!(self, alloc, out, place => push_part request_header, push_field nodes_to_write)
     }
 }
 
@@ -138,14 +100,9 @@ impl Lines for WriteResponse {
     ghost tree = { λ m. structure (write_response_entries m) };
 
     #[tactic(auto, unfolding(crate::specs::Attribute::write_response_entries))]
-    fn push_lines(
-        &self,
-        alloc: Global,
-        out: &mut String,
-        place: Place<'_>,
-    ) -> Result<(), AllocError> {
-        place.push_part(alloc, out, "response_header", &self.response_header)?;
-        place.push_field(alloc, out, "results", &self.results)?;
-        place.push_field(alloc, out, "diagnostic_infos", &self.diagnostic_infos)
+    fn push_lines(&self, alloc: Global, out: &mut String, place: Place) -> Result<(), AllocError> {
+        push_fields!(self, alloc, out, place =>
+            push_part response_header, push_field results, push_field diagnostic_infos
+        )
     }
 }

@@ -1,6 +1,6 @@
 //! What finds servers, as lines.
 
-use crate::fields::lines::{Lines, Place};
+use crate::fields::lines::{Lines, Place, push_fields};
 use std::alloc::{AllocError, Global};
 use ua_services::{
     ApplicationDescription, EndpointDescription, GetEndpointsRequest, GetEndpointsResponse,
@@ -14,24 +14,12 @@ impl Lines for ApplicationDescription {
     ghost tree = { λ m. structure (application_description_entries m) };
 
     #[tactic(auto, unfolding(crate::specs::Discovery::application_description_entries))]
-    fn push_lines(
-        &self,
-        alloc: Global,
-        out: &mut String,
-        place: Place<'_>,
-    ) -> Result<(), AllocError> {
-        place.push_field(alloc, out, "application_uri", &self.application_uri)?;
-        place.push_field(alloc, out, "product_uri", &self.product_uri)?;
-        place.push_field(alloc, out, "application_name", &self.application_name)?;
-        place.push_field(alloc, out, "application_type", &self.application_type)?;
-        place.push_field(alloc, out, "gateway_server_uri", &self.gateway_server_uri)?;
-        place.push_field(
-            alloc,
-            out,
-            "discovery_profile_uri",
-            &self.discovery_profile_uri,
-        )?;
-        place.push_field(alloc, out, "discovery_urls", &self.discovery_urls)
+    fn push_lines(&self, alloc: Global, out: &mut String, place: Place) -> Result<(), AllocError> {
+        push_fields!(self, alloc, out, place =>
+            push_field application_uri, push_field product_uri, push_field application_name,
+            push_field application_type, push_field gateway_server_uri,
+            push_field discovery_profile_uri, push_field discovery_urls
+        )
     }
 }
 
@@ -42,17 +30,11 @@ impl Lines for UserTokenPolicy {
     ghost tree = { λ m. structure (user_token_policy_entries m) };
 
     #[tactic(auto, unfolding(crate::specs::Discovery::user_token_policy_entries))]
-    fn push_lines(
-        &self,
-        alloc: Global,
-        out: &mut String,
-        place: Place<'_>,
-    ) -> Result<(), AllocError> {
-        place.push_field(alloc, out, "policy_id", &self.policy_id)?;
-        place.push_field(alloc, out, "token_type", &self.token_type)?;
-        place.push_field(alloc, out, "issued_token_type", &self.issued_token_type)?;
-        place.push_field(alloc, out, "issuer_endpoint_url", &self.issuer_endpoint_url)?;
-        place.push_field(alloc, out, "security_policy_uri", &self.security_policy_uri)
+    fn push_lines(&self, alloc: Global, out: &mut String, place: Place) -> Result<(), AllocError> {
+        push_fields!(self, alloc, out, place =>
+            push_field policy_id, push_field token_type, push_field issued_token_type,
+            push_field issuer_endpoint_url, push_field security_policy_uri
+        )
     }
 }
 
@@ -63,30 +45,13 @@ impl Lines for EndpointDescription {
     ghost tree = { λ m. structure (endpoint_description_entries m) };
 
     #[tactic(auto, unfolding(crate::specs::Discovery::endpoint_description_entries))]
-    fn push_lines(
-        &self,
-        alloc: Global,
-        out: &mut String,
-        place: Place<'_>,
-    ) -> Result<(), AllocError> {
-        place.push_field(alloc, out, "endpoint_url", &self.endpoint_url)?;
-        place.push_part(alloc, out, "server", &self.server)?;
-        place.push_field(alloc, out, "server_certificate", &self.server_certificate)?;
-        place.push_field(alloc, out, "security_mode", &self.security_mode)?;
-        place.push_field(alloc, out, "security_policy_uri", &self.security_policy_uri)?;
-        place.push_field(
-            alloc,
-            out,
-            "user_identity_tokens",
-            &self.user_identity_tokens,
-        )?;
-        place.push_field(
-            alloc,
-            out,
-            "transport_profile_uri",
-            &self.transport_profile_uri,
-        )?;
-        place.push_field(alloc, out, "security_level", &self.security_level)
+    fn push_lines(&self, alloc: Global, out: &mut String, place: Place) -> Result<(), AllocError> {
+        push_fields!(self, alloc, out, place =>
+            push_field endpoint_url, push_part server, push_field server_certificate,
+            push_field security_mode, push_field security_policy_uri,
+            push_field user_identity_tokens, push_field transport_profile_uri,
+            push_field security_level
+        )
     }
 }
 
@@ -97,16 +62,11 @@ impl Lines for GetEndpointsRequest {
     ghost tree = { λ m. structure (get_endpoints_request_entries m) };
 
     #[tactic(auto, unfolding(crate::specs::Discovery::get_endpoints_request_entries))]
-    fn push_lines(
-        &self,
-        alloc: Global,
-        out: &mut String,
-        place: Place<'_>,
-    ) -> Result<(), AllocError> {
-        place.push_part(alloc, out, "request_header", &self.request_header)?;
-        place.push_field(alloc, out, "endpoint_url", &self.endpoint_url)?;
-        place.push_field(alloc, out, "locale_ids", &self.locale_ids)?;
-        place.push_field(alloc, out, "profile_uris", &self.profile_uris)
+    fn push_lines(&self, alloc: Global, out: &mut String, place: Place) -> Result<(), AllocError> {
+        push_fields!(self, alloc, out, place =>
+            push_part request_header, push_field endpoint_url, push_field locale_ids,
+            push_field profile_uris
+        )
     }
 }
 
@@ -117,13 +77,7 @@ impl Lines for GetEndpointsResponse {
     ghost tree = { λ m. structure (get_endpoints_response_entries m) };
 
     #[tactic(auto, unfolding(crate::specs::Discovery::get_endpoints_response_entries))]
-    fn push_lines(
-        &self,
-        alloc: Global,
-        out: &mut String,
-        place: Place<'_>,
-    ) -> Result<(), AllocError> {
-        place.push_part(alloc, out, "response_header", &self.response_header)?;
-        place.push_field(alloc, out, "endpoints", &self.endpoints)
+    fn push_lines(&self, alloc: Global, out: &mut String, place: Place) -> Result<(), AllocError> {
+        push_fields!(self, alloc, out, place => push_part response_header, push_field endpoints)
     }
 }

@@ -1,6 +1,6 @@
 //! The headers and the fault, as lines.
 
-use crate::fields::lines::{Lines, Place};
+use crate::fields::lines::{Lines, Place, push_fields};
 use std::alloc::{AllocError, Global};
 use ua_services::{RequestHeader, ResponseHeader, ServiceFault};
 
@@ -11,24 +11,12 @@ impl Lines for RequestHeader {
     ghost tree = { λ m. structure (request_header_entries m) };
 
     #[tactic(auto, unfolding(crate::specs::Header::request_header_entries))]
-    fn push_lines(
-        &self,
-        alloc: Global,
-        out: &mut String,
-        place: Place<'_>,
-    ) -> Result<(), AllocError> {
-        place.push_field(
-            alloc,
-            out,
-            "authentication_token",
-            &self.authentication_token,
-        )?;
-        place.push_field(alloc, out, "timestamp", &self.timestamp)?;
-        place.push_field(alloc, out, "request_handle", &self.request_handle)?;
-        place.push_field(alloc, out, "return_diagnostics", &self.return_diagnostics)?;
-        place.push_field(alloc, out, "audit_entry_id", &self.audit_entry_id)?;
-        place.push_field(alloc, out, "timeout_hint", &self.timeout_hint)?;
-        place.push_field(alloc, out, "additional_header", &self.additional_header)
+    fn push_lines(&self, alloc: Global, out: &mut String, place: Place) -> Result<(), AllocError> {
+        push_fields!(self, alloc, out, place =>
+            push_field authentication_token, push_field timestamp, push_field request_handle,
+            push_field return_diagnostics, push_field audit_entry_id, push_field timeout_hint,
+            push_field additional_header
+        )
     }
 }
 
@@ -39,18 +27,11 @@ impl Lines for ResponseHeader {
     ghost tree = { λ m. structure (response_header_entries m) };
 
     #[tactic(auto, unfolding(crate::specs::Header::response_header_entries))]
-    fn push_lines(
-        &self,
-        alloc: Global,
-        out: &mut String,
-        place: Place<'_>,
-    ) -> Result<(), AllocError> {
-        place.push_field(alloc, out, "timestamp", &self.timestamp)?;
-        place.push_field(alloc, out, "request_handle", &self.request_handle)?;
-        place.push_field(alloc, out, "service_result", &self.service_result)?;
-        place.push_field(alloc, out, "service_diagnostics", &self.service_diagnostics)?;
-        place.push_field(alloc, out, "string_table", &self.string_table)?;
-        place.push_field(alloc, out, "additional_header", &self.additional_header)
+    fn push_lines(&self, alloc: Global, out: &mut String, place: Place) -> Result<(), AllocError> {
+        push_fields!(self, alloc, out, place =>
+            push_field timestamp, push_field request_handle, push_field service_result,
+            push_field service_diagnostics, push_field string_table, push_field additional_header
+        )
     }
 }
 
@@ -61,12 +42,7 @@ impl Lines for ServiceFault {
     ghost tree = { λ m. structure (service_fault_entries m) };
 
     #[tactic(auto, unfolding(crate::specs::Header::service_fault_entries))]
-    fn push_lines(
-        &self,
-        alloc: Global,
-        out: &mut String,
-        place: Place<'_>,
-    ) -> Result<(), AllocError> {
-        place.push_part(alloc, out, "response_header", &self.response_header)
+    fn push_lines(&self, alloc: Global, out: &mut String, place: Place) -> Result<(), AllocError> {
+        push_fields!(self, alloc, out, place => push_part response_header)
     }
 }

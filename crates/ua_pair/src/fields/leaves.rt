@@ -86,12 +86,7 @@ impl<T: Text> Lines for Option<T> {
 
     ghost tree = { λ value. text (λ names. text_or_null (T.shown names) value) };
 
-    fn push_lines(
-        &self,
-        alloc: Global,
-        out: &mut String,
-        place: Place<'_>,
-    ) -> Result<(), AllocError> {
+    fn push_lines(&self, alloc: Global, out: &mut String, place: Place) -> Result<(), AllocError> {
         match self {
             Some(value) => push_text_line(alloc, out, place, value),
             None => push_line(out, place, "null"),
@@ -104,12 +99,7 @@ impl Lines for bool {
 
     ghost tree = { boolean };
 
-    fn push_lines(
-        &self,
-        _alloc: Global,
-        out: &mut String,
-        place: Place<'_>,
-    ) -> Result<(), AllocError> {
+    fn push_lines(&self, _alloc: Global, out: &mut String, place: Place) -> Result<(), AllocError> {
         push_line(out, place, if *self { "true" } else { "false" })
     }
 }
@@ -120,12 +110,7 @@ impl Lines for u8 {
     ghost tree = { number };
 
     #[tactic(auto, unfolding(crate::specs::Tree::line))]
-    fn push_lines(
-        &self,
-        _alloc: Global,
-        out: &mut String,
-        place: Place<'_>,
-    ) -> Result<(), AllocError> {
+    fn push_lines(&self, _alloc: Global, out: &mut String, place: Place) -> Result<(), AllocError> {
         push_start(out, place)?;
         writeln!(out, "{self}")
     }
@@ -137,12 +122,7 @@ impl Lines for u32 {
     ghost tree = { number };
 
     #[tactic(auto, unfolding(crate::specs::Tree::line))]
-    fn push_lines(
-        &self,
-        _alloc: Global,
-        out: &mut String,
-        place: Place<'_>,
-    ) -> Result<(), AllocError> {
+    fn push_lines(&self, _alloc: Global, out: &mut String, place: Place) -> Result<(), AllocError> {
         push_start(out, place)?;
         writeln!(out, "{self}")
     }
@@ -154,12 +134,7 @@ impl Lines for i32 {
     ghost tree = { signed };
 
     #[tactic(auto, unfolding(crate::specs::Tree::line))]
-    fn push_lines(
-        &self,
-        _alloc: Global,
-        out: &mut String,
-        place: Place<'_>,
-    ) -> Result<(), AllocError> {
+    fn push_lines(&self, _alloc: Global, out: &mut String, place: Place) -> Result<(), AllocError> {
         push_start(out, place)?;
         writeln!(out, "{self}")
     }
@@ -171,12 +146,7 @@ impl Lines for DoubleBits {
     ghost tree = { double };
 
     #[tactic(auto, unfolding(crate::specs::Tree::line))]
-    fn push_lines(
-        &self,
-        _alloc: Global,
-        out: &mut String,
-        place: Place<'_>,
-    ) -> Result<(), AllocError> {
+    fn push_lines(&self, _alloc: Global, out: &mut String, place: Place) -> Result<(), AllocError> {
         push_start(out, place)?;
         push_wide_pattern(out, self.bits)?;
         out.push_str("\n")
@@ -188,12 +158,7 @@ impl Lines for DateTime {
 
     ghost tree = { date_time };
 
-    fn push_lines(
-        &self,
-        alloc: Global,
-        out: &mut String,
-        place: Place<'_>,
-    ) -> Result<(), AllocError> {
+    fn push_lines(&self, alloc: Global, out: &mut String, place: Place) -> Result<(), AllocError> {
         push_text_line(alloc, out, place, self)
     }
 }
@@ -203,12 +168,7 @@ impl Lines for StatusCode {
 
     ghost tree = { status_code };
 
-    fn push_lines(
-        &self,
-        alloc: Global,
-        out: &mut String,
-        place: Place<'_>,
-    ) -> Result<(), AllocError> {
+    fn push_lines(&self, alloc: Global, out: &mut String, place: Place) -> Result<(), AllocError> {
         push_text_line(alloc, out, place, self)
     }
 }
@@ -219,12 +179,7 @@ impl Lines for UaString {
     ghost tree = { string };
 
     #[tactic(auto, unfolding(crate::specs::Tree::line))]
-    fn push_lines(
-        &self,
-        _alloc: Global,
-        out: &mut String,
-        place: Place<'_>,
-    ) -> Result<(), AllocError> {
+    fn push_lines(&self, _alloc: Global, out: &mut String, place: Place) -> Result<(), AllocError> {
         push_start(out, place)?;
         push_string(out, self)?;
         out.push_str("\n")
@@ -237,12 +192,7 @@ impl Lines for UaBytes {
     ghost tree = { byte_string };
 
     #[tactic(auto, unfolding(crate::specs::Tree::line))]
-    fn push_lines(
-        &self,
-        _alloc: Global,
-        out: &mut String,
-        place: Place<'_>,
-    ) -> Result<(), AllocError> {
+    fn push_lines(&self, _alloc: Global, out: &mut String, place: Place) -> Result<(), AllocError> {
         push_start(out, place)?;
         push_base64(out, self)?;
         out.push_str("\n")
@@ -255,12 +205,7 @@ impl Lines for NodeId {
     ghost tree = { node_id };
 
     #[tactic(auto, unfolding(crate::specs::Tree::line))]
-    fn push_lines(
-        &self,
-        alloc: Global,
-        out: &mut String,
-        place: Place<'_>,
-    ) -> Result<(), AllocError> {
+    fn push_lines(&self, alloc: Global, out: &mut String, place: Place) -> Result<(), AllocError> {
         push_start(out, place)?;
         push_node(alloc, out, self)?;
         out.push_str("\n")
@@ -272,12 +217,8 @@ impl Lines for QualifiedName {
 
     ghost tree = { qualified_name };
 
-    fn push_lines(
-        &self,
-        alloc: Global,
-        out: &mut String,
-        place: Place<'_>,
-    ) -> Result<(), AllocError> {
+    #[tactic(auto, unfolding(crate::specs::Leaves::encoded_text))]
+    fn push_lines(&self, alloc: Global, out: &mut String, place: Place) -> Result<(), AllocError> {
         push_encoded_line(alloc, out, place, is_null_name(self), self)
     }
 }
@@ -287,12 +228,8 @@ impl Lines for LocalizedText {
 
     ghost tree = { localized_text };
 
-    fn push_lines(
-        &self,
-        alloc: Global,
-        out: &mut String,
-        place: Place<'_>,
-    ) -> Result<(), AllocError> {
+    #[tactic(auto, unfolding(crate::specs::Leaves::encoded_text))]
+    fn push_lines(&self, alloc: Global, out: &mut String, place: Place) -> Result<(), AllocError> {
         push_encoded_line(alloc, out, place, is_null_text(self), self)
     }
 }
@@ -302,12 +239,8 @@ impl Lines for ExtensionObject {
 
     ghost tree = { extension_object };
 
-    fn push_lines(
-        &self,
-        alloc: Global,
-        out: &mut String,
-        place: Place<'_>,
-    ) -> Result<(), AllocError> {
+    #[tactic(auto, unfolding(crate::specs::Leaves::encoded_text))]
+    fn push_lines(&self, alloc: Global, out: &mut String, place: Place) -> Result<(), AllocError> {
         push_encoded_line(alloc, out, place, is_null_object(self), self)
     }
 }
@@ -317,12 +250,8 @@ impl Lines for DiagnosticInfo {
 
     ghost tree = { diagnostic_info };
 
-    fn push_lines(
-        &self,
-        alloc: Global,
-        out: &mut String,
-        place: Place<'_>,
-    ) -> Result<(), AllocError> {
+    #[tactic(auto, unfolding(crate::specs::Leaves::encoded_text))]
+    fn push_lines(&self, alloc: Global, out: &mut String, place: Place) -> Result<(), AllocError> {
         push_encoded_line(alloc, out, place, is_empty(self), self)
     }
 }

@@ -1,7 +1,7 @@
 //! Values as lines, and where they stand.
 
 ghost use Rattle.std.specs.Prelude.{◌≡◌, ◌++◌, codes, string_bytes, OnOk, IfOk};
-ghost use Rattle.ua_pair.specs.Tree.{Tree, deeper, element_path, field_path, line, lines};
+ghost use Rattle.ua_pair.specs.Tree.{Tree, deeper, element_path, field_path, line, with_lines};
 
 use std::alloc::{AllocError, Global};
 use std::fmt::Write;
@@ -23,13 +23,8 @@ pub(crate) trait Lines {
     ghost tree: { Self → Tree };
 
     /// Adds the lines of the value.
-    fn push_lines(
-        &self,
-        alloc: Global,
-        out: &mut String,
-        place: Place<'_>,
-    ) -> Result<(), AllocError>
-        ensures { OnOk result (string_bytes out.new ≡ string_bytes out.old ++ lines place.entry.names place.entry.margin.now place.entry.path.now (tree self.now)) };
+    fn push_lines(&self, alloc: Global, out: &mut String, place: Place) -> Result<(), AllocError>
+        ensures { OnOk result (string_bytes out.new ≡ with_lines place.entry.names place.entry.margin.now place.entry.path.now (string_bytes out.old) (tree self.now)) };
 }
 
 /// Adds what stands in front of the text of a line.
@@ -86,6 +81,7 @@ impl<'a> Place<'a> {
     ghost use Rattle.ua_pair.specs.Tree.{deeper, element_path, field_path, lines};
 
     /// Adds the lines of a field that is no structure.
+    #[tactic(auto, using(crate::proofs::Behind::lines_behind))]
     pub(crate) fn push_field<T: Lines>(
         self,
         alloc: Global,
@@ -124,6 +120,7 @@ impl<'a> Place<'a> {
     }
 
     /// Adds the lines of an element.
+    #[tactic(auto, using(crate::proofs::Behind::lines_behind))]
     pub(crate) fn push_element<T: Lines>(
         self,
         alloc: Global,
@@ -142,3 +139,14 @@ impl<'a> Place<'a> {
         value.push_lines(alloc, out, inner)
     }
 }
+
+/// Adds the lines of the fields of a structure in order, each by `push_field`, or by `push_part` where it is a
+/// structure.
+macro_rules! push_fields {
+    ($value:expr, $alloc:expr, $out:expr, $place:expr => $($push:ident $field:ident),+) => {{
+        $($place.$push($alloc, $out, stringify!($field), &$value.$field)?;)+
+        Ok(())
+    }};
+}
+
+pub(crate) use push_fields;

@@ -5,27 +5,18 @@ ghost use Rattle.ua_pair.specs.Messages.{close_request_fields, message_lines, op
 
 use crate::fields::lines::{Lines, Place};
 use std::alloc::{AllocError, Global};
-use ua_services::{CloseRequest, OpenAnswer, OpenRequest, OpenResponse, Request, Response};
+use ua_services::{
+    CloseRequest, OpenAnswer, OpenRequest, OpenResponse, Request, Response, by_kind, requests,
+    responses,
+};
 
 impl Lines for Request {
     ghost use Rattle.ua_pair.specs.Messages.{request_tree};
 
     ghost tree = { request_tree };
 
-    fn push_lines(
-        &self,
-        alloc: Global,
-        out: &mut String,
-        place: Place<'_>,
-    ) -> Result<(), AllocError> {
-        match self {
-            Request::GetEndpoints(message) => message.push_lines(alloc, out, place),
-            Request::CreateSession(message) => message.push_lines(alloc, out, place),
-            Request::ActivateSession(message) => message.push_lines(alloc, out, place),
-            Request::CloseSession(message) => message.push_lines(alloc, out, place),
-            Request::Read(message) => message.push_lines(alloc, out, place),
-            Request::Write(message) => message.push_lines(alloc, out, place),
-        }
+    fn push_lines(&self, alloc: Global, out: &mut String, place: Place) -> Result<(), AllocError> {
+        requests!(by_kind, self, message, _number => message.push_lines(alloc, out, place))
     }
 }
 
@@ -34,21 +25,8 @@ impl Lines for Response {
 
     ghost tree = { response_tree };
 
-    fn push_lines(
-        &self,
-        alloc: Global,
-        out: &mut String,
-        place: Place<'_>,
-    ) -> Result<(), AllocError> {
-        match self {
-            Response::GetEndpoints(message) => message.push_lines(alloc, out, place),
-            Response::CreateSession(message) => message.push_lines(alloc, out, place),
-            Response::ActivateSession(message) => message.push_lines(alloc, out, place),
-            Response::CloseSession(message) => message.push_lines(alloc, out, place),
-            Response::Read(message) => message.push_lines(alloc, out, place),
-            Response::Write(message) => message.push_lines(alloc, out, place),
-            Response::ServiceFault(message) => message.push_lines(alloc, out, place),
-        }
+    fn push_lines(&self, alloc: Global, out: &mut String, place: Place) -> Result<(), AllocError> {
+        responses!(by_kind, self, message, _number => message.push_lines(alloc, out, place))
     }
 }
 
@@ -57,12 +35,7 @@ impl Lines for OpenAnswer {
 
     ghost tree = { open_answer_tree };
 
-    fn push_lines(
-        &self,
-        alloc: Global,
-        out: &mut String,
-        place: Place<'_>,
-    ) -> Result<(), AllocError> {
+    fn push_lines(&self, alloc: Global, out: &mut String, place: Place) -> Result<(), AllocError> {
         match self {
             OpenAnswer::Open(message) => message.push_lines(alloc, out, place),
             OpenAnswer::Fault(message) => message.push_lines(alloc, out, place),
@@ -71,6 +44,7 @@ impl Lines for OpenAnswer {
 }
 
 /// Adds the lines of a message.
+#[tactic(auto, using(crate::proofs::Behind::lines_behind))]
 pub(crate) fn push_message<T: Lines>(
     alloc: Global,
     message: &T,

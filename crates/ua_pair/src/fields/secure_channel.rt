@@ -1,6 +1,6 @@
 //! The services of secure channels, as lines.
 
-use crate::fields::lines::{Lines, Place};
+use crate::fields::lines::{Lines, Place, push_fields};
 use std::alloc::{AllocError, Global};
 use ua_services::{CloseRequest, OpenRequest, OpenResponse};
 
@@ -11,23 +11,11 @@ impl Lines for OpenRequest {
     ghost tree = { λ m. structure (open_request_entries m) };
 
     #[tactic(auto, unfolding(crate::specs::SecureChannel::open_request_entries))]
-    fn push_lines(
-        &self,
-        alloc: Global,
-        out: &mut String,
-        place: Place<'_>,
-    ) -> Result<(), AllocError> {
-        place.push_part(alloc, out, "request_header", &self.request_header)?;
-        place.push_field(
-            alloc,
-            out,
-            "client_protocol_version",
-            &self.client_protocol_version,
-        )?;
-        place.push_field(alloc, out, "request_type", &self.request_type)?;
-        place.push_field(alloc, out, "security_mode", &self.security_mode)?;
-        place.push_field(alloc, out, "client_nonce", &self.client_nonce)?;
-        place.push_field(alloc, out, "requested_lifetime", &self.requested_lifetime)
+    fn push_lines(&self, alloc: Global, out: &mut String, place: Place) -> Result<(), AllocError> {
+        push_fields!(self, alloc, out, place =>
+            push_part request_header, push_field client_protocol_version, push_field request_type,
+            push_field security_mode, push_field client_nonce, push_field requested_lifetime
+        )
     }
 }
 
@@ -38,24 +26,12 @@ impl Lines for OpenResponse {
     ghost tree = { λ m. structure (open_response_entries m) };
 
     #[tactic(auto, unfolding(crate::specs::SecureChannel::open_response_entries))]
-    fn push_lines(
-        &self,
-        alloc: Global,
-        out: &mut String,
-        place: Place<'_>,
-    ) -> Result<(), AllocError> {
-        place.push_part(alloc, out, "response_header", &self.response_header)?;
-        place.push_field(
-            alloc,
-            out,
-            "server_protocol_version",
-            &self.server_protocol_version,
-        )?;
-        place.push_field(alloc, out, "channel_id", &self.channel_id)?;
-        place.push_field(alloc, out, "token_id", &self.token_id)?;
-        place.push_field(alloc, out, "created_at", &self.created_at)?;
-        place.push_field(alloc, out, "revised_lifetime", &self.revised_lifetime)?;
-        place.push_field(alloc, out, "server_nonce", &self.server_nonce)
+    fn push_lines(&self, alloc: Global, out: &mut String, place: Place) -> Result<(), AllocError> {
+        push_fields!(self, alloc, out, place =>
+            push_part response_header, push_field server_protocol_version, push_field channel_id,
+            push_field token_id, push_field created_at, push_field revised_lifetime,
+            push_field server_nonce
+        )
     }
 }
 
@@ -66,12 +42,7 @@ impl Lines for CloseRequest {
     ghost tree = { λ m. structure (close_request_entries m) };
 
     #[tactic(auto, unfolding(crate::specs::SecureChannel::close_request_entries))]
-    fn push_lines(
-        &self,
-        alloc: Global,
-        out: &mut String,
-        place: Place<'_>,
-    ) -> Result<(), AllocError> {
-        place.push_part(alloc, out, "request_header", &self.request_header)
+    fn push_lines(&self, alloc: Global, out: &mut String, place: Place) -> Result<(), AllocError> {
+        push_fields!(self, alloc, out, place => push_part request_header)
     }
 }

@@ -1,6 +1,6 @@
 //! The services of sessions, as lines.
 
-use crate::fields::lines::{Lines, Place};
+use crate::fields::lines::{Lines, Place, push_fields};
 use std::alloc::{AllocError, Global};
 use ua_services::{
     ActivateSessionRequest, ActivateSessionResponse, CloseSessionRequest, CloseSessionResponse,
@@ -14,14 +14,8 @@ impl Lines for SignedSoftwareCertificate {
     ghost tree = { λ m. structure (signed_software_certificate_entries m) };
 
     #[tactic(auto, unfolding(crate::specs::Session::signed_software_certificate_entries))]
-    fn push_lines(
-        &self,
-        alloc: Global,
-        out: &mut String,
-        place: Place<'_>,
-    ) -> Result<(), AllocError> {
-        place.push_field(alloc, out, "certificate_data", &self.certificate_data)?;
-        place.push_field(alloc, out, "signature", &self.signature)
+    fn push_lines(&self, alloc: Global, out: &mut String, place: Place) -> Result<(), AllocError> {
+        push_fields!(self, alloc, out, place => push_field certificate_data, push_field signature)
     }
 }
 
@@ -32,14 +26,8 @@ impl Lines for SignatureData {
     ghost tree = { λ m. structure (signature_data_entries m) };
 
     #[tactic(auto, unfolding(crate::specs::Session::signature_data_entries))]
-    fn push_lines(
-        &self,
-        alloc: Global,
-        out: &mut String,
-        place: Place<'_>,
-    ) -> Result<(), AllocError> {
-        place.push_field(alloc, out, "algorithm", &self.algorithm)?;
-        place.push_field(alloc, out, "signature", &self.signature)
+    fn push_lines(&self, alloc: Global, out: &mut String, place: Place) -> Result<(), AllocError> {
+        push_fields!(self, alloc, out, place => push_field algorithm, push_field signature)
     }
 }
 
@@ -50,30 +38,12 @@ impl Lines for CreateSessionRequest {
     ghost tree = { λ m. structure (create_session_request_entries m) };
 
     #[tactic(auto, unfolding(crate::specs::Session::create_session_request_entries))]
-    fn push_lines(
-        &self,
-        alloc: Global,
-        out: &mut String,
-        place: Place<'_>,
-    ) -> Result<(), AllocError> {
-        place.push_part(alloc, out, "request_header", &self.request_header)?;
-        place.push_part(alloc, out, "client_description", &self.client_description)?;
-        place.push_field(alloc, out, "server_uri", &self.server_uri)?;
-        place.push_field(alloc, out, "endpoint_url", &self.endpoint_url)?;
-        place.push_field(alloc, out, "session_name", &self.session_name)?;
-        place.push_field(alloc, out, "client_nonce", &self.client_nonce)?;
-        place.push_field(alloc, out, "client_certificate", &self.client_certificate)?;
-        place.push_field(
-            alloc,
-            out,
-            "requested_session_timeout",
-            &self.requested_session_timeout,
-        )?;
-        place.push_field(
-            alloc,
-            out,
-            "max_response_message_size",
-            &self.max_response_message_size,
+    fn push_lines(&self, alloc: Global, out: &mut String, place: Place) -> Result<(), AllocError> {
+        push_fields!(self, alloc, out, place =>
+            push_part request_header, push_part client_description, push_field server_uri,
+            push_field endpoint_url, push_field session_name, push_field client_nonce,
+            push_field client_certificate, push_field requested_session_timeout,
+            push_field max_response_message_size
         )
     }
 }
@@ -85,41 +55,13 @@ impl Lines for CreateSessionResponse {
     ghost tree = { λ m. structure (create_session_response_entries m) };
 
     #[tactic(auto, unfolding(crate::specs::Session::create_session_response_entries))]
-    fn push_lines(
-        &self,
-        alloc: Global,
-        out: &mut String,
-        place: Place<'_>,
-    ) -> Result<(), AllocError> {
-        place.push_part(alloc, out, "response_header", &self.response_header)?;
-        place.push_field(alloc, out, "session_id", &self.session_id)?;
-        place.push_field(
-            alloc,
-            out,
-            "authentication_token",
-            &self.authentication_token,
-        )?;
-        place.push_field(
-            alloc,
-            out,
-            "revised_session_timeout",
-            &self.revised_session_timeout,
-        )?;
-        place.push_field(alloc, out, "server_nonce", &self.server_nonce)?;
-        place.push_field(alloc, out, "server_certificate", &self.server_certificate)?;
-        place.push_field(alloc, out, "server_endpoints", &self.server_endpoints)?;
-        place.push_field(
-            alloc,
-            out,
-            "server_software_certificates",
-            &self.server_software_certificates,
-        )?;
-        place.push_part(alloc, out, "server_signature", &self.server_signature)?;
-        place.push_field(
-            alloc,
-            out,
-            "max_request_message_size",
-            &self.max_request_message_size,
+    fn push_lines(&self, alloc: Global, out: &mut String, place: Place) -> Result<(), AllocError> {
+        push_fields!(self, alloc, out, place =>
+            push_part response_header, push_field session_id, push_field authentication_token,
+            push_field revised_session_timeout, push_field server_nonce,
+            push_field server_certificate, push_field server_endpoints,
+            push_field server_software_certificates, push_part server_signature,
+            push_field max_request_message_size
         )
     }
 }
@@ -131,27 +73,11 @@ impl Lines for ActivateSessionRequest {
     ghost tree = { λ m. structure (activate_session_request_entries m) };
 
     #[tactic(auto, unfolding(crate::specs::Session::activate_session_request_entries))]
-    fn push_lines(
-        &self,
-        alloc: Global,
-        out: &mut String,
-        place: Place<'_>,
-    ) -> Result<(), AllocError> {
-        place.push_part(alloc, out, "request_header", &self.request_header)?;
-        place.push_part(alloc, out, "client_signature", &self.client_signature)?;
-        place.push_field(
-            alloc,
-            out,
-            "client_software_certificates",
-            &self.client_software_certificates,
-        )?;
-        place.push_field(alloc, out, "locale_ids", &self.locale_ids)?;
-        place.push_field(alloc, out, "user_identity_token", &self.user_identity_token)?;
-        place.push_part(
-            alloc,
-            out,
-            "user_token_signature",
-            &self.user_token_signature,
+    fn push_lines(&self, alloc: Global, out: &mut String, place: Place) -> Result<(), AllocError> {
+        push_fields!(self, alloc, out, place =>
+            push_part request_header, push_part client_signature,
+            push_field client_software_certificates, push_field locale_ids,
+            push_field user_identity_token, push_part user_token_signature
         )
     }
 }
@@ -163,16 +89,11 @@ impl Lines for ActivateSessionResponse {
     ghost tree = { λ m. structure (activate_session_response_entries m) };
 
     #[tactic(auto, unfolding(crate::specs::Session::activate_session_response_entries))]
-    fn push_lines(
-        &self,
-        alloc: Global,
-        out: &mut String,
-        place: Place<'_>,
-    ) -> Result<(), AllocError> {
-        place.push_part(alloc, out, "response_header", &self.response_header)?;
-        place.push_field(alloc, out, "server_nonce", &self.server_nonce)?;
-        place.push_field(alloc, out, "results", &self.results)?;
-        place.push_field(alloc, out, "diagnostic_infos", &self.diagnostic_infos)
+    fn push_lines(&self, alloc: Global, out: &mut String, place: Place) -> Result<(), AllocError> {
+        push_fields!(self, alloc, out, place =>
+            push_part response_header, push_field server_nonce, push_field results,
+            push_field diagnostic_infos
+        )
     }
 }
 
@@ -183,18 +104,9 @@ impl Lines for CloseSessionRequest {
     ghost tree = { λ m. structure (close_session_request_entries m) };
 
     #[tactic(auto, unfolding(crate::specs::Session::close_session_request_entries))]
-    fn push_lines(
-        &self,
-        alloc: Global,
-        out: &mut String,
-        place: Place<'_>,
-    ) -> Result<(), AllocError> {
-        place.push_part(alloc, out, "request_header", &self.request_header)?;
-        place.push_field(
-            alloc,
-            out,
-            "delete_subscriptions",
-            &self.delete_subscriptions,
+    fn push_lines(&self, alloc: Global, out: &mut String, place: Place) -> Result<(), AllocError> {
+        push_fields!(self, alloc, out, place =>
+            push_part request_header, push_field delete_subscriptions
         )
     }
 }
@@ -206,12 +118,7 @@ impl Lines for CloseSessionResponse {
     ghost tree = { λ m. structure (close_session_response_entries m) };
 
     #[tactic(auto, unfolding(crate::specs::Session::close_session_response_entries))]
-    fn push_lines(
-        &self,
-        alloc: Global,
-        out: &mut String,
-        place: Place<'_>,
-    ) -> Result<(), AllocError> {
-        place.push_part(alloc, out, "response_header", &self.response_header)
+    fn push_lines(&self, alloc: Global, out: &mut String, place: Place) -> Result<(), AllocError> {
+        push_fields!(self, alloc, out, place => push_part response_header)
     }
 }
