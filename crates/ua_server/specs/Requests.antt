@@ -23,7 +23,7 @@ use Rattle.ua_server.specs.declared.watch.AnsweredRequest.{AnsweredRequest}
 
 -- ---- one request
 
--- how many items it asks for: the nodes of a Read or of a Write, none of the others
+-- how many items it asks for: those of its array, where its service is one with items, else none
 abbrev pub items_asked : Request → ℕ
 items_asked (Read m) = length (items_of m.nodes_to_read)
 items_asked (Write m) = length (items_of m.nodes_to_write)

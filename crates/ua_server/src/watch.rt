@@ -13,7 +13,7 @@ use ua_services::{Request, RequestKind};
 pub struct AnsweredRequest {
     /// Its kind; none where a message was answered that is no request of these services.
     pub kind: Option<RequestKind>,
-    /// How many items it asks for: the nodes of a Read or of a Write, 0 of the others.
+    /// How many items it asks for: those of its array, where its service is one with items, else 0.
     pub items: usize,
     /// The service result of its answer; where the client takes no such answer, the code of the
     /// abort that goes in its place.
