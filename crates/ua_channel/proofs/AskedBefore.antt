@@ -1,7 +1,7 @@
 -- That a client whose asks are made earlier reads what it read.
 use Rattle.std.proofs.Common.{◌≡◌, ℕ, ◌<◌, ◌≤◌, Bool, true, false, cond, not, ◌||◌, eqb, ltb, List, [], ◌∷◌, ◌++◌, length, map, refl, sym, ◌∙◌, ap, subst, arith}
 use Rattle.std.specs.List.{AllByRecursion, filter}
-use Rattle.std.proofs.lemmas.Bool.{eqb-true, lt-ltb, ltb-true, or_right}
+use Rattle.std.proofs.lemmas.Bool.{lt-ltb, ltb-true, or_right}
 use Rattle.std.proofs.lemmas.List.Folds.{list_any-append}
 use Rattle.ua_frame.specs.declared.frame.Frame.{Frame}
 use Rattle.ua_frame.specs.declared.limits.Limits.{Limits}
@@ -19,34 +19,14 @@ use Rattle.ua_channel.specs.ClientTold.{ClientTold}
 use Rattle.ua_channel.specs.Content.{Content, content}
 use Rattle.ua_channel.specs.Content.Content.{Greets, Acks, Fails, Opens, Sends, Closes, Nothing}
 use Rattle.ua_channel.specs.Received.{Received, received}
-use Rattle.ua_channel.proofs.Askings.{within_filter}
+use Rattle.ua_channel.proofs.Askings.{within_filter, in_filter, passes_filter}
 use Rattle.ua_channel.proofs.ClientConversing.{continues}
-use Rattle.ua_channel.proofs.MergedLists.{all_in}
 
 -- ---- what a test keeps
 
-passing_kept : (test : ℕ → Bool) (b : Bool) (x : ℕ) (xs : List ℕ) → test x ≡ b → AllByRecursion (λ (y : ℕ). test y ≡ true) xs → AllByRecursion (λ (y : ℕ). test y ≡ true) (cond b (x ∷ xs) xs)
-passing_kept test true x xs is all = (is, all)
-passing_kept test false x xs is all = all
-
-all_passing : (test : ℕ → Bool) (xs : List ℕ) → AllByRecursion (λ (x : ℕ). test x ≡ true) (filter test xs)
-all_passing test [] = tt
-all_passing test (x ∷ xs) = passing_kept test (test x) x (filter test xs) refl (all_passing test xs)
-
-in_kept : (test : ℕ → Bool) (id x : ℕ) (xs : List ℕ) (kept found : Bool) → test x ≡ kept → eqb x id ≡ found → test id ≡ true → (found || is_in id xs) ≡ true → (is_in id xs ≡ true → is_in id (filter test xs) ≡ true)
-    → is_in id (cond kept (x ∷ filter test xs) (filter test xs)) ≡ true
-in_kept test id x xs true true is same passes e more = ap (λ (b : Bool). b || is_in id (filter test xs)) same
-in_kept test id x xs true false is other passes e more = ap (λ (b : Bool). b || is_in id (filter test xs)) other ∙ more e
-in_kept test id x xs false true is same passes e more = let clash : ◌≡◌ {A = Bool} true false = sym passes ∙ (ap test (sym (eqb-true x id same)) ∙ is) in absurd cc
-in_kept test id x xs false false is other passes e more = more e
-
-in_filter : (test : ℕ → Bool) (id : ℕ) (xs : List ℕ) → test id ≡ true → is_in id xs ≡ true → is_in id (filter test xs) ≡ true
-in_filter test id [] passes e = absurd cc
-in_filter test id (x ∷ xs) passes e = in_kept test id x xs (test x) (eqb x id) refl refl passes e (in_filter test id xs passes)
-
 -- one that a test keeps of some it keeps of more
 keeps_more : (test : ℕ → Bool) (id : ℕ) (xs ys : List ℕ) → (is_in id xs ≡ true → is_in id ys ≡ true) → is_in id (filter test xs) ≡ true → is_in id (filter test ys) ≡ true
-keeps_more test id xs ys more e = in_filter test id ys (all_in (λ (x : ℕ). test x ≡ true) id (filter test xs) e (all_passing test xs)) (more (within_filter test id xs e))
+keeps_more test id xs ys more e = in_filter test id ys (passes_filter test id xs e) (more (within_filter test id xs e))
 
 -- ---- what was asked before a place
 

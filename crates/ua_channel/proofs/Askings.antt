@@ -1,57 +1,140 @@
 -- What is pending, with one ask more, and with one frame more.
-use Rattle.std.proofs.Common.{◌≡◌, inl, inr, ℕ, ◌≤◌, ◌<◌, List, [], ◌∷◌, ◌++◌, Bool, true, false, ◌&&◌, ◌||◌, not, map, refl, sym, ◌∙◌, ap, arith, ltb, eqb, append-nil}
+use Rattle.std.proofs.Common.{◌≡◌, ℕ, ◌≤◌, ◌<◌, List, [], ◌∷◌, ◌++◌, Bool, true, false, ◌&&◌, ◌||◌, not, map, refl, sym, ◌∙◌, ap, arith, ltb, eqb, append-nil, subst, ◌+◌, length, length-append}
 use Rattle.std.specs.List.{AllByRecursion, filter}
 use Rattle.std.specs.Prelude.{if◌then◌else◌}
-use Rattle.std.proofs.lemmas.Bool.{cases_Bool}
-use Rattle.std.proofs.lemmas.List.{flat_map_more, map-append}
+use Rattle.std.proofs.lemmas.Bool.{eqb-true}
+use Rattle.std.proofs.lemmas.List.{flat_map_more, map-append, length-map}
+use Rattle.std.proofs.lemmas.List.Concat.{flat_map-append}
 use Rattle.std.proofs.lemmas.List.Elements.{filter-append}
 use Rattle.std.proofs.lemmas.List.Folds.{list_any-append}
 use Rattle.ua_chunk.specs.declared.chunk.Chunk.{Chunk}
 use Rattle.ua_chunk.specs.Gathered.{is_of, ends}
-use Rattle.ua_channel.specs.Asks.{Asking, Placed, id_of, call_in, renewal_in, calls, renewals, asked_before, asked_in, is_in, is_finished, pending_calls, pending_renewals}
+use Rattle.ua_channel.specs.Asks.{Asking, Placed, id_of, call_in, renewal_in, calls, renewals, asked_before, asked_in, is_in, is_finished, pending_calls, pending_renewals, next_id}
 use Rattle.ua_channel.specs.Asks.Asking.{Call, Renewal}
+use Rattle.ua_channel.specs.Outgoing.{Outgoing, asks_at}
 use Rattle.ua_channel.specs.inside.ClientParts.{left_pending}
 
--- ---- one ask more
+-- ---- all of a list
 
-pub calls-push : (asked : List Asking) (a : Asking) → calls (asked ++ a ∷ []) ≡ calls asked ++ call_in a
+pub all_append : {X : Type 0} (P : X → Type 0) (xs ys : List X) → AllByRecursion P xs → AllByRecursion P ys → AllByRecursion P (xs ++ ys)
+all_append P [] ys h k = k
+all_append P (x ∷ xs) ys h k = (h.0, all_append P xs ys h.1 k)
+
+pub all-push : {X : Type 0} (P : X → Type 0) (xs : List X) (x : X) → AllByRecursion P xs → P x → AllByRecursion P (xs ++ x ∷ [])
+all-push P xs x all last = all_append P xs (x ∷ []) all (last, tt)
+
+pub all-weaken : {X : Type 0} (P Q : X → Type 0) (xs : List X) → ((x : X) → P x → Q x) → AllByRecursion P xs → AllByRecursion Q xs
+all-weaken P Q [] more all = tt
+all-weaken P Q (x ∷ xs) more all = (more x all.0, all-weaken P Q xs more all.1)
+
+kept_all : {X : Type 0} (P : X → Type 0) (test : X → Bool) (b : Bool) (x : X) (xs : List X) → test x ≡ b → (test x ≡ true → P x) → AllByRecursion P xs → AllByRecursion P (if b then x ∷ xs else xs)
+kept_all P test true x xs is passes all = (passes is, all)
+kept_all P test false x xs is passes all = all
+
+-- what holds of all holds of those that a test keeps
+pub all_filter : {X : Type 0} (P : X → Type 0) (test : X → Bool) (xs : List X) → AllByRecursion P xs → AllByRecursion P (filter test xs)
+all_filter P test [] all = tt
+all_filter P test (x ∷ xs) all = kept_all P test (test x) x (filter test xs) refl (λ is. all.0) (all_filter P test xs all.1)
+
+-- those that a test keeps pass it
+pub all_passing : {X : Type 0} (test : X → Bool) (xs : List X) → AllByRecursion (λ (x : X). test x ≡ true) (filter test xs)
+all_passing test [] = tt
+all_passing {X = X} test (x ∷ xs) = kept_all (λ (y : X). test y ≡ true) test (test x) x (filter test xs) refl (λ is. is) (all_passing test xs)
+
+-- ---- lists of ids
+
+-- what holds of all holds of one that is among them
+pub all_in : (P : ℕ → Type 0) (id : ℕ) (ids : List ℕ) → is_in id ids ≡ true → AllByRecursion P ids → P id
+all_in P id [] e all = absurd cc
+all_in P id (j ∷ ids) e all = one_in (eqb j id) refl e (λ f. all_in P id ids f all.1)
+  where
+    one_in : (b : Bool) → eqb j id ≡ b → (b || is_in id ids) ≡ true → (is_in id ids ≡ true → P id) → P id
+    one_in true same f rest = subst P (eqb-true j id same) all.0
+    one_in false other f rest = rest f
+
+-- one that a test keeps passes it, and is among them
+pub passes_filter : (test : ℕ → Bool) (id : ℕ) (ids : List ℕ) → is_in id (filter test ids) ≡ true → test id ≡ true
+passes_filter test id ids e = all_in (λ (j : ℕ). test j ≡ true) id (filter test ids) e (all_passing test ids)
+
+kept_or : (kept found within : Bool) (id j : ℕ) (ids : List ℕ) → eqb j id ≡ found → (is_in id ids ≡ true → within ≡ true) → is_in id (if kept then j ∷ ids else ids) ≡ true → (found || within) ≡ true
+kept_or kept true within id j ids is more e = refl
+kept_or true false within id j ids is more e = more (ap (λ (b : Bool). b || is_in id ids) (sym is) ∙ e)
+kept_or false false within id j ids is more e = more e
+
+pub within_filter : (test : ℕ → Bool) (id : ℕ) (ids : List ℕ) → is_in id (filter test ids) ≡ true → is_in id ids ≡ true
+within_filter test id [] e = e
+within_filter test id (j ∷ ids) e = kept_or (test j) (eqb j id) (is_in id ids) id j (filter test ids) refl (within_filter test id ids) e
+
+in_kept : (test : ℕ → Bool) (id j : ℕ) (ids : List ℕ) (kept found : Bool) → test j ≡ kept → eqb j id ≡ found → test id ≡ true → (found || is_in id ids) ≡ true → (is_in id ids ≡ true → is_in id (filter test ids) ≡ true)
+    → is_in id (if kept then j ∷ filter test ids else filter test ids) ≡ true
+in_kept test id j ids true true is same passes e more = ap (λ (b : Bool). b || is_in id (filter test ids)) same
+in_kept test id j ids true false is other passes e more = ap (λ (b : Bool). b || is_in id (filter test ids)) other ∙ more e
+in_kept test id j ids false true is same passes e more = let clash : ◌≡◌ {A = Bool} true false = sym passes ∙ (ap test (sym (eqb-true j id same)) ∙ is) in absurd cc
+in_kept test id j ids false false is other passes e more = more e
+
+-- and one among them that passes it is kept
+pub in_filter : (test : ℕ → Bool) (id : ℕ) (ids : List ℕ) → test id ≡ true → is_in id ids ≡ true → is_in id (filter test ids) ≡ true
+in_filter test id [] passes e = absurd cc
+in_filter test id (j ∷ ids) passes e = in_kept test id j ids (test j) (eqb j id) refl refl passes e (in_filter test id ids passes)
+
+-- ---- what was asked
+
+pub calls-append : (asked new : List Asking) → calls (asked ++ new) ≡ calls asked ++ calls new
 unfolding calls
-calls-push asked a = sym (flat_map_more call_in [] asked a)
+calls-append asked new = flat_map-append call_in asked new
+
+pub renewals-append : (asked new : List Asking) → renewals (asked ++ new) ≡ renewals asked ++ renewals new
+unfolding renewals
+renewals-append asked new = flat_map-append renewal_in asked new
+
+pub calls_all : (P : ℕ → Type 0) (asked : List Asking) → AllByRecursion (λ (a : Asking). P (id_of a)) asked → AllByRecursion P (calls asked)
+unfolding calls
+calls_all P [] all = tt
+calls_all P (Call id ∷ asked) all = (all.0, calls_all P asked all.1)
+calls_all P (Renewal id ∷ asked) all = calls_all P asked all.1
+
+pub renewals_all : (P : ℕ → Type 0) (asked : List Asking) → AllByRecursion (λ (a : Asking). P (id_of a)) asked → AllByRecursion P (renewals asked)
+unfolding renewals
+renewals_all P [] all = tt
+renewals_all P (Call id ∷ asked) all = renewals_all P asked all.1
+renewals_all P (Renewal id ∷ asked) all = (all.0, renewals_all P asked all.1)
+
+-- ---- one ask more
 
 pub renewals-push : (asked : List Asking) (a : Asking) → renewals (asked ++ a ∷ []) ≡ renewals asked ++ renewal_in a
 unfolding renewals
 renewals-push asked a = sym (flat_map_more renewal_in [] asked a)
 
--- the chunks of requests below a number do not finish it
-unfinished_at : (cs : List Chunk) (id : ℕ) → AllByRecursion (λ (c : Chunk). c.request < id) cs → is_finished cs id ≡ false
-unfinished_at [] id below = refl
-unfinished_at (c ∷ cs) id below =
-    let first : eqb c.request id ≡ false = grind (below.0, arith) in
-    ap (λ (b : Bool). (b && ends c) || is_finished cs id) first ∙ unfinished_at cs id below.1
+-- the chunks of requests below a number finish none from there on
+pub unfinished_at : (n id : ℕ) (cs : List Chunk) → n ≤ id → AllByRecursion (λ (c : Chunk). c.request < n) cs → is_finished cs id ≡ false
+unfinished_at n id [] le below = refl
+unfinished_at n id (c ∷ cs) le below =
+    let first : eqb c.request id ≡ false = grind (below.0, le, arith) in
+    ap (λ (b : Bool). (b && ends c) || is_finished cs id) first ∙ unfinished_at n id cs le below.1
 
-not_in : (ns : List ℕ) (id : ℕ) → AllByRecursion (λ (n : ℕ). n < id) ns → is_in id ns ≡ false
-not_in [] id below = refl
-not_in (n ∷ ns) id below =
-    let first : eqb n id ≡ false = grind (below.0, arith) in
-    ap (λ (b : Bool). b || is_in id ns) first ∙ not_in ns id below.1
+pub not_in : (n id : ℕ) (ids : List ℕ) → n ≤ id → AllByRecursion (λ (j : ℕ). j < n) ids → is_in id ids ≡ false
+not_in n id [] le below = refl
+not_in n id (j ∷ ids) le below =
+    let first : eqb j id ≡ false = grind (below.0, le, arith) in
+    ap (λ (b : Bool). b || is_in id ids) first ∙ not_in n id ids le below.1
 
 pub pending_calls-call : (cs : List Chunk) (asked : List Asking) (id : ℕ) → AllByRecursion (λ (c : Chunk). c.request < id) cs → pending_calls cs (asked ++ Call id ∷ []) ≡ pending_calls cs asked ++ id ∷ []
-unfolding pending_calls
+unfolding pending_calls calls
 pending_calls-call cs asked id below =
-    ap (filter (λ (j : ℕ). not (is_finished cs j))) (calls-push asked (Call id))
+    ap (filter (λ (j : ℕ). not (is_finished cs j))) (calls-append asked (Call id ∷ []))
     ∙ (filter-append (λ (j : ℕ). not (is_finished cs j)) (calls asked) (id ∷ [])
-    ∙ ap (λ (b : Bool). filter (λ (j : ℕ). not (is_finished cs j)) (calls asked) ++ (if not b then id ∷ [] else [])) (unfinished_at cs id below))
+    ∙ ap (λ (b : Bool). filter (λ (j : ℕ). not (is_finished cs j)) (calls asked) ++ (if not b then id ∷ [] else [])) (unfinished_at id id cs (omega arith) below))
 
 pub pending_calls-renewal : (cs : List Chunk) (asked : List Asking) (id : ℕ) → pending_calls cs (asked ++ Renewal id ∷ []) ≡ pending_calls cs asked
-unfolding pending_calls
-pending_calls-renewal cs asked id = ap (filter (λ (j : ℕ). not (is_finished cs j))) (calls-push asked (Renewal id) ∙ append-nil (calls asked))
+unfolding pending_calls calls
+pending_calls-renewal cs asked id = ap (filter (λ (j : ℕ). not (is_finished cs j))) (calls-append asked (Renewal id ∷ []) ∙ append-nil (calls asked))
 
 pub pending_renewals-renewal : (opened : List ℕ) (asked : List Asking) (id : ℕ) → AllByRecursion (λ (n : ℕ). n < id) opened → pending_renewals opened (asked ++ Renewal id ∷ []) ≡ pending_renewals opened asked ++ id ∷ []
 unfolding pending_renewals
 pending_renewals-renewal opened asked id below =
     ap (filter (λ (j : ℕ). not (is_in j opened))) (renewals-push asked (Renewal id))
     ∙ (filter-append (λ (j : ℕ). not (is_in j opened)) (renewals asked) (id ∷ [])
-    ∙ ap (λ (b : Bool). filter (λ (j : ℕ). not (is_in j opened)) (renewals asked) ++ (if not b then id ∷ [] else [])) (not_in opened id below))
+    ∙ ap (λ (b : Bool). filter (λ (j : ℕ). not (is_in j opened)) (renewals asked) ++ (if not b then id ∷ [] else [])) (not_in id id opened (omega arith) below))
 
 pub pending_renewals-call : (opened : List ℕ) (asked : List Asking) (id : ℕ) → pending_renewals opened (asked ++ Call id ∷ []) ≡ pending_renewals opened asked
 unfolding pending_renewals
@@ -59,9 +142,26 @@ pending_renewals-call opened asked id = ap (filter (λ (j : ℕ). not (is_in j o
 
 -- ---- places
 
+pub asked_in-append : (asks more : List Placed) → asked_in (asks ++ more) ≡ asked_in asks ++ asked_in more
+unfolding asked_in
+asked_in-append asks more = map-append (λ (b : Placed). b.1) asks more
+
 pub asked_in-push : (asks : List Placed) (a : Placed) → asked_in (asks ++ a ∷ []) ≡ asked_in asks ++ a.1 ∷ []
 unfolding asked_in
 asked_in-push asks a = map-append (λ (b : Placed). b.1) asks (a ∷ [])
+
+-- the request id behind what is asked
+pub next-append : (asks more : List Placed) → next_id (asked_in (asks ++ more)) ≡ next_id (asked_in asks) + length more
+unfolding asked_in
+next-append asks more =
+    omega (arith, ap length (asked_in-append asks more), length-append (asked_in asks) (asked_in more), length-map more (λ (a : Placed). a.1))
+
+length-asks : (place id : ℕ) (os : List Outgoing) → length (asks_at place id os) ≡ length os
+length-asks place id [] = refl
+length-asks place id (o ∷ os) = omega (arith, length-asks place (id + 1) os)
+
+pub next-asks : (asks : List Placed) (place id : ℕ) (os : List Outgoing) → next_id (asked_in (asks ++ asks_at place id os)) ≡ next_id (asked_in asks) + length os
+next-asks asks place id os = omega (arith, next-append asks (asks_at place id os), length-asks place id os)
 
 -- an ask at a place or behind it was not made before it
 pub asked_before-push : (place : ℕ) (asks : List Placed) (a : Placed) → place ≤ a.0 → asked_before place (asks ++ a ∷ []) ≡ asked_before place asks
@@ -85,24 +185,9 @@ asked_before-all place n asks less placed = ap (map (λ (b : Placed). b.1)) (all
 -- ---- one frame more
 
 -- the request ids that are pending are below a number that those asked are below
-calls_below : (n id : ℕ) (asked : List Asking) → AllByRecursion (λ (a : Asking). id_of a < n) asked → is_in id (calls asked) ≡ true → id < n
-unfolding calls
-calls_below n id [] below e = absurd cc
-calls_below n id (Call j ∷ asked) below e = elim (cases_Bool (eqb j id)) [ inl same ↦ grind (below.0, same, arith) | inr other ↦ calls_below n id asked below.1 (ap (λ (b : Bool). b || is_in id (calls asked)) (sym other) ∙ e) ]
-calls_below n id (Renewal j ∷ asked) below e = calls_below n id asked below.1 e
-
-kept_or : (kept found within : Bool) (id j : ℕ) (ids : List ℕ) → eqb j id ≡ found → (is_in id ids ≡ true → within ≡ true) → is_in id (if kept then j ∷ ids else ids) ≡ true → (found || within) ≡ true
-kept_or kept true within id j ids is more e = refl
-kept_or true false within id j ids is more e = more (ap (λ (b : Bool). b || is_in id ids) (sym is) ∙ e)
-kept_or false false within id j ids is more e = more e
-
-pub within_filter : (test : ℕ → Bool) (id : ℕ) (ids : List ℕ) → is_in id (filter test ids) ≡ true → is_in id ids ≡ true
-within_filter test id [] e = e
-within_filter test id (j ∷ ids) e = kept_or (test j) (eqb j id) (is_in id ids) id j (filter test ids) refl (within_filter test id ids) e
-
 pub pending_below : (n id : ℕ) (cs : List Chunk) (asked : List Asking) → AllByRecursion (λ (a : Asking). id_of a < n) asked → is_in id (pending_calls cs asked) ≡ true → id < n
 unfolding pending_calls
-pending_below n id cs asked below e = calls_below n id asked below (within_filter (λ (j : ℕ). not (is_finished cs j)) id (calls asked) e)
+pending_below n id cs asked below e = all_in (λ (j : ℕ). j < n) id (calls asked) (within_filter (λ (j : ℕ). not (is_finished cs j)) id (calls asked) e) (calls_all (λ (j : ℕ). j < n) asked below)
 
 -- ---- a message that ends
 
@@ -125,7 +210,7 @@ pub or_false : (b : Bool) → (b || false) ≡ b
 or_false true = refl
 or_false false = refl
 
-filter_same : (p q : ℕ → Bool) (ids : List ℕ) → ((id : ℕ) → p id ≡ q id) → filter p ids ≡ filter q ids
+pub filter_same : (p q : ℕ → Bool) (ids : List ℕ) → ((id : ℕ) → p id ≡ q id) → filter p ids ≡ filter q ids
 filter_same p q [] same = refl
 filter_same p q (id ∷ ids) same =
     ap (λ (b : Bool). if b then id ∷ filter p ids else filter p ids) (same id) ∙ ap (λ (js : List ℕ). if q id then id ∷ js else js) (filter_same p q ids same)
@@ -140,7 +225,7 @@ twice_by p q id ids false false is more =
     ap (λ (js : List ℕ). id ∷ js) more
     ∙ sym (ap (λ (t : Bool). if not t then id ∷ filter (λ (j : ℕ). not (q j)) (filter (λ (j : ℕ). not (p j)) ids) else filter (λ (j : ℕ). not (q j)) (filter (λ (j : ℕ). not (p j)) ids)) is)
 
-filter_twice : (p q : ℕ → Bool) (ids : List ℕ) → filter (λ (id : ℕ). not (p id || q id)) ids ≡ filter (λ (id : ℕ). not (q id)) (filter (λ (id : ℕ). not (p id)) ids)
+pub filter_twice : (p q : ℕ → Bool) (ids : List ℕ) → filter (λ (id : ℕ). not (p id || q id)) ids ≡ filter (λ (id : ℕ). not (q id)) (filter (λ (id : ℕ). not (p id)) ids)
 filter_twice p q [] = refl
 filter_twice p q (id ∷ ids) = twice_by p q id ids (p id) (q id) refl (filter_twice p q ids)
 
@@ -175,22 +260,6 @@ pending_renewals-more opened id asked one =
     filter_same (λ (j : ℕ). not (is_in j (opened ++ id ∷ []))) (λ (j : ℕ). not (is_in j opened || eqb j id)) (renewals asked) (λ j. ap not (opened-push opened id j))
     ∙ (filter_twice (λ (j : ℕ). is_in j opened) (λ (j : ℕ). eqb j id) (renewals asked) ∙ none_left (λ (j : ℕ). not (is_in j opened)) id (renewals asked) one)
 
-renewals_below : (n id : ℕ) (asked : List Asking) → AllByRecursion (λ (a : Asking). id_of a < n) asked → is_in id (renewals asked) ≡ true → id < n
-unfolding renewals
-renewals_below n id [] below e = absurd cc
-renewals_below n id (Renewal j ∷ asked) below e = elim (cases_Bool (eqb j id)) [ inl same ↦ grind (below.0, same, arith) | inr other ↦ renewals_below n id asked below.1 (ap (λ (b : Bool). b || is_in id (renewals asked)) (sym other) ∙ e) ]
-renewals_below n id (Call j ∷ asked) below e = renewals_below n id asked below.1 e
-
 pub renewal_below : (n id : ℕ) (opened : List ℕ) (asked : List Asking) → AllByRecursion (λ (a : Asking). id_of a < n) asked → is_in id (pending_renewals opened asked) ≡ true → id < n
 unfolding pending_renewals
-renewal_below n id opened asked below e = renewals_below n id asked below (within_filter (λ (j : ℕ). not (is_in j opened)) id (renewals asked) e)
-
--- ---- all of a list, with one more
-
-pub all-push : {X : Type 0} (P : X → Type 0) (xs : List X) (x : X) → AllByRecursion P xs → P x → AllByRecursion P (xs ++ x ∷ [])
-all-push P [] x all last = (last, tt)
-all-push P (y ∷ xs) x all last = (all.0, all-push P xs x all.1 last)
-
-pub all-weaken : {X : Type 0} (P Q : X → Type 0) (xs : List X) → ((x : X) → P x → Q x) → AllByRecursion P xs → AllByRecursion Q xs
-all-weaken P Q [] more all = tt
-all-weaken P Q (x ∷ xs) more all = (more x all.0, all-weaken P Q xs more all.1)
+renewal_below n id opened asked below e = all_in (λ (j : ℕ). j < n) id (renewals asked) (within_filter (λ (j : ℕ). not (is_in j opened)) id (renewals asked) e) (renewals_all (λ (j : ℕ). j < n) asked below)

@@ -43,7 +43,7 @@ use Rattle.ua_channel.proofs.ClientChunks.{accepts}
 use Rattle.ua_channel.proofs.ClientTakes.{judged_reply}
 use Rattle.ua_channel.proofs.ClientTalks.{no_responses, responses-push}
 use Rattle.ua_channel.specs.Refusals.{of_header}
-use Rattle.ua_channel.proofs.Conversing.{Converses, InOrder, IsGoodFrame, MessageFits, content_kind, converse, fit_first, follow_numbers, in_order, none_first, none_named, none_then, numbers_follow, ordered_first, out_of_order, some_there, taken}
+use Rattle.ua_channel.proofs.Conversing.{Converses, InOrder, IsGoodFrame, MessageFits, content_kind, converse, fit_first, follow_numbers, in_order, none_first, none_named, none_then, numbers_follow, ordered_first, out_of_order, some_there, taken, before_none}
 use Rattle.ua_channel.proofs.OneFrameMore.{received-nil, received-push}
 use Rattle.ua_channel.proofs.PairedCalls.{none_holds}
 
@@ -192,9 +192,6 @@ module _ (limits : Limits) (asked : List Asking) (b : Received) (f : Frame) (ks 
   more_responses : (rs : List OpenResponse) (g : IsGoodResponse b asked (opening_of f.body)) → responses b.openings ≡ rs → responses (b.openings ++ opening_of f.body ∷ []) ≡ rs ++ g.response ∷ []
   more_responses rs g r = responses-push b.openings (opening_of f.body) g.response g.answer_is ∙ ap (λ (t : List OpenResponse). t ++ g.response ∷ []) r
 
-  said_then : (said : Ack) → whole_of ack f.body ≡ Some said → (after b (Acks (whole_of ack f.body))).ack ≡ Some said
-  said_then said e = ap (or_before b.ack) e
-
   msg_order : (found : Option Chunk) (o : Option Ack) (rs : List OpenResponse) → b.ack ≡ o → responses b.openings ≡ rs → Order (after b (sends found)) ks ↔ order_by o rs ks
   msg_order None o rs q r = order_is b ks o rs q r
   msg_order (Some c) o rs q r = order_is (after b (Sends c)) ks o rs q r
@@ -203,7 +200,7 @@ module _ (limits : Limits) (asked : List Asking) (b : Received) (f : Frame) (ks 
   order_here : (o : Option Ack) (rs : List OpenResponse) (k : Kind) → b.ack ≡ o → responses b.openings ≡ rs → IsPlaced b → MayCarryBack limits b asked (content_by k f) → InOrder (client_gate_behind o rs) k (Order (after b (content_by k f)) ks) (order_by o rs (k ∷ ks))
   unfolding order_by IsPlaced
   order_here None rs Hel q r placed may = out_of_order (λ e. cc) (λ e. e)
-  order_here None rs kind.Ack q r placed may = in_order refl (order_is (after b (Acks (whole_of ack f.body))) ks (Some may.said) [] (said_then may.said may.reads) (placed q))
+  order_here None rs kind.Ack q r placed may = in_order refl (order_is (after b (Acks (whole_of ack f.body))) ks (Some may.said) [] (ap (or_before b.ack) may.reads) (placed q))
   order_here None rs kind.Err q r placed may = absurd may
   order_here None rs Msg q r placed may = out_of_order (λ e. cc) (λ e. e)
   order_here None rs Opn q r placed may = out_of_order (λ e. cc) (λ e. e)
@@ -235,10 +232,6 @@ gate_largest (Some a) [] = refl
 gate_largest (Some a) (r ∷ rs) = refl
 
 -- where responses come behind an Acknowledge, they do so with a frame more
-ack_stays : (o found : Option Ack) → or_before o found ≡ None → o ≡ None
-ack_stays o None e = e
-ack_stays o (Some a) e = absurd cc
-
 chunk_placed : (b : Received) (found : Option Chunk) → (b.ack ≡ None → responses b.openings ≡ []) → (after b (sends found)).ack ≡ None → responses (after b (sends found)).openings ≡ []
 chunk_placed b None placed none = placed none
 chunk_placed b (Some c) placed none = placed none
@@ -250,7 +243,7 @@ opn_some (Some a) rs kind e = absurd cc
 placed_more : (b : Received) (f : Frame) (k : Kind) → IsPlaced b → IsTrue (lets_in (client_gate b) k) → IsPlaced (after b (content_by k f))
 unfolding IsPlaced
 placed_more b f Hel placed kind none = placed none
-placed_more b f kind.Ack placed kind none = placed (ack_stays b.ack (whole_of ack f.body) none)
+placed_more b f kind.Ack placed kind none = placed (before_none b.ack (whole_of ack f.body) none)
 placed_more b f kind.Err placed kind none = placed none
 placed_more b f Msg placed kind none = chunk_placed b (chunk_in f) placed none
 placed_more b f Opn placed kind none = absurd (opn_some b.ack (responses b.openings) kind none)

@@ -39,7 +39,7 @@ use Rattle.ua_channel.specs.Paired.{is_of_call, told_of_calls}
 use Rattle.ua_channel.specs.Received.{Received, chunks_in, has_some, messages, openings, openings_in, received}
 use Rattle.ua_channel.proofs.Carried.{content_ack}
 use Rattle.ua_channel.proofs.ClientConversing.{converses}
-use Rattle.ua_channel.proofs.ClientReading.{all_append as every_append}
+use Rattle.ua_channel.proofs.Askings.{all_append as every_append, in_filter}
 use Rattle.ua_channel.proofs.ClientTalks.{no_responses}
 use Rattle.ua_channel.proofs.MergedChunks.{EachEnds, comes, given_fresh}
 use Rattle.ua_channel.proofs.MergedFrames.{closed_behind, ends_then, fit_behind, messages_behind, messages_then, names_kept, of_either, openings_then, ordered_behind}
@@ -159,21 +159,9 @@ under_all P id (n ∷ ms) m e h = under_one (eqb n.request id) refl e (λ found.
         (subst P one h.0, ap (λ (k : Sent). k.request) (sym one) ∙ eqb-true n.request id is)
     under_one false is other more = more other
 
-kept_step : (kept found : Bool) (test : ℕ → Bool) (id j : ℕ) (ids : List ℕ) → test j ≡ kept → eqb j id ≡ found → test id ≡ true → (found || is_in id ids) ≡ true
-    → (is_in id ids ≡ true → is_in id (filter test ids) ≡ true)
-    → is_in id (cond kept (j ∷ filter test ids) (filter test ids)) ≡ true
-kept_step true true test id j ids k same holds e more = ap (λ (b : Bool). b || is_in id (filter test ids)) same
-kept_step true false test id j ids k other holds e more = ap (λ (b : Bool). b || is_in id (filter test ids)) other ∙ more e
-kept_step false true test id j ids k same holds e more = let clash : ◌≡◌ {A = Bool} true false = sym holds ∙ (ap test (sym (eqb-true j id same)) ∙ k) in absurd cc
-kept_step false false test id j ids k other holds e more = more e
-
-kept_in : (test : ℕ → Bool) (id : ℕ) (ids : List ℕ) → test id ≡ true → is_in id ids ≡ true → is_in id (filter test ids) ≡ true
-kept_in test id [] holds e = absurd cc
-kept_in test id (j ∷ ids) holds e = kept_step (test j) (eqb j id) test id j ids refl refl holds e (kept_in test id ids holds)
-
 still_pending : (cs : List Chunk) (asked : List Asking) (id : ℕ) → is_finished cs id ≡ false → is_in id (calls asked) ≡ true → is_in id (pending_calls cs asked) ≡ true
 unfolding pending_calls
-still_pending cs asked id unfinished asks = kept_in (λ (j : ℕ). not (is_finished cs j)) id (calls asked) (ap not unfinished) asks
+still_pending cs asked id unfinished asks = in_filter (λ (j : ℕ). not (is_finished cs j)) id (calls asked) (ap not unfinished) asks
 
 module _ (limits : Limits) (asks : List Placed) (ms : List Sent) (base : List Chunk) (unanswered : AllByRecursion (λ (m : Sent). is_finished base m.request ≡ false) ms) where
   not_finished : (us rest : List Chunk) (c : Chunk) → IsMerge ms (us ++ c ∷ rest) → is_finished (base ++ us) c.request ≡ false

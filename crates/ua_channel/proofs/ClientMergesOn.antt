@@ -1,7 +1,7 @@
 -- That a client reads merged replies from where it stands, with what it asks on in the middle of them, and where it stands behind them.
 use Rattle.std.proofs.Common.{◌≡◌, ℕ, zero, suc, ◌+◌, ◌<◌, ◌≤◌, Bool, true, false, cond, not, ◌||◌, ◌&&◌, eqb, ltb, List, [], ◌∷◌, ◌++◌, Option, Some, length, map, refl, sym, ◌∙◌, ap, subst, arith, append-nil, append_assoc, length-append}
 use Rattle.std.specs.List.{AllByRecursion, filter, range_with_len}
-use Rattle.std.proofs.lemmas.Bool.{eq-eqb, or_left, or_right}
+use Rattle.std.proofs.lemmas.Bool.{eq-eqb, or_left, or_right, not-true}
 use Rattle.std.proofs.lemmas.List.{length-map, map-append}
 use Rattle.std.proofs.lemmas.List.Concat.{flat_map-append}
 use Rattle.std.proofs.lemmas.List.Elements.{filter-append}
@@ -20,8 +20,7 @@ use Rattle.ua_chunk.specs.declared.chunk.Chunk.{Chunk}
 use Rattle.ua_chunk.specs.Gathered.{ends, is_of}
 use Rattle.ua_chunk.specs.Merge.{Interleaves, Interleaves as interleaves, Merges, Part, Sent, last_part, more_part, outcome_under, outcomes, part_of, parts_of, sent_under}
 use Rattle.ua_chunk.specs.Sequence.{may_follow}
-use Rattle.ua_channel.specs.Asks.{Asking, Placed, asked_before, asked_in, call_in, calls, end_of, id_of, is_finished, is_in, next_id, pending_calls, pending_renewals, renewal_in, renewals}
-use Rattle.ua_channel.specs.Asks.Asking.{Call, Renewal}
+use Rattle.ua_channel.specs.Asks.{Asking, Placed, asked_before, asked_in, calls, end_of, id_of, is_finished, is_in, next_id, pending_calls, pending_renewals, renewals}
 use Rattle.ua_channel.specs.ClientConversation.{largest_taken}
 use Rattle.ua_channel.specs.ClientReads.{AtClient, ClientReads}
 use Rattle.ua_channel.specs.ClientTable.{client_rules, is_other}
@@ -35,13 +34,12 @@ use Rattle.ua_channel.specs.Paired.{told_of_calls}
 use Rattle.ua_channel.specs.Received.{Received, after, chunks_in, has_some, latest, messages, numbers, openings, openings_in, received, tokens_in, used_tokens}
 use Rattle.ua_channel.proofs.AskedLater.{frames_octets-append}
 use Rattle.ua_channel.proofs.AskedOn.{going_on}
-use Rattle.ua_channel.proofs.Askings.{all-weaken, asked_before-all, within_filter}
+use Rattle.ua_channel.proofs.Askings.{all-weaken, asked_before-all, within_filter, all_append, all_filter, all_in, all_passing, calls-append, calls_all, not_in, renewals-append, renewals_all, unfinished_at, asked_in-append, next-append}
 use Rattle.ua_channel.proofs.ClientMerges.{none_unfinished, takes_merged, tells_merged, tells_messages, tells_once, tells_tokens}
-use Rattle.ua_channel.proofs.ClientReading.{all_append}
 use Rattle.ua_channel.proofs.ClientTakes.{tokens_used}
 use Rattle.ua_channel.proofs.ClientTalks.{awaited_later, channel_in-push, no_ids, no_responses, no_tokens, opened_ids-push, responses-push, tokens_of-push}
 use Rattle.ua_channel.proofs.HeldTokens.{held_by-push, held_by-used, latest-from_last, latest-push}
-use Rattle.ua_channel.proofs.MergedLists.{all_failing, all_filter, all_in, filter_behind, goes_follows, goes_ordered, goes_small, last_behind, latest_or-append, messages-first, messages-more, openings-first, openings-more, tokens-more}
+use Rattle.ua_channel.proofs.MergedLists.{filter_behind, goes_follows, goes_ordered, goes_small, last_behind, latest_or-append, messages-first, messages-more, openings-first, openings-more, tokens-more}
 use Rattle.ua_channel.proofs.OneFrameMore.{received-push}
 
 -- ---- tokens
@@ -141,14 +139,6 @@ module _ (at : AtClient) (base : List Chunk) (opened : List ℕ) where
 
 -- ---- what was asked
 
-calls-append : (asked new : List Asking) → calls (asked ++ new) ≡ calls asked ++ calls new
-unfolding calls
-calls-append asked new = flat_map-append call_in asked new
-
-renewals-append : (asked new : List Asking) → renewals (asked ++ new) ≡ renewals asked ++ renewals new
-unfolding renewals
-renewals-append asked new = flat_map-append renewal_in asked new
-
 -- the calls that are unanswered behind more chunks, with more that was asked of which none was answered before
 pending_behind : (base us : List Chunk) (asked new : List Asking) → AllByRecursion (λ (id : ℕ). is_finished base id ≡ false) (calls new)
     → pending_calls (base ++ us) (asked ++ new) ≡ filter (λ (id : ℕ). not (is_finished us id)) (pending_calls base asked ++ calls new)
@@ -164,30 +154,6 @@ unfolding pending_renewals
 renewals_behind opened ids asked new none =
     ap (filter (λ (id : ℕ). not (is_in id (opened ++ ids)))) (renewals-append asked new)
     ∙ filter_behind (λ (id : ℕ). is_in id opened) (λ (id : ℕ). is_in id ids) (λ (id : ℕ). is_in id (opened ++ ids)) (λ id. list_any-append (λ (n : ℕ). eqb n id) opened ids) (renewals asked) (renewals new) none
-
-unfinished_new : (n id : ℕ) (cs : List Chunk) → n ≤ id → AllByRecursion (λ (c : Chunk). c.request < n) cs → is_finished cs id ≡ false
-unfinished_new n id [] le below = refl
-unfinished_new n id (c ∷ cs) le below =
-    let first : eqb c.request id ≡ false = grind (below.0, le, arith) in
-    ap (λ (b : Bool). (b && ends c) || is_finished cs id) first ∙ unfinished_new n id cs le below.1
-
-unopened_new : (n id : ℕ) (ids : List ℕ) → n ≤ id → AllByRecursion (λ (j : ℕ). j < n) ids → is_in id ids ≡ false
-unopened_new n id [] le below = refl
-unopened_new n id (j ∷ ids) le below =
-    let first : eqb j id ≡ false = grind (below.0, le, arith) in
-    ap (λ (b : Bool). b || is_in id ids) first ∙ unopened_new n id ids le below.1
-
-calls_all : (P : ℕ → Type 0) (asked : List Asking) → AllByRecursion (λ (a : Asking). P (id_of a)) asked → AllByRecursion P (calls asked)
-unfolding calls
-calls_all P [] all = tt
-calls_all P (Call id ∷ asked) all = (all.0, calls_all P asked all.1)
-calls_all P (Renewal id ∷ asked) all = calls_all P asked all.1
-
-renewals_all : (P : ℕ → Type 0) (asked : List Asking) → AllByRecursion (λ (a : Asking). P (id_of a)) asked → AllByRecursion P (renewals asked)
-unfolding renewals
-renewals_all P [] all = tt
-renewals_all P (Call id ∷ asked) all = renewals_all P asked all.1
-renewals_all P (Renewal id ∷ asked) all = (all.0, renewals_all P asked all.1)
 
 -- a request id of those that are given next
 abbrev IsNew : ℕ → ℕ → ℕ → Type 0
@@ -235,18 +201,10 @@ before_later n place (a ∷ later) =
     kept true same = ap (λ (t : List Asking). a.1 ∷ t) same
     kept false same = same
 
-in-append : (asks more : List Placed) → asked_in (asks ++ more) ≡ asked_in asks ++ asked_in more
-unfolding asked_in
-in-append asks more = map-append (λ (a : Placed). a.1) asks more
-
 in_later : (n : ℕ) (later : List Placed) → asked_in (placed_later n later) ≡ asked_in later
 unfolding asked_in
 in_later n [] = refl
 in_later n (a ∷ later) = ap (λ (t : List Asking). a.1 ∷ t) (in_later n later)
-
-length-asked : (later : List Placed) → length (asked_in later) ≡ length later
-unfolding asked_in
-length-asked later = length-map later (λ (a : Placed). a.1)
 
 later_placed : (n k : ℕ) (later : List Placed) → AllByRecursion (λ (a : Placed). a.0 ≤ k) later → AllByRecursion (λ (a : Placed). a.0 ≤ n + k) (placed_later n later)
 later_placed n k [] all = tt
@@ -330,7 +288,8 @@ or_more id xs ys zs e more =
 
 failing_pending : (base : List Chunk) (asked : List Asking) → AllByRecursion (λ (id : ℕ). is_finished base id ≡ false) (pending_calls base asked)
 unfolding pending_calls
-failing_pending base asked = all_failing (is_finished base) (calls asked)
+failing_pending base asked =
+    all-weaken (λ (id : ℕ). not (is_finished base id) ≡ true) (λ (id : ℕ). is_finished base id ≡ false) (pending_calls base asked) (λ id is. not-true (is_finished base id) is) (all_passing (λ (id : ℕ). not (is_finished base id)) (calls asked))
 
 below_pending : (P : ℕ → Type 0) (base : List Chunk) (asked : List Asking) → AllByRecursion (λ (a : Asking). P (id_of a)) asked → AllByRecursion P (pending_calls base asked)
 unfolding pending_calls
@@ -372,13 +331,13 @@ module _ (at : AtClient) (base : List Chunk) (opened : List ℕ) (asked : List A
     new_unfinished =
         calls_all (λ (id : ℕ). is_finished base id ≡ false) new
         (all-weaken (λ (a : Asking). IsNew (next_id asked) (length later) (id_of a)) (λ (a : Asking). is_finished base (id_of a) ≡ false) new
-        (λ a is. unfinished_new (next_id asked) (id_of a) base is.0 g.sent_below) are)
+        (λ a is. unfinished_at (next_id asked) (id_of a) base is.0 g.sent_below) are)
 
     new_unopened : AllByRecursion (λ (id : ℕ). is_in id opened ≡ false) (renewals new)
     new_unopened =
         renewals_all (λ (id : ℕ). is_in id opened ≡ false) new
         (all-weaken (λ (a : Asking). IsNew (next_id asked) (length later) (id_of a)) (λ (a : Asking). is_in (id_of a) opened ≡ false) new
-        (λ a is. unopened_new (next_id asked) (id_of a) opened is.0 g.opened_below) are)
+        (λ a is. not_in (next_id asked) (id_of a) opened is.0 g.opened_below) are)
 
     new_below : AllByRecursion (λ (a : Asking). id_of a < next_id asked + length later) new
     new_below = all-weaken (λ (a : Asking). IsNew (next_id asked) (length later) (id_of a)) (λ (a : Asking). id_of a < next_id asked + length later) new (λ a is. is.1) are
@@ -599,10 +558,10 @@ module _ (limits : Limits) (asks later : List Placed) (octets : List ℕ) (told 
   run_asked = going_on limits asks (placed_later (length octets) later) octets r.frames [] (later_behind (length octets) later) r.run
 
   asked_all : asked_in (asks ++ placed_later (length octets) later) ≡ asked_in asks ++ asked_in later
-  asked_all = in-append asks (placed_later (length octets) later) ∙ ap (λ (t : List Asking). asked_in asks ++ t) (in_later (length octets) later)
+  asked_all = asked_in-append asks (placed_later (length octets) later) ∙ ap (λ (t : List Asking). asked_in asks ++ t) (in_later (length octets) later)
 
   count : next_id (asked_in (asks ++ placed_later (length octets) later)) ≡ next_id (asked_in asks) + length later
-  count = omega (arith, ap length asked_all, length-append (asked_in asks) (asked_in later), length-asked later)
+  count = omega (arith, next-append asks (placed_later (length octets) later), length-map {B = Placed} later (λ (a : Placed). (length octets + a.0, a.1)))
 
   long : length (octets ++ frames_octets more) ≡ length octets + length (frames_octets more)
   long = length-append octets (frames_octets more)

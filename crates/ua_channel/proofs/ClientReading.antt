@@ -68,7 +68,7 @@ use Rattle.ua_channel.specs.Received.{Received, after, latest, nothing_received,
 use Rattle.ua_channel.specs.ServerReads.{IsBodyFor}
 use Rattle.ua_channel.specs.ServerSends.{opened_frame, replied, replied_by}
 use Rattle.ua_channel.proofs.AskedLater.{asked_later}
-use Rattle.ua_channel.proofs.Askings.{all-push, all-weaken, asked_in-push, pending_below, pending_calls-call, pending_calls-more, pending_calls-renewal, pending_renewals-call, pending_renewals-more, pending_renewals-renewal, renewal_below, no_asks}
+use Rattle.ua_channel.proofs.Askings.{all-push, all-weaken, asked_in-push, pending_below, pending_calls-call, pending_calls-more, pending_calls-renewal, pending_renewals-call, pending_renewals-more, pending_renewals-renewal, renewal_below, no_asks, all_append, next-append}
 use Rattle.ua_channel.proofs.ClientAsking.{first_unset}
 use Rattle.ua_channel.proofs.ClientTakes.{IsReady, IsSent, all_asked, fits_one, fits_pieces, told_chunks, tokens_used}
 use Rattle.ua_channel.proofs.ClientTalks.{first_tail, responses-push, opened_ids-push, tokens_of-push, channel_in-push, no_ids, no_responses, no_tokens, awaited_later, later_tells, nothing_pending, nothing_renewed}
@@ -291,9 +291,6 @@ module _ (limits : Limits) (octets : List ℕ) (told : List ClientTold) (a : Ack
 below_more : {X : Type 0} (id : X → ℕ) (n m : ℕ) (xs : List X) → n ≤ m → AllByRecursion (λ (x : X). id x < n) xs → AllByRecursion (λ (x : X). id x < m) xs
 below_more {X = X} id n m xs le all = all-weaken (λ (x : X). id x < n) (λ (x : X). id x < m) xs (λ x less. omega (arith, less, le)) all
 
-pub next_more : (asks : List Placed) (p : Placed) → next_id (asked_in (asks ++ p ∷ [])) ≡ next_id (asked_in asks) + 1
-next_more asks p = omega (arith, ap length (asked_in-push asks p), length-append (asked_in asks) (p.1 ∷ []))
-
 module _ (limits : Limits) (asks : List Placed) (octets : List ℕ) (told : List ClientTold) (at : AtClient) (ask : Asking) (r : ClientReads limits asks octets told at) (id_is : id_of ask ≡ next_id (asked_in asks)) where
   more : List Placed
   more = asks ++ (length octets, ask) ∷ []
@@ -322,10 +319,10 @@ module _ (limits : Limits) (asks : List Placed) (octets : List ℕ) (told : List
     asked_below =
         subst (λ (ss : List Asking). AllByRecursion (λ (x : Asking). id_of x < next_id (asked_in (asks ++ (length octets, ask) ∷ []))) ss) (sym (asked_in-push asks (length octets, ask)))
         (all-push (λ (x : Asking). id_of x < next_id (asked_in (asks ++ (length octets, ask) ∷ []))) (asked_in asks) ask
-        (below_more id_of (next_id (asked_in asks)) (next_id (asked_in (asks ++ (length octets, ask) ∷ []))) (asked_in asks) (omega (arith, next_more asks (length octets, ask))) r.asked_below)
-        (omega (arith, id_is, next_more asks (length octets, ask))));
-    sent_below = below_more (λ (c : Chunk). c.request) (next_id (asked_in asks)) (next_id (asked_in (asks ++ (length octets, ask) ∷ []))) (received r.frames).messages (omega (arith, next_more asks (length octets, ask))) r.sent_below;
-    opened_below = below_more (λ (id : ℕ). id) (next_id (asked_in asks)) (next_id (asked_in (asks ++ (length octets, ask) ∷ []))) (opened_ids (received r.frames).openings) (omega (arith, next_more asks (length octets, ask))) r.opened_below;
+        (below_more id_of (next_id (asked_in asks)) (next_id (asked_in (asks ++ (length octets, ask) ∷ []))) (asked_in asks) (omega (arith, next-append asks ((length octets, ask) ∷ []))) r.asked_below)
+        (omega (arith, id_is, next-append asks ((length octets, ask) ∷ []))));
+    sent_below = below_more (λ (c : Chunk). c.request) (next_id (asked_in asks)) (next_id (asked_in (asks ++ (length octets, ask) ∷ []))) (received r.frames).messages (omega (arith, next-append asks ((length octets, ask) ∷ []))) r.sent_below;
+    opened_below = below_more (λ (id : ℕ). id) (next_id (asked_in asks)) (next_id (asked_in (asks ++ (length octets, ask) ∷ []))) (opened_ids (received r.frames).openings) (omega (arith, next-append asks ((length octets, ask) ∷ []))) r.opened_below;
     follows = r.follows;
     next_small = r.next_small;
     none_open = r.none_open;
@@ -367,10 +364,6 @@ tokens_left lane s id p (q ∷ qs) b held =
     let same : held_tokens (after b (Sends c)) ≡ from_last lane.token (held_tokens b) = tokens_used b c held in
     tokens_left lane (next_number s) id q qs (after b (Sends c)) (ap (is_in lane.token) same ∙ stays_in lane.token (held_tokens b) held)
     ∙ (ap (from_last lane.token) same ∙ from_last-again lane.token lane.token (held_tokens b) (stays_in lane.token (held_tokens b) held))
-
-pub all_append : {X : Type 0} (P : X → Type 0) (xs ys : List X) → AllByRecursion P xs → AllByRecursion P ys → AllByRecursion P (xs ++ ys)
-all_append P [] ys h k = k
-all_append P (x ∷ xs) ys h k = (h.0, all_append P xs ys h.1 k)
 
 module _ (limits : Limits) (asks : List Placed) (octets : List ℕ) (told : List ClientTold) (at : AtClient) (lane : Lane) (id : ℕ) (r : ClientReads limits asks octets told at) (back : IsLaneBack limits at lane)
     (awaited : is_in id at.pending ≡ true) (few : id < 2 ^ 32) where

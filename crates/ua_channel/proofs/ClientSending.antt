@@ -1,7 +1,8 @@
 -- What a client sends when it is asked, and why it sends nothing.
-use Rattle.std.proofs.Common.{◌≡◌, ℕ, ◌+◌, ◌<◌, zero, suc, List, [], ◌∷◌, ◌++◌, Bool, true, false, Option, Some, None, Result, Ok, Err, length, refl, sym, ◌∙◌, ap, subst, arith, append-nil, append_assoc, length-append}
+use Rattle.std.proofs.Common.{◌≡◌, ℕ, ◌+◌, ◌<◌, List, [], ◌∷◌, ◌++◌, Bool, true, false, Option, Some, None, Result, Ok, Err, length, refl, sym, ◌∙◌, ap, subst, arith, append-nil, append_assoc, length-append, map}
 use Rattle.std.specs.Prelude.{is_none, is_some, MatchOption}
 use Rattle.std.specs.List.{AllByRecursion}
+use Rattle.std.proofs.lemmas.List.{length-map}
 use Rattle.ua_octets.proofs.Readers.{some_is}
 use Rattle.ua_builtin.specs.Reasons.{first_reason}
 use Rattle.ua_builtin.specs.declared.date_time.DateTime.{DateTime}
@@ -18,12 +19,14 @@ use Rattle.ua_structures.specs.declared.secure_channel.OpenResponse.{OpenRespons
 use Rattle.ua_channel.specs.Asks.{Asking, Placed, asked_in, next_id, pending_calls, pending_renewals}
 use Rattle.ua_channel.specs.Asks.Asking.{Call}
 use Rattle.ua_channel.specs.Client.{InPhase, IsCall, IsClosing, IsNotOpen, IsRenewal, ClientStands, ask_refusal, close_refusal, client_limits, phase_of, refusal_in, renew_refusal, client_rules_of, talking_in}
-use Rattle.ua_channel.specs.ClientAsks.{Calls, IsCalled, IsClosed, IsRenewed, JudgesBy, Renews, Talks, ask_reasons, call_lane, call_reasons, calls_at, closing_octets, closing_reasons, has_no_channel, is_too_large, reasons_of_call, reasons_of_renewal, renew_reasons, renewing_reasons, room_of}
+use Rattle.ua_channel.specs.ClientAsks.{Calls, IsCalled, IsClosed, IsRenewed, JudgesBy, Renews, Talks, ask_reasons, call_lane, call_reasons, closing_octets, closing_reasons, has_no_channel, is_too_large, reasons_of_call, reasons_of_renewal, renew_reasons, renewing_reasons, room_of}
 use Rattle.ua_channel.specs.ClientReads.{AtClient, ClientReads, lane_from}
 use Rattle.ua_channel.specs.ClientSends.{close_frame, renewal_frame}
 use Rattle.ua_channel.specs.ClientTable.{of_ack}
 use Rattle.ua_channel.specs.ClientTokens.{channel_in, held_tokens, opened_ids, responses}
 use Rattle.ua_channel.specs.ClientTold.{ClientTold}
+use Rattle.ua_channel.specs.Outgoing.{asks_at}
+use Rattle.ua_channel.specs.Outgoing.Outgoing.{CallWith}
 use Rattle.ua_channel.specs.Received.{Received, has_some, latest, listed, received}
 use Rattle.ua_channel.specs.declared.client.channel.ClientChannel.{ClientChannel}
 use Rattle.ua_channel.specs.declared.client.fault.AskFault.{AskFault}
@@ -31,7 +34,7 @@ use Rattle.ua_channel.specs.declared.client.fault.AskFault.TheVariants.{NotOpen}
 use Rattle.ua_channel.specs.declared.client.phase.Phase.{Phase}
 use Rattle.ua_channel.specs.declared.client.phase.Phase.TheVariants.{Waiting, Agreed, Open, Done}
 use Rattle.ua_channel.specs.declared.client.talking.Talking.{Talking}
-use Rattle.ua_channel.proofs.Askings.{all-weaken, asked_in-push, pending_calls-call}
+use Rattle.ua_channel.proofs.Askings.{all-weaken, asked_in-push, pending_calls-call, next-append, next-asks}
 use Rattle.ua_channel.proofs.ClientStands.{talks_at}
 use Rattle.ua_channel.proofs.ClientTalks.{no_responses}
 use Rattle.ua_channel.proofs.Opened.{asks_nothing, closes_nothing, renews_nothing}
@@ -130,46 +133,46 @@ module _ (limits : Limits) (before : Received) (asked : List Asking) where
 -- ---- with calls more
 
 module _ (place : ℕ) where
-  one_asked : (asks : List Placed) (id : ℕ) → next_id (asked_in (asks ++ (place, Call id) ∷ [])) ≡ next_id (asked_in asks) + 1
-  one_asked asks id = omega (arith, ap length (asked_in-push asks (place, Call id)), length-append (asked_in asks) (Call id ∷ []))
+  step_asked : (asks : List Placed) (body : List ℕ) (bodies : List (List ℕ)) → asks ++ asks_at place (next_id (asked_in asks)) (map CallWith (body ∷ bodies))
+      ≡ (asks ++ (place, Call (next_id (asked_in asks))) ∷ []) ++ asks_at place (next_id (asked_in (asks ++ (place, Call (next_id (asked_in asks))) ∷ []))) (map CallWith bodies)
+  step_asked asks body bodies =
+      let one : Placed = (place, Call (next_id (asked_in asks))) in
+      sym (append_assoc asks (one ∷ []) (asks_at place (next_id (asked_in asks) + 1) (map CallWith bodies)))
+      ∙ ap (λ (n : ℕ). (asks ++ one ∷ []) ++ asks_at place n (map CallWith bodies)) (sym (next-append asks (one ∷ [])))
 
-  step_asked : (asks : List Placed) (count : ℕ) → asks ++ calls_at place (next_id (asked_in asks)) (suc count)
-      ≡ (asks ++ (place, Call (next_id (asked_in asks))) ∷ []) ++ calls_at place (next_id (asked_in (asks ++ (place, Call (next_id (asked_in asks))) ∷ []))) count
-  step_asked asks count =
-      sym (append_assoc asks ((place, Call (next_id (asked_in asks))) ∷ []) (calls_at place (next_id (asked_in asks) + 1) count))
-      ∙ ap (λ (n : ℕ). (asks ++ (place, Call (next_id (asked_in asks))) ∷ []) ++ calls_at place n count) (sym (one_asked asks (next_id (asked_in asks))))
-
-  next_later : (count : ℕ) (asks : List Placed) → next_id (asked_in (asks ++ calls_at place (next_id (asked_in asks)) count)) ≡ next_id (asked_in asks) + count
-  next_later zero asks = omega (arith, ap (λ (ps : List Placed). next_id (asked_in ps)) (append-nil asks))
-  next_later (suc count) asks =
-      omega (arith, ap (λ (ps : List Placed). next_id (asked_in ps)) (step_asked asks count), next_later count (asks ++ (place, Call (next_id (asked_in asks))) ∷ []), one_asked asks (next_id (asked_in asks)))
-
-  pending_later : (ms : List Chunk) (count : ℕ) (asks : List Placed) → AllByRecursion (λ (c : Chunk). c.request < next_id (asked_in asks)) ms
-      → length (pending_calls ms (asked_in (asks ++ calls_at place (next_id (asked_in asks)) count))) ≡ length (pending_calls ms (asked_in asks)) + count
-  pending_later ms zero asks below = omega (arith, ap (λ (ps : List Placed). length (pending_calls ms (asked_in ps))) (append-nil asks))
-  pending_later ms (suc count) asks below =
+  pending_later : (ms : List Chunk) (bodies : List (List ℕ)) (asks : List Placed) → AllByRecursion (λ (c : Chunk). c.request < next_id (asked_in asks)) ms
+      → length (pending_calls ms (asked_in (asks ++ asks_at place (next_id (asked_in asks)) (map CallWith bodies)))) ≡ length (pending_calls ms (asked_in asks)) + length bodies
+  pending_later ms [] asks below = omega (arith, ap (λ (ps : List Placed). length (pending_calls ms (asked_in ps))) (append-nil asks))
+  pending_later ms (body ∷ bodies) asks below =
       let id = next_id (asked_in asks) in
       let more = asks ++ (place, Call id) ∷ [] in
       let one : pending_calls ms (asked_in more) ≡ pending_calls ms (asked_in asks) ++ id ∷ [] =
       ap (pending_calls ms) (asked_in-push asks (place, Call id)) ∙ pending_calls-call ms (asked_in asks) id below in
-      let later : length (pending_calls ms (asked_in (more ++ calls_at place (next_id (asked_in more)) count))) ≡ length (pending_calls ms (asked_in more)) + count =
-      pending_later ms count more
-      (all-weaken (λ (c : Chunk). c.request < next_id (asked_in asks)) (λ (c : Chunk). c.request < next_id (asked_in more)) ms (λ c less. omega (arith, less, one_asked asks id)) below) in
-      omega (arith, ap (λ (ps : List Placed). length (pending_calls ms (asked_in ps))) (step_asked asks count), later, ap length one, length-append (pending_calls ms (asked_in asks)) (id ∷ []))
+      let later : length (pending_calls ms (asked_in (more ++ asks_at place (next_id (asked_in more)) (map CallWith bodies)))) ≡ length (pending_calls ms (asked_in more)) + length bodies =
+      pending_later ms bodies more
+      (all-weaken (λ (c : Chunk). c.request < next_id (asked_in asks)) (λ (c : Chunk). c.request < next_id (asked_in more)) ms (λ c less. omega (arith, less, next-append asks ((place, Call id) ∷ []))) below) in
+      omega (
+        arith,
+        ap (λ (ps : List Placed). length (pending_calls ms (asked_in ps))) (step_asked asks body bodies),
+        later,
+        ap length one,
+        length-append (pending_calls ms (asked_in asks)) (id ∷ []),
+      )
 
 -- what is judged behind calls more is what was judged of them before
-pub judged_later : (x y : ClientChannel) (asks : List Placed) (octets : List ℕ) (frames : List Frame) (rest : List ℕ) (count : ℕ) (body : List ℕ) → ClientStands x asks octets frames rest
-    → ClientStands y (asks ++ calls_at (length octets) (next_id (asked_in asks)) count) octets frames rest → ask_refusal (phase_of x) count body ≡ ask_refusal (phase_of y) 0 body
-judged_later x y asks octets frames rest count body s t =
+pub judged_later : (x y : ClientChannel) (asks : List Placed) (octets : List ℕ) (frames : List Frame) (rest : List ℕ) (bodies : List (List ℕ)) (body : List ℕ) → ClientStands x asks octets frames rest
+    → ClientStands y (asks ++ asks_at (length octets) (next_id (asked_in asks)) (map CallWith bodies)) octets frames rest → ask_refusal (phase_of x) (length bodies) body ≡ ask_refusal (phase_of y) 0 body
+judged_later x y asks octets frames rest bodies body s t =
     let before = received frames in
-    let later = asks ++ calls_at (length octets) (next_id (asked_in asks)) count in
+    let later = asks ++ asks_at (length octets) (next_id (asked_in asks)) (map CallWith bodies) in
     let none = has_no_channel before in
     let large = of_ack (λ (a : Ack). is_too_large a body) before.ack in
-    let pending : length (pending_calls before.messages (asked_in asks)) + count ≡ length (pending_calls before.messages (asked_in later)) + 0 =
-    omega (arith, pending_later (length octets) before.messages count asks (sent_below (client_limits x) before (asked_in asks) (phase_of x) s.phase_is)) in
-    let next : next_id (asked_in asks) + count ≡ next_id (asked_in later) + 0 = omega (arith, next_later (length octets) count asks) in
-    call_judged (client_limits x) before (asked_in asks) (phase_of x) count body s.phase_is
-    ∙ (ap (λ (n : ℕ). first_reason ((NotOpen, none) ∷ reasons_of_call n (next_id (asked_in asks) + count) large)) pending
+    let pending : length (pending_calls before.messages (asked_in asks)) + length bodies ≡ length (pending_calls before.messages (asked_in later)) + 0 =
+    omega (arith, pending_later (length octets) before.messages bodies asks (sent_below (client_limits x) before (asked_in asks) (phase_of x) s.phase_is)) in
+    let next : next_id (asked_in asks) + length bodies ≡ next_id (asked_in later) + 0 =
+    omega (arith, next-asks asks (length octets) (next_id (asked_in asks)) (map CallWith bodies), length-map bodies CallWith) in
+    call_judged (client_limits x) before (asked_in asks) (phase_of x) (length bodies) body s.phase_is
+    ∙ (ap (λ (n : ℕ). first_reason ((NotOpen, none) ∷ reasons_of_call n (next_id (asked_in asks) + length bodies) large)) pending
     ∙ (ap (λ (n : ℕ). first_reason ((NotOpen, none) ∷ reasons_of_call (length (pending_calls before.messages (asked_in later)) + 0) n large)) next
     ∙ sym (call_judged (client_limits y) before (asked_in later) (phase_of y) 0 body t.phase_is)))
 

@@ -8,29 +8,21 @@ use Rattle.ua_frame.specs.Messages.{ack, ack_frame, hello}
 use Rattle.ua_frame.specs.declared.limits.Limits.{Limits}
 use Rattle.ua_channel.specs.Agreement.{agreement_of}
 use Rattle.ua_channel.specs.Answers.{answers_told}
-use Rattle.ua_channel.specs.Asks.{Placed, asked_in, next_id}
+use Rattle.ua_channel.specs.Asks.{Placed, asked_in}
 use Rattle.ua_channel.specs.ClientReads.{ClientReads, IsAnswered, opened_at}
 use Rattle.ua_channel.specs.ClientSends.{first_open, hello_frame, hello_to}
 use Rattle.ua_channel.specs.ClientTold.{ClientTold, ClientTold as heard}
 use Rattle.ua_channel.specs.InStep.{AreInStep}
-use Rattle.ua_channel.specs.Outgoing.{Outgoing, asking_of, asks_at, client_behind, outgoing_told}
+use Rattle.ua_channel.specs.Outgoing.{asks_at, client_behind, outgoing_told}
 use Rattle.ua_channel.specs.Rounds.{AreConnected, AreRounds, BothEnds, IsRound, Round, answers_lane, both_sent, round_behind, round_down, round_up, rounds_asks, rounds_behind, rounds_down, rounds_heard, rounds_told, rounds_up}
 use Rattle.ua_channel.specs.ServerReads.{ServerReads, greeted_at, with_token}
 use Rattle.ua_channel.specs.ServerSends.{opened_frame}
 use Rattle.ua_channel.specs.ServerTold.{Told, Told as told}
-use Rattle.ua_channel.proofs.ClientReading.{next_more, reads_ack, reads_opened}
+use Rattle.ua_channel.proofs.ClientReading.{reads_ack, reads_opened}
 use Rattle.ua_channel.proofs.Groups.{asks_outgoing, in_step_answers, reads_answers, reads_outgoing}
 use Rattle.ua_channel.proofs.InStep.{in_step_opened, lane_from_server}
 use Rattle.ua_channel.proofs.ServerReading.{reads_first, reads_hello}
-
--- the request id behind what is asked
-next_behind : (asks : List Placed) (place id : ℕ) (os : List Outgoing) → next_id (asked_in (asks ++ asks_at place id os)) ≡ next_id (asked_in asks) + length os
-next_behind asks place id [] = omega (arith, ap (λ (ps : List Placed). next_id (asked_in ps)) (append-nil asks))
-next_behind asks place id (o ∷ os) =
-    let ask : Placed = (place, asking_of id o) in
-    let one = next_more asks ask in
-    let rest = next_behind (asks ++ ask ∷ []) place (id + 1) os in
-    omega (arith, one, rest, ap (λ (ps : List Placed). next_id (asked_in ps)) (append_assoc asks (ask ∷ []) (asks_at place (id + 1) os)))
+use Rattle.ua_channel.proofs.Askings.{next-asks}
 
 -- ---- the opening
 
@@ -85,7 +77,7 @@ module _ (server client : Limits) (url : Option (List ℕ)) (channel : ℕ) (on 
           reads_answers client (asks ++ asks_at (length down) at.id r.outgoing) (answers_lane server channel at r.outgoing) down hs (both_sent at r.outgoing).client r.answers asked
           (lane_from_server server client url channel (both_sent at r.outgoing).server (both_sent at r.outgoing).client sent.1 on (omega (arith, sent.0.few_issued, sent.1.taken.not_before, sent.1.taken.issued))) i.answered;
       in_step = in_step_answers server client url channel (both_sent at r.outgoing).server (both_sent at r.outgoing).client r.answers sent.1 i.brings;
-      id_is = omega (arith, k.id_is, next_behind asks (length down) at.id r.outgoing);
+      id_is = omega (arith, k.id_is, next-asks asks (length down) at.id r.outgoing);
     }
 
   -- all of them

@@ -24,7 +24,7 @@ use Rattle.ua_chunk.specs.Sequence.{may_follow}
 use Rattle.ua_channel.specs.Content.{Content, content, content_by}
 use Rattle.ua_channel.specs.Content.Content.{Greets, Acks, Fails, Opens, Sends, Closes, Nothing}
 use Rattle.ua_channel.specs.Conversation.{AreOrdered, FitMessages, IsFramed}
-use Rattle.ua_channel.specs.Received.{Received, after, chunks_in, number_listed, number_or, numbers_in, messages, numbers, received}
+use Rattle.ua_channel.specs.Received.{Received, after, chunks_in, number_listed, number_or, numbers_in, messages, numbers, received, or_before}
 use Rattle.ua_channel.specs.ServerRefusals.{of_number}
 use Rattle.ua_channel.proofs.OneFrameMore.{received-nil, received-push}
 use Rattle.ua_channel.proofs.PairedCalls.{none_holds}
@@ -44,6 +44,10 @@ none_then ((a, false) ∷ rs) ts e = none_then rs ts e
 pub none_named : {A B : Type 0} (name : A → B) (o : Option A) → option_map name o ≡ None → o ≡ None
 none_named name None e = refl
 none_named name (Some a) e = absurd cc
+
+pub before_none : {A : Type 0} (o found : Option A) → or_before o found ≡ None → o ≡ None
+before_none o None e = e
+before_none o (Some a) e = absurd cc
 
 pub some_there : {A : Type 0} (o : Option A) → is_none o ≡ false → (a : A) × (o ≡ Some a)
 some_there None e = absurd cc

@@ -30,16 +30,17 @@ use Rattle.ua_channel.specs.ServerReads.{AtServer, ServerReads, with_message, wi
 use Rattle.ua_channel.specs.ServerSends.{opened_frame, replied}
 use Rattle.ua_channel.specs.ServerTold.{Told, Asked, Opened}
 use Rattle.ua_channel.specs.declared.client.channel.ClientChannel.{ClientChannel}
-use Rattle.ua_channel.proofs.ClientReading.{next_more, reads_call, reads_renewed, reads_replied}
+use Rattle.ua_channel.proofs.ClientReading.{reads_call, reads_renewed, reads_replied}
 use Rattle.ua_channel.proofs.ClientReading as client
 use Rattle.ua_channel.proofs.ClientSending.{refuses_call, refuses_renewal}
 use Rattle.ua_channel.proofs.HeldTokens.{stays_in}
 use Rattle.ua_channel.proofs.InStep.{body_for, in_more, in_step_answer, in_step_call, in_step_renewal, in_step_reply, lane_to}
 use Rattle.ua_channel.proofs.ServerReading.{reads_message, reads_renewal}
+use Rattle.ua_channel.proofs.Askings.{next-append}
 
 -- ---- reasons
 
-none_parts : {A : Type 0} (b : Bool) (x : A) (o : Option A) → (if b then Some x else o) ≡ None → (b ≡ false) × (o ≡ None)
+pub none_parts : {A : Type 0} (b : Bool) (x : A) (o : Option A) → (if b then Some x else o) ≡ None → (b ≡ false) × (o ≡ None)
 none_parts true x o e = absurd cc
 none_parts false x o e = (refl, e)
 
@@ -156,7 +157,7 @@ module _ (limits : Limits) (octets : List ℕ) (told : List ClientTold) where
   asks_more asks c o os h =
       let ask : Placed = (length octets, asking_of (next_id (asked_in asks)) o) in
       subst (λ (ps : List Placed). ClientReads limits ps octets told (client_behind c (next_id (asked_in asks) + 1) os)) (append_assoc asks (ask ∷ []) (asks_at (length octets) (next_id (asked_in asks) + 1) os))
-      (subst (λ (id : ℕ). ClientReads limits ((asks ++ ask ∷ []) ++ asks_at (length octets) id os) octets told (client_behind c id os)) (next_more asks ask) h)
+      (subst (λ (id : ℕ). ClientReads limits ((asks ++ ask ∷ []) ++ asks_at (length octets) id os) octets told (client_behind c id os)) (next-append asks (ask ∷ [])) h)
 
   pub asks_outgoing : (asks : List Placed) (c : AtClient) (os : List Outgoing) → ClientReads limits asks octets told c
       → ClientReads limits (asks ++ asks_at (length octets) (next_id (asked_in asks)) os) octets told (client_behind c (next_id (asked_in asks)) os)

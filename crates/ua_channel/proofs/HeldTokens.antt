@@ -1,37 +1,12 @@
 -- The tokens that are held: from the last place of the last one used.
-use Rattle.std.proofs.Common.{◌≡◌, inl, inr, ℕ, ◌<◌, List, [], ◌∷◌, ◌++◌, Bool, true, false, ◌&&◌, ◌||◌, not, Option, Some, None, length, drop, refl, sym, ◌∙◌, ap, arith, eqb}
+use Rattle.std.proofs.Common.{◌≡◌, inl, inr, ℕ, List, [], ◌∷◌, ◌++◌, Bool, true, false, ◌&&◌, ◌||◌, not, Option, Some, None, refl, sym, ◌∙◌, ap, eqb}
 use Rattle.std.specs.Prelude.{if◌then◌else◌}
 use Rattle.std.proofs.lemmas.Bool.{and_parts, both_ways, cases_Bool, eqb-true}
 use Rattle.ua_channel.specs.Asks.{is_in}
 use Rattle.ua_channel.specs.ClientTokens.{from_last, held_by}
-use Rattle.ua_channel.specs.inside.ClientParts.{drops_first}
 use Rattle.ua_channel.specs.Received.{latest_behind, latest}
 use Rattle.ua_channel.proofs.Askings.{or_false}
 use Rattle.ua_channel.proofs.OneFrameMore.{behind_push}
-
--- ---- dropping the first
-
-either : (same more : Bool) → (same && not more) ≡ not (not same || more)
-either true true = refl
-either true false = refl
-either false true = refl
-either false false = refl
-
-from_by : (n m : ℕ) (ms : List ℕ) (b : Bool) → drops_first n (m ∷ ms) ≡ b → from_last n (m ∷ ms) ≡ (if b then from_last n ms else m ∷ ms)
-from_by n m ms true is = ap (λ (t : Bool). if t then m ∷ ms else from_last n ms) (either (eqb m n) (is_in n ms) ∙ ap not is)
-from_by n m ms false is = ap (λ (t : Bool). if t then m ∷ ms else from_last n ms) (either (eqb m n) (is_in n ms) ∙ ap not is)
-
-pub from_last-drop : (n : ℕ) (ms : List ℕ) → drops_first n ms ≡ true → from_last n (drop 1 ms) ≡ from_last n ms
-from_last-drop n [] is = absurd cc
-from_last-drop n (m ∷ ms) is = sym (from_by n m ms true is)
-
-pub from_last-stays : (n : ℕ) (ms : List ℕ) → drops_first n ms ≡ false → ms ≡ from_last n ms
-from_last-stays n [] is = refl
-from_last-stays n (m ∷ ms) is = sym (from_by n m ms false is)
-
-pub drops_some : (n : ℕ) (ms : List ℕ) → drops_first n ms ≡ true → 0 < length ms
-drops_some n [] is = absurd cc
-drops_some n (m ∷ ms) is = omega arith
 
 -- ---- using one that is held
 

@@ -69,7 +69,7 @@ goes_on before more order on =
 
 -- ---- numbers
 
-last_is : (frames : List Frame) → (received frames).last ≡ latest (numbers frames)
+pub last_is : (frames : List Frame) → (received frames).last ≡ latest (numbers frames)
 unfolding received
 last_is frames = refl
 

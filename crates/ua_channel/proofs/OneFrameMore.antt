@@ -12,11 +12,14 @@ use Rattle.ua_channel.specs.Content.{Opening, Content, content}
 use Rattle.ua_channel.specs.Content.Content.{Greets, Acks, Fails, Opens, Sends, Closes, Nothing}
 use Rattle.ua_channel.specs.Received.{Received, latest_behind, latest, has_some, listed, number_listed, hellos_in, acks_in, openings_in, chunks_in, closings_in, numbers_in, tokens_in, hellos, acks, openings, messages, closings, numbers, used_tokens, received_of, received, nothing_received, or_before, number_or, after}
 
--- ---- the last of a list with one element more
+-- ---- the last of a list behind another, and with one element more
+
+pub behind_append : {A : Type 0} (a : Option A) (xs ys : List A) → latest_behind a (xs ++ ys) ≡ latest_behind (latest_behind a xs) ys
+behind_append a [] ys = refl
+behind_append a (x ∷ xs) ys = behind_append (Some x) xs ys
 
 pub behind_push : {A : Type 0} (a : Option A) (xs : List A) (y : A) → latest_behind a (xs ++ y ∷ []) ≡ Some y
-behind_push a [] y = refl
-behind_push a (x ∷ xs) y = behind_push (Some x) xs y
+behind_push a xs y = behind_append a xs (y ∷ [])
 
 latest_listed : {A : Type 0} (xs : List A) (o : Option A) → latest (xs ++ listed o) ≡ or_before (latest xs) o
 latest_listed xs None = ap latest (append-nil xs)

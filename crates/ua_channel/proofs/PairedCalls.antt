@@ -33,7 +33,7 @@ use Rattle.ua_channel.specs.Content.{Content, content}
 use Rattle.ua_channel.specs.Content.Content.{Greets, Acks, Fails, Opens, Sends, Closes, Nothing}
 use Rattle.ua_channel.specs.Paired.{as_list, delivered_under, first, paired, told_of_calls, with_all, with_first}
 use Rattle.ua_channel.specs.Received.{Received, after, listed, received}
-use Rattle.ua_channel.proofs.Askings.{within_filter}
+use Rattle.ua_channel.proofs.Askings.{within_filter, passes_filter}
 use Rattle.ua_channel.proofs.OneFrameMore.{received-push, none_delivered}
 
 -- ---- what is told
@@ -141,15 +141,6 @@ under_push : (id : ℕ) (cs : List Chunk) (c : Chunk) → delivered_under id (cs
 under_push id cs c = ap (filter (is_item_of id)) (delivered_push cs c) ∙ filter_append (is_item_of id) (delivered cs) (given cs c)
 
 -- ---- what was asked
-
-by_filter : (kept found : Bool) (test : ℕ → Bool) (id j : ℕ) (ids : List ℕ) → test j ≡ kept → eqb j id ≡ found → (is_in id ids ≡ true → test id ≡ true) → is_in id (cond kept (j ∷ ids) ids) ≡ true → test id ≡ true
-by_filter true true test id j ids k same more e = ap test (sym (eqb-true j id same)) ∙ k
-by_filter true false test id j ids k other more e = more (ap (λ (b : Bool). b || is_in id ids) (sym other) ∙ e)
-by_filter false found test id j ids k s more e = more e
-
-passes_filter : (test : ℕ → Bool) (id : ℕ) (ids : List ℕ) → is_in id (filter test ids) ≡ true → test id ≡ true
-passes_filter test id [] e = absurd cc
-passes_filter test id (j ∷ ids) e = by_filter (test j) (eqb j id) test id j (filter test ids) refl refl (passes_filter test id ids) e
 
 still_pending : (cs : List Chunk) (asked : List Asking) (id : ℕ) → is_in id (pending_calls cs asked) ≡ true → is_finished cs id ≡ false
 unfolding pending_calls

@@ -24,12 +24,8 @@ use Rattle.ua_channel.specs.ServerSends.{RepliesGo}
 use Rattle.ua_channel.specs.ServerStands.{limits_of, channel_of, Stands, GoesTelling}
 use Rattle.ua_channel.specs.ServerTold.{Told, request_of, opened_by, told_under, issued, server_tells}
 use Rattle.ua_channel.specs.ServerTold.Told.{Agreed, Opened, Asked, GaveUp, Closed}
-use Rattle.ua_channel.proofs.OneFrameMore.{received-push, received-nil}
+use Rattle.ua_channel.proofs.OneFrameMore.{behind_append, received-push, received-nil}
 use Rattle.ua_channel.proofs.ServerReadings.{stands_once}
-
-behind_append : {A : Type 0} (a : Option A) (xs ys : List A) → latest_behind a (xs ++ ys) ≡ latest_behind (latest_behind a xs) ys
-behind_append a [] ys = refl
-behind_append a (x ∷ xs) ys = behind_append (Some x) xs ys
 
 -- ---- what was agreed to
 

@@ -36,7 +36,7 @@ use Rattle.ua_channel.specs.inside.ServerParts.{ids_reasons}
 use Rattle.ua_channel.specs.ServerRefusals.{is_taken, last_used, of_header, of_request, server_reasons, type_wanted}
 use Rattle.ua_channel.specs.ServerRules.{server_gate_behind, receive_size, running_gate, server_gate, server_rules}
 use Rattle.ua_channel.specs.ServerTold.{issued, request_of}
-use Rattle.ua_channel.proofs.Conversing.{Converses, InOrder, IsGoodFrame, MessageFits, content_kind, converse, fit_first, follow_numbers, in_order, none_first, none_named, none_then, numbers_follow, ordered_first, out_of_order, some_there, taken}
+use Rattle.ua_channel.proofs.Conversing.{Converses, InOrder, IsGoodFrame, MessageFits, content_kind, converse, fit_first, follow_numbers, in_order, none_first, none_named, none_then, numbers_follow, ordered_first, out_of_order, some_there, taken, before_none}
 use Rattle.ua_channel.proofs.OneFrameMore.{received-nil, received-push}
 use Rattle.ua_channel.proofs.Phases.{greeted_by}
 use Rattle.ua_channel.proofs.PairedCalls.{none_holds}
@@ -218,9 +218,6 @@ not_closed b c cs h = goes_by b.closed b.hello (issued b) c cs h
 one_issued : (b : Received) (p : Opening) (n : ℕ) → issued b ≡ n → issued (after b (Opens p)) ≡ suc n
 one_issued b p n r = omega (arith, length-append b.openings (p ∷ []), r)
 
-said_then : (b : Received) (hello : Option Hello) (said : Hello) → hello ≡ Some said → (after b (Greets hello)).hello ≡ Some said
-said_then b hello said e = ap (or_before b.hello) e
-
 module _ (limits : Limits) (channel : ℕ) (b : Received) (f : Frame) (cs : List Content) (goes_on : b.closed ≡ false) where
   msg_order : (h : Hello) (n : ℕ) (found : Option Chunk) → b.hello ≡ Some h → issued b ≡ suc n → Order (after b (sends found)) cs ↔ order_by false (Some h) (suc n) (sends found ∷ cs)
   unfolding order_by
@@ -244,7 +241,7 @@ module _ (limits : Limits) (channel : ℕ) (b : Received) (f : Frame) (cs : List
   -- a frame comes in order exactly where it is let in
   order_here : (o : Option Hello) (n : ℕ) (k : Kind) → b.hello ≡ o → issued b ≡ n → IsPlaced b → MayCarry channel b (content_by k f) → InOrder (server_gate_behind limits o n) k (Order (after b (content_by k f)) cs) (order_by false o n (content_by k f ∷ cs))
   unfolding order_by IsPlaced
-  order_here None n Hel q r placed may = in_order refl (order_is (after b (Greets (hello_in f.body))) cs false (Some may.said) zero goes_on (said_then b (hello_in f.body) may.said may.reads) (placed q))
+  order_here None n Hel q r placed may = in_order refl (order_is (after b (Greets (hello_in f.body))) cs false (Some may.said) zero goes_on (ap (or_before b.hello) may.reads) (placed q))
   order_here None n kind.Ack q r placed may = out_of_order (λ e. cc) (λ e. e)
   order_here None n kind.Err q r placed may = out_of_order (λ e. cc) (λ e. e)
   order_here None n Msg q r placed may = out_of_order (λ e. cc) (no_chunk (chunk_in f) cs).0
@@ -262,10 +259,6 @@ module _ (limits : Limits) (channel : ℕ) (b : Received) (f : Frame) (cs : List
 -- ---- from some frames on
 
 -- where OPNs come behind a Hello, they do so with a frame more
-hello_stays : (o : Option Hello) (hello : Option Hello) → or_before o hello ≡ None → o ≡ None
-hello_stays o None e = e
-hello_stays o (Some h) e = absurd cc
-
 chunk_placed : (b : Received) (found : Option Chunk) → (b.hello ≡ None → issued b ≡ 0) → (after b (sends found)).hello ≡ None → issued (after b (sends found)) ≡ 0
 chunk_placed b None placed none = placed none
 chunk_placed b (Some c) placed none = placed none
@@ -276,7 +269,7 @@ close_placed b (Some c) placed none = placed none
 
 placed_more : (limits : Limits) (b : Received) (f : Frame) (k : Kind) (o : Option Hello) → b.hello ≡ o → IsPlaced b → IsTrue (lets_in (server_gate_behind limits o (issued b)) k) → IsPlaced (after b (content_by k f))
 unfolding IsPlaced
-placed_more limits b f Hel o q placed kind none = placed (hello_stays b.hello (hello_in f.body) none)
+placed_more limits b f Hel o q placed kind none = placed (before_none b.hello (hello_in f.body) none)
 placed_more limits b f kind.Ack o q placed kind none = placed none
 placed_more limits b f kind.Err o q placed kind none = placed none
 placed_more limits b f Msg o q placed kind none = chunk_placed b (chunk_in f) placed none

@@ -26,7 +26,7 @@ use Rattle.ua_channel.specs.Received.{Received, chunks_in, closings, closings_in
 use Rattle.ua_channel.specs.ServerMessages.{message_in, message_of, messages_in}
 use Rattle.ua_channel.specs.ServerRules.{receive_size, server_rules}
 use Rattle.ua_channel.specs.ServerTold.{Told, issued, opened_by, request_behind, request_of, server_tells, told_under}
-use Rattle.ua_channel.proofs.ClientReading.{all_append as every_append}
+use Rattle.ua_channel.proofs.Askings.{all_append as every_append}
 use Rattle.ua_channel.proofs.MergedChunks.{EachEnds, comes, given_fresh}
 use Rattle.ua_channel.proofs.MergedFrames.{closed_behind, ends_then, fit_behind, goes_on, messages_behind, messages_then, names_kept, of_either, openings_then, ordered_behind}
 use Rattle.ua_channel.proofs.OneFrameMore.{received-push}

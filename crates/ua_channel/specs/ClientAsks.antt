@@ -1,5 +1,5 @@
 -- What a client sends when it is asked, and why it sends nothing: by what it received and asked, and by what an open channel keeps.
-use Rattle.std.specs.Prelude.{◌≡◌, ℕ, ◌+◌, ◌-◌, ◌<◌, ◌≤◌, zero, suc, nat_le, Bool, ◌||◌, is_none, is_some, length, List, [], ◌∷◌, Option, Some, None, Result, Ok, Err}
+use Rattle.std.specs.Prelude.{◌≡◌, ℕ, ◌+◌, ◌-◌, ◌<◌, ◌≤◌, nat_le, Bool, ◌||◌, is_none, is_some, length, List, [], ◌∷◌, Option, Some, None, Result, Ok, Err}
 use Rattle.std.specs.List.{AllByRecursion}
 use Rattle.ua_builtin.specs.declared.date_time.DateTime.{DateTime}
 use Rattle.ua_frame.specs.declared.ack.Ack.{Ack}
@@ -12,8 +12,7 @@ use Rattle.ua_chunk.specs.Sequence.{next_number}
 use Rattle.ua_chunk.specs.declared.chunk.Chunk.{Chunk}
 use Rattle.ua_chunk.specs.declared.lane.Lane.{Lane}
 use Rattle.ua_channel.specs.Agreement.{headers_size}
-use Rattle.ua_channel.specs.Asks.{Asking, Placed, id_of, next_id, pending_calls, pending_renewals}
-use Rattle.ua_channel.specs.Asks.Asking.{Call}
+use Rattle.ua_channel.specs.Asks.{Asking, id_of, next_id, pending_calls, pending_renewals}
 use Rattle.ua_channel.specs.ClientSends.{renewal_frame, close_frame}
 use Rattle.ua_channel.specs.ClientTable.{of_ack}
 use Rattle.ua_channel.specs.ClientTokens.{responses, opened_ids, channel_in, held_tokens}
@@ -116,11 +115,6 @@ renewing_reasons before asked =
 -- why a channel is not closed
 abbrev pub closing_reasons : Received → List (AskFault × Bool)
 closing_reasons before = (NotOpen, has_no_channel before) ∷ []
-
--- so many calls more at a place, under request ids from this one on
-abbrev pub calls_at : ℕ → ℕ → ℕ → List Placed
-calls_at place id zero = []
-calls_at place id (suc count) = (place, Call id) ∷ calls_at place (id + 1) count
 
 -- ---- where an open channel stands
 

@@ -15,11 +15,13 @@ ghost use Rattle.ua_frame.specs.Run.{Fits, Going, Run, events};
 ghost use Rattle.ua_chunk.specs.Delivered.{delivered};
 ghost use Rattle.ua_channel.specs.Asks.{Placed, asked_in, calls, is_in, next_id};
 ghost use Rattle.ua_channel.specs.Client.{call_refused, closing_refused, renewal_refused, ClientGoes, ClientGoesTelling, HasNoChannel, IsClientDone, SendsCall, SendsClosing, SendsRenewal, ClientStands};
-ghost use Rattle.ua_channel.specs.ClientAsks.{call_reasons, calls_at, closing_reasons, renewing_reasons, IsCalled, IsClosed, IsRenewed};
+ghost use Rattle.ua_channel.specs.ClientAsks.{call_reasons, closing_reasons, renewing_reasons, IsCalled, IsClosed, IsRenewed};
 ghost use Rattle.ua_channel.specs.ClientConversation.{ClientConversation, ClientContinues, IsClientConversation};
 ghost use Rattle.ua_channel.specs.ClientTable.{client_rules};
 ghost use Rattle.ua_channel.specs.ClientTokens.{responses};
 ghost use Rattle.ua_channel.specs.ClientTold.{ClientTold, Why, told_item};
+ghost use Rattle.ua_channel.specs.Outgoing.{asks_at};
+ghost use Rattle.ua_channel.specs.Outgoing.Outgoing.{CallWith};
 ghost use Rattle.ua_channel.specs.Paired.{as_list, delivered_under, paired, told_of_calls, with_all};
 ghost use Rattle.ua_channel.specs.Received.{received};
 ghost use Rattle.ua_channel.specs.declared.client.channel.ClientChannel.{ClientChannel};
@@ -101,8 +103,8 @@ pub fn client_refuses_asked()
 /// What is judged of a call after so many more calls is what is judged of it once these were asked,
 /// each under the next request id, with nothing received between them.
 pub fn client_judges()
-    ensures { (x y : ClientChannel) (asks : List Placed) (octets : List ℕ) (frames : List Frame) (rest : List ℕ) (count : ℕ) (body : List ℕ) → ClientStands x asks octets frames rest →
-        ClientStands y (asks ++ calls_at (length octets) (next_id (asked_in asks)) count) octets frames rest → call_refused x count body ≡ call_refused y 0 body }
+    ensures { (x y : ClientChannel) (asks : List Placed) (octets : List ℕ) (frames : List Frame) (rest : List ℕ) (bodies : List (List ℕ)) (body : List ℕ) → ClientStands x asks octets frames rest →
+        ClientStands y (asks ++ asks_at (length octets) (next_id (asked_in asks)) (map CallWith bodies)) octets frames rest → call_refused x (length bodies) body ≡ call_refused y 0 body }
 {}
 
 /// The frames that a client takes, one after the other, are just those of a conversation in plain
