@@ -14,13 +14,13 @@ use Rattle.ua_channel.specs.Asks.{Asking, Placed, asked_before, asked_in, call_i
 use Rattle.ua_channel.specs.ClientConversation.{ClientConversation, MayCarryBack}
 use Rattle.ua_channel.specs.ClientReads.{AtClient, ClientReads}
 use Rattle.ua_channel.specs.ClientTable.{client_rules, is_awaited}
-use Rattle.ua_channel.specs.ClientTokens.{opened_ids, responses}
+use Rattle.ua_channel.specs.ClientTokens.{opened_ids, responses, channel_in, held_tokens}
 use Rattle.ua_channel.specs.ClientTold.{ClientTold}
 use Rattle.ua_channel.specs.Content.{Content, content}
 use Rattle.ua_channel.specs.Content.Content.{Greets, Acks, Fails, Opens, Sends, Closes, Nothing}
 use Rattle.ua_channel.specs.Received.{Received, received}
 use Rattle.ua_channel.proofs.Askings.{within_filter, in_filter, passes_filter}
-use Rattle.ua_channel.proofs.ClientConversing.{continues}
+use Rattle.ua_channel.proofs.ClientConversing.{continues, response_as}
 
 -- ---- what a test keeps
 
@@ -107,19 +107,9 @@ module _ (limits : Limits) (earlier asks : List Placed) (are : AreEarlier earlie
   may_earlier b place (Greets hello) h = h
   may_earlier b place (Acks ack) h = h
   may_earlier b place (Fails error) h = h
-  may_earlier b place (Opens o) h = record {
-    header = h.header;
-    security_is = h.security_is;
-    policy = h.policy;
-    response = h.response;
-    answer_is = h.answer_is;
-    good = h.good;
-    on = h.on;
-    fresh = h.fresh;
-    numbered = h.numbered;
-    numbers_are = h.numbers_are;
-    awaited = awaited_earlier (responses b.openings) (opened_ids b.openings) h.numbered.1 place earlier asks are h.awaited;
-  }
+  may_earlier b place (Opens o) h =
+      response_as (channel_in (responses b.openings)) (channel_in (responses b.openings)) (held_tokens b) (held_tokens b) (is_awaited (responses b.openings) (opened_ids b.openings) (asked_before place asks))
+      (is_awaited (responses b.openings) (opened_ids b.openings) (asked_before place earlier)) o refl refl (λ id e. awaited_earlier (responses b.openings) (opened_ids b.openings) id place earlier asks are e) h
   may_earlier b place (Sends c) h = record { on = h.on; held = h.held; awaited = pending_earlier b.messages c.request place earlier asks are h.awaited }
   may_earlier b place (Closes c) h = h
   may_earlier b place Nothing h = h

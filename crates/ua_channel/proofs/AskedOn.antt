@@ -5,7 +5,7 @@ use Rattle.ua_builtin.specs.Reasons.{first_reason}
 use Rattle.ua_frame.specs.declared.frame.Frame.{Frame}
 use Rattle.ua_frame.specs.declared.limits.Limits.{Limits}
 use Rattle.ua_frame.specs.Frames.{frame_octets, frames_octets}
-use Rattle.ua_frame.specs.Run.{Going, Run, Stopped, WrongFrame, WrongHeader, events}
+use Rattle.ua_frame.specs.Run.{Going, Run, Stopped, WrongFrame, WrongHeader}
 use Rattle.ua_frame.proofs.Streams.{frames_octets-push}
 use Rattle.ua_channel.specs.Asks.{Asking, Placed, asked_before, end_of}
 use Rattle.ua_channel.specs.Client.{ClientEnded, ClientGoes, client_limits}
@@ -13,13 +13,11 @@ use Rattle.ua_channel.specs.ClientReads.{AtClient, ClientReads}
 use Rattle.ua_channel.specs.ClientTable.{client_reasons, client_rules}
 use Rattle.ua_channel.specs.ClientTold.{ClientTold, Why}
 use Rattle.ua_channel.specs.Content.{content}
-use Rattle.ua_channel.specs.Merges.{ClientReadsMerged}
 use Rattle.ua_channel.specs.Received.{received}
 use Rattle.ua_channel.specs.declared.client.channel.ClientChannel.{ClientChannel}
 use Rattle.ua_channel.proofs.AskedLater.{asked_later}
 use Rattle.ua_channel.proofs.Askings.{all-weaken, asked_before-push}
-use Rattle.ua_channel.proofs.ClientMerges.{takes_merged, tells_merged}
-use Rattle.ua_channel.proofs.ReadOn.{begins_told, never_refused}
+use Rattle.ua_channel.proofs.ReadOn.{begins, never_refused}
 
 -- asks at a place or behind it were not made before it
 pub asked_before-later : (place : ℕ) (asks later : List Placed) → AllByRecursion (λ (a : Placed). place ≤ a.0) later → asked_before place (asks ++ later) ≡ asked_before place asks
@@ -83,50 +81,12 @@ module _ (limits : Limits) (asks later : List Placed) (octets : List ℕ) (frame
 
 -- ---- a channel whose client asks on
 
-module _ (x : ClientChannel) (asks later : List Placed) (octets more : List ℕ) (told all : List ClientTold) (behind : AllByRecursion (λ (a : Placed). length octets ≤ a.0) later) where
-  -- all that was read to its end
-  record Reads : Type 0 where
-    frames : List Frame
-    run : Run (client_rules (client_limits x) (asks ++ later)) (octets ++ more) frames [] Going
-    told_is : events (client_rules (client_limits x) (asks ++ later)) frames ≡ all
+module _ (x : ClientChannel) (asks later : List Placed) (octets more : List ℕ) (told all : List ClientTold) (at : AtClient) where
+  pub begins_asking : ClientGoes x asks octets told → AllByRecursion (λ (a : Placed). length octets ≤ a.0) later → ClientReads (client_limits x) (asks ++ later) (octets ++ more) all at
+      → (rest : List ClientTold) × (all ≡ told ++ rest)
+  begins_asking g behind r =
+      begins (client_rules (client_limits x) (asks ++ later)) octets more g.frames r.frames g.rest told all Going (going_on (client_limits x) asks later octets g.frames g.rest behind g.stands.run) g.told_is r.run r.told_is
 
-  begins_on : ClientGoes x asks octets told → Reads → (rest : List ClientTold) × (all ≡ told ++ rest)
-  begins_on g r =
-      let b = begins_told (client_rules (client_limits x) (asks ++ later)) octets more g.frames r.frames g.rest Going (going_on (client_limits x) asks later octets g.frames g.rest behind g.stands.run) r.run in
-      (b.0, sym r.told_is ∙ (b.1 ∙ ap (λ (t : List ClientTold). t ++ b.0) g.told_is))
-
-  not_failed_on : (why : Why) → ClientEnded x asks octets told why → Reads → ⊥
-  not_failed_on why e r =
+  pub not_failed_asking : (why : Why) → ClientEnded x asks octets told why → AllByRecursion (λ (a : Placed). length octets ≤ a.0) later → ClientReads (client_limits x) (asks ++ later) (octets ++ more) all at → ⊥
+  not_failed_asking why e behind r =
       never_refused (client_rules (client_limits x) (asks ++ later)) octets more e.frames r.frames e.rest why Going (λ s. cc) (stopped_on (client_limits x) asks later octets e.frames e.rest why behind e.run) r.run
-
-  reads : (at : AtClient) → ClientReads (client_limits x) (asks ++ later) (octets ++ more) all at → Reads
-  reads at r = record { frames = r.frames; run = r.run; told_is = r.told_is }
-
-  reads_merged : ClientReadsMerged (client_limits x) (asks ++ later) (octets ++ more) all → Reads
-  reads_merged r = record {
-    frames = r.before ++ r.more;
-    run =
-        subst (λ (t : List ℕ). Run (client_rules (client_limits x) (asks ++ later)) t (r.before ++ r.more) [] Going) (sym r.whole)
-        (takes_merged (client_limits x) (asks ++ later) r.before r.more r.messages r.merged r.start r.run);
-    told_is = tells_merged (client_limits x) (asks ++ later) r.before r.more r.messages r.merged ∙ r.told_is;
-  }
-
-pub begins_asking : (x : ClientChannel) (asks later : List Placed) (octets more : List ℕ) (told all : List ClientTold) (at : AtClient) → ClientGoes x asks octets told
-    → AllByRecursion (λ (a : Placed). length octets ≤ a.0) later → ClientReads (client_limits x) (asks ++ later) (octets ++ more) all at
-    → (rest : List ClientTold) × (all ≡ told ++ rest)
-begins_asking x asks later octets more told all at g behind r = begins_on x asks later octets more told all behind g (reads x asks later octets more told all behind at r)
-
-pub not_failed_asking : (x : ClientChannel) (asks later : List Placed) (octets more : List ℕ) (told all : List ClientTold) (at : AtClient) (why : Why) → ClientEnded x asks octets told why
-    → AllByRecursion (λ (a : Placed). length octets ≤ a.0) later → ClientReads (client_limits x) (asks ++ later) (octets ++ more) all at
-    → ⊥
-not_failed_asking x asks later octets more told all at why e behind r = not_failed_on x asks later octets more told all behind why e (reads x asks later octets more told all behind at r)
-
-pub begins_merged : (x : ClientChannel) (asks later : List Placed) (octets more : List ℕ) (told all : List ClientTold) → ClientGoes x asks octets told
-    → AllByRecursion (λ (a : Placed). length octets ≤ a.0) later → ClientReadsMerged (client_limits x) (asks ++ later) (octets ++ more) all
-    → (rest : List ClientTold) × (all ≡ told ++ rest)
-begins_merged x asks later octets more told all g behind r = begins_on x asks later octets more told all behind g (reads_merged x asks later octets more told all behind r)
-
-pub not_failed_merged : (x : ClientChannel) (asks later : List Placed) (octets more : List ℕ) (told all : List ClientTold) (why : Why) → ClientEnded x asks octets told why
-    → AllByRecursion (λ (a : Placed). length octets ≤ a.0) later → ClientReadsMerged (client_limits x) (asks ++ later) (octets ++ more) all
-    → ⊥
-not_failed_merged x asks later octets more told all why e behind r = not_failed_on x asks later octets more told all behind why e (reads_merged x asks later octets more told all behind r)

@@ -210,7 +210,7 @@ pub or_false : (b : Bool) → (b || false) ≡ b
 or_false true = refl
 or_false false = refl
 
-pub filter_same : (p q : ℕ → Bool) (ids : List ℕ) → ((id : ℕ) → p id ≡ q id) → filter p ids ≡ filter q ids
+filter_same : (p q : ℕ → Bool) (ids : List ℕ) → ((id : ℕ) → p id ≡ q id) → filter p ids ≡ filter q ids
 filter_same p q [] same = refl
 filter_same p q (id ∷ ids) same =
     ap (λ (b : Bool). if b then id ∷ filter p ids else filter p ids) (same id) ∙ ap (λ (js : List ℕ). if q id then id ∷ js else js) (filter_same p q ids same)
@@ -225,9 +225,29 @@ twice_by p q id ids false false is more =
     ap (λ (js : List ℕ). id ∷ js) more
     ∙ sym (ap (λ (t : Bool). if not t then id ∷ filter (λ (j : ℕ). not (q j)) (filter (λ (j : ℕ). not (p j)) ids) else filter (λ (j : ℕ). not (q j)) (filter (λ (j : ℕ). not (p j)) ids)) is)
 
-pub filter_twice : (p q : ℕ → Bool) (ids : List ℕ) → filter (λ (id : ℕ). not (p id || q id)) ids ≡ filter (λ (id : ℕ). not (q id)) (filter (λ (id : ℕ). not (p id)) ids)
+filter_twice : (p q : ℕ → Bool) (ids : List ℕ) → filter (λ (id : ℕ). not (p id || q id)) ids ≡ filter (λ (id : ℕ). not (q id)) (filter (λ (id : ℕ). not (p id)) ids)
 filter_twice p q [] = refl
 filter_twice p q (id ∷ ids) = twice_by p q id ids (p id) (q id) refl (filter_twice p q ids)
+
+-- two tests one after the other, where no later one meets the first test
+module _ (p q r : ℕ → Bool) (both : (id : ℕ) → r id ≡ (p id || q id)) where
+  keeps_new : (b : Bool) (id : ℕ) (ids more : List ℕ) → r id ≡ (b || q id) → b ≡ false → ids ≡ more → (if not (r id) then id ∷ ids else ids) ≡ (if not (q id) then id ∷ more else more)
+  keeps_new true id ids more is unmet same = absurd cc
+  keeps_new false id ids more is unmet same = ap (λ (t : Bool). if not t then id ∷ ids else ids) is ∙ ap (λ (t : List ℕ). if not (q id) then id ∷ t else t) same
+
+  filter_new : (ids : List ℕ) → AllByRecursion (λ (id : ℕ). p id ≡ false) ids → filter (λ (id : ℕ). not (r id)) ids ≡ filter (λ (id : ℕ). not (q id)) ids
+  filter_new [] none = refl
+  filter_new (id ∷ ids) none =
+      keeps_new (p id) id (filter (λ (j : ℕ). not (r j)) ids) (filter (λ (j : ℕ). not (q j)) ids) (both id) none.0 (filter_new ids none.1)
+
+  pub filter_behind : (ids new : List ℕ) → AllByRecursion (λ (id : ℕ). p id ≡ false) new
+      → filter (λ (id : ℕ). not (r id)) (ids ++ new) ≡ filter (λ (id : ℕ). not (q id)) (filter (λ (id : ℕ). not (p id)) ids ++ new)
+  filter_behind ids new none =
+      let left : List ℕ = filter (λ (id : ℕ). not (p id)) ids in
+      filter-append (λ (id : ℕ). not (r id)) ids new
+      ∙ (ap (λ (t : List ℕ). t ++ filter (λ (id : ℕ). not (r id)) new) (filter_same (λ (id : ℕ). not (r id)) (λ (id : ℕ). not (p id || q id)) ids (λ id. ap not (both id)) ∙ filter_twice p q ids)
+      ∙ (ap (λ (t : List ℕ). filter (λ (id : ℕ). not (q id)) left ++ t) (filter_new new none)
+      ∙ sym (filter-append (λ (id : ℕ). not (q id)) left new)))
 
 eqb_sym : (a b : ℕ) → eqb a b ≡ eqb b a
 eqb_sym a b = grind arith

@@ -1,6 +1,7 @@
 -- That the frames which a client takes are those of a conversation.
-use Rattle.std.proofs.Common.{◌≡◌, ℕ, Bool, true, false, IsTrue, not, leb, List, [], ◌∷◌, ◌++◌, Option, Some, None, map, refl, sym, ◌∙◌, ap, subst}
+use Rattle.std.proofs.Common.{◌≡◌, ℕ, Bool, true, false, IsTrue, not, leb, List, [], ◌∷◌, ◌++◌, Option, Some, None, map, refl, sym, ◌∙◌, ap, subst, ◌≤◌}
 use Rattle.std.proofs.lemmas.Bool.{not-false, not_from_true}
+use Rattle.std.specs.List.{AllByRecursion}
 use Rattle.std.specs.Prelude.{◌↔◌}
 use Rattle.ua_builtin.specs.Reasons.{first_reason, renamed_reason}
 use Rattle.ua_builtin.proofs.FirstReasons.{first_behind, first_reason-map}
@@ -10,8 +11,8 @@ use Rattle.ua_frame.specs.declared.kind.Kind.{Kind}
 use Rattle.ua_frame.specs.declared.kind.Kind.TheVariants.{Hel, Msg, Opn, Clo}
 use Rattle.ua_frame.specs.declared.kind.Kind.TheVariants as kind
 use Rattle.ua_frame.specs.declared.limits.Limits.{Limits}
-use Rattle.ua_frame.specs.After.{AllAfter}
-use Rattle.ua_frame.specs.Frames.{Frames}
+use Rattle.ua_frame.specs.After.{AllAfter, AllFrom}
+use Rattle.ua_frame.specs.Frames.{Frames, frame_size}
 use Rattle.ua_frame.specs.Kinds.{lets_in}
 use Rattle.ua_frame.specs.Messages.{ack}
 use Rattle.ua_frame.specs.FirstWrong.{FirstWrong}
@@ -26,7 +27,7 @@ use Rattle.ua_structures.specs.declared.secure_channel.OpenResponse.{OpenRespons
 use Rattle.ua_chunk.specs.declared.chunk.Chunk.{Chunk}
 use Rattle.ua_chunk.specs.Layout.{chunk_in}
 use Rattle.ua_chunk.specs.Opening.{is_none_policy, policy_of}
-use Rattle.ua_chunk.specs.Refusal.{message_refusal, reasons, refusal}
+use Rattle.ua_chunk.specs.Refusal.{message_refusal, reasons, refusal, TakesMessages}
 use Rattle.ua_chunk.specs.Sequence.{may_follow}
 use Rattle.ua_chunk.proofs.Numbers.{apart}
 use Rattle.ua_channel.specs.Asks.{Asking, Placed, asked_before, end_of, is_in, pending_calls}
@@ -37,7 +38,7 @@ use Rattle.ua_channel.specs.ClientTokens.{answer_behind, answer_in, channel_in, 
 use Rattle.ua_channel.specs.ClientTold.{Why, ours}
 use Rattle.ua_channel.specs.Content.{Content, Opening, content, content_by, opening_of, sends}
 use Rattle.ua_channel.specs.Content.Content.{Greets, Acks, Fails, Opens, Sends, Closes, Nothing}
-use Rattle.ua_channel.specs.Conversation.{AreOrdered}
+use Rattle.ua_channel.specs.Conversation.{AreOrdered, IsFramed}
 use Rattle.ua_channel.specs.Received.{Received, after, messages, number_listed, numbers, or_before, received}
 use Rattle.ua_channel.proofs.ClientChunks.{accepts}
 use Rattle.ua_channel.proofs.ClientTakes.{judged_reply}
@@ -61,8 +62,30 @@ numbers_there : (o : Opening) (a : OpenAnswer) → answer_in o ≡ Some a → (n
 unfolding answer_in
 numbers_there o a e = numbers_by o.numbers o.body a e
 
+-- for a channel and tokens that are the same, and where more is waited for
+pub response_as : (n m : Option ℕ) (ts us : List ℕ) (awaits more : ℕ → Bool) (o : Opening) → n ≡ m → ts ≡ us → ((id : ℕ) → awaits id ≡ true → more id ≡ true) → IsGoodResponse n ts awaits o → IsGoodResponse m us more o
+response_as n m ts us awaits more o p q wait g = record {
+  header = g.header;
+  security_is = g.security_is;
+  policy = g.policy;
+  response = g.response;
+  answer_is = g.answer_is;
+  good = g.good;
+  on = ap (λ (k : Option ℕ). is_other k g.response.channel_id) (sym p) ∙ g.on;
+  fresh = ap (is_in g.response.token_id) (sym q) ∙ g.fresh;
+  numbered = g.numbered;
+  numbers_are = g.numbers_are;
+  awaited = wait g.numbered.1 g.awaited;
+}
+
 module _ (limits : Limits) (asked : List Asking) (b : Received) where
-  response_good : (o : Opening) → first_reason (client_reasons limits b asked (Opens o)) ≡ None → IsGoodResponse b asked o
+  abbrev IsResponse : Opening → Type 0
+  IsResponse o = IsGoodResponse (channel_in (responses b.openings)) (held_tokens b) (is_awaited (responses b.openings) (opened_ids b.openings) asked) o
+
+  abbrev IsReply : Chunk → Type 0
+  IsReply c = IsGoodReply (channel_in (responses b.openings)) (held_tokens b) (pending_calls b.messages asked) c
+
+  response_good : (o : Opening) → first_reason (client_reasons limits b asked (Opens o)) ≡ None → IsResponse o
   response_good o e =
       let all = none_holds (client_reasons limits b asked (Opens o)) e in
       let header = some_there o.security all.0 in
@@ -89,7 +112,7 @@ module _ (limits : Limits) (asked : List Asking) (b : Received) where
   response_follows : (o : Opening) → first_reason (client_reasons limits b asked (Opens o)) ≡ None → AreOrdered b.last (number_listed o.numbers)
   response_follows o e = numbers_follow b.last o.numbers (none_holds (client_reasons limits b asked (Opens o)) e).1.1.1.1.1.1.1.0
 
-  response_taken : (o : Opening) → IsGoodResponse b asked o → AreOrdered b.last (number_listed o.numbers) → first_reason (client_reasons limits b asked (Opens o)) ≡ None
+  response_taken : (o : Opening) → IsResponse o → AreOrdered b.last (number_listed o.numbers) → first_reason (client_reasons limits b asked (Opens o)) ≡ None
   unfolding answer_in
   response_taken o g follow =
       let waited : of_numbers (λ n. not (is_awaited (responses b.openings) (opened_ids b.openings) asked n.1)) o.numbers ≡ false =
@@ -107,7 +130,7 @@ module _ (limits : Limits) (asked : List Asking) (b : Received) where
   unasked_of : Chunk → List (Why × Bool)
   unasked_of c = (ours 0x8009_0000, not (is_in c.request (pending_calls b.messages asked))) ∷ []
 
-  reply_good : (c : Chunk) → first_reason (client_reasons limits b asked (Sends c)) ≡ None → IsGoodReply b asked c
+  reply_good : (c : Chunk) → first_reason (client_reasons limits b asked (Sends c)) ≡ None → IsReply c
   unfolding ids_of rows_of unasked_of
   reply_good c e =
       let all = sym (judged_reply limits asked b c) ∙ e in
@@ -124,7 +147,7 @@ module _ (limits : Limits) (asked : List Asking) (b : Received) where
       (sym (first_reason-map why_of (reasons limits.max_message_size limits.max_chunk_count b.last b.messages c))
       ∙ none_first (rows_of c) (unasked_of c) (none_then (ids_of c) (rows_of c ++ unasked_of c) all)))
 
-  reply_taken : (c : Chunk) → IsGoodReply b asked c → may_follow b.last c.sequence ≡ true → message_refusal limits.max_message_size limits.max_chunk_count b.messages c ≡ None → first_reason (client_reasons limits b asked (Sends c)) ≡ None
+  reply_taken : (c : Chunk) → IsReply c → may_follow b.last c.sequence ≡ true → message_refusal limits.max_message_size limits.max_chunk_count b.messages c ≡ None → first_reason (client_reasons limits b asked (Sends c)) ≡ None
   unfolding ids_of rows_of unasked_of
   reply_taken c g follows good =
       let ids : first_reason (ids_of c) ≡ None = rw (g.on, g.held) refl in
@@ -184,12 +207,17 @@ nil_by None rs = tt
 nil_by (Some a) [] = tt
 nil_by (Some a) (r ∷ rs) = tt
 
+some_open : (a : Ack) (rs : List OpenResponse) (n : ℕ) (ks : List Kind) → channel_in rs ≡ Some n → IsClientOrderOpen ks → order_by (Some a) rs ks
+unfolding order_by
+some_open a [] n ks e order = absurd cc
+some_open a (r ∷ rs) n ks e order = order
+
 order_nil : (b : Received) → Order b []
 unfolding Order
 order_nil b = nil_by b.ack (responses b.openings)
 
 module _ (limits : Limits) (asked : List Asking) (b : Received) (f : Frame) (ks : List Kind) where
-  more_responses : (rs : List OpenResponse) (g : IsGoodResponse b asked (opening_of f.body)) → responses b.openings ≡ rs → responses (b.openings ++ opening_of f.body ∷ []) ≡ rs ++ g.response ∷ []
+  more_responses : (rs : List OpenResponse) (g : IsResponse limits asked b (opening_of f.body)) → responses b.openings ≡ rs → responses (b.openings ++ opening_of f.body ∷ []) ≡ rs ++ g.response ∷ []
   more_responses rs g r = responses-push b.openings (opening_of f.body) g.response g.answer_is ∙ ap (λ (t : List OpenResponse). t ++ g.response ∷ []) r
 
   msg_order : (found : Option Chunk) (o : Option Ack) (rs : List OpenResponse) → b.ack ≡ o → responses b.openings ≡ rs → Order (after b (sends found)) ks ↔ order_by o rs ks
@@ -268,6 +296,27 @@ module _ (limits : Limits) (asks : List Placed) where
     good = λ start f. good limits (asked_before (end_of start f) asks) (received start) (content f);
     accepted = λ start f. accepted limits (asked_before (end_of start f) asks) (received start) (content f);
   }
+
+  -- frames that come in order behind others where a channel is open, as they may come there, are taken
+  pub taken_open : (a : Ack) (n : ℕ) (start fs : List Frame) → (received start).ack ≡ Some a → channel_in (responses (received start).openings) ≡ Some n → IsClientOrderOpen (map (λ (f : Frame). f.kind) fs)
+      → AllByRecursion IsFramed fs → AllFrom (λ us f. frame_size f ≤ largest_taken (received us).ack) start fs
+      → AllFrom (λ us f. MayCarryBack limits (received us) (asked_before (end_of us f) asks) (content f)) start fs → AreOrdered (received start).last (numbers fs)
+      → TakesMessages limits.max_message_size limits.max_chunk_count (received start).messages (messages fs)
+      → AllFrom (Fits (client_rules limits asks)) start fs
+  unfolding IsPlaced
+  taken_open a n start fs said there order framed fits carries ordered fit =
+      taken (client_rules limits asks) limits (λ (f : Frame). f.kind) Order IsPlaced (λ b. largest_taken b.ack) (λ before f. MayCarryBack limits (received before) (asked_before (end_of before f) asks) (content f)) rules_converse start fs
+      (λ none. let never : Some a ≡ None = sym said ∙ none in absurd cc)
+      (record {
+        order =
+            (order_is (received start) (map (λ (f : Frame). f.kind) fs) (Some a) (responses (received start).openings) said refl).1
+            (some_open a (responses (received start).openings) n (map (λ (f : Frame). f.kind) fs) there order);
+        framed = framed;
+        fits = fits;
+        carries = carries;
+        ordered = ordered;
+        messages_fit = fit;
+      })
 
   nothing_there : responses (received []).openings ≡ []
   nothing_there = ap (λ (b : Received). responses b.openings) received-nil ∙ no_responses

@@ -538,6 +538,14 @@ module _ (limits : Limits) (asks : List Placed) (octets : List ℕ) (told : List
 
 -- ---- the answer to a renewal
 
+-- a token more is held
+pub held_renewed : (b : Received) (o : Opening) (r : OpenResponse) (newest : ℕ) → answer_in o ≡ Some (Open r) → latest (held_tokens b) ≡ Some newest → is_in r.token_id (held_tokens b) ≡ false
+    → held_tokens (after b (Opens o)) ≡ held_tokens b ++ r.token_id ∷ []
+unfolding held_tokens
+held_renewed b o r newest answers is fresh =
+    ap (λ (rs : List OpenResponse). held_by b.used (tokens_of rs)) (responses-push b.openings o r answers)
+    ∙ (ap (held_by b.used) (tokens_of-push (responses b.openings) r) ∙ held_by-push b.used r.token_id newest (tokens_of (responses b.openings)) is fresh)
+
 one_in : (id : ℕ) (ids : List ℕ) → ids ≡ id ∷ [] → is_in id ids ≡ true
 one_in id ids one = ap (is_in id) one ∙ ap (λ (b : Bool). b || false) (eq-eqb id id refl)
 
@@ -596,21 +604,9 @@ module _ (limits : Limits) (asks : List Placed) (octets : List ℕ) (told : List
   more_ids : opened_ids ((received r.frames).openings ++ p ∷ []) ≡ opened_ids (received r.frames).openings ++ id ∷ []
   more_ids = opened_ids-push (received r.frames).openings p (at.next, id) p_numbers
 
-  held_as : held_tokens (received r.frames) ≡ held_by (received r.frames).used (tokens_of (responses (received r.frames).openings))
-  unfolding held_tokens
-  held_as = refl
-
-  held_more : held_tokens (after (received r.frames) (Opens p)) ≡ held_by (received r.frames).used (tokens_of (responses ((received r.frames).openings ++ p ∷ [])))
-  unfolding held_tokens
-  held_more = refl
-
   tokens_more : held_tokens (after (received r.frames) (Opens p)) ≡ at.tokens ++ token ∷ []
   tokens_more =
-      held_more
-      ∙ (ap (λ (rs : List OpenResponse). held_by (received r.frames).used (tokens_of rs)) more_responses
-      ∙ (ap (held_by (received r.frames).used) (tokens_of-push (responses (received r.frames).openings) (open_response_of moment handle at.channel token lifetime))
-      ∙ (held_by-push (received r.frames).used token at.newest (tokens_of (responses (received r.frames).openings)) (ap latest (sym held_as ∙ r.tokens_are) ∙ r.newest_is) (ap (is_in token) (sym held_as) ∙ fresh_here)
-      ∙ ap (λ (ts : List ℕ). ts ++ token ∷ []) (sym held_as ∙ r.tokens_are))))
+      held_renewed (received r.frames) p (open_response_of moment handle at.channel token lifetime) at.newest p_answers (ap latest r.tokens_are ∙ r.newest_is) fresh_here ∙ ap (λ (ts : List ℕ). ts ++ token ∷ []) r.tokens_are
 
   id_before : id < next_id (asked_in asks)
   id_before = renewal_below (next_id (asked_in asks)) id (opened_ids (received r.frames).openings) (asked_in asks) r.asked_below (one_in id _ (r.renewals_are ∙ one))

@@ -52,12 +52,8 @@ mod MergedChunks
 mod MergedFrames
 mod ServerMerges
 mod ClientMerges
-mod MergedFollowing
 pub mod Groups
 mod Connected
 mod ExampleRounds
-mod MergedLists
-mod ServerMergesOn
-mod ClientMergesOn
 mod AskedOn
 mod AskedBefore

@@ -1,9 +1,9 @@
 -- What each chunk of merged messages delivers, also behind chunks that leave nothing unfinished; and that merged messages leave nothing
 -- unfinished.
-use Rattle.std.proofs.Common.{◌≡◌, ℕ, ◌≤◌, Bool, true, false, cond, not, ◌||◌, eqb, List, [], ◌∷◌, ◌++◌, Option, Some, None, length, map, refl, sym, ◌∙◌, ap, subst, arith, append-nil, append_assoc, length-append}
+use Rattle.std.proofs.Common.{◌≡◌, ℕ, ◌≤◌, Bool, true, false, cond, not, ◌||◌, eqb, List, [], ◌∷◌, ◌++◌, Option, Some, None, length, map, refl, sym, ◌∙◌, ap, subst, arith, append-nil, append_assoc, length-append, ◌&&◌}
 use Rattle.std.specs.List.{filter, list_any}
-use Rattle.std.proofs.lemmas.Bool.{eq-eqb, or_right}
-use Rattle.std.proofs.lemmas.List.{append_cancel_left, append_cancel_right, length-map}
+use Rattle.std.proofs.lemmas.Bool.{eq-eqb, or_right, or_from}
+use Rattle.std.proofs.lemmas.List.{append_cancel_left, append_cancel_right, length-map, map-append}
 use Rattle.std.proofs.lemmas.List.Concat.{flat_map-append}
 use Rattle.ua_builtin.specs.declared.status_code.StatusCode.{StatusCode}
 use Rattle.ua_frame.specs.After.{AllFrom, each_after}
@@ -16,17 +16,19 @@ use Rattle.ua_chunk.specs.Delivered.{aborted, delivered, delivered_behind, given
 use Rattle.ua_chunk.specs.Flag.{is_more_flag}
 use Rattle.ua_chunk.specs.Gathered.{after_last, ends, is_more, is_of}
 use Rattle.ua_chunk.specs.Item.{Item}
-use Rattle.ua_chunk.specs.Merge.{IsMerge, Part, Sent, id_of, last_part, more_part, outcome_by, outcome_under, outcomes, part_of, parts_under, sent_under}
+use Rattle.ua_chunk.specs.Merge.{IsMerge, Part, Sent, id_of, last_part, more_part, outcome_by, outcome_under, outcomes, part_of, parts_under, sent_under, is_item_of}
 use Rattle.ua_chunk.specs.Open.{open_ids}
 use Rattle.ua_chunk.specs.Pending.{without}
 use Rattle.ua_chunk.specs.Refusal.{TakesMessages, message_refusal}
 use Rattle.ua_chunk.proofs.Fresh.{fresh, fresh_message}
 use Rattle.ua_chunk.proofs.Interleaved.{merge_by_id}
 use Rattle.ua_chunk.proofs.Lists.{filter_append}
+use Rattle.ua_chunk.proofs.Once.{once}
 use Rattle.ua_chunk.proofs.Merged.{merged, messages_behind}
 use Rattle.ua_chunk.proofs.OneMore.{delivered_push, open_push}
 use Rattle.ua_chunk.proofs.ReaderLaws.{open_is_unfinished}
 use Rattle.ua_chunk.proofs.Taken.{delivered_ids}
+use Rattle.ua_channel.specs.Asks.{is_finished}
 use Rattle.ua_channel.specs.Merges.{AreMerged, ended_by}
 use Rattle.ua_channel.proofs.ReadOn.{each_append}
 
@@ -182,6 +184,45 @@ open_behind base us (c ∷ rest) e =
     ∙ sym (open_push us c))) in
     subst (λ (t : List Chunk). open_ids (base ++ t) ≡ open_ids t) (append_assoc us (c ∷ []) rest) (open_behind base (us ++ c ∷ []) rest next)
 
+-- ---- each stands before the end of its message
+
+no_more : (xs ys : List Chunk) (c : Chunk) → map part_of (xs ++ c ∷ ys) ≡ [] → ⊥
+no_more [] ys c e = cc
+no_more (x ∷ xs) ys c e = cc
+
+-- before a part of a message its parts are C's
+unended_parts : (id : ℕ) (ps : List (List ℕ)) (z : Part) (xs ys : List Chunk) (c : Chunk) → map part_of (xs ++ c ∷ ys) ≡ map (more_part id) ps ++ z ∷ [] → list_any ends xs ≡ false
+unended_parts id ps z [] ys c e = refl
+unended_parts id [] z (x ∷ xs) ys c e = absurd (no_more xs ys c cc)
+unended_parts id (p ∷ ps) z (x ∷ xs) ys c e =
+    let first : part_of x ≡ more_part id p = cc in
+    or_from (ends x) (list_any ends xs) (ap (λ (q : Part). not (is_more_flag q.flag)) first) (unended_parts id ps z xs ys c cc)
+
+unended_under : (o : Option Sent) (xs ys : List Chunk) (c : Chunk) → map part_of (xs ++ c ∷ ys) ≡ parts_under o → list_any ends xs ≡ false
+unended_under None xs ys c e = absurd (no_more xs ys c e)
+unended_under (Some m) xs ys c e = unended_parts m.request m.pieces (last_part m) xs ys c e
+
+ended_step : (b e : Bool) (c : Chunk) (f : List Chunk) (any : Bool) → ends c ≡ e → any ≡ list_any ends f → ((b && e) || any) ≡ list_any ends (cond b (c ∷ f) f)
+ended_step true e c f any is same = ap (λ (t : Bool). t || any) (sym is) ∙ ap (λ (t : Bool). ends c || t) same
+ended_step false e c f any is same = same
+
+ended_own : (id : ℕ) (cs : List Chunk) → is_finished cs id ≡ list_any ends (filter (is_of id) cs)
+ended_own id [] = refl
+ended_own id (c ∷ cs) = ended_step (is_of id c) (ends c) c (filter (is_of id) cs) (is_finished cs id) refl (ended_own id cs)
+
+own_chunks : (id : ℕ) (us rest : List Chunk) (c : Chunk) → c.request ≡ id → filter (is_of id) (us ++ c ∷ rest) ≡ filter (is_of id) us ++ c ∷ filter (is_of id) rest
+own_chunks id us rest c is =
+    filter_append (is_of id) us (c ∷ rest) ∙ ap (λ (b : Bool). filter (is_of id) us ++ cond b (c ∷ filter (is_of id) rest) (filter (is_of id) rest)) (eq-eqb c.request id is)
+
+unfinished : (ms : List Sent) (us cs : List Chunk) → IsMerge ms (us ++ cs) → AllFrom (λ vs c. is_finished vs c.request ≡ false) us cs
+unfinished ms us [] merge = tt
+unfinished ms us (c ∷ cs) merge =
+    let own : map part_of (filter (is_of c.request) us ++ c ∷ filter (is_of c.request) cs) ≡ parts_under (sent_under c.request ms) =
+    ap (map part_of) (sym (own_chunks c.request us cs c refl)) ∙ merge c.request in (
+      ended_own c.request us ∙ unended_under (sent_under c.request ms) (filter (is_of c.request) us) (filter (is_of c.request) cs) c own,
+      unfinished ms (us ++ c ∷ []) cs (subst (IsMerge ms) (sym (append_assoc us (c ∷ []) cs)) merge),
+    )
+
 -- ---- merged messages
 
 -- what is used of merged messages
@@ -190,6 +231,7 @@ pub record Comes (limits : Limits) (ms : List Sent) (cs : List Chunk) : Type 0 w
   pub each : EachEnds ms [] cs
   pub all : delivered cs ≡ outcomes ms cs
   pub own : IsMerge ms cs
+  pub unended : AllFrom (λ us c. is_finished us c.request ≡ false) [] cs
   pub none_open : open_ids cs ≡ []
 
 pub comes : (limits : Limits) (ms : List Sent) (cs : List Chunk) → AreMerged limits ms cs → Comes limits ms cs
@@ -202,6 +244,7 @@ comes limits ms cs m =
       each = each_ends limits.max_message_size limits.max_chunk_count ms [] cs taken all;
       all = all;
       own = merge;
+      unended = unfinished ms [] cs merge;
       none_open =
           open_none (open_ids cs)
           (λ id. (open_is_unfinished id cs).1 (closed_under (sent_under id ms) (filter (is_of id) cs) (λ n found. (m.within id n found).ending) (merge id)));
@@ -218,3 +261,31 @@ takes_fresh octets chunks base us (c ∷ cs) none h = (
 -- and leave nothing unfinished there where they leave nothing alone
 pub closed_fresh : (base cs : List Chunk) → open_ids base ≡ [] → open_ids cs ≡ [] → open_ids (base ++ cs) ≡ []
 closed_fresh base cs none end = open_behind base [] cs (ap open_ids (append-nil base) ∙ none) ∙ end
+
+-- ---- what is told of them
+
+-- what is found in what was told of them alone, where in all that was told is found what all chunks deliver
+pub told_new : {E B : Type 0} (found : List E → List B) (name : Item → B) (had told : List E) (base cs : List Chunk) (items : List Item) → found (had ++ told) ≡ found had ++ found told → open_ids base ≡ []
+    → delivered cs ≡ items → found had ≡ map name (delivered base) → found (had ++ told) ≡ map name (delivered (base ++ cs))
+    → found told ≡ map name items
+told_new {B = B} found name had told base cs items apart none all old new =
+    append_cancel_left (found had) (found told) (map name items)
+    (sym apart
+    ∙ (new
+    ∙ (ap (map name) (fresh base cs none ∙ ap (λ (t : List Item). delivered base ++ t) all)
+    ∙ (map-append name (delivered base) items ∙ ap (λ (t : List B). t ++ map name items) (sym old)))))
+
+kept_or_not : {A B : Type 0} (name : A → B) (b : Bool) (x : A) (xs : List A) → cond b (name x ∷ map name xs) (map name xs) ≡ map name (cond b (x ∷ xs) xs)
+kept_or_not name true x xs = refl
+kept_or_not name false x xs = refl
+
+names_kept : {A B : Type 0} (name : A → B) (p : B → Bool) (q : A → Bool) → ((x : A) → p (name x) ≡ q x) → (xs : List A) → filter p (map name xs) ≡ map name (filter q xs)
+names_kept name p q same [] = refl
+names_kept name p q same (x ∷ xs) = rw (same x, names_kept name p q same xs) (kept_or_not name (q x) x (filter q xs))
+
+-- under each request id the outcome of its message stands once
+pub outcomes_once : {B : Type 0} (limits : Limits) (ms : List Sent) (cs : List Chunk) (m : AreMerged limits ms cs) (name : Item → B) (p : B → Bool) (id : ℕ) → ((d : Item) → p (name d) ≡ is_item_of id d)
+    → filter p (map name (outcomes ms cs)) ≡ map name (outcome_under (sent_under id ms))
+outcomes_once limits ms cs m name p id names =
+    names_kept name p (is_item_of id) names (outcomes ms cs)
+    ∙ (ap (λ (items : List Item). map name (filter (is_item_of id) items)) (sym (comes limits ms cs m).all) ∙ ap (map name) (once ms cs id (comes limits ms cs m).own))

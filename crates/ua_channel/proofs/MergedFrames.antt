@@ -1,130 +1,165 @@
--- What frames that carry chunks and openings bring behind other frames.
-use Rattle.std.proofs.Common.{◌≡◌, ℕ, Bool, true, false, cond, List, [], ◌∷◌, ◌++◌, Option, Some, None, map, refl, sym, ◌∙◌, ap, subst, append-nil, append_assoc}
-use Rattle.std.specs.List.{AllByRecursion, filter, flat_map}
+-- What frames of a merge bring, one after the other, and what is so of each of them behind those before it.
+use Rattle.std.proofs.Common.{◌≡◌, ℕ, ◌≤◌, true, List, [], ◌∷◌, ◌++◌, Option, None, refl, sym, ◌∙◌, ap, subst, arith, append-nil, append_assoc}
+use Rattle.std.specs.List.{AllByRecursion}
+use Rattle.std.proofs.lemmas.List.{flat_map_more}
 use Rattle.std.proofs.lemmas.List.Concat.{flat_map-append}
+use Rattle.ua_frame.specs.After.{AllFrom, each_from}
+use Rattle.ua_frame.specs.Frames.{frame_size}
 use Rattle.ua_frame.specs.declared.frame.Frame.{Frame}
-use Rattle.ua_frame.specs.declared.limits.Limits.{Limits}
+use Rattle.ua_chunk.specs.Sequence.{may_follow}
 use Rattle.ua_chunk.specs.declared.chunk.Chunk.{Chunk}
-use Rattle.ua_chunk.specs.Merge.{Sent}
-use Rattle.ua_chunk.specs.Open.{open_ids}
-use Rattle.ua_chunk.specs.Refusal.{TakesMessages, message_refusal}
 use Rattle.ua_channel.specs.Content.{Content, Opening, content}
 use Rattle.ua_channel.specs.Content.Content.{Greets, Acks, Fails, Opens, Sends, Closes, Nothing}
-use Rattle.ua_channel.specs.Conversation.{AreOrdered, FitMessages}
-use Rattle.ua_channel.specs.Merges.{AreMerged, IsChunkOrOpening}
-use Rattle.ua_channel.specs.Received.{Received, after, chunks_in, closings, closings_in, has_some, latest, latest_behind, messages, numbers, numbers_in, openings_in, received}
-use Rattle.ua_channel.proofs.Conversing.{messages_fit}
-use Rattle.ua_channel.proofs.MergedChunks.{EachEnds, closed_fresh, comes, takes_fresh}
-use Rattle.ua_channel.proofs.ReadOn.{all_append}
+use Rattle.ua_channel.specs.Conversation.{AreOrdered}
+use Rattle.ua_channel.specs.Merges.{CarriesEither, NumbersGoOn, latest_or}
+use Rattle.ua_channel.specs.Received.{Received, after, chunks_in, latest, latest_behind, messages, numbers, numbers_in, openings, openings_in, received, tokens_in, used_tokens}
+use Rattle.ua_channel.proofs.Askings.{all_append}
+use Rattle.ua_channel.proofs.OneFrameMore.{behind_append, received-push}
+use Rattle.ua_channel.proofs.ReadOn.{all_behind}
 
--- ---- the lists that frames brought
+-- ---- the last of numbers
 
-pub messages-append : (before more : List Frame) → messages (before ++ more) ≡ messages before ++ messages more
-unfolding messages
-messages-append before more = flat_map-append (λ (f : Frame). chunks_in (content f)) before more
+pub latest_or-append : (n : ℕ) (ms more : List ℕ) → latest_or n (ms ++ more) ≡ latest_or (latest_or n ms) more
+latest_or-append n [] more = refl
+latest_or-append n (m ∷ ms) more = latest_or-append m ms more
 
-pub numbers-append : (before more : List Frame) → numbers (before ++ more) ≡ numbers before ++ numbers more
-unfolding numbers
-numbers-append before more = flat_map-append (λ (f : Frame). numbers_in (content f)) before more
-
-closings-append : (before more : List Frame) → closings (before ++ more) ≡ closings before ++ closings more
-unfolding closings
-closings-append before more = flat_map-append (λ (f : Frame). closings_in (content f)) before more
-
-pub messages_are : (frames : List Frame) → (received frames).messages ≡ messages frames
-unfolding received
-messages_are frames = refl
-
--- the chunks of messages behind others
-pub messages_behind : (before more : List Frame) → (received (before ++ more)).messages ≡ (received before).messages ++ messages more
-messages_behind before more = messages_are (before ++ more) ∙ (messages-append before more ∙ ap (λ (cs : List Chunk). cs ++ messages more) (sym (messages_are before)))
-
--- ---- by what a frame carries
-
--- what holds of openings and of chunks
-pub of_either : (P : Content → Type 0) → ((o : Opening) → P (Opens o)) → ((c : Chunk) → P (Sends c)) → (k : Content) → IsChunkOrOpening k → P k
-of_either P opens sends (Greets hello) is = absurd is
-of_either P opens sends (Acks ack) is = absurd is
-of_either P opens sends (Fails error) is = absurd is
-of_either P opens sends (Opens o) is = opens o
-of_either P opens sends (Sends c) is = sends c
-of_either P opens sends (Closes c) is = absurd is
-of_either P opens sends Nothing is = absurd is
-
--- ---- no close
-
-no_closing : (k : Content) → IsChunkOrOpening k → closings_in k ≡ []
-no_closing k is = of_either (λ (d : Content). closings_in d ≡ []) (λ o. refl) (λ c. refl) k is
-
-no_closings : (frames : List Frame) → AllByRecursion (λ (f : Frame). IsChunkOrOpening (content f)) frames → closings frames ≡ []
-unfolding closings
-no_closings [] order = refl
-no_closings (f ∷ frames) order = ap (λ (cs : List Chunk). cs ++ flat_map (λ (g : Frame). closings_in (content g)) frames) (no_closing (content f) order.0) ∙ no_closings frames order.1
-
--- a channel that goes on goes on behind them
-pub goes_on : (before more : List Frame) → AllByRecursion (λ (f : Frame). IsChunkOrOpening (content f)) more → (received before).closed ≡ false → (received (before ++ more)).closed ≡ false
-unfolding received
-goes_on before more order on =
-    ap has_some (closings-append before more ∙ (ap (λ (cs : List Chunk). closings before ++ cs) (no_closings more order) ∙ append-nil (closings before))) ∙ on
-
--- ---- numbers
-
-pub last_is : (frames : List Frame) → (received frames).last ≡ latest (numbers frames)
+last_is : (frames : List Frame) → (received frames).last ≡ latest (numbers frames)
 unfolding received
 last_is frames = refl
 
-ordered_on : (last : Option ℕ) (ns more : List ℕ) → AreOrdered last ns → AreOrdered (latest_behind last ns) more → AreOrdered last (ns ++ more)
-ordered_on last [] more h k = k
-ordered_on last (n ∷ ns) more h k = (h.0, ordered_on (Some n) ns more h.1 k)
+numbers-append : (before more : List Frame) → numbers (before ++ more) ≡ numbers before ++ numbers more
+unfolding numbers
+numbers-append before more = flat_map-append (λ (f : Frame). numbers_in (content f)) before more
 
--- numbers that go on behind others
-pub ordered_behind : (before more : List Frame) → AreOrdered None (numbers before) → AreOrdered (received before).last (numbers more) → AreOrdered None (numbers (before ++ more))
-ordered_behind before more h k =
-    subst (AreOrdered None) (sym (numbers-append before more))
-    (ordered_on None (numbers before) (numbers more) h (subst (λ (o : Option ℕ). AreOrdered o (numbers more)) (last_is before) k))
+last_behind : (before more : List Frame) → (received (before ++ more)).last ≡ latest_behind (received before).last (numbers more)
+last_behind before more =
+    last_is (before ++ more)
+    ∙ (ap latest (numbers-append before more)
+    ∙ (behind_append None (numbers before) (numbers more)
+    ∙ ap (λ (o : Option ℕ). latest_behind o (numbers more)) (sym (last_is before))))
 
--- ---- messages
+-- numbers that go on from the next one are in order behind the last one before it
+pub goes_ordered : (last : Option ℕ) (next after : ℕ) (ns : List ℕ) → may_follow last next ≡ true → NumbersGoOn next ns after → AreOrdered last ns
+goes_ordered last next after [] follows g = tt
+goes_ordered last next after (n ∷ ns) follows g = (ap (may_follow last) g.0 ∙ follows, g.1)
 
--- merged messages fit behind messages of which none is unfinished
-pub fit_behind : (limits : Limits) (before more : List Frame) (ms : List Sent) → FitMessages limits (messages before) → open_ids (received before).messages ≡ [] → AreMerged limits ms (messages more)
-    → FitMessages limits (messages (before ++ more))
-fit_behind limits before more ms fit none merged =
-    let end : open_ids (messages before) ≡ [] = ap open_ids (sym (messages_are before)) ∙ none in
-    let behind : TakesMessages limits.max_message_size limits.max_chunk_count (messages before) (messages more) =
-    subst (λ (us : List Chunk). TakesMessages limits.max_message_size limits.max_chunk_count us (messages more)) (append-nil (messages before))
-    (takes_fresh limits.max_message_size limits.max_chunk_count (messages before) [] (messages more) end (comes limits ms (messages more) merged).taken) in
-    (messages_fit limits (messages (before ++ more))).0
-    (subst (TakesMessages limits.max_message_size limits.max_chunk_count []) (sym (messages-append before more))
-    (all_append (λ us c. message_refusal limits.max_message_size limits.max_chunk_count us c ≡ None) [] (messages before) (messages more) ((messages_fit limits (messages before)).1 fit) behind))
+goes_behind : (last : Option ℕ) (next after : ℕ) (ns : List ℕ) → may_follow last next ≡ true → NumbersGoOn next ns after → may_follow (latest_behind last ns) after ≡ true
+goes_behind last next after [] follows g = ap (may_follow last) g ∙ follows
+goes_behind last next after (n ∷ ns) follows g = g.2
 
--- and leave none unfinished
-pub closed_behind : (limits : Limits) (before more : List Frame) (ms : List Sent) → open_ids (received before).messages ≡ [] → AreMerged limits ms (messages more)
-    → open_ids (received (before ++ more)).messages ≡ []
-closed_behind limits before more ms none merged =
-    ap open_ids (messages_behind before more) ∙ closed_fresh (received before).messages (messages more) none (comes limits ms (messages more) merged).none_open
+-- and the one after them may follow the last
+pub goes_follows : (before more : List Frame) (next after : ℕ) → may_follow (received before).last next ≡ true → NumbersGoOn next (numbers more) after → may_follow (received (before ++ more)).last after ≡ true
+goes_follows before more next after follows g = ap (λ (o : Option ℕ). may_follow o after) (last_behind before more) ∙ goes_behind (received before).last next after (numbers more) follows g
 
--- ---- names
+pub goes_small : (next after : ℕ) (ns : List ℕ) → next ≤ 4294966272 → NumbersGoOn next ns after → after ≤ 4294966272
+goes_small next after [] small g = omega (arith, small, g)
+goes_small next after (n ∷ ns) small g = g.3
 
-kept_or_not : {A B : Type 0} (name : A → B) (b : Bool) (x : A) (xs : List A) → cond b (name x ∷ map name xs) (map name xs) ≡ map name (cond b (x ∷ xs) xs)
-kept_or_not name true x xs = refl
-kept_or_not name false x xs = refl
+-- ---- the lists that frames brought
 
--- the names of the same are kept
-pub names_kept : {A B : Type 0} (name : A → B) (p : B → Bool) (q : A → Bool) → ((x : A) → p (name x) ≡ q x) → (xs : List A) → filter p (map name xs) ≡ map name (filter q xs)
-names_kept name p q same [] = refl
-names_kept name p q same (x ∷ xs) = rw (same x, names_kept name p q same xs) (kept_or_not name (q x) x (filter q xs))
+pub openings-more : (fs : List Frame) (f : Frame) → openings (fs ++ f ∷ []) ≡ openings fs ++ openings_in (content f)
+unfolding openings
+openings-more fs f = sym (flat_map_more (λ (g : Frame). openings_in (content g)) [] fs f)
 
--- ---- one frame more
+tokens-more : (fs : List Frame) (f : Frame) → used_tokens (fs ++ f ∷ []) ≡ used_tokens fs ++ tokens_in (content f)
+unfolding used_tokens
+tokens-more fs f = sym (flat_map_more (λ (g : Frame). tokens_in (content g)) [] fs f)
 
-pub openings_then : (b : Received) (k : Content) → IsChunkOrOpening k → (after b k).openings ≡ b.openings ++ openings_in k
-openings_then b k is = of_either (λ (d : Content). (after b d).openings ≡ b.openings ++ openings_in d) (λ o. refl) (λ c. sym (append-nil b.openings)) k is
+messages-more : (fs : List Frame) (f : Frame) → messages (fs ++ f ∷ []) ≡ messages fs ++ chunks_in (content f)
+unfolding messages
+messages-more fs f = sym (flat_map_more (λ (g : Frame). chunks_in (content g)) [] fs f)
 
--- where base stood before merged messages, and these of their chunks came
-pub messages_then : (base us : List Chunk) (b : Received) (k : Content) → IsChunkOrOpening k → b.messages ≡ base ++ us → (after b k).messages ≡ base ++ (us ++ chunks_in k)
-messages_then base us b k is now =
-    of_either (λ (d : Content). (after b d).messages ≡ base ++ (us ++ chunks_in d)) (λ o. now ∙ ap (λ (cs : List Chunk). base ++ cs) (sym (append-nil us)))
-    (λ c. ap (λ (cs : List Chunk). cs ++ c ∷ []) now ∙ append_assoc base us (c ∷ [])) k is
+-- no frames brought nothing
+nothing_yet : (P : List ℕ → List Opening → List Chunk → Type 0) → P [] [] [] → P (used_tokens []) (openings []) (messages [])
+unfolding used_tokens openings messages
+nothing_yet P h = h
 
-pub ends_then : (ms : List Sent) (us rest : List Chunk) (k : Content) → IsChunkOrOpening k → EachEnds ms us (chunks_in k ++ rest) → EachEnds ms (us ++ chunks_in k) rest
-ends_then ms us rest k is =
-    of_either (λ (d : Content). EachEnds ms us (chunks_in d ++ rest) → EachEnds ms (us ++ chunks_in d) rest) (λ o all. subst (λ (cs : List Chunk). EachEnds ms cs rest) (sym (append-nil us)) all) (λ c all. all.1) k is
+-- ---- what a frame of a merge carries
+
+-- what holds of such openings and of such chunks
+pub of_either : (opens : Opening → Type 0) (sends : Chunk → Type 0) (P : Content → Type 0) → ((o : Opening) → opens o → P (Opens o)) → ((c : Chunk) → sends c → P (Sends c)) → (k : Content)
+    → CarriesEither opens sends k → P k
+of_either opens sends P h g (Greets hello) is = absurd is
+of_either opens sends P h g (Acks ack) is = absurd is
+of_either opens sends P h g (Fails error) is = absurd is
+of_either opens sends P h g (Opens o) is = h o is
+of_either opens sends P h g (Sends c) is = g c is
+of_either opens sends P h g (Closes c) is = absurd is
+of_either opens sends P h g Nothing is = absurd is
+
+-- what holds of the chunks of each frame holds of those of all
+pub each_chunk : (May : List Frame → Frame → Type 0) (P : Chunk → Type 0) → ((us : List Frame) (f : Frame) → May us f → AllByRecursion P (chunks_in (content f))) → (us fs : List Frame) → AllFrom May us fs
+    → AllByRecursion P (messages fs)
+unfolding messages
+each_chunk May P one us [] may = tt
+each_chunk May P one us (f ∷ fs) may = all_append P (chunks_in (content f)) (messages fs) (one us f may.0) (each_chunk May P one (us ++ f ∷ []) fs may.1)
+
+pub sized : (size : ℕ) (May : List Frame → Frame → Type 0) (us fs : List Frame) → AllByRecursion (λ (f : Frame). frame_size f ≤ size) fs → AllFrom May us fs → AllFrom (λ vs f. (frame_size f ≤ size) × May vs f) us fs
+sized size May us [] fits may = tt
+sized size May us (f ∷ fs) fits may = ((fits.0, may.0), sized size May (us ++ f ∷ []) fs fits.1 may.1)
+
+-- ---- along the frames of a merge
+
+module _ (C : List Chunk → Chunk → Type 0) (us : List Frame) (f : Frame) (fs : List Frame) (all : AllFrom C (messages us) (messages (f ∷ fs))) where
+  chunks_here : AllFrom C (messages us) (chunks_in (content f) ++ messages fs)
+  unfolding messages
+  chunks_here = all
+
+  chunks_behind : AllFrom C (messages (us ++ f ∷ [])) (messages fs)
+  chunks_behind = subst (λ (t : List Chunk). AllFrom C t (messages fs)) (sym (messages-more us f)) (all_behind C (messages us) (chunks_in (content f)) (messages fs) chunks_here)
+
+-- where these frames come behind others: what is known behind each of them, by what was received and by the tokens, openings and chunks of those
+-- of them that came
+module _ (before : List Frame) (Here : Received → List ℕ → List Opening → List Chunk → Type 0) (May : List Frame → Frame → Type 0)
+    (step : (b : Received) (us : List Frame) (f : Frame) → May us f → Here b (used_tokens us) (openings us) (messages us)
+    → Here (after b (content f)) (used_tokens us ++ tokens_in (content f)) (openings us ++ openings_in (content f)) (messages us ++ chunks_in (content f))) where
+  abbrev pub IsAt : List Frame → Type 0
+  IsAt us = Here (received (before ++ us)) (used_tokens us) (openings us) (messages us)
+
+  then_at : (us : List Frame) (f : Frame) → May us f → IsAt us → IsAt (us ++ f ∷ [])
+  then_at us f may h =
+      let now : received (before ++ (us ++ f ∷ [])) ≡ after (received (before ++ us)) (content f) = ap received (sym (append_assoc before us (f ∷ []))) ∙ received-push (before ++ us) f in
+      rw (now, tokens-more us f, openings-more us f, messages-more us f) (step (received (before ++ us)) us f may h)
+
+  module _ (C : List Chunk → Chunk → Type 0) where
+    along : (Q : List Frame → Frame → Type 0) → ((us : List Frame) (f : Frame) (rest : List Chunk) → May us f → IsAt us → AllFrom C (messages us) (chunks_in (content f) ++ rest) → Q (before ++ us) f) → (us fs : List Frame)
+        → IsAt us → AllFrom May us fs → AllFrom C (messages us) (messages fs) → AllFrom Q (before ++ us) fs
+    along Q one us [] h may cs = tt
+    along Q one us (f ∷ fs) h may cs = (
+      one us f (messages fs) may.0 h (chunks_here C us f fs cs),
+      subst (λ (t : List Frame). AllFrom Q t fs) (sym (append_assoc before us (f ∷ []))) (along Q one (us ++ f ∷ []) fs (then_at us f may.0 h) may.1 (chunks_behind C us f fs cs)),
+    )
+
+    told_along : {E : Type 0} (tells told : List Frame → Frame → List E)
+        → ((us : List Frame) (f : Frame) (rest : List Chunk) → May us f → IsAt us → AllFrom C (messages us) (chunks_in (content f) ++ rest) → tells (before ++ us) f ≡ told us f) → (us fs : List Frame)
+        → IsAt us → AllFrom May us fs → AllFrom C (messages us) (messages fs) → each_from tells (before ++ us) fs ≡ each_from told us fs
+    told_along tells told one us [] h may cs = refl
+    told_along {E = E} tells told one us (f ∷ fs) h may cs =
+        ap (λ (ts : List E). ts ++ each_from tells ((before ++ us) ++ f ∷ []) fs) (one us f (messages fs) may.0 h (chunks_here C us f fs cs))
+        ∙ ap (λ (ts : List E). told us f ++ ts)
+        (ap (λ (t : List Frame). each_from tells t fs) (append_assoc before us (f ∷ [])) ∙ told_along tells told one (us ++ f ∷ []) fs (then_at us f may.0 h) may.1 (chunks_behind C us f fs cs))
+
+  ends_at : (us fs : List Frame) → IsAt us → AllFrom May us fs → IsAt (us ++ fs)
+  ends_at us [] h may = subst (λ (t : List Frame). IsAt t) (sym (append-nil us)) h
+  ends_at us (f ∷ fs) h may = subst (λ (t : List Frame). IsAt t) (append_assoc us (f ∷ []) fs) (ends_at (us ++ f ∷ []) fs (then_at us f may.0 h) may.1)
+
+  module _ (fs : List Frame) (h : Here (received before) [] [] []) (may : AllFrom May [] fs) where
+    first : IsAt []
+    first = nothing_yet (λ ts os cs. Here (received (before ++ [])) ts os cs) (subst (λ (t : List Frame). Here (received t) [] [] []) (sym (append-nil before)) h)
+
+    -- what is known behind all of them
+    pub at_end : Here (received (before ++ fs)) (used_tokens fs) (openings fs) (messages fs)
+    at_end = ends_at [] fs first may
+
+    module _ (C : List Chunk → Chunk → Type 0) (cs : AllFrom C [] (messages fs)) where
+      from_first : AllFrom C (messages []) (messages fs)
+      from_first = nothing_yet (λ ts os us. AllFrom C us (messages fs)) cs
+
+      -- what is so of each of them
+      pub each_along : (Q : List Frame → Frame → Type 0) → ((us : List Frame) (f : Frame) (rest : List Chunk) → May us f → IsAt us → AllFrom C (messages us) (chunks_in (content f) ++ rest) → Q (before ++ us) f) → AllFrom Q before fs
+      each_along Q one = subst (λ (t : List Frame). AllFrom Q t fs) (append-nil before) (along C Q one [] fs first may from_first)
+
+      -- and what they tell
+      pub all_told : {E : Type 0} (tells told : List Frame → Frame → List E)
+          → ((us : List Frame) (f : Frame) (rest : List Chunk) → May us f → IsAt us → AllFrom C (messages us) (chunks_in (content f) ++ rest) → tells (before ++ us) f ≡ told us f) → each_from tells before fs ≡ each_from told [] fs
+      all_told tells told one = ap (λ (t : List Frame). each_from tells t fs) (sym (append-nil before)) ∙ told_along C tells told one [] fs first may from_first

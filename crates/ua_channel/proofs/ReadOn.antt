@@ -16,6 +16,10 @@ pub all_append : {A : Type 0} (P : List A → A → Type 0) (start xs ys : List 
 all_append {A = A} P start [] ys h k = subst (λ (t : List A). AllFrom P t ys) (append-nil start) k
 all_append {A = A} P start (x ∷ xs) ys h k = (h.0, all_append P (start ++ x ∷ []) xs ys h.1 (subst (λ (t : List A). AllFrom P t ys) (sym (append_assoc start (x ∷ []) xs)) k))
 
+pub all_behind : {A : Type 0} (P : List A → A → Type 0) (start xs ys : List A) → AllFrom P start (xs ++ ys) → AllFrom P (start ++ xs) ys
+all_behind {A = A} P start [] ys h = subst (λ (t : List A). AllFrom P t ys) (sym (append-nil start)) h
+all_behind {A = A} P start (x ∷ xs) ys h = subst (λ (t : List A). AllFrom P t ys) (append_assoc start (x ∷ []) xs) (all_behind P (start ++ x ∷ []) xs ys h.1)
+
 pub each_append : {A B : Type 0} (g : List A → A → List B) (start xs ys : List A) → each_from g start (xs ++ ys) ≡ each_from g start xs ++ each_from g (start ++ xs) ys
 each_append {A = A} g start [] ys = ap (λ (t : List A). each_from g t ys) (sym (append-nil start))
 each_append {A = A} {B = B} g start (x ∷ xs) ys =

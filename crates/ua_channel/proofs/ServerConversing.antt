@@ -1,6 +1,7 @@
 -- That the frames which a server takes are those of a conversation.
-use Rattle.std.proofs.Common.{◌≡◌, ◌⊎◌, inl, inr, ℕ, zero, suc, pos, int_eq, Bool, true, false, IsTrue, not, ◌&&◌, ◌||◌, eqb, ltb, List, [], ◌∷◌, ◌++◌, Option, Some, None, option_map, map, refl, sym, ◌∙◌, ap, subst, arith, length-append}
+use Rattle.std.proofs.Common.{◌≡◌, ◌⊎◌, inl, inr, ℕ, zero, suc, pos, int_eq, Bool, true, false, IsTrue, not, ◌&&◌, ◌||◌, eqb, ltb, List, [], ◌∷◌, ◌++◌, Option, Some, None, option_map, map, refl, sym, ◌∙◌, ap, subst, arith, length-append, ◌<◌, ◌≤◌}
 use Rattle.std.proofs.lemmas.Bool.{not-false, not_from_true}
+use Rattle.std.specs.List.{AllByRecursion}
 use Rattle.std.specs.Prelude.{◌↔◌}
 use Rattle.ua_builtin.specs.Reasons.{first_reason, renamed_reason}
 use Rattle.ua_builtin.proofs.FirstReasons.{first_behind, first_reason-map}
@@ -11,9 +12,9 @@ use Rattle.ua_frame.specs.declared.kind.Kind.{Kind}
 use Rattle.ua_frame.specs.declared.kind.Kind.TheVariants.{Hel, Msg, Opn, Clo}
 use Rattle.ua_frame.specs.declared.kind.Kind.TheVariants as kind
 use Rattle.ua_frame.specs.declared.limits.Limits.{Limits}
-use Rattle.ua_frame.specs.After.{AllAfter}
+use Rattle.ua_frame.specs.After.{AllAfter, AllFrom}
 use Rattle.ua_frame.specs.Agreement.{is_buffer_small, is_url_long}
-use Rattle.ua_frame.specs.Frames.{Frames}
+use Rattle.ua_frame.specs.Frames.{Frames, frame_size}
 use Rattle.ua_frame.specs.Hello.{hello_in}
 use Rattle.ua_frame.specs.Kinds.{lets_in}
 use Rattle.ua_frame.specs.FirstWrong.{FirstWrong}
@@ -25,12 +26,12 @@ use Rattle.ua_frame.proofs.Unique.{unique}
 use Rattle.ua_chunk.specs.declared.chunk.Chunk.{Chunk}
 use Rattle.ua_chunk.specs.Layout.{chunk_in}
 use Rattle.ua_chunk.specs.Opening.{SecurityHeader, channel_of, is_none_policy, policy_of}
-use Rattle.ua_chunk.specs.Refusal.{message_refusal, reasons, refusal}
+use Rattle.ua_chunk.specs.Refusal.{message_refusal, reasons, refusal, TakesMessages}
 use Rattle.ua_chunk.specs.Sequence.{may_follow}
 use Rattle.ua_chunk.proofs.Numbers.{apart}
 use Rattle.ua_channel.specs.Content.{Content, Opening, content, content_by, closes, opening_of, sends}
 use Rattle.ua_channel.specs.Content.Content.{Greets, Acks, Fails, Opens, Sends, Closes, Nothing}
-use Rattle.ua_channel.specs.Conversation.{AreOrdered, Continues, HasEnded, IsConversation, IsGoodChunk, IsGoodRequest, IsOrderGreeted, IsOrderOpen, IsServerOrder, MayCarry, ServerConversation}
+use Rattle.ua_channel.specs.Conversation.{AreOrdered, Continues, HasEnded, IsConversation, IsGoodChunk, IsGoodRequest, IsOrderGreeted, IsOrderOpen, IsServerOrder, MayCarry, ServerConversation, IsFramed}
 use Rattle.ua_channel.specs.Received.{Received, after, messages, number_listed, numbers, or_before, received}
 use Rattle.ua_channel.specs.inside.ServerParts.{ids_reasons}
 use Rattle.ua_channel.specs.ServerRefusals.{is_taken, last_used, of_header, of_request, server_reasons, type_wanted}
@@ -202,6 +203,11 @@ nil_by false None n = tt
 nil_by false (Some h) zero = tt
 nil_by false (Some h) (suc n) = tt
 
+some_open : (h : Hello) (n : ℕ) (cs : List Content) → 0 < n → IsOrderOpen cs → order_by false (Some h) n cs
+unfolding order_by
+some_open h zero cs some order = absurd (omega (arith, some))
+some_open h (suc n) cs some order = order
+
 order_nil : (b : Received) → Order b []
 unfolding Order
 order_nil b = nil_by b.closed b.hello (issued b)
@@ -299,6 +305,24 @@ module _ (limits : Limits) (channel : ℕ) where
     good = λ start f. good limits channel (received start) (content f);
     accepted = λ start f. accepted limits channel (received start) (content f);
   }
+
+  -- frames that come in order behind others where a channel is open, as they may come there, are taken
+  pub taken_open : (h : Hello) (start fs : List Frame) → (received start).closed ≡ false → (received start).hello ≡ Some h → 0 < issued (received start) → IsOrderOpen (map content fs)
+      → AllByRecursion IsFramed fs → AllFrom (λ us f. frame_size f ≤ receive_size limits (received us).hello) start fs → AllFrom (λ us f. MayCarry channel (received us) (content f)) start fs
+      → AreOrdered (received start).last (numbers fs) → TakesMessages limits.max_message_size limits.max_chunk_count (received start).messages (messages fs)
+      → AllFrom (Fits (server_rules limits channel)) start fs
+  unfolding IsPlaced
+  taken_open h start fs on said some order framed fits carries ordered fit =
+      taken (server_rules limits channel) limits content Order IsPlaced (λ b. receive_size limits b.hello) (λ before f. MayCarry channel (received before) (content f)) rules_converse start fs
+      (λ none. let never : Some h ≡ None = sym said ∙ none in absurd cc)
+      (record {
+        order = (order_is (received start) (map content fs) false (Some h) (issued (received start)) on said refl).1 (some_open h (issued (received start)) (map content fs) some order);
+        framed = framed;
+        fits = fits;
+        carries = carries;
+        ordered = ordered;
+        messages_fit = fit;
+      })
 
   nothing_placed : IsPlaced (received [])
   unfolding IsPlaced

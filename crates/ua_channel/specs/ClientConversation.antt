@@ -1,5 +1,5 @@
 -- What a conversation is at a client: the frames that it may receive of a server that keeps to the protocol, or the beginning of them.
-use Rattle.std.specs.Prelude.{◌≡◌, ◌≤◌, ◌++◌, ℕ, List, [], ◌∷◌, Option, Some, None, IsTrue, IsFalse, nat_le, map}
+use Rattle.std.specs.Prelude.{◌≡◌, ◌≤◌, ◌++◌, ℕ, List, [], ◌∷◌, Option, Some, None, Bool, IsTrue, IsFalse, nat_le, map}
 use Rattle.std.specs.List.{AllByRecursion}
 use Rattle.ua_frame.specs.After.{AllAfter}
 use Rattle.ua_frame.specs.Frames.{IsPartial, frame_size, frames_octets}
@@ -17,7 +17,7 @@ use Rattle.ua_channel.specs.Asks.{Asking, Placed, asked_before, end_of, is_in, p
 use Rattle.ua_channel.specs.ClientTable.{client_gate, is_awaited, is_other, is_outside}
 use Rattle.ua_channel.specs.ClientTokens.{answer_in, channel_in, held_tokens, opened_ids, responses}
 use Rattle.ua_channel.specs.Content.{Content, Opening, content}
-use Rattle.ua_channel.specs.Content.Content.{Greets, Acks, Fails, Opens, Sends, Closes, Nothing}
+use Rattle.ua_channel.specs.Content.Content.{Acks, Fails, Opens, Sends}
 use Rattle.ua_channel.specs.Conversation.{AreOrdered, FitMessages, IsFramed}
 use Rattle.ua_channel.specs.Received.{Received, messages, numbers, received}
 
@@ -66,36 +66,37 @@ pub record IsGoodAck (limits : Limits) (ack : Option Ack) : Type 0 where
   pub reads : ack ≡ Some said
   pub within : IsFalse (is_outside limits said)
 
--- an opening under the policy None with a good response, for the channel if there is one already, with a token that is not held, under a
--- request id that is waited for: 1 first, and then that of a renewal which is unanswered
-pub record IsGoodResponse (before : Received) (asked : List Asking) (o : Opening) : Type 0 where
+-- an opening under the policy None with a good response, for the channel if there is one already, with a token that is not among these, under a
+-- request id that is waited for
+pub record IsGoodResponse (channel : Option ℕ) (tokens : List ℕ) (awaits : ℕ → Bool) (o : Opening) : Type 0 where
   pub header : SecurityHeader
   pub security_is : o.security ≡ Some header
   pub policy : IsTrue (is_none_policy (policy_of header))
   pub response : OpenResponse
   pub answer_is : answer_in o ≡ Some (Open response)
   pub good : IsFalse (nat_le 0x8000_0000 response.response_header.service_result.code)
-  pub on : IsFalse (is_other (channel_in (responses before.openings)) response.channel_id)
-  pub fresh : IsFalse (is_in response.token_id (held_tokens before))
+  pub on : IsFalse (is_other channel response.channel_id)
+  pub fresh : IsFalse (is_in response.token_id tokens)
   pub numbered : ℕ × ℕ
   pub numbers_are : o.numbers ≡ Some numbered
-  pub awaited : IsTrue (is_awaited (responses before.openings) (opened_ids before.openings) asked numbered.1)
+  pub awaited : IsTrue (awaits numbered.1)
 
--- a chunk on the channel, under a token that is held at its place, under the request id of a call that is unanswered there
-pub record IsGoodReply (before : Received) (asked : List Asking) (c : Chunk) : Type 0 where
-  pub on : IsFalse (is_other (channel_in (responses before.openings)) c.channel)
-  pub held : IsTrue (is_in c.token (held_tokens before))
-  pub awaited : IsTrue (is_in c.request (pending_calls before.messages asked))
+-- a chunk on the channel, under a token that is among these, under one of these request ids
+pub record IsGoodReply (channel : Option ℕ) (tokens ids : List ℕ) (c : Chunk) : Type 0 where
+  pub on : IsFalse (is_other channel c.channel)
+  pub held : IsTrue (is_in c.token tokens)
+  pub awaited : IsTrue (is_in c.request ids)
 
--- what a frame that comes behind these may carry, where this was asked before it, but for its number and its message
+-- what a frame that comes behind these may carry, where this was asked before it, but for its number and its message: a response has a token that
+-- is not held and answers the first OPN, under the request id 1, and then a renewal that is unanswered; a chunk has a token that is held and the
+-- request id of a call that is unanswered
 abbrev pub MayCarryBack : Limits → Received → List Asking → Content → Type 0
-MayCarryBack limits before asked (Greets hello) = Unit {0}
 MayCarryBack limits before asked (Acks ack) = IsGoodAck limits ack
 MayCarryBack limits before asked (Fails error) = ⊥
-MayCarryBack limits before asked (Opens o) = IsGoodResponse before asked o
-MayCarryBack limits before asked (Sends c) = IsGoodReply before asked c
-MayCarryBack limits before asked (Closes c) = Unit {0}
-MayCarryBack limits before asked Nothing = Unit {0}
+MayCarryBack limits before asked (Opens o) =
+    IsGoodResponse (channel_in (responses before.openings)) (held_tokens before) (is_awaited (responses before.openings) (opened_ids before.openings) asked) o
+MayCarryBack limits before asked (Sends c) = IsGoodReply (channel_in (responses before.openings)) (held_tokens before) (pending_calls before.messages asked) c
+MayCarryBack limits before asked other = Unit {0}
 
 -- a conversation at a client with these limits that asked so
 pub record ClientConversation (limits : Limits) (asks : List Placed) (frames : List Frame) : Type 0 where

@@ -40,9 +40,8 @@ pub mod ExampleRounds
 -- What a conversation is, in plain words.
 pub mod Conversation
 pub mod ClientConversation
--- Messages that come merged, with renewals among them; and where they leave an end that stood before them.
+-- Messages that come merged, with renewals among them, and where they leave an end that stood before them.
 pub mod Merges
-pub mod MergedReads
 -- The line under a connection, and moments.
 pub mod Line
 pub mod MemoryLine

@@ -1,43 +1,34 @@
 -- Messages whose chunks come merged on an open channel, with OPNs that renew its token anywhere among them, in the middle of a message too
--- (OPC 10000-6, 6.7.2.4): C (3), OPN, C (5), F (3), OPN, A (5), of these request ids.
-use Rattle.std.specs.Prelude.{◌≡◌, ◌<◌, ◌≤◌, ◌+◌, ◌==◌, ℕ, Bool, false, if◌then◌else◌, IsTrue, IsFalse, List, [], ◌∷◌, ◌++◌, Option, map}
-use Rattle.std.specs.List.{AllByRecursion, flat_map}
+-- (OPC 10000-6, 6.7.2.4 and 6.7.3): C (3), OPN, C (5), F (3), OPN, A (5), of these request ids. They are read from where an end stands before them,
+-- as the laws of both ends say it, to where it stands behind them: so merges are chained with what comes before and behind.
+use Rattle.std.specs.Prelude.{◌≡◌, ◌<◌, ◌≤◌, ◌+◌, ◌++◌, ◌==◌, ℕ, Bool, false, not, if◌then◌else◌, List, [], ◌∷◌, Option, Some, IsTrue, length, map}
+use Rattle.std.specs.List.{AllByRecursion, filter, flat_map, range_with_len}
 use Rattle.ua_frame.specs.After.{AllFrom, each_from}
 use Rattle.ua_frame.specs.Frames.{frame_size, frames_octets}
-use Rattle.ua_frame.specs.Run.{Going, Run, events}
 use Rattle.ua_frame.specs.declared.frame.Frame.{Frame}
 use Rattle.ua_frame.specs.declared.limits.Limits.{Limits}
 use Rattle.ua_chunk.specs.Gathered.{ends}
 use Rattle.ua_chunk.specs.Item.{Item}
 use Rattle.ua_chunk.specs.Merge.{Sent, HaveOwnIds, AllWithin, Merges, parts_of, part_of, sent_under, outcome_under}
-use Rattle.ua_chunk.specs.Open.{open_ids}
 use Rattle.ua_chunk.specs.Refusal.{FewOpen}
+use Rattle.ua_chunk.specs.Sequence.{may_follow}
 use Rattle.ua_chunk.specs.declared.chunk.Chunk.{Chunk}
 use Rattle.ua_structures.specs.declared.secure_channel.OpenResponse.{OpenResponse}
-use Rattle.ua_channel.specs.Asks.{Asking, Placed, asked_before, calls, end_of, is_finished, is_in}
-use Rattle.ua_channel.specs.ClientConversation.{IsGoodResponse, largest_taken}
-use Rattle.ua_channel.specs.ClientTable.{client_rules, is_other}
-use Rattle.ua_channel.specs.ClientTokens.{answer_in, channel_in, held_tokens, response_listed, responses}
+use Rattle.ua_channel.specs.Asks.{Asking, Placed, asked_before, asked_in, calls, end_of, id_of, is_finished, is_in, next_id, renewals}
+use Rattle.ua_channel.specs.ClientConversation.{IsGoodReply, IsGoodResponse}
+use Rattle.ua_channel.specs.ClientReads.{AtClient}
+use Rattle.ua_channel.specs.ClientTokens.{answer_in, held_by, opened_ids, response_listed, responses, tokens_of}
 use Rattle.ua_channel.specs.ClientTold.{ClientTold, ClientTold as client_told, told_item}
-use Rattle.ua_channel.specs.Content.{Content, content}
-use Rattle.ua_channel.specs.Content.Content.{Greets, Acks, Fails, Opens, Sends, Closes, Nothing}
-use Rattle.ua_channel.specs.Conversation.{AreOrdered, IsFramed, MayCarry}
-use Rattle.ua_channel.specs.Received.{Received, has_some, messages, numbers, received}
-use Rattle.ua_channel.specs.ServerRules.{receive_size, server_rules}
-use Rattle.ua_channel.specs.ServerTold.{Told, issued, opened_by, request_of, told_under}
+use Rattle.ua_channel.specs.Content.{Content, Opening, content}
+use Rattle.ua_channel.specs.Content.Content.{Opens, Sends}
+use Rattle.ua_channel.specs.Conversation.{AreOrdered, IsFramed, IsGoodRequest}
+use Rattle.ua_channel.specs.Received.{latest, latest_behind, messages, numbers, openings, used_tokens}
+use Rattle.ua_channel.specs.ServerReads.{AtServer, IsTakenAt}
+use Rattle.ua_channel.specs.ServerRules.{receive_size}
+use Rattle.ua_channel.specs.ServerTold.{Told, opened_by, request_of, told_under}
 use Rattle.ua_channel.specs.ServerTold.Told.{Opened}
 
 -- ---- at either end
-
--- what comes between the opening and the end of a channel: a chunk of a message, or an opening
-abbrev pub IsChunkOrOpening : Content → Type 0
-IsChunkOrOpening (Greets hello) = ⊥
-IsChunkOrOpening (Acks ack) = ⊥
-IsChunkOrOpening (Fails error) = ⊥
-IsChunkOrOpening (Opens o) = Unit {0}
-IsChunkOrOpening (Sends c) = Unit {0}
-IsChunkOrOpening (Closes c) = ⊥
-IsChunkOrOpening Nothing = ⊥
 
 -- these chunks are those of these messages, merged in any way
 pub record AreMerged (limits : Limits) (ms : List Sent) (cs : List Chunk) : Type 0 where
@@ -50,6 +41,23 @@ pub record AreMerged (limits : Limits) (ms : List Sent) (cs : List Chunk) : Type
   -- at most 4 messages are unfinished after each chunk
   pub few_open : FewOpen [] cs
 
+-- what a frame carries is an opening of which this is so, or a chunk of which that is so
+abbrev pub CarriesEither : (Opening → Type 0) → (Chunk → Type 0) → Content → Type 0
+CarriesEither opens sends (Opens o) = opens o
+CarriesEither opens sends (Sends c) = sends c
+CarriesEither opens sends other = ⊥
+
+-- the last of these, and n where there is none
+abbrev pub latest_or : ℕ → List ℕ → ℕ
+latest_or n [] = n
+latest_or n (m ∷ ms) = latest_or m ms
+
+-- numbers that go on: the first one is the next, each further one follows the one before it, and the one after them may follow the last; it is at
+-- most 4294966272, behind which a sender starts again. Where there are none, the one after them is the next
+abbrev pub NumbersGoOn : ℕ → List ℕ → ℕ → Type 0
+NumbersGoOn next [] after = after ≡ next
+NumbersGoOn next (n ∷ ns) after = (n ≡ next) × AreOrdered (Some n) ns × IsTrue (may_follow (latest_behind (Some n) ns) after) × (after ≤ 4294966272)
+
 -- what a chunk of these messages delivers: where it is the last of its message, the whole of that, or the code and the reason for which it
 -- was given up
 abbrev pub ended_by : List Sent → Chunk → List Item
@@ -57,19 +65,27 @@ ended_by ms c = if ends c then outcome_under (sent_under c.request ms) else []
 
 -- ---- at a server
 
--- behind these frames, where a channel is open and no message unfinished, a server with these limits on this channel gets the chunks of
--- these messages, merged, and OPNs of renewals among them
-pub record MergedAtServer (limits : Limits) (channel : ℕ) (before : List Frame) (ms : List Sent) (more : List Frame) : Type 0 where
-  pub is_open : 0 < issued (received before)
-  pub none_open : open_ids (received before).messages ≡ []
-  -- a frame carries a chunk of a message or an opening, is as its header says, and is no larger than what the server receives
-  pub order : AllByRecursion (λ (f : Frame). IsChunkOrOpening (content f)) more
+-- where a server is behind these frames of a merge, with this number next: with a token more for each opening, and the last token that a chunk
+-- used
+abbrev pub with_merged : AtServer → List Frame → ℕ → AtServer
+with_merged at more next = record at { issued = at.issued + length (openings more); used = latest_or at.used (used_tokens more); next = next }
+
+-- a chunk on this channel, under a token that is taken here
+abbrev pub IsChunkHere : ℕ → AtServer → Chunk → Type 0
+IsChunkHere channel here c = (c.channel ≡ channel) × IsTakenAt here c.token
+
+-- these frames have the chunks of these messages, merged, and OPNs of renewals among them, as a server with these limits on this channel takes
+-- them from here, where its channel is open; and this number is next behind them
+pub record ServerMerge (limits : Limits) (channel : ℕ) (at : AtServer) (ms : List Sent) (more : List Frame) (next : ℕ) : Type 0 where
+  pub is_open : 0 < at.issued
+  -- each frame is as its header says, and no larger than what the server receives
   pub framed : AllByRecursion IsFramed more
-  pub fits : AllFrom (λ us f. frame_size f ≤ receive_size limits (received us).hello) before more
-  -- each opening asks for a renewal, and each chunk is on this channel, under a token that is taken at its place
-  pub carries : AllFrom (λ us f. MayCarry channel (received us) (content f)) before more
+  pub fits : AllByRecursion (λ (f : Frame). frame_size f ≤ receive_size limits (Some at.hello)) more
+  -- it carries what may come at its place, behind the frames of the merge before it: an opening that asks for a renewal, or a chunk
+  pub carries :
+      AllFrom (λ us f. CarriesEither (IsGoodRequest channel (with_merged at us at.next).issued) (IsChunkHere channel (with_merged at us at.next)) (content f)) [] more
   -- all are numbered on in the order in which they come
-  pub ordered : AreOrdered (received before).last (numbers more)
+  pub numbered : NumbersGoOn at.next (numbers more) next
   pub merged : AreMerged limits ms (messages more)
 
 -- what a frame of these tells a server, where so many tokens were issued before it: a chunk that ends its message the whole of that, or that
@@ -79,9 +95,9 @@ told_by_merged ms count (Opens o) = opened_by (count + 1) o.numbers (request_of 
 told_by_merged ms count (Sends c) = map (told_under c.token) (ended_by ms c)
 told_by_merged ms count other = []
 
--- what these frames tell a server behind those before them, in order
-abbrev pub told_merged : List Sent → List Frame → List Frame → List Told
-told_merged ms before more = each_from (λ us f. told_by_merged ms (issued (received us)) (content f)) before more
+-- what these frames tell a server where so many tokens were issued before them, in order
+abbrev pub told_of_merge : List Sent → ℕ → List Frame → List Told
+told_of_merge ms count more = each_from (λ us f. told_by_merged ms (count + length (openings us)) (content f)) [] more
 
 -- the token that is told to be issued, if one is
 abbrev pub token_in : Told → List ℕ
@@ -96,48 +112,46 @@ tokens_told told = flat_map token_in told
 abbrev pub is_message_under : ℕ → ℕ × Option (List ℕ) → Bool
 is_message_under id m = m.0 == id
 
--- a server with these limits on this channel reads these octets as whole frames that are good, and behind them those of merged messages with
--- renewals among them; all of them tell it this
-pub record ServerReadsMerged (limits : Limits) (channel : ℕ) (octets : List ℕ) (told : List Told) : Type 0 where
-  pub start : List ℕ
-  pub before : List Frame
-  pub run : Run (server_rules limits channel) start before [] Going
-  pub messages : List Sent
-  pub more : List Frame
-  pub merged : MergedAtServer limits channel before messages more
-  pub whole : octets ≡ start ++ frames_octets more
-  pub told_is : events (server_rules limits channel) before ++ told_merged messages before more ≡ told
-
 -- ---- at a client
 
--- a chunk of a reply: on the channel, under a token that is held at its place, as that under which the server sends is, and under the
--- request id of a call that was asked before it
-pub record IsPartOfReply (before : Received) (asked : List Asking) (c : Chunk) : Type 0 where
-  pub on : IsFalse (is_other (channel_in (responses before.openings)) c.channel)
-  pub held : IsTrue (is_in c.token (held_tokens before))
-  pub was_asked : IsTrue (is_in c.request (calls asked))
+-- these, each at a place that is so many octets later
+abbrev pub placed_later : ℕ → List Placed → List Placed
+placed_later n asks = map (λ (a : Placed). (n + a.0, a.1)) asks
 
--- what a frame of these may carry at its place, where this was asked before it: a chunk of a reply, or an opening that answers the renewal
--- that is unanswered, with a token that is not held
-abbrev pub MayAnswer : Received → List Asking → Content → Type 0
-MayAnswer before asked (Opens o) = IsGoodResponse before asked o
-MayAnswer before asked (Sends c) = IsPartOfReply before asked c
-MayAnswer before asked other = Unit {0}
+-- where a client is behind these frames of a merge, among which it asked this, with this number next: it holds the tokens from the last one that a
+-- chunk used; those calls are unanswered of which no chunk ended the reply, and those renewals that no opening answered
+abbrev pub with_merged_back : AtClient → List Asking → List Frame → ℕ → AtClient
+with_merged_back at asked more next = record at {
+  tokens = held_by (latest (used_tokens more)) (at.tokens ++ tokens_of (responses (openings more)));
+  newest = latest_or at.newest (tokens_of (responses (openings more)));
+  pending = filter (λ (id : ℕ). not (is_finished (messages more) id)) (at.pending ++ calls asked);
+  renewals = filter (λ (id : ℕ). not (is_in id (opened_ids (openings more)))) (at.renewals ++ renewals asked);
+  next = next;
+}
 
--- behind these frames, where a channel is open and no message unfinished, a client with these limits that asked so gets the chunks of these
--- messages, merged, and the OPNs that answer renewals among them
-pub record MergedAtClient (limits : Limits) (asks : List Placed) (before : List Frame) (ms : List Sent) (more : List Frame) : Type 0 where
-  pub is_open : IsTrue (has_some (responses (received before).openings))
-  pub none_open : open_ids (received before).messages ≡ []
-  -- a frame carries a chunk of a message or an opening, is as its header says, and is no larger than what the server sends
-  pub order : AllByRecursion (λ (f : Frame). IsChunkOrOpening (content f)) more
+-- what a frame may carry where a client is here: an opening that answers a renewal which is unanswered here, with a token that is not held here; or
+-- a chunk of the reply to one of these calls, under a token that is held here
+abbrev pub MayComeDown : AtClient → List ℕ → Content → Type 0
+MayComeDown here ids k =
+    CarriesEither (IsGoodResponse (Some here.channel) here.tokens (λ (id : ℕ). is_in id here.renewals)) (IsGoodReply (Some here.channel) here.tokens ids) k
+
+-- these frames have the chunks of these messages, merged, and OPNs that answer renewals among them, as a client with these limits takes them from
+-- here; it asked this before them, and asks on in the middle of them, each at a place that is counted from their beginning; and this number is next
+-- behind them
+pub record ClientMerge (limits : Limits) (at : AtClient) (asked : List Asking) (later : List Placed) (ms : List Sent) (more : List Frame) (next : ℕ) : Type 0 where
+  -- what it asks on has the next request ids, and places up to the end of the frames
+  pub counted : map id_of (asked_in later) ≡ range_with_len (next_id asked) (length later)
+  pub placed : AllByRecursion (λ (a : Placed). a.0 ≤ length (frames_octets more)) later
+  -- each frame is as its header says, and no larger than what the server sends
   pub framed : AllByRecursion IsFramed more
-  pub fits : AllFrom (λ us f. frame_size f ≤ largest_taken (received us).ack) before more
-  -- each chunk is of a reply and each opening of a renewal, as they may come at their places, and none of the calls was answered before
-  pub carries : AllFrom (λ us f. MayAnswer (received us) (asked_before (end_of us f) asks) (content f)) before more
-  pub unanswered : AllByRecursion (λ (m : Sent). IsFalse (is_finished (received before).messages m.request)) ms
+  pub fits : AllByRecursion (λ (f : Frame). frame_size f ≤ at.ack.send_buffer_size) more
+  -- it carries what may come at its place: behind the frames of the merge before it, and what was asked before its end. A chunk is of the reply to
+  -- a call that was unanswered before the frames, or was asked among them before it
+  pub carries :
+      AllFrom (λ us f. MayComeDown (with_merged_back at (asked_before (end_of us f) later) us at.next) (at.pending ++ calls (asked_before (end_of us f) later)) (content f))
+      [] more
   -- all are numbered on in the order in which they come
-  pub ordered : AreOrdered (received before).last (numbers more)
+  pub numbered : NumbersGoOn at.next (numbers more) next
   pub merged : AreMerged limits ms (messages more)
 
 -- a response that renews the token, as what is told
@@ -168,15 +182,3 @@ abbrev pub is_told_under : ℕ → ClientTold → Bool
 is_told_under id (client_told.Answered i octets) = i == id
 is_told_under id (client_told.GaveUp i code) = i == id
 is_told_under id other = false
-
--- a client with these limits that asked so reads these octets as whole frames that are good, and behind them those of merged replies with the
--- answers to renewals among them; all of them tell it this
-pub record ClientReadsMerged (limits : Limits) (asks : List Placed) (octets : List ℕ) (told : List ClientTold) : Type 0 where
-  pub start : List ℕ
-  pub before : List Frame
-  pub run : Run (client_rules limits asks) start before [] Going
-  pub messages : List Sent
-  pub more : List Frame
-  pub merged : MergedAtClient limits asks before messages more
-  pub whole : octets ≡ start ++ frames_octets more
-  pub told_is : events (client_rules limits asks) before ++ told_merged_back messages more ≡ told

@@ -12,7 +12,6 @@ ghost use Rattle.ua_channel.specs.Asks.{Placed};
 ghost use Rattle.ua_channel.specs.Client.{ClientEnded, ClientGoes, client_limits};
 ghost use Rattle.ua_channel.specs.ClientReads.{AtClient, ClientReads};
 ghost use Rattle.ua_channel.specs.ClientTold.{ClientTold, Why};
-ghost use Rattle.ua_channel.specs.Merges.{ClientReadsMerged};
 ghost use Rattle.ua_channel.specs.declared.client.channel.ClientChannel.{ClientChannel};
 
 /// What a client reads it reads also where it made the same asks earlier, in the middle of a frame or of a
@@ -24,8 +23,7 @@ pub fn client_asks_earlier()
 
 /// Behind any beginning of octets that a client reads, in whatever pieces it came, and with what was asked
 /// so far, its channel was told a beginning of what the octets tell, and it does not fail, where what is
-/// asked on is placed at the end of that beginning or behind it. The same of octets that end in merged
-/// replies.
+/// asked on is placed at the end of that beginning or behind it.
 pub fn client_follows_asking()
     ensures begins { (x : ClientChannel) (asks later : List Placed) (octets more : List ℕ) (told all : List ClientTold) (at : AtClient) → ClientGoes x asks octets told →
         AllByRecursion (λ (a : Placed). length octets ≤ a.0) later → ClientReads (client_limits x) (asks ++ later) (octets ++ more) all at →
@@ -33,10 +31,4 @@ pub fn client_follows_asking()
     ensures not_failed { (x : ClientChannel) (asks later : List Placed) (octets more : List ℕ) (told all : List ClientTold) (at : AtClient) (why : Why) →
         ClientEnded x asks octets told why →
         AllByRecursion (λ (a : Placed). length octets ≤ a.0) later → ClientReads (client_limits x) (asks ++ later) (octets ++ more) all at → ⊥ }
-    ensures merged { (x : ClientChannel) (asks later : List Placed) (octets more : List ℕ) (told all : List ClientTold) → ClientGoes x asks octets told →
-        AllByRecursion (λ (a : Placed). length octets ≤ a.0) later → ClientReadsMerged (client_limits x) (asks ++ later) (octets ++ more) all →
-        (rest : List ClientTold) × (all ≡ told ++ rest) }
-    ensures merged_not_failed { (x : ClientChannel) (asks later : List Placed) (octets more : List ℕ) (told all : List ClientTold) (why : Why) →
-        ClientEnded x asks octets told why →
-        AllByRecursion (λ (a : Placed). length octets ≤ a.0) later → ClientReadsMerged (client_limits x) (asks ++ later) (octets ++ more) all → ⊥ }
 {}

@@ -1,4 +1,4 @@
-use Rattle.ua_channel.proofs.ClientMergesOn.{reads_merged, reads_messages, reads_once, reads_tokens}
+use Rattle.ua_channel.proofs.ClientMerges.{reads_merged, reads_messages, reads_once, reads_tokens}
 use Rattle.ua_channel.proofs.merge_laws.client_reads_merged.Goals as goal
 
 pub returns-clause-reads : goal.returns-clause-reads

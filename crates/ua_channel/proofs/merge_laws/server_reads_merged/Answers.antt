@@ -1,4 +1,4 @@
-use Rattle.ua_channel.proofs.ServerMergesOn.{reads_merged, reads_messages, reads_once, reads_tokens}
+use Rattle.ua_channel.proofs.ServerMerges.{reads_merged, reads_messages, reads_once, reads_tokens}
 use Rattle.ua_channel.proofs.merge_laws.server_reads_merged.Goals as goal
 
 pub returns-clause-reads : goal.returns-clause-reads
