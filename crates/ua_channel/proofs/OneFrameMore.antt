@@ -1,13 +1,15 @@
 -- What was received, with one frame more.
-use Rattle.std.proofs.Common.{◌≡◌, ℕ, List, [], ◌∷◌, ◌++◌, true, Option, Some, None, refl, sym, ap, append-nil}
+use Rattle.std.proofs.Common.{◌≡◌, ℕ, List, [], ◌∷◌, ◌++◌, true, Option, Some, None, refl, sym, ap, append-nil, map, ◌∙◌, append_assoc}
 use Rattle.std.specs.List.{flat_map}
-use Rattle.std.proofs.lemmas.List.{flat_map_more}
+use Rattle.std.proofs.lemmas.List.{flat_map_more, map-append}
 use Rattle.ua_frame.specs.declared.ack.Ack.{Ack}
 use Rattle.ua_frame.specs.declared.frame.Frame.{Frame}
-use Rattle.ua_frame.specs.After.{each_after}
+use Rattle.ua_frame.specs.After.{each_after, each_from}
 use Rattle.ua_frame.specs.declared.hello.Hello.{Hello}
 use Rattle.ua_chunk.specs.declared.chunk.Chunk.{Chunk}
-use Rattle.ua_chunk.specs.Delivered.{delivered}
+use Rattle.ua_chunk.specs.Delivered.{delivered, given}
+use Rattle.ua_chunk.specs.Item.{Item}
+use Rattle.ua_chunk.proofs.OneMore.{delivered_push}
 use Rattle.ua_channel.specs.Content.{Opening, Content, content}
 use Rattle.ua_channel.specs.Content.Content.{Greets, Acks, Fails, Opens, Sends, Closes, Nothing}
 use Rattle.ua_channel.specs.Received.{Received, latest_behind, latest, has_some, listed, number_listed, hellos_in, acks_in, openings_in, chunks_in, closings_in, numbers_in, tokens_in, hellos, acks, openings, messages, closings, numbers, used_tokens, received_of, received, nothing_received, or_before, number_or, after}
@@ -64,3 +66,42 @@ received-nil = refl
 pub none_delivered : delivered (received []).messages ≡ []
 unfolding each_after
 none_delivered = ap (λ (b : Received). delivered b.messages) received-nil
+
+-- ---- what is found in what frames tell
+
+-- what the chunk of a frame delivers, if it carries one
+abbrev pub given_in : Received → Content → List Item
+given_in b (Sends c) = given b.messages c
+given_in b other = []
+
+delivered_then : (b : Received) (c : Content) → delivered (after b c).messages ≡ delivered b.messages ++ given_in b c
+delivered_then b (Greets hello) = sym (append-nil (delivered b.messages))
+delivered_then b (Acks ack) = sym (append-nil (delivered b.messages))
+delivered_then b (Fails error) = sym (append-nil (delivered b.messages))
+delivered_then b (Opens o) = sym (append-nil (delivered b.messages))
+delivered_then b (Sends c) = delivered_push b.messages c
+delivered_then b (Closes c) = sym (append-nil (delivered b.messages))
+delivered_then b Nothing = sym (append-nil (delivered b.messages))
+
+-- where in what each frame tells is found what its chunk delivers, under a name
+module _ {E B : Type 0} (found : List E → List B) (name : Item → B) (tells : Received → Content → List E) (nothing : found [] ≡ []) (apart : (ts us : List E) → found (ts ++ us) ≡ found ts ++ found us)
+    (one : (b : Received) (c : Content) → found (tells b c) ≡ map name (given_in b c)) where
+  abbrev named : List Frame → List B
+  named frames = map name (delivered (received frames).messages)
+
+  found_from : (start fs : List Frame) → named start ++ found (each_from (λ us f. tells (received us) (content f)) start fs) ≡ named (start ++ fs)
+  found_from start [] = ap (λ (t : List B). named start ++ t) nothing ∙ (append-nil (named start) ∙ ap (λ (us : List Frame). named us) (sym (append-nil start)))
+  found_from start (f ∷ fs) =
+      let told : List E = tells (received start) (content f) in
+      let more : List E = each_from (λ us g. tells (received us) (content g)) (start ++ f ∷ []) fs in
+      let now : named start ++ found told ≡ named (start ++ f ∷ []) =
+      ap (λ (t : List B). named start ++ t) (one (received start) (content f))
+      ∙ (sym (map-append name (delivered (received start).messages) (given_in (received start) (content f)))
+      ∙ ap (map name) (sym (delivered_then (received start) (content f)) ∙ ap (λ (b : Received). delivered b.messages) (sym (received-push start f)))) in
+      ap (λ (t : List B). named start ++ t) (apart told more)
+      ∙ (sym (append_assoc (named start) (found told) (found more))
+      ∙ (ap (λ (t : List B). t ++ found more) now ∙ (found_from (start ++ f ∷ []) fs ∙ ap (λ (us : List Frame). named us) (append_assoc start (f ∷ []) fs))))
+
+  -- in what all tell is found what all chunks deliver
+  pub found_all : (frames : List Frame) → found (each_from (λ us f. tells (received us) (content f)) [] frames) ≡ named frames
+  found_all frames = ap (λ (items : List Item). map name items ++ found (each_from (λ us f. tells (received us) (content f)) [] frames)) (sym none_delivered) ∙ found_from [] frames

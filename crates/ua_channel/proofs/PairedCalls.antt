@@ -2,7 +2,7 @@
 use Rattle.std.proofs.Common.{◌≡◌, ℕ, List, [], ◌∷◌, ◌++◌, Bool, true, false, cond, not, ◌&&◌, ◌||◌, eqb, ltb, map, Option, Some, None, refl, sym, ◌∙◌, ap, subst, append-nil, append_assoc}
 use Rattle.std.specs.List.{AllByRecursion, filter}
 use Rattle.std.proofs.lemmas.Bool.{or_parts, eqb-true, not-false, not-true, or_right}
-use Rattle.std.proofs.lemmas.List.{map-append}
+use Rattle.std.proofs.lemmas.List.Elements.{filter-append}
 use Rattle.ua_builtin.specs.Reasons.{first_reason}
 use Rattle.ua_builtin.specs.declared.status_code.StatusCode.{StatusCode}
 use Rattle.ua_frame.specs.declared.ack.Ack.{Ack}
@@ -20,7 +20,6 @@ use Rattle.ua_chunk.specs.Gathered.{is_of, ends, gathered, joined}
 use Rattle.ua_chunk.specs.Item.{Item}
 use Rattle.ua_chunk.specs.Item.Item.{Whole, Aborted}
 use Rattle.ua_chunk.specs.Merge.{is_item_of}
-use Rattle.ua_chunk.proofs.Lists.{filter_append}
 use Rattle.ua_chunk.proofs.OneMore.{delivered_push, delivered_from}
 use Rattle.ua_structures.specs.declared.secure_channel.OpenResponse.{OpenResponse}
 use Rattle.ua_channel.specs.Asks.{Asking, Placed, asked_before, asked_in, calls, end_of, is_finished, is_in, pending_calls}
@@ -31,10 +30,10 @@ use Rattle.ua_channel.specs.ClientTold.{ClientTold, client_tells, told_ack, told
 use Rattle.ua_channel.specs.ClientTold.ClientTold.{Answered, GaveUp}
 use Rattle.ua_channel.specs.Content.{Content, content}
 use Rattle.ua_channel.specs.Content.Content.{Greets, Acks, Fails, Opens, Sends, Closes, Nothing}
-use Rattle.ua_channel.specs.Paired.{as_list, delivered_under, first, paired, told_of_calls, with_all, with_first}
+use Rattle.ua_channel.specs.Paired.{as_list, delivered_under, first, paired, told_of_calls, with_all, with_first, is_of_call}
 use Rattle.ua_channel.specs.Received.{Received, after, listed, received}
 use Rattle.ua_channel.proofs.Askings.{within_filter, passes_filter}
-use Rattle.ua_channel.proofs.OneFrameMore.{received-push, none_delivered}
+use Rattle.ua_channel.proofs.OneFrameMore.{found_all, given_in, none_delivered, received-push}
 
 -- ---- what is told
 
@@ -52,44 +51,18 @@ responses_told before [] = refl
 responses_told [] (r ∷ rs) = responses_told [] rs
 responses_told (q ∷ qs) (r ∷ rs) = responses_told (q ∷ qs) rs
 
-nothing_more : (told more : List ClientTold) → more ≡ [] → told ++ more ≡ told
-nothing_more told more e = ap (λ (ts : List ClientTold). told ++ ts) e ∙ append-nil told
-
-frame_told : (before : Received) (c : Content) → map told_item (delivered before.messages) ++ told_of_calls (client_tells before c) ≡ map told_item (delivered (after before c).messages)
-frame_told before (Greets hello) = append-nil (map told_item (delivered before.messages))
-frame_told before (Acks ack) = nothing_more (map told_item (delivered before.messages)) (told_of_calls (told_ack ack)) (ack_told ack)
-frame_told before (Fails error) = append-nil (map told_item (delivered before.messages))
-frame_told before (Opens o) =
-    nothing_more (map told_item (delivered before.messages)) (told_of_calls (map (told_response (responses before.openings)) (response_listed (answer_in o))))
-    (responses_told (responses before.openings) (response_listed (answer_in o)))
-frame_told before (Sends c) =
-    ap (λ (ts : List ClientTold). map told_item (delivered before.messages) ++ ts) (items_told (given before.messages c))
-    ∙ (sym (map-append told_item (delivered before.messages) (given before.messages c))
-    ∙ ap (map told_item) (sym (delivered_push before.messages c)))
-frame_told before (Closes c) = append-nil (map told_item (delivered before.messages))
-frame_told before Nothing = append-nil (map told_item (delivered before.messages))
-
-told_append : (told more : List ClientTold) → told_of_calls (told ++ more) ≡ told_of_calls told ++ told_of_calls more
-told_append told more = filter_append _ told more
-
-told_from : (start fs : List Frame) → map told_item (delivered (received start).messages) ++ told_of_calls (each_from (λ before f. client_tells (received before) (content f)) start fs) ≡ map told_item (delivered (received (start ++ fs)).messages)
-told_from start [] =
-    append-nil (map told_item (delivered (received start).messages))
-    ∙ ap (λ (xs : List Frame). map told_item (delivered (received xs).messages)) (sym (append-nil start))
-told_from start (f ∷ fs) =
-    let held : List ClientTold = map told_item (delivered (received start).messages) in
-    let told : List ClientTold = client_tells (received start) (content f) in
-    let more : List ClientTold = each_from (λ before g. client_tells (received before) (content g)) (start ++ f ∷ []) fs in
-    ap (λ (ts : List ClientTold). held ++ ts) (told_append told more)
-    ∙ (sym (append_assoc held (told_of_calls told) (told_of_calls more))
-    ∙ (ap (λ (ts : List ClientTold). ts ++ told_of_calls more) (frame_told (received start) (content f) ∙ ap (λ (b : Received). map told_item (delivered b.messages)) (sym (received-push start f)))
-    ∙ (told_from (start ++ f ∷ []) fs ∙ ap (λ (xs : List Frame). map told_item (delivered (received xs).messages)) (append_assoc start (f ∷ []) fs))))
+frame_told : (b : Received) (c : Content) → told_of_calls (client_tells b c) ≡ map told_item (given_in b c)
+frame_told b (Greets hello) = refl
+frame_told b (Acks ack) = ack_told ack
+frame_told b (Fails error) = refl
+frame_told b (Opens o) = responses_told (responses b.openings) (response_listed (answer_in o))
+frame_told b (Sends c) = items_told (given b.messages c)
+frame_told b (Closes c) = refl
+frame_told b Nothing = refl
 
 pub tells_delivered : (limits : Limits) (asks : List Placed) (frames : List Frame) → told_of_calls (events (client_rules limits asks) frames) ≡ map told_item (delivered (received frames).messages)
 unfolding each_after
-tells_delivered limits asks frames =
-    ap (λ (items : List Item). map told_item items ++ told_of_calls (each_from (λ before f. client_tells (received before) (content f)) [] frames)) (sym none_delivered)
-    ∙ told_from [] frames
+tells_delivered limits asks frames = found_all told_of_calls told_item client_tells refl (filter-append is_of_call) frame_told frames
 
 -- ---- what one chunk delivers
 
@@ -130,7 +103,7 @@ unfinished_from : (id : ℕ) (start cs : List Chunk) → is_finished cs id ≡ f
 unfinished_from id start [] e = refl
 unfinished_from id start (c ∷ cs) e =
     let parts = or_parts (is_of id c && ends c) (is_finished cs id) e in
-    filter_append (is_item_of id) (given start c) (each_from given (start ++ c ∷ []) cs)
+    filter-append (is_item_of id) (given start c) (each_from given (start ++ c ∷ []) cs)
     ∙ (ap (λ (is : List Item). is ++ filter (is_item_of id) (each_from given (start ++ c ∷ []) cs)) (given_none id c.flag start c parts.0)
     ∙ unfinished_from id (start ++ c ∷ []) cs parts.1)
 
@@ -138,7 +111,7 @@ unfinished_none : (id : ℕ) (cs : List Chunk) → is_finished cs id ≡ false �
 unfinished_none id cs e = ap (filter (is_item_of id)) (delivered_from cs) ∙ unfinished_from id [] cs e
 
 under_push : (id : ℕ) (cs : List Chunk) (c : Chunk) → delivered_under id (cs ++ c ∷ []) ≡ delivered_under id cs ++ filter (is_item_of id) (given cs c)
-under_push id cs c = ap (filter (is_item_of id)) (delivered_push cs c) ∙ filter_append (is_item_of id) (delivered cs) (given cs c)
+under_push id cs c = ap (filter (is_item_of id)) (delivered_push cs c) ∙ filter-append (is_item_of id) (delivered cs) (given cs c)
 
 -- ---- what was asked
 

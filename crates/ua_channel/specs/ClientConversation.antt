@@ -6,7 +6,7 @@ use Rattle.ua_frame.specs.Frames.{IsPartial, frame_size, frames_octets}
 use Rattle.ua_frame.specs.declared.ack.Ack.{Ack}
 use Rattle.ua_frame.specs.declared.frame.Frame.{Frame}
 use Rattle.ua_frame.specs.declared.kind.Kind.{Kind}
-use Rattle.ua_frame.specs.declared.kind.Kind.TheVariants.{Hel, Msg, Opn, Clo}
+use Rattle.ua_frame.specs.declared.kind.Kind.TheVariants.{Msg, Opn}
 use Rattle.ua_frame.specs.declared.kind.Kind.TheVariants as kind
 use Rattle.ua_frame.specs.declared.limits.Limits.{Limits}
 use Rattle.ua_services.specs.declared.open.OpenAnswer.TheVariants.{Open}
@@ -26,32 +26,21 @@ use Rattle.ua_channel.specs.Received.{Received, messages, numbers, received}
 -- behind the first OPN come OPNs and MSGs
 abbrev pub IsClientOrderOpen : List Kind → Type 0
 IsClientOrderOpen [] = Unit {0}
-IsClientOrderOpen (Hel ∷ ks) = ⊥
-IsClientOrderOpen (kind.Ack ∷ ks) = ⊥
-IsClientOrderOpen (kind.Err ∷ ks) = ⊥
 IsClientOrderOpen (Msg ∷ ks) = IsClientOrderOpen ks
 IsClientOrderOpen (Opn ∷ ks) = IsClientOrderOpen ks
-IsClientOrderOpen (Clo ∷ ks) = ⊥
+IsClientOrderOpen (other ∷ ks) = ⊥
 
 -- behind the ACK comes an OPN
 abbrev pub IsOrderAgreed : List Kind → Type 0
 IsOrderAgreed [] = Unit {0}
-IsOrderAgreed (Hel ∷ ks) = ⊥
-IsOrderAgreed (kind.Ack ∷ ks) = ⊥
-IsOrderAgreed (kind.Err ∷ ks) = ⊥
-IsOrderAgreed (Msg ∷ ks) = ⊥
 IsOrderAgreed (Opn ∷ ks) = IsClientOrderOpen ks
-IsOrderAgreed (Clo ∷ ks) = ⊥
+IsOrderAgreed (other ∷ ks) = ⊥
 
 -- an ACK comes first (OPC 10000-6, 7.1.3)
 abbrev pub IsClientOrder : List Kind → Type 0
 IsClientOrder [] = Unit {0}
-IsClientOrder (Hel ∷ ks) = ⊥
 IsClientOrder (kind.Ack ∷ ks) = IsOrderAgreed ks
-IsClientOrder (kind.Err ∷ ks) = ⊥
-IsClientOrder (Msg ∷ ks) = ⊥
-IsClientOrder (Opn ∷ ks) = ⊥
-IsClientOrder (Clo ∷ ks) = ⊥
+IsClientOrder (other ∷ ks) = ⊥
 
 -- ---- what frames carry
 

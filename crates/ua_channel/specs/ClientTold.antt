@@ -8,7 +8,7 @@ use Rattle.ua_chunk.specs.Item.Item.{Whole, Aborted}
 use Rattle.ua_structures.specs.declared.secure_channel.OpenResponse.{OpenResponse}
 use Rattle.ua_channel.specs.ClientTokens.{answer_in, response_listed, responses}
 use Rattle.ua_channel.specs.Content.{Content}
-use Rattle.ua_channel.specs.Content.Content.{Greets, Acks, Fails, Opens, Sends, Closes, Nothing}
+use Rattle.ua_channel.specs.Content.Content.{Acks, Opens, Sends}
 use Rattle.ua_channel.specs.Received.{Received}
 
 -- what a frame tells a client: an ACK, after which the OPN is to be sent; the channel and its first token; the reply to a call; a
@@ -50,10 +50,7 @@ told_ack (Some a) = Agreed a ∷ []
 
 -- what a frame that carries this tells after what was received
 abbrev pub client_tells : Received → Content → List ClientTold
-client_tells before (Greets hello) = []
 client_tells before (Acks ack) = told_ack ack
-client_tells before (Fails error) = []
 client_tells before (Opens o) = map (told_response (responses before.openings)) (response_listed (answer_in o))
 client_tells before (Sends c) = map told_item (given before.messages c)
-client_tells before (Closes c) = []
-client_tells before Nothing = []
+client_tells before other = []

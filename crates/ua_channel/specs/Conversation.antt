@@ -19,7 +19,7 @@ use Rattle.ua_chunk.specs.Refusal.{FewOpen, passes}
 use Rattle.ua_chunk.specs.Sequence.{may_follow}
 use Rattle.ua_chunk.specs.declared.chunk.Chunk.{Chunk}
 use Rattle.ua_channel.specs.Content.{Content, Opening, content}
-use Rattle.ua_channel.specs.Content.Content.{Greets, Acks, Fails, Opens, Sends, Closes, Nothing}
+use Rattle.ua_channel.specs.Content.Content.{Greets, Opens, Sends, Closes, Nothing}
 use Rattle.ua_channel.specs.Received.{Received, messages, numbers, received}
 use Rattle.ua_channel.specs.ServerRefusals.{is_taken, type_wanted}
 use Rattle.ua_channel.specs.ServerRules.{receive_size, server_gate}
@@ -51,35 +51,23 @@ pub record FitMessages (limits : Limits) (cs : List Chunk) : Type 0 where
 -- behind the first OPN come OPNs and MSGs, and a CLO is the last; of octets each MSG and CLO carries a chunk
 abbrev pub IsOrderOpen : List Content → Type 0
 IsOrderOpen [] = Unit {0}
-IsOrderOpen (Greets hello ∷ cs) = ⊥
-IsOrderOpen (Acks ack ∷ cs) = ⊥
-IsOrderOpen (Fails error ∷ cs) = ⊥
 IsOrderOpen (Opens o ∷ cs) = IsOrderOpen cs
 IsOrderOpen (Sends c ∷ cs) = IsOrderOpen cs
 IsOrderOpen (Closes c ∷ cs) = cs ≡ []
 IsOrderOpen (Nothing ∷ cs) = IsOrderOpen cs
+IsOrderOpen (other ∷ cs) = ⊥
 
 -- behind the HEL comes an OPN
 abbrev pub IsOrderGreeted : List Content → Type 0
 IsOrderGreeted [] = Unit {0}
-IsOrderGreeted (Greets hello ∷ cs) = ⊥
-IsOrderGreeted (Acks ack ∷ cs) = ⊥
-IsOrderGreeted (Fails error ∷ cs) = ⊥
 IsOrderGreeted (Opens o ∷ cs) = IsOrderOpen cs
-IsOrderGreeted (Sends c ∷ cs) = ⊥
-IsOrderGreeted (Closes c ∷ cs) = ⊥
-IsOrderGreeted (Nothing ∷ cs) = ⊥
+IsOrderGreeted (other ∷ cs) = ⊥
 
 -- a HEL comes first (OPC 10000-6, 7.1.3)
 abbrev pub IsServerOrder : List Content → Type 0
 IsServerOrder [] = Unit {0}
 IsServerOrder (Greets hello ∷ cs) = IsOrderGreeted cs
-IsServerOrder (Acks ack ∷ cs) = ⊥
-IsServerOrder (Fails error ∷ cs) = ⊥
-IsServerOrder (Opens o ∷ cs) = ⊥
-IsServerOrder (Sends c ∷ cs) = ⊥
-IsServerOrder (Closes c ∷ cs) = ⊥
-IsServerOrder (Nothing ∷ cs) = ⊥
+IsServerOrder (other ∷ cs) = ⊥
 
 -- a Hello that a server agrees to: its URL has fewer than 4096 octets, and both its sizes are at least 8192
 pub record IsGoodHello (hello : Option Hello) : Type 0 where
@@ -109,12 +97,10 @@ pub record IsGoodChunk (channel : ℕ) (before : Received) (c : Chunk) : Type 0 
 -- what a frame that comes behind these may carry, but for its number and its message
 abbrev pub MayCarry : ℕ → Received → Content → Type 0
 MayCarry channel before (Greets hello) = IsGoodHello hello
-MayCarry channel before (Acks ack) = Unit {0}
-MayCarry channel before (Fails error) = Unit {0}
 MayCarry channel before (Opens o) = IsGoodRequest channel (issued before) o
 MayCarry channel before (Sends c) = IsGoodChunk channel before c
 MayCarry channel before (Closes c) = IsGoodChunk channel before c
-MayCarry channel before Nothing = Unit {0}
+MayCarry channel before other = Unit {0}
 
 -- a conversation at a server with these limits on this channel
 pub record ServerConversation (limits : Limits) (channel : ℕ) (frames : List Frame) : Type 0 where

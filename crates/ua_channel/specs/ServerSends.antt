@@ -20,7 +20,7 @@ use Rattle.ua_chunk.specs.Sequence.{next_number}
 use Rattle.ua_channel.specs.Agreement.{agreement_of, lane_of}
 use Rattle.ua_channel.specs.Received.{Received}
 use Rattle.ua_channel.specs.ServerRefusals.{last_used}
-use Rattle.ua_channel.specs.ServerTold.{Told, Agreed, Opened, Asked, GaveUp, Closed}
+use Rattle.ua_channel.specs.ServerTold.{Told, Agreed, Opened}
 
 -- ---- at the opening
 
@@ -41,9 +41,7 @@ opened_frame channel number id handle token lifetime moment =
 abbrev pub AreSent : ℕ → ℕ → DateTime → Told → List ℕ → Type 0
 AreSent channel number moment (Agreed a) octets = octets ≡ frame_octets (ack_frame a.ack)
 AreSent channel number moment (Opened id handle token lifetime) octets = octets ≡ frame_octets (opened_frame channel number id handle token lifetime moment)
-AreSent channel number moment (Asked id token octets') octets = ⊥
-AreSent channel number moment (GaveUp id) octets = ⊥
-AreSent channel number moment Closed octets = ⊥
+AreSent channel number moment other octets = ⊥
 
 -- the number of the next chunk behind what is sent at this
 abbrev pub counted_by : Told → ℕ → ℕ
