@@ -194,11 +194,11 @@ pending_below n id cs asked below e = all_in (λ (j : ℕ). j < n) id (calls ask
 finished-push : (cs : List Chunk) (c : Chunk) (id : ℕ) → is_finished (cs ++ c ∷ []) id ≡ (is_finished cs id || ((is_of id c && ends c) || false))
 finished-push cs c id = list_any-append (λ (d : Chunk). is_of id d && ends d) cs (c ∷ [])
 
-and_false : (b : Bool) → (b && false) ≡ false
+pub and_false : (b : Bool) → (b && false) ≡ false
 and_false true = refl
 and_false false = refl
 
-and_true : (b : Bool) → (b && true) ≡ b
+pub and_true : (b : Bool) → (b && true) ≡ b
 and_true true = refl
 and_true false = refl
 
@@ -210,7 +210,7 @@ pub or_false : (b : Bool) → (b || false) ≡ b
 or_false true = refl
 or_false false = refl
 
-filter_same : (p q : ℕ → Bool) (ids : List ℕ) → ((id : ℕ) → p id ≡ q id) → filter p ids ≡ filter q ids
+pub filter_same : (p q : ℕ → Bool) (ids : List ℕ) → ((id : ℕ) → p id ≡ q id) → filter p ids ≡ filter q ids
 filter_same p q [] same = refl
 filter_same p q (id ∷ ids) same =
     ap (λ (b : Bool). if b then id ∷ filter p ids else filter p ids) (same id) ∙ ap (λ (js : List ℕ). if q id then id ∷ js else js) (filter_same p q ids same)
@@ -249,7 +249,7 @@ module _ (p q r : ℕ → Bool) (both : (id : ℕ) → r id ≡ (p id || q id)) 
       ∙ (ap (λ (t : List ℕ). filter (λ (id : ℕ). not (q id)) left ++ t) (filter_new new none)
       ∙ sym (filter-append (λ (id : ℕ). not (q id)) left new)))
 
-eqb_sym : (a b : ℕ) → eqb a b ≡ eqb b a
+pub eqb_sym : (a b : ℕ) → eqb a b ≡ eqb b a
 eqb_sym a b = grind arith
 
 left_by : (p q : ℕ → Bool) (ids : List ℕ) (ending : Bool) (request : ℕ) → ((id : ℕ) → p id ≡ (q id || ((eqb request id && ending) || false)))

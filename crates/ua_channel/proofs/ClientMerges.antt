@@ -51,7 +51,6 @@ use Rattle.ua_channel.proofs.MergedChunks.{Comes, EachEnds, closed_fresh, comes,
 use Rattle.ua_channel.proofs.MergedFrames.{all_told, at_end, each_along, each_chunk, goes_follows, goes_ordered, goes_small, latest_or-append, of_either, sized}
 use Rattle.ua_channel.proofs.PairedCalls.{tells_delivered}
 use Rattle.ua_channel.proofs.ReadOn.{events_on, run_on}
-use Rattle.ua_channel.proofs.ClientReading.{held_renewed}
 
 -- ---- the order
 
@@ -156,6 +155,14 @@ holds_used at b c ts rs h held =
       tokens_are = tokens_used b c (ap (is_in c.token) h.tokens_are ∙ held) ∙ (ap (from_last c.token) h.tokens_are ∙ sym same);
       newest_is = ap latest same ∙ (latest-from_last c.token (held_by (latest ts) (at.tokens ++ tokens_of rs)) held ∙ h.newest_is);
     }
+
+-- a token more is held
+pub held_renewed : (b : Received) (o : Opening) (r : OpenResponse) (newest : ℕ) → answer_in o ≡ Some (Open r) → latest (held_tokens b) ≡ Some newest → is_in r.token_id (held_tokens b) ≡ false
+    → held_tokens (after b (Opens o)) ≡ held_tokens b ++ r.token_id ∷ []
+unfolding held_tokens
+held_renewed b o r newest answers is fresh =
+    ap (λ (rs : List OpenResponse). held_by b.used (tokens_of rs)) (responses-push b.openings o r answers)
+    ∙ (ap (held_by b.used) (tokens_of-push (responses b.openings) r) ∙ held_by-push b.used r.token_id newest (tokens_of (responses b.openings)) is fresh)
 
 holds_renewed : (at : AtClient) (b : Received) (o : Opening) (r : OpenResponse) (ts : List ℕ) (rs : List OpenResponse) → answer_in o ≡ Some (Open r) → Holds at b ts rs
     → is_in r.token_id (held_by (latest ts) (at.tokens ++ tokens_of rs)) ≡ false
@@ -322,7 +329,7 @@ ids-append : (os more : List Opening) → opened_ids (os ++ more) ≡ opened_ids
 unfolding opened_ids
 ids-append os more = flat_map-append (λ (o : Opening). id_listed o.numbers) os more
 
-nothing_opened : tokens_of (responses []) ≡ []
+pub nothing_opened : tokens_of (responses []) ≡ []
 nothing_opened = ap tokens_of no_responses ∙ no_tokens
 
 module _ (limits : Limits) (asks later : List Placed) (octets : List ℕ) (told : List ClientTold) (at : AtClient) (ms : List Sent) (more : List Frame) (next : ℕ)

@@ -1,7 +1,7 @@
 -- That a client takes what a server writes, one message after the other.
-use Rattle.std.proofs.Common.{◌≡◌, ℕ, ◌+◌, ◌<◌, ◌≤◌, ◌^◌, min, Bool, true, false, IsTrue, ◌||◌, eqb, ltb, List, [], ◌∷◌, ◌++◌, Option, Some, None, length, map, refl, sym, ◌∙◌, ap, subst, arith, append_assoc, append-nil, length-append}
-use Rattle.std.specs.List.{AllByRecursion}
-use Rattle.std.proofs.lemmas.Bool.{and_from, and_parts, eq-eqb, le-ltb, ltb-true}
+use Rattle.std.proofs.Common.{◌≡◌, ℕ, ◌+◌, ◌<◌, ◌≤◌, ◌^◌, min, Bool, true, false, IsTrue, ◌||◌, eqb, ltb, List, [], ◌∷◌, ◌++◌, Option, Some, None, length, map, refl, sym, ◌∙◌, ap, subst, arith, append-nil, length-append, not}
+use Rattle.std.specs.List.{AllByRecursion, filter}
+use Rattle.std.proofs.lemmas.Bool.{and_from, and_parts, eq-eqb, le-ltb, ltb-true, or_left}
 use Rattle.ua_builtin.specs.NodeId.{node_id}
 use Rattle.ua_builtin.specs.Reasons.{first_reason}
 use Rattle.ua_builtin.specs.Status.{of_code, status_code}
@@ -14,10 +14,10 @@ use Rattle.ua_frame.specs.declared.gate.Gate.{Gate}
 use Rattle.ua_frame.specs.declared.limits.Limits.{Limits}
 use Rattle.ua_frame.specs.declared.kind.Kind.TheVariants as kind
 use Rattle.ua_frame.specs.Agreement.{ack_to}
-use Rattle.ua_frame.specs.After.{AllFrom, each_from}
+use Rattle.ua_frame.specs.After.{AllFrom}
 use Rattle.ua_frame.specs.Frames.{LetsIn, frame_octets, frame_size, frames_octets}
 use Rattle.ua_frame.specs.Messages.{ack, ack_frame}
-use Rattle.ua_frame.specs.Run.{Fits, Going, Run}
+use Rattle.ua_frame.specs.Run.{Going, Run}
 use Rattle.ua_frame.proofs.MessagesLawful.{sound_ack}
 use Rattle.ua_frame.proofs.Streams.{events-push, run_nil}
 use Rattle.ua_frame.proofs.Wholes.{whole_encodes}
@@ -38,24 +38,28 @@ use Rattle.ua_structures.proofs.SecureChannelLawful.{lawful_open_response}
 use Rattle.ua_chunk.specs.declared.chunk.Chunk.{Chunk}
 use Rattle.ua_chunk.specs.declared.fault.CutFault.{CutFault}
 use Rattle.ua_chunk.specs.declared.fault.CutFault.TheVariants.{TooManyOctets, TooManyChunks}
-use Rattle.ua_chunk.specs.declared.flag.Flag.TheVariants.{F, C}
+use Rattle.ua_chunk.specs.declared.flag.Flag.TheVariants.{A}
 use Rattle.ua_chunk.specs.declared.lane.Lane.{Lane}
 use Rattle.ua_chunk.specs.Abort.{abort_body}
-use Rattle.ua_chunk.specs.Cutting.{abort_chunk, chunk_of, chunks_octets, chunks_of, cut_refusal, numbered, number_after, pieces}
-use Rattle.ua_chunk.specs.Delivered.{aborted, delivered_behind}
+use Rattle.ua_chunk.specs.Cutting.{abort_chunk, chunk_of, chunks_octets, chunks_of, cut_refusal, numbered, number_after, pieces, flag_before}
+use Rattle.ua_chunk.specs.Delivered.{aborted, delivered}
 use Rattle.ua_chunk.specs.Item.{Item}
 use Rattle.ua_chunk.specs.Item.Item.{Whole, Aborted}
 use Rattle.ua_chunk.specs.Layout.{frame_of}
+use Rattle.ua_chunk.specs.Merge.{Sent, outcomes, part_of}
+use Rattle.ua_chunk.proofs.Bounds.{none_within}
 use Rattle.ua_chunk.specs.Open.{open_ids}
-use Rattle.ua_chunk.specs.Pending.{without}
-use Rattle.ua_chunk.specs.Refusal.{TakesMessages, message_refusal, passes}
-use Rattle.ua_chunk.specs.Sequence.{may_follow, next_number, ordered}
-use Rattle.ua_chunk.proofs.CutLaws.{cut_messages, follows_next}
-use Rattle.ua_chunk.proofs.OneMore.{open_push}
+use Rattle.std.specs.Prelude.{is_some}
+use Rattle.std.proofs.lemmas.List.{map-append}
+use Rattle.std.proofs.lemmas.List.Folds.{list_any-append}
+use Rattle.ua_chunk.specs.Refusal.{passes}
+use Rattle.ua_chunk.specs.Sequence.{may_follow, next_number}
+use Rattle.ua_chunk.proofs.CutLaws.{follows_next, cut_delivered}
+use Rattle.ua_chunk.proofs.OneMore.{delivered_from}
 use Rattle.ua_chunk.proofs.Fresh.{some_pieces}
 use Rattle.ua_chunk.proofs.Pieces.{next_small}
 use Rattle.ua_chunk.proofs.ReaderLaws.{abort_written}
-use Rattle.ua_channel.specs.Asks.{Asking, Placed, asked_before, asked_in, end_of, id_of, is_in, next_id, pending_calls, pending_renewals}
+use Rattle.ua_channel.specs.Asks.{Asking, Placed, asked_before, asked_in, end_of, id_of, is_in, next_id, pending_calls, pending_renewals, calls, is_finished, renewals}
 use Rattle.ua_channel.specs.Asks.Asking.{Call, Renewal}
 use Rattle.ua_channel.specs.ClientReads.{AtClient, ClientAgrees, ClientReads, IsAnswered, IsLaneBack, told_reply, with_answer, with_call, with_renewal, with_reply, without_id}
 use Rattle.ua_channel.specs.ClientSends.{hello_to}
@@ -63,22 +67,25 @@ use Rattle.ua_channel.specs.ClientTable.{answer_gate, client_gate, client_reason
 use Rattle.ua_channel.specs.ClientTokens.{answer_in, channel_in, from_last, held_by, held_tokens, opened_ids, responses, tokens_of}
 use Rattle.ua_channel.specs.ClientTold.{ClientTold, ClientTold as event, client_tells, told_item}
 use Rattle.ua_channel.specs.Content.{Content, Opening, content}
-use Rattle.ua_channel.specs.Content.Content.{Acks, Opens, Sends}
-use Rattle.ua_channel.specs.Received.{Received, after, latest, nothing_received, number_or, received}
+use Rattle.ua_channel.specs.Content.Content.{Acks, Opens}
+use Rattle.ua_channel.specs.Received.{Received, after, latest, nothing_received, number_or, received, messages, openings, openings_in, tokens_in, used_tokens}
 use Rattle.ua_channel.specs.ServerReads.{IsBodyFor}
 use Rattle.ua_channel.specs.ServerSends.{opened_frame, replied, replied_by}
 use Rattle.ua_channel.proofs.AskedLater.{asked_later}
-use Rattle.ua_channel.proofs.Askings.{all-push, all-weaken, asked_in-push, pending_below, pending_calls-call, pending_calls-more, pending_calls-renewal, pending_renewals-call, pending_renewals-more, pending_renewals-renewal, renewal_below, no_asks, all_append, next-append}
+use Rattle.ua_channel.proofs.Askings.{all-push, all-weaken, asked_in-push, pending_calls-call, pending_calls-renewal, pending_renewals-call, pending_renewals-more, pending_renewals-renewal, renewal_below, no_asks, next-append, filter_same}
 use Rattle.ua_channel.proofs.ClientAsking.{first_unset}
-use Rattle.ua_channel.proofs.ClientTakes.{IsReady, IsSent, all_asked, fits_one, fits_pieces, told_chunks, tokens_used}
 use Rattle.ua_channel.proofs.ClientTalks.{first_tail, responses-push, opened_ids-push, tokens_of-push, channel_in-push, no_ids, no_responses, no_tokens, awaited_later, later_tells, nothing_pending, nothing_renewed}
 use Rattle.ua_channel.proofs.Carried.{content_ack, content_opn}
-use Rattle.ua_channel.proofs.HeldTokens.{from_last-again, held_by-push, latest-from_last, latest-push, stays_in}
+use Rattle.ua_channel.proofs.HeldTokens.{latest-push, stays_in, held_by-used}
 use Rattle.ua_channel.proofs.OneFrameMore.{received-nil, received-push}
-use Rattle.ua_channel.proofs.ReadOn.{events_on, no_events, one_octets, run_on, run_one}
-use Rattle.ua_channel.proofs.ServerReading.{body_behind, body_delivered}
-use Rattle.ua_channel.proofs.WithChunks.{IsBehind, chunks_ack, cut_ordered, chunks_messages, chunks_openings, received_chunks, with_chunks}
-use Rattle.ua_channel.proofs.Written.{IsNumbered, IsOf, after_small, chunks_are, none_header, opening_carried, opening_size, lets_opn}
+use Rattle.ua_channel.proofs.ReadOn.{no_events, one_octets, run_one}
+use Rattle.ua_channel.proofs.ClientTakes.{all_asked}
+use Rattle.ua_channel.proofs.CutChunks.{AreSentIn, IsSentIn, cut_alone, cut_finished, cut_goes, ends_own, frames_fit, frames_framed, frames_messages, frames_numbers, frames_openings, frames_tokens, latest_token, one_merge, sent_in, within_one}
+use Rattle.ua_channel.proofs.ClientMerges.{held_renewed, nothing_opened, reads_merged}
+use Rattle.ua_channel.proofs.MergedChunks.{comes}
+use Rattle.ua_channel.proofs.MergedFrames.{nothing_yet, openings-more, tokens-more}
+use Rattle.ua_channel.specs.Merges.{AreMerged, ClientMerge, MayComeDown, NumbersGoOn, ended_by, latest_or, told_back, told_merged_back, with_merged_back}
+use Rattle.ua_channel.proofs.Written.{IsOf, chunks_are, none_header, opening_carried, opening_size, lets_opn, chunk_carried}
 
 -- ---- ACK
 
@@ -348,171 +355,160 @@ reads_renewal limits asks octets told at r =
 
 -- ---- replies
 
--- chunks of which each but the last has more to come leave the calls as they were, and the last answers its own
-pending_left : (lane : Lane) (s id : ℕ) (p : List ℕ) (ps : List (List ℕ)) (cs : List Chunk) (asked : List Asking) → pending_calls (cs ++ numbered lane s id (p ∷ ps)) asked ≡ without_id id (pending_calls cs asked)
-pending_left lane s id p [] cs asked = pending_calls-more cs (chunk_of lane F s id p) asked
-pending_left lane s id p (q ∷ qs) cs asked =
-    ap (λ (us : List Chunk). pending_calls us asked) (sym (append_assoc cs (chunk_of lane C s id p ∷ []) (numbered lane (next_number s) id (q ∷ qs))))
-    ∙ (pending_left lane (next_number s) id q qs (cs ++ chunk_of lane C s id p ∷ []) asked ∙ ap (without_id id) (pending_calls-more cs (chunk_of lane C s id p) asked))
+no_later : (calls (asked_in []) ≡ []) × (renewals (asked_in []) ≡ [])
+unfolding calls renewals asked_in
+no_later = (refl, refl)
 
--- the tokens that are held behind chunks under one of them
-tokens_left : (lane : Lane) (s id : ℕ) (p : List ℕ) (ps : List (List ℕ)) (b : Received) → is_in lane.token (held_tokens b) ≡ true → held_tokens (with_chunks b (numbered lane s id (p ∷ ps))) ≡ from_last lane.token (held_tokens b)
-unfolding with_chunks
-tokens_left lane s id p [] b held = tokens_used b (chunk_of lane F s id p) held
-tokens_left lane s id p (q ∷ qs) b held =
-    let c : Chunk = chunk_of lane C s id p in
-    let same : held_tokens (after b (Sends c)) ≡ from_last lane.token (held_tokens b) = tokens_used b c held in
-    tokens_left lane (next_number s) id q qs (after b (Sends c)) (ap (is_in lane.token) same ∙ stays_in lane.token (held_tokens b) held)
-    ∙ (ap (from_last lane.token) same ∙ from_last-again lane.token lane.token (held_tokens b) (stays_in lane.token (held_tokens b) held))
+all_stay : (ids : List ℕ) → filter (λ (i : ℕ). not (is_in i [])) ids ≡ ids
+all_stay [] = refl
+all_stay (id ∷ ids) = ap (λ (js : List ℕ). id ∷ js) (all_stay ids)
+
+in_front : (id : ℕ) (xs ys : List ℕ) → is_in id xs ≡ true → is_in id (xs ++ ys) ≡ true
+in_front id xs ys e = list_any-append (λ (n : ℕ). eqb n id) xs ys ∙ or_left (is_in id xs) (is_in id ys) e
+
+abort_length : (code : StatusCode) → length (abort_body.canonical (code, None)) ≡ 8
+unfolding abort_body status_code text counted
+abort_length code = omega (arith, length-append (number_octets 4 code.code) (number_octets 4 0xFFFF_FFFF), length-number_octets 4 code.code, length-number_octets 4 0xFFFF_FFFF)
+
+told_sent : (size : ℕ) (lane : Lane) (id : ℕ) (ms : List Sent) (cs : List Chunk) → AreSentIn size lane id cs → told_merged_back ms (map frame_of cs) ≡ map told_item (outcomes ms cs)
+told_sent size lane id ms [] s = refl
+told_sent size lane id ms (c ∷ cs) s =
+    ap (λ (k : Content). told_back ms k ++ told_merged_back ms (map frame_of cs)) (chunk_carried c s.0.numbers)
+    ∙ (ap (λ (ts : List ClientTold). map told_item (ended_by ms c) ++ ts) (told_sent size lane id ms cs s.1) ∙ sym (map-append told_item (ended_by ms c) (outcomes ms cs)))
+
+module _ (limits : Limits) (asks : List Placed) (octets : List ℕ) (told : List ClientTold) (at : AtClient) (r : ClientReads limits asks octets told at) where
+  -- frames of a merge, where the client asks nothing on and these tokens, calls and renewals are left
+  reads_frames : (ms : List Sent) (fs : List Frame) (next newest : ℕ) (tokens pending waiting : List ℕ) → ClientMerge limits at (asked_in asks) [] ms fs next
+      → held_by (latest (used_tokens fs)) (at.tokens ++ tokens_of (responses (openings fs))) ≡ tokens → latest_or at.newest (tokens_of (responses (openings fs))) ≡ newest
+      → filter (λ (i : ℕ). not (is_finished (messages fs) i)) at.pending ≡ pending → filter (λ (i : ℕ). not (is_in i (opened_ids (openings fs)))) at.renewals ≡ waiting
+      → ClientReads limits asks (octets ++ frames_octets fs) (told ++ told_merged_back ms fs) (record at { tokens = tokens; newest = newest; pending = pending; renewals = waiting; next = next })
+  reads_frames ms fs next newest tokens pending waiting m held last calls_are answers_are =
+      let left : filter (λ (i : ℕ). not (is_finished (messages fs) i)) (at.pending ++ calls (asked_in [])) ≡ pending =
+      ap (λ (t : List ℕ). filter (λ (i : ℕ). not (is_finished (messages fs) i)) (at.pending ++ t)) no_later.0
+      ∙ (ap (filter (λ (i : ℕ). not (is_finished (messages fs) i))) (append-nil at.pending) ∙ calls_are) in
+      let waits : filter (λ (i : ℕ). not (is_in i (opened_ids (openings fs)))) (at.renewals ++ renewals (asked_in [])) ≡ waiting =
+      ap (λ (t : List ℕ). filter (λ (i : ℕ). not (is_in i (opened_ids (openings fs)))) (at.renewals ++ t)) no_later.1
+      ∙ (ap (filter (λ (i : ℕ). not (is_in i (opened_ids (openings fs))))) (append-nil at.renewals) ∙ answers_are) in
+      let read : ClientReads limits asks (octets ++ frames_octets fs) (told ++ told_merged_back ms fs) (with_merged_back at (asked_in []) fs next) =
+      subst (λ (t : List Placed). ClientReads limits t (octets ++ frames_octets fs) (told ++ told_merged_back ms fs) (with_merged_back at (asked_in []) fs next)) (append-nil asks)
+      (reads_merged limits asks [] octets told at ms fs next r m) in
+      at_as (held_by (latest (used_tokens fs)) (at.tokens ++ tokens_of (responses (openings fs)))) tokens (latest_or at.newest (tokens_of (responses (openings fs)))) newest _ pending _ waiting held last left waits read
+    where
+      at_as : (ts us : List ℕ) (n o : ℕ) (ps qs ws vs : List ℕ) → ts ≡ us → n ≡ o → ps ≡ qs → ws ≡ vs
+          → ClientReads limits asks (octets ++ frames_octets fs) (told ++ told_merged_back ms fs) (record at { tokens = ts; newest = n; pending = ps; renewals = ws; next = next })
+          → ClientReads limits asks (octets ++ frames_octets fs) (told ++ told_merged_back ms fs) (record at { tokens = us; newest = o; pending = qs; renewals = vs; next = next })
+      at_as ts us n o ps qs ws vs a b c d h = subst (λ (x : AtClient). ClientReads limits asks (octets ++ frames_octets fs) (told ++ told_merged_back ms fs) x) (same a b c d) h
+        where
+          same : ts ≡ us → n ≡ o → ps ≡ qs → ws ≡ vs
+              → ◌≡◌ {A = AtClient} (record at { tokens = ts; newest = n; pending = ps; renewals = ws; next = next }) (record at { tokens = us; newest = o; pending = qs; renewals = vs; next = next })
+          same a b c d = cc
 
 module _ (limits : Limits) (asks : List Placed) (octets : List ℕ) (told : List ClientTold) (at : AtClient) (lane : Lane) (id : ℕ) (r : ClientReads limits asks octets told at) (back : IsLaneBack limits at lane)
     (awaited : is_in id at.pending ≡ true) (few : id < 2 ^ 32) where
-  id_below : id < next_id (asked_in asks)
-  id_below = pending_below (next_id (asked_in asks)) id (received r.frames).messages (asked_in asks) r.asked_below (ap (is_in id) r.pending_are ∙ awaited)
+  abbrev size : ℕ
+  size = at.ack.send_buffer_size
 
-  held_here : is_in lane.token (held_tokens (received r.frames)) ≡ true
-  held_here = ap (is_in lane.token) r.tokens_are ∙ back.held
+  -- where these frames were read, the token is held
+  abbrev IsHeld : List ℕ → List Opening → Type 0
+  IsHeld ts os = is_in lane.token (held_by (latest ts) (at.tokens ++ tokens_of (responses os))) ≡ true
 
-  ready : IsReady at.ack lane id (asked_in asks) (received r.frames).last (received r.frames).messages [] (received r.frames)
-  ready = record {
-    ack_is = r.ack_is;
-    channel_is = r.channel_is ∙ ap (λ (n : ℕ). Some n) (sym back.on);
-    held = held_here;
-    awaited = ap (is_in id) r.pending_are ∙ awaited;
-    last_is = refl;
-    messages_are = sym (append-nil (received r.frames).messages);
-  }
+  held_on : (ts : List ℕ) (os : List Opening) (token : ℕ) → token ≡ lane.token → IsHeld ts os → IsHeld (ts ++ token ∷ []) os
+  held_on ts os token is held =
+      let tokens : List ℕ = at.tokens ++ tokens_of (responses os) in
+      ap (λ (o : Option ℕ). is_in lane.token (held_by o tokens)) (latest-push ts token)
+      ∙ (ap (is_in lane.token) (held_by-used (latest ts) token tokens (ap (λ (t : ℕ). is_in t (held_by (latest ts) tokens)) is ∙ held))
+      ∙ (ap (λ (t : ℕ). is_in lane.token (from_last t (held_by (latest ts) tokens))) is ∙ stays_in lane.token (held_by (latest ts) tokens) held))
 
-  reached : length octets ≤ length (frames_octets r.frames)
-  reached = omega (arith, ap length (r.run.whole ∙ append-nil (frames_octets r.frames)))
+  carries_from : (us : List Frame) (cs : List Chunk) → AreSentIn size lane id cs → IsHeld (used_tokens us) (openings us)
+      → AllFrom (λ vs f. MayComeDown (with_merged_back at (asked_before (end_of vs f) []) vs at.next) (at.pending ++ calls (asked_before (end_of vs f) [])) (content f)) us (map frame_of cs)
+  carries_from us [] s held = tt
+  carries_from us (c ∷ cs) s held =
+      let f : Frame = frame_of c in
+      let tokens : used_tokens (us ++ f ∷ []) ≡ used_tokens us ++ c.token ∷ [] = tokens-more us f ∙ ap (λ (k : Content). used_tokens us ++ tokens_in k) (chunk_carried c s.0.numbers) in
+      let opens : openings (us ++ f ∷ []) ≡ openings us = openings-more us f ∙ (ap (λ (k : Content). openings us ++ openings_in k) (chunk_carried c s.0.numbers) ∙ append-nil (openings us)) in (
+        subst (MayComeDown (with_merged_back at (asked_before (end_of us f) []) us at.next) (at.pending ++ calls (asked_before (end_of us f) []))) (sym (chunk_carried c s.0.numbers))
+            (record {
+              on = ap not (eq-eqb c.channel at.channel (s.0.channel_is ∙ back.on));
+              held = ap (λ (t : ℕ). is_in t (held_by (latest (used_tokens us)) (at.tokens ++ tokens_of (responses (openings us))))) s.0.token_is ∙ held;
+              awaited =
+                  ap (λ (i : ℕ). is_in i (at.pending ++ calls (asked_before (end_of us f) []))) s.0.request_is
+                  ∙ in_front id at.pending (calls (asked_before (end_of us f) [])) awaited;
+            }),
+        carries_from (us ++ f ∷ []) cs s.1 (rw (tokens, opens) (held_on (used_tokens us) (openings us) c.token s.0.token_is held)),
+      )
 
-  placed_on : (n : ℕ) → length octets ≤ n → AllByRecursion (λ (p : Placed). p.0 ≤ n) asks
-  placed_on n le = all-weaken (λ (p : Placed). p.0 ≤ length octets) (λ (p : Placed). p.0 ≤ n) asks (λ p le'. omega (arith, le, le')) r.placed
+  -- chunks of a message alone, which is delivered so, behind which this comes next
+  reads_sent : (c : Chunk) (cs : List Chunk) (next : ℕ) (m : Sent) (items : List Item) → AreSentIn size lane id (c ∷ cs) → AreMerged limits (m ∷ []) (c ∷ cs)
+      → NumbersGoOn at.next (map (λ (d : Chunk). d.sequence) (c ∷ cs)) next → ((i : ℕ) → is_finished (c ∷ cs) i ≡ eqb i id) → delivered (c ∷ cs) ≡ items
+      → ClientReads limits asks (octets ++ chunks_octets (c ∷ cs)) (told ++ map told_item items) (with_reply at lane.token id next)
+  reads_sent c cs next m items sent merged goes finished delivers =
+      let fs : List Frame = map frame_of (c ∷ cs) in
+      let none : openings fs ≡ [] = frames_openings size lane id (c ∷ cs) sent in
+      let no_more : tokens_of (responses (openings fs)) ≡ [] = ap (λ (os : List Opening). tokens_of (responses os)) none ∙ nothing_opened in
+      subst (λ (ts : List ClientTold). ClientReads limits asks (octets ++ chunks_octets (c ∷ cs)) (told ++ ts) (with_reply at lane.token id next))
+      (told_sent size lane id (m ∷ []) (c ∷ cs) sent ∙ ap (map told_item) (sym (comes limits (m ∷ []) (c ∷ cs) merged).all ∙ delivers))
+      (reads_frames limits asks octets told at r (m ∷ []) fs next at.newest (from_last lane.token at.tokens) (without_id id at.pending) at.renewals
+      (record {
+        counted = ap (map id_of) no_asks;
+        placed = tt;
+        framed = frames_framed size lane id (c ∷ cs) r.sized sent;
+        fits = frames_fit size lane id (c ∷ cs) sent;
+        carries =
+            carries_from [] (c ∷ cs) sent
+            (nothing_yet (λ ts os us. IsHeld ts os) (ap (λ (t : List ℕ). is_in lane.token (at.tokens ++ t)) nothing_opened ∙ (ap (is_in lane.token) (append-nil at.tokens) ∙ back.held)));
+        numbered = subst (λ (ns : List ℕ). NumbersGoOn at.next ns next) (sym (frames_numbers size lane id (c ∷ cs) sent)) goes;
+        merged = subst (AreMerged limits (m ∷ [])) (sym (frames_messages size lane id (c ∷ cs) sent)) merged;
+      })
+      (ap (λ (ts : List ℕ). held_by (latest ts) (at.tokens ++ tokens_of (responses (openings fs)))) (frames_tokens size lane id (c ∷ cs) sent)
+      ∙ (ap (λ (o : Option ℕ). held_by o (at.tokens ++ tokens_of (responses (openings fs)))) (latest_token lane.token None c cs)
+      ∙ ap (from_last lane.token) (ap (λ (t : List ℕ). at.tokens ++ t) no_more ∙ append-nil at.tokens)))
+      (ap (latest_or at.newest) no_more)
+      (ap (λ (us : List Chunk). filter (λ (i : ℕ). not (is_finished us i)) at.pending) (frames_messages size lane id (c ∷ cs) sent)
+      ∙ filter_same (λ (i : ℕ). not (is_finished (c ∷ cs) i)) (λ (i : ℕ). not (eqb i id)) at.pending (λ i. ap not (finished i)))
+      (ap (λ (ids : List ℕ). filter (λ (i : ℕ). not (is_in i ids)) at.renewals) (ap opened_ids none ∙ no_ids) ∙ all_stay at.renewals))
 
-  newest_stays : latest (from_last lane.token at.tokens) ≡ Some at.newest
-  newest_stays = latest-from_last lane.token at.tokens back.held ∙ r.newest_is
+  -- a reply
+  reads_reply : (body : List ℕ) → IsBodyFor limits lane.room body
+      → ClientReads limits asks (octets ++ chunks_octets (chunks_of lane body at.next id)) (told ++ event.Answered id body ∷ []) (with_reply at lane.token id (number_after at.next (pieces lane.room body)))
+  reads_reply body w =
+      let ps = some_pieces lane.room body w.some in
+      let alone = cut_alone limits lane body at.next id back.some w in
+      let sent : AreSentIn size lane id (chunks_of lane body at.next id) =
+      all-weaken (IsOf lane id) (IsSentIn size lane id) (chunks_of lane body at.next id) (sent_in size lane id back.on_small back.token_small few back.fits) (chunks_are lane body at.next id r.next_small back.some w.some) in
+      subst (λ (t : List (List ℕ)). ClientReads limits asks (octets ++ chunks_octets (numbered lane at.next id t)) (told ++ event.Answered id body ∷ []) (with_reply at lane.token id (number_after at.next t))) (sym ps.are)
+      (reads_sent (chunk_of lane (flag_before ps.others) at.next id ps.first) (numbered lane (next_number at.next) id ps.others) (number_after at.next (ps.first ∷ ps.others)) alone.message (Whole id body ∷ [])
+      (subst (λ (t : List (List ℕ)). AreSentIn size lane id (numbered lane at.next id t)) ps.are sent) (subst (λ (t : List (List ℕ)). AreMerged limits (alone.message ∷ []) (numbered lane at.next id t)) ps.are alone.merged)
+      (cut_goes lane at.next id ps.first ps.others r.next_small) (λ i. cut_finished lane at.next id i ps.first ps.others)
+      (ap (λ (t : List (List ℕ)). delivered (numbered lane at.next id t)) (sym ps.are) ∙ cut_delivered lane body at.next id back.some w.some))
 
-  sent_of : (c : Chunk) → IsOf lane id c → IsSent at.ack.send_buffer_size lane id c
-  sent_of c is = record {
-    numbers = record {
-      channel = omega (arith, is.channel, back.on_small);
-      token = omega (arith, is.token, back.token_small);
-      sequence = omega (arith, is.sequence);
-      request = omega (arith, is.request, few);
-    };
-    channel_is = is.channel;
-    token_is = is.token;
-    request_is = is.request;
-    fits = omega (arith, is.fits, back.fits);
-  }
-
-  -- frames of chunks of this reply that are taken, which deliver this, behind which this comes next
-  reads_chunks : (cs : List Chunk) (next : ℕ) (items : List Item) → AllFrom (Fits (client_rules limits asks)) r.frames (map frame_of cs) → AllByRecursion (IsSent at.ack.send_buffer_size lane id) cs
-      → delivered_behind (received r.frames).messages cs ≡ items → held_tokens (with_chunks (received r.frames) cs) ≡ from_last lane.token (held_tokens (received r.frames))
-      → pending_calls ((received r.frames).messages ++ cs) (asked_in asks) ≡ without_id id (pending_calls (received r.frames).messages (asked_in asks))
-      → may_follow (with_chunks (received r.frames) cs).last next ≡ true → next ≤ 4294966272 → open_ids ((received r.frames).messages ++ cs) ≡ []
-      → ClientReads limits asks (octets ++ chunks_octets cs) (told ++ map told_item items) (with_reply at lane.token id next)
-  reads_chunks cs next items fit sent delivers tokens pending follows small none =
-      let b : Received = received r.frames in
-      let now : received (r.frames ++ map frame_of cs) ≡ with_chunks (received r.frames) cs =
-      received_chunks r.frames cs (all-weaken (IsSent at.ack.send_buffer_size lane id) IsNumbered cs (λ c s. s.numbers) sent) in
-      record {
-        frames = r.frames ++ map frame_of cs;
-        run = run_on (client_rules limits asks) octets r.frames (map frame_of cs) r.run fit refl;
-        placed = placed_on (length (octets ++ chunks_octets cs)) (omega (arith, length-append octets (chunks_octets cs)));
-        told_is =
-            events_on (client_rules limits asks) r.frames (map frame_of cs)
-            ∙ (ap (λ (ts : List ClientTold). ts ++ each_from (client_rules limits asks).tells r.frames (map frame_of cs)) r.told_is
-            ∙ ap (λ (ts : List ClientTold). told ++ ts) (told_chunks limits asks at.ack.send_buffer_size lane id cs r.frames sent ∙ ap (map told_item) delivers));
-        ack_is = ap (λ (z : Received). z.ack) now ∙ (chunks_ack (received r.frames) cs ∙ r.ack_is);
-        large = r.large;
-        sized = r.sized;
-        channel_is = ap (λ (z : Received). channel_in (responses z.openings)) now ∙ (ap (λ (os : List Opening). channel_in (responses os)) (chunks_openings (received r.frames) cs) ∙ r.channel_is);
-        tokens_are = ap held_tokens now ∙ (tokens ∙ ap (from_last lane.token) r.tokens_are);
-        newest_is = newest_stays;
-        pending_are = ap (λ (z : Received). pending_calls z.messages (asked_in asks)) now ∙ (ap (λ (us : List Chunk). pending_calls us (asked_in asks)) (chunks_messages (received r.frames) cs) ∙ (pending ∙ ap (without_id id) r.pending_are));
-        renewals_are = ap (λ (z : Received). pending_renewals (opened_ids z.openings) (asked_in asks)) now ∙ (ap (λ (os : List Opening). pending_renewals (opened_ids os) (asked_in asks)) (chunks_openings (received r.frames) cs) ∙ r.renewals_are);
-        asked_below = r.asked_below;
-        sent_below =
-            subst (λ (us : List Chunk). AllByRecursion (λ (c : Chunk). c.request < next_id (asked_in asks)) us) (sym (ap (λ (z : Received). z.messages) now ∙ chunks_messages (received r.frames) cs))
-            (all_append (λ (c : Chunk). c.request < next_id (asked_in asks)) (received r.frames).messages cs r.sent_below
-            (all-weaken (IsSent at.ack.send_buffer_size lane id) (λ (c : Chunk). c.request < next_id (asked_in asks)) cs (λ c s. omega (arith, s.request_is, id_below)) sent));
-        opened_below =
-            subst (λ (os : List Opening). AllByRecursion (λ (n : ℕ). n < next_id (asked_in asks)) (opened_ids os)) (sym (ap (λ (z : Received). z.openings) now ∙ chunks_openings (received r.frames) cs)) r.opened_below;
-        follows = ap (λ (z : Received). may_follow z.last next) now ∙ follows;
-        next_small = small;
-        none_open = ap (λ (z : Received). open_ids z.messages) now ∙ (ap open_ids (chunks_messages (received r.frames) cs) ∙ none);
-      }
-
-  module _ (body : List ℕ) (w : IsBodyFor limits lane.room body) where
-    all_sent : AllByRecursion (IsSent at.ack.send_buffer_size lane id) (chunks_of lane body at.next id)
-    all_sent = all-weaken (IsOf lane id) (IsSent at.ack.send_buffer_size lane id) (chunks_of lane body at.next id) sent_of (chunks_are lane body at.next id r.next_small back.some w.some)
-
-    behind : IsBehind lane at.next id (pieces lane.room body) (received r.frames)
-    behind = body_behind lane body at.next id (received r.frames) w.some r.none_open
-
-    reply_fits : AllFrom (Fits (client_rules limits asks)) r.frames (map frame_of (chunks_of lane body at.next id))
-    reply_fits =
-        let ps = some_pieces lane.room body w.some in
-        subst (λ (t : List (List ℕ)). AllFrom (Fits (client_rules limits asks)) r.frames (map frame_of (numbered lane at.next id t))) (sym ps.are)
-        (fits_pieces limits asks (length octets) at.ack lane id (received r.frames).messages r.placed r.sized r.none_open (received r.frames).last [] at.next ps.first ps.others r.frames ready reached
-        (subst (λ (t : List (List ℕ)). AllByRecursion (IsSent at.ack.send_buffer_size lane id) (numbered lane at.next id t)) ps.are all_sent)
-        (ap (λ (t : List (List ℕ)). ordered (received r.frames).last (numbered lane at.next id t)) (sym ps.are) ∙ cut_ordered lane (received r.frames).last body at.next id w.some r.follows)
-        (subst (λ (t : List (List ℕ)). TakesMessages limits.max_message_size limits.max_chunk_count [] (numbered lane at.next id t)) ps.are
-        (cut_messages limits.max_message_size limits.max_chunk_count lane body at.next id back.some w.some w.octets_fit w.chunks_fit)))
-
-    -- a reply
-    pub reads_reply : ClientReads limits asks (octets ++ chunks_octets (chunks_of lane body at.next id)) (told ++ event.Answered id body ∷ []) (with_reply at lane.token id (number_after at.next (pieces lane.room body)))
-    reads_reply =
-        let ps = some_pieces lane.room body w.some in
-        reads_chunks (chunks_of lane body at.next id) (number_after at.next (pieces lane.room body)) (Whole id body ∷ []) reply_fits all_sent
-        (body_delivered lane body at.next id (received r.frames).messages back.some w.some r.none_open)
-        (ap (λ (t : List (List ℕ)). held_tokens (with_chunks (received r.frames) (numbered lane at.next id t))) ps.are ∙ tokens_left lane at.next id ps.first ps.others (received r.frames) held_here)
-        (ap (λ (t : List (List ℕ)). pending_calls ((received r.frames).messages ++ numbered lane at.next id t) (asked_in asks)) ps.are ∙ pending_left lane at.next id ps.first ps.others (received r.frames).messages (asked_in asks))
-        behind.follows (after_small at.next (pieces lane.room body) r.next_small) behind.none_open
-
-  -- ---- a reply that is given up
-
-  module _ (code : StatusCode) (code_small : code.code < 2 ^ 32) where
-    abort : Chunk
-    abort = abort_chunk lane at.next id code
-
-    abort_length : length (abort_body.canonical (code, None)) ≡ 8
-    unfolding abort_body status_code text counted
-    abort_length = omega (arith, length-append (number_octets 4 code.code) (number_octets 4 0xFFFF_FFFF), length-number_octets 4 code.code, length-number_octets 4 0xFFFF_FFFF)
-
-    abort_sent : IsSent at.ack.send_buffer_size lane id abort
-    unfolding abort
-    abort_sent = record {
-      numbers = record { channel = back.on_small; token = back.token_small; sequence = omega (arith, r.next_small); request = few };
-      channel_is = refl;
-      token_is = refl;
-      request_is = refl;
-      fits = omega (arith, abort_length, r.large);
-    }
-
-    abort_good : message_refusal limits.max_message_size limits.max_chunk_count [] abort ≡ None
-    unfolding abort
-    abort_good = rw (abort_written code code_small) refl
-
-    abort_delivers : delivered_behind (received r.frames).messages (abort ∷ []) ≡ Aborted id code None ∷ []
-    unfolding abort
-    abort_delivers = ap (λ (a : Option (StatusCode × Option (List ℕ))). aborted id a ++ []) (abort_written code code_small)
-
-    abort_closes : open_ids ((received r.frames).messages ++ abort ∷ []) ≡ []
-    unfolding abort
-    abort_closes = open_push (received r.frames).messages (abort_chunk lane at.next id code) ∙ ap (λ (ids : List ℕ). without (λ (j : ℕ). eqb j id) ids ++ []) r.none_open
-
-    pub reads_abort : ClientReads limits asks (octets ++ frame_octets (frame_of (abort_chunk lane at.next id code))) (told ++ event.GaveUp id code ∷ []) (with_reply at lane.token id (next_number at.next))
-    unfolding abort with_chunks
-    reads_abort =
-        subst (λ (t : List ℕ). ClientReads limits asks (octets ++ t) (told ++ event.GaveUp id code ∷ []) (with_reply at lane.token id (next_number at.next))) (one_octets (frame_of (abort_chunk lane at.next id code)))
-        (reads_chunks (abort_chunk lane at.next id code ∷ []) (next_number at.next) (Aborted id code None ∷ [])
-        (fits_one limits asks (length octets) at.ack lane id (received r.frames).messages r.placed r.sized r.none_open (received r.frames).last [] (abort_chunk lane at.next id code) r.frames abort_sent ready reached r.follows abort_good, tt)
-        (abort_sent, tt) abort_delivers
-        (tokens_used (received r.frames) (abort_chunk lane at.next id code) held_here)
-        (pending_calls-more (received r.frames).messages (abort_chunk lane at.next id code) (asked_in asks))
-        (follows_next at.next) (next_small at.next r.next_small) abort_closes)
+  -- a reply that is given up
+  reads_abort : (code : StatusCode) → code.code < 2 ^ 32
+      → ClientReads limits asks (octets ++ frame_octets (frame_of (abort_chunk lane at.next id code))) (told ++ event.GaveUp id code ∷ []) (with_reply at lane.token id (next_number at.next))
+  reads_abort code small =
+      let c : Chunk = abort_chunk lane at.next id code in
+      let body : List ℕ = abort_body.canonical (code, None) in
+      let sent : Sent = record { request = id; pieces = []; end = A; last = body } in
+      subst (λ (t : List ℕ). ClientReads limits asks (octets ++ t) (told ++ event.GaveUp id code ∷ []) (with_reply at lane.token id (next_number at.next))) (one_octets (frame_of c))
+      (reads_sent c [] (next_number at.next) sent (Aborted id code None ∷ []) (
+        record {
+          numbers = record { channel = back.on_small; token = back.token_small; sequence = omega (arith, r.next_small); request = few };
+          channel_is = refl;
+          token_is = refl;
+          request_is = refl;
+          fits = omega (arith, abort_length code, r.large);
+        },
+        tt,
+      )
+      (record {
+        own_ids = (refl, tt);
+        within = λ i n e.
+            within_one limits.max_message_size limits.max_chunk_count sent n (eqb id i)
+            (record { ending = refl; readable = λ f. ap is_some (abort_written code small); octets_fit = none_within limits.max_message_size; chunks_fit = none_within limits.max_chunk_count }) e;
+        merged = one_merge sent (map part_of (c ∷ [])) refl;
+        few_open = (omega arith, tt);
+      })
+      (refl, tt, follows_next at.next, next_small at.next r.next_small) (λ i. ends_own id i)
+      (delivered_from (c ∷ []) ∙ ap (λ (a : Option (StatusCode × Option (List ℕ))). aborted id a ++ []) (abort_written code small)))
 
   -- ---- a reply, or its abort
 
@@ -537,14 +533,6 @@ module _ (limits : Limits) (asks : List Placed) (octets : List ℕ) (told : List
   reads_replied body some = replied_so body (cut_refusal lane body) some refl
 
 -- ---- the answer to a renewal
-
--- a token more is held
-pub held_renewed : (b : Received) (o : Opening) (r : OpenResponse) (newest : ℕ) → answer_in o ≡ Some (Open r) → latest (held_tokens b) ≡ Some newest → is_in r.token_id (held_tokens b) ≡ false
-    → held_tokens (after b (Opens o)) ≡ held_tokens b ++ r.token_id ∷ []
-unfolding held_tokens
-held_renewed b o r newest answers is fresh =
-    ap (λ (rs : List OpenResponse). held_by b.used (tokens_of rs)) (responses-push b.openings o r answers)
-    ∙ (ap (held_by b.used) (tokens_of-push (responses b.openings) r) ∙ held_by-push b.used r.token_id newest (tokens_of (responses b.openings)) is fresh)
 
 one_in : (id : ℕ) (ids : List ℕ) → ids ≡ id ∷ [] → is_in id ids ≡ true
 one_in id ids one = ap (is_in id) one ∙ ap (λ (b : Bool). b || false) (eq-eqb id id refl)

@@ -50,6 +50,7 @@ mod ClientConversing
 mod ReplyLimits
 mod MergedChunks
 mod MergedFrames
+pub mod CutChunks
 mod ServerMerges
 mod ClientMerges
 pub mod Groups

@@ -61,7 +61,7 @@ pub openings-more : (fs : List Frame) (f : Frame) → openings (fs ++ f ∷ []) 
 unfolding openings
 openings-more fs f = sym (flat_map_more (λ (g : Frame). openings_in (content g)) [] fs f)
 
-tokens-more : (fs : List Frame) (f : Frame) → used_tokens (fs ++ f ∷ []) ≡ used_tokens fs ++ tokens_in (content f)
+pub tokens-more : (fs : List Frame) (f : Frame) → used_tokens (fs ++ f ∷ []) ≡ used_tokens fs ++ tokens_in (content f)
 unfolding used_tokens
 tokens-more fs f = sym (flat_map_more (λ (g : Frame). tokens_in (content g)) [] fs f)
 
@@ -70,9 +70,13 @@ unfolding messages
 messages-more fs f = sym (flat_map_more (λ (g : Frame). chunks_in (content g)) [] fs f)
 
 -- no frames brought nothing
-nothing_yet : (P : List ℕ → List Opening → List Chunk → Type 0) → P [] [] [] → P (used_tokens []) (openings []) (messages [])
+pub nothing_yet : (P : List ℕ → List Opening → List Chunk → Type 0) → P [] [] [] → P (used_tokens []) (openings []) (messages [])
 unfolding used_tokens openings messages
 nothing_yet P h = h
+
+pub none_used : (n : ℕ) → latest_or n (used_tokens []) ≡ n
+unfolding used_tokens
+none_used n = refl
 
 -- ---- what a frame of a merge carries
 

@@ -1,7 +1,7 @@
 -- That a server takes what a client writes, one message after the other.
-use Rattle.std.proofs.Common.{◌≡◌, ℕ, ℤ, pos, ◌+◌, ◌<◌, ◌≤◌, ◌^◌, Bool, true, false, IsTrue, eqb, leb, ltb, List, [], ◌∷◌, ◌++◌, Option, Some, None, length, map, refl, sym, ◌∙◌, ap, subst, arith, append-nil, length-append}
-use Rattle.std.specs.List.{AllByRecursion, flat_map, list_any}
+use Rattle.std.proofs.Common.{◌≡◌, ℕ, ℤ, pos, ◌+◌, ◌<◌, ◌≤◌, ◌^◌, Bool, true, false, IsTrue, eqb, leb, ltb, List, [], ◌∷◌, ◌++◌, Option, Some, None, length, map, refl, sym, ◌∙◌, ap, subst, arith, length-append}
 use Rattle.std.specs.Prelude.{if◌then◌else◌}
+use Rattle.std.proofs.lemmas.List.{map-append}
 use Rattle.std.proofs.lemmas.Bool.{and_from, and_parts, eq-eqb, le-leb, le-ltb, lt-ltb, ltb-true, ne_eqb}
 use Rattle.ua_builtin.specs.DateTime.{date_time}
 use Rattle.ua_builtin.specs.NodeId.{node_id}
@@ -16,7 +16,6 @@ use Rattle.ua_frame.specs.Frames.{LetsIn, frame_octets, frame_size}
 use Rattle.ua_frame.specs.declared.kind.Kind.TheVariants.{Opn}
 use Rattle.ua_frame.specs.Hello.{hello_gate}
 use Rattle.ua_frame.specs.Messages.{hello}
-use Rattle.ua_frame.specs.Run.{Fits}
 use Rattle.ua_frame.specs.After.{AllFrom, each_from}
 use Rattle.ua_frame.proofs.MessagesLawful.{sound_hello}
 use Rattle.ua_frame.proofs.Streams.{events-push, run_nil}
@@ -34,26 +33,23 @@ use Rattle.ua_structures.proofs.SecureChannelLawful.{lawful_open_request}
 use Rattle.ua_chunk.specs.declared.chunk.Chunk.{Chunk}
 use Rattle.ua_chunk.specs.declared.flag.Flag.TheVariants.{F}
 use Rattle.ua_chunk.specs.declared.lane.Lane.{Lane}
-use Rattle.ua_chunk.specs.Cutting.{chunks_octets, chunks_of, numbered, number_after, pieces}
-use Rattle.ua_chunk.specs.Delivered.{delivered_behind}
-use Rattle.ua_chunk.specs.Gathered.{joined, unfinished}
-use Rattle.ua_chunk.specs.Item.Item.{Whole}
+use Rattle.ua_chunk.specs.Cutting.{chunks_octets, chunks_of, numbered, number_after, pieces, chunk_of, flag_before}
 use Rattle.ua_chunk.specs.Layout.{chunk_in, frame_of}
+use Rattle.ua_chunk.specs.Merge.{Sent, outcomes}
 use Rattle.ua_chunk.specs.Open.{open_ids}
 use Rattle.ua_chunk.specs.Sequence.{may_follow, next_number}
 use Rattle.ua_chunk.proofs.Carried.{chunk_found}
-use Rattle.ua_chunk.proofs.CutLaws.{cut_messages, follows_next}
-use Rattle.ua_chunk.proofs.Fresh.{cut_behind, some_pieces}
-use Rattle.ua_chunk.proofs.OneMore.{not_open}
-use Rattle.ua_chunk.proofs.Pieces.{joined_pieces, next_small}
+use Rattle.ua_chunk.proofs.CutLaws.{follows_next, cut_delivered}
+use Rattle.ua_chunk.proofs.Fresh.{some_pieces}
+use Rattle.ua_chunk.proofs.Pieces.{next_small}
 use Rattle.ua_chunk.proofs.ReaderLaws.{frame_of_chunk}
 use Rattle.ua_channel.specs.Content.{Content, content, opening_of}
 use Rattle.ua_channel.specs.Content.Content.{Greets, Opens, Closes}
 use Rattle.ua_channel.specs.ClientSends.{first_open, hello_frame, hello_to, open_frame, renewal_frame, close_frame, token_lifetime}
 use Rattle.ua_channel.specs.Agreement.{agreement_of}
-use Rattle.ua_channel.specs.Received.{Received, after, nothing_received, number_or, received}
+use Rattle.ua_channel.specs.Received.{Received, after, nothing_received, number_or, received, numbers, openings, tokens_in, used_tokens}
 use Rattle.ua_channel.specs.ServerReads.{AtServer, IsBodyFor, IsLaneTo, IsTakenAt, ServerCloses, ServerReads, with_message, with_token}
-use Rattle.ua_channel.specs.ServerRefusals.{is_taken, last_used, or_first, server_reasons, type_wanted}
+use Rattle.ua_channel.specs.ServerRefusals.{is_taken, last_used, server_reasons, type_wanted}
 use Rattle.ua_channel.specs.ServerRules.{server_gate_behind, opening_gate, receive_size, running_gate, server_gate, server_rules}
 use Rattle.ua_channel.specs.ServerTold.{Told, Told as event, issued, server_tells, told_under}
 use Rattle.ua_channel.proofs.Askings.{all-weaken}
@@ -62,107 +58,103 @@ use Rattle.ua_channel.proofs.OneFrameMore.{received-nil, received-push}
 use Rattle.ua_channel.proofs.ClientFrames.{hello_length}
 use Rattle.ua_channel.proofs.Openings.{HasHeaders, opens}
 use Rattle.ua_channel.proofs.Phases.{greeted_by}
-use Rattle.ua_channel.proofs.ReadOn.{events_on, no_events, run_last, run_on, run_one}
-use Rattle.ua_channel.proofs.ServerTakes.{IsReady, IsSent, fits_chunks, told_chunks}
-use Rattle.ua_channel.proofs.WithChunks.{IsBehind, behind_pieces, cut_ordered, chunks_closed, chunks_hello, chunks_messages, chunks_openings, received_chunks, with_chunks}
-use Rattle.ua_channel.proofs.Written.{IsNumbered, IsOf, after_small, chunks_are, header_sizes, none_header, none_is, opening_body, opening_carried, opening_size, lets_opn}
+use Rattle.ua_channel.proofs.ReadOn.{no_events, run_last, run_one}
+use Rattle.ua_channel.proofs.CutChunks.{Alone, AreSentIn, IsSentIn, cut_alone, cut_goes, frames_fit, frames_framed, frames_messages, frames_numbers, frames_openings, frames_tokens, last_token, sent_in}
+use Rattle.ua_channel.proofs.MergedChunks.{comes}
+use Rattle.ua_channel.proofs.MergedFrames.{latest_or-append, none_used, tokens-more}
+use Rattle.ua_channel.proofs.ServerMerges.{reads_merged}
+use Rattle.ua_channel.specs.Conversation.{IsGoodRequest}
+use Rattle.ua_channel.specs.Merges.{AreMerged, CarriesEither, IsChunkHere, NumbersGoOn, ServerMerge, ended_by, latest_or, told_by_merged, told_of_merge, with_merged}
+use Rattle.ua_channel.proofs.Written.{IsOf, chunks_are, header_sizes, none_header, none_is, opening_body, opening_carried, opening_size, lets_opn, chunk_carried}
 use Rattle.ua_channel.specs.inside.ServerParts.{IsAskedIn, OpensSo, asked_reasons}
 use Rattle.ua_channel.specs.declared.server_opening.Asked.{Asked}
 use Rattle.ua_channel.specs.declared.server_opening.Opened.{Opened}
 
 -- ---- a message
 
--- what the chunks of a body deliver behind chunks that leave nothing unfinished
-pub body_delivered : (lane : Lane) (body : List ℕ) (s id : ℕ) (before : List Chunk) → 0 < lane.room → 0 < length body → open_ids before ≡ [] → delivered_behind before (chunks_of lane body s id) ≡ Whole id body ∷ []
-body_delivered lane body s id before room some none =
-    let ps = some_pieces lane.room body some in
-    ap (λ (t : List (List ℕ)). delivered_behind before (numbered lane s id t)) ps.are
-    ∙ (cut_behind lane s id ps.first ps.others before
-    ∙ (ap (λ (t : List (List ℕ)). Whole id (joined (unfinished id before) ++ flat_map (λ p. p) t) ∷ []) (sym ps.are)
-    ∙ (ap (λ (us : List Chunk). Whole id (joined us ++ flat_map (λ p. p) (pieces lane.room body)) ∷ []) (not_open id before (ap (list_any (λ (j : ℕ). eqb j id)) none))
-    ∙ ap (λ (t : List ℕ). Whole id t ∷ []) (joined_pieces lane.room body room some))))
-
-pub body_behind : (lane : Lane) (body : List ℕ) (s id : ℕ) (b : Received) → 0 < length body → open_ids b.messages ≡ [] → IsBehind lane s id (pieces lane.room body) b
-body_behind lane body s id b some none =
-    let ps = some_pieces lane.room body some in
-    subst (λ (t : List (List ℕ)). IsBehind lane s id t b) (sym ps.are) (behind_pieces lane s id ps.first ps.others b none)
-
 module _ (limits : Limits) (channel : ℕ) (octets : List ℕ) (told : List Told) (at : AtServer) (lane : Lane) (body : List ℕ) (id : ℕ) (on : channel < 2 ^ 32) (few : id < 2 ^ 32)
     (r : ServerReads limits channel octets told at) (to : IsLaneTo limits channel at lane) (w : IsBodyFor limits lane.room body) where
-  before : Received
-  before = received r.frames
+  abbrev size : ℕ
+  size = receive_size limits (Some at.hello)
 
-  chunks : List Chunk
+  abbrev chunks : List Chunk
   chunks = chunks_of lane body at.next id
 
-  sent_of : (c : Chunk) → IsOf lane id c → IsSent (receive_size limits (Some at.hello)) channel lane.token c
-  sent_of c is = record {
-    numbers = record {
-      channel = omega (arith, is.channel, to.on, on);
-      token = omega (arith, is.token, to.taken.issued, r.few_issued);
-      sequence = omega (arith, is.sequence);
-      request = omega (arith, is.request, few);
-    };
-    channel_is = is.channel ∙ to.on;
-    token_is = is.token;
-    fits = omega (arith, is.fits, to.fits);
+  alone : Alone limits (chunks_of lane body at.next id)
+  alone = cut_alone limits lane body at.next id to.some w
+
+  all_sent : AreSentIn size lane id chunks
+  all_sent =
+      all-weaken (IsOf lane id) (IsSentIn size lane id) chunks (sent_in size lane id (omega (arith, to.on, on)) (omega (arith, to.taken.issued, r.few_issued)) few to.fits)
+      (chunks_are lane body at.next id r.next_small to.some w.some)
+
+  carries_from : (us : List Frame) (cs : List Chunk) → AreSentIn size lane id cs → latest_or at.used (used_tokens us) ≤ lane.token
+      → AllFrom (λ vs f. CarriesEither (IsGoodRequest channel (with_merged at vs at.next).issued) (IsChunkHere channel (with_merged at vs at.next)) (content f)) us (map frame_of cs)
+  carries_from us [] s le = tt
+  carries_from us (c ∷ cs) s le = (
+    subst (CarriesEither (IsGoodRequest channel (with_merged at us at.next).issued) (IsChunkHere channel (with_merged at us at.next))) (sym (chunk_carried c s.0.numbers))
+        (s.0.channel_is ∙ to.on, record { not_before = omega (arith, le, s.0.token_is); issued = omega (arith, s.0.token_is, to.taken.issued) }),
+    carries_from (us ++ frame_of c ∷ []) cs s.1
+        (omega (
+          arith,
+          ap (latest_or at.used) (tokens-more us (frame_of c) ∙ ap (λ (k : Content). used_tokens us ++ tokens_in k) (chunk_carried c s.0.numbers)),
+          latest_or-append at.used (used_tokens us) (c.token ∷ []),
+          s.0.token_is,
+        )),
+  )
+
+  told_from : (ms : List Sent) (us : List Frame) (cs : List Chunk) → AreSentIn size lane id cs
+      → each_from (λ vs f. told_by_merged ms (at.issued + length (openings vs)) (content f)) us (map frame_of cs) ≡ map (told_under lane.token) (outcomes ms cs)
+  told_from ms us [] s = refl
+  told_from ms us (c ∷ cs) s =
+      let later : List Told = each_from (λ vs f. told_by_merged ms (at.issued + length (openings vs)) (content f)) (us ++ frame_of c ∷ []) (map frame_of cs) in
+      ap (λ (k : Content). told_by_merged ms (at.issued + length (openings us)) k ++ later) (chunk_carried c s.0.numbers)
+      ∙ (ap (λ (t : ℕ). map (told_under t) (ended_by ms c) ++ later) s.0.token_is
+      ∙ (ap (λ (ts : List Told). map (told_under lane.token) (ended_by ms c) ++ ts) (told_from ms (us ++ frame_of c ∷ []) cs s.1)
+      ∙ sym (map-append (told_under lane.token) (ended_by ms c) (outcomes ms cs))))
+
+  goes : NumbersGoOn at.next (numbers (map frame_of chunks)) (number_after at.next (pieces lane.room body))
+  goes =
+      let ps = some_pieces lane.room body w.some in
+      subst (λ (ns : List ℕ). NumbersGoOn at.next ns (number_after at.next (pieces lane.room body))) (sym (frames_numbers size lane id chunks all_sent))
+      (subst (λ (t : List (List ℕ)). NumbersGoOn at.next (map (λ (c : Chunk). c.sequence) (numbered lane at.next id t)) (number_after at.next t)) (sym ps.are) (cut_goes lane at.next id ps.first ps.others r.next_small))
+
+  merge : ServerMerge limits channel at (alone.message ∷ []) (map frame_of chunks) (number_after at.next (pieces lane.room body))
+  merge = record {
+    is_open = omega (arith, to.taken.not_before, to.taken.issued, r.some_used);
+    framed = frames_framed size lane id chunks r.sized all_sent;
+    fits = frames_fit size lane id chunks all_sent;
+    carries = carries_from [] chunks all_sent (subst (λ (n : ℕ). n ≤ lane.token) (sym (none_used at.used)) to.taken.not_before);
+    numbered = goes;
+    merged = subst (AreMerged limits (alone.message ∷ [])) (sym (frames_messages size lane id chunks all_sent)) alone.merged;
   }
 
-  all_sent : AllByRecursion (IsSent (receive_size limits (Some at.hello)) channel lane.token) chunks
-  unfolding chunks
-  all_sent = all-weaken (IsOf lane id) (IsSent (receive_size limits (Some at.hello)) channel lane.token) (chunks_of lane body at.next id) sent_of (chunks_are lane body at.next id r.next_small to.some w.some)
+  used : latest_or at.used (used_tokens (map frame_of chunks)) ≡ lane.token
+  used =
+      let ps = some_pieces lane.room body w.some in
+      ap (latest_or at.used) (frames_tokens size lane id chunks all_sent)
+      ∙ (ap (λ (t : List (List ℕ)). latest_or at.used (map (λ (c : Chunk). lane.token) (numbered lane at.next id t))) ps.are
+      ∙ last_token lane.token at.used (chunk_of lane (flag_before ps.others) at.next id ps.first) (numbered lane (next_number at.next) id ps.others))
 
-  ready : IsReady at.hello lane.token before.last before.messages [] before
-  unfolding before
-  ready = record {
-    hello_is = r.hello_is;
-    some = omega (arith, r.issued_is, to.taken.issued, to.taken.not_before, r.some_used);
-    taken = and_from (leb (last_used (received r.frames)) lane.token) (leb lane.token (issued (received r.frames)))
-        (le-leb (last_used (received r.frames)) lane.token (omega (arith, r.used_is, to.taken.not_before))) (le-leb lane.token (issued (received r.frames)) (omega (arith, r.issued_is, to.taken.issued)));
-    last_is = refl;
-    messages_are = sym (append-nil (received r.frames).messages);
-    goes_on = r.run.ends.0;
-  }
+  issues : at.issued + length (openings (map frame_of chunks)) ≡ at.issued
+  issues = omega (arith, ap length (frames_openings size lane id chunks all_sent))
 
-  all_fit : AllFrom (Fits (server_rules limits channel)) r.frames (map frame_of chunks)
-  unfolding before chunks
-  all_fit =
-      fits_chunks limits channel lane.token at.hello before.messages r.sized r.none_open before.last [] chunks r.frames ready all_sent
-      (cut_ordered lane before.last body at.next id w.some r.follows)
-      (cut_messages limits.max_message_size limits.max_chunk_count lane body at.next id to.some w.some w.octets_fit w.chunks_fit)
-
-  now : received (r.frames ++ map frame_of chunks) ≡ with_chunks before chunks
-  unfolding before
-  now = received_chunks r.frames chunks (all-weaken (IsSent (receive_size limits (Some at.hello)) channel lane.token) IsNumbered chunks (λ c s. s.numbers) all_sent)
-
-  behind : IsBehind lane at.next id (pieces lane.room body) before
-  unfolding before
-  behind = body_behind lane body at.next id before w.some r.none_open
-
-  tells : each_from (server_rules limits channel).tells r.frames (map frame_of chunks) ≡ event.Asked id lane.token body ∷ []
-  unfolding chunks
+  tells : told_of_merge (alone.message ∷ []) at.issued (map frame_of chunks) ≡ event.Asked id lane.token body ∷ []
   tells =
-      told_chunks limits channel (receive_size limits (Some at.hello)) lane.token chunks r.frames all_sent
-      ∙ ap (map (told_under lane.token)) (body_delivered lane body at.next id (received r.frames).messages to.some w.some r.none_open)
+      told_from (alone.message ∷ []) [] chunks all_sent
+      ∙ ap (map (told_under lane.token)) (sym (comes limits (alone.message ∷ []) chunks alone.merged).all ∙ cut_delivered lane body at.next id to.some w.some)
 
   -- the chunks of a message are taken, and tell it
   pub reads_message : ServerReads limits channel (octets ++ chunks_octets (chunks_of lane body at.next id)) (told ++ event.Asked id lane.token body ∷ []) (with_message at lane body)
-  unfolding before chunks
-  reads_message = record {
-    frames = r.frames ++ map frame_of chunks;
-    run = run_on (server_rules limits channel) octets r.frames (map frame_of chunks) r.run all_fit (ap (λ (b : Received). b.closed) now ∙ (chunks_closed before chunks ∙ r.run.ends.0));
-    told_is = events_on (server_rules limits channel) r.frames (map frame_of chunks) ∙ (ap (λ (ts : List Told). ts ++ each_from (server_rules limits channel).tells r.frames (map frame_of chunks)) r.told_is ∙ ap (λ (ts : List Told). told ++ ts) tells);
-    hello_is = ap (λ (b : Received). b.hello) now ∙ (chunks_hello before chunks ∙ r.hello_is);
-    large = r.large;
-    sized = r.sized;
-    issued_is = ap issued now ∙ (ap length (chunks_openings before chunks) ∙ r.issued_is);
-    few_issued = r.few_issued;
-    used_is = ap last_used now ∙ ap or_first behind.used;
-    some_used = omega (arith, to.taken.not_before, r.some_used);
-    follows = ap (λ (b : Received). may_follow b.last (number_after at.next (pieces lane.room body))) now ∙ behind.follows;
-    next_small = after_small at.next (pieces lane.room body) r.next_small;
-    none_open = ap (λ (b : Received). open_ids b.messages) now ∙ (ap open_ids (chunks_messages before chunks) ∙ behind.none_open);
-  }
+  reads_message =
+      subst (λ (n : ℕ). ServerReads limits channel (octets ++ chunks_octets chunks) (told ++ event.Asked id lane.token body ∷ []) (record at { issued = n; used = lane.token; next = number_after at.next (pieces lane.room body) })) issues
+      (subst
+      (λ (u : ℕ).
+      ServerReads limits channel (octets ++ chunks_octets chunks) (told ++ event.Asked id lane.token body ∷ [])
+      (record at { issued = at.issued + length (openings (map frame_of chunks)); used = u; next = number_after at.next (pieces lane.room body) }))
+      used
+      (subst (λ (ts : List Told). ServerReads limits channel (octets ++ chunks_octets chunks) (told ++ ts) (with_merged at (map frame_of chunks) (number_after at.next (pieces lane.room body)))) tells
+      (reads_merged limits channel octets told at (alone.message ∷ []) (map frame_of chunks) (number_after at.next (pieces lane.room body)) r merge)))
 
 -- ---- one frame
 
