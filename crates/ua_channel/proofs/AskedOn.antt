@@ -1,5 +1,5 @@
 -- What is asked on, behind octets that came and in the middle of others, changes nothing of how those that came are read.
-use Rattle.std.proofs.Common.{◌≡◌, inl, inr, ◌⊎◌, ℕ, ◌≤◌, List, [], ◌∷◌, ◌++◌, length, refl, sym, ◌∙◌, ap, subst, arith, append-nil, append_assoc, length-append}
+use Rattle.std.proofs.Common.{◌≡◌, inl, inr, ◌⊎◌, ℕ, ◌≤◌, List, [], ◌++◌, length, refl, sym, ◌∙◌, ap, arith, append-nil, length-append}
 use Rattle.std.specs.List.{AllByRecursion}
 use Rattle.ua_builtin.specs.Reasons.{first_reason}
 use Rattle.ua_frame.specs.declared.frame.Frame.{Frame}
@@ -15,23 +15,9 @@ use Rattle.ua_channel.specs.ClientTold.{ClientTold, Why}
 use Rattle.ua_channel.specs.Content.{content}
 use Rattle.ua_channel.specs.Received.{received}
 use Rattle.ua_channel.specs.declared.client.channel.ClientChannel.{ClientChannel}
-use Rattle.ua_channel.proofs.AskedLater.{asked_later}
-use Rattle.ua_channel.proofs.Askings.{all-weaken, asked_before-push}
+use Rattle.ua_channel.proofs.AskedLater.{asked_before-later, going_on}
+use Rattle.ua_channel.proofs.Askings.{all-weaken}
 use Rattle.ua_channel.proofs.ReadOn.{begins, never_refused}
-
--- asks at a place or behind it were not made before it
-pub asked_before-later : (place : ℕ) (asks later : List Placed) → AllByRecursion (λ (a : Placed). place ≤ a.0) later → asked_before place (asks ++ later) ≡ asked_before place asks
-asked_before-later place asks [] behind = ap (asked_before place) (append-nil asks)
-asked_before-later place asks (a ∷ later) behind =
-    ap (asked_before place) (sym (append_assoc asks (a ∷ []) later)) ∙ (asked_before-later place (asks ++ a ∷ []) later behind.1 ∙ asked_before-push place asks a behind.0)
-
--- octets that go on are read as they were
-pub going_on : (limits : Limits) (asks later : List Placed) (octets : List ℕ) (frames : List Frame) (rest : List ℕ) → AllByRecursion (λ (a : Placed). length octets ≤ a.0) later
-    → Run (client_rules limits asks) octets frames rest Going → Run (client_rules limits (asks ++ later)) octets frames rest Going
-going_on limits asks [] octets frames rest behind run = subst (λ (t : List Placed). Run (client_rules limits t) octets frames rest Going) (sym (append-nil asks)) run
-going_on limits asks (a ∷ later) octets frames rest behind run =
-    subst (λ (t : List Placed). Run (client_rules limits t) octets frames rest Going) (append_assoc asks (a ∷ []) later)
-    (going_on limits (asks ++ a ∷ []) later octets frames rest behind.1 (asked_later limits asks a octets frames rest behind.0 run))
 
 module _ (limits : Limits) (asks later : List Placed) (octets : List ℕ) (frames : List Frame) (rest : List ℕ) (why : Why) (behind : AllByRecursion (λ (a : Placed). length octets ≤ a.0) later)
     (run : Run (client_rules limits asks) octets frames rest (Stopped why)) where

@@ -40,14 +40,13 @@ use Rattle.ua_channel.specs.Content.Content.{Opens, Sends}
 use Rattle.ua_channel.specs.Merges.{CarriesEither, ClientMerge, ended_by, is_told_under, latest_or, placed_later, renewed_in, told_back, told_merged_back, told_renewed, tokens_renewed, with_merged_back}
 use Rattle.ua_channel.specs.Paired.{is_of_call, told_of_calls}
 use Rattle.ua_channel.specs.Received.{Received, after, chunks_in, latest, messages, numbers, openings, openings_in, received, tokens_in, used_tokens}
-use Rattle.ua_channel.proofs.AskedLater.{frames_octets-append}
-use Rattle.ua_channel.proofs.AskedOn.{going_on}
+use Rattle.ua_channel.proofs.AskedLater.{frames_octets-append, going_on}
 use Rattle.ua_channel.proofs.Askings.{all-weaken, all_append, all_filter, all_in, asked_before-all, asked_in-append, calls-append, calls_all, in_filter, next-append, not_in, renewals-append, renewals_all, unfinished_at, within_filter, filter_behind}
 use Rattle.ua_channel.proofs.ClientConversing.{response_as, taken_open}
 use Rattle.ua_channel.proofs.ClientTakes.{tokens_used}
 use Rattle.ua_channel.proofs.ClientTalks.{awaited_later, channel_in-push, no_ids, no_responses, no_tokens, opened_ids-push, responses-push, tokens_of-push}
 use Rattle.ua_channel.proofs.HeldTokens.{held_by-push, held_by-used, latest-from_last, latest-push}
-use Rattle.ua_channel.proofs.MergedChunks.{Comes, EachEnds, closed_fresh, comes, given_fresh, outcomes_once, takes_fresh, told_new}
+use Rattle.ua_channel.proofs.MergedChunks.{Comes, EachEnds, closed_fresh, comes, given_fresh, outcomes_once, takes_fresh, told_new, names_kept}
 use Rattle.ua_channel.proofs.MergedFrames.{all_told, at_end, each_along, each_chunk, goes_follows, goes_ordered, goes_small, latest_or-append, of_either, sized}
 use Rattle.ua_channel.proofs.PairedCalls.{tells_delivered}
 use Rattle.ua_channel.proofs.ReadOn.{events_on, run_on}
@@ -245,20 +244,20 @@ ranged : (n k : ℕ) → AllByRecursion (IsNew n k) (range_with_len n k)
 ranged n zero = tt
 ranged n (suc k) = ((omega arith, omega arith), all-weaken (IsNew (n + 1) k) (IsNew n (suc k)) (range_with_len (n + 1) k) (λ id is. (omega (arith, is.0), omega (arith, is.1))) (ranged (n + 1) k))
 
-of_ids : (P : ℕ → Type 0) (asked : List Asking) → AllByRecursion P (map id_of asked) → AllByRecursion (λ (a : Asking). P (id_of a)) asked
-of_ids P [] all = tt
-of_ids P (a ∷ asked) all = (all.0, of_ids P asked all.1)
+of_map : {X Y : Type 0} (P : Y → Type 0) (f : X → Y) (xs : List X) → AllByRecursion P (map f xs) → AllByRecursion (λ (x : X). P (f x)) xs
+of_map P f [] all = tt
+of_map P f (x ∷ xs) all = (all.0, of_map P f xs all.1)
+
+to_map : {X Y : Type 0} (P : Y → Type 0) (f : X → Y) (xs : List X) → AllByRecursion (λ (x : X). P (f x)) xs → AllByRecursion P (map f xs)
+to_map P f [] all = tt
+to_map P f (x ∷ xs) all = (all.0, to_map P f xs all.1)
 
 -- what holds of all that is asked holds of what is asked before a place
 before_all : (P : Asking → Type 0) (place : ℕ) (later : List Placed) → AllByRecursion P (asked_in later) → AllByRecursion P (asked_before place later)
 unfolding asked_in asked_before
-before_all P place [] all = tt
-before_all P place (a ∷ later) all = kept (ltb a.0 place) (before_all P place later all.1)
-  where
-    kept : (b : Bool) → AllByRecursion P (map (λ (p : Placed). p.1) (filter (λ (p : Placed). ltb p.0 place) later))
-        → AllByRecursion P (map (λ (p : Placed). p.1) (cond b (a ∷ filter (λ (p : Placed). ltb p.0 place) later) (filter (λ (p : Placed). ltb p.0 place) later)))
-    kept true rest = (all.0, rest)
-    kept false rest = rest
+before_all P place later all =
+    to_map P (λ (a : Placed). a.1) (filter (λ (a : Placed). ltb a.0 place) later)
+    (all_filter (λ (a : Placed). P a.1) (λ (a : Placed). ltb a.0 place) later (of_map P (λ (a : Placed). a.1) later all))
 
 -- ---- places
 
@@ -268,25 +267,23 @@ before-append place asks more =
     ap (map (λ (a : Placed). a.1)) (filter-append (λ (a : Placed). ltb a.0 place) asks more)
     ∙ map-append (λ (a : Placed). a.1) (filter (λ (a : Placed). ltb a.0 place) asks) (filter (λ (a : Placed). ltb a.0 place) more)
 
+same_before : (n a place : ℕ) → ltb (n + a) (n + place) ≡ ltb a place
+same_before n a place = grind arith
+
+moved : (n : ℕ) (later : List Placed) → map (λ (a : Placed). a.1) (placed_later n later) ≡ map (λ (a : Placed). a.1) later
+moved n [] = refl
+moved n (a ∷ later) = ap (λ (t : List Asking). a.1 ∷ t) (moved n later)
+
 before_later : (n place : ℕ) (later : List Placed) → asked_before (n + place) (placed_later n later) ≡ asked_before place later
 unfolding asked_before
-before_later n place [] = refl
-before_later n place (a ∷ later) =
-    let same : ltb (n + a.0) (n + place) ≡ ltb a.0 place = grind arith in
-    ap (λ (b : Bool). map (λ (p : Placed). p.1) (cond b ((n + a.0, a.1) ∷ filter (λ (p : Placed). ltb p.0 (n + place)) (placed_later n later)) (filter (λ (p : Placed). ltb p.0 (n + place)) (placed_later n later)))) same
-    ∙ kept (ltb a.0 place) (before_later n place later)
-  where
-    kept : (b : Bool)
-        → map (λ (p : Placed). p.1) (filter (λ (p : Placed). ltb p.0 (n + place)) (placed_later n later)) ≡ map (λ (p : Placed). p.1) (filter (λ (p : Placed). ltb p.0 place) later)
-        → map (λ (p : Placed). p.1) (cond b ((n + a.0, a.1) ∷ filter (λ (p : Placed). ltb p.0 (n + place)) (placed_later n later)) (filter (λ (p : Placed). ltb p.0 (n + place)) (placed_later n later)))
-        ≡ map (λ (p : Placed). p.1) (cond b (a ∷ filter (λ (p : Placed). ltb p.0 place) later) (filter (λ (p : Placed). ltb p.0 place) later))
-    kept true same = ap (λ (t : List Asking). a.1 ∷ t) same
-    kept false same = same
+before_later n place later =
+    ap (map (λ (a : Placed). a.1))
+    (names_kept (λ (a : Placed). (n + a.0, a.1)) (λ (a : Placed). ltb a.0 (n + place)) (λ (a : Placed). ltb a.0 place) (λ a. same_before n a.0 place) later)
+    ∙ moved n (filter (λ (a : Placed). ltb a.0 place) later)
 
 in_later : (n : ℕ) (later : List Placed) → asked_in (placed_later n later) ≡ asked_in later
 unfolding asked_in
-in_later n [] = refl
-in_later n (a ∷ later) = ap (λ (t : List Asking). a.1 ∷ t) (in_later n later)
+in_later n later = moved n later
 
 later_placed : (n k : ℕ) (later : List Placed) → AllByRecursion (λ (a : Placed). a.0 ≤ k) later → AllByRecursion (λ (a : Placed). a.0 ≤ n + k) (placed_later n later)
 later_placed n k [] all = tt
@@ -358,7 +355,7 @@ module _ (limits : Limits) (asks later : List Placed) (octets : List ℕ) (told 
 
   all_new : AllByRecursion (λ (a : Asking). IsNext a) (asked_in later)
   all_new =
-      of_ids (IsNew (next_id asked) (length later)) (asked_in later)
+      of_map (IsNew (next_id asked) (length later)) id_of (asked_in later)
       (subst (AllByRecursion (IsNew (next_id asked) (length later))) (sym m.counted) (ranged (next_id asked) (length later)))
 
   old_below : AllByRecursion (λ (a : Asking). id_of a < end) asked

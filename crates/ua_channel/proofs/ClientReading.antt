@@ -63,29 +63,32 @@ use Rattle.ua_channel.specs.Asks.{Asking, Placed, asked_before, asked_in, end_of
 use Rattle.ua_channel.specs.Asks.Asking.{Call, Renewal}
 use Rattle.ua_channel.specs.ClientReads.{AtClient, ClientAgrees, ClientReads, IsAnswered, IsLaneBack, told_reply, with_answer, with_call, with_renewal, with_reply, without_id}
 use Rattle.ua_channel.specs.ClientSends.{hello_to}
-use Rattle.ua_channel.specs.ClientTable.{answer_gate, client_gate, client_reasons, client_rules, gate_agreed, client_gate_behind, is_awaited, is_outside, reply_gate}
-use Rattle.ua_channel.specs.ClientTokens.{answer_in, channel_in, from_last, held_by, held_tokens, opened_ids, responses, tokens_of}
+use Rattle.ua_channel.specs.ClientTable.{answer_gate, client_gate, client_reasons, client_rules, gate_agreed, is_outside, reply_gate}
+use Rattle.ua_channel.specs.ClientTokens.{answer_in, channel_in, from_last, held_by, held_tokens, opened_ids, responses, tokens_of, response_listed}
 use Rattle.ua_channel.specs.ClientTold.{ClientTold, ClientTold as event, client_tells, told_item}
 use Rattle.ua_channel.specs.Content.{Content, Opening, content}
 use Rattle.ua_channel.specs.Content.Content.{Acks, Opens}
-use Rattle.ua_channel.specs.Received.{Received, after, latest, nothing_received, number_or, received, messages, openings, openings_in, tokens_in, used_tokens}
+use Rattle.ua_channel.specs.Received.{Received, after, latest, nothing_received, number_or, received, messages, openings, openings_in, tokens_in, used_tokens, chunks_in, numbers, numbers_in, number_listed}
 use Rattle.ua_channel.specs.ServerReads.{IsBodyFor}
 use Rattle.ua_channel.specs.ServerSends.{opened_frame, replied, replied_by}
 use Rattle.ua_channel.proofs.AskedLater.{asked_later}
-use Rattle.ua_channel.proofs.Askings.{all-push, all-weaken, asked_in-push, pending_calls-call, pending_calls-renewal, pending_renewals-call, pending_renewals-more, pending_renewals-renewal, renewal_below, no_asks, next-append, filter_same}
+use Rattle.ua_channel.proofs.Askings.{all-push, all-weaken, asked_in-push, pending_calls-call, pending_calls-renewal, pending_renewals-call, pending_renewals-renewal, no_asks, next-append, filter_same}
 use Rattle.ua_channel.proofs.ClientAsking.{first_unset}
-use Rattle.ua_channel.proofs.ClientTalks.{first_tail, responses-push, opened_ids-push, tokens_of-push, channel_in-push, no_ids, no_responses, no_tokens, awaited_later, later_tells, nothing_pending, nothing_renewed}
+use Rattle.ua_channel.proofs.ClientTalks.{first_tail, responses-push, opened_ids-push, tokens_of-push, no_ids, no_responses, no_tokens, nothing_pending, nothing_renewed}
 use Rattle.ua_channel.proofs.Carried.{content_ack, content_opn}
 use Rattle.ua_channel.proofs.HeldTokens.{latest-push, stays_in, held_by-used}
 use Rattle.ua_channel.proofs.OneFrameMore.{received-nil, received-push}
 use Rattle.ua_channel.proofs.ReadOn.{no_events, one_octets, run_one}
-use Rattle.ua_channel.proofs.ClientTakes.{all_asked}
+use Rattle.ua_channel.proofs.ClientConversing.{response_as}
+use Rattle.ua_channel.specs.ClientConversation.{IsGoodResponse}
+use Rattle.ua_services.specs.declared.open.OpenAnswer.{OpenAnswer}
+use Rattle.std.specs.Prelude.{if◌then◌else◌}
 use Rattle.ua_channel.proofs.CutChunks.{AreSentIn, IsSentIn, cut_alone, cut_finished, cut_goes, ends_own, frames_fit, frames_framed, frames_messages, frames_numbers, frames_openings, frames_tokens, latest_token, one_merge, sent_in, within_one}
-use Rattle.ua_channel.proofs.ClientMerges.{held_renewed, nothing_opened, reads_merged}
+use Rattle.ua_channel.proofs.ClientMerges.{nothing_opened, reads_merged}
 use Rattle.ua_channel.proofs.MergedChunks.{comes}
 use Rattle.ua_channel.proofs.MergedFrames.{nothing_yet, openings-more, tokens-more}
-use Rattle.ua_channel.specs.Merges.{AreMerged, ClientMerge, MayComeDown, NumbersGoOn, ended_by, latest_or, told_back, told_merged_back, with_merged_back}
-use Rattle.ua_channel.proofs.Written.{IsOf, chunks_are, none_header, opening_carried, opening_size, lets_opn, chunk_carried}
+use Rattle.ua_channel.specs.Merges.{AreMerged, ClientMerge, MayComeDown, NumbersGoOn, ended_by, latest_or, told_back, told_merged_back, with_merged_back, told_renewed}
+use Rattle.ua_channel.proofs.Written.{IsOf, chunks_are, none_header, opening_carried, opening_size, lets_opn, chunk_carried, none_is}
 
 -- ---- ACK
 
@@ -539,100 +542,89 @@ one_in id ids one = ap (is_in id) one ∙ ap (λ (b : Bool). b || false) (eq-eqb
 
 module _ (limits : Limits) (asks : List Placed) (octets : List ℕ) (told : List ClientTold) (at : AtClient) (id handle token lifetime : ℕ) (moment : DateTime) (r : ClientReads limits asks octets told at)
     (is : IsAnswered at.channel at.next id handle token lifetime moment) (one : at.renewals ≡ id ∷ []) (fresh : is_in token at.tokens ≡ false) where
-  p : Opening
+  abbrev p : Opening
   p = answer at.channel at.next id handle token lifetime moment is
 
-  g : Frame
+  abbrev g : Frame
   g = opened_frame at.channel at.next id handle token lifetime moment
 
-  asked_here : asked_before (end_of r.frames g) asks ≡ asked_in asks
-  asked_here = all_asked asks (length octets) r.frames g r.placed (omega (arith, ap length (r.run.whole ∙ append-nil (frames_octets r.frames))))
-
   p_carried : content g ≡ Opens p
-  unfolding g p
   p_carried = opened_carried at.channel at.next id handle token lifetime moment is
 
   p_answers : answer_in p ≡ Some (Open (open_response_of moment handle at.channel token lifetime))
-  unfolding p response
+  unfolding response
   p_answers = answer_is at.channel at.next id handle token lifetime moment is
 
   p_numbers : p.numbers ≡ Some (at.next, id)
-  unfolding p answer
+  unfolding answer
   p_numbers = refl
 
-  fresh_here : is_in token (held_tokens (received r.frames)) ≡ false
-  fresh_here = ap (is_in token) r.tokens_are ∙ fresh
+  -- what its frame brings
+  brings : (openings (g ∷ []) ≡ p ∷ []) × (messages (g ∷ []) ≡ []) × (used_tokens (g ∷ []) ≡ []) × (numbers (g ∷ []) ≡ at.next ∷ [])
+  unfolding openings messages used_tokens numbers
+  brings = (
+    ap (λ (k : Content). openings_in k ++ []) p_carried,
+    ap (λ (k : Content). chunks_in k ++ []) p_carried,
+    ap (λ (k : Content). tokens_in k ++ []) p_carried,
+    ap (λ (k : Content). numbers_in k ++ []) p_carried ∙ ap (λ (n : Option (ℕ × ℕ)). number_listed n ++ []) p_numbers,
+  )
 
-  awaited_here : is_awaited (responses (received r.frames).openings) (opened_ids (received r.frames).openings) (asked_in asks) id ≡ true
-  awaited_here = awaited_later (responses (received r.frames).openings) (opened_ids (received r.frames).openings) (asked_in asks) id at.channel r.channel_is ∙ one_in id _ (r.renewals_are ∙ one)
+  p_tokens : tokens_of (responses (openings (g ∷ []))) ≡ token ∷ []
+  p_tokens =
+      ap (λ (os : List Opening). tokens_of (responses os)) brings.0
+      ∙ (ap tokens_of (responses-push [] p (open_response_of moment handle at.channel token lifetime) p_answers ∙ ap (λ (rs : List OpenResponse). rs ++ open_response_of moment handle at.channel token lifetime ∷ []) no_responses)
+      ∙ (tokens_of-push [] (open_response_of moment handle at.channel token lifetime) ∙ ap (λ (ts : List ℕ). ts ++ token ∷ []) no_tokens))
 
-  p_good : first_reason (client_reasons limits (received r.frames) (asked_in asks) (Opens p)) ≡ None
-  unfolding p answer
-  p_good = rw (p_answers, r.channel_is, eq-eqb at.channel at.channel refl, fresh_here, r.follows, awaited_here) refl
-
-  p_tells : client_tells (received r.frames) (Opens p) ≡ event.Renewed token ∷ []
-  p_tells = rw p_answers (ap (λ (e : ClientTold). e ∷ []) (later_tells (responses (received r.frames).openings) (open_response_of moment handle at.channel token lifetime) at.channel r.channel_is))
+  p_ids : opened_ids (openings (g ∷ [])) ≡ id ∷ []
+  p_ids = ap opened_ids brings.0 ∙ (opened_ids-push [] p (at.next, id) p_numbers ∙ ap (λ (ids : List ℕ). ids ++ id ∷ []) no_ids)
 
   g_size : frame_size g ≡ 135
-  unfolding g
   g_size = opened_size at.channel at.next id handle token lifetime moment is
 
-  g_in : LetsIn ((client_rules limits asks).gate r.frames) g
-  unfolding g
-  g_in =
-      subst (λ (x : Gate). LetsIn x g) (sym (ap (λ (a : Option Ack). client_gate_behind a (responses (received r.frames).openings)) r.ack_is))
-      (opn_by at.ack (responses (received r.frames).openings) g refl refl (omega (arith, g_size, r.large)) (omega (arith, g_size)))
+  good : IsGoodResponse (Some at.channel) at.tokens (λ (i : ℕ). is_in i at.renewals) p
+  unfolding answer
+  good = record {
+    header = none_header at.channel;
+    security_is = refl;
+    policy = none_is;
+    response = open_response_of moment handle at.channel token lifetime;
+    answer_is = p_answers;
+    good = refl;
+    on = ap not (eq-eqb at.channel at.channel refl);
+    fresh = fresh;
+    numbered = (at.next, id);
+    numbers_are = refl;
+    awaited = one_in id at.renewals one;
+  }
 
-  later_now : received (r.frames ++ g ∷ []) ≡ after (received r.frames) (Opens p)
-  later_now = received-push r.frames g ∙ ap (after (received r.frames)) p_carried
-
-  more_responses : responses ((received r.frames).openings ++ p ∷ []) ≡ responses (received r.frames).openings ++ open_response_of moment handle at.channel token lifetime ∷ []
-  more_responses = responses-push (received r.frames).openings p (open_response_of moment handle at.channel token lifetime) p_answers
-
-  more_ids : opened_ids ((received r.frames).openings ++ p ∷ []) ≡ opened_ids (received r.frames).openings ++ id ∷ []
-  more_ids = opened_ids-push (received r.frames).openings p (at.next, id) p_numbers
-
-  tokens_more : held_tokens (after (received r.frames) (Opens p)) ≡ at.tokens ++ token ∷ []
-  tokens_more =
-      held_renewed (received r.frames) p (open_response_of moment handle at.channel token lifetime) at.newest p_answers (ap latest r.tokens_are ∙ r.newest_is) fresh_here ∙ ap (λ (ts : List ℕ). ts ++ token ∷ []) r.tokens_are
-
-  id_before : id < next_id (asked_in asks)
-  id_before = renewal_below (next_id (asked_in asks)) id (opened_ids (received r.frames).openings) (asked_in asks) r.asked_below (one_in id _ (r.renewals_are ∙ one))
+  -- and where it comes
+  comes_here : (new : List Asking) → IsGoodResponse (Some at.channel) (with_merged_back at new [] at.next).tokens (λ (i : ℕ). is_in i (with_merged_back at new [] at.next).renewals) p
+  comes_here new =
+      response_as (Some at.channel) (Some at.channel) at.tokens (with_merged_back at new [] at.next).tokens (λ (i : ℕ). is_in i at.renewals) (λ (i : ℕ). is_in i (with_merged_back at new [] at.next).renewals) p refl
+      (nothing_yet (λ ts os us. at.tokens ≡ held_by (latest ts) (at.tokens ++ tokens_of (responses os))) (sym (append-nil at.tokens) ∙ ap (λ (t : List ℕ). at.tokens ++ t) (sym nothing_opened)))
+      (λ i e.
+      nothing_yet (λ ts os us. is_in i (filter (λ (j : ℕ). not (is_in j (opened_ids os))) (at.renewals ++ renewals new)) ≡ true)
+      (ap (λ (ids : List ℕ). is_in i (filter (λ (j : ℕ). not (is_in j ids)) (at.renewals ++ renewals new))) no_ids ∙ (ap (is_in i) (all_stay (at.renewals ++ renewals new)) ∙ in_front i at.renewals (renewals new) e))) good
 
   pub reads_renewed : ClientReads limits asks (octets ++ frame_octets (opened_frame at.channel at.next id handle token lifetime moment)) (told ++ event.Renewed token ∷ []) (with_answer at token (next_number at.next))
-  unfolding g
-  reads_renewed = record {
-    frames = r.frames ++ g ∷ [];
-    run =
-        run_one (client_rules limits asks) octets r.frames g r.run (record {
-          goes_on = refl;
-          sized = omega (arith, g_size);
-          let_in = g_in;
-          accepted =
-              ap (λ (ss : List Asking). first_reason (client_reasons limits (received r.frames) ss (content g))) asked_here
-              ∙ (ap (λ (k : Content). first_reason (client_reasons limits (received r.frames) (asked_in asks) k)) p_carried ∙ p_good);
-        }) refl;
-    placed = all-weaken (λ (q : Placed). q.0 ≤ length octets) (λ (q : Placed). q.0 ≤ length (octets ++ frame_octets g)) asks (λ q le. omega (arith, le, length-append octets (frame_octets g))) r.placed;
-    told_is =
-        events-push (client_rules limits asks) r.frames g
-        ∙ (ap (λ (ts : List ClientTold). ts ++ client_tells (received r.frames) (content g)) r.told_is ∙ ap (λ (ts : List ClientTold). told ++ ts) (ap (client_tells (received r.frames)) p_carried ∙ p_tells));
-    ack_is = ap (λ (b : Received). b.ack) later_now ∙ r.ack_is;
-    large = r.large;
-    sized = r.sized;
-    channel_is = ap (λ (b : Received). channel_in (responses b.openings)) later_now ∙ (ap channel_in more_responses ∙ channel_in-push (responses (received r.frames).openings) (open_response_of moment handle at.channel token lifetime) at.channel r.channel_is);
-    tokens_are = ap held_tokens later_now ∙ tokens_more;
-    newest_is = latest-push at.tokens token;
-    pending_are = ap (λ (b : Received). pending_calls b.messages (asked_in asks)) later_now ∙ r.pending_are;
-    renewals_are =
-        ap (λ (b : Received). pending_renewals (opened_ids b.openings) (asked_in asks)) later_now
-        ∙ (ap (λ (ids : List ℕ). pending_renewals ids (asked_in asks)) more_ids ∙ pending_renewals-more (opened_ids (received r.frames).openings) id (asked_in asks) (r.renewals_are ∙ one));
-    asked_below = r.asked_below;
-    sent_below = subst (λ (b : Received). AllByRecursion (λ (c : Chunk). c.request < next_id (asked_in asks)) b.messages) (sym later_now) r.sent_below;
-    opened_below =
-        subst (λ (b : Received). AllByRecursion (λ (n : ℕ). n < next_id (asked_in asks)) (opened_ids b.openings)) (sym later_now)
-        (subst (λ (ids : List ℕ). AllByRecursion (λ (n : ℕ). n < next_id (asked_in asks)) ids) (sym more_ids)
-        (all-push (λ (n : ℕ). n < next_id (asked_in asks)) (opened_ids (received r.frames).openings) id r.opened_below id_before));
-    follows = ap (λ (b : Received). may_follow b.last (next_number at.next)) later_now ∙ (ap (λ (n : Option (ℕ × ℕ)). may_follow (number_or (received r.frames).last n) (next_number at.next)) p_numbers ∙ follows_next at.next);
-    next_small = next_small at.next r.next_small;
-    none_open = ap (λ (b : Received). open_ids b.messages) later_now ∙ r.none_open;
-  }
+  reads_renewed =
+      subst (λ (t : List ℕ). ClientReads limits asks (octets ++ t) (told ++ event.Renewed token ∷ []) (with_answer at token (next_number at.next))) (one_octets g)
+      (subst (λ (ts : List ClientTold). ClientReads limits asks (octets ++ frames_octets (g ∷ [])) (told ++ ts) (with_answer at token (next_number at.next)))
+      (ap (λ (k : Content). told_back [] k ++ []) p_carried ∙ ap (λ (a : Option OpenAnswer). map told_renewed (response_listed a) ++ []) p_answers)
+      (reads_frames limits asks octets told at r [] (g ∷ []) (next_number at.next) token (at.tokens ++ token ∷ []) at.pending []
+      (record {
+        counted = ap (map id_of) no_asks;
+        placed = tt;
+        framed = (record { sized = omega (arith, g_size); flag = refl; least = omega (arith, g_size) }, tt);
+        fits = (omega (arith, g_size, r.large), tt);
+        carries = (
+          subst (MayComeDown (with_merged_back at (asked_before (end_of [] g) []) [] at.next) (at.pending ++ calls (asked_before (end_of [] g) []))) (sym p_carried) (comes_here (asked_before (end_of [] g) [])),
+          tt,
+        );
+        numbered = subst (λ (ns : List ℕ). NumbersGoOn at.next ns (next_number at.next)) (sym brings.3) (refl, tt, follows_next at.next, next_small at.next r.next_small);
+        merged = subst (AreMerged limits []) (sym brings.1) (record { own_ids = tt; within = λ i m e. absurd cc; merged = refl; few_open = tt });
+      })
+      (ap (λ (ts : List ℕ). held_by (latest ts) (at.tokens ++ tokens_of (responses (openings (g ∷ []))))) brings.2 ∙ ap (λ (t : List ℕ). at.tokens ++ t) p_tokens)
+      (ap (latest_or at.newest) p_tokens) (ap (λ (us : List Chunk). filter (λ (i : ℕ). not (is_finished us i)) at.pending) brings.1 ∙ all_stay at.pending)
+      (ap (λ (ids : List ℕ). filter (λ (i : ℕ). not (is_in i ids)) at.renewals) p_ids
+      ∙ (ap (filter (λ (i : ℕ). not (is_in i (id ∷ [])))) one ∙ ap (λ (b : Bool). if not b then id ∷ [] else []) (one_in id (id ∷ []) refl)))))

@@ -196,7 +196,16 @@ module _ (limits : Limits) (asks : List Placed) (lane : Lane) where
       let now : AtClient = with_answer c token (next_number c.next) in
       let read : Hears now (octets ++ opn) (told ++ Renewed token ∷ []) =
       subst (λ (k : ℕ). Hears now (octets ++ frame_octets (opened_frame k c.next id handle token lifetime moment)) (told ++ Renewed token ∷ [])) (sym back.on)
-      (reads_renewed limits asks octets told c id handle token lifetime moment r may.0.2 may.0.0 may.0.1) in
+      (reads_renewed limits asks octets told c id handle token lifetime moment r
+      (record {
+        channel_small = omega (arith, back.on, back.on_small);
+        number_small = r.next_small;
+        id_small = may.0.2.id_small;
+        handle_small = may.0.2.handle_small;
+        token_small = may.0.2.token_small;
+        lifetime_small = may.0.2.lifetime_small;
+        moment_fits = may.0.2.moment_fits;
+      }) may.0.0 may.0.1) in
       behind_one (Hears (client_answered_all lane now answers)) octets opn (answers_octets lane now.next answers) told (Renewed token) (answers_told lane answers)
       (reads_answers (octets ++ opn) (told ++ Renewed token ∷ []) now answers read (lane_answered limits c lane token (next_number c.next) back) may.1)
 

@@ -279,7 +279,7 @@ kept_or_not : {A B : Type 0} (name : A → B) (b : Bool) (x : A) (xs : List A) �
 kept_or_not name true x xs = refl
 kept_or_not name false x xs = refl
 
-names_kept : {A B : Type 0} (name : A → B) (p : B → Bool) (q : A → Bool) → ((x : A) → p (name x) ≡ q x) → (xs : List A) → filter p (map name xs) ≡ map name (filter q xs)
+pub names_kept : {A B : Type 0} (name : A → B) (p : B → Bool) (q : A → Bool) → ((x : A) → p (name x) ≡ q x) → (xs : List A) → filter p (map name xs) ≡ map name (filter q xs)
 names_kept name p q same [] = refl
 names_kept name p q same (x ∷ xs) = rw (same x, names_kept name p q same xs) (kept_or_not name (q x) x (filter q xs))
 

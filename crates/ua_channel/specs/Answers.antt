@@ -1,12 +1,13 @@
 -- What a server answers to calls and renewals that are unanswered, in the order in which it answers.
 use Rattle.std.specs.Prelude.{◌≡◌, ℕ, ◌<◌, ◌^◌, ◌++◌, List, [], ◌∷◌, length, IsTrue, IsFalse}
+use Rattle.ua_builtin.specs.DateTime.{date_time}
 use Rattle.ua_builtin.specs.declared.date_time.DateTime.{DateTime}
 use Rattle.ua_frame.specs.Frames.{frame_octets}
 use Rattle.ua_chunk.specs.Cutting.{cut_refusal}
 use Rattle.ua_chunk.specs.Sequence.{next_number}
 use Rattle.ua_chunk.specs.declared.lane.Lane.{Lane}
 use Rattle.ua_channel.specs.Asks.{is_in}
-use Rattle.ua_channel.specs.ClientReads.{AtClient, IsAnswered, told_reply, with_answer, with_reply}
+use Rattle.ua_channel.specs.ClientReads.{AtClient, told_reply, with_answer, with_reply}
 use Rattle.ua_channel.specs.ClientTold.{ClientTold, Renewed}
 use Rattle.ua_channel.specs.ServerSends.{opened_frame, replied}
 
@@ -57,11 +58,19 @@ client_answered_all lane at (a ∷ answers) = client_answered_all lane (client_a
 
 -- ---- which answers a server may give
 
+-- this request id, RequestHandle, token, lifetime and moment can be written
+pub record CanIssue (id handle token lifetime : ℕ) (moment : DateTime) : Type 0 where
+  pub id_small : id < 2 ^ 32
+  pub handle_small : handle < 2 ^ 32
+  pub token_small : token < 2 ^ 32
+  pub lifetime_small : lifetime < 2 ^ 32
+  pub moment_fits : IsTrue (date_time.encodable moment)
+
 -- one: the call is unanswered, its request id can be written, and the reply has octets; the renewal is the one that is unanswered, the client
--- does not hold the token, and the response can be written
+-- does not hold the token, and what the response says can be written
 abbrev pub IsAnswerTo : AtClient → Answer → Type 0
 IsAnswerTo at (ReplyTo id body) = IsTrue (is_in id at.pending) × (id < 2 ^ 32) × (0 < length body)
-IsAnswerTo at (TokenFor id handle token lifetime moment) = (at.renewals ≡ id ∷ []) × IsFalse (is_in token at.tokens) × IsAnswered at.channel at.next id handle token lifetime moment
+IsAnswerTo at (TokenFor id handle token lifetime moment) = (at.renewals ≡ id ∷ []) × IsFalse (is_in token at.tokens) × CanIssue id handle token lifetime moment
 
 -- all in order, each where the client is behind those before it
 abbrev pub AreAnswersTo : Lane → AtClient → List Answer → Type 0
