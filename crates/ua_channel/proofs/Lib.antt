@@ -33,8 +33,6 @@ mod MemoryLines
 pub mod ClientReadings
 pub mod ReadOn
 pub mod Written
-pub mod WithChunks
-pub mod ServerTakes
 pub mod ServerReading
 pub mod ClientTakes
 pub mod ClientReading
@@ -50,7 +48,7 @@ mod ClientConversing
 mod ReplyLimits
 mod MergedChunks
 mod MergedFrames
-pub mod CutChunks
+mod CutChunks
 mod ServerMerges
 mod ClientMerges
 pub mod Groups
