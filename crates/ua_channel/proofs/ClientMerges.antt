@@ -100,9 +100,8 @@ tokens_of-append : (rs more : List OpenResponse) → tokens_of (rs ++ more) ≡ 
 unfolding tokens_of
 tokens_of-append rs more = map-append (λ (r : OpenResponse). r.token_id) rs more
 
-tokens_of-nil : tokens_of (responses []) ≡ []
-unfolding tokens_of responses
-tokens_of-nil = refl
+pub nothing_opened : tokens_of (responses []) ≡ []
+nothing_opened = ap tokens_of no_responses ∙ no_tokens
 
 tokens_of-one : (o : Opening) → tokens_of (responses (o ∷ [])) ≡ tokens_of (response_listed (answer_in o))
 unfolding responses
@@ -111,7 +110,7 @@ tokens_of-one o = ap tokens_of (append-nil (response_listed (answer_in o)))
 tokens_from : (ms : List Sent) (May : List Frame → Frame → Type 0) → ((us : List Frame) (f : Frame) → May us f → tokens_renewed (told_back ms (content f)) ≡ tokens_of (responses (openings_in (content f)))) → (us fs : List Frame)
     → AllFrom May us fs → tokens_renewed (told_merged_back ms fs) ≡ tokens_of (responses (openings fs))
 unfolding openings
-tokens_from ms May one us [] may = sym tokens_of-nil
+tokens_from ms May one us [] may = sym nothing_opened
 tokens_from ms May one us (f ∷ fs) may =
     flat_map-append renewed_in (told_back ms (content f)) (told_merged_back ms fs)
     ∙ (ap (λ (ts : List ℕ). ts ++ tokens_renewed (told_merged_back ms fs)) (one us f may.0)
@@ -326,9 +325,6 @@ ids-append : (os more : List Opening) → opened_ids (os ++ more) ≡ opened_ids
 unfolding opened_ids
 ids-append os more = flat_map-append (λ (o : Opening). id_listed o.numbers) os more
 
-pub nothing_opened : tokens_of (responses []) ≡ []
-nothing_opened = ap tokens_of no_responses ∙ no_tokens
-
 module _ (limits : Limits) (asks later : List Placed) (octets : List ℕ) (told : List ClientTold) (at : AtClient) (ms : List Sent) (more : List Frame) (next : ℕ)
     (r : ClientReads limits asks octets told at) (m : ClientMerge limits at (asked_in asks) later ms more next) where
   -- the chunks and the ids of OPNs before the merge, what was asked before it, the asks with those in the middle of it, and the request id behind them
@@ -459,7 +455,7 @@ module _ (limits : Limits) (asks later : List Placed) (octets : List ℕ) (told 
   token_told : (us : List Frame) (f : Frame) → May us f → tokens_renewed (told_back ms (content f)) ≡ tokens_of (responses (openings_in (content f)))
   token_told us f may =
       by_either us f (λ (k : Content). tokens_renewed (told_back ms k) ≡ tokens_of (responses (openings_in k))) (λ o g. tokens_listed (response_listed (answer_in o)) ∙ sym (tokens_of-one o))
-      (λ c g. no_token (ended_by ms c) ∙ sym tokens_of-nil) may
+      (λ c g. no_token (ended_by ms c) ∙ sym nothing_opened) may
 
   chunk_below : (us : List Frame) (f : Frame) → May us f → AllByRecursion (λ (c : Chunk). c.request < end) (chunks_in (content f))
   chunk_below us f may =

@@ -1,5 +1,5 @@
 -- That a client takes what a server writes, one message after the other.
-use Rattle.std.proofs.Common.{◌≡◌, ℕ, ◌+◌, ◌<◌, ◌≤◌, ◌^◌, min, Bool, true, false, IsTrue, ◌||◌, eqb, ltb, List, [], ◌∷◌, ◌++◌, Option, Some, None, length, map, refl, sym, ◌∙◌, ap, subst, arith, append-nil, length-append, not}
+use Rattle.std.proofs.Common.{◌≡◌, ℕ, ◌<◌, ◌≤◌, ◌^◌, min, Bool, true, false, IsTrue, ◌||◌, eqb, ltb, List, [], ◌∷◌, ◌++◌, Option, Some, None, length, map, refl, sym, ◌∙◌, ap, subst, arith, append-nil, length-append, not}
 use Rattle.std.specs.List.{AllByRecursion, filter}
 use Rattle.std.proofs.lemmas.Bool.{and_from, and_parts, eq-eqb, le-ltb, ltb-true, or_left}
 use Rattle.ua_builtin.specs.NodeId.{node_id}
@@ -46,7 +46,7 @@ use Rattle.ua_chunk.specs.Delivered.{aborted, delivered}
 use Rattle.ua_chunk.specs.Item.{Item}
 use Rattle.ua_chunk.specs.Item.Item.{Whole, Aborted}
 use Rattle.ua_chunk.specs.Layout.{frame_of}
-use Rattle.ua_chunk.specs.Merge.{Sent, outcomes, part_of}
+use Rattle.ua_chunk.specs.Merge.{Sent, outcomes, part_of, IsWithin}
 use Rattle.ua_chunk.proofs.Bounds.{none_within}
 use Rattle.ua_chunk.specs.Open.{open_ids}
 use Rattle.std.specs.Prelude.{is_some}
@@ -83,7 +83,7 @@ use Rattle.ua_channel.proofs.ClientConversing.{response_as}
 use Rattle.ua_channel.specs.ClientConversation.{IsGoodResponse}
 use Rattle.ua_services.specs.declared.open.OpenAnswer.{OpenAnswer}
 use Rattle.std.specs.Prelude.{if◌then◌else◌}
-use Rattle.ua_channel.proofs.CutChunks.{AreSentIn, IsSentIn, cut_alone, cut_finished, cut_goes, ends_own, frames_fit, frames_framed, frames_messages, frames_numbers, frames_openings, frames_tokens, latest_token, one_merge, sent_in, within_one}
+use Rattle.ua_channel.proofs.CutChunks.{AreSentIn, IsSentIn, cut_alone, cut_finished, cut_goes, ends_own, frames_fit, frames_framed, frames_messages, frames_numbers, frames_openings, frames_tokens, latest_token, one_merge, sent_in, all_under}
 use Rattle.ua_channel.proofs.ClientMerges.{nothing_opened, reads_merged}
 use Rattle.ua_channel.proofs.MergedChunks.{comes}
 use Rattle.ua_channel.proofs.MergedFrames.{nothing_yet, openings-more, tokens-more}
@@ -504,9 +504,9 @@ module _ (limits : Limits) (asks : List Placed) (octets : List ℕ) (told : List
       )
       (record {
         own_ids = (refl, tt);
-        within = λ i n e.
-            within_one limits.max_message_size limits.max_chunk_count sent n (eqb id i)
-            (record { ending = refl; readable = λ f. ap is_some (abort_written code small); octets_fit = none_within limits.max_message_size; chunks_fit = none_within limits.max_chunk_count }) e;
+        within =
+            all_under (IsWithin limits.max_message_size limits.max_chunk_count) (sent ∷ [])
+            (record { ending = refl; readable = λ f. ap is_some (abort_written code small); octets_fit = none_within limits.max_message_size; chunks_fit = none_within limits.max_chunk_count }, tt);
         merged = one_merge sent (map part_of (c ∷ [])) refl;
         few_open = (omega arith, tt);
       })

@@ -1,5 +1,5 @@
 -- What a chunk that a client takes comes to: the tokens that it leaves, and why it is refused.
-use Rattle.std.proofs.Common.{◌≡◌, ◌+◌, true, not, List, [], ◌∷◌, ◌++◌, map, refl}
+use Rattle.std.proofs.Common.{◌≡◌, true, not, List, [], ◌∷◌, ◌++◌, map, refl}
 use Rattle.ua_builtin.specs.Reasons.{first_reason, renamed_reason}
 use Rattle.ua_frame.specs.declared.limits.Limits.{Limits}
 use Rattle.ua_chunk.specs.declared.chunk.Chunk.{Chunk}

@@ -1,5 +1,5 @@
 -- What the frames of the chunks of one message bring, and that these chunks are a merge of that message alone.
-use Rattle.std.proofs.Common.{◌≡◌, ℕ, ◌+◌, ◌<◌, ◌≤◌, ◌^◌, Bool, true, false, ◌&&◌, ◌||◌, eqb, List, [], ◌∷◌, ◌++◌, Option, Some, None, length, map, refl, sym, ◌∙◌, ap, subst, arith}
+use Rattle.std.proofs.Common.{◌≡◌, ℕ, ◌+◌, ◌<◌, ◌≤◌, ◌^◌, Bool, true, false, ◌&&◌, ◌||◌, eqb, List, [], ◌∷◌, ◌++◌, Option, Some, length, map, refl, sym, ◌∙◌, ap, subst, arith}
 use Rattle.std.specs.List.{AllByRecursion, flat_map}
 use Rattle.std.specs.Prelude.{if◌then◌else◌}
 use Rattle.ua_frame.specs.Frames.{frame_size}
@@ -7,11 +7,13 @@ use Rattle.ua_frame.specs.declared.frame.Frame.{Frame}
 use Rattle.ua_frame.specs.declared.limits.Limits.{Limits}
 use Rattle.ua_chunk.specs.Cutting.{chunks_of, number_after, numbered, pieces}
 use Rattle.ua_chunk.specs.Layout.{frame_of}
-use Rattle.ua_chunk.specs.Merge.{Interleaves, Interleaves as interleaves, IsWithin, Merges, Part, Sent, more_part, part_of, parts_of}
-use Rattle.ua_chunk.specs.Refusal.{passes}
+use Rattle.ua_chunk.specs.Merge.{Interleaves, Interleaves as interleaves, IsWithin, Merges, Part, Sent, more_part, part_of, parts_of, HaveOwnIds, bodies_by, sent_under}
+use Rattle.ua_chunk.specs.Refusal.{passes, FewOpen}
 use Rattle.ua_chunk.specs.Sequence.{may_follow, next_number}
 use Rattle.ua_chunk.specs.declared.chunk.Chunk.{Chunk}
-use Rattle.ua_chunk.specs.declared.flag.Flag.TheVariants.{F}
+use Rattle.ua_chunk.specs.declared.flag.Flag.{Flag}
+use Rattle.ua_chunk.specs.declared.flag.Flag.TheVariants.{F, A}
+use Rattle.ua_chunk.specs.Flag.{is_more_flag}
 use Rattle.ua_chunk.specs.declared.lane.Lane.{Lane}
 use Rattle.ua_chunk.proofs.CutLaws.{cut_messages, follows_next}
 use Rattle.ua_chunk.proofs.Fresh.{some_pieces}
@@ -19,10 +21,10 @@ use Rattle.ua_chunk.proofs.Pieces.{joined_pieces}
 use Rattle.ua_channel.specs.Asks.{is_finished}
 use Rattle.ua_channel.specs.Content.{Content}
 use Rattle.ua_channel.specs.Conversation.{AreOrdered, IsFramed}
-use Rattle.ua_channel.specs.Merges.{AreMerged, NumbersGoOn, latest_or}
+use Rattle.ua_channel.specs.Merges.{AreMerged, IsCutBody, NumbersGoOn, latest_or}
 use Rattle.ua_channel.specs.Received.{chunks_in, latest_behind, messages, numbers, numbers_in, openings, openings_in, tokens_in, used_tokens}
 use Rattle.ua_channel.specs.ServerReads.{IsBodyFor}
-use Rattle.ua_channel.proofs.Askings.{and_false, and_true, eqb_sym, or_false}
+use Rattle.ua_channel.proofs.Askings.{and_false, and_true, eqb_sym, or_false, all-weaken}
 use Rattle.ua_channel.proofs.Conversing.{messages_fit}
 use Rattle.ua_channel.proofs.Written.{IsNumbered, IsOf, after_small, chunk_carried, chunk_flag, chunk_size}
 
@@ -144,40 +146,62 @@ all_left (x ∷ xs) = interleaves.left (all_left xs)
 pub one_merge : (m : Sent) (zs : List Part) → zs ≡ parts_of m → Merges (map parts_of (m ∷ [])) zs
 one_merge m zs e = ([], refl, subst (λ (t : List Part). Interleaves (parts_of m) [] t) (sym e) (all_left (parts_of m)))
 
-pub within_one : (octets chunks : ℕ) (m n : Sent) (b : Bool) → IsWithin octets chunks m → (if b then Some m else None) ≡ Some n → IsWithin octets chunks n
-within_one octets chunks m n true w e = let same : m ≡ n = cc in subst (IsWithin octets chunks) same w
-within_one octets chunks m n false w e = absurd cc
+-- a body that is cut is within the limits
+cut_within : (limits : Limits) (m : Sent) → IsCutBody limits m → IsWithin limits.max_message_size limits.max_chunk_count m
+cut_within limits m c = record {
+  ending = ap is_more_flag c.ends;
+  readable = λ f. let clash : F ≡ A = sym c.ends ∙ f in absurd cc;
+  octets_fit =
+      ap (λ (f : Flag). passes limits.max_message_size (length (flat_map (λ p. p) (bodies_by f m)))) c.ends
+      ∙ (ap (λ (t : List (List ℕ)). passes limits.max_message_size (length (flat_map (λ p. p) t))) (sym c.pieces_are)
+      ∙ (ap (λ (t : List ℕ). passes limits.max_message_size (length t)) (joined_pieces c.room c.body c.some_room c.fits.some) ∙ c.fits.octets_fit));
+  chunks_fit =
+      ap (λ (f : Flag). passes limits.max_chunk_count (length (bodies_by f m))) c.ends ∙ (ap (λ (t : List (List ℕ)). passes limits.max_chunk_count (length t)) (sym c.pieces_are) ∙ c.fits.chunks_fit);
+}
+
+-- what holds of each message holds of that under a request id
+pub all_under : (P : Sent → Type 0) (ms : List Sent) → AllByRecursion P ms → (id : ℕ) (m : Sent) → sent_under id ms ≡ Some m → P m
+all_under P [] all id m e = absurd cc
+all_under P (n ∷ ms) all id m e = by_id (eqb n.request id) e (λ f. all_under P ms all.1 id m f)
+  where
+    by_id : (b : Bool) → (if b then Some n else sent_under id ms) ≡ Some m → (sent_under id ms ≡ Some m → P m) → P m
+    by_id true f rest = let same : n ≡ m = cc in subst P same all.0
+    by_id false f rest = rest f
+
+-- bodies that are cut, whose chunks come merged
+pub cut_merged : (limits : Limits) (ms : List Sent) (cs : List Chunk) → AllByRecursion (IsCutBody limits) ms → HaveOwnIds ms → Merges (map parts_of ms) (map part_of cs) → FewOpen [] cs → AreMerged limits ms cs
+cut_merged limits ms cs all own merges few = record {
+  own_ids = own;
+  within = all_under (IsWithin limits.max_message_size limits.max_chunk_count) ms (all-weaken (IsCutBody limits) (IsWithin limits.max_message_size limits.max_chunk_count) ms (cut_within limits) all);
+  merged = merges;
+  few_open = few;
+}
+
+-- the chunks of a body have its parts
+pub cut_sent : (lane : Lane) (body : List ℕ) (s : ℕ) (m : Sent) → pieces lane.room body ≡ m.pieces ++ m.last ∷ [] → m.end ≡ F → map part_of (chunks_of lane body s m.request) ≡ parts_of m
+cut_sent lane body s m are end =
+    ap (λ (t : List (List ℕ)). map part_of (numbered lane s m.request t)) are
+    ∙ (cut_parts lane s m.request m.pieces m.last ∙ ap (λ (f : Flag). map (more_part m.request) m.pieces ++ record { flag = f; request = m.request; body = m.last } ∷ []) (sym end))
 
 -- a message that is a merge alone
-pub record Alone (limits : Limits) (cs : List Chunk) : Type 0 where
+pub record Alone (limits : Limits) (id : ℕ) (cs : List Chunk) : Type 0 where
   pub message : Sent
+  pub request_is : message.request ≡ id
+  pub cut : IsCutBody limits message
   pub merged : AreMerged limits (message ∷ []) cs
 
 -- the chunks of a body are a merge of its message
-pub cut_alone : (limits : Limits) (lane : Lane) (body : List ℕ) (s id : ℕ) → 0 < lane.room → IsBodyFor limits lane.room body → Alone limits (chunks_of lane body s id)
+pub cut_alone : (limits : Limits) (lane : Lane) (body : List ℕ) (s id : ℕ) → 0 < lane.room → IsBodyFor limits lane.room body → Alone limits id (chunks_of lane body s id)
 cut_alone limits lane body s id room w =
     let ps = some_pieces lane.room body w.some in
     let parts = split ps.first ps.others in
-    let are : pieces lane.room body ≡ parts.front ++ parts.last ∷ [] = ps.are ∙ parts.are in
     let sent : Sent = record { request = id; pieces = parts.front; end = F; last = parts.last } in
+    let cut : IsCutBody limits sent = record { room = lane.room; body = body; some_room = room; fits = w; pieces_are = ps.are ∙ parts.are; ends = refl } in
     record {
       message = sent;
-      merged = record {
-        own_ids = (refl, tt);
-        within = λ i m e.
-            within_one limits.max_message_size limits.max_chunk_count sent m (eqb id i)
-            (record {
-              ending = refl;
-              readable = λ f. absurd cc;
-              octets_fit =
-                  ap (λ (t : List (List ℕ)). passes limits.max_message_size (length (flat_map (λ p. p) t))) (sym are)
-                  ∙ (ap (λ (t : List ℕ). passes limits.max_message_size (length t)) (joined_pieces lane.room body room w.some) ∙ w.octets_fit);
-              chunks_fit = ap (λ (t : List (List ℕ)). passes limits.max_chunk_count (length t)) (sym are) ∙ w.chunks_fit;
-            }) e;
-        merged =
-            one_merge sent (map part_of (chunks_of lane body s id)) (ap (λ (t : List (List ℕ)). map part_of (numbered lane s id t)) are ∙ cut_parts lane s id parts.front parts.last);
-        few_open =
-            ((messages_fit limits (chunks_of lane body s id)).0
-            (cut_messages limits.max_message_size limits.max_chunk_count lane body s id room w.some w.octets_fit w.chunks_fit)).few_open;
-      };
+      request_is = refl;
+      cut = cut;
+      merged =
+          cut_merged limits (sent ∷ []) (chunks_of lane body s id) (cut, tt) (refl, tt) (one_merge sent (map part_of (chunks_of lane body s id)) (cut_sent lane body s sent cut.pieces_are refl))
+          ((messages_fit limits (chunks_of lane body s id)).0 (cut_messages limits.max_message_size limits.max_chunk_count lane body s id room w.some w.octets_fit w.chunks_fit)).few_open;
     }

@@ -80,7 +80,7 @@ module _ (limits : Limits) (channel : ℕ) (octets : List ℕ) (told : List Told
   abbrev chunks : List Chunk
   chunks = chunks_of lane body at.next id
 
-  alone : Alone limits (chunks_of lane body at.next id)
+  alone : Alone limits id (chunks_of lane body at.next id)
   alone = cut_alone limits lane body at.next id to.some w
 
   all_sent : AreSentIn size lane id chunks

@@ -7,12 +7,14 @@ use Rattle.ua_frame.specs.After.{AllFrom, each_from}
 use Rattle.ua_frame.specs.Frames.{frame_size, frames_octets}
 use Rattle.ua_frame.specs.declared.frame.Frame.{Frame}
 use Rattle.ua_frame.specs.declared.limits.Limits.{Limits}
+use Rattle.ua_chunk.specs.Cutting.{pieces}
 use Rattle.ua_chunk.specs.Gathered.{ends}
 use Rattle.ua_chunk.specs.Item.{Item}
 use Rattle.ua_chunk.specs.Merge.{Sent, HaveOwnIds, AllWithin, Merges, parts_of, part_of, sent_under, outcome_under}
 use Rattle.ua_chunk.specs.Refusal.{FewOpen}
 use Rattle.ua_chunk.specs.Sequence.{may_follow}
 use Rattle.ua_chunk.specs.declared.chunk.Chunk.{Chunk}
+use Rattle.ua_chunk.specs.declared.flag.Flag.TheVariants.{F}
 use Rattle.ua_structures.specs.declared.secure_channel.OpenResponse.{OpenResponse}
 use Rattle.ua_channel.specs.Asks.{Asking, Placed, asked_before, asked_in, calls, end_of, id_of, is_finished, is_in, next_id, renewals}
 use Rattle.ua_channel.specs.ClientConversation.{IsGoodReply, IsGoodResponse}
@@ -23,7 +25,7 @@ use Rattle.ua_channel.specs.Content.{Content, Opening, content}
 use Rattle.ua_channel.specs.Content.Content.{Opens, Sends}
 use Rattle.ua_channel.specs.Conversation.{AreOrdered, IsFramed, IsGoodRequest}
 use Rattle.ua_channel.specs.Received.{latest, latest_behind, messages, numbers, openings, used_tokens}
-use Rattle.ua_channel.specs.ServerReads.{AtServer, IsTakenAt}
+use Rattle.ua_channel.specs.ServerReads.{AtServer, IsBodyFor, IsTakenAt}
 use Rattle.ua_channel.specs.ServerRules.{receive_size}
 use Rattle.ua_channel.specs.ServerTold.{Told, opened_by, request_of, told_under}
 use Rattle.ua_channel.specs.ServerTold.Told.{Opened}
@@ -40,6 +42,15 @@ pub record AreMerged (limits : Limits) (ms : List Sent) (cs : List Chunk) : Type
   pub merged : Merges (map parts_of ms) (map part_of cs)
   -- at most 4 messages are unfinished after each chunk
   pub few_open : FewOpen [] cs
+
+-- a message as a sender cuts it: a body within these limits in pieces of so many octets, the last of which is an F
+pub record IsCutBody (limits : Limits) (m : Sent) : Type 0 where
+  pub room : ℕ
+  pub body : List ℕ
+  pub some_room : 0 < room
+  pub fits : IsBodyFor limits room body
+  pub pieces_are : pieces room body ≡ m.pieces ++ m.last ∷ []
+  pub ends : m.end ≡ F
 
 -- what a frame carries is an opening of which this is so, or a chunk of which that is so
 abbrev pub CarriesEither : (Opening → Type 0) → (Chunk → Type 0) → Content → Type 0

@@ -6,24 +6,27 @@
 //! say of a running channel what it was told behind any beginning of such octets, and `asking_laws` where
 //! a client asks on in the middle of them.
 
-ghost use Rattle.std.specs.Prelude.{◌≡◌, ◌↔◌, ◌+◌, ◌++◌, [], ℕ, List, length, map};
-ghost use Rattle.std.specs.List.{filter, range_with_len};
+ghost use Rattle.std.specs.Prelude.{◌≡◌, ◌↔◌, ◌<◌, ◌+◌, ◌++◌, ◌∷◌, [], ℕ, List, length, map};
+ghost use Rattle.std.specs.List.{AllByRecursion, filter, range_with_len};
 ghost use Rattle.ua_frame.specs.Frames.{frames_octets};
 ghost use Rattle.ua_frame.specs.declared.frame.Frame.{Frame};
 ghost use Rattle.ua_frame.specs.declared.limits.Limits.{Limits};
-ghost use Rattle.ua_chunk.specs.Merge.{Sent, outcome_under, outcomes, sent_under};
-ghost use Rattle.ua_chunk.specs.Refusal.{TakesMessages};
+ghost use Rattle.ua_chunk.specs.Cutting.{chunks_of, pieces};
+ghost use Rattle.ua_chunk.specs.Merge.{HaveOwnIds, Merges, Sent, outcome_under, outcomes, part_of, parts_of, sent_under};
+ghost use Rattle.ua_chunk.specs.Refusal.{FewOpen, TakesMessages};
 ghost use Rattle.ua_chunk.specs.declared.chunk.Chunk.{Chunk};
+ghost use Rattle.ua_chunk.specs.declared.flag.Flag.TheVariants.{F};
+ghost use Rattle.ua_chunk.specs.declared.lane.Lane.{Lane};
 ghost use Rattle.ua_channel.specs.Asks.{Placed, asked_in};
 ghost use Rattle.ua_channel.specs.ClientReads.{AtClient, ClientReads};
 ghost use Rattle.ua_channel.specs.ClientTokens.{responses, tokens_of};
 ghost use Rattle.ua_channel.specs.ClientTold.{ClientTold, told_item};
 ghost use Rattle.ua_channel.specs.Conversation.{FitMessages};
-ghost use Rattle.ua_channel.specs.Merges.{AreMerged, ClientMerge, ServerMerge, is_message_under, is_told_under, placed_later, told_merged_back, told_of_merge, tokens_renewed, tokens_told, with_merged, with_merged_back};
+ghost use Rattle.ua_channel.specs.Merges.{AreMerged, ClientMerge, IsCutBody, ServerMerge, is_message_under, is_told_under, placed_later, told_merged_back, told_of_merge, tokens_renewed, tokens_told, with_merged, with_merged_back};
 ghost use Rattle.ua_channel.specs.Paired.{told_of_calls};
 ghost use Rattle.ua_channel.specs.Received.{messages, openings};
 ghost use Rattle.ua_channel.specs.ServerMessages.{message_of, messages_in};
-ghost use Rattle.ua_channel.specs.ServerReads.{AtServer, ServerReads};
+ghost use Rattle.ua_channel.specs.ServerReads.{AtServer, IsBodyFor, ServerReads};
 ghost use Rattle.ua_channel.specs.ServerTold.{Told};
 
 /// Chunks of which none is refused for its message are those whose messages fit, in plain words; so
@@ -31,6 +34,18 @@ ghost use Rattle.ua_channel.specs.ServerTold.{Told};
 pub fn messages_fit()
     ensures taken { (limits : Limits) (cs : List Chunk) → TakesMessages limits.max_message_size limits.max_chunk_count [] cs ↔ FitMessages limits cs }
     ensures merged { (limits : Limits) (ms : List Sent) (cs : List Chunk) → AreMerged limits ms cs → FitMessages limits cs }
+{}
+
+/// The chunks of bodies that senders cut within the limits of a receiver, under request ids of their own,
+/// each in a lane with any room and with any numbers, merged in any way with at most 4 unfinished after
+/// each, are merged messages: those that the laws below read. The chunks of one body are so alone.
+pub fn cut_bodies_merge()
+    ensures merged { (limits : Limits) (ms : List Sent) (cs : List Chunk) → AllByRecursion (IsCutBody limits) ms → HaveOwnIds ms → Merges (map parts_of ms) (map part_of cs) → FewOpen [] cs →
+        AreMerged limits ms cs }
+    ensures parts { (lane : Lane) (body : List ℕ) (number : ℕ) (m : Sent) → pieces lane.room body ≡ m.pieces ++ m.last ∷ [] → m.end ≡ F →
+        map part_of (chunks_of lane body number m.request) ≡ parts_of m }
+    ensures alone { (limits : Limits) (lane : Lane) (body : List ℕ) (number id : ℕ) → 0 < lane.room → IsBodyFor limits lane.room body →
+        (m : Sent) × (m.request ≡ id) × IsCutBody limits m × AreMerged limits (m ∷ []) (chunks_of lane body number id) }
 {}
 
 /// From where a server stands, with its channel open, it reads requests under request ids of their own,
