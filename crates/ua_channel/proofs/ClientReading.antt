@@ -178,20 +178,19 @@ response_read m fits =
     (body_reads_back (message 449 open_response) (lawful_message 449 lawful_open_response) m (and_from (node_id.encodable (standard 449)) (open_response.encodable m) answer_fits fits)).0
 
 module _ (channel number id handle token lifetime : ℕ) (moment : DateTime) (is : IsAnswered channel number id handle token lifetime moment) where
-  response : OpenResponse
+  abbrev response : OpenResponse
   response = open_response_of moment handle channel token lifetime
 
-  answer : Opening
+  abbrev answer : Opening
   answer = record { security = Some (none_header channel); numbers = Some (number, id); body = (message 449 open_response).canonical (open_response_of moment handle channel token lifetime) }
 
   opened_carried : content (opened_frame channel number id handle token lifetime moment) ≡ Opens answer
-  unfolding answer
   opened_carried =
       content_opn (opened_frame channel number id handle token lifetime moment) refl
       ∙ ap Opens (opening_carried channel number id ((message 449 open_response).canonical (open_response_of moment handle channel token lifetime)) is.channel_small (omega (arith, is.number_small)) is.id_small)
 
   answer_is : answer_in answer ≡ Some (Open response)
-  unfolding answer_in answer response
+  unfolding answer_in
   answer_is = response_read (open_response_of moment handle channel token lifetime) (open_response_fits moment handle channel token lifetime is.moment_fits is.handle_small is.channel_small is.token_small is.lifetime_small)
 
   opened_size : frame_size (opened_frame channel number id handle token lifetime moment) ≡ 135
@@ -199,11 +198,10 @@ module _ (channel number id handle token lifetime : ℕ) (moment : DateTime) (is
 
   -- the first answer
   first_good : (limits : Limits) (a : Ack) (asked : List Asking) → id ≡ 1 → first_reason (client_reasons limits (record nothing_received { ack = Some a }) asked (Opens answer)) ≡ None
-  unfolding answer held_tokens response
+  unfolding held_tokens
   first_good limits a asked one = rw (answer_is, no_responses, no_tokens, eq-eqb id 1 one) refl
 
   first_tells : (a : Ack) → client_tells (record nothing_received { ack = Some a }) (Opens answer) ≡ event.Opened channel token ∷ []
-  unfolding response
   first_tells a = rw (answer_is, no_responses) refl
 
 -- an OPN is let in behind an ACK
@@ -213,29 +211,25 @@ opn_by a (r ∷ rs) f kind flag fits least = lets_opn (reply_gate a.send_buffer_
 
 module _ (limits : Limits) (octets : List ℕ) (told : List ClientTold) (a : Ack) (channel number handle token lifetime : ℕ) (moment : DateTime)
     (r : ClientAgrees limits octets told a) (is : IsAnswered channel number 1 handle token lifetime moment) where
-  o : Opening
+  abbrev o : Opening
   o = answer channel number 1 handle token lifetime moment is
 
-  f : Frame
+  abbrev f : Frame
   f = opened_frame channel number 1 handle token lifetime moment
 
-  before : Received
+  abbrev before : Received
   before = record nothing_received { ack = Some a }
 
   o_carried : content f ≡ Opens o
-  unfolding f o
   o_carried = opened_carried channel number 1 handle token lifetime moment is
 
   o_answers : answer_in o ≡ Some (Open (open_response_of moment handle channel token lifetime))
-  unfolding o response
   o_answers = answer_is channel number 1 handle token lifetime moment is
 
   o_numbers : o.numbers ≡ Some (number, 1)
-  unfolding o answer
   o_numbers = refl
 
   now : received (r.frames ++ f ∷ []) ≡ after before (Opens o)
-  unfolding before
   now = received-push r.frames f ∙ (ap (λ (b : Received). after b (content f)) r.received_is ∙ ap (after (record nothing_received { ack = Some a })) o_carried)
 
   one_response : responses (o ∷ []) ≡ open_response_of moment handle channel token lifetime ∷ []
@@ -245,22 +239,19 @@ module _ (limits : Limits) (octets : List ℕ) (told : List ClientTold) (a : Ack
   one_id = opened_ids-push [] o (number, 1) o_numbers ∙ ap (λ (ids : List ℕ). ids ++ 1 ∷ []) no_ids
 
   one_token : held_tokens (after before (Opens o)) ≡ token ∷ []
-  unfolding held_tokens before
+  unfolding held_tokens
   one_token = ap tokens_of one_response ∙ (tokens_of-push [] (open_response_of moment handle channel token lifetime) ∙ ap (λ (ts : List ℕ). ts ++ token ∷ []) no_tokens)
 
   f_size : frame_size f ≡ 135
-  unfolding f
   f_size = opened_size channel number 1 handle token lifetime moment is
 
   f_in : LetsIn ((client_rules limits []).gate r.frames) f
-  unfolding f
   f_in =
       subst (λ (g : Gate). LetsIn g f) (sym (ap client_gate r.received_is))
       (opn_by a (responses []) f refl refl (omega (arith, f_size, r.large)) (omega (arith, f_size)))
 
   pub reads_opened : ClientReads limits [] (octets ++ frame_octets (opened_frame channel number 1 handle token lifetime moment)) (told ++ event.Opened channel token ∷ [])
       (record { ack = a; channel = channel; tokens = token ∷ []; newest = token; pending = []; renewals = []; next = next_number number })
-  unfolding f before o answer
   reads_opened = record {
     frames = r.frames ++ f ∷ [];
     run =
@@ -302,17 +293,15 @@ below_more : {X : Type 0} (id : X → ℕ) (n m : ℕ) (xs : List X) → n ≤ m
 below_more {X = X} id n m xs le all = all-weaken (λ (x : X). id x < n) (λ (x : X). id x < m) xs (λ x less. omega (arith, less, le)) all
 
 module _ (limits : Limits) (asks : List Placed) (octets : List ℕ) (told : List ClientTold) (at : AtClient) (ask : Asking) (r : ClientReads limits asks octets told at) (id_is : id_of ask ≡ next_id (asked_in asks)) where
-  more : List Placed
+  abbrev more : List Placed
   more = asks ++ (length octets, ask) ∷ []
 
   run_asked : Run (client_rules limits more) octets r.frames [] Going
-  unfolding more
   run_asked = asked_later limits asks (length octets, ask) octets r.frames [] (omega arith) r.run
 
   -- an ask behind the octets, where these calls and renewals are then unanswered
   reads_asked : (pending waiting : List ℕ) → pending_calls (received r.frames).messages (asked_in asks ++ ask ∷ []) ≡ pending → pending_renewals (opened_ids (received r.frames).openings) (asked_in asks ++ ask ∷ []) ≡ waiting
       → ClientReads limits (asks ++ (length octets, ask) ∷ []) octets told (record at { pending = pending; renewals = waiting })
-  unfolding more
   reads_asked pending waiting calls_are answers_are = record {
     frames = r.frames;
     run = run_asked;
@@ -552,11 +541,9 @@ module _ (limits : Limits) (asks : List Placed) (octets : List ℕ) (told : List
   p_carried = opened_carried at.channel at.next id handle token lifetime moment is
 
   p_answers : answer_in p ≡ Some (Open (open_response_of moment handle at.channel token lifetime))
-  unfolding response
   p_answers = answer_is at.channel at.next id handle token lifetime moment is
 
   p_numbers : p.numbers ≡ Some (at.next, id)
-  unfolding answer
   p_numbers = refl
 
   -- what its frame brings
@@ -582,7 +569,6 @@ module _ (limits : Limits) (asks : List Placed) (octets : List ℕ) (told : List
   g_size = opened_size at.channel at.next id handle token lifetime moment is
 
   good : IsGoodResponse (Some at.channel) at.tokens (λ (i : ℕ). is_in i at.renewals) p
-  unfolding answer
   good = record {
     header = none_header at.channel;
     security_is = refl;

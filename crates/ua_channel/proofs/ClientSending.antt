@@ -179,27 +179,22 @@ judged_later x y asks octets frames rest bodies body s t =
 -- ---- between two messages
 
 module _ (x : ClientChannel) (asks : List Placed) (octets : List ℕ) (frames : List Frame) (rest : List ℕ) (told : List ClientTold) (at : AtClient) (s : ClientStands x asks octets frames rest) (r : ClientReads (client_limits x) asks octets told at) where
-  before : Received
+  abbrev before : Received
   before = received r.frames
 
   in_phase : InPhase (client_limits x) (phase_of x) before (asked_in asks)
-  unfolding before
   in_phase = subst (λ (fs : List Frame). InPhase (client_limits x) (phase_of x) (received fs) (asked_in asks)) (unique (client_rules_of x asks) octets frames r.frames rest [] Going Going s.run r.run).frames s.phase_is
 
   there : has_no_channel before ≡ false
-  unfolding before
   there = ap is_none r.channel_is
 
   same_channel : (channel : ℕ) → channel_in (responses before.openings) ≡ Some channel → channel ≡ at.channel
-  unfolding before
   same_channel channel is = some_is channel at.channel (sym is ∙ r.channel_is)
 
   same_newest : (newest : ℕ) → latest (held_tokens before) ≡ Some newest → newest ≡ at.newest
-  unfolding before
   same_newest newest is = some_is newest at.newest (sym is ∙ (ap latest r.tokens_are ∙ r.newest_is))
 
   same_ack : (a : Ack) → before.ack ≡ Some a → a ≡ at.ack
-  unfolding before
   same_ack a is = some_is a at.ack (sym is ∙ r.ack_is)
 
   call_by : (number : ℕ) (body : List ℕ) (id : ℕ) (out : List ℕ) (next : ℕ) → IsCalled before (asked_in asks) number body id out next
@@ -234,7 +229,6 @@ module _ (x : ClientChannel) (asks : List Placed) (octets : List ℕ) (frames : 
   sends_closing number moment out c = closing_by number moment out (close_sent (client_limits x) before (asked_in asks) (phase_of x) number moment out in_phase c)
 
   same_reasons : (more : ℕ) (body : List ℕ) → first_reason (call_reasons before (asked_in asks) more body) ≡ first_reason (reasons_of_call (length at.pending + more) (next_id (asked_in asks) + more) (is_too_large at.ack body))
-  unfolding before
   same_reasons more body =
       first_skip NotOpen (has_no_channel (received r.frames)) (reasons_of_call (length (pending_calls (received r.frames).messages (asked_in asks)) + more) (next_id (asked_in asks) + more) (of_ack (λ (a : Ack). is_too_large a body) (received r.frames).ack)) there
       ∙ (ap (λ (n : ℕ). first_reason (reasons_of_call (n + more) (next_id (asked_in asks) + more) (of_ack (λ (a : Ack). is_too_large a body) (received r.frames).ack))) (ap length r.pending_are)
@@ -244,7 +238,6 @@ module _ (x : ClientChannel) (asks : List Placed) (octets : List ℕ) (frames : 
   refuses_call more body = call_judged (client_limits x) before (asked_in asks) (phase_of x) more body in_phase ∙ same_reasons more body
 
   same_renew_reasons : first_reason (renewing_reasons before (asked_in asks)) ≡ first_reason (reasons_of_renewal (has_some at.renewals) (length at.tokens) (next_id (asked_in asks)))
-  unfolding before
   same_renew_reasons =
       first_skip NotOpen (has_no_channel (received r.frames)) (reasons_of_renewal (has_some (pending_renewals (opened_ids (received r.frames).openings) (asked_in asks))) (length (held_tokens (received r.frames))) (next_id (asked_in asks))) there
       ∙ (ap (λ (ids : List ℕ). first_reason (reasons_of_renewal (has_some ids) (length (held_tokens (received r.frames))) (next_id (asked_in asks)))) r.renewals_are

@@ -174,33 +174,28 @@ send_fits h e =
     omega (arith, ltb-true h.send_buffer_size (256 ^ 4) c.0)
 
 module _ (limits : Limits) (channel : ℕ) (client : Limits) (url : Option (List ℕ)) (fits : IsTrue (hello.encodable (hello_to client url))) (short : url_length url ≤ 4095) where
-  said : Hello
+  abbrev said : Hello
   said = hello_to client url
 
-  hel : Frame
+  abbrev hel : Frame
   hel = hello_frame (hello_to client url)
 
   hello_carried : content hel ≡ Greets (Some said)
-  unfolding hel said
   hello_carried = content_hel (hello_frame (hello_to client url)) refl ∙ ap Greets (whole_encodes hello sound_hello (hello.canonical (hello_to client url)) (hello_to client url) (sound_hello.canonical_encodes (hello_to client url) fits))
 
   hello_size : frame_size hel ≡ 32 + url_length url
-  unfolding hel
   hello_size = omega (arith, hello_length client url)
 
   hello_good : (b : Received) → first_reason (server_reasons limits channel b (Greets (Some said))) ≡ None
-  unfolding said
   hello_good b = rw (le-ltb 4095 (url_length url) short, le-ltb client.receive_buffer_size 8192 client.receives, le-ltb client.send_buffer_size 8192 client.sends) refl
 
   hello_received : received (hel ∷ []) ≡ record nothing_received { hello = Some said }
-  unfolding said
   hello_received = received-push [] hel ∙ (ap (λ (b : Received). after b (content hel)) received-nil ∙ ap (after nothing_received) hello_carried)
 
   hello_gate_is : (server_rules limits channel).gate [] ≡ hello_gate
   hello_gate_is = ap (server_gate limits) received-nil
 
   pub reads_hello : ServerReads limits channel (frame_octets (hello_frame (hello_to client url))) (event.Agreed (agreement_of limits (hello_to client url)) ∷ []) (record { hello = hello_to client url; issued = 0; used = 1; next = 1 })
-  unfolding hel said
   reads_hello = record {
     frames = hello_frame (hello_to client url) ∷ [];
     run =
@@ -239,20 +234,19 @@ type_later count some = ap (λ (b : Bool). if b then 0 else 1) (ne_eqb count 0 (
 
 module _ (limits : Limits) (channel : ℕ) (octets : List ℕ) (told : List Told) (at : AtServer) (on id : ℕ) (kind : ℤ) (moment : DateTime) (r : ServerReads limits channel octets told at)
     (on_small : on < 2 ^ 32) (few : id < 2 ^ 32) (fits : IsTrue (open_request.encodable (open_request_of kind moment 0 token_lifetime))) where
-  request : OpenRequest
+  abbrev request : OpenRequest
   request = open_request_of kind moment 0 token_lifetime
 
-  behind_headers : List ℕ
+  abbrev behind_headers : List ℕ
   behind_headers = (message 446 open_request).canonical (open_request_of kind moment 0 token_lifetime)
 
-  opn : Frame
+  abbrev opn : Frame
   opn = open_frame on at.next id (open_request_of kind moment 0 token_lifetime)
 
-  asks : Asked
+  abbrev asks : Asked
   asks = record { kind = kind; mode = pos 1; handle = 0; lifetime = 3600000 }
 
   found : IsAskedIn behind_headers asks
-  unfolding behind_headers asks
   found = record {
     request = open_request_of kind moment 0 token_lifetime;
     reads = request_read (open_request_of kind moment 0 token_lifetime) fits;
@@ -260,7 +254,6 @@ module _ (limits : Limits) (channel : ℕ) (octets : List ℕ) (told : List Told
   }
 
   headers : HasHeaders opn.body on at.next id behind_headers
-  unfolding opn behind_headers
   headers = record {
     header = none_header on;
     on_is = refl;
@@ -268,28 +261,23 @@ module _ (limits : Limits) (channel : ℕ) (octets : List ℕ) (told : List Told
     opening_is = opening_carried on at.next id ((message 446 open_request).canonical (open_request_of kind moment 0 token_lifetime)) on_small (omega (arith, r.next_small)) few;
   }
 
-  opened : Opened
+  abbrev opened : Opened
   opened = record { sequence = at.next; request = id; handle = 0; lifetime = 3600000 }
 
   opn_size : frame_size opn ≡ 132
-  unfolding opn
   opn_size = omega (arith, opening_size on at.next id ((message 446 open_request).canonical (open_request_of kind moment 0 token_lifetime)), open_request_length kind moment 0 token_lifetime)
 
   module _ (left : at.issued < 4294967295) (so : OpensSo channel at.issued opn.body opened) where
     opn_good : first_reason (server_reasons limits channel (received r.frames) (Opens (opening_of opn.body))) ≡ None
-    unfolding opened
     opn_good = so.remain limits (received r.frames) r.issued_is ∙ rw (r.follows, ne_eqb (issued (received r.frames)) 4294967295 (λ e. omega (arith, e, r.issued_is, left))) refl
 
     opn_now : received (r.frames ++ opn ∷ []) ≡ after (received r.frames) (Opens (opening_of opn.body))
-    unfolding opn
     opn_now = received-push r.frames opn ∙ ap (after (received r.frames)) (content_opn opn refl)
 
     opn_in : LetsIn ((server_rules limits channel).gate r.frames) opn
-    unfolding opn
     opn_in = subst (λ (g : Gate). LetsIn g opn) (sym (ap (λ (o : Option Hello). server_gate_behind limits o (issued (received r.frames))) r.hello_is)) (opn_by (eqb (issued (received r.frames)) 0) (receive_size limits (Some at.hello)) opn refl refl (omega (arith, opn_size, r.large)) (omega (arith, opn_size)))
 
     reads_opn : ServerReads limits channel (octets ++ frame_octets opn) (told ++ event.Opened id 0 (at.issued + 1) 3600000 ∷ []) (with_token at)
-    unfolding opn opened
     reads_opn = record {
       frames = r.frames ++ opn ∷ [];
       run =
@@ -315,7 +303,7 @@ module _ (limits : Limits) (channel : ℕ) (octets : List ℕ) (told : List Told
 -- the first OPN, on no channel yet
 pub reads_first : (limits : Limits) (channel : ℕ) (octets : List ℕ) (told : List Told) (at : AtServer) (moment : DateTime) → ServerReads limits channel octets told at → at.issued ≡ 0 → at.next ≡ 1 → IsTrue (date_time.encodable moment)
     → ServerReads limits channel (octets ++ frame_octets (first_open moment)) (told ++ event.Opened 1 0 1 3600000 ∷ []) (with_token at)
-unfolding asks found headers opened opn behind_headers
+unfolding found headers
 reads_first limits channel octets told at moment r none one fits =
     let enc = issue_fits moment 0 3600000 fits (omega arith) (omega arith) in
     let so : OpensSo channel at.issued (opn limits channel octets told at 0 1 (pos 0) moment r (omega arith) (omega arith) enc).body (opened limits channel octets told at 0 1 (pos 0) moment r (omega arith) (omega arith) enc) =
@@ -329,7 +317,7 @@ reads_first limits channel octets told at moment r none one fits =
 -- an OPN that renews the token
 pub reads_renewal : (limits : Limits) (channel : ℕ) (octets : List ℕ) (told : List Told) (at : AtServer) (id : ℕ) (moment : DateTime) → ServerReads limits channel octets told at → 0 < at.issued → at.issued < 4294967295 → channel < 2 ^ 32 → id < 2 ^ 32 → IsTrue (date_time.encodable moment)
     → ServerReads limits channel (octets ++ frame_octets (renewal_frame channel at.next id moment)) (told ++ event.Opened id 0 (at.issued + 1) 3600000 ∷ []) (with_token at)
-unfolding asks found headers opened opn behind_headers
+unfolding found headers
 reads_renewal limits channel octets told at id moment r some left on few fits =
     let enc = renew_fits moment 0 3600000 fits (omega arith) (omega arith) in
     let good : first_reason (asked_reasons (record { kind = pos 1; mode = pos 1; handle = 0; lifetime = 3600000 }) channel channel at.issued) ≡ None = rw (type_later at.issued some, eq-eqb channel channel refl, lt-ltb 0 at.issued some) refl in
@@ -342,11 +330,10 @@ reads_renewal limits channel octets told at id moment r some left on few fits =
 
 module _ (limits : Limits) (channel : ℕ) (octets : List ℕ) (told : List Told) (at : AtServer) (token id : ℕ) (moment : DateTime) (r : ServerReads limits channel octets told at) (taken : IsTakenAt at token)
     (on : channel < 2 ^ 32) (few : id < 2 ^ 32) where
-  closing : Chunk
+  abbrev closing : Chunk
   closing = record { channel = channel; token = token; flag = F; sequence = at.next; request = id; body = (message 452 close_request).canonical (close_request_of moment 0) }
 
   closing_is : chunk_in (close_frame channel token at.next id moment) ≡ Some closing
-  unfolding closing
   closing_is =
       let k = frame_of_chunk (record { channel = channel; token = token; flag = F; sequence = at.next; request = id; body = (message 452 close_request).canonical (close_request_of moment 0) }) on (omega (arith, taken.issued, r.few_issued)) (omega (arith, r.next_small)) few in
       chunk_found (close_frame channel token at.next id moment) (record { channel = channel; token = token; flag = F; sequence = at.next; request = id; body = (message 452 close_request).canonical (close_request_of moment 0) })
@@ -363,7 +350,6 @@ module _ (limits : Limits) (channel : ℕ) (octets : List ℕ) (told : List Told
       (le-leb (last_used (received r.frames)) token (omega (arith, r.used_is, taken.not_before))) (le-leb token (issued (received r.frames)) (omega (arith, r.issued_is, taken.issued)))
 
   clo_good : first_reason (server_reasons limits channel (received r.frames) (Closes closing)) ≡ None
-  unfolding closing
   clo_good = rw (eq-eqb channel channel refl, is_taken_here, r.follows) refl
 
   clo_now : received (r.frames ++ close_frame channel token at.next id moment ∷ []) ≡ after (received r.frames) (Closes closing)
