@@ -121,17 +121,16 @@ module _ (limits : Limits) (asked : List Asking) (b : Received) where
 
   -- ---- a chunk
 
-  ids_of : Chunk → List (Why × Bool)
+  abbrev ids_of : Chunk → List (Why × Bool)
   ids_of c = (ours 0x807F_0000, is_other (channel_in (responses b.openings)) c.channel) ∷ (ours 0x8087_0000, not (is_in c.token (held_tokens b))) ∷ []
 
-  rows_of : Chunk → List (Why × Bool)
+  abbrev rows_of : Chunk → List (Why × Bool)
   rows_of c = map (renamed_reason why_of) (reasons limits.max_message_size limits.max_chunk_count b.last b.messages c)
 
-  unasked_of : Chunk → List (Why × Bool)
+  abbrev unasked_of : Chunk → List (Why × Bool)
   unasked_of c = (ours 0x8009_0000, not (is_in c.request (pending_calls b.messages asked))) ∷ []
 
   reply_good : (c : Chunk) → first_reason (client_reasons limits b asked (Sends c)) ≡ None → IsReply c
-  unfolding ids_of rows_of unasked_of
   reply_good c e =
       let all = sym (judged_reply limits asked b c) ∙ e in
       let ids = none_holds (ids_of c) (none_first (ids_of c) (rows_of c ++ unasked_of c) all) in
@@ -139,7 +138,6 @@ module _ (limits : Limits) (asked : List Asking) (b : Received) where
       record { on = ids.0; held = not-false (is_in c.token (held_tokens b)) ids.1.0; awaited = not-false (is_in c.request (pending_calls b.messages asked)) last.0 }
 
   reply_apart : (c : Chunk) → first_reason (client_reasons limits b asked (Sends c)) ≡ None → (may_follow b.last c.sequence ≡ true) × (message_refusal limits.max_message_size limits.max_chunk_count b.messages c ≡ None)
-  unfolding ids_of rows_of unasked_of
   reply_apart c e =
       let all = sym (judged_reply limits asked b c) ∙ e in
       (apart limits.max_message_size limits.max_chunk_count b.last b.messages c).0
@@ -148,7 +146,6 @@ module _ (limits : Limits) (asked : List Asking) (b : Received) where
       ∙ none_first (rows_of c) (unasked_of c) (none_then (ids_of c) (rows_of c ++ unasked_of c) all)))
 
   reply_taken : (c : Chunk) → IsReply c → may_follow b.last c.sequence ≡ true → message_refusal limits.max_message_size limits.max_chunk_count b.messages c ≡ None → first_reason (client_reasons limits b asked (Sends c)) ≡ None
-  unfolding ids_of rows_of unasked_of
   reply_taken c g follows good =
       let ids : first_reason (ids_of c) ≡ None = rw (g.on, g.held) refl in
       let asks : first_reason (unasked_of c) ≡ None = rw g.awaited refl in
@@ -185,35 +182,31 @@ accepted limits asked b Nothing g = refl
 -- ---- the order
 
 -- what may come, by the Acknowledge, and by the responses
-order_by : Option Ack → List OpenResponse → List Kind → Type 0
+abbrev order_by : Option Ack → List OpenResponse → List Kind → Type 0
 order_by None rs ks = IsClientOrder ks
 order_by (Some a) [] ks = IsOrderAgreed ks
 order_by (Some a) (r ∷ rs) ks = IsClientOrderOpen ks
 
-Order : Received → List Kind → Type 0
+abbrev Order : Received → List Kind → Type 0
 Order b ks = order_by b.ack (responses b.openings) ks
 
 -- responses come behind an Acknowledge
-IsPlaced : Received → Type 0
+abbrev IsPlaced : Received → Type 0
 IsPlaced b = b.ack ≡ None → responses b.openings ≡ []
 
 order_is : (b : Received) (ks : List Kind) (o : Option Ack) (rs : List OpenResponse) → b.ack ≡ o → responses b.openings ≡ rs → Order b ks ↔ order_by o rs ks
-unfolding Order
 order_is b ks o rs q r = subst (λ (t : Option Ack). Order b ks ↔ order_by t rs ks) q (subst (λ (t : List OpenResponse). Order b ks ↔ order_by b.ack t ks) r (λ h. h, λ h. h))
 
 nil_by : (o : Option Ack) (rs : List OpenResponse) → order_by o rs []
-unfolding order_by
 nil_by None rs = tt
 nil_by (Some a) [] = tt
 nil_by (Some a) (r ∷ rs) = tt
 
 some_open : (a : Ack) (rs : List OpenResponse) (n : ℕ) (ks : List Kind) → channel_in rs ≡ Some n → IsClientOrderOpen ks → order_by (Some a) rs ks
-unfolding order_by
 some_open a [] n ks e order = absurd cc
 some_open a (r ∷ rs) n ks e order = order
 
 order_nil : (b : Received) → Order b []
-unfolding Order
 order_nil b = nil_by b.ack (responses b.openings)
 
 module _ (limits : Limits) (asked : List Asking) (b : Received) (f : Frame) (ks : List Kind) where
@@ -226,7 +219,6 @@ module _ (limits : Limits) (asked : List Asking) (b : Received) (f : Frame) (ks 
 
   -- a frame comes in order exactly where it is let in
   order_here : (o : Option Ack) (rs : List OpenResponse) (k : Kind) → b.ack ≡ o → responses b.openings ≡ rs → IsPlaced b → MayCarryBack limits b asked (content_by k f) → InOrder (client_gate_behind o rs) k (Order (after b (content_by k f)) ks) (order_by o rs (k ∷ ks))
-  unfolding order_by IsPlaced
   order_here None rs Hel q r placed may = out_of_order (λ e. cc) (λ e. e)
   order_here None rs kind.Ack q r placed may = in_order refl (order_is (after b (Acks (whole_of ack f.body))) ks (Some may.said) [] (ap (or_before b.ack) may.reads) (placed q))
   order_here None rs kind.Err q r placed may = absurd may
@@ -269,7 +261,6 @@ opn_some None rs kind e = absurd cc
 opn_some (Some a) rs kind e = absurd cc
 
 placed_more : (b : Received) (f : Frame) (k : Kind) → IsPlaced b → IsTrue (lets_in (client_gate b) k) → IsPlaced (after b (content_by k f))
-unfolding IsPlaced
 placed_more b f Hel placed kind none = placed none
 placed_more b f kind.Ack placed kind none = placed (before_none b.ack (whole_of ack f.body) none)
 placed_more b f kind.Err placed kind none = placed none
@@ -282,7 +273,6 @@ module _ (limits : Limits) (asks : List Placed) where
   placed_next start f placed kind = subst IsPlaced (sym (received-push start f ∙ ap (after (received start)) (content_kind f))) (placed_more (received start) f f.kind placed kind)
 
   order_frame : (asked : List Asking) (b : Received) (f : Frame) (ks : List Kind) → IsPlaced b → MayCarryBack limits b asked (content f) → InOrder (client_gate b) f.kind (Order (after b (content f)) ks) (Order b (f.kind ∷ ks))
-  unfolding Order
   order_frame asked b f ks placed =
       subst (λ (c : Content). MayCarryBack limits b asked c → InOrder (client_gate b) f.kind (Order (after b c) ks) (Order b (f.kind ∷ ks))) (sym (content_kind f)) (order_here limits asked b f ks b.ack (responses b.openings) f.kind refl refl placed)
 
@@ -303,7 +293,6 @@ module _ (limits : Limits) (asks : List Placed) where
       → AllFrom (λ us f. MayCarryBack limits (received us) (asked_before (end_of us f) asks) (content f)) start fs → AreOrdered (received start).last (numbers fs)
       → TakesMessages limits.max_message_size limits.max_chunk_count (received start).messages (messages fs)
       → AllFrom (Fits (client_rules limits asks)) start fs
-  unfolding IsPlaced
   taken_open a n start fs said there order framed fits carries ordered fit =
       taken (client_rules limits asks) limits (λ (f : Frame). f.kind) Order IsPlaced (λ b. largest_taken b.ack) (λ before f. MayCarryBack limits (received before) (asked_before (end_of before f) asks) (content f)) rules_converse start fs
       (λ none. let never : Some a ≡ None = sym said ∙ none in absurd cc)
@@ -322,7 +311,6 @@ module _ (limits : Limits) (asks : List Placed) where
   nothing_there = ap (λ (b : Received). responses b.openings) received-nil ∙ no_responses
 
   nothing_placed : IsPlaced (received [])
-  unfolding IsPlaced
   nothing_placed none = nothing_there
 
   nothing_order : (frames : List Frame) → Order (received []) (map (λ (f : Frame). f.kind) frames) ↔ order_by None [] (map (λ (f : Frame). f.kind) frames)
@@ -330,7 +318,7 @@ module _ (limits : Limits) (asks : List Placed) where
 
   -- the frames that a client takes are those of a conversation, or the beginning of one
   pub converses : (frames : List Frame) → AllAfter (Fits (client_rules limits asks)) frames ↔ ClientConversation limits asks frames
-  unfolding AllAfter order_by
+  unfolding AllAfter
   converses frames = (
     λ fits.
         let c = converse (client_rules limits asks) limits (λ (f : Frame). f.kind) Order IsPlaced (λ b. largest_taken b.ack) (λ before f. MayCarryBack limits (received before) (asked_before (end_of before f) asks) (content f)) rules_converse [] frames nothing_placed fits in

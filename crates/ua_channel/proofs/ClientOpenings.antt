@@ -27,24 +27,21 @@ use Rattle.ua_channel.proofs.Openings.{HasHeaders, open_code, refuses_headers}
 -- ---- headers that are refused
 
 module _ (limits : Limits) (before : Received) (asked : List Asking) where
-  why_not : Opening → Option Why
+  abbrev why_not : Opening → Option Why
   why_not o = first_reason (client_reasons limits before asked (Opens o))
 
   unread_here : (body : List ℕ) → why_not (opening_secured body None) ≡ Some (ours 0x8007_0000)
-  unfolding why_not
   unread_here body = refl
 
   refused_policy : (header : SecurityHeader) (octets : List ℕ) (found : Option ((ℕ × ℕ) × List ℕ)) → is_none_policy (policy_of header) ≡ false → why_not (opening_numbered header octets found) ≡ Some (ours 0x8055_0000)
-  unfolding why_not
   refused_policy header octets None other = rw other refl
   refused_policy header octets (Some found) other = rw other refl
 
   refused_numbers : (header : SecurityHeader) (octets : List ℕ) → is_none_policy (policy_of header) ≡ true → why_not (opening_numbered header octets None) ≡ Some (ours 0x8007_0000)
-  unfolding why_not answer_in
+  unfolding answer_in
   refused_numbers header octets none = rw none refl
 
   headers_refused : (body : List ℕ) (fault : OpenFault) → open_refusal body ≡ Some fault → first_reason (client_reasons limits before asked (Opens (opening_of body))) ≡ Some (ours (open_code fault))
-  unfolding why_not
   headers_refused body fault h = refuses_headers ours why_not unread_here refused_policy refused_numbers body fault h
 
 judges_fault : (body : List ℕ) (fault : OpenFault) → open_refusal body ≡ Some fault → JudgesAnswer (opening_of body) (Err (of_open_fault fault))

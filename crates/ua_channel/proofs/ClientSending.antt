@@ -197,36 +197,29 @@ module _ (x : ClientChannel) (asks : List Placed) (octets : List ℕ) (frames : 
   same_ack : (a : Ack) → before.ack ≡ Some a → a ≡ at.ack
   same_ack a is = some_is a at.ack (sym is ∙ r.ack_is)
 
-  call_by : (number : ℕ) (body : List ℕ) (id : ℕ) (out : List ℕ) (next : ℕ) → IsCalled before (asked_in asks) number body id out next
-      → (id ≡ next_id (asked_in asks)) × (out ≡ chunks_octets (chunks_of (lane_from at) body number id)) × (next ≡ number_after number (pieces (room_of at.ack) body))
-  call_by number body id out next c = (
-    c.id_is,
-    c.out_is ∙ (ap (λ (a : Ack). chunks_octets (chunks_of (call_lane a c.channel c.newest) body number id)) (same_ack c.ack c.is_open.ack_is)
-        ∙ (ap (λ (n : ℕ). chunks_octets (chunks_of (call_lane at.ack n c.newest) body number id)) (same_channel c.channel c.is_open.channel_is)
-        ∙ ap (λ (n : ℕ). chunks_octets (chunks_of (call_lane at.ack at.channel n) body number id)) (same_newest c.newest c.is_open.newest_is))),
-    c.next_is ∙ ap (λ (a : Ack). number_after number (pieces (room_of a) body)) (same_ack c.ack c.is_open.ack_is),
-  )
-
   pub sends_call : (number : ℕ) (body : List ℕ) (id : ℕ) (out : List ℕ) (next : ℕ) → IsCall (phase_of x) number body id out next
       → (id ≡ next_id (asked_in asks)) × (out ≡ chunks_octets (chunks_of (lane_from at) body number id)) × (next ≡ number_after number (pieces (room_of at.ack) body))
-  sends_call number body id out next c = call_by number body id out next (call_sent (client_limits x) before (asked_in asks) (phase_of x) number body id out next in_phase c)
-
-  renewal_by : (number : ℕ) (moment : DateTime) (id : ℕ) (out : List ℕ) (next : ℕ) → IsRenewed before (asked_in asks) number moment id out next
-      → (id ≡ next_id (asked_in asks)) × (out ≡ frame_octets (renewal_frame at.channel number id moment)) × (next ≡ next_number number)
-  renewal_by number moment id out next c = (c.id_is, c.out_is ∙ ap (λ (n : ℕ). frame_octets (renewal_frame n number id moment)) (same_channel c.channel c.channel_is), c.next_is)
+  sends_call number body id out next is =
+      let c = call_sent (client_limits x) before (asked_in asks) (phase_of x) number body id out next in_phase is in (
+        c.id_is,
+        c.out_is ∙ (ap (λ (a : Ack). chunks_octets (chunks_of (call_lane a c.channel c.newest) body number id)) (same_ack c.ack c.is_open.ack_is)
+            ∙ (ap (λ (n : ℕ). chunks_octets (chunks_of (call_lane at.ack n c.newest) body number id)) (same_channel c.channel c.is_open.channel_is)
+            ∙ ap (λ (n : ℕ). chunks_octets (chunks_of (call_lane at.ack at.channel n) body number id)) (same_newest c.newest c.is_open.newest_is))),
+        c.next_is ∙ ap (λ (a : Ack). number_after number (pieces (room_of a) body)) (same_ack c.ack c.is_open.ack_is),
+      )
 
   pub sends_renewal : (number : ℕ) (moment : DateTime) (id : ℕ) (out : List ℕ) (next : ℕ) → IsRenewal (phase_of x) number moment id out next
       → (id ≡ next_id (asked_in asks)) × (out ≡ frame_octets (renewal_frame at.channel number id moment)) × (next ≡ next_number number)
-  sends_renewal number moment id out next c = renewal_by number moment id out next (renewal_sent (client_limits x) before (asked_in asks) (phase_of x) number moment id out next in_phase c)
+  sends_renewal number moment id out next is =
+      let c = renewal_sent (client_limits x) before (asked_in asks) (phase_of x) number moment id out next in_phase is in
+      (c.id_is, c.out_is ∙ ap (λ (n : ℕ). frame_octets (renewal_frame n number id moment)) (same_channel c.channel c.channel_is), c.next_is)
 
-  closing_by : (number : ℕ) (moment : DateTime) (out : List ℕ) → IsClosed before (asked_in asks) number moment out → out ≡ frame_octets (close_frame at.channel at.newest number (next_id (asked_in asks)) moment)
-  closing_by number moment out c =
+  pub sends_closing : (number : ℕ) (moment : DateTime) (out : List ℕ) → IsClosing (phase_of x) number moment out → out ≡ frame_octets (close_frame at.channel at.newest number (next_id (asked_in asks)) moment)
+  sends_closing number moment out is =
+      let c = close_sent (client_limits x) before (asked_in asks) (phase_of x) number moment out in_phase is in
       c.out_is
       ∙ (ap (λ (n : ℕ). frame_octets (close_frame n c.newest number (next_id (asked_in asks)) moment)) (same_channel c.channel c.channel_is)
       ∙ ap (λ (n : ℕ). frame_octets (close_frame at.channel n number (next_id (asked_in asks)) moment)) (same_newest c.newest c.newest_is))
-
-  pub sends_closing : (number : ℕ) (moment : DateTime) (out : List ℕ) → IsClosing (phase_of x) number moment out → out ≡ frame_octets (close_frame at.channel at.newest number (next_id (asked_in asks)) moment)
-  sends_closing number moment out c = closing_by number moment out (close_sent (client_limits x) before (asked_in asks) (phase_of x) number moment out in_phase c)
 
   same_reasons : (more : ℕ) (body : List ℕ) → first_reason (call_reasons before (asked_in asks) more body) ≡ first_reason (reasons_of_call (length at.pending + more) (next_id (asked_in asks) + more) (is_too_large at.ack body))
   same_reasons more body =

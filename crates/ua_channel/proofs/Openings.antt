@@ -54,24 +54,21 @@ module _ {X : Type 0} (name : ℕ → X) (why : Opening → Option X) (unread : 
   refuses_headers body fault h = refused_found body (policy_header.decode body) fault h
 
 module _ (limits : Limits) (channel : ℕ) (before : Received) where
-  why_not : Opening → Option ℕ
+  abbrev why_not : Opening → Option ℕ
   why_not o = first_reason (server_reasons limits channel before (Opens o))
 
   unread_here : (body : List ℕ) → why_not (opening_secured body None) ≡ Some 0x8007_0000
-  unfolding why_not
   unread_here body = refl
 
   refused_policy : (header : SecurityHeader) (octets : List ℕ) (found : Option ((ℕ × ℕ) × List ℕ)) → is_none_policy (policy_of header) ≡ false → why_not (opening_numbered header octets found) ≡ Some 0x8055_0000
-  unfolding why_not
   refused_policy header octets None other = rw other refl
   refused_policy header octets (Some found) other = rw other refl
 
   refused_numbers : (header : SecurityHeader) (octets : List ℕ) → is_none_policy (policy_of header) ≡ true → why_not (opening_numbered header octets None) ≡ Some 0x8007_0000
-  unfolding why_not request_of
+  unfolding request_of
   refused_numbers header octets none = rw none refl
 
   headers_refused : (body : List ℕ) (fault : OpenFault) → open_refusal body ≡ Some fault → first_reason (server_reasons limits channel before (Opens (opening_of body))) ≡ Some (open_code fault)
-  unfolding why_not
   headers_refused body fault h = refuses_headers (λ (n : ℕ). n) why_not unread_here refused_policy refused_numbers body fault h
 
 judges_fault : (channel count : ℕ) (body : List ℕ) (fault : OpenFault) → open_refusal body ≡ Some fault → JudgesOpening channel count body (Err (of_open_fault fault))
@@ -127,12 +124,12 @@ request_rows r on channel count =
     (0x8053_0000, not (int_eq r.request_type (pos (type_wanted count)))) ∷ (0x8054_0000, not (int_eq r.security_mode (pos 1))) ∷ (0x807F_0000, ltb 0 count && not (eqb on channel)) ∷ []
 
 module _ (channel count on sequence request : ℕ) (body behind : List ℕ) (h : HasHeaders body on sequence request behind) where
-  opening : Opening
+  abbrev opening : Opening
   opening = record { security = Some h.header; numbers = Some (sequence, request); body = behind }
 
   -- a body that is no request
   pub refuses_body : (limits : Limits) (before : Received) → body_of (message 446 open_request) behind ≡ None → first_reason (server_reasons limits channel before (Opens (opening_of body))) ≡ Some 0x8007_0000
-  unfolding opening request_of
+  unfolding request_of
   refuses_body limits before none = rw (h.opening_is, h.policy, none) refl
 
   -- what a fault of the body comes to
@@ -145,7 +142,7 @@ module _ (channel count on sequence request : ℕ) (body behind : List ℕ) (h :
   asked : (limits : Limits) (before : Received) (r : OpenRequest) → issued before ≡ count → body_of (message 446 open_request) behind ≡ Some r
       → first_reason (server_reasons limits channel before (Opens (opening_of body)))
       ≡ first_reason (request_rows r on channel count ++ ((0x8088_0000, not (may_follow before.last sequence)) ∷ (0x8081_0000, eqb (issued before) 4294967295) ∷ []))
-  unfolding opening request_of
+  unfolding request_of
   asked limits before r is some = rw (h.opening_is, h.policy, some, h.on_is, is) refl
 
   module _ (asks : Asked) (found : IsAskedIn behind asks) where

@@ -1,5 +1,5 @@
 -- Where replies go, by what was told.
-use Rattle.std.proofs.Common.{◌≡◌, ℕ, ◌+◌, List, [], ◌∷◌, ◌++◌, Option, Some, None, option_map, map, refl, sym, ◌∙◌, ap, append_assoc, append-nil}
+use Rattle.std.proofs.Common.{◌≡◌, ℕ, ◌+◌, List, [], ◌∷◌, ◌++◌, Option, Some, None, option_map, map, refl, sym, ◌∙◌, ap, append_assoc, append-nil, subst}
 use Rattle.std.specs.List.{flat_map}
 use Rattle.std.proofs.lemmas.Grind.{flat_map-append}
 use Rattle.ua_frame.specs.After.{each_from, each_after}
@@ -73,7 +73,7 @@ module _ (limits : Limits) (channel : ℕ) where
 pub told_is : (s t : Told) (ss : List Told) → s ∷ ss ≡ t ∷ [] → s ≡ t
 told_is s t ss e = cc
 
-token_of : Told → ℕ
+abbrev token_of : Told → ℕ
 token_of (Agreed a) = 0
 token_of (Opened id handle token lifetime) = 0
 token_of (Asked id token octets) = token
@@ -81,7 +81,6 @@ token_of (GaveUp id) = 0
 token_of Closed = 0
 
 item_token : (token : ℕ) (items : List Item) (id used : ℕ) (octets : List ℕ) → map (told_under token) items ≡ Asked id used octets ∷ [] → token ≡ used
-unfolding token_of
 item_token token [] id used octets e = absurd cc
 item_token token (Whole i o ∷ is) id used octets e = ap token_of (told_is (Asked i token o) (Asked id used octets) (map (told_under token) is) e)
 item_token token (Aborted i code reason ∷ is) id used octets e = let x = told_is (GaveUp i) (Asked id used octets) (map (told_under token) is) e in absurd cc
@@ -90,16 +89,6 @@ opened_other : (token : ℕ) (numbers : Option (ℕ × ℕ)) (request : Option O
 opened_other token (Some numbers) (Some request) id used octets e = let x = told_is (Opened _ _ _ _) (Asked id used octets) [] e in cc
 opened_other token (Some numbers) None id used octets e = absurd cc
 opened_other token None request id used octets e = absurd cc
-
-used_there : (limits : Limits) (before : Received) (c : Content) (id used : ℕ) (octets : List ℕ) → server_tells limits before c ≡ Asked id used octets ∷ [] → last_used (after before c) ≡ used
-used_there limits before (Greets None) id used octets e = absurd cc
-used_there limits before (Greets (Some h)) id used octets e = let x = told_is (Agreed _) (Asked id used octets) [] e in absurd cc
-used_there limits before (Acks ack) id used octets e = absurd cc
-used_there limits before (Fails error) id used octets e = absurd cc
-used_there limits before (Opens o) id used octets e = absurd (opened_other (issued before + 1) o.numbers (request_of o) id used octets e)
-used_there limits before (Sends c) id used octets e = item_token c.token (given before.messages c) id used octets e
-used_there limits before (Closes c) id used octets e = let x = told_is Closed (Asked id used octets) [] e in absurd cc
-used_there limits before Nothing id used octets e = absurd cc
 
 -- a message is told by a chunk of its own
 pub asks_by : (limits : Limits) (before : Received) (c : Content) (id used : ℕ) (octets : List ℕ) → server_tells limits before c ≡ Asked id used octets ∷ [] → (d : Chunk) × (c ≡ Sends d)
@@ -112,15 +101,11 @@ asks_by limits before (Sends c) id used octets e = (c, refl)
 asks_by limits before (Closes c) id used octets e = let x = told_is Closed (Asked id used octets) [] e in absurd cc
 asks_by limits before Nothing id used octets e = absurd cc
 
-hello_there : (limits : Limits) (before : Received) (c : Content) (id used : ℕ) (octets : List ℕ) → server_tells limits before c ≡ Asked id used octets ∷ [] → (after before c).hello ≡ before.hello
-hello_there limits before (Greets None) id used octets e = absurd cc
-hello_there limits before (Greets (Some h)) id used octets e = let x = told_is (Agreed _) (Asked id used octets) [] e in absurd cc
-hello_there limits before (Acks ack) id used octets e = refl
-hello_there limits before (Fails error) id used octets e = refl
-hello_there limits before (Opens o) id used octets e = refl
-hello_there limits before (Sends c) id used octets e = refl
-hello_there limits before (Closes c) id used octets e = refl
-hello_there limits before Nothing id used octets e = refl
+used_there : (limits : Limits) (before : Received) (c : Content) (id used : ℕ) (octets : List ℕ) → server_tells limits before c ≡ Asked id used octets ∷ [] → (last_used (after before c) ≡ used) × ((after before c).hello ≡ before.hello)
+used_there limits before c id used octets e =
+    let chunk = asks_by limits before c id used octets e in
+    subst (λ (k : Content). (last_used (after before k) ≡ used) × ((after before k).hello ≡ before.hello)) (sym chunk.1)
+    (item_token chunk.0.token (given before.messages chunk.0) id used octets (ap (server_tells limits before) (sym chunk.1) ∙ e), refl)
 
 -- where a reply goes right behind a whole message
 pub reply_goes : (x : ServerChannel) (octets : List ℕ) (told : List Told) (id token : ℕ) (message : List ℕ) (frames : List Frame) (rest : List ℕ) (lane : Lane) → GoesTelling x octets told (Asked id token message) → Stands x octets frames rest → RepliesGo (limits_of x) (channel_of x) (received frames) lane
@@ -128,8 +113,8 @@ pub reply_goes : (x : ServerChannel) (octets : List ℕ) (told : List Told) (id 
 reply_goes x octets told id token message frames rest lane g s (h, hello_is, lane_is) =
     let same : frames ≡ g.frames ++ g.frame ∷ [] = (stands_once x octets frames (g.frames ++ g.frame ∷ []) rest [] s g.stands).0 in
     let now : received frames ≡ after (received g.frames) (content g.frame) = ap received same ∙ received-push g.frames g.frame in
-    let used : last_used (received frames) ≡ token = ap last_used now ∙ used_there (limits_of x) (received g.frames) (content g.frame) id token message g.tells in
-    let hello : (received g.frames).hello ≡ Some h = sym (hello_there (limits_of x) (received g.frames) (content g.frame) id token message g.tells) ∙ (ap (λ (b : Received). b.hello) (sym now) ∙ hello_is) in (
+    let used : last_used (received frames) ≡ token = ap last_used now ∙ (used_there (limits_of x) (received g.frames) (content g.frame) id token message g.tells).0 in
+    let hello : (received g.frames).hello ≡ Some h = sym (used_there (limits_of x) (received g.frames) (content g.frame) id token message g.tells).1 ∙ (ap (λ (b : Received). b.hello) (sym now) ∙ hello_is) in (
       agreement_of (limits_of x) h,
       ap agreed_by (sym g.told_is) ∙ (agreed_told (limits_of x) (channel_of x) g.frames ∙ ap (option_map (agreement_of (limits_of x))) hello),
       lane_is ∙ ap (λ (t : ℕ). lane_of (channel_of x) t (agreement_of (limits_of x) h)) used,

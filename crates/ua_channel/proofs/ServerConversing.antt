@@ -107,11 +107,10 @@ module _ (limits : Limits) (channel : ℕ) (b : Received) where
       let all = none_holds (ids_reasons c channel (last_used b) (issued b)) e in
       record { on = not-false (eqb c.channel channel) all.0; taken = not-false (is_taken b c.token) all.1.0 }
 
-  rows_of : Chunk → List (ℕ × Bool)
+  abbrev rows_of : Chunk → List (ℕ × Bool)
   rows_of c = map (renamed_reason refused_code) (reasons limits.max_message_size limits.max_chunk_count b.last b.messages c)
 
   message_apart : (c : Chunk) → first_reason (server_reasons limits channel b (Sends c)) ≡ None → (may_follow b.last c.sequence ≡ true) × (message_refusal limits.max_message_size limits.max_chunk_count b.messages c ≡ None)
-  unfolding rows_of
   message_apart c e =
       (apart limits.max_message_size limits.max_chunk_count b.last b.messages c).0
       (none_named refused_code (refusal limits.max_message_size limits.max_chunk_count b.last b.messages c)
@@ -119,11 +118,9 @@ module _ (limits : Limits) (channel : ℕ) (b : Received) where
       ∙ none_then (ids_reasons c channel (last_used b) (issued b)) (rows_of c) (sym (judged_sends limits channel b c) ∙ e)))
 
   sends_split : (c : Chunk) → first_reason (server_reasons limits channel b (Sends c)) ≡ None → first_reason (ids_reasons c channel (last_used b) (issued b)) ≡ None
-  unfolding rows_of
   sends_split c e = none_first (ids_reasons c channel (last_used b) (issued b)) (rows_of c) (sym (judged_sends limits channel b c) ∙ e)
 
   message_taken : (c : Chunk) → IsGoodChunk channel b c → may_follow b.last c.sequence ≡ true → message_refusal limits.max_message_size limits.max_chunk_count b.messages c ≡ None → first_reason (server_reasons limits channel b (Sends c)) ≡ None
-  unfolding rows_of
   message_taken c g follows good =
       judged_sends limits channel b c
       ∙ (first_behind (ids_reasons c channel (last_used b) (issued b)) (rows_of c) (ids_taken c g)
@@ -170,18 +167,18 @@ accepted limits channel b Nothing g = refl
 -- ---- the order
 
 -- what may come, by whether a CLO came, by the Hello, and by the number of OPNs
-order_by : Bool → Option Hello → ℕ → List Content → Type 0
+abbrev order_by : Bool → Option Hello → ℕ → List Content → Type 0
 order_by true hello n cs = cs ≡ []
 order_by false None n cs = IsServerOrder cs
 order_by false (Some h) zero cs = IsOrderGreeted cs
 order_by false (Some h) (suc n) cs = IsOrderOpen cs
 
 -- the same where this was received
-Order : Received → List Content → Type 0
+abbrev Order : Received → List Content → Type 0
 Order b cs = order_by b.closed b.hello (issued b) cs
 
 -- OPNs come behind a Hello
-IsPlaced : Received → Type 0
+abbrev IsPlaced : Received → Type 0
 IsPlaced b = b.hello ≡ None → issued b ≡ 0
 
 no_chunk : (found : Option Chunk) (cs : List Content) → (IsServerOrder (sends found ∷ cs) → ⊥) × (IsOrderGreeted (sends found ∷ cs) → ⊥)
@@ -193,32 +190,26 @@ no_close None cs = (λ h. h, λ h. h)
 no_close (Some c) cs = (λ h. h, λ h. h)
 
 order_is : (b : Received) (cs : List Content) (closed : Bool) (o : Option Hello) (n : ℕ) → b.closed ≡ closed → b.hello ≡ o → issued b ≡ n → Order b cs ↔ order_by closed o n cs
-unfolding Order
 order_is b cs closed o n p q r = subst (λ (t : Bool). Order b cs ↔ order_by t o n cs) p (subst (λ (t : Option Hello). Order b cs ↔ order_by b.closed t n cs) q (subst (λ (t : ℕ). Order b cs ↔ order_by b.closed b.hello t cs) r (λ h. h, λ h. h)))
 
 nil_by : (closed : Bool) (o : Option Hello) (n : ℕ) → order_by closed o n []
-unfolding order_by
 nil_by true o n = refl
 nil_by false None n = tt
 nil_by false (Some h) zero = tt
 nil_by false (Some h) (suc n) = tt
 
 some_open : (h : Hello) (n : ℕ) (cs : List Content) → 0 < n → IsOrderOpen cs → order_by false (Some h) n cs
-unfolding order_by
 some_open h zero cs some order = absurd (omega (arith, some))
 some_open h (suc n) cs some order = order
 
 order_nil : (b : Received) → Order b []
-unfolding Order
 order_nil b = nil_by b.closed b.hello (issued b)
 
 goes_by : (closed : Bool) (o : Option Hello) (n : ℕ) (c : Content) (cs : List Content) → order_by closed o n (c ∷ cs) → closed ≡ false
-unfolding order_by
 goes_by true o n c cs h = absurd cc
 goes_by false o n c cs h = refl
 
 not_closed : (b : Received) (c : Content) (cs : List Content) → Order b (c ∷ cs) → b.closed ≡ false
-unfolding Order
 not_closed b c cs h = goes_by b.closed b.hello (issued b) c cs h
 
 one_issued : (b : Received) (p : Opening) (n : ℕ) → issued b ≡ n → issued (after b (Opens p)) ≡ suc n
@@ -226,17 +217,14 @@ one_issued b p n r = omega (arith, length-append b.openings (p ∷ []), r)
 
 module _ (limits : Limits) (channel : ℕ) (b : Received) (f : Frame) (cs : List Content) (goes_on : b.closed ≡ false) where
   msg_order : (h : Hello) (n : ℕ) (found : Option Chunk) → b.hello ≡ Some h → issued b ≡ suc n → Order (after b (sends found)) cs ↔ order_by false (Some h) (suc n) (sends found ∷ cs)
-  unfolding order_by
   msg_order h n None q r = order_is b cs false (Some h) (suc n) goes_on q r
   msg_order h n (Some c) q r = order_is (after b (Sends c)) cs false (Some h) (suc n) goes_on q r
 
   clo_order : (h : Hello) (n : ℕ) (found : Option Chunk) → b.hello ≡ Some h → issued b ≡ suc n → Order (after b (closes found)) cs ↔ order_by false (Some h) (suc n) (closes found ∷ cs)
-  unfolding order_by
   clo_order h n None q r = order_is b cs false (Some h) (suc n) goes_on q r
   clo_order h n (Some c) q r = order_is (after b (Closes c)) cs true (Some h) (suc n) refl q r
 
   open_order : (h : Hello) (n : ℕ) (k : Kind) → b.hello ≡ Some h → issued b ≡ suc n → InOrder (running_gate (receive_size limits (Some h))) k (Order (after b (content_by k f)) cs) (order_by false (Some h) (suc n) (content_by k f ∷ cs))
-  unfolding order_by
   open_order h n Hel q r = out_of_order (λ e. cc) (λ e. e)
   open_order h n kind.Ack q r = out_of_order (λ e. cc) (λ e. e)
   open_order h n kind.Err q r = out_of_order (λ e. cc) (λ e. e)
@@ -246,7 +234,6 @@ module _ (limits : Limits) (channel : ℕ) (b : Received) (f : Frame) (cs : List
 
   -- a frame comes in order exactly where it is let in
   order_here : (o : Option Hello) (n : ℕ) (k : Kind) → b.hello ≡ o → issued b ≡ n → IsPlaced b → MayCarry channel b (content_by k f) → InOrder (server_gate_behind limits o n) k (Order (after b (content_by k f)) cs) (order_by false o n (content_by k f ∷ cs))
-  unfolding order_by IsPlaced
   order_here None n Hel q r placed may = in_order refl (order_is (after b (Greets (hello_in f.body))) cs false (Some may.said) zero goes_on (ap (or_before b.hello) may.reads) (placed q))
   order_here None n kind.Ack q r placed may = out_of_order (λ e. cc) (λ e. e)
   order_here None n kind.Err q r placed may = out_of_order (λ e. cc) (λ e. e)
@@ -274,7 +261,6 @@ close_placed b None placed none = placed none
 close_placed b (Some c) placed none = placed none
 
 placed_more : (limits : Limits) (b : Received) (f : Frame) (k : Kind) (o : Option Hello) → b.hello ≡ o → IsPlaced b → IsTrue (lets_in (server_gate_behind limits o (issued b)) k) → IsPlaced (after b (content_by k f))
-unfolding IsPlaced
 placed_more limits b f Hel o q placed kind none = placed (before_none b.hello (hello_in f.body) none)
 placed_more limits b f kind.Ack o q placed kind none = placed none
 placed_more limits b f kind.Err o q placed kind none = placed none
@@ -289,7 +275,6 @@ module _ (limits : Limits) (channel : ℕ) where
       subst IsPlaced (sym (received-push start f ∙ ap (after (received start)) (content_kind f))) (placed_more limits (received start) f f.kind (received start).hello refl placed kind)
 
   order_frame : (b : Received) (f : Frame) (cs : List Content) → b.closed ≡ false → IsPlaced b → MayCarry channel b (content f) → InOrder (server_gate limits b) f.kind (Order (after b (content f)) cs) (Order b (content f ∷ cs))
-  unfolding Order
   order_frame b f cs e placed =
       subst (λ (c : Content). MayCarry channel b c → InOrder (server_gate limits b) f.kind (Order (after b c) cs) (Order b (c ∷ cs))) (sym (content_kind f))
       (λ may.
@@ -311,7 +296,6 @@ module _ (limits : Limits) (channel : ℕ) where
       → AllByRecursion IsFramed fs → AllFrom (λ us f. frame_size f ≤ receive_size limits (received us).hello) start fs → AllFrom (λ us f. MayCarry channel (received us) (content f)) start fs
       → AreOrdered (received start).last (numbers fs) → TakesMessages limits.max_message_size limits.max_chunk_count (received start).messages (messages fs)
       → AllFrom (Fits (server_rules limits channel)) start fs
-  unfolding IsPlaced
   taken_open h start fs on said some order framed fits carries ordered fit =
       taken (server_rules limits channel) limits content Order IsPlaced (λ b. receive_size limits b.hello) (λ before f. MayCarry channel (received before) (content f)) rules_converse start fs
       (λ none. let never : Some h ≡ None = sym said ∙ none in absurd cc)
@@ -325,7 +309,6 @@ module _ (limits : Limits) (channel : ℕ) where
       })
 
   nothing_placed : IsPlaced (received [])
-  unfolding IsPlaced
   nothing_placed none = ap issued received-nil
 
   nothing_order : (frames : List Frame) → Order (received []) (map content frames) ↔ order_by false None 0 (map content frames)
@@ -333,7 +316,7 @@ module _ (limits : Limits) (channel : ℕ) where
 
   -- the frames that a server takes are those of a conversation, or the beginning of one
   pub converses : (frames : List Frame) → AllAfter (Fits (server_rules limits channel)) frames ↔ ServerConversation limits channel frames
-  unfolding AllAfter order_by
+  unfolding AllAfter
   converses frames = (
     λ fits.
         let c = converse (server_rules limits channel) limits content Order IsPlaced (λ b. receive_size limits b.hello) (λ before f. MayCarry channel (received before) (content f)) rules_converse [] frames nothing_placed fits in
