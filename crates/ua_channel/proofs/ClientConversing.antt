@@ -206,9 +206,6 @@ some_open : (a : Ack) (rs : List OpenResponse) (n : ℕ) (ks : List Kind) → ch
 some_open a [] n ks e order = absurd cc
 some_open a (r ∷ rs) n ks e order = order
 
-order_nil : (b : Received) → Order b []
-order_nil b = nil_by b.ack (responses b.openings)
-
 module _ (limits : Limits) (asked : List Asking) (b : Received) (f : Frame) (ks : List Kind) where
   more_responses : (rs : List OpenResponse) (g : IsResponse limits asked b (opening_of f.body)) → responses b.openings ≡ rs → responses (b.openings ++ opening_of f.body ∷ []) ≡ rs ++ g.response ∷ []
   more_responses rs g r = responses-push b.openings (opening_of f.body) g.response g.answer_is ∙ ap (λ (t : List OpenResponse). t ++ g.response ∷ []) r
@@ -278,7 +275,7 @@ module _ (limits : Limits) (asks : List Placed) where
 
   rules_converse : Converses (client_rules limits asks) limits (λ (f : Frame). f.kind) Order IsPlaced (λ b. largest_taken b.ack) (λ before f. MayCarryBack limits (received before) (asked_before (end_of before f) asks) (content f))
   rules_converse = record {
-    order_nil = order_nil;
+    order_nil = λ b. nil_by b.ack (responses b.openings);
     goes_on = λ start f later order. refl;
     largest = λ start. gate_largest (received start).ack (responses (received start).openings);
     placed = placed_next;

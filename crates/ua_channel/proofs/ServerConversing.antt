@@ -202,15 +202,9 @@ some_open : (h : Hello) (n : ℕ) (cs : List Content) → 0 < n → IsOrderOpen 
 some_open h zero cs some order = absurd (omega (arith, some))
 some_open h (suc n) cs some order = order
 
-order_nil : (b : Received) → Order b []
-order_nil b = nil_by b.closed b.hello (issued b)
-
 goes_by : (closed : Bool) (o : Option Hello) (n : ℕ) (c : Content) (cs : List Content) → order_by closed o n (c ∷ cs) → closed ≡ false
 goes_by true o n c cs h = absurd cc
 goes_by false o n c cs h = refl
-
-not_closed : (b : Received) (c : Content) (cs : List Content) → Order b (c ∷ cs) → b.closed ≡ false
-not_closed b c cs h = goes_by b.closed b.hello (issued b) c cs h
 
 one_issued : (b : Received) (p : Opening) (n : ℕ) → issued b ≡ n → issued (after b (Opens p)) ≡ suc n
 one_issued b p n r = omega (arith, length-append b.openings (p ∷ []), r)
@@ -282,8 +276,8 @@ module _ (limits : Limits) (channel : ℕ) where
 
   rules_converse : Converses (server_rules limits channel) limits content Order IsPlaced (λ b. receive_size limits b.hello) (λ before f. MayCarry channel (received before) (content f))
   rules_converse = record {
-    order_nil = order_nil;
-    goes_on = λ start f later. not_closed (received start) (content f) later;
+    order_nil = λ b. nil_by b.closed b.hello (issued b);
+    goes_on = λ start f later. goes_by (received start).closed (received start).hello (issued (received start)) (content f) later;
     largest = λ start. largest_behind limits (received start).hello (issued (received start));
     placed = placed_next;
     in_order = λ start f later. order_frame (received start) f later;
