@@ -24,7 +24,7 @@ use Rattle.ua_channel.specs.declared.numbers.Numbers.{Numbers}
 use Rattle.ua_channel.proofs.Servers.{starved_behind}
 
 -- a channel goes on telling where the number of its next chunk moves on
-pub telling_counted : (x : ServerChannel) (numbers : Numbers) (octets : List ℕ) (before : List Told) (e : Told) → GoesTelling x octets before e → GoesTelling (record x { numbers = numbers }) octets before e
+pub telling_counted : (x : ServerChannel) (numbers : Numbers) (octets : List ℕ) (before : List Told) (e : Told) → GoesTelling x octets before e → GoesTelling (record x { end = record x.end { numbers = numbers } }) octets before e
 telling_counted x numbers octets before e g = record {
   frames = g.frames;
   frame = g.frame;
@@ -34,8 +34,8 @@ telling_counted x numbers octets before e g = record {
 }
 
 -- what is sent where a token was issued
-pub opened_sends : (x : ServerChannel) (numbers : Numbers) (moment : DateTime) (octets sent : List ℕ) (before : List Told) (e : Event) (id handle token lifetime number : ℕ) → e ≡ inner.Opened id handle token lifetime → StandsWith e x octets before → number ≡ x.numbers.next → numbers.next ≡ next_number x.numbers.next
-    → sent ≡ frame_octets (opened_frame (channel_of x) number id handle token lifetime moment) → SendsOctets (channel_of x) (next_of x) moment sent (record x { numbers = numbers }) octets before
+pub opened_sends : (x : ServerChannel) (numbers : Numbers) (moment : DateTime) (octets sent : List ℕ) (before : List Told) (e : Event) (id handle token lifetime number : ℕ) → e ≡ inner.Opened id handle token lifetime → StandsWith e x octets before → number ≡ next_of x → numbers.next ≡ next_number (next_of x)
+    → sent ≡ frame_octets (opened_frame (channel_of x) number id handle token lifetime moment) → SendsOctets (channel_of x) (next_of x) moment sent (record x { end = record x.end { numbers = numbers } }) octets before
 opened_sends x numbers moment octets sent before e id handle token lifetime number is tells number_is next sent_is = record {
   said = told.Opened id handle token lifetime;
   are_sent = sent_is ∙ ap (λ (n : ℕ). frame_octets (opened_frame (channel_of x) n id handle token lifetime moment)) number_is;
@@ -81,13 +81,13 @@ answers_fault channel number moment piece n s f new octets before h is = subst (
 -- ---- after want of memory
 
 -- a channel that ended for want of memory is as it was but for its bound
-pub starved_with : (channel number : ℕ) (moment : DateTime) (piece : List ℕ) (n bound : ℕ) (f : ChannelFault) (x new : ServerChannel) (octets : List ℕ) (before : List Told) → f ≡ fault.OutOfMemory → new ≡ record x { bound = bound } → AnswersAt channel number moment piece n (Err f) x octets before
+pub starved_with : (channel number : ℕ) (moment : DateTime) (piece : List ℕ) (n bound : ℕ) (f : ChannelFault) (x new : ServerChannel) (octets : List ℕ) (before : List Told) → f ≡ fault.OutOfMemory → new ≡ record x { end = record x.end { bound = bound } } → AnswersAt channel number moment piece n (Err f) x octets before
     → AnswersAt channel number moment piece n (Err f) new octets before
 starved_with channel number moment piece n bound f x new octets before is new_is h =
     let starved : AnswersAt channel number moment piece n (Err fault.OutOfMemory) x octets before = subst (λ (g : ChannelFault). AnswersAt channel number moment piece n (Err g) x octets before) is h in
-    let done : AnswersAt channel number moment piece n (Err fault.OutOfMemory) (record x { bound = bound }) octets before = (starved.0, record { phase = starved.1.phase; empty = starved.1.empty }) in
+    let done : AnswersAt channel number moment piece n (Err fault.OutOfMemory) (record x { end = record x.end { bound = bound } }) octets before = (starved.0, record { phase = starved.1.phase; empty = starved.1.empty }) in
     subst (λ (y : ServerChannel). AnswersAt channel number moment piece n (Err f) y octets before) (sym new_is)
-    (subst (λ (g : ChannelFault). AnswersAt channel number moment piece n (Err g) (record x { bound = bound }) octets before) (sym is) done)
+    (subst (λ (g : ChannelFault). AnswersAt channel number moment piece n (Err g) (record x { end = record x.end { bound = bound } }) octets before) (sym is) done)
 
 -- where it stands behind the frame of an event for whose answer memory was refused
 pub starved_event : (mid d : ServerChannel) (octets : List ℕ) (told : List Told) (e : Event) (answer : Result ServerEvent ChannelFault) → limits_of d ≡ limits_of mid → channel_of d ≡ channel_of mid → IsDone d → StandsWith e mid octets told → (e ≡ inner.Closed → answer ≡ Ok event.Closed) → answer ≡ Err fault.OutOfMemory
@@ -116,6 +116,6 @@ pub done_by : (channel number : ℕ) (moment : DateTime) (answer : Result Server
 done_by channel number moment answer d octets told is h = subst (λ (a : Result ServerEvent ChannelFault). AnswersTo channel number moment a d octets told) is h
 
 -- with another bound
-pub starved_bound : (x new : ServerChannel) (bound : ℕ) (octets : List ℕ) (told : List Told) → new ≡ record x { bound = bound } → StarvedAt x octets told → StarvedAt new octets told
+pub starved_bound : (x new : ServerChannel) (bound : ℕ) (octets : List ℕ) (told : List Told) → new ≡ record x { end = record x.end { bound = bound } } → StarvedAt x octets told → StarvedAt new octets told
 starved_bound x new bound octets told is s =
     subst (λ (z : ServerChannel). StarvedAt z octets told) (sym is) (record { done = record { phase = s.done.phase; empty = s.done.empty }; frames = s.frames; rest = s.rest; whole = s.whole; good = s.good; told_is = s.told_is; header = s.header; sound = s.sound; within = s.within })

@@ -1,62 +1,55 @@
 -- What a client's channel makes of a frame in each of its phases.
-use Rattle.std.proofs.Common.{◌≡◌, ◌+◌, ◌*◌, List, [], Option, Some, Result, Ok, refl, sym, ◌∙◌, ap, subst}
+use Rattle.std.proofs.Common.{◌≡◌, ℕ, ◌+◌, ◌*◌, ◌≤◌, false, List, [], ◌∷◌, ◌++◌, Option, Some, None, Result, Ok, Err, arith, refl, sym, ◌∙◌, ap, subst}
 use Rattle.ua_frame.specs.declared.frame.Frame.{Frame}
 use Rattle.ua_frame.specs.declared.gate.Gate.{Gate}
 use Rattle.ua_frame.specs.declared.limits.Limits.{Limits}
 use Rattle.ua_frame.specs.Frames.{LetsIn}
-use Rattle.ua_frame.specs.Reader.{open_reader}
 use Rattle.ua_channel.specs.Asks.{Asking}
 use Rattle.ua_channel.specs.Client.{InPhase, client_bound_behind}
 use Rattle.ua_channel.specs.inside.ClientAsking.{client_phase_gate}
 use Rattle.ua_channel.specs.ClientAsks.{Talks}
-use Rattle.ua_channel.specs.inside.ClientParts.{Judged, JudgesWhole, TookFrame, StaysOpen, IsOpenedBy, TakesFrame, greeted}
+use Rattle.ua_channel.specs.inside.ClientParts.{Judged, TookFrame, IsOpenedBy, TakesFrame, greeted}
 use Rattle.ua_channel.specs.ClientTable.{client_gate, client_reasons, gate_agreed, ack_gate, answer_gate, reply_gate}
 use Rattle.ua_channel.specs.Content.{Content, content}
 use Rattle.ua_channel.specs.Content.Content.{Acks}
 use Rattle.ua_channel.specs.Received.{Received, after, nothing_received}
 use Rattle.ua_channel.specs.declared.client.agreed.Agreed.{Agreed}
-use Rattle.ua_channel.specs.declared.client.channel.ClientChannel.{ClientChannel}
 use Rattle.ua_channel.specs.declared.client.event.Event.{Event}
 use Rattle.ua_channel.specs.declared.client.event.Event.TheVariants as event
 use Rattle.ua_channel.specs.declared.step_fault.StepFault.{StepFault}
 use Rattle.ua_channel.specs.declared.client.phase.Phase.{Phase}
 use Rattle.ua_channel.specs.declared.client.phase.Phase.TheVariants.{Waiting, Agreed as AgreedTo, Open, Done}
 use Rattle.ua_channel.specs.declared.client.talking.Talking.{Talking}
+use Rattle.std.specs.List.{AllByRecursion}
+use Rattle.ua_builtin.specs.Reasons.{first_reason}
+use Rattle.ua_chunk.specs.declared.chunk.Chunk.{Chunk}
+use Rattle.ua_frame.specs.Run.{refusal}
+use Rattle.ua_channel.specs.Asks.{Placed, asked_in, end_of}
+use Rattle.ua_channel.specs.ClientTable.{client_rules}
+use Rattle.ua_channel.specs.Received.{received}
+use Rattle.ua_channel.specs.inside.ClientParts.{event_parts, told_by_frame}
+use Rattle.ua_channel.specs.inside.ClientSide.{client_side}
+use Rattle.ua_channel.specs.inside.Parts.{MayEndIn}
+use Rattle.ua_channel.specs.inside.Side.{ComesNext, IsBehind, JudgesBy, closes_by, parts_by, told_by as told_list}
+use Rattle.ua_channel.specs.declared.client.rules.ClientRules.{ClientRules}
+use Rattle.ua_channel.specs.declared.step_fault.StepFault.TheVariants.{Refused, Peer, Closed, OutOfMemory}
+use Rattle.ua_channel.proofs.Askings.{all-weaken, asked_before-all}
+use Rattle.ua_channel.proofs.OneFrameMore.{received-push}
 use Rattle.ua_channel.proofs.ClientGreets.{judged_same}
 use Rattle.ua_channel.proofs.ClientStands.{gate_talking}
 use Rattle.ua_channel.proofs.ClientTalks.{no_responses}
 
 -- ---- an ACK
 
-pub greeting_takes : (limits : Limits) (c : Content) (g : Agreed) (new : ClientChannel) → c ≡ Acks (Some g.ack) → new.phase ≡ AgreedTo g → new.bound ≡ g.ack.send_buffer_size + 4 * limits.max_message_size
-    → TookFrame limits nothing_received [] c new (Some (event.Agreed g.ack))
-greeting_takes limits c g new is phase bound =
-    subst (λ (d : Content). TookFrame limits nothing_received [] d new (Some (event.Agreed g.ack))) (sym is) (record {
-      tells = refl;
-      parts = tt;
-      phase_is = subst (λ (p : Phase). InPhase limits p (after nothing_received (Acks (Some g.ack))) []) (sym phase) (refl, refl);
-      bound_is = bound;
-    })
+pub greeting_takes : (limits : Limits) (c : Content) (g : Agreed) (bound : ℕ) → c ≡ Acks (Some g.ack) → bound ≡ g.ack.send_buffer_size + 4 * limits.max_message_size
+    → TookFrame limits nothing_received [] c (AgreedTo g) bound (Some (event.Agreed g.ack))
+greeting_takes limits c g bound is bound_is =
+    subst (λ (d : Content). TookFrame limits nothing_received [] d (AgreedTo g) bound (Some (event.Agreed g.ack))) (sym is) (record { tells = refl; parts = tt; phase_is = (refl, refl); bound_is = bound_is })
 
 -- ---- an opening
 
-pub opening_takes : (limits : Limits) (g : Agreed) (c : Content) (t : Talking) (new : ClientChannel) → IsOpenedBy limits g c t → new.phase ≡ Open t → StaysOpen limits (greeted g) [] c new (Some (event.Opened t.channel t.newest))
-opening_takes limits g c t new h phase = record {
-  tells = h.tells;
-  parts = tt;
-  phase_is = subst (λ (p : Phase). InPhase limits p (after (greeted g) c) []) (sym phase) h.talks;
-  ack_is = h.ack_is;
-}
-
--- ---- a reply
-
-pub reply_stays : (limits : Limits) (before : Received) (asked : List Asking) (c : Content) (t : Talking) (new : ClientChannel) (e : Option Event) → TakesFrame limits before asked c t e → new.phase ≡ Open t → StaysOpen limits before asked c new e
-reply_stays limits before asked c t new e h phase = record {
-  tells = h.tells;
-  parts = h.parts;
-  phase_is = subst (λ (p : Phase). InPhase limits p (after before c) asked) (sym phase) h.talks;
-  ack_is = h.ack_is;
-}
+pub opening_takes : (limits : Limits) (g : Agreed) (c : Content) (t : Talking) (bound : ℕ) → bound ≡ client_bound_behind limits (Some g.ack) → IsOpenedBy limits g c t → TookFrame limits (greeted g) [] c (Open t) bound (Some (event.Opened t.channel t.newest))
+opening_takes limits g c t bound bound_is h = record { tells = h.tells; parts = tt; phase_is = h.talks; bound_is = bound_is ∙ sym (ap (client_bound_behind limits) h.ack_is) }
 
 -- ---- any frame
 
@@ -70,39 +63,75 @@ gate_in limits Done before asked h = absurd h
 let_in_phase : (limits : Limits) (p : Phase) (before : Received) (asked : List Asking) (f : Frame) → InPhase limits p before asked → LetsIn (client_gate before) f → LetsIn (client_phase_gate p) f
 let_in_phase limits p before asked f h l = subst (λ (g : Gate). LetsIn g f) (sym (gate_in limits p before asked h)) l
 
-module _ (limits : Limits) (p : Phase) (before : Received) (asked : List Asking) (f : Frame) (new : ClientChannel) (r : Result (Option Event) StepFault) (in_phase : InPhase limits p before asked) (let_in : LetsIn (client_gate before) f) where
-  pub waiting_judged : p ≡ Waiting → (LetsIn ack_gate f → Judged (client_reasons limits nothing_received [] (content f)) (TookFrame limits nothing_received [] (content f) new) r)
-      → Judged (client_reasons limits before asked (content f)) (TookFrame limits before asked (content f) new) r
+module _ (limits : Limits) (p : Phase) (before : Received) (asked : List Asking) (f : Frame) (q : Phase) (bound : ℕ) (r : Result (Option Event) StepFault) (in_phase : InPhase limits p before asked) (let_in : LetsIn (client_gate before) f) where
+  pub waiting_judged : p ≡ Waiting → (LetsIn ack_gate f → Judged (client_reasons limits nothing_received [] (content f)) (TookFrame limits nothing_received [] (content f) q bound) r)
+      → Judged (client_reasons limits before asked (content f)) (TookFrame limits before asked (content f) q bound) r
   waiting_judged is h =
-      let here : InPhase limits Waiting before asked = subst (λ (q : Phase). InPhase limits q before asked) is in_phase in
-      subst (λ (k : List Asking). Judged (client_reasons limits before k (content f)) (TookFrame limits before k (content f) new) r) (sym here.1)
-      (subst (λ (b : Received). Judged (client_reasons limits b [] (content f)) (TookFrame limits b [] (content f) new) r) (sym here.0) (h (let_in_phase limits Waiting before asked f here let_in)))
+      let here : InPhase limits Waiting before asked = subst (λ (w : Phase). InPhase limits w before asked) is in_phase in
+      subst (λ (k : List Asking). Judged (client_reasons limits before k (content f)) (TookFrame limits before k (content f) q bound) r) (sym here.1)
+      (subst (λ (b : Received). Judged (client_reasons limits b [] (content f)) (TookFrame limits b [] (content f) q bound) r) (sym here.0) (h (let_in_phase limits Waiting before asked f here let_in)))
 
-  pub agreed_judged : (g : Agreed) → p ≡ AgreedTo g → new.bound ≡ client_bound_behind limits before.ack → (LetsIn (answer_gate g.ack.send_buffer_size) f → Judged (client_reasons limits (greeted g) [] (content f)) (StaysOpen limits (greeted g) [] (content f) new) r)
-      → Judged (client_reasons limits before asked (content f)) (TookFrame limits before asked (content f) new) r
-  agreed_judged g is bound h =
-      let here : InPhase limits (AgreedTo g) before asked = subst (λ (q : Phase). InPhase limits q before asked) is in_phase in
-      let size : new.bound ≡ client_bound_behind limits (Some g.ack) = bound ∙ ap (λ (b : Received). client_bound_behind limits b.ack) here.0 in
-      subst (λ (k : List Asking). Judged (client_reasons limits before k (content f)) (TookFrame limits before k (content f) new) r) (sym here.1)
-      (subst (λ (b : Received). Judged (client_reasons limits b [] (content f)) (TookFrame limits b [] (content f) new) r) (sym here.0)
-      (judged_same (client_reasons limits (greeted g) [] (content f)) (client_reasons limits (greeted g) [] (content f)) (StaysOpen limits (greeted g) [] (content f) new) (TookFrame limits (greeted g) [] (content f) new) r refl
-      (λ e none w. record { tells = w.tells; parts = w.parts; phase_is = w.phase_is; bound_is = size ∙ sym (ap (client_bound_behind limits) w.ack_is) }) (h (let_in_phase limits (AgreedTo g) before asked f here let_in))))
+  pub agreed_judged : (g : Agreed) → p ≡ AgreedTo g → (client_bound_behind limits before.ack ≡ client_bound_behind limits (Some g.ack) → LetsIn (answer_gate g.ack.send_buffer_size) f → Judged (client_reasons limits (greeted g) [] (content f)) (TookFrame limits (greeted g) [] (content f) q bound) r)
+      → Judged (client_reasons limits before asked (content f)) (TookFrame limits before asked (content f) q bound) r
+  agreed_judged g is h =
+      let here : InPhase limits (AgreedTo g) before asked = subst (λ (w : Phase). InPhase limits w before asked) is in_phase in
+      subst (λ (k : List Asking). Judged (client_reasons limits before k (content f)) (TookFrame limits before k (content f) q bound) r) (sym here.1)
+      (subst (λ (b : Received). Judged (client_reasons limits b [] (content f)) (TookFrame limits b [] (content f) q bound) r) (sym here.0)
+      (h (ap (λ (b : Received). client_bound_behind limits b.ack) here.0) (let_in_phase limits (AgreedTo g) before asked f here let_in)))
 
-  pub open_judged : (t : Talking) → p ≡ Open t → new.bound ≡ client_bound_behind limits before.ack
-      → (Talks limits t before asked → LetsIn (reply_gate t.agreed.ack.send_buffer_size) f → Judged (client_reasons limits before asked (content f)) (StaysOpen limits before asked (content f) new) r)
-      → Judged (client_reasons limits before asked (content f)) (TookFrame limits before asked (content f) new) r
-  open_judged t is bound h =
-      let here : InPhase limits (Open t) before asked = subst (λ (q : Phase). InPhase limits q before asked) is in_phase in
-      judged_same (client_reasons limits before asked (content f)) (client_reasons limits before asked (content f)) (StaysOpen limits before asked (content f) new) (TookFrame limits before asked (content f) new) r refl
-      (λ e none w. record { tells = w.tells; parts = w.parts; phase_is = w.phase_is; bound_is = bound ∙ sym (ap (client_bound_behind limits) w.ack_is) }) (h here (let_in_phase limits (Open t) before asked f here let_in))
+  pub open_judged : (t u : Talking) → p ≡ Open t → q ≡ Open u → bound ≡ client_bound_behind limits before.ack
+      → (Talks limits t before asked → LetsIn (reply_gate t.agreed.ack.send_buffer_size) f → Judged (client_reasons limits before asked (content f)) (TakesFrame limits before asked (content f) u) r)
+      → Judged (client_reasons limits before asked (content f)) (TookFrame limits before asked (content f) q bound) r
+  open_judged t u is now bound_is h =
+      let here : InPhase limits (Open t) before asked = subst (λ (w : Phase). InPhase limits w before asked) is in_phase in
+      judged_same (client_reasons limits before asked (content f)) (client_reasons limits before asked (content f)) (TakesFrame limits before asked (content f) u) (TookFrame limits before asked (content f) q bound) r refl
+      (λ e none w. record { tells = w.tells; parts = w.parts; phase_is = subst (λ (v : Phase). InPhase limits v (after before (content f)) asked) (sym now) w.talks; bound_is = bound_is ∙ sym (ap (client_bound_behind limits) w.ack_is) })
+      (h here (let_in_phase limits (Open t) before asked f here let_in))
 
--- ---- a whole frame
+-- ---- as at any end
 
-module _ (limits : Limits) (before : Received) (asked : List Asking) (c : Content) (new : ClientChannel) where
-  pub whole_ok : (mid : ClientChannel) (e : Option Event) → Judged (client_reasons limits before asked c) (TookFrame limits before asked c mid) (Ok e) → new.phase ≡ mid.phase → new.bound ≡ mid.bound → new.reader ≡ open_reader (client_phase_gate mid.phase) []
-      → JudgesWhole limits before asked c new (Ok e)
-  whole_ok mid e h phase bound reader = record {
-    accepted = h.0;
-    takes = record { tells = h.1.tells; parts = h.1.parts; phase_is = subst (λ (p : Phase). InPhase limits p (after before c) asked) (sym phase) h.1.phase_is; bound_is = bound ∙ h.1.bound_is };
-    reader_is = reader ∙ ap (λ (g : Gate). open_reader g []) (gate_in limits mid.phase (after before c) asked h.1.phase_is);
+-- what was asked by the time that so many octets had come was asked once more had come
+pub placed_more : (asks : List Placed) (n m : ℕ) → n ≤ m → AllByRecursion (λ (a : Placed). a.0 ≤ n) asks → AllByRecursion (λ (a : Placed). a.0 ≤ m) asks
+placed_more asks n m more placed = all-weaken (λ (a : Placed). a.0 ≤ n) (λ (a : Placed). a.0 ≤ m) asks (λ a within. omega (arith, within, more)) placed
+
+list_is : (e : Option Event) → told_by_frame e ≡ told_list client_side e
+list_is None = refl
+list_is (Some e) = refl
+
+parts_are : (cs : List Chunk) (c : Content) (e : Option Event) → MayEndIn cs c (event_parts e) → MayEndIn cs c (parts_by client_side e)
+parts_are cs c None h = tt
+parts_are cs c (Some e) h = h
+
+never_last : (e : Option Event) → false ≡ closes_by client_side e
+never_last None = refl
+never_last (Some e) = refl
+
+module _ (r : ClientRules) (asks : List Placed) (frames : List Frame) (f : Frame) (p : Phase) (bound : ℕ) where
+  behind_is : (e : Option Event) → InPhase r.limits p (received (frames ++ f ∷ [])) (asked_in asks) → IsBehind client_side (closes_by client_side e) r asks p (frames ++ f ∷ [])
+  behind_is None h = h
+  behind_is (Some e) h = h
+
+  judged_so : (answer : Result (Option Event) StepFault) → refusal (client_rules r.limits asks) frames f ≡ first_reason (client_reasons r.limits (received frames) (asked_in asks) (content f))
+      → Judged (client_reasons r.limits (received frames) (asked_in asks) (content f)) (TookFrame r.limits (received frames) (asked_in asks) (content f) p bound) answer → JudgesBy client_side r asks frames f p bound answer
+  judged_so (Ok e) so j = record {
+    accepted = so ∙ j.0;
+    tells = j.1.tells ∙ list_is e;
+    last = never_last e;
+    parts = parts_are (received frames).messages (content f) e j.1.parts;
+    behind = behind_is e (subst (λ (b : Received). InPhase r.limits p b (asked_in asks)) (sym (received-push frames f)) j.1.phase_is);
+    bound_is = j.1.bound_is ∙ ap (λ (b : Received). client_bound_behind r.limits b.ack) (sym (received-push frames f));
   }
+  judged_so (Err (Refused code)) so j = so ∙ j
+  judged_so (Err (Peer code)) so j = so ∙ j
+  judged_so (Err OutOfMemory) so j = j
+  judged_so (Err Closed) so j = j
+
+-- what is made of a frame that comes next
+pub judged : (r : ClientRules) (old p : Phase) (was bound : ℕ) (f : Frame) (answer : Result (Option Event) StepFault)
+    → ((before : Received) (asked : List Asking) → InPhase r.limits old before asked → was ≡ client_bound_behind r.limits before.ack → LetsIn (client_gate before) f
+    → Judged (client_reasons r.limits before asked (content f)) (TookFrame r.limits before asked (content f) p bound) answer)
+    → (asks : List Placed) (frames : List Frame) → ComesNext client_side r asks old was frames f → JudgesBy client_side r asks frames f p bound answer
+judged r old p was bound f answer judges asks frames next =
+    judged_so r asks frames f p bound answer
+    (ap (λ (asked : List Asking). first_reason (client_reasons r.limits (received frames) asked (content f))) (asked_before-all (end_of frames f) next.came asks next.later next.placed))
+    (judges (received frames) (asked_in asks) next.holds next.bound_is next.let_in)

@@ -1,18 +1,13 @@
 -- Where a client's channel stands, when it is made and when it is asked.
-use Rattle.std.proofs.Common.{◌≡◌, ℕ, ◌≤◌, ◌<◌, ◌+◌, ◌*◌, List, [], ◌∷◌, ◌++◌, Option, Some, length, refl, sym, ◌∙◌, ap, subst, arith}
+use Rattle.std.proofs.Common.{◌≡◌, ℕ, ◌≤◌, List, [], ◌∷◌, ◌++◌, Option, Some, length, refl, sym, ◌∙◌, ap, subst, arith}
 use Rattle.ua_frame.specs.declared.frame.Frame.{Frame}
 use Rattle.ua_frame.specs.declared.gate.Gate.{Gate}
-use Rattle.std.specs.Prelude.{min, max}
 use Rattle.ua_frame.specs.declared.ack.Ack.{Ack}
 use Rattle.ua_frame.specs.declared.limits.Limits.{Limits}
-use Rattle.ua_frame.specs.Reader.{Reader, open_reader}
-use Rattle.ua_chunk.specs.declared.chunk.Chunk.{Chunk}
-use Rattle.ua_chunk.specs.Assembling as assembling
-use Rattle.ua_chunk.specs.Assembling.{octet_limit}
-use Rattle.ua_chunk.specs.Open.{open_octets}
+use Rattle.ua_frame.specs.Reader.{open_reader}
 use Rattle.ua_frame.proofs.Streams.{run_nil}
 use Rattle.ua_channel.specs.Asks.{Asking, Placed, asked_in}
-use Rattle.ua_channel.specs.Client.{ClientStands, InPhase, client_limits, client_bound_behind, held_octets}
+use Rattle.ua_channel.specs.Client.{ClientStands, InPhase, client_limits, client_bound, client_bound_behind, phase_of}
 use Rattle.ua_channel.specs.ClientAsks.{Talks}
 use Rattle.ua_channel.specs.inside.ClientAsking.{AsBefore}
 use Rattle.ua_channel.specs.ClientTable.{client_gate, client_rules, client_gate_behind, gate_agreed, reply_gate, ack_gate}
@@ -30,7 +25,7 @@ use Rattle.ua_channel.proofs.OneFrameMore.{received-nil}
 
 -- ---- a channel that is made
 
-pub stands_first : (x : ClientChannel) (gate : Gate) → x.reader ≡ open_reader gate [] → gate ≡ ack_gate → x.phase ≡ Waiting → x.bound ≡ 8192 → ClientStands x [] [] [] []
+pub stands_first : (x : ClientChannel) (gate : Gate) → x.end.reader ≡ open_reader gate [] → gate ≡ ack_gate → phase_of x ≡ Waiting → client_bound x ≡ 8192 → ClientStands x [] [] [] []
 stands_first x gate reader is phase bound = record {
   run = run_nil (client_rules (client_limits x) []) refl;
   placed = tt;
@@ -41,12 +36,12 @@ stands_first x gate reader is phase bound = record {
 
 -- ---- an open channel that is asked
 
-module _ (x y : ClientChannel) (t u : Talking) (asks : List Placed) (octets : List ℕ) (frames : List Frame) (rest : List ℕ) (was : x.phase ≡ Open t) (h : ClientStands x asks octets frames rest) where
+module _ (x y : ClientChannel) (t u : Talking) (asks : List Placed) (octets : List ℕ) (frames : List Frame) (rest : List ℕ) (was : phase_of x ≡ Open t) (h : ClientStands x asks octets frames rest) where
   pub talks_at : Talks (client_limits x) t (received frames) (asked_in asks)
   talks_at = subst (λ (p : Phase). InPhase (client_limits x) p (received frames) (asked_in asks)) was h.phase_is
 
   -- with one ask more at this place
-  pub stands_asked : (a : Asking) → y ≡ record x { phase = Open u; numbers = y.numbers } → Talks (client_limits x) u (received frames) (asked_in asks ++ a ∷ []) → ClientStands y (asks ++ (length octets, a) ∷ []) octets frames rest
+  pub stands_asked : (a : Asking) → y ≡ record x { end = record x.end { phase = Open u; numbers = y.end.numbers } } → Talks (client_limits x) u (received frames) (asked_in asks ++ a ∷ []) → ClientStands y (asks ++ (length octets, a) ∷ []) octets frames rest
   stands_asked a is talks =
       subst (λ (z : ClientChannel). ClientStands z (asks ++ (length octets, a) ∷ []) octets frames rest) (sym is) (record {
         run = asked_later (client_limits x) asks (length octets, a) octets frames rest (omega arith) h.run;
@@ -57,7 +52,7 @@ module _ (x y : ClientChannel) (t u : Talking) (asks : List Placed) (octets : Li
       })
 
   -- where nothing but the room of the list of pending calls changed
-  pub stands_kept : y ≡ record x { phase = Open u; numbers = y.numbers } → AsBefore t u → ClientStands y asks octets frames rest
+  pub stands_kept : y ≡ record x { end = record x.end { phase = Open u; numbers = y.end.numbers } } → AsBefore t u → ClientStands y asks octets frames rest
   stands_kept is same =
       subst (λ (z : ClientChannel). ClientStands z asks octets frames rest) (sym is) (record {
         run = h.run;
@@ -67,7 +62,7 @@ module _ (x y : ClientChannel) (t u : Talking) (asks : List Placed) (octets : Li
         bound_is = h.bound_is;
       })
 
--- ---- an open channel's gate, and what it holds
+-- ---- an open channel's gate
 
 pub gate_some : (size n : ℕ) (rs : List OpenResponse) → channel_in rs ≡ Some n → gate_agreed size rs ≡ reply_gate size
 gate_some size n [] e = absurd cc
@@ -76,19 +71,3 @@ gate_some size n (r ∷ rs) e = refl
 pub gate_talking : (limits : Limits) (t : Talking) (before : Received) (asked : List Asking) → Talks limits t before asked → client_gate before ≡ reply_gate t.agreed.ack.send_buffer_size
 gate_talking limits t before asked h =
     ap (λ (o : Option Ack). client_gate_behind o (responses before.openings)) h.ack_is ∙ gate_some t.agreed.ack.send_buffer_size t.channel (responses before.openings) h.channel_is
-
-pub held_open : (x : ClientChannel) (t : Talking) (asks : List Placed) (octets : List ℕ) (frames : List Frame) (rest : List ℕ) (n m sum : ℕ) → x.phase ≡ Open t → ClientStands x asks octets frames rest
-    → n ≡ length x.reader.held → n < max 8 x.reader.gate.largest → ((cs : List Chunk) → assembling.Stands t.assembler cs → m ≡ open_octets cs)
-    → ((cs : List Chunk) → assembling.Stands t.assembler cs → 0 < octet_limit t.assembler → m ≤ 4 * octet_limit t.assembler) → x.bound < 18446744073709551616 → sum ≡ min (n + m) 18446744073709551615
-    → (sum ≡ held_octets frames rest) × (sum ≤ x.bound)
-held_open x t asks octets frames rest n m sum was h count small held bound fits sum_is =
-    let talks : Talks (client_limits x) t (received frames) (asked_in asks) = talks_at x x t t asks octets frames rest was h in
-    let gate : x.reader.gate.largest ≡ t.agreed.ack.send_buffer_size =
-    ap (λ (r : Reader). r.gate.largest) h.reader_is ∙ ap (λ (g : Gate). g.largest) (gate_talking (client_limits x) t (received frames) (asked_in asks) talks) in
-    let whole : x.bound ≡ t.agreed.ack.send_buffer_size + 4 * x.limits.max_message_size = h.bound_is ∙ ap (client_bound_behind (client_limits x)) talks.ack_is in
-    let octets_is : m ≡ open_octets (received frames).messages = held (received frames).messages talks.assembles in
-    let within : m ≤ 4 * octet_limit t.assembler = bound (received frames).messages talks.assembles (omega (arith, talks.octets, x.limits.takes_octets)) in
-    let count_is : n ≡ length rest = count ∙ ap (λ (r : Reader). length r.held) h.reader_is in
-    let total : n + m ≤ x.bound = grind (small, gate, whole, within, talks.octets, t.agreed.sends, arith) in
-    let sum_exact : sum ≡ n + m = grind (sum_is, total, fits, arith) in
-    (omega (arith, sum_exact, count_is, octets_is), omega (arith, sum_exact, total))

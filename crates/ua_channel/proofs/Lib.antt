@@ -9,6 +9,7 @@ pub mod Phases
 mod ServerMessages
 pub mod Stepping
 pub mod Pieces
+pub mod Ends
 pub mod Servers
 pub mod Starts
 pub mod OpeningFrames

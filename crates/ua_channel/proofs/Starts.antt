@@ -11,7 +11,7 @@ use Rattle.ua_channel.specs.ServerRules.{server_gate}
 use Rattle.ua_channel.specs.ServerStands.{limits_of, rules_of, Holds, Stands, Goes}
 use Rattle.ua_channel.proofs.OneFrameMore.{received-nil}
 
-pub stands_first : (x : ServerChannel) → x.reader ≡ open_reader hello_gate [] → x.phase ≡ Waiting → x.bound ≡ 8192 → Stands x [] [] []
+pub stands_first : (x : ServerChannel) → x.end.reader ≡ open_reader hello_gate [] → x.end.phase ≡ Waiting → x.end.bound ≡ 8192 → Stands x [] [] []
 stands_first x reader phase bound = record {
   run = run_nil (rules_of x) (ap (λ (b : Received). b.closed) received-nil);
   reader_is = reader ∙ ap (λ (b : Received). open_reader (server_gate (limits_of x) b) []) (sym received-nil);

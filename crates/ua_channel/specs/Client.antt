@@ -30,7 +30,7 @@ use Rattle.ua_channel.specs.declared.client.talking.Talking.{Talking}
 
 -- the limits of the client
 abbrev pub client_limits : ClientChannel → Limits
-client_limits x = x.limits
+client_limits x = x.end.rules.limits
 
 -- the URL of the server
 abbrev pub url_of : ClientChannel → Option (List ℕ)
@@ -38,15 +38,15 @@ url_of x = x.address.url
 
 -- the sequence number that is sent next behind the first OPN, whose number is 1
 abbrev pub client_next : ClientChannel → ℕ
-client_next x = x.numbers.next
+client_next x = x.end.numbers.next
 
 -- how far the channel is
 abbrev pub phase_of : ClientChannel → Phase
-phase_of x = x.phase
+phase_of x = x.end.phase
 
 -- the most octets that the channel may hold
 abbrev pub client_bound : ClientChannel → ℕ
-client_bound x = x.bound
+client_bound x = x.end.bound
 
 -- the same channel but for where it stands: its limits and its URL
 pub record SameClient (a b : ClientChannel) : Type 0 where
@@ -84,14 +84,14 @@ client_rules_of x asks = client_rules (client_limits x) asks
 pub record ClientStands (x : ClientChannel) (asks : List Placed) (octets : List ℕ) (frames : List Frame) (rest : List ℕ) : Type 0 where
   pub run : Run (client_rules_of x asks) octets frames rest Going
   pub placed : AllByRecursion (λ (a : Placed). a.0 ≤ length octets) asks
-  pub reader_is : x.reader ≡ open_reader (client_gate (received frames)) rest
+  pub reader_is : x.end.reader ≡ open_reader (client_gate (received frames)) rest
   pub phase_is : InPhase (client_limits x) (phase_of x) (received frames) (asked_in asks)
   pub bound_is : client_bound x ≡ client_bound_behind (client_limits x) (received frames).ack
 
 -- a channel that failed or was closed, and holds nothing
 pub record IsClientDone (x : ClientChannel) : Type 0 where
   pub phase : phase_of x ≡ Done
-  pub empty : x.reader.held ≡ []
+  pub empty : x.end.reader.held ≡ []
 
 -- it goes on after these asks and octets, whose frames told this
 pub record ClientGoes (x : ClientChannel) (asks : List Placed) (octets : List ℕ) (told : List ClientTold) : Type 0 where

@@ -81,23 +81,23 @@ HasNoToken Done = Unit {0}
 
 -- the limits of a server's channel
 abbrev pub limits_of : ServerChannel → Limits
-limits_of x = x.limits
+limits_of x = x.end.rules.limits
 
 -- the id of a server's channel
 abbrev pub channel_of : ServerChannel → ℕ
-channel_of x = x.channel
+channel_of x = x.end.rules.channel
 
 -- the number of the next chunk that a server sends
 abbrev pub next_of : ServerChannel → ℕ
-next_of x = x.numbers.next
+next_of x = x.end.numbers.next
 
 -- the most octets that a server's channel holds
 abbrev pub bound_of : ServerChannel → ℕ
-bound_of x = x.bound
+bound_of x = x.end.bound
 
 -- no channel is open: there was no OPN yet, or the channel has ended
 abbrev pub IsWithoutToken : ServerChannel → Type 0
-IsWithoutToken x = HasNoToken x.phase
+IsWithoutToken x = HasNoToken x.end.phase
 
 -- the rules of a channel
 abbrev pub rules_of : ServerChannel → Rules Told ℕ
@@ -105,19 +105,19 @@ rules_of x = server_rules (limits_of x) (channel_of x)
 
 -- a channel is where this leaves it that was received
 pub record Holds (x : ServerChannel) (before : Received) : Type 0 where
-  pub phase_is : InServerPhase (limits_of x) x.phase before
-  pub bound_is : x.bound ≡ bound_after (limits_of x) before
+  pub phase_is : InServerPhase (limits_of x) x.end.phase before
+  pub bound_is : x.end.bound ≡ bound_after (limits_of x) before
 
 -- a channel is where these octets leave it: these are their frames, and this is the rest, of a frame that is not whole
 pub record Stands (x : ServerChannel) (octets : List ℕ) (frames : List Frame) (rest : List ℕ) : Type 0 where
   pub run : Run (rules_of x) octets frames rest Going
-  pub reader_is : x.reader ≡ open_reader (server_gate (limits_of x) (received frames)) rest
+  pub reader_is : x.end.reader ≡ open_reader (server_gate (limits_of x) (received frames)) rest
   pub holds : Holds x (received frames)
 
 -- a channel that ended, and holds nothing
 pub record IsDone (x : ServerChannel) : Type 0 where
-  pub phase : x.phase ≡ Done
-  pub empty : x.reader.held ≡ []
+  pub phase : x.end.phase ≡ Done
+  pub empty : x.end.reader.held ≡ []
 
 -- it goes on after these octets, whose frames told this
 pub record Goes (x : ServerChannel) (octets : List ℕ) (told : List Told) : Type 0 where
@@ -147,7 +147,7 @@ pub record ClosedAt (x : ServerChannel) (octets : List ℕ) (told : List Told) :
   pub frames : List Frame
   pub run : Run (rules_of x) octets frames [] Over
   pub told_is : events (rules_of x) frames ≡ told
-  pub bound_is : x.bound ≡ bound_after (limits_of x) (received frames)
+  pub bound_is : x.end.bound ≡ bound_after (limits_of x) (received frames)
 
 -- memory was refused where these octets end, behind the good frames that told this: of the next frame they have a header with nothing wrong,
 -- up to its eighth octet, or more of the frame, at most all of it
@@ -170,4 +170,4 @@ pub record RefusedAt (x : ServerChannel) (octets : List ℕ) (told : List Told) 
   pub run : Run (rules_of x) octets frames rest (Stopped code)
   pub stops : StopsAt (rules_of x) frames rest code
   pub told_is : events (rules_of x) frames ≡ told
-  pub bound_is : x.bound ≡ bound_after (limits_of x) (received frames)
+  pub bound_is : x.end.bound ≡ bound_after (limits_of x) (received frames)

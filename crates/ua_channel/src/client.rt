@@ -9,6 +9,7 @@ mod fault;
 mod greeting;
 mod octets;
 mod phase;
+mod rules;
 mod talking;
 
 pub use channel::ClientChannel;

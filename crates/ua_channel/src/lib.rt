@@ -22,6 +22,7 @@ pub mod asking_laws;
 pub mod both_ends;
 mod client;
 pub mod client_laws;
+mod end_core;
 pub mod group_laws;
 pub mod laws;
 mod line;
@@ -35,6 +36,7 @@ mod server;
 mod server_event;
 mod server_fault;
 mod server_opening;
+mod server_rules;
 mod sizes;
 mod step_fault;
 

@@ -1,21 +1,20 @@
 //! The server's end of a connection.
 
 ghost use Rattle.std.specs.Prelude.{◌≡◌, ◌<◌, length};
-ghost use Rattle.ua_frame.specs.Hello.{hello_gate as first_gate};
 
-use crate::agreement::{Agreement, judge_hello};
+use crate::agreement::Agreement;
+use crate::end_core::EndCore;
 use crate::numbers::Numbers;
 use crate::running::Running;
 use crate::sending::{Opening, agreed_octets, opened_octets, reply_octets};
 use crate::server_event::{Event, ServerEvent};
 use crate::server_fault::{ChannelFault, ReplyFault};
-use crate::sizes::{LEAST_SIZE, MOST_OPEN};
-use crate::step_fault::StepFault;
+use crate::server_rules::{ServerRules, hello_gate};
+use crate::sizes::LEAST_SIZE;
 use std::alloc::{AllocError, Global};
-use std::mem;
 use ua_builtin::DateTime;
-use ua_chunk::{Lane, read_chunk};
-use ua_frame::{Frame, FrameReader, Gate, HEADER_LEN, Kind, Limits};
+use ua_chunk::Lane;
+use ua_frame::{FrameReader, Limits};
 
 /// How far a connection has come.
 #[derive(Drop)]
@@ -40,20 +39,7 @@ pub enum Phase {
 /// [`take`]: ServerChannel::take
 #[derive(Drop)]
 pub struct ServerChannel {
-    alloc: Global,
-    limits: Limits,
-    channel: u32,
-    reader: FrameReader,
-    numbers: Numbers,
-    bound: usize,
-    phase: Phase,
-}
-
-/// The gate for a HEL.
-fn hello_gate() -> Gate
-    ensures { result ≡ first_gate }
-{
-    Gate::new(LEAST_SIZE).taking(Kind::Hel)
+    end: EndCore<ServerRules, Phase>,
 }
 
 impl ServerChannel {
@@ -68,10 +54,10 @@ impl ServerChannel {
     ghost use Rattle.ua_channel.specs.inside.Parts.{HasShape};
     ghost use Rattle.ua_channel.specs.Received.{Received, received};
     ghost use Rattle.ua_channel.specs.ServerAnswers.{Progress, AnswersAt, ServerAnswers, AsksInParts, parts_asked};
-    ghost use Rattle.ua_channel.specs.inside.ServerSteps.{AnswersTo, StandsWith, Steps, Nexts};
+    ghost use Rattle.ua_channel.specs.inside.ServerSteps.{AnswersTo, StandsWith};
     ghost use Rattle.ua_channel.specs.inside.ServerEvents.{parts_of};
     ghost use Rattle.ua_channel.specs.ServerStands.{StarvedAt, Stays, limits_of, channel_of, next_of, bound_of, HasNoToken, IsWithoutToken, Holds, Stands, Goes, IsDone, bound_after, held_after};
-    ghost use Rattle.ua_channel.specs.inside.ServerFrames.{phase_gate, LaneIs, JudgesFrame};
+    ghost use Rattle.ua_channel.specs.inside.ServerFrames.{LaneIs};
     ghost use Rattle.ua_channel.specs.ServerRules.{receive_size};
     ghost use Rattle.ua_channel.specs.ServerSends.{IsReply, RepliesGo};
     ghost use Rattle.ua_channel.specs.ServerTold.{Told};
@@ -91,176 +77,25 @@ impl ServerChannel {
         ensures next { next_of result ≡ 1 }
     {
         ServerChannel {
-            alloc,
-            limits,
-            channel,
-            reader: FrameReader::new(alloc, hello_gate()),
-            numbers: Numbers::new(),
-            bound: LEAST_SIZE as usize,
-            phase: Phase::Waiting,
-        }
-    }
-
-    /// The gate for the next frame.
-    fn gate(&self) -> Gate
-        ensures { result ≡ phase_gate self.now.phase }
-    {
-        match &self.phase {
-            Phase::Waiting => hello_gate(),
-            Phase::Greeted(agreement) => Gate::new(agreement.receive_size()).taking(Kind::Opn),
-            Phase::Open(running) => Gate::new(running.agreement().receive_size())
-                .taking(Kind::Opn)
-                .taking(Kind::Msg)
-                .taking(Kind::Clo),
-            Phase::Done => Gate::new(0),
+            end: EndCore {
+                alloc,
+                rules: ServerRules { limits, channel },
+                reader: FrameReader::new(alloc, hello_gate()),
+                numbers: Numbers::new(),
+                bound: LEAST_SIZE as usize,
+                phase: Phase::Waiting,
+            },
         }
     }
 
     /// Whether the channel ended.
     fn is_done(&self) -> bool
-        ensures { IsTrue result ↔ (self.now.phase ≡ phase.Done) }
+        ensures { IsTrue result ↔ (self.now.end.phase ≡ phase.Done) }
     {
-        match self.phase {
+        match self.end.phase {
             Phase::Done => true,
             Phase::Waiting | Phase::Greeted(_) | Phase::Open(_) => false,
         }
-    }
-
-    /// Takes a chunk of a message on an open channel, which stays where it stands.
-    #[inline(always)]
-    fn on_message(&mut self, frame: Frame) -> Result<Option<Event>, StepFault>
-        requires kind { frame.kind ≡ Msg }
-        requires shape { HasShape frame }
-        ensures judges { (before : Received) → Holds self.old before → IsTrue (lets_in (phase_gate self.old.phase) frame.kind)
-            → JudgesFrame self.old before (content frame) result self.new }
-        ensures kept { self.new ≡ record self.old { phase = self.new.phase } }
-    {
-        let Phase::Open(running) = &mut self.phase else {
-            return Err(StepFault::Closed);
-        };
-        match running.on_message(self.channel, read_chunk(frame)) {
-            Ok(event) => Ok(event),
-            Err(fault) => {
-                self.phase = Phase::Done;
-                Err(fault)
-            }
-        }
-    }
-
-    /// Takes another frame on an open channel, whose phase was taken out.
-    fn on_running(&mut self, mut running: Running, frame: Frame) -> Result<Option<Event>, StepFault>
-        requires done { self.old.phase ≡ phase.Done }
-        requires kind { frame.kind ≢ Msg }
-        requires shape { HasShape frame }
-        ensures judges { (before : Received) → Stays self.old.limits running before → self.old.bound ≡ bound_after self.old.limits before
-            → IsTrue (lets_in (phase_gate (phase.Open running)) frame.kind) → JudgesFrame self.old before (content frame) result self.new }
-        ensures kept { self.new ≡ record self.old { phase = self.new.phase } }
-    {
-        match frame.kind {
-            Kind::Opn => {
-                let event = running.on_renewal(self.alloc, self.channel, frame)?;
-                self.phase = Phase::Open(running);
-                Ok(event)
-            }
-            Kind::Clo => {
-                running.on_close(self.channel, read_chunk(frame))?;
-                Ok(Some(Event::Closed))
-            }
-            Kind::Msg | Kind::Hel | Kind::Ack | Kind::Err => Err(StepFault::Closed),
-        }
-    }
-
-    /// Takes a frame.
-    fn on_frame(&mut self, frame: Frame) -> Result<Option<Event>, StepFault>
-        requires shape { HasShape frame }
-        ensures judges { (before : Received) → Holds self.old before → IsTrue (lets_in (phase_gate self.old.phase) frame.kind)
-            → JudgesFrame self.old before (content frame) result self.new }
-        ensures kept { self.new ≡ record self.old { phase = self.new.phase; bound = self.new.bound } }
-    {
-        if let Kind::Msg = frame.kind {
-            // nearly always: the channel stays where it is
-            return self.on_message(frame);
-        }
-        match mem::replace(&mut self.phase, Phase::Done) {
-            Phase::Waiting => {
-                let agreement = judge_hello(self.alloc, &self.limits, &frame.body)?;
-                self.bound = agreement.receive_size() as usize
-                    + MOST_OPEN * self.limits.max_message_size as usize;
-                self.phase = Phase::Greeted(agreement);
-                Ok(Some(Event::Agreed(agreement)))
-            }
-            Phase::Greeted(agreement) => {
-                let (running, event) = Running::open(
-                    self.alloc,
-                    &self.limits,
-                    agreement,
-                    self.channel,
-                    frame,
-                )?;
-                self.phase = Phase::Open(running);
-                Ok(Some(event))
-            }
-            Phase::Open(running) => self.on_running(running, frame),
-            Phase::Done => Err(StepFault::Closed),
-        }
-    }
-
-    /// Ends the channel, which then holds nothing.
-    fn fail(&mut self)
-        ensures done { IsDone self.new }
-        ensures kept { self.new ≡ record self.old { phase = self.new.phase; reader = self.new.reader } }
-    {
-        self.reader.close();
-        self.phase = Phase::Done;
-    }
-
-    /// One call of the reader, and what its frame comes to, with the octets that were taken.
-    fn step(&mut self, piece: &[u8]) -> (usize, Result<Option<Event>, StepFault>)
-        ensures steps { (octets : List ℕ) (told : List Told) → Goes self.old octets told → Steps piece.now result.0 result.1 self.new octets told }
-        ensures parts { (octets : List ℕ) (told : List Told) → Goes self.old octets told → IfOk result.1 (λ e. AsksInParts (parts_of e) self.new (octets ++ take result.0 piece.now)) }
-        ensures progress { Progress piece.now result.0 result.1 }
-        ensures limits { limits_of self.new ≡ limits_of self.old }
-        ensures channel { channel_of self.new ≡ channel_of self.old }
-        ensures numbers { self.new.numbers ≡ self.old.numbers }
-    {
-        let held = self.reader.held();
-        match self.reader.take(piece) {
-            Ok((n, None)) => (n, Ok(None)),
-            Ok((n, Some(frame))) => {
-                let answer = self.on_frame(frame);
-                let gate = self.gate();
-                self.reader.set_gate(gate);
-                (n, answer)
-            }
-            Err(fault) => {
-                self.fail();
-                let n = HEADER_LEN.saturating_sub(held).min(piece.len());
-                (n, Err(StepFault::of_frame(fault)))
-            }
-        }
-    }
-
-    /// Takes octets up to the end of the first frame that tells something, else the whole piece,
-    /// and says how many it took.
-    fn next_event(&mut self, piece: &[u8]) -> (usize, Result<Option<Event>, StepFault>)
-        ensures nexts { (octets : List ℕ) (told : List Told) → Goes self.old octets told → Nexts piece.now result.0 result.1 self.new octets told }
-        ensures parts { (octets : List ℕ) (told : List Told) → Goes self.old octets told → IfOk result.1 (λ e. AsksInParts (parts_of e) self.new (octets ++ take result.0 piece.now)) }
-        ensures progress { Progress piece.now result.0 result.1 }
-        ensures limits { limits_of self.new ≡ limits_of self.old }
-        ensures channel { channel_of self.new ≡ channel_of self.old }
-        ensures numbers { self.new.numbers ≡ self.old.numbers }
-    {
-        let mut taken = 0;
-        while taken < piece.len() {
-            let (n, answer) = self.step(&piece[taken..]);
-            taken += n;
-            match answer {
-                Ok(None) => {}
-                Ok(Some(event)) => return (taken, Ok(Some(event))),
-                Err(fault) => return (taken, Err(fault)),
-            }
-        }
-        (taken, Ok(None))
     }
 
     /// Makes octets that are to be sent an event. Without them the channel fails.
@@ -274,7 +109,7 @@ impl ServerChannel {
         match octets {
             Ok(octets) => Ok(ServerEvent::Send(octets)),
             Err(_) => {
-                self.fail();
+                self.end.fail();
                 Err(ChannelFault::OutOfMemory)
             }
         }
@@ -290,7 +125,7 @@ impl ServerChannel {
         ensures channel { channel_of self.new ≡ channel_of self.old }
     {
         match event {
-            Event::Agreed(agreement) => self.send(agreed_octets(self.alloc, &agreement)),
+            Event::Agreed(agreement) => self.send(agreed_octets(self.end.alloc, &agreement)),
             Event::Opened {
                 request,
                 handle,
@@ -298,19 +133,19 @@ impl ServerChannel {
                 lifetime,
             } => {
                 let opening = Opening {
-                    channel: self.channel,
+                    channel: self.end.rules.channel,
                     request,
                     handle,
                     token,
                     lifetime,
                 };
-                match opened_octets(self.alloc, &opening, self.numbers.number(), moment) {
+                match opened_octets(self.end.alloc, &opening, self.end.numbers.number(), moment) {
                     Ok(octets) => {
-                        self.numbers.step();
+                        self.end.numbers.step();
                         Ok(ServerEvent::Send(octets))
                     }
                     Err(_) => {
-                        self.fail();
+                        self.end.fail();
                         Err(ChannelFault::OutOfMemory)
                     }
                 }
@@ -342,7 +177,7 @@ impl ServerChannel {
         ensures limits { limits_of self.new ≡ limits_of self.old }
         ensures channel { channel_of self.new ≡ channel_of self.old }
     {
-        let (n, outcome) = self.next_event(piece);
+        let (n, outcome) = self.end.next_event(piece);
         match outcome {
             Ok(None) => (n, Ok(ServerEvent::NeedMore)),
             Ok(Some(event)) => (n, self.answer(event, moment)),
@@ -376,13 +211,13 @@ impl ServerChannel {
         if self.is_done() {
             return (0, Err(ChannelFault::Closed));
         }
-        let bound = self.bound;
+        let bound = self.end.bound;
         let (n, answer) = self.go_on(piece, moment);
         match answer {
             Ok(event) => (n, Ok(event)),
             Err(fault) => {
                 if let ChannelFault::OutOfMemory = fault {
-                    self.bound = bound;
+                    self.end.bound = bound;
                 }
                 (n, Err(fault))
             }
@@ -420,12 +255,12 @@ impl ServerChannel {
 
     /// Where replies go, if the channel is open.
     fn lane(&self) -> Option<Lane>
-        ensures lane { MatchOption result (HasNoToken self.now.phase) (LaneIs self.now.channel self.now.phase) }
+        ensures lane { MatchOption result (HasNoToken self.now.end.phase) (LaneIs self.now.end.rules.channel self.now.end.phase) }
         ensures room { IfSome result (λ lane. 0 < lane.room) }
         ensures size { IfSome result (λ lane. lane.room + 24 < 2 ^ 32) }
     {
-        match &self.phase {
-            Phase::Open(running) => Some(running.lane(self.channel)),
+        match &self.end.phase {
+            Phase::Open(running) => Some(running.lane(self.end.rules.channel)),
             Phase::Waiting | Phase::Greeted(_) | Phase::Done => None,
         }
     }
@@ -467,10 +302,10 @@ impl ServerChannel {
         let Some(lane) = self.lane() else {
             return Err(ReplyFault::NotOpen);
         };
-        match reply_octets(self.alloc, &lane, body, id, &mut self.numbers) {
+        match reply_octets(self.end.alloc, &lane, body, id, &mut self.end.numbers) {
             Ok(out) => Ok(out),
             Err(_) => {
-                self.fail();
+                self.end.fail();
                 Err(ReplyFault::OutOfMemory)
             }
         }
@@ -483,19 +318,7 @@ impl ServerChannel {
         ensures channel { channel_of self.new ≡ channel_of self.old }
         ensures bound { bound_of self.new ≡ bound_of self.old }
     {
-        self.fail();
-    }
-
-    /// How many octets are held of unfinished messages.
-    fn messages_held(&self) -> usize
-        ensures held { (before : Received) → Holds self.now before → result ≡ open_octets before.messages }
-        ensures bound { (before : Received) → Holds self.now before → result + receive_size (limits_of self.now) before.hello ≤ bound_after (limits_of self.now) before }
-        ensures done { self.now.phase ≡ phase.Done → result ≡ 0 }
-    {
-        match &self.phase {
-            Phase::Open(running) => running.held(),
-            Phase::Waiting | Phase::Greeted(_) | Phase::Done => 0,
-        }
+        self.end.fail();
     }
 
     /// How many octets are held: those of a frame that is not whole, and those of unfinished
@@ -507,8 +330,7 @@ impl ServerChannel {
             → result ≤ bound_after (limits_of self.now) (received frames) }
         ensures done { IsDone self.now → result ≡ 0 }
     {
-        let _bound = self.bound;
-        self.reader.held().saturating_add(self.messages_held())
+        self.end.held()
     }
 
     /// The most octets that may be held: 8192 before the ACK, then those of a frame of the agreed
@@ -518,7 +340,7 @@ impl ServerChannel {
             → result ≡ bound_after (limits_of self.now) (received frames) }
         ensures is { result ≡ bound_of self.now }
     {
-        self.bound
+        self.end.bound
     }
 
     /// How many messages are unfinished.
@@ -527,7 +349,7 @@ impl ServerChannel {
             → result ≡ length (open_ids (received frames).messages) }
         ensures done { IsDone self.now → result ≡ 0 }
     {
-        match &self.phase {
+        match &self.end.phase {
             Phase::Open(running) => running.open_count(),
             Phase::Waiting | Phase::Greeted(_) | Phase::Done => 0,
         }

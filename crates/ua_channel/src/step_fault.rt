@@ -21,7 +21,7 @@ pub enum StepFault {
 }
 
 impl StepFault {
-    ghost use Rattle.ua_channel.specs.inside.StepFaults.{of_frame_fault, of_open_fault, of_chunk_fault};
+    ghost use Rattle.ua_channel.specs.inside.StepFaults.{of_frame_fault, of_open_fault, of_chunk_fault, least_at};
 
     /// What a fault of the frame reader comes to.
     pub(crate) fn of_frame(fault: FrameFault) -> StepFault
@@ -31,6 +31,16 @@ impl StepFault {
             Some(code) => StepFault::Refused(code),
             None if matches!(fault, FrameFault::Closed) => StepFault::Closed,
             None => StepFault::OutOfMemory,
+        }
+    }
+
+    /// The least number of octets that are taken at this fault, where there are some.
+    pub(crate) fn least(&self) -> usize
+        ensures { result ≡ least_at self.now }
+    {
+        match self {
+            StepFault::OutOfMemory => 0,
+            StepFault::Refused(_) | StepFault::Peer(_) | StepFault::Closed => 1,
         }
     }
 

@@ -6,7 +6,6 @@ use Rattle.ua_builtin.specs.declared.date_time.DateTime.{DateTime}
 use Rattle.ua_frame.specs.declared.ack.Ack.{Ack}
 use Rattle.ua_frame.specs.declared.error.ErrorFrame.{ErrorFrame}
 use Rattle.ua_frame.specs.declared.limits.Limits.{Limits}
-use Rattle.ua_frame.specs.Reader.{open_reader}
 use Rattle.ua_chunk.specs.Assembling.{Stands, SameLimits, octet_limit, chunk_limit, last_number}
 use Rattle.ua_chunk.specs.Delivered.{given}
 use Rattle.ua_chunk.specs.Gathered.{ends, gathered, bodies}
@@ -20,15 +19,15 @@ use Rattle.ua_services.specs.declared.open.OpenAnswer.{OpenAnswer}
 use Rattle.ua_services.specs.declared.open.OpenAnswer.TheVariants.{Open as Opened}
 use Rattle.ua_structures.specs.declared.secure_channel.OpenResponse.{OpenResponse}
 use Rattle.ua_channel.specs.Asks.{Asking, Placed, is_in}
-use Rattle.ua_channel.specs.Client.{InPhase, SameClient, ClientGoes, ClientGoesTelling, ClientEnded, ClientStarvedAt, IsClientDone, phase_of, client_bound, client_bound_behind, client_next}
+use Rattle.ua_channel.specs.Client.{InPhase, ClientGoes, ClientGoesTelling, ClientEnded, ClientStarvedAt, IsClientDone, client_bound_behind}
 use Rattle.ua_channel.specs.ClientAnswers.{Tells}
 use Rattle.ua_channel.specs.ClientAsks.{Talks}
-use Rattle.ua_channel.specs.ClientTable.{client_gate, client_reasons, is_other, is_awaited, is_bad, result_of, code_in, is_outside, of_ack}
+use Rattle.ua_channel.specs.ClientTable.{client_reasons, is_other, is_awaited, is_bad, result_of, code_in, is_outside, of_ack}
 use Rattle.ua_channel.specs.ClientTokens.{answer_in, responses, opened_ids, channel_in, held_tokens, from_last}
 use Rattle.ua_channel.specs.ClientTold.{ClientTold, ClientTold as told, Why, ours, peers, client_tells, told_item}
 use Rattle.ua_channel.specs.Content.{Opening, Content}
 use Rattle.ua_channel.specs.Content.Content.{Opens, Sends}
-use Rattle.ua_channel.specs.inside.Parts.{IsFaultFor, MayEndIn, NextsBy, StepsBy, TookBy, parts_in}
+use Rattle.ua_channel.specs.inside.Parts.{IsFaultFor, MayEndIn, NextsBy, parts_in}
 use Rattle.ua_channel.specs.Received.{Received, after, nothing_received, listed}
 use Rattle.ua_channel.specs.declared.step_fault.StepFault.{StepFault}
 use Rattle.ua_channel.specs.declared.client.agreed.Agreed.{Agreed}
@@ -38,6 +37,7 @@ use Rattle.ua_channel.specs.declared.client.event.ClientEvent.{ClientEvent}
 use Rattle.ua_channel.specs.declared.client.event.ClientEvent.TheVariants as client_event
 use Rattle.ua_channel.specs.declared.client.event.Event.{Event}
 use Rattle.ua_channel.specs.declared.client.fault.ClientTakeFault.{ClientTakeFault}
+use Rattle.ua_channel.specs.declared.client.phase.Phase.{Phase}
 use Rattle.ua_channel.specs.declared.client.talking.Talking.{Talking}
 use Rattle.ua_channel.specs.inside.StepFaults as step_faults
 use Rattle.ua_channel.specs.declared.step_fault.StepFault.TheVariants.{Refused, Peer, OutOfMemory, Closed}
@@ -265,30 +265,12 @@ pub record TakesFrame (limits : Limits) (before : Received) (asked : List Asking
   pub talks : Talks limits new (after before c) asked
   pub ack_is : (after before c).ack ≡ before.ack
 
--- a frame that carries this was taken, and tells this; where the channel then is
-pub record TookFrame (limits : Limits) (before : Received) (asked : List Asking) (c : Content) (new : ClientChannel) (e : Option Event) : Type 0 where
+-- a frame that carries this was taken, and tells this; where the connection then is, and how much it may hold
+pub record TookFrame (limits : Limits) (before : Received) (asked : List Asking) (c : Content) (p : Phase) (bound : ℕ) (e : Option Event) : Type 0 where
   pub tells : client_tells before c ≡ told_by_frame e
   pub parts : MayEndIn before.messages c (event_parts e)
-  pub phase_is : InPhase limits (phase_of new) (after before c) asked
-  pub bound_is : client_bound new ≡ client_bound_behind limits (after before c).ack
-
--- a frame that carries this was taken behind the ACK, and tells this: the channel is open
-pub record StaysOpen (limits : Limits) (before : Received) (asked : List Asking) (c : Content) (new : ClientChannel) (e : Option Event) : Type 0 where
-  pub tells : client_tells before c ≡ told_by_frame e
-  pub parts : MayEndIn before.messages c (event_parts e)
-  pub phase_is : InPhase limits (phase_of new) (after before c) asked
-  pub ack_is : (after before c).ack ≡ before.ack
-
--- the channel goes on behind a frame that carries this, whose event this is
-pub record GoesOnBehind (limits : Limits) (before : Received) (asked : List Asking) (c : Content) (new : ClientChannel) (e : Option Event) : Type 0 where
-  pub accepted : first_reason (client_reasons limits before asked c) ≡ None
-  pub takes : TookFrame limits before asked c new e
-  pub reader_is : new.reader ≡ open_reader (client_gate (after before c)) []
-
--- what a whole frame that carries this comes to
-abbrev pub JudgesWhole : Limits → Received → List Asking → Content → ClientChannel → Result (Option Event) StepFault → Type 0
-JudgesWhole limits before asked c new (Ok e) = GoesOnBehind limits before asked c new e
-JudgesWhole limits before asked c new (Err fault) = IsStopFor (client_reasons limits before asked c) fault × IsClientDone new × (client_bound new ≡ client_bound_behind limits before.ack)
+  pub phase_is : InPhase limits p (after before c) asked
+  pub bound_is : bound ≡ client_bound_behind limits (after before c).ack
 
 -- ---- a piece
 
@@ -303,17 +285,9 @@ StopsBy (Peer code) new asks octets before = ClientEnded new asks octets before 
 StopsBy OutOfMemory new asks octets before = ClientStarvedAt new asks octets before
 StopsBy Closed new asks octets before = ⊥
 
--- one call of the reader, and what its frame comes to
-abbrev pub ClientSteps : List ℕ → ℕ → Result (Option Event) StepFault → ClientChannel → List Placed → List ℕ → List ClientTold → Type 0
-ClientSteps piece n result new asks octets before = StepsBy (λ o. ClientGoes new asks (octets ++ o) before) (λ e o. ComesTo e new asks (octets ++ o) before) (λ fault o. StopsBy fault new asks (octets ++ o) before) piece n result
-
 -- the steps of a piece, up to the first event
 abbrev pub ClientNexts : List ℕ → ℕ → Result (Option Event) StepFault → ClientChannel → List Placed → List ℕ → List ClientTold → Type 0
 ClientNexts piece n result new asks octets before = NextsBy (λ o. ClientGoes new asks (octets ++ o) before) (λ e o. ComesTo e new asks (octets ++ o) before) (λ fault o. StopsBy fault new asks (octets ++ o) before) piece n result
-
--- so many octets of a piece were taken since it stood there, and nothing was told
-abbrev pub ClientTook : ClientChannel → ClientChannel → List ℕ → ℕ → Type 0
-ClientTook old now piece taken = TookBy ClientGoes (λ (a b : ClientChannel). SameClient a b × (client_next b ≡ client_next a)) old now piece taken
 
 -- ---- what is answered
 

@@ -1,12 +1,13 @@
 -- What a server's channel makes of a frame.
 use Rattle.std.specs.Prelude.{◌≡◌, ℕ, Bool, true, false, Option, Result, Ok, Err}
 use Rattle.ua_frame.specs.declared.gate.Gate.{Gate}
+use Rattle.ua_frame.specs.declared.limits.Limits.{Limits}
 use Rattle.ua_frame.specs.Hello.{hello_gate}
 use Rattle.ua_frame.specs.Kinds.{closed_gate}
 use Rattle.ua_chunk.specs.declared.lane.Lane.{Lane}
 use Rattle.ua_channel.specs.declared.server.Phase.{Phase}
 use Rattle.ua_channel.specs.declared.server.Phase.TheVariants.{Waiting, Greeted, Open, Done}
-use Rattle.ua_channel.specs.declared.server.ServerChannel.{ServerChannel}
+use Rattle.ua_channel.specs.declared.server_rules.ServerRules.{ServerRules}
 use Rattle.ua_channel.specs.declared.server_event.Event.{Event}
 use Rattle.ua_channel.specs.declared.step_fault.StepFault.{StepFault}
 use Rattle.ua_channel.specs.Agreement.{lane_of}
@@ -14,7 +15,7 @@ use Rattle.ua_channel.specs.Content.{Content}
 use Rattle.ua_channel.specs.Received.{Received, after}
 use Rattle.ua_channel.specs.inside.ServerParts.{IsRefusalFor, IsRefused, TakesSo}
 use Rattle.ua_channel.specs.ServerRules.{opening_gate, running_gate}
-use Rattle.ua_channel.specs.ServerStands.{bound_after, limits_of, channel_of, Holds}
+use Rattle.ua_channel.specs.ServerStands.{InServerPhase, bound_after}
 
 -- the gate of a phase
 abbrev pub phase_gate : Phase → Gate
@@ -32,12 +33,18 @@ LaneIs channel Done lane = ⊥
 
 -- ---- what a frame makes of it
 
--- where a channel stands behind a frame, by whether that was the last
-abbrev pub GoesOn : Bool → ServerChannel → Received → Type 0
-GoesOn false x before = Holds x before
-GoesOn true x before = (x.phase ≡ Done) × (x.bound ≡ bound_after (limits_of x) before)
+-- where a connection is behind a frame, by whether that was the last
+abbrev pub GoesOn : Bool → Limits → Phase → Received → Type 0
+GoesOn false limits p before = InServerPhase limits p before
+GoesOn true limits p before = p ≡ Done
 
--- what is made of a frame that carries this, and where the channel then stands
-abbrev pub JudgesFrame : ServerChannel → Received → Content → Result (Option Event) StepFault → ServerChannel → Type 0
-JudgesFrame old before c (Ok e) new = TakesSo (limits_of old) (channel_of old) before c e × GoesOn (after before c).closed new (after before c)
-JudgesFrame old before c (Err fault) new = IsRefusalFor (IsRefused (limits_of old) (channel_of old) before c) fault × (new.phase ≡ Done) × (new.bound ≡ old.bound)
+-- a frame that carries this is taken, and comes to this; where the connection then is
+pub record TakesFrame (r : ServerRules) (before : Received) (c : Content) (p : Phase) (bound : ℕ) (e : Option Event) : Type 0 where
+  pub takes : TakesSo r.limits r.channel before c e
+  pub goes : GoesOn (after before c).closed r.limits p (after before c)
+  pub bound_is : bound ≡ bound_after r.limits (after before c)
+
+-- what is made of a frame that carries this
+abbrev pub JudgesFrame : ServerRules → Received → Content → Phase → ℕ → Result (Option Event) StepFault → Type 0
+JudgesFrame r before c p bound (Ok e) = TakesFrame r before c p bound e
+JudgesFrame r before c p bound (Err fault) = IsRefusalFor (IsRefused r.limits r.channel before c) fault

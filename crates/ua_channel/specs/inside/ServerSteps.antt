@@ -8,9 +8,9 @@ use Rattle.ua_channel.specs.declared.server_event.ServerEvent.TheVariants.{NeedM
 use Rattle.ua_channel.specs.declared.server_fault.ChannelFault.{ChannelFault}
 use Rattle.ua_channel.specs.declared.server_fault.ChannelFault.TheVariants.{Refused, Closed, OutOfMemory}
 use Rattle.ua_channel.specs.declared.step_fault.StepFault.{StepFault}
-use Rattle.ua_channel.specs.inside.Parts.{NextsBy, StepsBy, TookBy}
+use Rattle.ua_channel.specs.inside.Parts.{NextsBy}
 use Rattle.ua_channel.specs.inside.ServerEvents.{told_of}
-use Rattle.ua_channel.specs.ServerStands.{limits_of, channel_of, next_of, IsDone, Goes, GoesTelling, ClosedAt, RefusedAt, StarvedAt}
+use Rattle.ua_channel.specs.ServerStands.{next_of, IsDone, Goes, GoesTelling, ClosedAt, RefusedAt, StarvedAt}
 use Rattle.ua_channel.specs.ServerTold.{Told, Told as told}
 use Rattle.ua_channel.specs.ServerAnswers.{SendsOctets, Asks}
 use Rattle.ua_channel.specs.declared.server_event.Event.TheVariants as inner
@@ -29,23 +29,9 @@ FailsWith (step.Peer code) new octets before = ⊥
 FailsWith step.OutOfMemory new octets before = StarvedAt new octets before
 FailsWith step.Closed new octets before = ⊥
 
--- one call of the reader, and what its frame comes to
-abbrev pub Steps : List ℕ → ℕ → Result (Option Event) StepFault → ServerChannel → List ℕ → List Told → Type 0
-Steps piece n result new octets before = StepsBy (λ o. Goes new (octets ++ o) before) (λ e o. StandsWith e new (octets ++ o) before) (λ fault o. FailsWith fault new (octets ++ o) before) piece n result
-
 -- the steps of a piece, up to the first event
 abbrev pub Nexts : List ℕ → ℕ → Result (Option Event) StepFault → ServerChannel → List ℕ → List Told → Type 0
 Nexts piece n result new octets before = NextsBy (λ o. Goes new (octets ++ o) before) (λ e o. StandsWith e new (octets ++ o) before) (λ fault o. FailsWith fault new (octets ++ o) before) piece n result
-
--- the same channel but for where it stands: its limits, its id, and its numbers
-pub record SameServer (a b : ServerChannel) : Type 0 where
-  pub limits : limits_of b ≡ limits_of a
-  pub channel : channel_of b ≡ channel_of a
-  pub numbers : b.numbers ≡ a.numbers
-
--- so many octets of a piece were taken since it stood there, and nothing was told
-abbrev pub Took : ServerChannel → ServerChannel → List ℕ → ℕ → Type 0
-Took old now piece taken = TookBy (λ (x : ServerChannel) (k : Unit {0}). Goes x) SameServer old now piece taken
 
 -- what is answered to an event of the last frame
 abbrev pub AnswersTo : ℕ → ℕ → DateTime → Result ServerEvent ChannelFault → ServerChannel → List ℕ → List Told → Type 0

@@ -52,3 +52,8 @@ of_step (Refused code) = channel_fault.Refused code (frame_octets (err_frame cod
 of_step (Peer code) = channel_fault.Refused code (frame_octets (err_frame code))
 of_step Closed = channel_fault.Closed
 of_step OutOfMemory = channel_fault.OutOfMemory
+
+-- the least number of octets that are taken at a fault, where there are some: none where memory was refused
+abbrev pub least_at : StepFault → ℕ
+least_at OutOfMemory = 0
+least_at other = 1

@@ -3,39 +3,32 @@
 ghost use Rattle.std.specs.Prelude.{◌≡◌, ◌≤◌, ◌<◌, ◌++◌, ◌∷◌, [], List, ℕ, length, take, IsTrue, Some, Err, IfOk, IsErrOf, OnOk, OnErr};
 ghost use Rattle.ua_octets.specs.Counted.{text};
 ghost use Rattle.ua_builtin.specs.Reasons.{first_reason};
-ghost use Rattle.ua_frame.specs.Frames.{LetsIn, frame_octets};
-ghost use Rattle.ua_frame.specs.Reader.{open_reader};
+ghost use Rattle.ua_frame.specs.Frames.{frame_octets};
 ghost use Rattle.ua_frame.specs.declared.frame.Frame.{Frame};
 ghost use Rattle.ua_channel.specs.Asks.{Asking, Placed, asked_in, next_id};
 ghost use Rattle.ua_channel.specs.Asks.Asking.{Call, Renewal};
 ghost use Rattle.ua_channel.specs.Client.{ClientStands, ClientGoes, ClientStarvedAt, IsClientDone, InPhase, SameClient, client_limits, url_of, client_next, phase_of, client_bound, client_bound_behind, held_octets, call_refused, renewal_refused, closing_refused, JudgesLength, SendsCall, SendsRenewal, SendsClosing};
 ghost use Rattle.ua_channel.specs.ClientAnswers.{ClientAnswers, ComesInParts, ClientProgress, parts_handed};
 ghost use Rattle.ua_channel.specs.ClientAsks.{call_reasons, closing_reasons, renewing_reasons, Talks, AnswersFor, IsCalled, IsClosed, IsRenewed, JudgesBy};
-ghost use Rattle.ua_channel.specs.inside.ClientParts.{AnswersEvent, ClientNexts, ClientSteps, ComesTo, Judged, JudgesWhole, TookFrame, StaysOpen, counted, greeted, event_parts};
+ghost use Rattle.ua_channel.specs.inside.ClientParts.{AnswersEvent, ComesTo, counted, event_parts};
 ghost use Rattle.ua_channel.specs.ClientSends.{hello_frame, hello_to};
-ghost use Rattle.ua_channel.specs.ClientTable.{client_gate, client_reasons, ack_gate, answer_gate, reply_gate};
 ghost use Rattle.ua_channel.specs.ClientTold.{ClientTold};
-ghost use Rattle.ua_channel.specs.Content.{content};
-ghost use Rattle.ua_channel.specs.inside.Parts.{HasShape, Moves};
-ghost use Rattle.ua_channel.specs.Received.{Received, nothing_received, received};
+ghost use Rattle.ua_channel.specs.Received.{received};
 ghost use Rattle.ua_channel.specs.declared.client.fault.AskFault.TheVariants.{NotOpen};
 ghost use Rattle.ua_channel.specs.declared.client.fault.ClientTakeFault.TheVariants.{Closed, OutOfMemory};
 
 use crate::client::address::Address;
-use crate::client::agreed::Agreed;
 use crate::client::event::{ClientEvent, Event};
 use crate::client::fault::{AskFault, ClientTakeFault};
-use crate::client::greeting::greet;
 use crate::client::octets::{close_octets, hello_octets, open_octets};
 use crate::client::phase::Phase;
-use crate::client::talking::Talking;
+use crate::client::rules::ClientRules;
+use crate::end_core::EndCore;
 use crate::numbers::Numbers;
-use crate::sizes::{FIRST_ID, LEAST_SIZE, MOST_OPEN};
-use crate::step_fault::StepFault;
+use crate::sizes::{FIRST_ID, LEAST_SIZE};
 use std::alloc::{AllocError, Global};
-use std::mem;
 use ua_builtin::{DateTime, UaString};
-use ua_frame::{Frame, FrameReader, Gate, HEADER_LEN, Kind, Limits};
+use ua_frame::{FrameReader, Gate, Kind, Limits};
 
 /// The client's end of a connection and its secure channel (OPC 10000-6, 6.7 and 7.1), with no IO:
 /// octets that came go in, octets to be sent come out.
@@ -44,13 +37,8 @@ use ua_frame::{Frame, FrameReader, Gate, HEADER_LEN, Kind, Limits};
 /// answers by `Send`; after `Open` calls may be asked.
 #[derive(Drop)]
 pub struct ClientChannel {
-    alloc: Global,
-    limits: Limits,
     address: Address,
-    reader: FrameReader,
-    phase: Phase,
-    numbers: Numbers,
-    bound: usize,
+    end: EndCore<ClientRules, Phase>,
 }
 
 impl ClientChannel {
@@ -66,13 +54,15 @@ impl ClientChannel {
         let mut numbers = Numbers::new();
         numbers.step(); // The OPN takes the first one.
         ClientChannel {
-            alloc,
-            limits,
             address: Address { url },
-            reader: FrameReader::new(alloc, gate),
-            phase: Phase::Waiting,
-            numbers,
-            bound: LEAST_SIZE as usize,
+            end: EndCore {
+                alloc,
+                rules: ClientRules { limits },
+                reader: FrameReader::new(alloc, gate),
+                numbers,
+                bound: LEAST_SIZE as usize,
+                phase: Phase::Waiting,
+            },
         }
     }
 
@@ -86,11 +76,7 @@ impl ClientChannel {
             → result ≤ client_bound self.now }
         ensures done { IsClientDone self.now → result ≡ 0 }
     {
-        let _bound = self.bound();
-        match &self.phase {
-            Phase::Open(talking) => self.reader.held().saturating_add(talking.assembler.held()),
-            _ => self.reader.held(),
-        }
+        self.end.held()
     }
 
     /// The most octets that may be held: 8192 before the ACK; then the largest frame that the server
@@ -101,7 +87,7 @@ impl ClientChannel {
             → result ≡ client_bound_behind (client_limits self.now) (received frames).ack }
         ensures is { result ≡ client_bound self.now }
     {
-        self.bound
+        self.end.bound
     }
 
     // ---- what is sent
@@ -120,7 +106,7 @@ impl ClientChannel {
             → result ≡ next_id (asked_in asks) }
         ensures done { IsClientDone self.now → result ≡ 2 }
     {
-        match &self.phase {
+        match &self.end.phase {
             Phase::Open(talking) => talking.next,
             _ => FIRST_ID,
         }
@@ -130,7 +116,7 @@ impl ClientChannel {
     pub fn hello(&self) -> Result<Vec<u8>, AllocError>
         ensures { IfOk result (λ out. out.items ≡ frame_octets (hello_frame (hello_to (client_limits self.now) (url_of self.now)))) }
     {
-        hello_octets(self.alloc, &self.limits, &self.address.url)
+        hello_octets(self.end.alloc, &self.end.rules.limits, &self.address.url)
     }
 
     /// Why a call of a body of so many octets would be refused after so many more calls, each of
@@ -140,7 +126,7 @@ impl ClientChannel {
         ensures stands { (asks : List Placed) (octets : List ℕ) (frames : List Frame) (rest : List ℕ) → ClientStands self.now asks octets frames rest
             → JudgesBy (λ body. first_reason (call_reasons (received frames) (asked_in asks) before body)) len result }
     {
-        match &self.phase {
+        match &self.end.phase {
             Phase::Open(talking) => talking.judge(before, len),
             _ => Err(AskFault::NotOpen),
         }
@@ -167,8 +153,8 @@ impl ClientChannel {
         ensures same { SameClient self.old self.new }
         ensures bound { client_bound self.new ≡ client_bound self.old }
     {
-        match &mut self.phase {
-            Phase::Open(talking) => talking.ask(self.alloc, body, &mut self.numbers),
+        match &mut self.end.phase {
+            Phase::Open(talking) => talking.ask(self.end.alloc, body, &mut self.end.numbers),
             _ => Err(AskFault::NotOpen),
         }
     }
@@ -188,8 +174,8 @@ impl ClientChannel {
         ensures same { SameClient self.old self.new }
         ensures bound { client_bound self.new ≡ client_bound self.old }
     {
-        match &mut self.phase {
-            Phase::Open(talking) => talking.renew(self.alloc, moment, &mut self.numbers),
+        match &mut self.end.phase {
+            Phase::Open(talking) => talking.renew(self.end.alloc, moment, &mut self.end.numbers),
             _ => Err(AskFault::NotOpen),
         }
     }
@@ -209,7 +195,7 @@ impl ClientChannel {
         ensures bound { client_bound self.new ≡ client_bound self.old }
     {
         let out = self.closing(moment)?;
-        self.end();
+        self.end.fail();
         Ok(out)
     }
 
@@ -221,14 +207,14 @@ impl ClientChannel {
         ensures closes { (asks : List Placed) (octets : List ℕ) (frames : List Frame) (rest : List ℕ) → ClientStands self.now asks octets frames rest
             → IfOk result (λ out. IsClosed (received frames) (asked_in asks) (client_next self.now) moment out.items) }
     {
-        match &self.phase {
+        match &self.end.phase {
             Phase::Open(talking) => {
                 let (channel, token, id) = (talking.channel, talking.newest, talking.next);
                 let out = close_octets(
-                    self.alloc,
+                    self.end.alloc,
                     channel,
                     token,
-                    self.numbers.number(),
+                    self.end.numbers.number(),
                     id,
                     moment,
                 )?;
@@ -240,150 +226,6 @@ impl ClientChannel {
 
     // ---- what comes
 
-    /// Ends the channel, which then holds nothing.
-    fn end(&mut self)
-        ensures done { IsClientDone self.new }
-        ensures kept { self.new ≡ record self.old { phase = phase_of self.new; reader = self.new.reader } }
-    {
-        self.phase = Phase::Done;
-        self.reader.close();
-    }
-
-    /// Takes the frame behind a HEL.
-    fn on_greeting(&mut self, frame: Frame) -> Result<Option<Event>, StepFault>
-        ensures judges { LetsIn ack_gate frame → Judged (client_reasons (client_limits self.old) nothing_received [] (content frame))
-            (TookFrame (client_limits self.old) nothing_received [] (content frame) self.new) result }
-        ensures kept { self.new ≡ record self.old { phase = phase_of self.new; bound = client_bound self.new } }
-        ensures failed { OnErr result (self.new ≡ self.old) }
-    {
-        match greet(self.alloc, &self.limits, frame) {
-            Ok(agreed) => {
-                let size = agreed.ack.send_buffer_size as usize;
-                self.bound = size + MOST_OPEN * self.limits.max_message_size as usize;
-                self.phase = Phase::Agreed(agreed);
-                Ok(Some(Event::Agreed(agreed.ack)))
-            }
-            Err(fault) => Err(fault),
-        }
-    }
-
-    /// Takes the frame behind an ACK.
-    fn on_opening(&mut self, agreed: Agreed, frame: Frame) -> Result<Option<Event>, StepFault>
-        ensures judges { LetsIn (answer_gate agreed.ack.send_buffer_size) frame → Judged (client_reasons (client_limits self.old) (greeted agreed) [] (content frame))
-            (StaysOpen (client_limits self.old) (greeted agreed) [] (content frame) self.new) result }
-        ensures kept { self.new ≡ record self.old { phase = phase_of self.new } }
-        ensures failed { OnErr result (self.new ≡ self.old) }
-    {
-        match Talking::on_first(self.alloc, &self.limits, agreed, frame) {
-            Ok(talking) => {
-                let event = Event::Opened(talking.channel, talking.newest);
-                self.phase = Phase::Open(talking);
-                Ok(Some(event))
-            }
-            Err(fault) => Err(fault),
-        }
-    }
-
-    /// Takes a frame of an open channel.
-    fn on_reply(&mut self, mut talking: Talking, frame: Frame) -> Result<Option<Event>, StepFault>
-        requires { HasShape frame }
-        ensures judges { (before : Received) (asked : List Asking) → Talks (client_limits self.old) talking before asked
-            → LetsIn (reply_gate talking.agreed.ack.send_buffer_size) frame
-            → Judged (client_reasons (client_limits self.old) before asked (content frame)) (StaysOpen (client_limits self.old) before asked (content frame) self.new) result }
-        ensures kept { self.new ≡ record self.old { phase = phase_of self.new } }
-        ensures failed { OnErr result (self.new ≡ self.old) }
-    {
-        match talking.on_frame(self.alloc, frame) {
-            Ok(event) => {
-                self.phase = Phase::Open(talking);
-                Ok(event)
-            }
-            Err(fault) => Err(fault),
-        }
-    }
-
-    /// Goes on by a frame.
-    fn on_frame(&mut self, frame: Frame) -> Result<Option<Event>, StepFault>
-        requires { HasShape frame }
-        ensures judges { (before : Received) (asked : List Asking) → InPhase (client_limits self.old) (phase_of self.old) before asked
-            → client_bound self.old ≡ client_bound_behind (client_limits self.old) before.ack → LetsIn (client_gate before) frame
-            → Judged (client_reasons (client_limits self.old) before asked (content frame)) (TookFrame (client_limits self.old) before asked (content frame) self.new) result }
-        ensures kept { self.new ≡ record self.old { phase = phase_of self.new; bound = client_bound self.new } }
-        ensures failed { OnErr result (client_bound self.new ≡ client_bound self.old) }
-    {
-        match mem::replace(&mut self.phase, Phase::Done) {
-            Phase::Waiting => self.on_greeting(frame),
-            Phase::Agreed(agreed) => self.on_opening(agreed, frame),
-            Phase::Open(talking) => self.on_reply(talking, frame),
-            Phase::Done => Err(StepFault::Closed),
-        }
-    }
-
-    /// What a frame comes to, and the gate for the next one.
-    fn on_whole(&mut self, frame: Frame) -> Result<Option<Event>, StepFault>
-        requires shape { HasShape frame }
-        requires empty { self.old.reader.held ≡ [] }
-        ensures judges { (before : Received) (asked : List Asking) → InPhase (client_limits self.old) (phase_of self.old) before asked
-            → client_bound self.old ≡ client_bound_behind (client_limits self.old) before.ack → self.old.reader ≡ open_reader (client_gate before) [] → LetsIn (client_gate before) frame
-            → JudgesWhole (client_limits self.old) before asked (content frame) self.new result }
-        ensures kept { self.new ≡ record self.old { phase = phase_of self.new; reader = self.new.reader; bound = client_bound self.new } }
-    {
-        match self.on_frame(frame) {
-            Ok(event) => {
-                self.reader.set_gate(self.phase.gate());
-                Ok(event)
-            }
-            Err(fault) => {
-                self.end();
-                Err(fault)
-            }
-        }
-    }
-
-    /// One call of the reader, and what its frame comes to, with the octets that were taken.
-    fn step(&mut self, piece: &[u8]) -> (usize, Result<Option<Event>, StepFault>)
-        ensures steps { (asks : List Placed) (octets : List ℕ) (told : List ClientTold) → ClientGoes self.old asks octets told → ClientSteps piece.now result.0 result.1 self.new asks octets told }
-        ensures parts { (asks : List Placed) (octets : List ℕ) (told : List ClientTold) → ClientGoes self.old asks octets told
-            → IfOk result.1 (λ e. ComesInParts (event_parts e) self.new asks (octets ++ take result.0 piece.now)) }
-        ensures moves { Moves piece.now result.0 }
-        ensures same { SameClient self.old self.new }
-        ensures next { client_next self.new ≡ client_next self.old }
-    {
-        let held = self.reader.held();
-        match self.reader.take(piece) {
-            Ok((n, None)) => (n, Ok(None)),
-            Ok((n, Some(frame))) => (n, self.on_whole(frame)),
-            Err(fault) => {
-                self.end();
-                let n = HEADER_LEN.saturating_sub(held).max(1).min(piece.len());
-                (n, Err(StepFault::of_frame(fault)))
-            }
-        }
-    }
-
-    /// Takes octets up to the end of the first frame that tells something, else the whole piece,
-    /// and says how many it took.
-    fn next_event(&mut self, piece: &[u8]) -> (usize, Result<Option<Event>, StepFault>)
-        ensures nexts { (asks : List Placed) (octets : List ℕ) (told : List ClientTold) → ClientGoes self.old asks octets told → ClientNexts piece.now result.0 result.1 self.new asks octets told }
-        ensures parts { (asks : List Placed) (octets : List ℕ) (told : List ClientTold) → ClientGoes self.old asks octets told
-            → IfOk result.1 (λ e. ComesInParts (event_parts e) self.new asks (octets ++ take result.0 piece.now)) }
-        ensures moves { Moves piece.now result.0 }
-        ensures same { SameClient self.old self.new }
-        ensures next { client_next self.new ≡ client_next self.old }
-    {
-        let mut taken = 0;
-        while taken < piece.len() {
-            let (n, answer) = self.step(&piece[taken..]);
-            taken += n;
-            match answer {
-                Ok(None) => {}
-                Ok(Some(event)) => return (taken, Ok(Some(event))),
-                Err(fault) => return (taken, Err(fault)),
-            }
-        }
-        (taken, Ok(None))
-    }
-
     /// What is answered at an event. The moment is that of the OPN.
     fn answer(&mut self, event: Event, moment: DateTime) -> Result<ClientEvent, ClientTakeFault>
         ensures answers { (asks : List Placed) (octets : List ℕ) (told : List ClientTold) → ComesTo event self.old asks octets told
@@ -394,10 +236,10 @@ impl ClientChannel {
         ensures next { client_next self.new ≡ client_next self.old }
     {
         match event {
-            Event::Agreed(_) => match open_octets(self.alloc, moment) {
+            Event::Agreed(_) => match open_octets(self.end.alloc, moment) {
                 Ok(out) => Ok(ClientEvent::Send(out)),
                 Err(_) => {
-                    self.end();
+                    self.end.fail();
                     Err(ClientTakeFault::OutOfMemory)
                 }
             },
@@ -419,13 +261,14 @@ impl ClientChannel {
             → ClientAnswers moment piece.now (counted result.0 result.1) self.new asks octets told }
         ensures parts { (asks : List Placed) (octets : List ℕ) (told : List ClientTold) → ClientGoes self.old asks octets told
             → IfOk result.1 (λ e. ComesInParts (parts_handed e) self.new asks (octets ++ take result.0 piece.now)) }
-        ensures moves { Moves piece.now result.0 }
+        ensures progress { ClientProgress piece.now (counted result.0 result.1) }
+        ensures within { result.0 ≤ length piece.now }
         ensures starves { (asks : List Placed) (octets : List ℕ) (told : List ClientTold) → ClientGoes self.old asks octets told → IsErrOf result.1 OutOfMemory
             → ClientStarvedAt self.new asks (octets ++ take result.0 piece.now) told }
         ensures same { SameClient self.old self.new }
         ensures next { client_next self.new ≡ client_next self.old }
     {
-        let (n, outcome) = self.next_event(piece);
+        let (n, outcome) = self.end.next_event(piece);
         match outcome {
             Ok(None) => (n, Ok(ClientEvent::NeedMore)),
             Ok(Some(event)) => (n, self.answer(event, moment)),
@@ -456,15 +299,15 @@ impl ClientChannel {
         ensures same { SameClient self.old self.new }
         ensures next { client_next self.new ≡ client_next self.old }
     {
-        if let Phase::Done = self.phase {
+        if let Phase::Done = self.end.phase {
             return Err(ClientTakeFault::Closed);
         }
-        let bound = self.bound;
+        let bound = self.end.bound;
         let (n, answer) = self.go_on(piece, moment);
         match answer {
             Ok(event) => Ok((n, event)),
             Err(fault) => {
-                self.bound = bound;
+                self.end.bound = bound;
                 Err(fault)
             }
         }

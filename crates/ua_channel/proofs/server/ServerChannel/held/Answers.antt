@@ -1,16 +1,12 @@
-use Rattle.std.proofs.Common.{arith}
-use Rattle.ua_channel.specs.Received.{received}
-use Rattle.ua_channel.proofs.Holding.{holds_within, rest_is, bounded}
+use Rattle.std.proofs.Common.{◌≤◌, ℕ, subst}
+use Rattle.ua_channel.proofs.Servers.{end_done, end_stands}
 use Rattle.ua_channel.proofs.server.ServerChannel.held.Goals as goal
 
 pub returns-clause-held : goal.returns-clause-held
-returns-clause-held c = λ octets frames rest s.
-    let within = holds_within c.args.self.now octets frames rest c.held.result c.messages_held.result s c.held.ensures.count c.held.ensures.bound (c.messages_held.ensures.bound (received frames) s.holds) in
-    let sum = rest_is c.args.self.now octets frames rest c.held.result c.messages_held.result s c.held.ensures.count (c.messages_held.ensures.held (received frames) s.holds) in
-    let small = bounded c.args.self.now octets frames rest s (omega arith) in
-    omega (arith, within, sum, small, c.saturating_add.ensures)
+returns-clause-held c = λ octets frames rest s. c.held.ensures.held tt octets frames rest (end_stands c.args.self.now octets frames rest s)
 
 pub returns-clause-bound : goal.returns-clause-bound
-returns-clause-bound c = λ octets frames rest s.
-    let within = holds_within c.args.self.now octets frames rest c.held.result c.messages_held.result s c.held.ensures.count c.held.ensures.bound (c.messages_held.ensures.bound (received frames) s.holds) in
-    omega (arith, within, c.saturating_add.ensures)
+returns-clause-bound c = λ octets frames rest s. subst (λ (n : ℕ). c.held.result ≤ n) s.holds.bound_is (c.held.ensures.bound tt octets frames rest (end_stands c.args.self.now octets frames rest s))
+
+pub returns-clause-done : goal.returns-clause-done
+returns-clause-done c = λ d. c.held.ensures.done (end_done c.args.self.now d)

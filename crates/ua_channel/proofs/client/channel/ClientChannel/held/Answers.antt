@@ -1,7 +1,12 @@
-use Rattle.std.proofs.Common.{ℕ, ◌<◌, subst}
-use Rattle.ua_channel.proofs.ClientStands.{held_open}
+use Rattle.std.proofs.Common.{[]}
+use Rattle.ua_channel.proofs.ClientSteps.{end_done, end_stands}
 use Rattle.ua_channel.proofs.client.channel.ClientChannel.held.Goals as goal
 
-pub returns-in-Open-clause-held : goal.returns-in-Open-clause-held
-returns-in-Open-clause-held c = λ asks octets frames rest h.
-    (held_open c.args.self.now c.in-Open.talking asks octets frames rest c.held.result c.held-in-Open.result c.saturating_add.result c.in-Open.is h c.held.ensures.count c.held.ensures.bound c.held-in-Open.ensures.held c.held-in-Open.ensures.bound (subst (λ (n : ℕ). n < 18446744073709551616) c.bound-bound.ensures.is c.bound-bound.type_inv) c.saturating_add.ensures).0
+pub returns-clause-held : goal.returns-clause-held
+returns-clause-held c = λ asks octets frames rest s. c.held.ensures.held asks octets frames rest (end_stands c.args.self.now asks octets frames rest s)
+
+pub returns-clause-bound : goal.returns-clause-bound
+returns-clause-bound c = λ asks octets frames rest s. c.held.ensures.bound asks octets frames rest (end_stands c.args.self.now asks octets frames rest s)
+
+pub returns-clause-done : goal.returns-clause-done
+returns-clause-done c = λ d. c.held.ensures.done (end_done c.args.self.now [] d)

@@ -12,7 +12,7 @@ use Rattle.ua_channel.proofs.client.channel.ClientChannel.renew.Goals as goal
 pub returns-in-Open-clause-stands : goal.returns-in-Open-clause-stands
 returns-in-Open-clause-stands c = λ asks octets frames rest h.
     IfOk-weaker c.renew.result _ _ (λ r talks. stands_asked c.args.self.now _ c.in-Open.talking c.renew.new.self asks octets frames rest c.in-Open.is h (Renewal r.0) refl talks)
-    (c.renew.ensures.talks c.args.self.now.limits (received frames) (asked_in asks) (talks_at c.args.self.now c.args.self.now c.in-Open.talking c.renew.new.self asks octets frames rest c.in-Open.is h))
+    (c.renew.ensures.talks c.args.self.now.end.rules.limits (received frames) (asked_in asks) (talks_at c.args.self.now c.args.self.now c.in-Open.talking c.renew.new.self asks octets frames rest c.in-Open.is h))
 
 pub returns-in-Open-clause-refuses : goal.returns-in-Open-clause-refuses
 returns-in-Open-clause-refuses c = λ asks octets frames rest h.

@@ -1,0 +1,244 @@
+-- What either end of a connection makes of one call of its reader, and of a piece.
+use Rattle.std.proofs.Common.{◌≡◌, ℕ, ◌+◌, ◌-◌, ◌<◌, ◌≤◌, max, min, inl, Bool, true, false, List, [], ◌∷◌, ◌++◌, Option, Some, None, Result, Ok, Err, length, take, drop, refl, sym, ◌∙◌, ap, subst, arith, append-nil, length-append}
+use Rattle.std.specs.Prelude.{MatchOption, OnErr}
+use Rattle.std.proofs.lemmas.List.{length-take-le}
+use Rattle.ua_frame.specs.declared.fault.FrameFault.{FrameFault}
+use Rattle.ua_frame.specs.declared.frame.Frame.{Frame}
+use Rattle.ua_frame.specs.declared.gate.Gate.{Gate}
+use Rattle.ua_frame.specs.Frames.{frame_octets, frames_octets}
+use Rattle.ua_frame.specs.Reader.{Reader, open_reader, TakesAll, TakesFrame, Takes}
+use Rattle.ua_frame.specs.Run.{Run, End, EndsIn, refusal, events, Going, Over}
+use Rattle.ua_frame.proofs.Streams.{frames_octets-push, events-push}
+use Rattle.ua_chunk.specs.Open.{open_octets}
+use Rattle.ua_channel.specs.Asks.{end_of}
+use Rattle.ua_channel.specs.Received.{received}
+use Rattle.ua_channel.specs.declared.end_core.EndCore.{EndCore}
+use Rattle.ua_channel.specs.declared.step_fault.StepFault.{StepFault}
+use Rattle.ua_channel.specs.declared.step_fault.StepFault.TheVariants.{Refused, Peer, Closed, OutOfMemory}
+use Rattle.ua_channel.specs.inside.Ends.{ComesBy, EndDone, EndGoes, EndNexts, EndStands, EndStarves, EndSteps, EndStops, EndTook, FailsBy, JudgesWhole, MovesBy, SameEnd, TakesWhole, rules_by}
+use Rattle.ua_channel.specs.inside.Side.{Side, ComesNext, IsBehind, RefusedBy, TakenBy, closes_by}
+use Rattle.ua_channel.specs.inside.StepFaults.{least_at, of_frame_fault}
+use Rattle.ua_channel.specs.ServerAnswers.{Progress}
+use Rattle.ua_channel.proofs.Pieces.{moves_there, nexts_there, progress_there, took_more}
+use Rattle.ua_channel.proofs.Stepping.{Breaks, Halts, fault_comes, frame_at, frame_breaks, frame_halts, frame_run, part}
+
+-- an end with another reader, phase and bound
+abbrev pub end_with : {R P : Type 0} → EndCore R P → Reader → P → ℕ → EndCore R P
+end_with x r p b = record x { reader = r; phase = p; bound = b }
+
+pub same_end : {R P : Type 0} (a b c : EndCore R P) → SameEnd a b → SameEnd b c → SameEnd a c
+same_end {R = R} {P = P} a b c ab bc = bc ∙ ap (λ (x : EndCore R P). end_with x c.reader c.phase c.bound) ab
+
+module _ {R P E : Type 0} (S : Side R P E) where
+  -- where it ended at what is refused
+  stopped_by : (x : EndCore R P) (k : S.Key) (octets rest : List ℕ) (frames : List Frame) (told : List S.Told) (why : S.Why) → EndDone S x → Halts (rules_by S x k) octets frames rest why → events (rules_by S x k) frames ≡ told → x.bound ≡ S.bound x.rules frames → EndStops S x k octets told why
+  stopped_by x k octets rest frames told why done h told_is bound = record { done = done; frames = frames; rest = rest; run = h.run; stops = h.stops; told_is = told_is; bound_is = bound }
+
+  -- where it ended for want of memory
+  pub starved_by : (x : EndCore R P) (k : S.Key) (octets rest : List ℕ) (frames : List Frame) (told : List S.Told) → EndDone S x → Breaks (rules_by S x k) octets frames rest → events (rules_by S x k) frames ≡ told → EndStarves S x k octets told
+  starved_by x k octets rest frames told done b told_is = record { done = done; frames = frames; rest = rest; whole = b.whole; good = b.good; told_is = told_is; header = b.header; sound = b.sound; within = b.within }
+
+  -- ---- a fault of the reader
+
+  pub step_fault : (x y : EndCore R P) (r : Reader) (piece : List ℕ) (n some : ℕ) (fault : FrameFault) (e : StepFault) → some ≤ 1 → n ≡ min (max (8 - length x.reader.held) some) (length piece) → Takes x.reader piece (Err fault) r → e ≡ of_frame_fault fault
+      → EndDone S y → y ≡ end_with x y.reader y.phase x.bound → (k : S.Key) (octets : List ℕ) (told : List S.Told) → EndGoes S x k octets told → EndSteps S piece n (Err e) y k octets told
+  step_fault x y r piece n some fault e least n_is t is done kept k octets told g =
+      let now : EndDone S (end_with x y.reader y.phase x.bound) = record { phase = done.phase; empty = done.empty } in
+      subst (λ (s : StepFault). EndSteps S piece n (Err s) y k octets told) (sym is)
+      (subst (λ (z : EndCore R P). EndSteps S piece n (Err (of_frame_fault fault)) z k octets told) (sym kept)
+      (fault_comes S.Told S.Why (rules_by S x k) octets g.rest piece g.frames x.reader r g.stands.run g.stands.reader_is n (omega (arith, n_is)) (λ few. omega (arith, n_is, few, least)) (λ past. omega (arith, n_is, past, least)) (λ (s : StepFault). EndSteps S piece n (Err s) (end_with x y.reader y.phase x.bound) k octets told)
+      (λ code h. stopped_by (end_with x y.reader y.phase x.bound) k (octets ++ take n piece) (g.rest ++ take n piece) g.frames told ((rules_by S x k).of_header code) now h g.told_is g.stands.bound_is)
+      (λ b. starved_by (end_with x y.reader y.phase x.bound) k (octets ++ take n piece) (g.rest ++ take n piece) g.frames told now b g.told_is) fault t))
+
+  -- ---- a frame
+
+  module _ (grows : (k : S.Key) (n m : ℕ) → n ≤ m → S.placed k n → S.placed k m) where
+    placed_more : (k : S.Key) (octets more : List ℕ) → S.placed k (length octets) → S.placed k (length (octets ++ more))
+    placed_more k octets more placed = grows k (length octets) (length (octets ++ more)) (omega (arith, length-append octets more)) placed
+
+    -- a piece without the end of one
+    pub part_goes : (x : EndCore R P) (r : Reader) (k : S.Key) (octets piece : List ℕ) (n : ℕ) (told : List S.Told) → EndGoes S x k octets told → TakesAll x.reader piece n r → EndGoes S (record x { reader = r }) k (octets ++ take n piece) told
+    part_goes x r k octets piece n told g t =
+        let p = part S.Told S.Why (rules_by S x k) octets g.rest piece g.frames x.reader r g.stands.run g.stands.reader_is n t in
+        record {
+          frames = g.frames;
+          rest = g.rest ++ take n piece;
+          stands = record { run = p.0; placed = placed_more k octets (take n piece) g.stands.placed; reader_is = p.1; holds = g.stands.holds; bound_is = g.stands.bound_is };
+          told_is = g.told_is;
+        }
+
+    module _ (x : EndCore R P) (k : S.Key) (octets piece : List ℕ) (n : ℕ) (told : List S.Told) (f : Frame) (r : Reader) (g : EndGoes S x k octets told) (t : TakesFrame x.reader piece n f r) where
+      at : TakesFrame (open_reader ((rules_by S x k).gate g.frames) g.rest) piece n f r
+      at = frame_at S.Told S.Why (rules_by S x k) octets g.rest piece g.frames x.reader r g.stands.run g.stands.reader_is n f t
+
+      later : length octets < end_of g.frames f
+      later =
+          omega (
+            arith,
+            at.some,
+            length-take-le n piece at.within,
+            ap length g.stands.run.whole,
+            ap length (frames_octets-push g.frames f),
+            length-append (frames_octets g.frames) (frame_octets f),
+            length-append (frames_octets g.frames) g.rest,
+            length-append g.rest (take n piece),
+            ap length at.octets,
+          )
+
+      comes_next : ComesNext S x.rules k x.phase x.bound g.frames f
+      comes_next = record { came = length octets; placed = g.stands.placed; later = later; holds = g.stands.holds; bound_is = g.stands.bound_is; let_in = at.let_in }
+
+      module _ (z : Reader) (p : P) (b : ℕ) where
+        run_to : (end : End S.Why) → refusal (rules_by S x k) g.frames f ≡ None → EndsIn (rules_by S x k) (g.frames ++ f ∷ []) [] end → Run (rules_by S x k) (octets ++ take n piece) (g.frames ++ f ∷ []) [] end
+        run_to = frame_run S.Told S.Why (rules_by S x k) octets g.rest piece g.frames x.reader r g.stands.run g.stands.reader_is n f t
+
+        stands_more : (e : Option E) → TakesWhole S (end_with x z p b) k g.frames f e → closes_by S e ≡ false → EndStands S (end_with x z p b) k (octets ++ take n piece) (g.frames ++ f ∷ []) []
+        stands_more e h goes = record {
+          run = run_to Going h.taken.accepted (h.taken.last ∙ goes, inl (omega arith));
+          placed = placed_more k octets (take n piece) g.stands.placed;
+          reader_is = h.reader_is goes;
+          holds = subst (λ (c : Bool). IsBehind S c x.rules k p (g.frames ++ f ∷ [])) goes h.taken.behind;
+          bound_is = h.taken.bound_is;
+        }
+
+        silent : TakesWhole S (end_with x z p b) k g.frames f None → EndGoes S (end_with x z p b) k (octets ++ take n piece) told
+        silent h = record {
+          frames = g.frames ++ f ∷ [];
+          rest = [];
+          stands = stands_more None h refl;
+          told_is = events-push (rules_by S x k) g.frames f ∙ (ap (λ (u : List S.Told). events (rules_by S x k) g.frames ++ u) h.taken.tells ∙ (append-nil (events (rules_by S x k) g.frames) ∙ g.told_is));
+        }
+
+        telling : (e : E) → TakesWhole S (end_with x z p b) k g.frames f (Some e) → (c : Bool) → S.closes e ≡ c → ComesBy S c (end_with x z p b) k (octets ++ take n piece) told e
+        telling e h false goes = record { frames = g.frames; frame = f; stands = stands_more (Some e) h goes; told_is = g.told_is; tells = h.taken.tells; parts = h.taken.parts }
+        telling e h true last = record {
+          done = record { phase = subst (λ (c : Bool). IsBehind S c x.rules k p (g.frames ++ f ∷ [])) last h.taken.behind; empty = h.empty };
+          frames = g.frames ++ f ∷ [];
+          run = run_to Over h.taken.accepted (h.taken.last ∙ last);
+          told_is = events-push (rules_by S x k) g.frames f ∙ (ap (λ (u : List S.Told). events (rules_by S x k) g.frames ++ u) h.taken.tells ∙ ap (λ (u : List S.Told). u ++ S.tells e ∷ []) g.told_is);
+          bound_is = h.taken.bound_is;
+        }
+
+        refused : (why : S.Why) → refusal (rules_by S x k) g.frames f ≡ Some why → EndDone S (end_with x z p b) → b ≡ S.bound x.rules g.frames → EndStops S (end_with x z p b) k (octets ++ take n piece) told why
+        refused why is done bound =
+            stopped_by (end_with x z p b) k (octets ++ take n piece) (g.rest ++ take n piece) g.frames told why done
+            (frame_halts S.Told S.Why (rules_by S x k) octets g.rest piece g.frames x.reader r g.stands.run g.stands.reader_is n f t why is) g.told_is bound
+
+        by_peer : (o : Option S.Why) → MatchOption o ⊥ (λ (why : S.Why). refusal (rules_by S x k) g.frames f ≡ Some why) → EndDone S (end_with x z p b) → b ≡ S.bound x.rules g.frames
+            → MatchOption o ⊥ (λ (why : S.Why). EndStops S (end_with x z p b) k (octets ++ take n piece) told why)
+        by_peer None is done bound = is
+        by_peer (Some why) is done bound = refused why is done bound
+
+        fails : (fault : StepFault) → RefusedBy S x.rules k g.frames f fault → EndDone S (end_with x z p b) → b ≡ S.bound x.rules g.frames → FailsBy S (end_with x z p b) k (octets ++ take n piece) told fault
+        fails (Refused code) is done bound = refused ((rules_by S x k).of_header code.code) is done bound
+        fails (Peer code) is done bound = by_peer (S.peer code.code) is done bound
+        fails OutOfMemory is done bound =
+            starved_by (end_with x z p b) k (octets ++ take n piece) (g.rest ++ take n piece) g.frames told done
+            (frame_breaks S.Told S.Why (rules_by S x k) octets g.rest piece g.frames x.reader r g.stands.run g.stands.reader_is n f t) g.told_is
+        fails Closed is done bound = is
+
+        frame_steps : (answer : Result (Option E) StepFault) → JudgesWhole S (end_with x z p b) k g.frames f answer → EndSteps S piece n answer (end_with x z p b) k octets told
+        frame_steps (Ok None) j = silent j
+        frame_steps (Ok (Some e)) j = telling e j (S.closes e) refl
+        frame_steps (Err fault) j = fails fault j.0 j.1 j.2
+
+    -- one call of the reader that has one
+    pub step_frame : (x y : EndCore R P) (r : Reader) (piece : List ℕ) (n : ℕ) (f : Frame) (answer : Result (Option E) StepFault) → TakesFrame x.reader piece n f r → y ≡ end_with x y.reader y.phase y.bound
+        → ((k : S.Key) (frames : List Frame) → ComesNext S x.rules k x.phase x.bound frames f → r ≡ open_reader ((rules_by S x k).gate frames) [] → JudgesWhole S y k frames f answer)
+        → (k : S.Key) (octets : List ℕ) (told : List S.Told) → EndGoes S x k octets told → EndSteps S piece n answer y k octets told
+    step_frame x y r piece n f answer t kept judges k octets told g =
+        subst (λ (c : EndCore R P). EndSteps S piece n answer c k octets told) (sym kept)
+        (frame_steps x k octets piece n told f r g t y.reader y.phase y.bound answer
+        (subst (λ (c : EndCore R P). JudgesWhole S c k g.frames f answer) kept
+        (judges k g.frames (comes_next x k octets piece n told f r g t) (at x k octets piece n told f r g t).new_is)))
+
+  -- a whole frame that is taken
+  pub whole_so : (x new : EndCore R P) (k : S.Key) (frames : List Frame) (f : Frame) (e : Option E) (gate : Gate) → TakenBy S x.rules k frames f x.phase x.bound e → new ≡ record x { reader = new.reader } → x.reader ≡ open_reader ((rules_by S x k).gate frames) [] → new.reader ≡ record x.reader { gate = gate }
+      → ((j : S.Key) (fs : List Frame) → S.holds x.rules j x.phase fs → gate ≡ (S.rules x.rules j).gate fs) → TakesWhole S new k frames f e
+  whole_so x new k frames f e gate taken new_is reader reader_is gate_is =
+      let now = reader_is ∙ ap (λ (r : Reader). record r { gate = gate }) reader in
+      subst (λ (y : EndCore R P). TakesWhole S y k frames f e) (sym new_is) (record {
+        taken = taken;
+        empty = ap (λ (r : Reader). r.held) now;
+        reader_is = λ goes. now ∙ ap (λ (o : Gate). open_reader o []) (gate_is k (frames ++ f ∷ []) (subst (λ (c : Bool). IsBehind S c x.rules k x.phase (frames ++ f ∷ [])) goes taken.behind));
+      })
+
+  -- a whole frame that is refused
+  pub refused_so : (x new : EndCore R P) (k : S.Key) (frames : List Frame) (f : Frame) (fault : StepFault) → new ≡ end_with x new.reader new.phase x.bound → RefusedBy S x.rules k frames f fault → EndDone S new → x.bound ≡ S.bound x.rules frames → JudgesWhole S new k frames f (Err fault)
+  refused_so x new k frames f fault new_is why done bound = (
+    subst (λ (y : EndCore R P). RefusedBy S y.rules k frames f fault) (sym new_is) why,
+    done,
+    subst (λ (y : EndCore R P). y.bound ≡ S.bound y.rules frames) (sym new_is) bound,
+  )
+
+-- ---- a frame that leaves the bound as it was
+
+pub bound_kept : {A F : Type 0} (r : Result A F) (bound : ℕ) → OnErr r (bound ≡ bound)
+bound_kept (Ok a) bound = tt
+bound_kept (Err f) bound = refl
+
+-- ---- a fault of the reader
+
+pub least_small : (fault : StepFault) (some : ℕ) → some ≡ least_at fault → some ≤ 1
+least_small (Refused code) some is = omega (arith, is)
+least_small (Peer code) some is = omega (arith, is)
+least_small OutOfMemory some is = omega (arith, is)
+least_small Closed some is = omega (arith, is)
+
+pub moves_failed : (A : Type 0) (piece : List ℕ) (n past some : ℕ) (fault : StepFault) → some ≡ least_at fault → n ≡ min (max past some) (length piece) → MovesBy {A = A} piece n (Err fault)
+moves_failed A piece n past some (Refused code) is n_is = (omega (arith, n_is), λ more. omega (arith, n_is, is, more))
+moves_failed A piece n past some (Peer code) is n_is = (omega (arith, n_is), λ more. omega (arith, n_is, is, more))
+moves_failed A piece n past some OutOfMemory is n_is = omega (arith, n_is)
+moves_failed A piece n past some Closed is n_is = (omega (arith, n_is), λ more. omega (arith, n_is, is, more))
+
+-- ---- a piece
+
+moves_of : {A : Type 0} (piece : List ℕ) (n : ℕ) (a : Result A StepFault) → MovesBy piece n a → Progress piece n a
+moves_of piece n (Ok e) m = m
+moves_of piece n (Err (Refused code)) m = m.0
+moves_of piece n (Err (Peer code)) m = m.0
+moves_of piece n (Err OutOfMemory) m = m
+moves_of piece n (Err Closed) m = m.0
+
+module _ {A : Type 0} (piece : List ℕ) (taken n : ℕ) (room : taken < length piece) where
+  moved_there : (a : Result A StepFault) → MovesBy (take (length piece - taken) (drop taken piece)) n a → MovesBy piece (taken + n) a
+  moved_there (Ok e) m = moves_there piece taken n room m
+  moved_there (Err (Refused code)) m = moves_there piece taken n room m
+  moved_there (Err (Peer code)) m = moves_there piece taken n room m
+  moved_there (Err OutOfMemory) m = let starved : Result A StepFault = Err OutOfMemory in progress_there piece taken n room starved m
+  moved_there (Err Closed) m = moves_there piece taken n room m
+
+  pub moved_by : (a b : Result A StepFault) → a ≡ b → MovesBy (take (length piece - taken) (drop taken piece)) n a → MovesBy piece (taken + n) b
+  moved_by a b is m = subst (λ (c : Result A StepFault). MovesBy piece (taken + n) c) is (moved_there a m)
+
+module _ {R P E : Type 0} (S : Side R P E) (piece : List ℕ) (taken n : ℕ) (room : taken < length piece) (old now next : EndCore R P) (t : EndTook S old now piece taken) (a : Result (Option E) StepFault) where
+  -- a step that tells nothing
+  pub took_by : a ≡ Ok None → SameEnd now next → ((k : S.Key) (octets : List ℕ) (told : List S.Told) → EndGoes S now k octets told → EndSteps S (take (length piece - taken) (drop taken piece)) n a next k octets told)
+      → MovesBy (take (length piece - taken) (drop taken piece)) n a → EndTook S old next piece (taken + n)
+  took_by is same steps moves =
+      took_more piece taken n room (EndGoes S) SameEnd old now next t (same_end old now next t.same same)
+      (λ k octets told g. subst (λ (c : Result (Option E) StepFault). EndSteps S (take (length piece - taken) (drop taken piece)) n c next k octets told) is (steps k octets told g))
+      (subst (λ (c : Result (Option E) StepFault). MovesBy (take (length piece - taken) (drop taken piece)) n c) is moves).0
+
+  -- a step that tells something, or fails
+  pub next_by : (b : Result (Option E) StepFault) → a ≡ b → (b ≡ Ok None → ⊥)
+      → ((k : S.Key) (octets : List ℕ) (told : List S.Told) → EndGoes S now k octets told → EndSteps S (take (length piece - taken) (drop taken piece)) n a next k octets told) → MovesBy (take (length piece - taken) (drop taken piece)) n a
+      → (k : S.Key) (octets : List ℕ) (told : List S.Told) → EndGoes S old k octets told → EndNexts S piece (taken + n) b next k octets told
+  next_by b is some steps moves k octets told g =
+      nexts_there piece taken n room (λ z. EndGoes S next k z told) (λ e z. ComesBy S (S.closes e) next k z told e) (λ fault z. FailsBy S next k z told fault) octets b some
+      (subst (λ (c : Result (Option E) StepFault). Progress (take (length piece - taken) (drop taken piece)) n c) is (moves_of (take (length piece - taken) (drop taken piece)) n a moves))
+      (subst (λ (c : Result (Option E) StepFault). EndSteps S (take (length piece - taken) (drop taken piece)) n c next k (octets ++ take taken piece) told) is (steps k (octets ++ take taken piece) told (t.goes k octets told g)))
+
+-- ---- what is held
+
+-- what is held of a frame and of messages is within the bound, and is no more than can be counted
+pub held_so : {R P E : Type 0} (S : Side R P E) (x : EndCore R P) (k : S.Key) (octets : List ℕ) (frames : List Frame) (rest : List ℕ) (part messages sum : ℕ) → EndStands S x k octets frames rest → part ≡ length x.reader.held → part < max 8 x.reader.gate.largest → messages ≡ open_octets (received frames).messages
+    → (8 ≤ ((rules_by S x k).gate frames).largest) × (messages + ((rules_by S x k).gate frames).largest ≤ S.bound x.rules frames) → x.bound < 18446744073709551616 → sum ≡ min (part + messages) 18446744073709551615
+    → (sum ≡ length rest + open_octets (received frames).messages) × (sum ≤ x.bound)
+held_so S x k octets frames rest part messages sum s part_is few messages_is within fits sum_is =
+    let gate = ap (λ (r : Reader). r.gate.largest) s.reader_is in
+    let held = ap (λ (r : Reader). length r.held) s.reader_is in
+    let bound = s.bound_is in
+    let least = within.0 in
+    let most = within.1 in
+    (omega (arith, part_is, few, gate, held, messages_is, least, most, bound, fits, sum_is), omega (arith, few, gate, least, most, bound, sum_is))

@@ -1,0 +1,162 @@
+//! What both ends of a connection keep, and their one loop over frames.
+
+ghost use Rattle.std.specs.Prelude.{◌≡◌, ◌+◌, ◌≤◌, ◌++◌, ℕ, [], List, length, OnErr};
+ghost use Rattle.ua_chunk.specs.Open.{open_octets};
+ghost use Rattle.ua_frame.specs.declared.frame.Frame.{Frame};
+ghost use Rattle.ua_frame.specs.Reader.{open_reader};
+ghost use Rattle.ua_channel.specs.Received.{received};
+ghost use Rattle.ua_channel.specs.inside.Parts.{HasShape};
+ghost use Rattle.ua_channel.specs.inside.Side.{Side, ComesNext, JudgesBy};
+
+use crate::numbers::Numbers;
+use crate::step_fault::StepFault;
+use std::alloc::Global;
+use ua_frame::{Frame, FrameReader, Gate, HEADER_LEN};
+
+/// The rules of an end of a connection, where `P` is how far a connection has come.
+pub trait EndRules<P> {
+    /// What a frame comes to.
+    type Event;
+
+    /// Which frames come next, which are refused, what they tell, and where the end then is.
+    ghost side: { Side Self P Self.Event };
+
+    /// Shows that what was done by the time that so many octets had come was done once more had come.
+    fn lawful()
+        ensures { (k : side.Key) (n m : ℕ) → n ≤ m → side.placed k n → side.placed k m };
+
+    /// The gate for the next frame.
+    fn gate(&self, phase: &P) -> Gate
+        ensures { (k : side.Key) (frames : List Frame) → side.holds self.now k phase.now frames → result ≡ (side.rules self.now k).gate frames };
+
+    /// Takes a frame, and says how much may be held behind it.
+    fn on_frame(
+        &self,
+        alloc: Global,
+        phase: &mut P,
+        bound: &mut usize,
+        frame: Frame,
+    ) -> Result<Option<Self::Event>, StepFault>
+        requires shape { HasShape frame }
+        ensures judges { (k : side.Key) (frames : List Frame) → ComesNext side self.now k phase.old bound.old frames frame
+            → JudgesBy side self.now k frames frame phase.new bound.new result }
+        ensures failed { OnErr result (bound.new ≡ bound.old) };
+
+    /// How many octets are held of unfinished messages.
+    fn messages_held(&self, phase: &P) -> usize
+        ensures held { (k : side.Key) (frames : List Frame) → side.holds self.now k phase.now frames → result ≡ open_octets (received frames).messages }
+        ensures within { (k : side.Key) (frames : List Frame) → side.holds self.now k phase.now frames
+            → (8 ≤ ((side.rules self.now k).gate frames).largest) × (result + ((side.rules self.now k).gate frames).largest ≤ side.bound self.now frames) }
+        ensures done { side.done phase.now → result ≡ 0 };
+
+    /// How far a connection has come that ended.
+    fn ended() -> P
+        ensures { side.done result };
+}
+
+/// What an end of a connection keeps, whichever it is.
+#[derive(Drop)]
+pub struct EndCore<R, P> {
+    pub alloc: Global,
+    pub rules: R,
+    pub reader: FrameReader,
+    pub numbers: Numbers,
+    /// The most octets that may be held.
+    pub bound: usize,
+    pub phase: P,
+}
+
+impl<R: EndRules<P>, P: Drop> EndCore<R, P> {
+    ghost use Rattle.std.specs.Prelude.{IfOk, take, Some};
+    ghost use Rattle.ua_channel.specs.inside.Ends.{EndStands, EndGoes, EndDone, EndSteps, EndNexts, JudgesWhole, MovesBy};
+
+    /// Ends the connection, which then holds nothing.
+    pub fn fail(&mut self)
+        ensures done { EndDone R.side self.new }
+        ensures kept { self.new ≡ record self.old { reader = self.new.reader; phase = self.new.phase } }
+    {
+        self.reader.close();
+        self.phase = R::ended();
+    }
+
+    /// What a whole frame comes to, and the gate for the next one.
+    fn on_whole(&mut self, frame: Frame) -> Result<Option<R::Event>, StepFault>
+        requires shape { HasShape frame }
+        requires empty { self.old.reader.held ≡ [] }
+        ensures judges { (k : R.side.Key) (frames : List Frame) → ComesNext R.side self.old.rules k self.old.phase self.old.bound frames frame
+            → self.old.reader ≡ open_reader ((R.side.rules self.old.rules k).gate frames) [] → JudgesWhole R.side self.new k frames frame result }
+        ensures kept { self.new ≡ record self.old { reader = self.new.reader; bound = self.new.bound; phase = self.new.phase } }
+    {
+        match self
+            .rules
+            .on_frame(self.alloc, &mut self.phase, &mut self.bound, frame)
+        {
+            Ok(event) => {
+                let gate = self.rules.gate(&self.phase);
+                self.reader.set_gate(gate);
+                Ok(event)
+            }
+            Err(fault) => {
+                self.fail();
+                Err(fault)
+            }
+        }
+    }
+
+    /// One call of the reader, and what its frame comes to, with the octets that were taken.
+    fn step(&mut self, piece: &[u8]) -> (usize, Result<Option<R::Event>, StepFault>)
+        ensures steps { (k : R.side.Key) (octets : List ℕ) (told : List R.side.Told) → EndGoes R.side self.old k octets told
+            → EndSteps R.side piece.now result.0 result.1 self.new k octets told }
+        ensures moves { MovesBy piece.now result.0 result.1 }
+        ensures kept { self.new ≡ record self.old { reader = self.new.reader; bound = self.new.bound; phase = self.new.phase } }
+    {
+        R::lawful();
+        let held = self.reader.held();
+        match self.reader.take(piece) {
+            Ok((n, None)) => (n, Ok(None)),
+            Ok((n, Some(frame))) => (n, self.on_whole(frame)),
+            Err(fault) => {
+                self.fail();
+                let fault = StepFault::of_frame(fault);
+                let n = HEADER_LEN.saturating_sub(held).max(fault.least());
+                (n.min(piece.len()), Err(fault))
+            }
+        }
+    }
+
+    /// Takes octets up to the end of the first frame that tells something, else the whole piece,
+    /// and says how many it took.
+    pub fn next_event(&mut self, piece: &[u8]) -> (usize, Result<Option<R::Event>, StepFault>)
+        ensures nexts { (k : R.side.Key) (octets : List ℕ) (told : List R.side.Told) → EndGoes R.side self.old k octets told
+            → EndNexts R.side piece.now result.0 result.1 self.new k octets told }
+        ensures moves { MovesBy piece.now result.0 result.1 }
+        ensures kept { self.new ≡ record self.old { reader = self.new.reader; bound = self.new.bound; phase = self.new.phase } }
+    {
+        let mut taken = 0;
+        while taken < piece.len() {
+            let (n, answer) = self.step(&piece[taken..]);
+            taken += n;
+            match answer {
+                Ok(None) => {}
+                Ok(Some(event)) => return (taken, Ok(Some(event))),
+                Err(fault) => return (taken, Err(fault)),
+            }
+        }
+        (taken, Ok(None))
+    }
+
+    /// How many octets are held: those of a frame that is not whole, and those of unfinished
+    /// messages.
+    pub fn held(&self) -> usize
+        ensures held { (k : R.side.Key) (octets : List ℕ) (frames : List Frame) (rest : List ℕ) → EndStands R.side self.now k octets frames rest
+            → result ≡ length rest + open_octets (received frames).messages }
+        ensures bound { (k : R.side.Key) (octets : List ℕ) (frames : List Frame) (rest : List ℕ) → EndStands R.side self.now k octets frames rest
+            → result ≤ self.now.bound }
+        ensures done { EndDone R.side self.now → result ≡ 0 }
+    {
+        let _bound = self.bound;
+        self.reader
+            .held()
+            .saturating_add(self.rules.messages_held(&self.phase))
+    }
+}
