@@ -28,7 +28,7 @@ pub telling_counted : (x : ServerChannel) (numbers : Numbers) (octets : List ℕ
 telling_counted x numbers octets before e g = record {
   frames = g.frames;
   frame = g.frame;
-  stands = record { run = g.stands.run; reader_is = g.stands.reader_is; holds = record { phase_is = g.stands.holds.phase_is; bound_is = g.stands.holds.bound_is } };
+  stands = record { run = g.stands.run; placed = tt; reader_is = g.stands.reader_is; phase_is = g.stands.phase_is; bound_is = g.stands.bound_is };
   told_is = g.told_is;
   tells = g.tells;
 }

@@ -11,7 +11,8 @@ use Rattle.ua_chunk.specs.declared.delivered.Delivered.{Delivered}
 use Rattle.ua_chunk.specs.declared.fault.AssembleFault.{AssembleFault}
 use Rattle.ua_chunk.specs.declared.fault.AssembleFault.TheVariants.{Sequence, Unreadable, TooManyOpen, MessageTooLarge, TooManyChunks, OutOfMemory, Closed}
 use Rattle.ua_channel.proofs.MessageParts.{ends_in}
-use Rattle.ua_channel.specs.inside.ClientParts.{event_parts, IsStopFor, Judged, why_of, refused_reasons, unasked_reasons, known_reasons, IsAccepted, IsDeliveredWith, IsTakenWith, left_behind}
+use Rattle.ua_channel.specs.inside.ClientParts.{IsStopFor, Judged, why_of, refused_reasons, unasked_reasons, known_reasons, IsAccepted, IsDeliveredWith, IsTakenWith, left_behind}
+use Rattle.ua_channel.specs.inside.ClientEvents.{event_parts}
 use Rattle.ua_channel.specs.inside.StepFaults.{of_chunk_fault}
 use Rattle.ua_channel.specs.ClientTokens.{from_last}
 use Rattle.ua_channel.specs.ClientTold.{Why, told_item}

@@ -27,10 +27,11 @@ use Rattle.ua_frame.specs.Run.{refusal}
 use Rattle.ua_channel.specs.Asks.{Placed, asked_in, end_of}
 use Rattle.ua_channel.specs.ClientTable.{client_rules}
 use Rattle.ua_channel.specs.Received.{received}
-use Rattle.ua_channel.specs.inside.ClientParts.{event_parts, told_by_frame}
-use Rattle.ua_channel.specs.inside.ClientSide.{client_side}
+use Rattle.ua_channel.specs.inside.ClientParts.{told_by_frame}
+use Rattle.ua_channel.specs.inside.ClientEvents.{event_parts}
+use Rattle.ua_channel.specs.Client.{client_side}
 use Rattle.ua_channel.specs.inside.Parts.{MayEndIn}
-use Rattle.ua_channel.specs.inside.Side.{ComesNext, IsBehind, JudgesBy, closes_by, parts_by, told_by as told_list}
+use Rattle.ua_channel.specs.inside.Ends.{ComesNext, IsBehind, JudgesBy, closes_by, parts_by, told_by as told_list}
 use Rattle.ua_channel.specs.declared.client.rules.ClientRules.{ClientRules}
 use Rattle.ua_channel.specs.declared.step_fault.StepFault.TheVariants.{Refused, Peer, Closed, OutOfMemory}
 use Rattle.ua_channel.proofs.Askings.{all-weaken, asked_before-all}

@@ -7,7 +7,7 @@ use Rattle.ua_frame.specs.declared.limits.Limits.{Limits}
 use Rattle.ua_frame.specs.Reader.{open_reader}
 use Rattle.ua_frame.proofs.Streams.{run_nil}
 use Rattle.ua_channel.specs.Asks.{Asking, Placed, asked_in}
-use Rattle.ua_channel.specs.Client.{ClientStands, InPhase, client_limits, client_bound, client_bound_behind, phase_of}
+use Rattle.ua_channel.specs.Client.{client_side, ClientStands, InPhase, client_limits, client_bound_behind, phase_of}
 use Rattle.ua_channel.specs.ClientAsks.{Talks}
 use Rattle.ua_channel.specs.inside.ClientAsking.{AsBefore}
 use Rattle.ua_channel.specs.ClientTable.{client_gate, client_rules, client_gate_behind, gate_agreed, reply_gate, ack_gate}
@@ -16,6 +16,9 @@ use Rattle.ua_structures.specs.declared.secure_channel.OpenResponse.{OpenRespons
 use Rattle.ua_channel.specs.Received.{Received, received}
 use Rattle.ua_channel.specs.declared.client.channel.ClientChannel.{ClientChannel}
 use Rattle.ua_channel.specs.declared.client.phase.Phase.{Phase}
+use Rattle.ua_channel.specs.declared.client.rules.ClientRules.{ClientRules}
+use Rattle.ua_channel.specs.declared.end_core.EndCore.{EndCore}
+use Rattle.ua_channel.specs.Ends.{EndStands}
 use Rattle.ua_channel.specs.declared.client.phase.Phase.TheVariants.{Waiting, Open}
 use Rattle.ua_channel.specs.declared.client.talking.Talking.{Talking}
 use Rattle.ua_channel.proofs.Askings.{asked_in-push, all-push, no_asks}
@@ -25,13 +28,13 @@ use Rattle.ua_channel.proofs.OneFrameMore.{received-nil}
 
 -- ---- a channel that is made
 
-pub stands_first : (x : ClientChannel) (gate : Gate) → x.end.reader ≡ open_reader gate [] → gate ≡ ack_gate → phase_of x ≡ Waiting → client_bound x ≡ 8192 → ClientStands x [] [] [] []
+pub stands_first : (x : EndCore ClientRules Phase) (gate : Gate) → x.reader ≡ open_reader gate [] → gate ≡ ack_gate → x.phase ≡ Waiting → x.bound ≡ 8192 → EndStands client_side x [] [] [] []
 stands_first x gate reader is phase bound = record {
-  run = run_nil (client_rules (client_limits x) []) refl;
+  run = run_nil (client_rules x.rules.limits []) refl;
   placed = tt;
   reader_is = reader ∙ ap (λ (g : Gate). open_reader g []) (is ∙ sym (ap client_gate received-nil));
-  phase_is = subst (λ (p : Phase). InPhase (client_limits x) p (received []) (asked_in [])) (sym phase) (received-nil, no_asks);
-  bound_is = bound ∙ sym (ap (λ (b : Received). client_bound_behind (client_limits x) b.ack) received-nil);
+  phase_is = subst (λ (p : Phase). InPhase x.rules.limits p (received []) (asked_in [])) (sym phase) (received-nil, no_asks);
+  bound_is = bound ∙ sym (ap (λ (b : Received). client_bound_behind x.rules.limits b.ack) received-nil);
 }
 
 -- ---- an open channel that is asked

@@ -1,23 +1,22 @@
 -- A client's channel, as an end of a connection.
-use Rattle.std.proofs.Common.{◌≡◌, ℕ, List, [], ◌∷◌, ◌++◌, Option, Some, None, Result, Ok, Err, take, sym, ◌∙◌, ap, subst}
+use Rattle.std.proofs.Common.{◌≡◌, ℕ, List, ◌++◌, Option, Some, None, Result, Ok, Err, take, sym, ◌∙◌, ap, subst}
 use Rattle.ua_builtin.specs.declared.date_time.DateTime.{DateTime}
-use Rattle.ua_frame.specs.declared.frame.Frame.{Frame}
 use Rattle.ua_frame.specs.declared.limits.Limits.{Limits}
 use Rattle.ua_frame.specs.Frames.{frame_octets}
 use Rattle.ua_frame.specs.Run.{Rules, events}
 use Rattle.ua_channel.specs.Asks.{Placed}
-use Rattle.ua_channel.specs.Client.{ClientStands, ClientGoes, ClientGoesTelling, ClientEnded, ClientStarvedAt, IsClientDone, client_rules_of, client_limits}
-use Rattle.ua_channel.specs.inside.ClientParts.{AnswersEvent, ClientNexts, StopsBy, counted, event_parts, failure_of, told_by}
-use Rattle.ua_channel.specs.inside.ClientSide.{client_side}
-use Rattle.ua_channel.specs.inside.Ends.{EndDone, EndGoes, EndNexts, EndStands, EndStarves, EndStops, EndTells, FailsBy}
+use Rattle.ua_channel.specs.Client.{client_side, ClientGoes, ClientGoesTelling, ClientStarvedAt, IsClientDone, client_rules_of, client_limits}
+use Rattle.ua_channel.specs.inside.ClientParts.{AnswersEvent, ClientNexts, counted, failure_of}
+use Rattle.ua_channel.specs.inside.ClientEvents.{event_parts}
+use Rattle.ua_channel.specs.Ends.{EndGoes}
+use Rattle.ua_channel.specs.inside.Ends.{EndNexts}
 use Rattle.ua_channel.specs.ClientAnswers.{ClientAnswers, ComesInParts}
 use Rattle.ua_channel.specs.ClientTable.{client_rules}
-use Rattle.ua_channel.specs.ClientTold.{ClientTold, Why, ours, peers}
+use Rattle.ua_channel.specs.ClientTold.{ClientTold, Why}
 use Rattle.ua_channel.specs.declared.client.channel.ClientChannel.{ClientChannel}
 use Rattle.ua_channel.specs.declared.client.event.ClientEvent.{ClientEvent}
 use Rattle.ua_channel.specs.declared.client.event.ClientEvent.TheVariants as client_event
 use Rattle.ua_channel.specs.declared.client.event.Event.{Event}
-use Rattle.ua_channel.specs.declared.client.event.Event.TheVariants as event
 use Rattle.ua_channel.specs.declared.client.fault.ClientTakeFault.{ClientTakeFault}
 use Rattle.ua_channel.specs.declared.client.fault.ClientTakeFault.TheVariants as take_fault
 use Rattle.ua_channel.specs.declared.client.phase.Phase.{Phase}
@@ -28,56 +27,10 @@ use Rattle.ua_channel.specs.declared.step_fault.StepFault.TheVariants.{Refused, 
 use Rattle.ua_channel.proofs.Ends.{starved_by}
 use Rattle.ua_channel.proofs.Stepping.{Breaks, frame_broken}
 
-module _ (x : ClientChannel) (asks : List Placed) where
-  -- ---- where it stands
-
-  pub end_stands : (octets : List ℕ) (frames : List Frame) (rest : List ℕ) → ClientStands x asks octets frames rest → EndStands client_side x.end asks octets frames rest
-  end_stands octets frames rest s = record { run = s.run; placed = s.placed; reader_is = s.reader_is; holds = s.phase_is; bound_is = s.bound_is }
-
-  stands_so : (octets : List ℕ) (frames : List Frame) (rest : List ℕ) → EndStands client_side x.end asks octets frames rest → ClientStands x asks octets frames rest
-  stands_so octets frames rest s = record { run = s.run; placed = s.placed; reader_is = s.reader_is; phase_is = s.holds; bound_is = s.bound_is }
-
-  pub end_goes : (octets : List ℕ) (told : List ClientTold) → ClientGoes x asks octets told → EndGoes client_side x.end asks octets told
-  end_goes octets told g = record { frames = g.frames; rest = g.rest; stands = end_stands octets g.frames g.rest g.stands; told_is = g.told_is }
-
-  goes_so : (octets : List ℕ) (told : List ClientTold) → EndGoes client_side x.end asks octets told → ClientGoes x asks octets told
-  goes_so octets told g = record { frames = g.frames; rest = g.rest; stands = stands_so octets g.frames g.rest g.stands; told_is = g.told_is }
-
-  pub end_done : IsClientDone x → EndDone client_side x.end
-  end_done d = record { phase = d.phase; empty = d.empty }
-
-  pub done_so : EndDone client_side x.end → IsClientDone x
-  done_so d = record { phase = d.phase; empty = d.empty }
-
-  starves_so : (octets : List ℕ) (told : List ClientTold) → EndStarves client_side x.end asks octets told → ClientStarvedAt x asks octets told
-  starves_so octets told s = record { done = done_so s.done; frames = s.frames; rest = s.rest; whole = s.whole; good = s.good; told_is = s.told_is; header = s.header; sound = s.sound; within = s.within }
-
-  stops_so : (octets : List ℕ) (told : List ClientTold) (why : Why) → EndStops client_side x.end asks octets told why → ClientEnded x asks octets told why
-  stops_so octets told why s = record { done = done_so s.done; frames = s.frames; rest = s.rest; run = s.run; stops = s.stops; told_is = s.told_is; bound_is = s.bound_is }
-
-  -- ---- what it makes of a piece
-
-  tells_so : (octets : List ℕ) (told : List ClientTold) (e : Event) → EndTells client_side x.end asks octets told e → ClientGoesTelling x asks octets told (told_by e)
-  tells_so octets told e t = record { frames = t.frames; frame = t.frame; stands = stands_so octets (t.frames ++ t.frame ∷ []) [] t.stands; told_is = t.told_is; tells = t.tells }
-
-  fails_so : (octets : List ℕ) (told : List ClientTold) (fault : StepFault) → FailsBy client_side x.end asks octets told fault → StopsBy fault x asks octets told
-  fails_so octets told (Refused code) f = stops_so octets told (ours code.code) f
-  fails_so octets told (Peer code) f = stops_so octets told (peers code.code) f
-  fails_so octets told OutOfMemory f = starves_so octets told f
-  fails_so octets told Closed f = f
-
-  nexts_so : (piece : List ℕ) (n : ℕ) (answer : Result (Option Event) StepFault) (octets : List ℕ) (told : List ClientTold) → EndNexts client_side piece n answer x.end asks octets told → ClientNexts piece n answer x asks octets told
-  nexts_so piece n (Ok None) octets told h = (h.0, goes_so (octets ++ piece) told h.1)
-  nexts_so piece n (Ok (Some e)) octets told h = (h.0, h.1, tells_so (octets ++ take n piece) told e h.2)
-  nexts_so piece n (Err fault) octets told h = (h.0, fails_so (octets ++ take n piece) told fault h.1)
-
-  -- a message comes in its parts
-  parts_so : (octets : List ℕ) (told : List ClientTold) (e : Event) → EndTells client_side x.end asks octets told e → ComesInParts (event_parts (Some e)) x asks octets
-  parts_so octets told (event.Agreed ack) t = tt
-  parts_so octets told (event.Opened channel token) t = tt
-  parts_so octets told (event.Answered id message) t = record { frames = t.frames; frame = t.frame; stands = stands_so octets (t.frames ++ t.frame ∷ []) [] t.stands; ends = t.parts }
-  parts_so octets told (event.Aborted id code) t = tt
-  parts_so octets told (event.Renewed token) t = tt
+nexts_so : (x : ClientChannel) (asks : List Placed) (piece : List ℕ) (n : ℕ) (answer : Result (Option Event) StepFault) (octets : List ℕ) (told : List ClientTold) → EndNexts client_side piece n answer x.end asks octets told → ClientNexts piece n answer x asks octets told
+nexts_so x asks piece n (Ok None) octets told h = h
+nexts_so x asks piece n (Ok (Some e)) octets told h = (h.0, h.1, h.2.0)
+nexts_so x asks piece n (Err fault) octets told h = h
 
 abbrev pub with_end : ClientChannel → EndCore ClientRules Phase → ClientChannel
 with_end x new = record x { end = new }
@@ -86,7 +39,7 @@ with_end x new = record x { end = new }
 module _ (x : ClientChannel) (new : EndCore ClientRules Phase) (piece : List ℕ) (n : ℕ) (a : Result (Option Event) StepFault) where
   end_there : (b : Result (Option Event) StepFault) → a ≡ b → ((asks : List Placed) (octets : List ℕ) (told : List ClientTold) → EndGoes client_side x.end asks octets told → EndNexts client_side piece n a new asks octets told)
       → (asks : List Placed) (octets : List ℕ) (told : List ClientTold) → ClientGoes x asks octets told → EndNexts client_side piece n b new asks octets told
-  end_there b is nexts asks octets told g = subst (λ (c : Result (Option Event) StepFault). EndNexts client_side piece n c new asks octets told) is (nexts asks octets told (end_goes x asks octets told g))
+  end_there b is nexts asks octets told g = subst (λ (c : Result (Option Event) StepFault). EndNexts client_side piece n c new asks octets told) is (nexts asks octets told g)
 
   pub next_there : (b : Result (Option Event) StepFault) → a ≡ b → ((asks : List Placed) (octets : List ℕ) (told : List ClientTold) → EndGoes client_side x.end asks octets told → EndNexts client_side piece n a new asks octets told)
       → (asks : List Placed) (octets : List ℕ) (told : List ClientTold) → ClientGoes x asks octets told → ClientNexts piece n b (with_end x new) asks octets told
@@ -94,7 +47,7 @@ module _ (x : ClientChannel) (new : EndCore ClientRules Phase) (piece : List ℕ
 
   pub parts_there : (e : Event) → a ≡ Ok (Some e) → ((asks : List Placed) (octets : List ℕ) (told : List ClientTold) → EndGoes client_side x.end asks octets told → EndNexts client_side piece n a new asks octets told)
       → (asks : List Placed) (octets : List ℕ) (told : List ClientTold) → ClientGoes x asks octets told → ComesInParts (event_parts (Some e)) (with_end x new) asks (octets ++ take n piece)
-  parts_there e is nexts asks octets told g = parts_so (with_end x new) asks (octets ++ take n piece) told e (end_there (Ok (Some e)) is nexts asks octets told g).2
+  parts_there e is nexts asks octets told g = (end_there (Ok (Some e)) is nexts asks octets told g).2.1
 
 -- ---- what is answered
 
@@ -102,9 +55,9 @@ module _ (x : ClientChannel) (new : EndCore ClientRules Phase) (piece : List ℕ
 starved_behind : (mid d : ClientChannel) (asks : List Placed) (octets : List ℕ) (told : List ClientTold) (e : ClientTold) → client_limits d ≡ client_limits mid → IsClientDone d → ClientGoesTelling mid asks octets told e → ClientStarvedAt d asks octets told
 starved_behind mid d asks octets told e limits done g =
     let same : client_rules_of mid asks ≡ client_rules_of d asks = ap (λ (l : Limits). client_rules l asks) (sym limits) in
-    starves_so d asks octets told (starved_by client_side d.end asks octets (frame_octets g.frame) g.frames told (end_done d asks done)
+    starved_by client_side d.end asks octets (frame_octets g.frame) g.frames told done
     (subst (λ (R : Rules ClientTold Why). Breaks R octets g.frames (frame_octets g.frame)) same (frame_broken (client_rules_of mid asks) octets g.frames g.frame g.stands.run))
-    (ap (λ (R : Rules ClientTold Why). events R g.frames) (sym same) ∙ g.told_is))
+    (ap (λ (R : Rules ClientTold Why). events R g.frames) (sym same) ∙ g.told_is)
 
 pub starved_event : (moment : DateTime) (mid d : ClientChannel) (asks : List Placed) (octets : List ℕ) (told : List ClientTold) (e : ClientTold) (answer : Result ClientEvent ClientTakeFault) → client_limits d ≡ client_limits mid → ClientGoesTelling mid asks octets told e → AnswersEvent moment answer d asks octets told
     → answer ≡ Err take_fault.OutOfMemory → ClientStarvedAt d asks octets told

@@ -21,7 +21,8 @@ use Rattle.ua_structures.specs.declared.secure_channel.OpenResponse.{OpenRespons
 use Rattle.ua_channel.specs.Asks.{Asking, is_in, calls, renewals, pending_calls, pending_renewals}
 use Rattle.ua_channel.specs.ClientAsks.{Talks}
 use Rattle.ua_channel.specs.inside.Parts.{MayEndIn}
-use Rattle.ua_channel.specs.inside.ClientParts.{event_parts, why_of, IsStopFor, Judged, IsOpenedBy, TellsRenewal, TakesFrame, told_by_frame, IsAnswerOf, IsOpenedWith, IsRenewedWith, IsTakenWith, answer_reasons, first_reasons, renewal_reasons, chunk_reasons, greeted, left_pending}
+use Rattle.ua_channel.specs.inside.ClientParts.{why_of, IsStopFor, Judged, IsOpenedBy, TellsRenewal, TakesFrame, told_by_frame, IsAnswerOf, IsOpenedWith, IsRenewedWith, IsTakenWith, answer_reasons, first_reasons, renewal_reasons, chunk_reasons, greeted, left_pending}
+use Rattle.ua_channel.specs.inside.ClientEvents.{event_parts}
 use Rattle.ua_channel.specs.ClientTable.{client_reasons, is_awaited}
 use Rattle.ua_channel.specs.ClientTokens.{answer_in, response_listed, id_listed, responses, opened_ids, channel_in, tokens_of, from_last, held_by, held_tokens}
 use Rattle.ua_channel.specs.ClientTold.{ClientTold, ClientTold as told, ours, client_tells, told_response}

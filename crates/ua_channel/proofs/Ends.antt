@@ -11,12 +11,14 @@ use Rattle.ua_frame.specs.Run.{Run, End, EndsIn, refusal, events, Going, Over}
 use Rattle.ua_frame.proofs.Streams.{frames_octets-push, events-push}
 use Rattle.ua_chunk.specs.Open.{open_octets}
 use Rattle.ua_channel.specs.Asks.{end_of}
+use Rattle.ua_channel.specs.Content.{content}
 use Rattle.ua_channel.specs.Received.{received}
 use Rattle.ua_channel.specs.declared.end_core.EndCore.{EndCore}
 use Rattle.ua_channel.specs.declared.step_fault.StepFault.{StepFault}
 use Rattle.ua_channel.specs.declared.step_fault.StepFault.TheVariants.{Refused, Peer, Closed, OutOfMemory}
-use Rattle.ua_channel.specs.inside.Ends.{ComesBy, EndDone, EndGoes, EndNexts, EndStands, EndStarves, EndSteps, EndStops, EndTook, FailsBy, JudgesWhole, MovesBy, SameEnd, TakesWhole, rules_by}
-use Rattle.ua_channel.specs.inside.Side.{Side, ComesNext, IsBehind, RefusedBy, TakenBy, closes_by}
+use Rattle.ua_channel.specs.Ends.{Side, EndDone, EndGoes, EndStands, EndStarves, EndStops, HandsOut, rules_by}
+use Rattle.ua_channel.specs.inside.Ends.{ComesBy, ComesNext, EndNexts, EndSteps, EndTook, FailsBy, IsBehind, JudgesWhole, MovesBy, RefusedBy, SameEnd, TakenBy, TakesWhole, closes_by}
+use Rattle.ua_channel.specs.inside.Parts.{MayEndIn}
 use Rattle.ua_channel.specs.inside.StepFaults.{least_at, of_frame_fault}
 use Rattle.ua_channel.specs.ServerAnswers.{Progress}
 use Rattle.ua_channel.proofs.Pieces.{moves_there, nexts_there, progress_there, took_more}
@@ -63,7 +65,7 @@ module _ {R P E : Type 0} (S : Side R P E) where
         record {
           frames = g.frames;
           rest = g.rest ++ take n piece;
-          stands = record { run = p.0; placed = placed_more k octets (take n piece) g.stands.placed; reader_is = p.1; holds = g.stands.holds; bound_is = g.stands.bound_is };
+          stands = record { run = p.0; placed = placed_more k octets (take n piece) g.stands.placed; reader_is = p.1; phase_is = g.stands.phase_is; bound_is = g.stands.bound_is };
           told_is = g.told_is;
         }
 
@@ -86,7 +88,7 @@ module _ {R P E : Type 0} (S : Side R P E) where
           )
 
       comes_next : ComesNext S x.rules k x.phase x.bound g.frames f
-      comes_next = record { came = length octets; placed = g.stands.placed; later = later; holds = g.stands.holds; bound_is = g.stands.bound_is; let_in = at.let_in }
+      comes_next = record { came = length octets; placed = g.stands.placed; later = later; holds = g.stands.phase_is; bound_is = g.stands.bound_is; let_in = at.let_in }
 
       module _ (z : Reader) (p : P) (b : ℕ) where
         run_to : (end : End S.Why) → refusal (rules_by S x k) g.frames f ≡ None → EndsIn (rules_by S x k) (g.frames ++ f ∷ []) [] end → Run (rules_by S x k) (octets ++ take n piece) (g.frames ++ f ∷ []) [] end
@@ -97,7 +99,7 @@ module _ {R P E : Type 0} (S : Side R P E) where
           run = run_to Going h.taken.accepted (h.taken.last ∙ goes, inl (omega arith));
           placed = placed_more k octets (take n piece) g.stands.placed;
           reader_is = h.reader_is goes;
-          holds = subst (λ (c : Bool). IsBehind S c x.rules k p (g.frames ++ f ∷ [])) goes h.taken.behind;
+          phase_is = subst (λ (c : Bool). IsBehind S c x.rules k p (g.frames ++ f ∷ [])) goes h.taken.behind;
           bound_is = h.taken.bound_is;
         }
 
@@ -109,8 +111,12 @@ module _ {R P E : Type 0} (S : Side R P E) where
           told_is = events-push (rules_by S x k) g.frames f ∙ (ap (λ (u : List S.Told). events (rules_by S x k) g.frames ++ u) h.taken.tells ∙ (append-nil (events (rules_by S x k) g.frames) ∙ g.told_is));
         }
 
+        hands_out : (e : E) → TakesWhole S (end_with x z p b) k g.frames f (Some e) → S.closes e ≡ false → (o : Option (List (List ℕ))) → MayEndIn (received g.frames).messages (content f) o → HandsOut S o (end_with x z p b) k (octets ++ take n piece)
+        hands_out e h goes None ends = tt
+        hands_out e h goes (Some parts) ends = record { frames = g.frames; frame = f; stands = stands_more (Some e) h goes; ends = ends }
+
         telling : (e : E) → TakesWhole S (end_with x z p b) k g.frames f (Some e) → (c : Bool) → S.closes e ≡ c → ComesBy S c (end_with x z p b) k (octets ++ take n piece) told e
-        telling e h false goes = record { frames = g.frames; frame = f; stands = stands_more (Some e) h goes; told_is = g.told_is; tells = h.taken.tells; parts = h.taken.parts }
+        telling e h false goes = (record { frames = g.frames; frame = f; stands = stands_more (Some e) h goes; told_is = g.told_is; tells = h.taken.tells }, hands_out e h goes (S.parts e) h.taken.parts)
         telling e h true last = record {
           done = record { phase = subst (λ (c : Bool). IsBehind S c x.rules k p (g.frames ++ f ∷ [])) last h.taken.behind; empty = h.empty };
           frames = g.frames ++ f ∷ [];

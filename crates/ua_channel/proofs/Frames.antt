@@ -30,8 +30,8 @@ use Rattle.ua_channel.specs.ServerTold.{Told as told, server_tells}
 use Rattle.ua_frame.specs.declared.gate.Gate.{Gate}
 use Rattle.ua_channel.specs.inside.Parts.{MayEndIn}
 use Rattle.ua_channel.specs.inside.ServerEvents.{parts_of, told_list, told_of}
-use Rattle.ua_channel.specs.inside.ServerSide.{server_side}
-use Rattle.ua_channel.specs.inside.Side.{ComesNext, IsBehind, JudgesBy, TakenBy, closes_by, parts_by, told_by}
+use Rattle.ua_channel.specs.ServerStands.{server_side}
+use Rattle.ua_channel.specs.inside.Ends.{ComesNext, IsBehind, JudgesBy, TakenBy, closes_by, parts_by, told_by}
 use Rattle.ua_channel.specs.Received.{received}
 use Rattle.ua_channel.proofs.OneFrameMore.{received-push}
 use Rattle.ua_channel.proofs.Phases.{closing, gate_is, silent_open, telling_open}

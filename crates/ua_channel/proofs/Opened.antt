@@ -37,7 +37,7 @@ in_phase limits (Open r) before h = (λ t. absurd t, λ e. none_issued before.op
 in_phase limits Done before h = absurd h
 
 pub server_open : (x : ServerChannel) (octets : List ℕ) (frames : List Frame) (rest : List ℕ) → server.Stands x octets frames rest → server.IsWithoutToken x ↔ ((received frames).openings ≡ [])
-server_open x octets frames rest s = in_phase (server.limits_of x) x.end.phase (received frames) s.holds.phase_is
+server_open x octets frames rest s = in_phase (server.limits_of x) x.end.phase (received frames) s.phase_is
 
 pub server_done : (x : ServerChannel) → server.IsDone x → server.IsWithoutToken x
 server_done x d = subst server.HasNoToken (sym d.phase) tt
@@ -53,7 +53,7 @@ pub server_asked : (x : ServerChannel) (octets : List ℕ) (told : List Told) (i
 server_asked x octets told id token message g none =
     let chunk = asks_by (server.limits_of x) (received g.frames) (content g.frame) id token message g.tells in
     let now : received (g.frames ++ g.frame ∷ []) ≡ after (received g.frames) (Sends chunk.0) = received-push g.frames g.frame ∙ ap (after (received g.frames)) chunk.1 in
-    none_used (server.limits_of x) x.end.phase (received (g.frames ++ g.frame ∷ [])) chunk.0.token g.stands.holds.phase_is none (ap (λ (b : Received). b.used) now)
+    none_used (server.limits_of x) x.end.phase (received (g.frames ++ g.frame ∷ [])) chunk.0.token g.stands.phase_is none (ap (λ (b : Received). b.used) now)
 
 -- ---- at a client
 

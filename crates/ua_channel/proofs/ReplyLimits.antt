@@ -30,4 +30,4 @@ in_phase limits channel Done before mine lane s is goes = absurd is
 
 -- replies go in one lane
 pub lane_there : (x : ServerChannel) (octets : List ℕ) (frames : List Frame) (rest : List ℕ) (mine lane : Lane) → LaneIs (channel_of x) x.end.phase mine → Stands x octets frames rest → RepliesGo (limits_of x) (channel_of x) (received frames) lane → mine ≡ lane
-lane_there x octets frames rest mine lane is s goes = in_phase (limits_of x) (channel_of x) x.end.phase (received frames) mine lane s.holds.phase_is is goes
+lane_there x octets frames rest mine lane is s goes = in_phase (limits_of x) (channel_of x) x.end.phase (received frames) mine lane s.phase_is is goes

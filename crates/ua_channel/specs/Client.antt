@@ -1,24 +1,22 @@
 -- Where a client's channel stands after octets and asks, and what it answers when it is asked.
-use Rattle.std.specs.Prelude.{◌≡◌, ◌⊎◌, ℕ, ◌≤◌, ◌+◌, ◌*◌, Bool, length, List, [], ◌∷◌, ◌++◌, Option, Some, None, MatchOption, Result}
+use Rattle.std.specs.Prelude.{◌≡◌, ℕ, ◌≤◌, ◌+◌, ◌*◌, Bool, false, length, List, [], Option, Some, None, MatchOption, Result}
 use Rattle.std.specs.List.{AllByRecursion}
 use Rattle.ua_builtin.specs.Reasons.{first_reason}
 use Rattle.ua_builtin.specs.declared.date_time.DateTime.{DateTime}
 use Rattle.ua_frame.specs.declared.ack.Ack.{Ack}
 use Rattle.ua_frame.specs.declared.frame.Frame.{Frame}
 use Rattle.ua_frame.specs.declared.limits.Limits.{Limits}
-use Rattle.ua_frame.specs.After.{AllAfter}
-use Rattle.ua_frame.specs.Frames.{frames_octets, header_fault, size_of}
-use Rattle.ua_frame.specs.Reader.{open_reader}
-use Rattle.ua_frame.specs.Run.{Rules, Run, Fits, Going, Stopped, events}
+use Rattle.ua_frame.specs.Run.{Rules}
 use Rattle.ua_chunk.specs.Open.{open_octets}
 use Rattle.ua_channel.specs.Asks.{Asking, Placed, asked_in}
 use Rattle.ua_channel.specs.ClientAsks.{Talks, ask_reasons, renew_reasons, Calls, JudgesBy, Renews, closing_octets}
-use Rattle.ua_channel.specs.ClientTable.{client_gate, client_rules}
-use Rattle.ua_channel.specs.ClientTold.{ClientTold, Why}
-use Rattle.ua_channel.specs.Content.{content}
-use Rattle.ua_channel.specs.MessageParts.{EndsIn}
+use Rattle.ua_channel.specs.ClientTable.{client_rules}
+use Rattle.ua_channel.specs.ClientTold.{ClientTold, Why, peers}
+use Rattle.ua_channel.specs.Ends.{Side, EndDone, EndGoes, EndMessage, EndStands, EndStarves, EndStops, EndTells}
+use Rattle.ua_channel.specs.inside.ClientEvents.{event_parts, told_by}
+use Rattle.ua_channel.specs.declared.client.event.Event.{Event}
+use Rattle.ua_channel.specs.declared.client.rules.ClientRules.{ClientRules}
 use Rattle.ua_channel.specs.Received.{Received, received, nothing_received}
-use Rattle.ua_channel.specs.Stops.{StopsAt}
 use Rattle.ua_channel.specs.declared.client.channel.ClientChannel.{ClientChannel}
 use Rattle.ua_channel.specs.declared.client.fault.AskFault.{AskFault}
 use Rattle.ua_channel.specs.declared.client.fault.AskFault.TheVariants.{NotOpen}
@@ -74,6 +72,23 @@ InPhase limits (Agreed a) before asked = (before ≡ record nothing_received { a
 InPhase limits (Open t) before asked = Talks limits t before asked
 InPhase limits Done before asked = ⊥
 
+-- a client, as an end of a connection: frames are judged by what was asked, too; none is the last, and the server may refuse
+abbrev pub client_side : Side ClientRules Phase Event
+client_side = record {
+  Key = List Placed;
+  Told = ClientTold;
+  Why = Why;
+  rules = λ r asks. client_rules r.limits asks;
+  placed = λ asks came. AllByRecursion (λ (a : Placed). a.0 ≤ came) asks;
+  holds = λ r asks p frames. InPhase r.limits p (received frames) (asked_in asks);
+  bound = λ r frames. client_bound_behind r.limits (received frames).ack;
+  done = λ p. p ≡ Done;
+  tells = told_by;
+  closes = λ e. false;
+  parts = λ e. event_parts (Some e);
+  peer = λ code. Some (peers code);
+}
+
 -- ---- after octets and asks
 
 -- the rules of a channel that asked so
@@ -81,62 +96,32 @@ abbrev pub client_rules_of : ClientChannel → List Placed → Rules ClientTold 
 client_rules_of x asks = client_rules (client_limits x) asks
 
 -- a channel is where these asks and octets leave it: these are the frames of the octets, and this is the rest
-pub record ClientStands (x : ClientChannel) (asks : List Placed) (octets : List ℕ) (frames : List Frame) (rest : List ℕ) : Type 0 where
-  pub run : Run (client_rules_of x asks) octets frames rest Going
-  pub placed : AllByRecursion (λ (a : Placed). a.0 ≤ length octets) asks
-  pub reader_is : x.end.reader ≡ open_reader (client_gate (received frames)) rest
-  pub phase_is : InPhase (client_limits x) (phase_of x) (received frames) (asked_in asks)
-  pub bound_is : client_bound x ≡ client_bound_behind (client_limits x) (received frames).ack
+abbrev pub ClientStands : ClientChannel → List Placed → List ℕ → List Frame → List ℕ → Type 0
+ClientStands x asks octets frames rest = EndStands client_side x.end asks octets frames rest
 
 -- a channel that failed or was closed, and holds nothing
-pub record IsClientDone (x : ClientChannel) : Type 0 where
-  pub phase : phase_of x ≡ Done
-  pub empty : x.end.reader.held ≡ []
+abbrev pub IsClientDone : ClientChannel → Type 0
+IsClientDone x = EndDone client_side x.end
 
 -- it goes on after these asks and octets, whose frames told this
-pub record ClientGoes (x : ClientChannel) (asks : List Placed) (octets : List ℕ) (told : List ClientTold) : Type 0 where
-  pub frames : List Frame
-  pub rest : List ℕ
-  pub stands : ClientStands x asks octets frames rest
-  pub told_is : events (client_rules_of x asks) frames ≡ told
+abbrev pub ClientGoes : ClientChannel → List Placed → List ℕ → List ClientTold → Type 0
+ClientGoes x asks octets told = EndGoes client_side x.end asks octets told
 
 -- the last of the frames of these octets is the one that tells this, after what the others told, and nothing stands behind it
-pub record ClientGoesTelling (x : ClientChannel) (asks : List Placed) (octets : List ℕ) (told : List ClientTold) (e : ClientTold) : Type 0 where
-  pub frames : List Frame
-  pub frame : Frame
-  pub stands : ClientStands x asks octets (frames ++ frame ∷ []) []
-  pub told_is : events (client_rules_of x asks) frames ≡ told
-  pub tells : (client_rules_of x asks).tells frames frame ≡ e ∷ []
+abbrev pub ClientGoesTelling : ClientChannel → List Placed → List ℕ → List ClientTold → ClientTold → Type 0
+ClientGoesTelling x asks octets told e = EndTells client_side x.end asks octets told e
 
 -- it goes on after these asks and octets, of which the last frame ends a message in these parts
-pub record EndsReply (x : ClientChannel) (asks : List Placed) (octets : List ℕ) (parts : List (List ℕ)) : Type 0 where
-  pub frames : List Frame
-  pub frame : Frame
-  pub stands : ClientStands x asks octets (frames ++ frame ∷ []) []
-  pub ends : EndsIn (received frames).messages (content frame) parts
+abbrev pub EndsReply : ClientChannel → List Placed → List ℕ → List (List ℕ) → Type 0
+EndsReply x asks octets parts = EndMessage client_side x.end asks octets parts
 
 -- it ended after these asks and octets, whose good frames told this, and what stands behind them is refused for this
-pub record ClientEnded (x : ClientChannel) (asks : List Placed) (octets : List ℕ) (told : List ClientTold) (why : Why) : Type 0 where
-  pub done : IsClientDone x
-  pub frames : List Frame
-  pub rest : List ℕ
-  pub run : Run (client_rules_of x asks) octets frames rest (Stopped why)
-  pub stops : StopsAt (client_rules_of x asks) frames rest why
-  pub told_is : events (client_rules_of x asks) frames ≡ told
-  pub bound_is : client_bound x ≡ client_bound_behind (client_limits x) (received frames).ack
+abbrev pub ClientEnded : ClientChannel → List Placed → List ℕ → List ClientTold → Why → Type 0
+ClientEnded x asks octets told why = EndStops client_side x.end asks octets told why
 
--- memory was refused where these octets end, behind the good frames that told this: of the next frame they have a header with nothing wrong,
--- up to its eighth octet, or more of the frame, at most all of it
-pub record ClientStarvedAt (x : ClientChannel) (asks : List Placed) (octets : List ℕ) (told : List ClientTold) : Type 0 where
-  pub done : IsClientDone x
-  pub frames : List Frame
-  pub rest : List ℕ
-  pub whole : octets ≡ frames_octets frames ++ rest
-  pub good : AllAfter (Fits (client_rules_of x asks)) frames
-  pub told_is : events (client_rules_of x asks) frames ≡ told
-  pub header : 8 ≤ length rest
-  pub sound : header_fault (client_gate (received frames)) rest ≡ None
-  pub within : (length rest ≡ 8) ⊎ (length rest ≤ size_of rest)
+-- memory was refused where these octets end, behind the good frames that told this
+abbrev pub ClientStarvedAt : ClientChannel → List Placed → List ℕ → List ClientTold → Type 0
+ClientStarvedAt x asks octets told = EndStarves client_side x.end asks octets told
 
 -- ---- asks in a phase
 

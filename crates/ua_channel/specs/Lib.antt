@@ -6,6 +6,8 @@ pub mod Refusals
 pub mod Stops
 -- In which parts either end hands out a message.
 pub mod MessageParts
+-- Where either end stands after octets, by its rules.
+pub mod Ends
 -- A server: what it agrees to, what frames tell it, which it refuses, and which come next; what it sends; where it stands, and what
 -- it answers.
 pub mod Agreement

@@ -1,23 +1,21 @@
 -- Where a server's channel stands after octets.
-use Rattle.std.specs.Prelude.{◌≡◌, ◌⊎◌, ℕ, ◌+◌, ◌*◌, length, false, List, [], ◌∷◌, ◌++◌, Option, Some, None, ◌<◌, ◌≤◌}
+use Rattle.std.specs.Prelude.{◌≡◌, ℕ, ◌+◌, ◌*◌, length, false, List, Option, Some, None, ◌<◌, ◌≤◌}
 use Rattle.ua_frame.specs.declared.frame.Frame.{Frame}
 use Rattle.ua_frame.specs.declared.hello.Hello.{Hello}
 use Rattle.ua_frame.specs.declared.limits.Limits.{Limits}
-use Rattle.ua_frame.specs.Reader.{open_reader}
-use Rattle.ua_frame.specs.After.{AllAfter}
-use Rattle.ua_frame.specs.Frames.{frames_octets, header_fault, size_of}
-use Rattle.ua_frame.specs.Run.{Rules, Run, Fits, events, Going, Stopped, Over}
+use Rattle.ua_frame.specs.Run.{Rules}
 use Rattle.ua_chunk.specs.Open.{open_octets}
 use Rattle.ua_channel.specs.declared.server.Phase.{Phase}
 use Rattle.ua_channel.specs.declared.server.Phase.TheVariants.{Waiting, Greeted, Open, Done}
 use Rattle.ua_channel.specs.declared.server.ServerChannel.{ServerChannel}
 use Rattle.ua_channel.specs.Agreement.{Agreement, agreement_of}
-use Rattle.ua_channel.specs.Content.{content}
-use Rattle.ua_channel.specs.MessageParts.{EndsIn}
 use Rattle.ua_channel.specs.Received.{Received, nothing_received, received}
-use Rattle.ua_channel.specs.ServerRules.{receive_size, server_gate, server_rules}
+use Rattle.ua_channel.specs.ServerRules.{receive_size, server_rules}
 use Rattle.ua_channel.specs.ServerTold.{Told, issued}
-use Rattle.ua_channel.specs.Stops.{StopsAt}
+use Rattle.ua_channel.specs.Ends.{Side, EndDone, EndGoes, EndMessage, EndOver, EndStands, EndStarves, EndStops, EndTells}
+use Rattle.ua_channel.specs.inside.ServerEvents.{is_closed, parts_of, told_of}
+use Rattle.ua_channel.specs.declared.server_event.Event.{Event}
+use Rattle.ua_channel.specs.declared.server_rules.ServerRules.{ServerRules}
 use Rattle.ua_chunk.specs.Assembling.{last_number, octet_limit, chunk_limit}
 use Rattle.ua_channel.specs.declared.running.Running.{Running}
 use Rattle.ua_channel.specs.ServerRefusals.{last_used}
@@ -70,6 +68,23 @@ InServerPhase limits (Greeted a) before = HasGreeted limits a before
 InServerPhase limits (Open r) before = Stays limits r before
 InServerPhase limits Done before = ⊥
 
+-- a server, as an end of a connection: frames are judged by those before them alone, and no client refuses
+abbrev pub server_side : Side ServerRules Phase Event
+server_side = record {
+  Key = Unit {0};
+  Told = Told;
+  Why = ℕ;
+  rules = λ r k. server_rules r.limits r.channel;
+  placed = λ k came. Unit {0};
+  holds = λ r k p frames. InServerPhase r.limits p (received frames);
+  bound = λ r frames. bound_after r.limits (received frames);
+  done = λ p. p ≡ Done;
+  tells = told_of;
+  closes = is_closed;
+  parts = λ e. parts_of (Some e);
+  peer = λ code. None;
+}
+
 -- in this phase there is no token
 abbrev pub HasNoToken : Phase → Type 0
 HasNoToken Waiting = Unit {0}
@@ -103,71 +118,34 @@ IsWithoutToken x = HasNoToken x.end.phase
 abbrev pub rules_of : ServerChannel → Rules Told ℕ
 rules_of x = server_rules (limits_of x) (channel_of x)
 
--- a channel is where this leaves it that was received
-pub record Holds (x : ServerChannel) (before : Received) : Type 0 where
-  pub phase_is : InServerPhase (limits_of x) x.end.phase before
-  pub bound_is : x.end.bound ≡ bound_after (limits_of x) before
-
 -- a channel is where these octets leave it: these are their frames, and this is the rest, of a frame that is not whole
-pub record Stands (x : ServerChannel) (octets : List ℕ) (frames : List Frame) (rest : List ℕ) : Type 0 where
-  pub run : Run (rules_of x) octets frames rest Going
-  pub reader_is : x.end.reader ≡ open_reader (server_gate (limits_of x) (received frames)) rest
-  pub holds : Holds x (received frames)
+abbrev pub Stands : ServerChannel → List ℕ → List Frame → List ℕ → Type 0
+Stands x octets frames rest = EndStands server_side x.end tt octets frames rest
 
 -- a channel that ended, and holds nothing
-pub record IsDone (x : ServerChannel) : Type 0 where
-  pub phase : x.end.phase ≡ Done
-  pub empty : x.end.reader.held ≡ []
+abbrev pub IsDone : ServerChannel → Type 0
+IsDone x = EndDone server_side x.end
 
 -- it goes on after these octets, whose frames told this
-pub record Goes (x : ServerChannel) (octets : List ℕ) (told : List Told) : Type 0 where
-  pub frames : List Frame
-  pub rest : List ℕ
-  pub stands : Stands x octets frames rest
-  pub told_is : events (rules_of x) frames ≡ told
+abbrev pub Goes : ServerChannel → List ℕ → List Told → Type 0
+Goes x octets told = EndGoes server_side x.end tt octets told
 
 -- it goes on after these octets, of which the last octet is that of a frame that tells this, after what the frames before it told
-pub record GoesTelling (x : ServerChannel) (octets : List ℕ) (told : List Told) (e : Told) : Type 0 where
-  pub frames : List Frame
-  pub frame : Frame
-  pub stands : Stands x octets (frames ++ frame ∷ []) []
-  pub told_is : events (rules_of x) frames ≡ told
-  pub tells : (rules_of x).tells frames frame ≡ e ∷ []
+abbrev pub GoesTelling : ServerChannel → List ℕ → List Told → Told → Type 0
+GoesTelling x octets told e = EndTells server_side x.end tt octets told e
 
 -- it goes on after these octets, of which the last frame ends a message in these parts
-pub record EndsMessage (x : ServerChannel) (octets : List ℕ) (parts : List (List ℕ)) : Type 0 where
-  pub frames : List Frame
-  pub frame : Frame
-  pub stands : Stands x octets (frames ++ frame ∷ []) []
-  pub ends : EndsIn (received frames).messages (content frame) parts
+abbrev pub EndsMessage : ServerChannel → List ℕ → List (List ℕ) → Type 0
+EndsMessage x octets parts = EndMessage server_side x.end tt octets parts
 
 -- it closed at the last octet of these, that of a CLO, and its frames told this
-pub record ClosedAt (x : ServerChannel) (octets : List ℕ) (told : List Told) : Type 0 where
-  pub done : IsDone x
-  pub frames : List Frame
-  pub run : Run (rules_of x) octets frames [] Over
-  pub told_is : events (rules_of x) frames ≡ told
-  pub bound_is : x.end.bound ≡ bound_after (limits_of x) (received frames)
+abbrev pub ClosedAt : ServerChannel → List ℕ → List Told → Type 0
+ClosedAt x octets told = EndOver server_side x.end tt octets told
 
--- memory was refused where these octets end, behind the good frames that told this: of the next frame they have a header with nothing wrong,
--- up to its eighth octet, or more of the frame, at most all of it
-pub record StarvedAt (x : ServerChannel) (octets : List ℕ) (told : List Told) : Type 0 where
-  pub done : IsDone x
-  pub frames : List Frame
-  pub rest : List ℕ
-  pub whole : octets ≡ frames_octets frames ++ rest
-  pub good : AllAfter (Fits (rules_of x)) frames
-  pub told_is : events (rules_of x) frames ≡ told
-  pub header : 8 ≤ length rest
-  pub sound : header_fault (server_gate (limits_of x) (received frames)) rest ≡ None
-  pub within : (length rest ≡ 8) ⊎ (length rest ≤ size_of rest)
+-- memory was refused where these octets end, behind the good frames that told this
+abbrev pub StarvedAt : ServerChannel → List ℕ → List Told → Type 0
+StarvedAt x octets told = EndStarves server_side x.end tt octets told
 
--- it refused with this code what stands behind the good frames of these octets: a header at its eighth octet, or a frame at its last
-pub record RefusedAt (x : ServerChannel) (octets : List ℕ) (told : List Told) (code : ℕ) : Type 0 where
-  pub done : IsDone x
-  pub frames : List Frame
-  pub rest : List ℕ
-  pub run : Run (rules_of x) octets frames rest (Stopped code)
-  pub stops : StopsAt (rules_of x) frames rest code
-  pub told_is : events (rules_of x) frames ≡ told
-  pub bound_is : x.end.bound ≡ bound_after (limits_of x) (received frames)
+-- it refused with this code what stands behind the good frames of these octets
+abbrev pub RefusedAt : ServerChannel → List ℕ → List Told → ℕ → Type 0
+RefusedAt x octets told code = EndStops server_side x.end tt octets told code

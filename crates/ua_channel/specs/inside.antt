@@ -1,13 +1,11 @@
 -- What the parts of both ends make of asks, frames and pieces: words that only contracts within this crate cite.
 pub mod StepFaults
 pub mod Parts
-pub mod Side
 pub mod Ends
 pub mod ServerEvents
 pub mod ServerParts
 pub mod ServerFrames
-pub mod ServerSide
 pub mod ServerSteps
 pub mod ClientAsking
+pub mod ClientEvents
 pub mod ClientParts
-pub mod ClientSide

@@ -6,7 +6,8 @@ ghost use Rattle.ua_frame.specs.declared.frame.Frame.{Frame};
 ghost use Rattle.ua_frame.specs.Reader.{open_reader};
 ghost use Rattle.ua_channel.specs.Received.{received};
 ghost use Rattle.ua_channel.specs.inside.Parts.{HasShape};
-ghost use Rattle.ua_channel.specs.inside.Side.{Side, ComesNext, JudgesBy};
+ghost use Rattle.ua_channel.specs.Ends.{Side};
+ghost use Rattle.ua_channel.specs.inside.Ends.{ComesNext, JudgesBy};
 
 use crate::numbers::Numbers;
 use crate::step_fault::StepFault;
@@ -68,7 +69,8 @@ pub struct EndCore<R, P> {
 
 impl<R: EndRules<P>, P: Drop> EndCore<R, P> {
     ghost use Rattle.std.specs.Prelude.{IfOk, take, Some};
-    ghost use Rattle.ua_channel.specs.inside.Ends.{EndStands, EndGoes, EndDone, EndSteps, EndNexts, JudgesWhole, MovesBy};
+    ghost use Rattle.ua_channel.specs.Ends.{EndStands, EndGoes, EndDone};
+    ghost use Rattle.ua_channel.specs.inside.Ends.{EndSteps, EndNexts, JudgesWhole, MovesBy};
 
     /// Ends the connection, which then holds nothing.
     pub fn fail(&mut self)

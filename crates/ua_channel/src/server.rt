@@ -56,7 +56,7 @@ impl ServerChannel {
     ghost use Rattle.ua_channel.specs.ServerAnswers.{Progress, AnswersAt, ServerAnswers, AsksInParts, parts_asked};
     ghost use Rattle.ua_channel.specs.inside.ServerSteps.{AnswersTo, StandsWith};
     ghost use Rattle.ua_channel.specs.inside.ServerEvents.{parts_of};
-    ghost use Rattle.ua_channel.specs.ServerStands.{StarvedAt, Stays, limits_of, channel_of, next_of, bound_of, HasNoToken, IsWithoutToken, Holds, Stands, Goes, IsDone, bound_after, held_after};
+    ghost use Rattle.ua_channel.specs.ServerStands.{StarvedAt, Stays, limits_of, channel_of, next_of, bound_of, HasNoToken, IsWithoutToken, Stands, Goes, IsDone, bound_after, held_after};
     ghost use Rattle.ua_channel.specs.inside.ServerFrames.{LaneIs};
     ghost use Rattle.ua_channel.specs.ServerRules.{receive_size};
     ghost use Rattle.ua_channel.specs.ServerSends.{IsReply, RepliesGo};

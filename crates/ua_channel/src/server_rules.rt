@@ -8,7 +8,7 @@ ghost use Rattle.ua_frame.specs.Kinds.{lets_in};
 ghost use Rattle.ua_channel.specs.Content.{content};
 ghost use Rattle.ua_channel.specs.inside.Parts.{HasShape};
 ghost use Rattle.ua_channel.specs.inside.ServerFrames.{JudgesFrame};
-ghost use Rattle.ua_channel.specs.inside.ServerSide.{server_side};
+ghost use Rattle.ua_channel.specs.ServerStands.{server_side};
 ghost use Rattle.ua_channel.specs.Received.{Received};
 ghost use Rattle.ua_channel.specs.ServerStands.{InServerPhase, Stays, bound_after};
 

@@ -43,7 +43,7 @@ by-frames x frames told bound is =
     ∙ ap (bound_at (limits_of x)) (sym (agreed_told (limits_of x) (channel_of x) frames) ∙ ap agreed_by is))
 
 by-told : (x : ServerChannel) (octets : List ℕ) (told : List Told) → Goes x octets told → bound_of x ≡ bound_at (limits_of x) (agreed_by told)
-by-told x octets told g = by-frames x g.frames told g.stands.holds.bound_is g.told_is
+by-told x octets told g = by-frames x g.frames told g.stands.bound_is g.told_is
 
 -- ---- nothing more was agreed to
 

@@ -1,6 +1,6 @@
 -- What the parts of a client make of a frame, and of a piece.
 use Rattle.std.specs.Prelude.{◌≡◌, ℕ, ◌==◌, Bool, true, false, ◌||◌, if◌then◌else◌, not, map, nat_le, is_none, List, [], ◌∷◌, ◌++◌, Option, Some, None, Result, Ok, Err}
-use Rattle.std.specs.List.{concat, filter}
+use Rattle.std.specs.List.{filter}
 use Rattle.ua_builtin.specs.Reasons.{first_reason, renamed_reason}
 use Rattle.ua_builtin.specs.declared.date_time.DateTime.{DateTime}
 use Rattle.ua_frame.specs.declared.ack.Ack.{Ack}
@@ -19,7 +19,7 @@ use Rattle.ua_services.specs.declared.open.OpenAnswer.{OpenAnswer}
 use Rattle.ua_services.specs.declared.open.OpenAnswer.TheVariants.{Open as Opened}
 use Rattle.ua_structures.specs.declared.secure_channel.OpenResponse.{OpenResponse}
 use Rattle.ua_channel.specs.Asks.{Asking, Placed, is_in}
-use Rattle.ua_channel.specs.Client.{InPhase, ClientGoes, ClientGoesTelling, ClientEnded, ClientStarvedAt, IsClientDone, client_bound_behind}
+use Rattle.ua_channel.specs.Client.{client_side, InPhase, ClientGoes, ClientGoesTelling, IsClientDone, client_bound_behind}
 use Rattle.ua_channel.specs.ClientAnswers.{Tells}
 use Rattle.ua_channel.specs.ClientAsks.{Talks}
 use Rattle.ua_channel.specs.ClientTable.{client_reasons, is_other, is_awaited, is_bad, result_of, code_in, is_outside, of_ack}
@@ -27,6 +27,8 @@ use Rattle.ua_channel.specs.ClientTokens.{answer_in, responses, opened_ids, chan
 use Rattle.ua_channel.specs.ClientTold.{ClientTold, ClientTold as told, Why, ours, peers, client_tells, told_item}
 use Rattle.ua_channel.specs.Content.{Opening, Content}
 use Rattle.ua_channel.specs.Content.Content.{Opens, Sends}
+use Rattle.ua_channel.specs.inside.Ends.{FailsBy}
+use Rattle.ua_channel.specs.inside.ClientEvents.{event_parts, told_by}
 use Rattle.ua_channel.specs.inside.Parts.{IsFaultFor, MayEndIn, NextsBy, parts_in}
 use Rattle.ua_channel.specs.Received.{Received, after, nothing_received, listed}
 use Rattle.ua_channel.specs.declared.step_fault.StepFault.{StepFault}
@@ -114,23 +116,10 @@ JudgesAnswer o (Err fault) = (limits : Limits) (before : Received) (asked : List
 
 -- ---- events
 
--- an event as what a frame tells: the octets of a message are its parts, joined
-abbrev pub told_by : Event → ClientTold
-told_by (event.Agreed ack) = told.Agreed ack
-told_by (event.Opened channel token) = told.Opened channel token
-told_by (event.Answered id message) = told.Answered id (concat message)
-told_by (event.Aborted id code) = told.GaveUp id code
-told_by (event.Renewed token) = told.Renewed token
-
 -- what is told, if something is
 abbrev pub told_by_frame : Option Event → List ClientTold
 told_by_frame None = []
 told_by_frame (Some e) = told_by e ∷ []
-
--- the parts of the message of an event, if it has one
-abbrev pub event_parts : Option Event → Option (List (List ℕ))
-event_parts (Some (event.Answered id message)) = Some message
-event_parts other = None
 
 -- ---- an open channel
 
@@ -278,16 +267,9 @@ pub record TookFrame (limits : Limits) (before : Received) (asked : List Asking)
 abbrev pub ComesTo : Event → ClientChannel → List Placed → List ℕ → List ClientTold → Type 0
 ComesTo e new asks octets before = ClientGoesTelling new asks octets before (told_by e)
 
--- where the channel stands with a fault
-abbrev pub StopsBy : StepFault → ClientChannel → List Placed → List ℕ → List ClientTold → Type 0
-StopsBy (Refused code) new asks octets before = ClientEnded new asks octets before (ours code.code)
-StopsBy (Peer code) new asks octets before = ClientEnded new asks octets before (peers code.code)
-StopsBy OutOfMemory new asks octets before = ClientStarvedAt new asks octets before
-StopsBy Closed new asks octets before = ⊥
-
 -- the steps of a piece, up to the first event
 abbrev pub ClientNexts : List ℕ → ℕ → Result (Option Event) StepFault → ClientChannel → List Placed → List ℕ → List ClientTold → Type 0
-ClientNexts piece n result new asks octets before = NextsBy (λ o. ClientGoes new asks (octets ++ o) before) (λ e o. ComesTo e new asks (octets ++ o) before) (λ fault o. StopsBy fault new asks (octets ++ o) before) piece n result
+ClientNexts piece n result new asks octets before = NextsBy (λ o. ClientGoes new asks (octets ++ o) before) (λ e o. ComesTo e new asks (octets ++ o) before) (λ fault o. FailsBy client_side new.end asks (octets ++ o) before fault) piece n result
 
 -- ---- what is answered
 

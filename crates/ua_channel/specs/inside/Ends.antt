@@ -1,95 +1,79 @@
--- Where either end of a connection stands by its rules, and what it makes of a call of its reader and of a piece.
-use Rattle.std.specs.Prelude.{◌≡◌, ◌⊎◌, ℕ, ◌≤◌, length, Bool, true, false, List, [], ◌∷◌, ◌++◌, Option, None, MatchOption, Result, Ok, Err}
+-- What either end of a connection makes of a frame, of a call of its reader and of a piece, by its rules.
+use Rattle.std.specs.Prelude.{◌≡◌, ℕ, ◌<◌, ◌≤◌, length, Bool, true, false, List, [], ◌∷◌, ◌++◌, Option, Some, None, MatchOption, Result, Ok, Err}
 use Rattle.ua_frame.specs.declared.frame.Frame.{Frame}
-use Rattle.ua_frame.specs.After.{AllAfter}
-use Rattle.ua_frame.specs.Frames.{frames_octets, header_fault, size_of}
+use Rattle.ua_frame.specs.Frames.{LetsIn}
 use Rattle.ua_frame.specs.Reader.{open_reader}
-use Rattle.ua_frame.specs.Run.{Rules, Run, Fits, events, Going, Stopped, Over}
+use Rattle.ua_frame.specs.Run.{refusal}
+use Rattle.ua_channel.specs.Asks.{end_of}
 use Rattle.ua_channel.specs.Content.{content}
+use Rattle.ua_channel.specs.Ends.{Side, EndDone, EndGoes, EndOver, EndStarves, EndStops, EndTells, HandsOut, rules_by}
 use Rattle.ua_channel.specs.Received.{received}
-use Rattle.ua_channel.specs.Stops.{StopsAt}
-use Rattle.ua_channel.specs.inside.Parts.{MayEndIn, Moves, NextsBy, StepsBy, TookBy}
-use Rattle.ua_channel.specs.inside.Side.{Side, TakenBy, RefusedBy, closes_by}
+use Rattle.ua_channel.specs.inside.Parts.{IsFaultFor, MayEndIn, Moves, NextsBy, StepsBy, TookBy}
 use Rattle.ua_channel.specs.declared.end_core.EndCore.{EndCore}
 use Rattle.ua_channel.specs.declared.step_fault.StepFault.{StepFault}
 use Rattle.ua_channel.specs.declared.step_fault.StepFault.TheVariants.{Refused, Peer, OutOfMemory, Closed}
-
--- the rules of an end
-abbrev pub rules_by : {R P E : Type 0} (S : Side R P E) (x : EndCore R P) (k : S.Key) → Rules S.Told S.Why
-rules_by S x k = S.rules x.rules k
 
 -- the same end but for where it stands
 abbrev pub SameEnd : {R P : Type 0} → EndCore R P → EndCore R P → Type 0
 SameEnd a b = b ≡ record a { reader = b.reader; bound = b.bound; phase = b.phase }
 
--- ---- after octets
+-- ---- a frame
 
--- an end is where these octets leave it: these are their frames, and this is the rest, of a frame that is not whole
-pub record EndStands {R P E : Type 0} (S : Side R P E) (x : EndCore R P) (k : S.Key) (octets : List ℕ) (frames : List Frame) (rest : List ℕ) : Type 0 where
-  pub run : Run (rules_by S x k) octets frames rest Going
-  pub placed : S.placed k (length octets)
-  pub reader_is : x.reader ≡ open_reader ((rules_by S x k).gate frames) rest
-  pub holds : S.holds x.rules k x.phase frames
-  pub bound_is : x.bound ≡ S.bound x.rules frames
+module _ {R P E : Type 0} (S : Side R P E) where
+  -- what is told, if a frame comes to something; whether it is the last; the parts of its message, if it hands one out
+  abbrev pub told_by : Option E → List S.Told
+  told_by None = []
+  told_by (Some e) = S.tells e ∷ []
 
--- an end that ended, and holds nothing
-pub record EndDone {R P E : Type 0} (S : Side R P E) (x : EndCore R P) : Type 0 where
-  pub phase : S.done x.phase
-  pub empty : x.reader.held ≡ []
+  abbrev pub closes_by : Option E → Bool
+  closes_by None = false
+  closes_by (Some e) = S.closes e
 
--- it goes on after these octets, whose frames told this
-pub record EndGoes {R P E : Type 0} (S : Side R P E) (x : EndCore R P) (k : S.Key) (octets : List ℕ) (told : List S.Told) : Type 0 where
-  pub frames : List Frame
-  pub rest : List ℕ
-  pub stands : EndStands S x k octets frames rest
-  pub told_is : events (rules_by S x k) frames ≡ told
+  abbrev pub parts_by : Option E → Option (List (List ℕ))
+  parts_by None = None
+  parts_by (Some e) = S.parts e
 
--- it goes on after these octets, of which the last octet is that of a frame that comes to this, after what the frames before it told
-pub record EndTells {R P E : Type 0} (S : Side R P E) (x : EndCore R P) (k : S.Key) (octets : List ℕ) (told : List S.Told) (e : E) : Type 0 where
-  pub frames : List Frame
-  pub frame : Frame
-  pub stands : EndStands S x k octets (frames ++ frame ∷ []) []
-  pub told_is : events (rules_by S x k) frames ≡ told
-  pub tells : (rules_by S x k).tells frames frame ≡ S.tells e ∷ []
-  pub parts : MayEndIn (received frames).messages (content frame) (S.parts e)
+  -- how far a connection has come behind these frames, by whether the last of them was the last at all
+  abbrev pub IsBehind : Bool → R → S.Key → P → List Frame → Type 0
+  IsBehind false r k p frames = S.holds r k p frames
+  IsBehind true r k p frames = S.done p
 
--- it ended at the last octet of these, that of the last frame, which comes to this, after what the frames before it told
-pub record EndCloses {R P E : Type 0} (S : Side R P E) (x : EndCore R P) (k : S.Key) (octets : List ℕ) (told : List S.Told) (e : E) : Type 0 where
-  pub done : EndDone S x
-  pub frames : List Frame
-  pub run : Run (rules_by S x k) octets frames [] Over
-  pub told_is : events (rules_by S x k) frames ≡ told ++ S.tells e ∷ []
-  pub bound_is : x.bound ≡ S.bound x.rules frames
+-- a frame comes next behind these, at an end that is so far and holds at most so many octets
+pub record ComesNext {R P E : Type 0} (S : Side R P E) (r : R) (k : S.Key) (p : P) (bound : ℕ) (frames : List Frame) (f : Frame) : Type 0 where
+  pub came : ℕ
+  pub placed : S.placed k came
+  pub later : came < end_of frames f
+  pub holds : S.holds r k p frames
+  pub bound_is : bound ≡ S.bound r frames
+  pub let_in : LetsIn ((S.rules r k).gate frames) f
 
--- it refused for this what stands behind the good frames of these octets: a header at its eighth octet, or a frame at its last
-pub record EndStops {R P E : Type 0} (S : Side R P E) (x : EndCore R P) (k : S.Key) (octets : List ℕ) (told : List S.Told) (why : S.Why) : Type 0 where
-  pub done : EndDone S x
-  pub frames : List Frame
-  pub rest : List ℕ
-  pub run : Run (rules_by S x k) octets frames rest (Stopped why)
-  pub stops : StopsAt (rules_by S x k) frames rest why
-  pub told_is : events (rules_by S x k) frames ≡ told
-  pub bound_is : x.bound ≡ S.bound x.rules frames
+-- a frame is taken behind these, and comes to this; where the end then is
+pub record TakenBy {R P E : Type 0} (S : Side R P E) (r : R) (k : S.Key) (frames : List Frame) (f : Frame) (p : P) (bound : ℕ) (e : Option E) : Type 0 where
+  pub accepted : refusal (S.rules r k) frames f ≡ None
+  pub tells : (S.rules r k).tells frames f ≡ told_by S e
+  pub last : (S.rules r k).over (frames ++ f ∷ []) ≡ closes_by S e
+  pub parts : MayEndIn (received frames).messages (content f) (parts_by S e)
+  pub behind : IsBehind S (closes_by S e) r k p (frames ++ f ∷ [])
+  pub bound_is : bound ≡ S.bound r (frames ++ f ∷ [])
 
--- memory was refused where these octets end, behind the good frames that told this: of the next frame they have a header with nothing wrong,
--- up to its eighth octet, or more of the frame, at most all of it
-pub record EndStarves {R P E : Type 0} (S : Side R P E) (x : EndCore R P) (k : S.Key) (octets : List ℕ) (told : List S.Told) : Type 0 where
-  pub done : EndDone S x
-  pub frames : List Frame
-  pub rest : List ℕ
-  pub whole : octets ≡ frames_octets frames ++ rest
-  pub good : AllAfter (Fits (rules_by S x k)) frames
-  pub told_is : events (rules_by S x k) frames ≡ told
-  pub header : 8 ≤ length rest
-  pub sound : header_fault ((rules_by S x k).gate frames) rest ≡ None
-  pub within : (length rest ≡ 8) ⊎ (length rest ≤ size_of rest)
+-- a frame behind these is refused with this fault
+abbrev pub RefusedBy : {R P E : Type 0} (S : Side R P E) → R → (k : S.Key) → List Frame → Frame → StepFault → Type 0
+RefusedBy S r k frames f fault =
+    IsFaultFor (λ (code : ℕ). refusal (S.rules r k) frames f ≡ Some ((S.rules r k).of_header code)) (λ (code : ℕ). MatchOption (S.peer code) ⊥ (λ (why : S.Why). refusal (S.rules r k) frames f ≡ Some why)) fault
 
--- where it stands behind the frame of an event, by whether that is the last
+-- what is made of a frame behind these
+abbrev pub JudgesBy : {R P E : Type 0} (S : Side R P E) → R → (k : S.Key) → List Frame → Frame → P → ℕ → Result (Option E) StepFault → Type 0
+JudgesBy S r k frames f p bound (Ok e) = TakenBy S r k frames f p bound e
+JudgesBy S r k frames f p bound (Err fault) = RefusedBy S r k frames f fault
+
+-- ---- where the end then stands
+
+-- behind the frame of an event, by whether that is the last
 abbrev pub ComesBy : {R P E : Type 0} (S : Side R P E) → Bool → EndCore R P → (k : S.Key) → List ℕ → List S.Told → E → Type 0
-ComesBy S false x k octets told e = EndTells S x k octets told e
-ComesBy S true x k octets told e = EndCloses S x k octets told e
+ComesBy S false x k octets told e = EndTells S x k octets told (S.tells e) × HandsOut S (S.parts e) x k octets
+ComesBy S true x k octets told e = EndOver S x k octets (told ++ S.tells e ∷ [])
 
--- where it stands with a fault
+-- with a fault
 abbrev pub FailsBy : {R P E : Type 0} (S : Side R P E) → EndCore R P → (k : S.Key) → List ℕ → List S.Told → StepFault → Type 0
 FailsBy S x k octets told (Refused code) = EndStops S x k octets told ((rules_by S x k).of_header code.code)
 FailsBy S x k octets told (Peer code) = MatchOption (S.peer code.code) ⊥ (λ (why : S.Why). EndStops S x k octets told why)

@@ -1,5 +1,5 @@
 -- Events of a server, as what frames tell, and the parts of their messages.
-use Rattle.std.specs.Prelude.{ℕ, List, [], ◌∷◌, Option, Some, None}
+use Rattle.std.specs.Prelude.{ℕ, Bool, true, false, List, [], ◌∷◌, Option, Some, None}
 use Rattle.std.specs.List.{concat}
 use Rattle.ua_channel.specs.declared.server_event.Event.{Event}
 use Rattle.ua_channel.specs.ServerTold.{Told, Agreed, Opened, Asked, GaveUp, Closed}
@@ -22,3 +22,8 @@ told_list (Some e) = told_of e ∷ []
 abbrev pub parts_of : Option Event → Option (List (List ℕ))
 parts_of (Some (event.Asked request token message)) = Some message
 parts_of other = None
+
+-- the frame of a CLO is the last
+abbrev pub is_closed : Event → Bool
+is_closed event.Closed = true
+is_closed other = false

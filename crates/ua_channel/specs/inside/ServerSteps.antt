@@ -8,30 +8,23 @@ use Rattle.ua_channel.specs.declared.server_event.ServerEvent.TheVariants.{NeedM
 use Rattle.ua_channel.specs.declared.server_fault.ChannelFault.{ChannelFault}
 use Rattle.ua_channel.specs.declared.server_fault.ChannelFault.TheVariants.{Refused, Closed, OutOfMemory}
 use Rattle.ua_channel.specs.declared.step_fault.StepFault.{StepFault}
+use Rattle.ua_channel.specs.inside.Ends.{FailsBy}
 use Rattle.ua_channel.specs.inside.Parts.{NextsBy}
 use Rattle.ua_channel.specs.inside.ServerEvents.{told_of}
-use Rattle.ua_channel.specs.ServerStands.{next_of, IsDone, Goes, GoesTelling, ClosedAt, RefusedAt, StarvedAt}
+use Rattle.ua_channel.specs.ServerStands.{server_side, next_of, IsDone, Goes, GoesTelling, ClosedAt}
 use Rattle.ua_channel.specs.ServerTold.{Told, Told as told}
 use Rattle.ua_channel.specs.ServerAnswers.{SendsOctets, Asks}
 use Rattle.ua_channel.specs.declared.server_event.Event.TheVariants as inner
 use Rattle.ua_channel.specs.declared.server_event.ServerEvent.TheVariants as event
-use Rattle.ua_channel.specs.declared.step_fault.StepFault.TheVariants as step
 
 -- where the channel stands with an event of a frame
 abbrev pub StandsWith : Event → ServerChannel → List ℕ → List Told → Type 0
 StandsWith inner.Closed new octets before = ClosedAt new octets (before ++ told.Closed ∷ [])
 StandsWith e new octets before = GoesTelling new octets before (told_of e)
 
--- where the channel stands with a fault
-abbrev pub FailsWith : StepFault → ServerChannel → List ℕ → List Told → Type 0
-FailsWith (step.Refused code) new octets before = RefusedAt new octets before code.code
-FailsWith (step.Peer code) new octets before = ⊥
-FailsWith step.OutOfMemory new octets before = StarvedAt new octets before
-FailsWith step.Closed new octets before = ⊥
-
 -- the steps of a piece, up to the first event
 abbrev pub Nexts : List ℕ → ℕ → Result (Option Event) StepFault → ServerChannel → List ℕ → List Told → Type 0
-Nexts piece n result new octets before = NextsBy (λ o. Goes new (octets ++ o) before) (λ e o. StandsWith e new (octets ++ o) before) (λ fault o. FailsWith fault new (octets ++ o) before) piece n result
+Nexts piece n result new octets before = NextsBy (λ o. Goes new (octets ++ o) before) (λ e o. StandsWith e new (octets ++ o) before) (λ fault o. FailsBy server_side new.end tt (octets ++ o) before fault) piece n result
 
 -- what is answered to an event of the last frame
 abbrev pub AnswersTo : ℕ → ℕ → DateTime → Result ServerEvent ChannelFault → ServerChannel → List ℕ → List Told → Type 0

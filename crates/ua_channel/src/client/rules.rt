@@ -7,7 +7,7 @@ ghost use Rattle.ua_channel.specs.Client.{InPhase, client_bound_behind};
 ghost use Rattle.ua_channel.specs.ClientTable.{client_gate, client_reasons};
 ghost use Rattle.ua_channel.specs.Content.{content};
 ghost use Rattle.ua_channel.specs.inside.ClientParts.{Judged, TookFrame};
-ghost use Rattle.ua_channel.specs.inside.ClientSide.{client_side};
+ghost use Rattle.ua_channel.specs.Client.{client_side};
 ghost use Rattle.ua_channel.specs.inside.Parts.{HasShape};
 ghost use Rattle.ua_channel.specs.Received.{Received};
 

@@ -1,5 +1,6 @@
 use Rattle.std.proofs.Common.{◌∙◌, Ok, Err, Some, ap, refl}
-use Rattle.ua_channel.specs.inside.Ends.{EndGoes, SameEnd}
+use Rattle.ua_channel.specs.Ends.{EndGoes}
+use Rattle.ua_channel.specs.inside.Ends.{SameEnd}
 use Rattle.ua_channel.proofs.Ends.{moved_by, next_by, took_by}
 use Rattle.ua_channel.proofs.Pieces.{moves_nothing, nexts_nothing, took_nothing}
 use Rattle.ua_channel.proofs.end_core.EndCore.next_event.Goals as goal
