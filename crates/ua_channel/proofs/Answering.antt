@@ -15,10 +15,11 @@ use Rattle.ua_channel.specs.declared.server_fault.ChannelFault.TheVariants as fa
 use Rattle.ua_channel.specs.declared.step_fault.StepFault.{StepFault}
 use Rattle.ua_channel.specs.declared.step_fault.StepFault.TheVariants as step
 use Rattle.ua_channel.specs.ServerAnswers.{SendsOctets, AnswersAt}
-use Rattle.ua_channel.specs.inside.ServerSteps.{StandsWith, Nexts, AnswersTo}
+use Rattle.ua_channel.specs.inside.ServerSteps.{StandsWith, AnswersTo}
+use Rattle.ua_channel.specs.inside.Ends.{EndNexts}
 use Rattle.ua_channel.specs.inside.StepFaults.{of_step}
 use Rattle.ua_channel.specs.ServerSends.{opened_frame}
-use Rattle.ua_channel.specs.ServerStands.{channel_of, limits_of, next_of, Goes, GoesTelling, IsDone, StarvedAt}
+use Rattle.ua_channel.specs.ServerStands.{server_side, channel_of, limits_of, next_of, Goes, GoesTelling, IsDone, StarvedAt}
 use Rattle.ua_channel.specs.ServerTold.{Told, Told as told}
 use Rattle.ua_channel.specs.declared.numbers.Numbers.{Numbers}
 use Rattle.ua_channel.proofs.Servers.{starved_behind}
@@ -39,7 +40,7 @@ pub opened_sends : (x : ServerChannel) (numbers : Numbers) (moment : DateTime) (
 opened_sends x numbers moment octets sent before e id handle token lifetime number is tells number_is next sent_is = record {
   said = told.Opened id handle token lifetime;
   are_sent = sent_is ∙ ap (λ (n : ℕ). frame_octets (opened_frame (channel_of x) n id handle token lifetime moment)) number_is;
-  goes = telling_counted x numbers octets before (told.Opened id handle token lifetime) (subst (λ (v : Event). StandsWith v x octets before) is tells);
+  goes = telling_counted x numbers octets before (told.Opened id handle token lifetime) (subst (λ (v : Event). StandsWith v x octets before) is tells).0;
   counted = next;
 }
 
@@ -56,7 +57,7 @@ counts_of channel number moment piece n (Err fault.OutOfMemory) new octets befor
 counts_of channel number moment piece n (Err fault.Closed) new octets before some within h = h
 
 -- an event
-pub answers_event : (channel channel' number number' : ℕ) (moment : DateTime) (piece : List ℕ) (n : ℕ) (e : Event) (answer : Result ServerEvent ChannelFault) (mid new : ServerChannel) (octets : List ℕ) (before : List Told) → channel' ≡ channel → number' ≡ number → Nexts piece n (Ok (Some e)) mid octets before
+pub answers_event : (channel channel' number number' : ℕ) (moment : DateTime) (piece : List ℕ) (n : ℕ) (e : Event) (answer : Result ServerEvent ChannelFault) (mid new : ServerChannel) (octets : List ℕ) (before : List Told) → channel' ≡ channel → number' ≡ number → EndNexts server_side piece n (Ok (Some e)) mid.end tt octets before
     → (StandsWith e mid (octets ++ take n piece) before → AnswersTo channel' number' moment answer new (octets ++ take n piece) before) → AnswersAt channel number moment piece n answer new octets before
 answers_event channel channel' number number' moment piece n e answer mid new octets before same again h by =
     counts_of channel number moment piece n answer new octets before h.0 h.1
@@ -64,18 +65,18 @@ answers_event channel channel' number number' moment piece n e answer mid new oc
     (subst (λ (k : ℕ). AnswersTo k number' moment answer new (octets ++ take n piece) before) same (by h.2)))
 
 -- no event
-pub answers_nothing : (channel number : ℕ) (moment : DateTime) (piece : List ℕ) (n : ℕ) (new : ServerChannel) (octets : List ℕ) (before : List Told) → Nexts piece n (Ok None) new octets before → next_of new ≡ number → AnswersAt channel number moment piece n (Ok NeedMore) new octets before
+pub answers_nothing : (channel number : ℕ) (moment : DateTime) (piece : List ℕ) (n : ℕ) (new : ServerChannel) (octets : List ℕ) (before : List Told) → EndNexts server_side piece n (Ok None) new.end tt octets before → next_of new ≡ number → AnswersAt channel number moment piece n (Ok NeedMore) new octets before
 answers_nothing channel number moment piece n new octets before h same =
     (h.0, (subst (λ (z : List ℕ). Goes new (octets ++ z) before) (sym (ap (λ (k : ℕ). take k piece) h.0 ∙ take-length piece)) h.1, same))
 
-answers_step : (channel number : ℕ) (moment : DateTime) (piece : List ℕ) (n : ℕ) (s : StepFault) (new : ServerChannel) (octets : List ℕ) (before : List Told) → Nexts piece n (Err s) new octets before → AnswersAt channel number moment piece n (Err (of_step s)) new octets before
+answers_step : (channel number : ℕ) (moment : DateTime) (piece : List ℕ) (n : ℕ) (s : StepFault) (new : ServerChannel) (octets : List ℕ) (before : List Told) → EndNexts server_side piece n (Err s) new.end tt octets before → AnswersAt channel number moment piece n (Err (of_step s)) new octets before
 answers_step channel number moment piece n (step.Refused code) new octets before h = (h.0, h.1, refl)
 answers_step channel number moment piece n (step.Peer code) new octets before h = absurd h.1
 answers_step channel number moment piece n step.OutOfMemory new octets before h = (h.0, h.1.done)
 answers_step channel number moment piece n step.Closed new octets before h = absurd h.1
 
 -- a fault
-pub answers_fault : (channel number : ℕ) (moment : DateTime) (piece : List ℕ) (n : ℕ) (s : StepFault) (f : ChannelFault) (new : ServerChannel) (octets : List ℕ) (before : List Told) → Nexts piece n (Err s) new octets before → f ≡ of_step s → AnswersAt channel number moment piece n (Err f) new octets before
+pub answers_fault : (channel number : ℕ) (moment : DateTime) (piece : List ℕ) (n : ℕ) (s : StepFault) (f : ChannelFault) (new : ServerChannel) (octets : List ℕ) (before : List Told) → EndNexts server_side piece n (Err s) new.end tt octets before → f ≡ of_step s → AnswersAt channel number moment piece n (Err f) new octets before
 answers_fault channel number moment piece n s f new octets before h is = subst (λ (x : ChannelFault). AnswersAt channel number moment piece n (Err x) new octets before) (sym is) (answers_step channel number moment piece n s new octets before h)
 
 -- ---- after want of memory
@@ -92,14 +93,14 @@ starved_with channel number moment piece n bound f x new octets before is new_is
 -- where it stands behind the frame of an event for whose answer memory was refused
 pub starved_event : (mid d : ServerChannel) (octets : List ℕ) (told : List Told) (e : Event) (answer : Result ServerEvent ChannelFault) → limits_of d ≡ limits_of mid → channel_of d ≡ channel_of mid → IsDone d → StandsWith e mid octets told → (e ≡ inner.Closed → answer ≡ Ok event.Closed) → answer ≡ Err fault.OutOfMemory
     → StarvedAt d octets told
-starved_event mid d octets told (inner.Agreed a) answer limits channel done h closes is = starved_behind mid d octets told _ limits channel done h
-starved_event mid d octets told (inner.Opened id handle token lifetime) answer limits channel done h closes is = starved_behind mid d octets told _ limits channel done h
-starved_event mid d octets told (inner.Asked id token message) answer limits channel done h closes is = starved_behind mid d octets told _ limits channel done h
-starved_event mid d octets told (inner.Aborted id) answer limits channel done h closes is = starved_behind mid d octets told _ limits channel done h
+starved_event mid d octets told (inner.Agreed a) answer limits channel done h closes is = starved_behind mid d octets told _ limits channel done h.0
+starved_event mid d octets told (inner.Opened id handle token lifetime) answer limits channel done h closes is = starved_behind mid d octets told _ limits channel done h.0
+starved_event mid d octets told (inner.Asked id token message) answer limits channel done h closes is = starved_behind mid d octets told _ limits channel done h.0
+starved_event mid d octets told (inner.Aborted id) answer limits channel done h closes is = starved_behind mid d octets told _ limits channel done h.0
 starved_event mid d octets told inner.Closed answer limits channel done h closes is = let no = sym (closes refl) ∙ is in absurd cc
 
 -- where it stands with a fault
-starved_step : (piece : List ℕ) (n : ℕ) (s : StepFault) (new : ServerChannel) (octets : List ℕ) (told : List Told) → Nexts piece n (Err s) new octets told → of_step s ≡ fault.OutOfMemory → StarvedAt new (octets ++ take n piece) told
+starved_step : (piece : List ℕ) (n : ℕ) (s : StepFault) (new : ServerChannel) (octets : List ℕ) (told : List Told) → EndNexts server_side piece n (Err s) new.end tt octets told → of_step s ≡ fault.OutOfMemory → StarvedAt new (octets ++ take n piece) told
 starved_step piece n (step.Refused code) new octets told h is = absurd cc
 starved_step piece n (step.Peer code) new octets told h is = absurd h.1
 starved_step piece n step.OutOfMemory new octets told h is = h.1
@@ -108,7 +109,7 @@ starved_step piece n step.Closed new octets told h is = absurd h.1
 err_is : (f g : ChannelFault) → ◌≡◌ {A = Result ServerEvent ChannelFault} (Err f) (Err g) → f ≡ g
 err_is f g e = cc
 
-pub starved_fault : (piece : List ℕ) (n : ℕ) (s : StepFault) (f : ChannelFault) (new : ServerChannel) (octets : List ℕ) (told : List Told) → Nexts piece n (Err s) new octets told → f ≡ of_step s → ◌≡◌ {A = Result ServerEvent ChannelFault} (Err f) (Err fault.OutOfMemory)
+pub starved_fault : (piece : List ℕ) (n : ℕ) (s : StepFault) (f : ChannelFault) (new : ServerChannel) (octets : List ℕ) (told : List Told) → EndNexts server_side piece n (Err s) new.end tt octets told → f ≡ of_step s → ◌≡◌ {A = Result ServerEvent ChannelFault} (Err f) (Err fault.OutOfMemory)
     → StarvedAt new (octets ++ take n piece) told
 starved_fault piece n s f new octets told h is failed = starved_step piece n s new octets told h (sym is ∙ err_is f fault.OutOfMemory failed)
 

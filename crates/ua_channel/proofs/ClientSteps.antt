@@ -1,22 +1,16 @@
 -- A client's channel, as an end of a connection.
-use Rattle.std.proofs.Common.{◌≡◌, ℕ, List, ◌++◌, Option, Some, None, Result, Ok, Err, take, sym, ◌∙◌, ap, subst}
+use Rattle.std.proofs.Common.{◌≡◌, ℕ, List, ◌++◌, Result, Ok, Err, take, sym, ap, subst}
 use Rattle.ua_builtin.specs.declared.date_time.DateTime.{DateTime}
 use Rattle.ua_frame.specs.declared.limits.Limits.{Limits}
-use Rattle.ua_frame.specs.Frames.{frame_octets}
-use Rattle.ua_frame.specs.Run.{Rules, events}
 use Rattle.ua_channel.specs.Asks.{Placed}
-use Rattle.ua_channel.specs.Client.{client_side, ClientGoes, ClientGoesTelling, ClientStarvedAt, IsClientDone, client_rules_of, client_limits}
-use Rattle.ua_channel.specs.inside.ClientParts.{AnswersEvent, ClientNexts, counted, failure_of}
-use Rattle.ua_channel.specs.inside.ClientEvents.{event_parts}
-use Rattle.ua_channel.specs.Ends.{EndGoes}
+use Rattle.ua_channel.specs.Client.{client_side, ClientGoesTelling, ClientStarvedAt, IsClientDone, client_limits}
+use Rattle.ua_channel.specs.inside.ClientParts.{AnswersEvent, counted, failure_of}
 use Rattle.ua_channel.specs.inside.Ends.{EndNexts}
-use Rattle.ua_channel.specs.ClientAnswers.{ClientAnswers, ComesInParts}
-use Rattle.ua_channel.specs.ClientTable.{client_rules}
-use Rattle.ua_channel.specs.ClientTold.{ClientTold, Why}
+use Rattle.ua_channel.specs.ClientAnswers.{ClientAnswers}
+use Rattle.ua_channel.specs.ClientTold.{ClientTold}
 use Rattle.ua_channel.specs.declared.client.channel.ClientChannel.{ClientChannel}
 use Rattle.ua_channel.specs.declared.client.event.ClientEvent.{ClientEvent}
 use Rattle.ua_channel.specs.declared.client.event.ClientEvent.TheVariants as client_event
-use Rattle.ua_channel.specs.declared.client.event.Event.{Event}
 use Rattle.ua_channel.specs.declared.client.fault.ClientTakeFault.{ClientTakeFault}
 use Rattle.ua_channel.specs.declared.client.fault.ClientTakeFault.TheVariants as take_fault
 use Rattle.ua_channel.specs.declared.client.phase.Phase.{Phase}
@@ -24,44 +18,19 @@ use Rattle.ua_channel.specs.declared.client.rules.ClientRules.{ClientRules}
 use Rattle.ua_channel.specs.declared.end_core.EndCore.{EndCore}
 use Rattle.ua_channel.specs.declared.step_fault.StepFault.{StepFault}
 use Rattle.ua_channel.specs.declared.step_fault.StepFault.TheVariants.{Refused, Peer, Closed, OutOfMemory}
-use Rattle.ua_channel.proofs.Ends.{starved_by}
-use Rattle.ua_channel.proofs.Stepping.{Breaks, frame_broken}
+use Rattle.ua_channel.proofs.Ends.{starved_behind}
 
-nexts_so : (x : ClientChannel) (asks : List Placed) (piece : List ℕ) (n : ℕ) (answer : Result (Option Event) StepFault) (octets : List ℕ) (told : List ClientTold) → EndNexts client_side piece n answer x.end asks octets told → ClientNexts piece n answer x asks octets told
-nexts_so x asks piece n (Ok None) octets told h = h
-nexts_so x asks piece n (Ok (Some e)) octets told h = (h.0, h.1, h.2.0)
-nexts_so x asks piece n (Err fault) octets told h = h
+abbrev rules_with : Limits → ClientRules
+rules_with limits = record { limits = limits }
 
 abbrev pub with_end : ClientChannel → EndCore ClientRules Phase → ClientChannel
 with_end x new = record x { end = new }
 
--- what the octets of a piece come to, for the channel
-module _ (x : ClientChannel) (new : EndCore ClientRules Phase) (piece : List ℕ) (n : ℕ) (a : Result (Option Event) StepFault) where
-  end_there : (b : Result (Option Event) StepFault) → a ≡ b → ((asks : List Placed) (octets : List ℕ) (told : List ClientTold) → EndGoes client_side x.end asks octets told → EndNexts client_side piece n a new asks octets told)
-      → (asks : List Placed) (octets : List ℕ) (told : List ClientTold) → ClientGoes x asks octets told → EndNexts client_side piece n b new asks octets told
-  end_there b is nexts asks octets told g = subst (λ (c : Result (Option Event) StepFault). EndNexts client_side piece n c new asks octets told) is (nexts asks octets told g)
-
-  pub next_there : (b : Result (Option Event) StepFault) → a ≡ b → ((asks : List Placed) (octets : List ℕ) (told : List ClientTold) → EndGoes client_side x.end asks octets told → EndNexts client_side piece n a new asks octets told)
-      → (asks : List Placed) (octets : List ℕ) (told : List ClientTold) → ClientGoes x asks octets told → ClientNexts piece n b (with_end x new) asks octets told
-  next_there b is nexts asks octets told g = nexts_so (with_end x new) asks piece n b octets told (end_there b is nexts asks octets told g)
-
-  pub parts_there : (e : Event) → a ≡ Ok (Some e) → ((asks : List Placed) (octets : List ℕ) (told : List ClientTold) → EndGoes client_side x.end asks octets told → EndNexts client_side piece n a new asks octets told)
-      → (asks : List Placed) (octets : List ℕ) (told : List ClientTold) → ClientGoes x asks octets told → ComesInParts (event_parts (Some e)) (with_end x new) asks (octets ++ take n piece)
-  parts_there e is nexts asks octets told g = (end_there (Ok (Some e)) is nexts asks octets told g).2.1
-
 -- ---- what is answered
-
--- behind the frame of an event
-starved_behind : (mid d : ClientChannel) (asks : List Placed) (octets : List ℕ) (told : List ClientTold) (e : ClientTold) → client_limits d ≡ client_limits mid → IsClientDone d → ClientGoesTelling mid asks octets told e → ClientStarvedAt d asks octets told
-starved_behind mid d asks octets told e limits done g =
-    let same : client_rules_of mid asks ≡ client_rules_of d asks = ap (λ (l : Limits). client_rules l asks) (sym limits) in
-    starved_by client_side d.end asks octets (frame_octets g.frame) g.frames told done
-    (subst (λ (R : Rules ClientTold Why). Breaks R octets g.frames (frame_octets g.frame)) same (frame_broken (client_rules_of mid asks) octets g.frames g.frame g.stands.run))
-    (ap (λ (R : Rules ClientTold Why). events R g.frames) (sym same) ∙ g.told_is)
 
 pub starved_event : (moment : DateTime) (mid d : ClientChannel) (asks : List Placed) (octets : List ℕ) (told : List ClientTold) (e : ClientTold) (answer : Result ClientEvent ClientTakeFault) → client_limits d ≡ client_limits mid → ClientGoesTelling mid asks octets told e → AnswersEvent moment answer d asks octets told
     → answer ≡ Err take_fault.OutOfMemory → ClientStarvedAt d asks octets told
-starved_event moment mid d asks octets told e answer limits g h is = starved_behind mid d asks octets told e limits (subst (λ (a : Result ClientEvent ClientTakeFault). AnswersEvent moment a d asks octets told) is h) g
+starved_event moment mid d asks octets told e answer limits g h is = starved_behind client_side mid.end d.end asks octets told e (ap rules_with limits) (subst (λ (a : Result ClientEvent ClientTakeFault). AnswersEvent moment a d asks octets told) is h) g
 
 -- an event
 pub answers_event : (moment : DateTime) (piece : List ℕ) (n : ℕ) (answer : Result ClientEvent ClientTakeFault) (new : ClientChannel) (asks : List Placed) (octets : List ℕ) (told : List ClientTold) → AnswersEvent moment answer new asks (octets ++ take n piece) told
@@ -77,14 +46,14 @@ answers_event moment piece n (Err take_fault.OutOfMemory) new asks octets told h
 answers_event moment piece n (Err take_fault.Closed) new asks octets told h = h
 
 -- a fault
-pub answers_fault : (moment : DateTime) (piece : List ℕ) (n : ℕ) (fault : StepFault) (new : ClientChannel) (asks : List Placed) (octets : List ℕ) (told : List ClientTold) → ClientNexts piece n (Err fault) new asks octets told
+pub answers_fault : (moment : DateTime) (piece : List ℕ) (n : ℕ) (fault : StepFault) (new : ClientChannel) (asks : List Placed) (octets : List ℕ) (told : List ClientTold) → EndNexts client_side piece n (Err fault) new.end asks octets told
     → ClientAnswers moment piece (counted n (failure_of fault)) new asks octets told
 answers_fault moment piece n (Refused code) new asks octets told h = h.1
 answers_fault moment piece n (Peer code) new asks octets told h = h.1
 answers_fault moment piece n OutOfMemory new asks octets told h = h.1.done
 answers_fault moment piece n Closed new asks octets told h = absurd h.1
 
-pub starved_fault : (piece : List ℕ) (n : ℕ) (fault : StepFault) (new : ClientChannel) (asks : List Placed) (octets : List ℕ) (told : List ClientTold) → ClientNexts piece n (Err fault) new asks octets told → failure_of fault ≡ Err take_fault.OutOfMemory → ClientStarvedAt new asks (octets ++ take n piece) told
+pub starved_fault : (piece : List ℕ) (n : ℕ) (fault : StepFault) (new : ClientChannel) (asks : List Placed) (octets : List ℕ) (told : List ClientTold) → EndNexts client_side piece n (Err fault) new.end asks octets told → failure_of fault ≡ Err take_fault.OutOfMemory → ClientStarvedAt new asks (octets ++ take n piece) told
 starved_fault piece n (Refused code) new asks octets told h is = absurd cc
 starved_fault piece n (Peer code) new asks octets told h is = absurd cc
 starved_fault piece n OutOfMemory new asks octets told h is = h.1

@@ -1,13 +1,14 @@
 -- What either end of a connection makes of one call of its reader, and of a piece.
-use Rattle.std.proofs.Common.{◌≡◌, ℕ, ◌+◌, ◌-◌, ◌<◌, ◌≤◌, max, min, inl, Bool, true, false, List, [], ◌∷◌, ◌++◌, Option, Some, None, Result, Ok, Err, length, take, drop, refl, sym, ◌∙◌, ap, subst, arith, append-nil, length-append}
+use Rattle.std.proofs.Common.{◌≡◌, ℕ, ◌+◌, ◌-◌, ◌<◌, ◌≤◌, max, min, inl, Bool, true, false, List, [], ◌∷◌, ◌++◌, Option, Some, None, Result, Ok, Err, length, take, drop, refl, sym, ◌∙◌, ap, subst, arith, append-nil, append_assoc, length-append}
 use Rattle.std.specs.Prelude.{MatchOption, OnErr}
-use Rattle.std.proofs.lemmas.List.{length-take-le}
+use Rattle.std.proofs.Math.Seq.{take-add, take-length}
+use Rattle.std.proofs.lemmas.List.{length-drop, length-take-le}
 use Rattle.ua_frame.specs.declared.fault.FrameFault.{FrameFault}
 use Rattle.ua_frame.specs.declared.frame.Frame.{Frame}
 use Rattle.ua_frame.specs.declared.gate.Gate.{Gate}
 use Rattle.ua_frame.specs.Frames.{frame_octets, frames_octets}
 use Rattle.ua_frame.specs.Reader.{Reader, open_reader, TakesAll, TakesFrame, Takes}
-use Rattle.ua_frame.specs.Run.{Run, End, EndsIn, refusal, events, Going, Over}
+use Rattle.ua_frame.specs.Run.{Rules, Run, End, EndsIn, refusal, events, Going, Over}
 use Rattle.ua_frame.proofs.Streams.{frames_octets-push, events-push}
 use Rattle.ua_chunk.specs.Open.{open_octets}
 use Rattle.ua_channel.specs.Asks.{end_of}
@@ -16,13 +17,11 @@ use Rattle.ua_channel.specs.Received.{received}
 use Rattle.ua_channel.specs.declared.end_core.EndCore.{EndCore}
 use Rattle.ua_channel.specs.declared.step_fault.StepFault.{StepFault}
 use Rattle.ua_channel.specs.declared.step_fault.StepFault.TheVariants.{Refused, Peer, Closed, OutOfMemory}
-use Rattle.ua_channel.specs.Ends.{Side, EndDone, EndGoes, EndStands, EndStarves, EndStops, HandsOut, rules_by}
+use Rattle.ua_channel.specs.Ends.{Side, EndDone, EndGoes, EndStands, EndStarves, EndStops, EndTells, HandsOut, rules_by}
 use Rattle.ua_channel.specs.inside.Ends.{ComesBy, ComesNext, EndNexts, EndSteps, EndTook, FailsBy, IsBehind, JudgesWhole, MovesBy, RefusedBy, SameEnd, TakenBy, TakesWhole, closes_by}
-use Rattle.ua_channel.specs.inside.Parts.{MayEndIn}
+use Rattle.ua_channel.specs.inside.Parts.{MayEndIn, Moves}
 use Rattle.ua_channel.specs.inside.StepFaults.{least_at, of_frame_fault}
-use Rattle.ua_channel.specs.ServerAnswers.{Progress}
-use Rattle.ua_channel.proofs.Pieces.{moves_there, nexts_there, progress_there, took_more}
-use Rattle.ua_channel.proofs.Stepping.{Breaks, Halts, fault_comes, frame_at, frame_breaks, frame_halts, frame_run, part}
+use Rattle.ua_channel.proofs.Stepping.{Breaks, Halts, fault_comes, frame_at, frame_breaks, frame_broken, frame_halts, frame_run, part}
 
 -- an end with another reader, phase and bound
 abbrev pub end_with : {R P : Type 0} → EndCore R P → Reader → P → ℕ → EndCore R P
@@ -199,41 +198,96 @@ moves_failed A piece n past some Closed is n_is = (omega (arith, n_is), λ more.
 
 -- ---- a piece
 
-moves_of : {A : Type 0} (piece : List ℕ) (n : ℕ) (a : Result A StepFault) → MovesBy piece n a → Progress piece n a
-moves_of piece n (Ok e) m = m
-moves_of piece n (Err (Refused code)) m = m.0
-moves_of piece n (Err (Peer code)) m = m.0
-moves_of piece n (Err OutOfMemory) m = m
-moves_of piece n (Err Closed) m = m.0
+module _ (piece : List ℕ) (taken n : ℕ) (room : taken < length piece) where
+  rest_is : take (length piece - taken) (drop taken piece) ≡ drop taken piece
+  rest_is = ap (λ (k : ℕ). take k (drop taken piece)) (sym (length-drop taken piece)) ∙ take-length (drop taken piece)
 
-module _ {A : Type 0} (piece : List ℕ) (taken n : ℕ) (room : taken < length piece) where
-  moved_there : (a : Result A StepFault) → MovesBy (take (length piece - taken) (drop taken piece)) n a → MovesBy piece (taken + n) a
-  moved_there (Ok e) m = moves_there piece taken n room m
-  moved_there (Err (Refused code)) m = moves_there piece taken n room m
-  moved_there (Err (Peer code)) m = moves_there piece taken n room m
-  moved_there (Err OutOfMemory) m = let starved : Result A StepFault = Err OutOfMemory in progress_there piece taken n room starved m
-  moved_there (Err Closed) m = moves_there piece taken n room m
+  rest_length : length (take (length piece - taken) (drop taken piece)) ≡ length piece - taken
+  rest_length = ap length rest_is ∙ length-drop taken piece
 
-  pub moved_by : (a b : Result A StepFault) → a ≡ b → MovesBy (take (length piece - taken) (drop taken piece)) n a → MovesBy piece (taken + n) b
-  moved_by a b is m = subst (λ (c : Result A StepFault). MovesBy piece (taken + n) c) is (moved_there a m)
+  -- a step is one of the piece
+  moves_there : Moves (take (length piece - taken) (drop taken piece)) n → Moves piece (taken + n)
+  moves_there m = let within = m.0 in let some = m.1 (omega (arith, rest_length, room)) in (omega (arith, within, rest_length, room), λ h. omega (arith, some))
 
-module _ {R P E : Type 0} (S : Side R P E) (piece : List ℕ) (taken n : ℕ) (room : taken < length piece) (old now next : EndCore R P) (t : EndTook S old now piece taken) (a : Result (Option E) StepFault) where
-  -- a step that tells nothing
-  pub took_by : a ≡ Ok None → SameEnd now next → ((k : S.Key) (octets : List ℕ) (told : List S.Told) → EndGoes S now k octets told → EndSteps S (take (length piece - taken) (drop taken piece)) n a next k octets told)
-      → MovesBy (take (length piece - taken) (drop taken piece)) n a → EndTook S old next piece (taken + n)
-  took_by is same steps moves =
-      took_more piece taken n room (EndGoes S) SameEnd old now next t (same_end old now next t.same same)
-      (λ k octets told g. subst (λ (c : Result (Option E) StepFault). EndSteps S (take (length piece - taken) (drop taken piece)) n c next k octets told) is (steps k octets told g))
-      (subst (λ (c : Result (Option E) StepFault). MovesBy (take (length piece - taken) (drop taken piece)) n c) is moves).0
+  within_there : n ≤ length (take (length piece - taken) (drop taken piece)) → taken + n ≤ length piece
+  within_there within = omega (arith, within, rest_length, room)
 
-  -- a step that tells something, or fails
-  pub next_by : (b : Result (Option E) StepFault) → a ≡ b → (b ≡ Ok None → ⊥)
-      → ((k : S.Key) (octets : List ℕ) (told : List S.Told) → EndGoes S now k octets told → EndSteps S (take (length piece - taken) (drop taken piece)) n a next k octets told) → MovesBy (take (length piece - taken) (drop taken piece)) n a
-      → (k : S.Key) (octets : List ℕ) (told : List S.Told) → EndGoes S old k octets told → EndNexts S piece (taken + n) b next k octets told
-  next_by b is some steps moves k octets told g =
-      nexts_there piece taken n room (λ z. EndGoes S next k z told) (λ e z. ComesBy S (S.closes e) next k z told e) (λ fault z. FailsBy S next k z told fault) octets b some
-      (subst (λ (c : Result (Option E) StepFault). Progress (take (length piece - taken) (drop taken piece)) n c) is (moves_of (take (length piece - taken) (drop taken piece)) n a moves))
-      (subst (λ (c : Result (Option E) StepFault). EndSteps S (take (length piece - taken) (drop taken piece)) n c next k (octets ++ take taken piece) told) is (steps k (octets ++ take taken piece) told (t.goes k octets told g)))
+  moved_there : {A : Type 0} (a : Result A StepFault) → MovesBy (take (length piece - taken) (drop taken piece)) n a → MovesBy piece (taken + n) a
+  moved_there (Ok e) m = moves_there m
+  moved_there (Err (Refused code)) m = moves_there m
+  moved_there (Err (Peer code)) m = moves_there m
+  moved_there (Err OutOfMemory) m = within_there m
+  moved_there (Err Closed) m = moves_there m
+
+  pub moved_by : {A : Type 0} (a b : Result A StepFault) → a ≡ b → MovesBy (take (length piece - taken) (drop taken piece)) n a → MovesBy piece (taken + n) b
+  moved_by {A = A} a b is m = subst (λ (c : Result A StepFault). MovesBy piece (taken + n) c) is (moved_there a m)
+
+  fewer_there : (A : Type 0) (fault : StepFault) → MovesBy {A = A} (take (length piece - taken) (drop taken piece)) n (Err fault) → taken + n ≤ length piece
+  fewer_there A (Refused code) m = within_there m.0
+  fewer_there A (Peer code) m = within_there m.0
+  fewer_there A OutOfMemory m = within_there m
+  fewer_there A Closed m = within_there m.0
+
+  -- what holds behind the octets of a step holds behind those of the piece
+  shifted : (Q : List ℕ → Type 0) (octets : List ℕ) → Q ((octets ++ take taken piece) ++ take n (take (length piece - taken) (drop taken piece))) → Q (octets ++ take (taken + n) piece)
+  shifted Q octets h =
+      subst Q
+      (ap (λ (z : List ℕ). (octets ++ take taken piece) ++ take n z) rest_is
+      ∙ (append_assoc octets (take taken piece) (take n (drop taken piece))
+      ∙ ap (λ (z : List ℕ). octets ++ z) (sym (take-add taken n piece))))
+      h
+
+  module _ {R P E : Type 0} (S : Side R P E) (old now next : EndCore R P) (t : EndTook S old now piece taken) (a : Result (Option E) StepFault) (steps : (k : S.Key) (octets : List ℕ) (told : List S.Told) → EndGoes S now k octets told → EndSteps S (take (length piece - taken) (drop taken piece)) n a next k octets told) (moves : MovesBy (take (length piece - taken) (drop taken piece)) n a) where
+    there : (b : Result (Option E) StepFault) → a ≡ b → (k : S.Key) (octets : List ℕ) (told : List S.Told) → EndGoes S old k octets told → EndSteps S (take (length piece - taken) (drop taken piece)) n b next k (octets ++ take taken piece) told
+    there b is k octets told g = subst (λ (c : Result (Option E) StepFault). EndSteps S (take (length piece - taken) (drop taken piece)) n c next k (octets ++ take taken piece) told) is (steps k (octets ++ take taken piece) told (t.goes k octets told g))
+
+    moved : (b : Result (Option E) StepFault) → a ≡ b → MovesBy (take (length piece - taken) (drop taken piece)) n b
+    moved b is = subst (λ (c : Result (Option E) StepFault). MovesBy (take (length piece - taken) (drop taken piece)) n c) is moves
+
+    -- a step that tells nothing
+    pub took_by : a ≡ Ok None → SameEnd now next → EndTook S old next piece (taken + n)
+    took_by is same = record {
+      within = within_there (moved (Ok None) is).0;
+      goes = λ k octets told g. shifted (λ (z : List ℕ). EndGoes S next k z told) octets (there (Ok None) is k octets told g);
+      same = same_end old now next t.same same;
+    }
+
+    -- a step that tells something
+    pub tells_by : (e : E) → a ≡ Ok (Some e) → (k : S.Key) (octets : List ℕ) (told : List S.Told) → EndGoes S old k octets told → EndNexts S piece (taken + n) (Ok (Some e)) next k octets told
+    tells_by e is k octets told g =
+        let m = moved (Ok (Some e)) is in
+        let more : 0 < n = m.1 (omega (arith, rest_length, room)) in
+        (omega (arith, more), within_there m.0, shifted (λ (z : List ℕ). ComesBy S (S.closes e) next k z told e) octets (there (Ok (Some e)) is k octets told g))
+
+    -- a step that fails
+    pub fails_by : (fault : StepFault) → a ≡ Err fault → (k : S.Key) (octets : List ℕ) (told : List S.Told) → EndGoes S old k octets told → EndNexts S piece (taken + n) (Err fault) next k octets told
+    fails_by fault is k octets told g = (fewer_there (Option E) fault (moved (Err fault) is), shifted (λ (z : List ℕ). FailsBy S next k z told fault) octets (there (Err fault) is k octets told g))
+
+module _ {R P E : Type 0} (S : Side R P E) where
+  pub took_nothing : (x : EndCore R P) (piece : List ℕ) → EndTook S x x piece 0
+  took_nothing x piece = record { within = omega arith; goes = λ k octets told g. subst (λ (z : List ℕ). EndGoes S x k z told) (sym (append-nil octets)) g; same = refl }
+
+  -- the whole piece
+  pub took_all : (old now : EndCore R P) (piece : List ℕ) (taken : ℕ) → EndTook S old now piece taken → length piece ≤ taken → (k : S.Key) (octets : List ℕ) (told : List S.Told) → EndGoes S old k octets told → EndNexts {E = E} S piece taken (Ok None) now k octets told
+  took_all old now piece taken t all k octets told g =
+      let whole : taken ≡ length piece = omega (arith, t.within, all) in
+      (whole, subst (λ (z : List ℕ). EndGoes S now k (octets ++ z) told) (ap (λ (j : ℕ). take j piece) whole ∙ take-length piece) (t.goes k octets told g))
+
+  -- what comes of a piece, where that is known
+  pub nexts_as : (old new : EndCore R P) (piece : List ℕ) (n : ℕ) (a b : Result (Option E) StepFault) → ((k : S.Key) (octets : List ℕ) (told : List S.Told) → EndGoes S old k octets told → EndNexts S piece n a new k octets told) → a ≡ b
+      → (k : S.Key) (octets : List ℕ) (told : List S.Told) → EndGoes S old k octets told → EndNexts S piece n b new k octets told
+  nexts_as old new piece n a b nexts is k octets told g = subst (λ (c : Result (Option E) StepFault). EndNexts S piece n c new k octets told) is (nexts k octets told g)
+
+  -- behind the frame of an event, where memory is refused for what is answered
+  pub starved_behind : (mid d : EndCore R P) (k : S.Key) (octets : List ℕ) (told : List S.Told) (e : S.Told) → d.rules ≡ mid.rules → EndDone S d → EndTells S mid k octets told e → EndStarves S d k octets told
+  starved_behind mid d k octets told e rules done g =
+      let same : rules_by S mid k ≡ rules_by S d k = ap (λ (r : R). S.rules r k) (sym rules) in
+      starved_by S d k octets (frame_octets g.frame) g.frames told done
+      (subst (λ (Q : Rules S.Told S.Why). Breaks Q octets g.frames (frame_octets g.frame)) same (frame_broken (rules_by S mid k) octets g.frames g.frame g.stands.run))
+      (ap (λ (Q : Rules S.Told S.Why). events Q g.frames) (sym same) ∙ g.told_is)
+
+pub moves_nothing : (piece : List ℕ) (taken : ℕ) → taken ≤ length piece → length piece ≤ taken → Moves piece taken
+moves_nothing piece taken within all = (within, λ some. omega (arith, some, all))
 
 -- ---- what is held
 

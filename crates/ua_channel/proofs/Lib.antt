@@ -8,7 +8,6 @@ pub mod Frames
 pub mod Phases
 mod ServerMessages
 pub mod Stepping
-pub mod Pieces
 pub mod Ends
 pub mod Servers
 pub mod Starts

@@ -120,7 +120,7 @@ impl ServerChannel {
         ensures closes { event ≡ inner.Closed → result ≡ Ok handed.Closed }
         ensures answers { (octets : List ℕ) (told : List Told) → StandsWith event self.old octets told
             → AnswersTo (channel_of self.old) (next_of self.old) moment result self.new octets told }
-        ensures parts { (octets : List ℕ) → AsksInParts (parts_of (Some event)) self.old octets → IfOk result (λ e. AsksInParts (parts_asked e) self.new octets) }
+        ensures parts { (octets : List ℕ) (told : List Told) → StandsWith event self.old octets told → IfOk result (λ e. AsksInParts (parts_asked e) self.new octets) }
         ensures limits { limits_of self.new ≡ limits_of self.old }
         ensures channel { channel_of self.new ≡ channel_of self.old }
     {

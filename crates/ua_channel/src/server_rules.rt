@@ -117,6 +117,7 @@ impl EndRules<Phase> for ServerRules {
 
     ghost side = { server_side };
 
+    #[inline]
     fn lawful() {}
 
     fn gate(&self, phase: &Phase) -> Gate {

@@ -19,7 +19,7 @@ use Rattle.ua_services.specs.declared.open.OpenAnswer.{OpenAnswer}
 use Rattle.ua_services.specs.declared.open.OpenAnswer.TheVariants.{Open as Opened}
 use Rattle.ua_structures.specs.declared.secure_channel.OpenResponse.{OpenResponse}
 use Rattle.ua_channel.specs.Asks.{Asking, Placed, is_in}
-use Rattle.ua_channel.specs.Client.{client_side, InPhase, ClientGoes, ClientGoesTelling, IsClientDone, client_bound_behind}
+use Rattle.ua_channel.specs.Client.{client_side, InPhase, IsClientDone, client_bound_behind}
 use Rattle.ua_channel.specs.ClientAnswers.{Tells}
 use Rattle.ua_channel.specs.ClientAsks.{Talks}
 use Rattle.ua_channel.specs.ClientTable.{client_reasons, is_other, is_awaited, is_bad, result_of, code_in, is_outside, of_ack}
@@ -27,9 +27,9 @@ use Rattle.ua_channel.specs.ClientTokens.{answer_in, responses, opened_ids, chan
 use Rattle.ua_channel.specs.ClientTold.{ClientTold, ClientTold as told, Why, ours, peers, client_tells, told_item}
 use Rattle.ua_channel.specs.Content.{Opening, Content}
 use Rattle.ua_channel.specs.Content.Content.{Opens, Sends}
-use Rattle.ua_channel.specs.inside.Ends.{FailsBy}
+use Rattle.ua_channel.specs.inside.Ends.{ComesBy}
 use Rattle.ua_channel.specs.inside.ClientEvents.{event_parts, told_by}
-use Rattle.ua_channel.specs.inside.Parts.{IsFaultFor, MayEndIn, NextsBy, parts_in}
+use Rattle.ua_channel.specs.inside.Parts.{IsFaultFor, MayEndIn, parts_in}
 use Rattle.ua_channel.specs.Received.{Received, after, nothing_received, listed}
 use Rattle.ua_channel.specs.declared.step_fault.StepFault.{StepFault}
 use Rattle.ua_channel.specs.declared.client.agreed.Agreed.{Agreed}
@@ -265,11 +265,7 @@ pub record TookFrame (limits : Limits) (before : Received) (asked : List Asking)
 
 -- the octets end with the frame of this event
 abbrev pub ComesTo : Event → ClientChannel → List Placed → List ℕ → List ClientTold → Type 0
-ComesTo e new asks octets before = ClientGoesTelling new asks octets before (told_by e)
-
--- the steps of a piece, up to the first event
-abbrev pub ClientNexts : List ℕ → ℕ → Result (Option Event) StepFault → ClientChannel → List Placed → List ℕ → List ClientTold → Type 0
-ClientNexts piece n result new asks octets before = NextsBy (λ o. ClientGoes new asks (octets ++ o) before) (λ e o. ComesTo e new asks (octets ++ o) before) (λ fault o. FailsBy client_side new.end asks (octets ++ o) before fault) piece n result
+ComesTo e new asks octets before = ComesBy client_side false new.end asks octets before e
 
 -- ---- what is answered
 

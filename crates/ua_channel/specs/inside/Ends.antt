@@ -1,5 +1,5 @@
 -- What either end of a connection makes of a frame, of a call of its reader and of a piece, by its rules.
-use Rattle.std.specs.Prelude.{◌≡◌, ℕ, ◌<◌, ◌≤◌, length, Bool, true, false, List, [], ◌∷◌, ◌++◌, Option, Some, None, MatchOption, Result, Ok, Err}
+use Rattle.std.specs.Prelude.{◌≡◌, ℕ, ◌<◌, ◌≤◌, length, take, Bool, true, false, List, [], ◌∷◌, ◌++◌, Option, Some, None, MatchOption, Result, Ok, Err}
 use Rattle.ua_frame.specs.declared.frame.Frame.{Frame}
 use Rattle.ua_frame.specs.Frames.{LetsIn}
 use Rattle.ua_frame.specs.Reader.{open_reader}
@@ -8,7 +8,7 @@ use Rattle.ua_channel.specs.Asks.{end_of}
 use Rattle.ua_channel.specs.Content.{content}
 use Rattle.ua_channel.specs.Ends.{Side, EndDone, EndGoes, EndOver, EndStarves, EndStops, EndTells, HandsOut, rules_by}
 use Rattle.ua_channel.specs.Received.{received}
-use Rattle.ua_channel.specs.inside.Parts.{IsFaultFor, MayEndIn, Moves, NextsBy, StepsBy, TookBy}
+use Rattle.ua_channel.specs.inside.Parts.{IsFaultFor, MayEndIn, Moves}
 use Rattle.ua_channel.specs.declared.end_core.EndCore.{EndCore}
 use Rattle.ua_channel.specs.declared.step_fault.StepFault.{StepFault}
 use Rattle.ua_channel.specs.declared.step_fault.StepFault.TheVariants.{Refused, Peer, OutOfMemory, Closed}
@@ -95,15 +95,21 @@ JudgesWhole S new k frames f (Err fault) = RefusedBy S new.rules k frames f faul
 
 -- one call of the reader, and what its frame comes to
 abbrev pub EndSteps : {R P E : Type 0} (S : Side R P E) → List ℕ → ℕ → Result (Option E) StepFault → EndCore R P → (k : S.Key) → List ℕ → List S.Told → Type 0
-EndSteps S piece n result new k octets told = StepsBy (λ o. EndGoes S new k (octets ++ o) told) (λ e o. ComesBy S (S.closes e) new k (octets ++ o) told e) (λ fault o. FailsBy S new k (octets ++ o) told fault) piece n result
+EndSteps S piece n (Ok None) new k octets told = EndGoes S new k (octets ++ take n piece) told
+EndSteps S piece n (Ok (Some e)) new k octets told = ComesBy S (S.closes e) new k (octets ++ take n piece) told e
+EndSteps S piece n (Err fault) new k octets told = FailsBy S new k (octets ++ take n piece) told fault
 
--- the steps of a piece, up to the first event
+-- the steps of a piece, up to the first event or fault; with none the whole piece is taken
 abbrev pub EndNexts : {R P E : Type 0} (S : Side R P E) → List ℕ → ℕ → Result (Option E) StepFault → EndCore R P → (k : S.Key) → List ℕ → List S.Told → Type 0
-EndNexts S piece n result new k octets told = NextsBy (λ o. EndGoes S new k (octets ++ o) told) (λ e o. ComesBy S (S.closes e) new k (octets ++ o) told e) (λ fault o. FailsBy S new k (octets ++ o) told fault) piece n result
+EndNexts S piece n (Ok None) new k octets told = (n ≡ length piece) × EndGoes S new k (octets ++ piece) told
+EndNexts S piece n (Ok (Some e)) new k octets told = (0 < n) × (n ≤ length piece) × ComesBy S (S.closes e) new k (octets ++ take n piece) told e
+EndNexts S piece n (Err fault) new k octets told = (n ≤ length piece) × FailsBy S new k (octets ++ take n piece) told fault
 
 -- so many octets of a piece were taken since it stood there, and nothing was told
-abbrev pub EndTook : {R P E : Type 0} (S : Side R P E) → EndCore R P → EndCore R P → List ℕ → ℕ → Type 0
-EndTook S old now piece taken = TookBy (EndGoes S) SameEnd old now piece taken
+pub record EndTook {R P E : Type 0} (S : Side R P E) (old now : EndCore R P) (piece : List ℕ) (taken : ℕ) : Type 0 where
+  pub within : taken ≤ length piece
+  pub goes : (k : S.Key) (octets : List ℕ) (told : List S.Told) → EndGoes S old k octets told → EndGoes S now k (octets ++ take taken piece) told
+  pub same : SameEnd old now
 
 -- what is taken is within the piece, and is something unless the piece is empty or memory was refused
 abbrev pub MovesBy : {A : Type 0} → List ℕ → ℕ → Result A StepFault → Type 0

@@ -231,7 +231,7 @@ impl ClientChannel {
     fn answer(&mut self, event: Event, moment: DateTime) -> Result<ClientEvent, ClientTakeFault>
         ensures answers { (asks : List Placed) (octets : List ℕ) (told : List ClientTold) → ComesTo event self.old asks octets told
             → AnswersEvent moment result self.new asks octets told }
-        ensures parts { (asks : List Placed) (octets : List ℕ) → ComesInParts (event_parts (Some event)) self.old asks octets
+        ensures parts { (asks : List Placed) (octets : List ℕ) (told : List ClientTold) → ComesTo event self.old asks octets told
             → IfOk result (λ e. ComesInParts (parts_handed e) self.new asks octets) }
         ensures same { SameClient self.old self.new }
         ensures next { client_next self.new ≡ client_next self.old }

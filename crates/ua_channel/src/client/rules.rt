@@ -74,6 +74,7 @@ impl EndRules<Phase> for ClientRules {
 
     ghost side = { client_side };
 
+    #[inline]
     #[tactic(auto, using(crate::proofs::ClientPhases::placed_more))]
     fn lawful() {}
 

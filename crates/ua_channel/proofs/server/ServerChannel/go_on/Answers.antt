@@ -2,37 +2,38 @@ use Rattle.std.proofs.Common.{◌∙◌, Ok, Err, Some, None, ◌++◌, ap, take
 use Rattle.ua_channel.specs.declared.end_core.EndCore.{EndCore}
 use Rattle.ua_channel.specs.declared.server.Phase.{Phase}
 use Rattle.ua_channel.specs.declared.server_rules.ServerRules.{ServerRules}
-use Rattle.ua_channel.specs.ServerStands.{channel_of, next_of}
+use Rattle.ua_channel.specs.ServerStands.{server_side, channel_of, next_of}
 use Rattle.ua_channel.proofs.Answering.{answers_nothing, answers_event, answers_fault, done_by, starved_event, starved_fault}
-use Rattle.ua_channel.proofs.Servers.{of_end, next_there, parts_there}
+use Rattle.ua_channel.proofs.Ends.{nexts_as}
+use Rattle.ua_channel.proofs.Servers.{of_end}
 use Rattle.ua_channel.proofs.server.ServerChannel.go_on.Goals as goal
 
 pub returns-in-Ok-None-clause-answers : goal.returns-in-Ok-None-clause-answers
 returns-in-Ok-None-clause-answers c = λ octets told g.
     answers_nothing (channel_of c.args.self.now) (next_of c.args.self.now) c.args.moment c.args.piece.now c.next_event-n.result.0 (of_end c.next_event-n.new.self) octets told
-    (next_there c.args.self.now c.next_event-n.new.self c.args.piece.now c.next_event-n.result.0 c.next_event-n.result.1 (Ok None) (c.in-Ok-None.is ∙ ap Ok c.in-Ok-None.field-0-is) c.next_event-n.ensures.nexts octets told g)
+    (nexts_as server_side c.args.self.now.end c.next_event-n.new.self c.args.piece.now c.next_event-n.result.0 c.next_event-n.result.1 (Ok None) c.next_event-n.ensures.nexts (c.in-Ok-None.is ∙ ap Ok c.in-Ok-None.field-0-is) tt octets told g)
     (ap (λ (x : EndCore ServerRules Phase). x.numbers.next) c.next_event-n.ensures.kept)
 
 pub returns-in-Ok-Some-clause-answers : goal.returns-in-Ok-Some-clause-answers
 returns-in-Ok-Some-clause-answers c = λ octets told g.
     answers_event (channel_of c.args.self.now) (channel_of (of_end c.next_event-n.new.self)) (next_of c.args.self.now) (next_of (of_end c.next_event-n.new.self)) c.args.moment c.args.piece.now c.next_event-n.result.0 c.in-Ok-Some.event c.answer.result (of_end c.next_event-n.new.self) c.answer.new.self octets told
     (ap (λ (x : EndCore ServerRules Phase). x.rules.channel) c.next_event-n.ensures.kept) (ap (λ (x : EndCore ServerRules Phase). x.numbers.next) c.next_event-n.ensures.kept)
-    (next_there c.args.self.now c.next_event-n.new.self c.args.piece.now c.next_event-n.result.0 c.next_event-n.result.1 (Ok (Some c.in-Ok-Some.event)) (c.in-Ok-Some.is ∙ ap Ok c.in-Ok-Some.field-0-is) c.next_event-n.ensures.nexts octets told g)
+    (nexts_as server_side c.args.self.now.end c.next_event-n.new.self c.args.piece.now c.next_event-n.result.0 c.next_event-n.result.1 (Ok (Some c.in-Ok-Some.event)) c.next_event-n.ensures.nexts (c.in-Ok-Some.is ∙ ap Ok c.in-Ok-Some.field-0-is) tt octets told g)
     (c.answer.ensures.answers (octets ++ take c.next_event-n.result.0 c.args.piece.now) told)
 
 pub returns-in-Ok-Some-clause-parts : goal.returns-in-Ok-Some-clause-parts
 returns-in-Ok-Some-clause-parts c = λ octets told g.
-    c.answer.ensures.parts (octets ++ take c.next_event-n.result.0 c.args.piece.now)
-    (parts_there c.args.self.now c.next_event-n.new.self c.args.piece.now c.next_event-n.result.0 c.next_event-n.result.1 c.in-Ok-Some.event (c.in-Ok-Some.is ∙ ap Ok c.in-Ok-Some.field-0-is) c.next_event-n.ensures.nexts octets told g)
+    let nexts = nexts_as server_side c.args.self.now.end c.next_event-n.new.self c.args.piece.now c.next_event-n.result.0 c.next_event-n.result.1 (Ok (Some c.in-Ok-Some.event)) c.next_event-n.ensures.nexts (c.in-Ok-Some.is ∙ ap Ok c.in-Ok-Some.field-0-is) tt octets told g in
+    c.answer.ensures.parts (octets ++ take c.next_event-n.result.0 c.args.piece.now) told nexts.2
 
 pub returns-in-Err-clause-answers : goal.returns-in-Err-clause-answers
 returns-in-Err-clause-answers c = λ octets told g.
     answers_fault (channel_of c.args.self.now) (next_of c.args.self.now) c.args.moment c.args.piece.now c.next_event-n.result.0 c.in-Err.fault c.of_step.result (of_end c.next_event-n.new.self) octets told
-    (next_there c.args.self.now c.next_event-n.new.self c.args.piece.now c.next_event-n.result.0 c.next_event-n.result.1 (Err c.in-Err.fault) c.in-Err.is c.next_event-n.ensures.nexts octets told g) c.of_step.ensures
+    (nexts_as server_side c.args.self.now.end c.next_event-n.new.self c.args.piece.now c.next_event-n.result.0 c.next_event-n.result.1 (Err c.in-Err.fault) c.next_event-n.ensures.nexts c.in-Err.is tt octets told g) c.of_step.ensures
 
 pub returns-in-Ok-Some-clause-starves : goal.returns-in-Ok-Some-clause-starves
 returns-in-Ok-Some-clause-starves c = λ octets told g failed.
-    let nexts = next_there c.args.self.now c.next_event-n.new.self c.args.piece.now c.next_event-n.result.0 c.next_event-n.result.1 (Ok (Some c.in-Ok-Some.event)) (c.in-Ok-Some.is ∙ ap Ok c.in-Ok-Some.field-0-is) c.next_event-n.ensures.nexts octets told g in
+    let nexts = nexts_as server_side c.args.self.now.end c.next_event-n.new.self c.args.piece.now c.next_event-n.result.0 c.next_event-n.result.1 (Ok (Some c.in-Ok-Some.event)) c.next_event-n.ensures.nexts (c.in-Ok-Some.is ∙ ap Ok c.in-Ok-Some.field-0-is) tt octets told g in
     starved_event (of_end c.next_event-n.new.self) c.answer.new.self (octets ++ take c.next_event-n.result.0 c.args.piece.now) told c.in-Ok-Some.event c.answer.result c.answer.ensures.limits c.answer.ensures.channel
     (done_by (channel_of (of_end c.next_event-n.new.self)) (next_of (of_end c.next_event-n.new.self)) c.args.moment c.answer.result c.answer.new.self (octets ++ take c.next_event-n.result.0 c.args.piece.now) told failed (c.answer.ensures.answers (octets ++ take c.next_event-n.result.0 c.args.piece.now) told nexts.2))
     nexts.2 c.answer.ensures.closes failed
@@ -40,4 +41,4 @@ returns-in-Ok-Some-clause-starves c = λ octets told g failed.
 pub returns-in-Err-clause-starves : goal.returns-in-Err-clause-starves
 returns-in-Err-clause-starves c = λ octets told g failed.
     starved_fault c.args.piece.now c.next_event-n.result.0 c.in-Err.fault c.of_step.result (of_end c.next_event-n.new.self) octets told
-    (next_there c.args.self.now c.next_event-n.new.self c.args.piece.now c.next_event-n.result.0 c.next_event-n.result.1 (Err c.in-Err.fault) c.in-Err.is c.next_event-n.ensures.nexts octets told g) c.of_step.ensures failed
+    (nexts_as server_side c.args.self.now.end c.next_event-n.new.self c.args.piece.now c.next_event-n.result.0 c.next_event-n.result.1 (Err c.in-Err.fault) c.next_event-n.ensures.nexts c.in-Err.is tt octets told g) c.of_step.ensures failed

@@ -3,36 +3,38 @@ use Rattle.ua_channel.specs.ClientAnswers.{ClientAnswers}
 use Rattle.ua_channel.specs.inside.ClientParts.{counted}
 use Rattle.ua_channel.specs.declared.client.event.ClientEvent.{ClientEvent}
 use Rattle.ua_channel.specs.declared.client.fault.ClientTakeFault.{ClientTakeFault}
-use Rattle.ua_channel.proofs.ClientSteps.{answers_event, answers_fault, next_there, parts_there, starved_event, starved_fault, with_end}
+use Rattle.ua_channel.specs.Client.{client_side}
+use Rattle.ua_channel.proofs.Ends.{nexts_as}
+use Rattle.ua_channel.proofs.ClientSteps.{answers_event, answers_fault, starved_event, starved_fault, with_end}
 use Rattle.ua_channel.proofs.client.channel.ClientChannel.go_on.Goals as goal
 
 pub returns-in-Ok-None-clause-answers : goal.returns-in-Ok-None-clause-answers
 returns-in-Ok-None-clause-answers c = λ asks octets told g.
-    next_there c.args.self.now c.next_event-n.new.self c.args.piece.now c.next_event-n.result.0 c.next_event-n.result.1 (Ok None) (c.in-Ok-None.is ∙ ap Ok c.in-Ok-None.field-0-is) c.next_event-n.ensures.nexts asks octets told g
+    nexts_as client_side c.args.self.now.end c.next_event-n.new.self c.args.piece.now c.next_event-n.result.0 c.next_event-n.result.1 (Ok None) c.next_event-n.ensures.nexts (c.in-Ok-None.is ∙ ap Ok c.in-Ok-None.field-0-is) asks octets told g
 
 pub returns-in-Ok-Some-clause-answers : goal.returns-in-Ok-Some-clause-answers
 returns-in-Ok-Some-clause-answers c = λ asks octets told g.
-    let nexts = next_there c.args.self.now c.next_event-n.new.self c.args.piece.now c.next_event-n.result.0 c.next_event-n.result.1 (Ok (Some c.in-Ok-Some.event)) (c.in-Ok-Some.is ∙ ap Ok c.in-Ok-Some.field-0-is) c.next_event-n.ensures.nexts asks octets told g in
+    let nexts = nexts_as client_side c.args.self.now.end c.next_event-n.new.self c.args.piece.now c.next_event-n.result.0 c.next_event-n.result.1 (Ok (Some c.in-Ok-Some.event)) c.next_event-n.ensures.nexts (c.in-Ok-Some.is ∙ ap Ok c.in-Ok-Some.field-0-is) asks octets told g in
     answers_event c.args.moment c.args.piece.now c.next_event-n.result.0 c.answer.result c.answer.new.self asks octets told (c.answer.ensures.answers asks (octets ++ take c.next_event-n.result.0 c.args.piece.now) told nexts.2)
 
 pub returns-in-Ok-Some-clause-parts : goal.returns-in-Ok-Some-clause-parts
 returns-in-Ok-Some-clause-parts c = λ asks octets told g.
-    c.answer.ensures.parts asks (octets ++ take c.next_event-n.result.0 c.args.piece.now)
-    (parts_there c.args.self.now c.next_event-n.new.self c.args.piece.now c.next_event-n.result.0 c.next_event-n.result.1 c.in-Ok-Some.event (c.in-Ok-Some.is ∙ ap Ok c.in-Ok-Some.field-0-is) c.next_event-n.ensures.nexts asks octets told g)
+    let nexts = nexts_as client_side c.args.self.now.end c.next_event-n.new.self c.args.piece.now c.next_event-n.result.0 c.next_event-n.result.1 (Ok (Some c.in-Ok-Some.event)) c.next_event-n.ensures.nexts (c.in-Ok-Some.is ∙ ap Ok c.in-Ok-Some.field-0-is) asks octets told g in
+    c.answer.ensures.parts asks (octets ++ take c.next_event-n.result.0 c.args.piece.now) told nexts.2
 
 pub returns-in-Ok-Some-clause-starves : goal.returns-in-Ok-Some-clause-starves
 returns-in-Ok-Some-clause-starves c = λ asks octets told g failed.
-    let nexts = next_there c.args.self.now c.next_event-n.new.self c.args.piece.now c.next_event-n.result.0 c.next_event-n.result.1 (Ok (Some c.in-Ok-Some.event)) (c.in-Ok-Some.is ∙ ap Ok c.in-Ok-Some.field-0-is) c.next_event-n.ensures.nexts asks octets told g in
-    starved_event c.args.moment (with_end c.args.self.now c.next_event-n.new.self) c.answer.new.self asks (octets ++ take c.next_event-n.result.0 c.args.piece.now) told _ c.answer.result (sym c.answer.ensures.same.limits) nexts.2
+    let nexts = nexts_as client_side c.args.self.now.end c.next_event-n.new.self c.args.piece.now c.next_event-n.result.0 c.next_event-n.result.1 (Ok (Some c.in-Ok-Some.event)) c.next_event-n.ensures.nexts (c.in-Ok-Some.is ∙ ap Ok c.in-Ok-Some.field-0-is) asks octets told g in
+    starved_event c.args.moment (with_end c.args.self.now c.next_event-n.new.self) c.answer.new.self asks (octets ++ take c.next_event-n.result.0 c.args.piece.now) told _ c.answer.result (sym c.answer.ensures.same.limits) nexts.2.0
     (c.answer.ensures.answers asks (octets ++ take c.next_event-n.result.0 c.args.piece.now) told nexts.2) failed
 
 pub returns-in-Err-clause-answers : goal.returns-in-Err-clause-answers
 returns-in-Err-clause-answers c = λ asks octets told g.
     subst (λ (r : Result ClientEvent ClientTakeFault). ClientAnswers c.args.moment c.args.piece.now (counted c.next_event-n.result.0 r) (with_end c.args.self.now c.next_event-n.new.self) asks octets told) (sym c.of_fault.ensures)
     (answers_fault c.args.moment c.args.piece.now c.next_event-n.result.0 c.in-Err.fault (with_end c.args.self.now c.next_event-n.new.self) asks octets told
-    (next_there c.args.self.now c.next_event-n.new.self c.args.piece.now c.next_event-n.result.0 c.next_event-n.result.1 (Err c.in-Err.fault) c.in-Err.is c.next_event-n.ensures.nexts asks octets told g))
+    (nexts_as client_side c.args.self.now.end c.next_event-n.new.self c.args.piece.now c.next_event-n.result.0 c.next_event-n.result.1 (Err c.in-Err.fault) c.next_event-n.ensures.nexts c.in-Err.is asks octets told g))
 
 pub returns-in-Err-clause-starves : goal.returns-in-Err-clause-starves
 returns-in-Err-clause-starves c = λ asks octets told g failed.
     starved_fault c.args.piece.now c.next_event-n.result.0 c.in-Err.fault (with_end c.args.self.now c.next_event-n.new.self) asks octets told
-    (next_there c.args.self.now c.next_event-n.new.self c.args.piece.now c.next_event-n.result.0 c.next_event-n.result.1 (Err c.in-Err.fault) c.in-Err.is c.next_event-n.ensures.nexts asks octets told g) (sym c.of_fault.ensures ∙ failed)
+    (nexts_as client_side c.args.self.now.end c.next_event-n.new.self c.args.piece.now c.next_event-n.result.0 c.next_event-n.result.1 (Err c.in-Err.fault) c.next_event-n.ensures.nexts c.in-Err.is asks octets told g) (sym c.of_fault.ensures ∙ failed)
