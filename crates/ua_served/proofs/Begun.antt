@@ -1,5 +1,5 @@
 -- That both ends are in step behind the opening of a client over a line to a server.
-use Rattle.std.proofs.Common.{◌≡◌, ℕ, ◌≤◌, List, [], ◌∷◌, ◌++◌, Option, Some, Ok, length, refl, sym, ◌∙◌, ap, subst, arith, append-nil, length-append}
+use Rattle.std.proofs.Common.{◌≡◌, ℕ, ◌≤◌, List, [], ◌∷◌, ◌++◌, Option, Ok, length, refl, sym, ◌∙◌, ap, subst, arith, append-nil, length-append}
 use Rattle.ua_octets.specs.Format.{Extends}
 use Rattle.ua_builtin.specs.declared.date_time.DateTime.{DateTime}
 use Rattle.ua_frame.specs.After.{each_from}
@@ -31,7 +31,7 @@ use Rattle.ua_channel.proofs.ClientReading.{reads_ack}
 use Rattle.ua_channel.proofs.ReadOn.{begins_run, events_on, one_octets, told_behind}
 use Rattle.ua_channel.proofs.Written.{opening_size}
 use Rattle.ua_client.specs.Carried.{Carries}
-use Rattle.ua_client.specs.Client.{OpensClient, connection_of}
+use Rattle.ua_client.specs.Client.{IsReady, OpensClient, connection_of}
 use Rattle.ua_client.specs.Hearing.{channel_of, untaken_of}
 use Rattle.ua_client.specs.Opening.{IsOpened, OpensAt, hello_octets, open_octets}
 use Rattle.ua_client.specs.Renewing.{IsSettled}
@@ -44,14 +44,15 @@ use Rattle.ua_served.specs.Beginning.{Beginning}
 use Rattle.ua_served.specs.Course.Course.{Begun}
 use Rattle.ua_served.specs.Course.{opening_octets}
 use Rattle.ua_served.specs.Says.{said_to, state_told}
-use Rattle.ua_served.specs.inside.Talking.{AreTalking, CanOpen, StaysTalking, Went, line_to}
+use Rattle.ua_served.specs.Talking.{AreTalking, IsLineTo, TalksAt, opening}
+use Rattle.ua_served.specs.inside.Talking.{CanOpen, StaysTalking, Went}
 use Rattle.ua_served.specs.Together.{AreServing, opening_answer}
 use Rattle.ua_served.specs.Turns.{opening_told}
 use Rattle.ua_served.proofs.Ending.{frames_behind}
 use Rattle.ua_served.proofs.Lists.{no_more, split_last}
 use Rattle.ua_served.proofs.Opened.{answer_read, begin_together, opening_said, state_first_two}
 use Rattle.ua_served.proofs.Refused.{short_url}
-use Rattle.ua_served.proofs.Talks.{fronts, talking_as}
+use Rattle.ua_served.proofs.Talks.{fronts, line_on, talking_as}
 
 -- that a client which opened is settled
 abbrev pub SettlesOpened : Type 0
@@ -117,18 +118,19 @@ module _ (b : Beginning) (url : Option (List ℕ)) (x : ClientChannel) (octets :
 
 -- ---- both are in step
 
-module _ (b : Beginning) (limits : Limits) (url : Option (List ℕ)) (moment : DateTime) (first after : Option Traffic) (client : Client) (law : SettlesOpened) (o : OpensClient limits url moment first after (Ok client)) (able : CanOpen b limits url moment) (line : first ≡ Some (line_to b)) where
+module _ (b : Beginning) (limits : Limits) (url : Option (List ℕ)) (moment : DateTime) (first after : Option Traffic) (client : Client) (law : SettlesOpened) (o : OpensClient limits url moment first after (Ok client)) (able : CanOpen b limits url moment) (line : IsLineTo b [] [] first) where
   abbrev l : Limits
   l = client_limits (channel_of o.last)
 
   at : OpensAt (hello_octets (client_limits (channel_of o.begun)) (url_of (channel_of o.begun))) (open_octets moment) (channel_of o.last) o.opens.sent o.opens.moves.taken (Ok client)
   at = o.opens.answers o.fresh.goes
 
-  there : (s : Site) × (s.octets ≡ o.opens.moves.taken) × (s.asks ≡ []) × At (channel_of o.last) s × IsSettled s
-  there = law (channel_of o.last) o.opens.moves.taken at.1
+  -- where it stands
+  pub settled_there : (s : Site) × (s.octets ≡ o.opens.moves.taken) × (s.asks ≡ []) × At (channel_of o.last) s × IsSettled s
+  settled_there = law (channel_of o.last) o.opens.moves.taken at.1
 
-  opens_there : IsOpened (channel_of o.last) there.0.octets
-  opens_there = subst (IsOpened (channel_of o.last)) (sym there.1) at.1
+  opens_there : IsOpened (channel_of o.last) settled_there.0.octets
+  opens_there = subst (IsOpened (channel_of o.last)) (sym settled_there.1) at.1
 
   limits_are : l ≡ limits
   limits_are = sym o.opens.keeps.same.limits ∙ o.fresh.limits_are
@@ -142,8 +144,8 @@ module _ (b : Beginning) (limits : Limits) (url : Option (List ℕ)) (moment : D
       ∙ ap (λ (t : List ℕ). t ++ open_octets moment)
       (ap (λ (m : Limits). hello_octets m (url_of (channel_of o.begun))) o.fresh.limits_are ∙ ap (λ (u : Option (List ℕ)). hello_octets limits u) o.fresh.url_is)
 
-  got_is : o.opens.moves.got ≡ there.0.octets ++ untaken_of o.last
-  got_is = ap (λ (t : List ℕ). t ++ o.opens.moves.got) (sym o.fresh.untaken) ∙ (o.opens.moves.parts ∙ ap (λ (t : List ℕ). t ++ untaken_of o.last) (sym there.1))
+  got_is : o.opens.moves.got ≡ settled_there.0.octets ++ untaken_of o.last
+  got_is = ap (λ (t : List ℕ). t ++ o.opens.moves.got) (sym o.fresh.untaken) ∙ (o.opens.moves.parts ∙ ap (λ (t : List ℕ). t ++ untaken_of o.last) (sym settled_there.1))
 
   carried_so : (sent : List ℕ) → o.opens.sent ≡ sent → WhereTold (Carries o.opens.moves.got sent) first after
   carried_so sent is = carried-as o.opens.moves.got o.opens.sent o.opens.moves.got sent first after refl is o.opens.moves.carried
@@ -151,34 +153,36 @@ module _ (b : Beginning) (limits : Limits) (url : Option (List ℕ)) (moment : D
   sent_by : o.opens.sent ≡ opening_octets l url moment
   sent_by = sent_is ∙ ap (λ (m : Limits). opening_octets m url moment) (sym limits_are)
 
-  front_is : Extends there.0.octets (said_to b (opening_octets l url moment))
-  front_is = fronts b first after o.opens.moves.got (opening_octets l url moment) there.0.octets (untaken_of o.last) line (carried_so (opening_octets l url moment) sent_by) got_is
+  line_then : IsLineTo b (opening_octets l url moment) o.opens.moves.got after
+  line_then = line_on b [] [] (opening_octets l url moment) o.opens.moves.got first after line (carried_so (opening_octets l url moment) sent_by)
+
+  front_is : Extends settled_there.0.octets (said_to b (opening_octets l url moment))
+  front_is = fronts b after (opening_octets l url moment) o.opens.moves.got settled_there.0.octets (untaken_of o.last) line_then got_is
 
   short : url_length url ≤ 4095
-  short = short_url b l url moment (channel_of o.last) there.0.octets can.hello_fits can.url_fits opens_there front_is
+  short = short_url b l url moment (channel_of o.last) settled_there.0.octets can.hello_fits can.url_fits opens_there front_is
 
   said_is : said_to b (opening_octets l url moment) ≡ opening_answer b l url
   said_is = opening_said b l url moment can.hello_fits short can.dated
 
-  octets_are : there.0.octets ≡ said_to b (opening_octets l url moment)
-  octets_are = opening_taken b url (channel_of o.last) there.0.octets moment opens_there can (subst (Extends there.0.octets) said_is front_is) ∙ sym said_is
+  octets_are : settled_there.0.octets ≡ said_to b (opening_octets l url moment)
+  octets_are = opening_taken b url (channel_of o.last) settled_there.0.octets moment opens_there can (subst (Extends settled_there.0.octets) said_is front_is) ∙ sym said_is
 
-  serves : AreServing b url (opening_octets l url moment) (opening_told b.limits l url) (with_token (greeted_at (hello_to l url))) (channel_of o.last) there.0 (opened_at (ack_to (hello_to l url) b.limits) b.channel 1 (next_number 1))
-  serves = begin_together b url moment (channel_of o.last) there.0 can.hello_fits short can.dated can.ack_fits can.on can.answered there.3 there.2 octets_are (o.opens.keeps.next ∙ o.fresh.next_is)
+  serves : AreServing b url (opening_octets l url moment) (opening_told b.limits l url) (with_token (greeted_at (hello_to l url))) (channel_of o.last) settled_there.0 (opened_at (ack_to (hello_to l url) b.limits) b.channel 1 (next_number 1))
+  serves = begin_together b url moment (channel_of o.last) settled_there.0 can.hello_fits short can.dated can.ack_fits can.on can.answered settled_there.3 settled_there.2 octets_are (o.opens.keeps.next ∙ o.fresh.next_is)
 
-  first_id : id_at there.0 ≡ 2
-  first_id = ap (λ (p : List Placed). next_id (asked_in p)) there.2 ∙ ap next_id no_asks
+  first_id : id_at settled_there.0 ≡ 2
+  first_id = ap (λ (p : List Placed). next_id (asked_in p)) settled_there.2 ∙ ap next_id no_asks
 
-  talks_by : AreTalking b l url (opening_octets l url moment) (opening_told b.limits l url) 1 2 1 there.0 o.last first after
+  talks_by : AreTalking b l url (opening_octets l url moment) (opening_told b.limits l url) 1 2 1 settled_there.0 o.last after
   talks_by = record {
-    line = line;
     got = o.opens.moves.got;
-    carried = carried_so (opening_octets l url moment) sent_by;
+    line = line_then;
     got_is = got_is;
     served = record {
       limits_are = refl;
       on = can.on;
-      settled = there.4;
+      settled = settled_there.4;
       at_server = with_token (greeted_at (hello_to l url));
       at_client = opened_at (ack_to (hello_to l url) b.limits) b.channel 1 (next_number 1);
       serving = serves;
@@ -190,24 +194,29 @@ module _ (b : Beginning) (limits : Limits) (url : Option (List ℕ)) (moment : D
     };
   }
 
-  talks : AreTalking b limits url (opening_octets limits url moment ++ []) (opening_told b.limits limits url ++ []) 1 2 1 there.0 o.last first after
-  talks =
-      talking_as b limits url (opening_octets limits url moment) (opening_octets limits url moment ++ []) (opening_told b.limits limits url) (opening_told b.limits limits url ++ []) 1 1 2 2 1 1 there.0 o.last first after
-      (sym (append-nil (opening_octets limits url moment))) (sym (append-nil (opening_told b.limits limits url))) refl refl refl
-      (subst (λ (m : Limits). AreTalking b m url (opening_octets m url moment) (opening_told b.limits m url) 1 2 1 there.0 o.last first after) limits_are talks_by)
+  opened_talks : (octets : List ℕ) → opening_octets limits url moment ≡ octets → TalksAt (record { server = b; limits = limits; url = url; turns = []; octets = octets }) settled_there.0 o.last after
+  opened_talks octets is = record {
+    url_is = sym o.opens.keeps.same.url ∙ o.fresh.url_is;
+    dated = able.answered;
+    accepted = AllAfter-nil (IsAccepted (acknowledged b.limits limits url));
+    number_is = sym settled_there.3.number_is ∙ (o.opens.keeps.next ∙ o.fresh.next_is);
+    state_is = ap (λ (ts : List Told). state_told b ts) (append-nil (opening_told b.limits limits url)) ∙ state_first_two b (agreement_of b.limits (hello_to limits url));
+    talking =
+        talking_as b limits url (opening_octets limits url moment) octets (opening_told b.limits limits url) (opening_told b.limits limits url ++ []) 1 1 2 2 1 1 settled_there.0 o.last after
+        is (sym (append-nil (opening_told b.limits limits url))) refl refl refl
+        (subst (λ (m : Limits). AreTalking b m url (opening_octets m url moment) (opening_told b.limits m url) 1 2 1 settled_there.0 o.last after) limits_are talks_by);
+  }
 
   pub went_first : Went b limits url moment (connection_of client) first after
   went_first = record {
     channel = channel_of o.last;
-    opened = there.0;
+    opened = settled_there.0;
     opens = opens_there;
-    opened_at = there.3;
-    stays = subst (λ (c : Connection). StaysTalking b limits url moment there.0 [] c first after []) (sym o.over.0) (record {
-      able = able;
-      accepted = AllAfter-nil (IsAccepted (acknowledged b.limits limits url));
+    opened_at = settled_there.3;
+    stays = subst (λ (c : Connection). StaysTalking b limits url moment settled_there.0 [] c first after []) (sym o.over.0) (record {
       stays = record {
-        site = there.0;
-        at = there.3;
+        site = settled_there.0;
+        at = settled_there.3;
         sent = [];
         course = Begun;
         got = o.opens.moves.got;
@@ -216,8 +225,13 @@ module _ (b : Beginning) (limits : Limits) (url : Option (List ℕ)) (moment : D
       };
       sent_is = refl;
       replied = refl;
-      state_is = ap (λ (ts : List Told). state_told b ts) (append-nil (opening_told b.limits limits url)) ∙ state_first_two b (agreement_of b.limits (hello_to limits url));
-      number_is = sym there.3.number_is ∙ (o.opens.keeps.next ∙ o.fresh.next_is);
-      talking = talks;
+      talks = opened_talks (opening_octets limits url moment ++ []) (sym (append-nil (opening_octets limits url moment)));
     });
   }
+
+  -- the talk as it begins
+  pub opened_talk : TalksAt (opening b limits url moment) settled_there.0 (connection_of client) after
+  opened_talk = subst (λ (c : Connection). TalksAt (opening b limits url moment) settled_there.0 c after) (sym o.over.0) (opened_talks (opening_octets limits url moment) refl)
+
+  pub opened_ready : IsReady client
+  opened_ready = o.over.1

@@ -1,29 +1,24 @@
 -- A client's turns over a line, one behind the other.
-use Rattle.std.proofs.Common.{◌≡◌, ◌⊎◌, inl, inr, ℕ, ◌+◌, ◌<◌, ◌≤◌, List, [], ◌∷◌, ◌++◌, Option, Some, None, Result, Ok, Err, get_or, length, map, take, drop, refl, sym, ◌∙◌, ap, subst, append-nil, append_assoc, arith}
+use Rattle.std.proofs.Common.{◌≡◌, ◌⊎◌, inl, inr, ℕ, ◌+◌, ◌<◌, ◌≤◌, IsTrue, List, [], ◌∷◌, ◌++◌, Option, Some, None, Result, Ok, Err, get_or, length, map, take, drop, refl, sym, ◌∙◌, ap, subst, append-nil, append_assoc, arith}
 use Rattle.std.specs.Prelude.{IfErr, OnOk}
 use Rattle.std.proofs.lemmas.List.{length-map, length-take-le, map-append, take-append-drop, take_all, take_more}
-use Rattle.ua_builtin.specs.Reasons.{first_reason}
+use Rattle.ua_builtin.specs.DateTime.{date_time}
 use Rattle.ua_builtin.specs.declared.date_time.DateTime.{DateTime}
 use Rattle.ua_frame.specs.Run.{End, Going, Over, Stopped}
-use Rattle.ua_frame.specs.declared.ack.Ack.{Ack}
 use Rattle.ua_frame.specs.declared.limits.Limits.{Limits}
-use Rattle.ua_frame.proofs.Afters.{AllAfter-push}
-use Rattle.ua_chunk.specs.declared.lane.Lane.{Lane}
-use Rattle.ua_channel.specs.ClientAsks.{call_lane}
 use Rattle.ua_channel.specs.Line.{Traffic, WhereTold}
 use Rattle.ua_channel.specs.ServerReads.{ServerCloses}
-use Rattle.ua_channel.specs.ServerTold.{Told, Opened, Closed}
+use Rattle.ua_channel.specs.ServerTold.{Told}
 use Rattle.ua_channel.specs.declared.client.channel.ClientChannel.{ClientChannel}
 use Rattle.ua_services.specs.declared.request.Request.{Request}
-use Rattle.ua_server.specs.Said.{said}
 use Rattle.ua_server.specs.State.{State}
 use Rattle.ua_server.specs.declared.step.End.TheVariants as ending
 use Rattle.ua_client.specs.Carried.{Carries}
-use Rattle.ua_client.specs.Client.{Closes, ClosesAt, IsReady, OpensClient, OpensNothing, closing_at, closing_by, connection_of}
+use Rattle.ua_client.specs.Client.{Closes, ClosesAt, IsReady, OpensClient, OpensNothing, closing_at, connection_of}
 use Rattle.ua_client.specs.Hearing.{channel_of, untaken_of}
 use Rattle.ua_client.specs.Kept.{CallsInto}
 use Rattle.ua_client.specs.Renewing.{IsRenewed, Renews, renewal_at}
-use Rattle.ua_client.specs.Site.{Site, id_at}
+use Rattle.ua_client.specs.Site.{Site}
 use Rattle.ua_client.specs.declared.client.Client.{Client}
 use Rattle.ua_client.specs.declared.connection.Connection.{Connection}
 use Rattle.ua_client.specs.declared.fault.ClientFault.{ClientFault}
@@ -34,26 +29,25 @@ use Rattle.ua_client.specs.declared.fault.ClientFault.TheVariants.{OutOfMemory}
 use Rattle.ua_client.specs.declared.reply.Reply.{Reply}
 use Rattle.ua_client.proofs.Carrying.{carried-as, carried-then}
 use Rattle.ua_client.proofs.Settled.{NonePending}
-use Rattle.ua_served.specs.Accepted.{AreAccepted, FirstRefused, IsAccepted, IsTurnFault, acknowledged, held_behind, tokens_held, turn_reasons, turn_refusal}
+use Rattle.ua_served.specs.Accepted.{AreAccepted, FirstRefused, IsTurnFault, acknowledged, turn_refusal}
 use Rattle.ua_served.specs.Beginning.{Beginning}
 use Rattle.ua_served.specs.Course.{Converses, Course, Stays, opening_octets}
 use Rattle.ua_served.specs.Course.Course.{Asked, Renewed}
 use Rattle.ua_served.specs.Kept.{EndsAt, LeavesAt, Served, traffic_of}
-use Rattle.ua_served.specs.Replies.{lane_back, turn_replies, turn_state, turns_replies, turns_state}
-use Rattle.ua_served.specs.Sends.{conversation_octets, turn_number, turn_octets, turns_number, turns_octets}
-use Rattle.ua_served.specs.Says.{end_by, left_by, said_to, spent, state_told}
-use Rattle.ua_served.specs.inside.Talking.{AreTalking, CanOpen, StaysTalking, Talked, Went, line_to}
-use Rattle.ua_served.specs.Turns.{conversation_told, id_behind, ids_behind, opening_told, token_behind, tokens_behind, turn_told, turns_told}
+use Rattle.ua_served.specs.Replies.{lane_back, turn_replies, turns_replies, turns_state}
+use Rattle.ua_served.specs.Sends.{closing_behind, conversation_octets, turns_octets}
+use Rattle.ua_served.specs.Says.{end_by, left_by, said_to, state_told}
+use Rattle.ua_served.specs.Talking.{IsLineTo, SoFar, TalksAt, acked_in, closed_octets, octets_of, state_in, token_in, with_turn}
+use Rattle.ua_served.specs.inside.Talking.{CanOpen, StaysTalking, Talked, Went}
+use Rattle.ua_served.specs.Turns.{conversation_told, opening_told, turns_told}
 use Rattle.ua_served.specs.declared.stage.Stage.{Stage}
 use Rattle.ua_served.specs.declared.stage.Stage.TheVariants as stage
 use Rattle.ua_served.proofs.Begun.{SettlesOpened, went_first}
-use Rattle.ua_served.proofs.Pushes.{held_push, ids_push, number_push, octets_push, replies_push, state_push, told_push, tokens_push}
-use Rattle.ua_served.proofs.Reaching.{closing_read}
-use Rattle.ua_served.proofs.Replying.{some-append, state_closed, state_renewal}
-use Rattle.ua_served.proofs.Rounds.{closing_there}
-use Rattle.ua_served.proofs.Saying.{end_is, left_by_run, said_by_run, said_over}
-use Rattle.ua_served.proofs.Staying.{said_there}
-use Rattle.ua_served.proofs.Talks.{asked_judged, asked_number, asked_refused, asked_replied, asked_sent, asked_state, got_on, renewal_sent, renewed_judged, renewing_refused, rounds_octets, talking_as, talks_asked, talks_renewed}
+use Rattle.ua_served.proofs.OneTurn.{calls_refused, calls_replied, calls_sent, calls_talk, closes_read, closes_silent, closing_is, renewing_not, renewing_sent, renewing_talks}
+use Rattle.ua_served.proofs.Pushes.{octets_push, replies_push}
+use Rattle.ua_served.proofs.Replying.{some-append, state_closed}
+use Rattle.ua_served.proofs.Saying.{end_is, left_by_run}
+use Rattle.ua_served.proofs.Talks.{got_on, rounds_octets}
 
 -- ---- a turn
 
@@ -61,78 +55,33 @@ module _ (b : Beginning) (limits : Limits) (url : Option (List ℕ)) (moment : D
   abbrev opening : List ℕ
   opening = opening_octets limits url moment
 
-  abbrev acked : Ack
-  acked = acknowledged b.limits limits url
-
   abbrev was : Stays moment (opening_octets limits url moment) opened turns x first now had
   was = s.stays
 
-  -- both are in step behind one turn more, which was sent and told this
-  more_talking : (t : Option (List Request)) (asked : Option (List Request)) (is : t ≡ asked) (sent : List ℕ) (site : Site)
-      → AreTalking b limits url ((opening ++ was.sent) ++ sent) ((opening_told b.limits limits url ++ turns_told 1 2 turns) ++ turn_told (tokens_behind 1 turns) (ids_behind 2 turns) asked) (token_behind (tokens_behind 1 turns) asked) (id_behind (ids_behind 2 turns) asked) (held_behind (tokens_held 1 turns) asked) site y first after
-      → AreTalking b limits url (opening ++ (was.sent ++ sent)) (opening_told b.limits limits url ++ turns_told 1 2 (turns ++ t ∷ [])) (tokens_behind 1 (turns ++ t ∷ [])) (ids_behind 2 (turns ++ t ∷ [])) (tokens_held 1 (turns ++ t ∷ [])) site y first after
-  more_talking t asked is sent site talks =
-      talking_as b limits url ((opening ++ was.sent) ++ sent) (opening ++ (was.sent ++ sent)) ((opening_told b.limits limits url ++ turns_told 1 2 turns) ++ turn_told (tokens_behind 1 turns) (ids_behind 2 turns) asked)
-      (opening_told b.limits limits url ++ turns_told 1 2 (turns ++ t ∷ [])) (token_behind (tokens_behind 1 turns) asked) (tokens_behind 1 (turns ++ t ∷ [])) (id_behind (ids_behind 2 turns) asked) (ids_behind 2 (turns ++ t ∷ []))
-      (held_behind (tokens_held 1 turns) asked) (tokens_held 1 (turns ++ t ∷ [])) site y first after
-      (append_assoc opening was.sent sent)
-      (append_assoc (opening_told b.limits limits url) (turns_told 1 2 turns) (turn_told (tokens_behind 1 turns) (ids_behind 2 turns) asked)
-      ∙ ap (λ (ts : List Told). opening_told b.limits limits url ++ ts) (sym (told_push 1 2 turns t ∙ ap (λ (o : Option (List Request)). turns_told 1 2 turns ++ turn_told (tokens_behind 1 turns) (ids_behind 2 turns) o) is)))
-      (sym (tokens_push 1 turns t ∙ ap (λ (o : Option (List Request)). token_behind (tokens_behind 1 turns) o) is))
-      (sym (ids_push 2 turns t ∙ ap (λ (o : Option (List Request)). id_behind (ids_behind 2 turns) o) is))
-      (sym (held_push 1 turns t ∙ ap (λ (o : Option (List Request)). held_behind (tokens_held 1 turns) o) is)) talks
+  abbrev talk : SoFar
+  talk = record { server = b; limits = limits; url = url; turns = turns; octets = opening ++ was.sent }
 
-  -- the lane of its calls there
-  abbrev lane_then : Lane
-  lane_then = call_lane acked b.channel (tokens_behind 1 turns)
-
-  -- what was sent with this turn, and the number behind it
-  more_sent : (t : Option (List Request)) (asked : Option (List Request)) → t ≡ asked → (sent : List ℕ) → sent ≡ turn_octets lane_then was.site.number (ids_behind 2 turns) moment asked → was.sent ++ sent ≡ turns_octets acked b.channel moment 1 2 2 (turns ++ t ∷ [])
-  more_sent t asked is sent sent_is =
+  -- what was sent with this turn
+  more_sent : (turn : Option (List Request)) (sent : List ℕ) → sent ≡ octets_of talk moment turn → was.sent ++ sent ≡ turns_octets (acked_in talk) b.channel moment 1 2 2 (turns ++ turn ∷ [])
+  more_sent turn sent is =
       ap (λ (o : List ℕ). o ++ sent) s.sent_is
-      ∙ (ap (λ (o : List ℕ). turns_octets acked b.channel moment 1 2 2 turns ++ o)
-      (sent_is
-      ∙ (ap (λ (n : ℕ). turn_octets lane_then n (ids_behind 2 turns) moment asked) s.number_is
-      ∙ ap (λ (o : Option (List Request)). turn_octets lane_then (turns_number acked b.channel 1 2 turns) (ids_behind 2 turns) moment o) (sym is)))
-      ∙ sym (octets_push acked b.channel moment 1 2 2 turns t))
+      ∙ (ap (λ (o : List ℕ). turns_octets (acked_in talk) b.channel moment 1 2 2 turns ++ o) is ∙ sym (octets_push (acked_in talk) b.channel moment 1 2 2 turns turn))
 
-  more_number : (t : Option (List Request)) (asked : Option (List Request)) → t ≡ asked → (number : ℕ) → number ≡ turn_number lane_then was.site.number asked → number ≡ turns_number acked b.channel 1 2 (turns ++ t ∷ [])
-  more_number t asked is number number_is =
-      number_is
-      ∙ (ap (λ (n : ℕ). turn_number lane_then n asked) s.number_is
-      ∙ (ap (λ (o : Option (List Request)). turn_number lane_then (turns_number acked b.channel 1 2 turns) o) (sym is) ∙ sym (number_push acked b.channel 1 2 turns t)))
-
-  -- the replies with this turn, and the state behind it
-  more_replied : (t : Option (List Request)) (asked : Option (List Request)) → t ≡ asked → (added : List Reply) → have ≡ had ++ added
-      → map (λ (r : Reply). Some r) added ≡ turn_replies (lane_back b limits url (tokens_behind 1 turns)) (state_told b (opening_told b.limits limits url ++ turns_told 1 2 turns)) b.moment asked
-      → map (λ (r : Reply). Some r) have ≡ turns_replies b limits url b.first 1 (turns ++ t ∷ [])
-  more_replied t asked is added have_is replied =
-      let back : Lane = lane_back b limits url (tokens_behind 1 turns) in
+  -- the replies with it
+  more_replied : (turn : Option (List Request)) (added : List Reply) → have ≡ had ++ added → map (λ (r : Reply). Some r) added ≡ turn_replies (lane_back b limits url (token_in talk)) (state_in talk) b.moment turn
+      → map (λ (r : Reply). Some r) have ≡ turns_replies b limits url b.first 1 (turns ++ turn ∷ [])
+  more_replied turn added have_is replied =
       ap (λ (rs : List Reply). map (λ (r : Reply). Some r) rs) have_is
       ∙ (some-append had added
       ∙ (ap (λ (os : List (Option Reply)). os ++ map (λ (r : Reply). Some r) added) s.replied
-      ∙ (ap (λ (os : List (Option Reply)). turns_replies b limits url b.first 1 turns ++ os)
-      (replied
-      ∙ (ap (λ (st : State). turn_replies back st b.moment asked) s.state_is ∙ ap (λ (o : Option (List Request)). turn_replies back (turns_state b.first b.moment turns) b.moment o) (sym is)))
-      ∙ sym (replies_push b limits url b.first 1 turns t))))
+      ∙ (ap (λ (os : List (Option Reply)). turns_replies b limits url b.first 1 turns ++ os) replied ∙ sym (replies_push b limits url b.first 1 turns turn))))
 
-  more_state : (t : Option (List Request)) (asked : Option (List Request)) → t ≡ asked
-      → state_told b ((opening_told b.limits limits url ++ turns_told 1 2 turns) ++ turn_told (tokens_behind 1 turns) (ids_behind 2 turns) asked) ≡ turn_state (state_told b (opening_told b.limits limits url ++ turns_told 1 2 turns)) b.moment asked
-      → state_told b (opening_told b.limits limits url ++ turns_told 1 2 (turns ++ t ∷ [])) ≡ turns_state b.first b.moment (turns ++ t ∷ [])
-  more_state t asked is state =
-      ap (λ (ts : List Told). state_told b ts)
-      (ap (λ (ts : List Told). opening_told b.limits limits url ++ ts) (told_push 1 2 turns t ∙ ap (λ (o : Option (List Request)). turns_told 1 2 turns ++ turn_told (tokens_behind 1 turns) (ids_behind 2 turns) o) is)
-      ∙ sym (append_assoc (opening_told b.limits limits url) (turns_told 1 2 turns) (turn_told (tokens_behind 1 turns) (ids_behind 2 turns) asked)))
-      ∙ (state
-      ∙ (ap (λ (st : State). turn_state st b.moment asked) s.state_is
-      ∙ (ap (λ (o : Option (List Request)). turn_state (turns_state b.first b.moment turns) b.moment o) (sym is) ∙ sym (state_push b.first b.moment turns t))))
-
-  -- why it is refused
-  refused_as : (t : Option (List Request)) (asked : Option (List Request)) → t ≡ asked → turn_refusal acked turns t ≡ first_reason (turn_reasons acked (tokens_held 1 turns) (ids_behind 2 turns) asked)
-  refused_as t asked is = ap (λ (o : Option (List Request)). first_reason (turn_reasons acked (tokens_held 1 turns) (ids_behind 2 turns) o)) is
-
-  more_accepted : (t : Option (List Request)) → turn_refusal acked turns t ≡ None → AreAccepted acked (turns ++ t ∷ [])
-  more_accepted t none = AllAfter-push (IsAccepted acked) turns t s.accepted none
+  -- where both ends are behind it
+  talks_on : (turn : Option (List Request)) (u : Site) (sent : List ℕ) → sent ≡ octets_of talk moment turn → TalksAt (with_turn talk moment turn) u y after
+      → TalksAt (record { server = b; limits = limits; url = url; turns = turns ++ turn ∷ []; octets = opening ++ (was.sent ++ sent) }) u y after
+  talks_on turn u sent is talks =
+      subst (λ (o : List ℕ). TalksAt (record { server = b; limits = limits; url = url; turns = turns ++ turn ∷ []; octets = o }) u y after)
+      (ap (λ (o : List ℕ). (opening ++ was.sent) ++ o) (sym is) ∙ append_assoc opening was.sent sent) talks
 
   carried_on : (got sent : List ℕ) → WhereTold (Carries got sent) now after → WhereTold (Carries (was.got ++ got) (opening ++ (was.sent ++ sent))) first after
   carried_on got sent carried =
@@ -140,102 +89,66 @@ module _ (b : Beginning) (limits : Limits) (url : Option (List ℕ)) (moment : D
       (carried-then was.got (opening ++ was.sent) got sent first now after was.carried carried)
 
   -- requests are asked
-  pub stays_asked : NonePending → (t : Option (List Request)) (requests : List Request) (done : Unit {0}) → t ≡ Some requests → CallsInto {A = Unit {0}} requests x y now after (Ok done) had have → StaysTalking b limits url moment opened (turns ++ t ∷ []) y first after have
-  stays_asked law t requests done is c =
+  asked_on : NonePending → (requests : List Request) (done : Unit {0}) → CallsInto {A = Unit {0}} requests x y now after (Ok done) had have → StaysTalking b limits url moment opened (turns ++ Some requests ∷ []) y first after have
+  asked_on law requests done c =
       let a = c.answers was.site was.at in
+      let sent_is : c.sent ≡ octets_of talk moment (Some requests) = calls_sent talk was.site x now s.talks y after c.sent c.moves c.same law moment requests c.added a in
       record {
-        able = s.able;
-        accepted =
-            more_accepted t
-            (refused_as t (Some requests) is
-            ∙ asked_judged b limits url (opening ++ was.sent) (opening_told b.limits limits url ++ turns_told 1 2 turns) (tokens_behind 1 turns) (ids_behind 2 turns) (tokens_held 1 turns) was.site x first now s.talking y after c.sent c.moves c.same
-            law moment requests c.added a);
         stays = record {
           site = a.behind;
           at = a.at;
           sent = was.sent ++ c.sent;
-          course = subst (λ (r : List Reply). Course moment opened (turns ++ t ∷ []) a.behind (was.sent ++ c.sent) r) (sym c.have_is)
-              (Asked t a.groups was.course (is ∙ ap (λ (rs : List Request). Some rs) a.parts) a.sized a.rounds);
+          course = subst (λ (r : List Reply). Course moment opened (turns ++ Some requests ∷ []) a.behind (was.sent ++ c.sent) r) (sym c.have_is)
+              (Asked (Some requests) a.groups was.course (ap (λ (rs : List Request). Some rs) a.parts) a.sized a.rounds);
           got = was.got ++ c.moves.got;
           carried = carried_on c.moves.got c.sent c.moves.carried;
           got_is = got_on was.got c.moves.got was.site.octets (untaken_of x) c.moves.taken (untaken_of y) was.got_is c.moves.parts ∙ ap (λ (o : List ℕ). o ++ untaken_of y) (sym (rounds_octets a.rounds));
         };
-        sent_is =
-            more_sent t (Some requests) is c.sent
-            (asked_sent b limits url (opening ++ was.sent) (opening_told b.limits limits url ++ turns_told 1 2 turns) (tokens_behind 1 turns) (ids_behind 2 turns) (tokens_held 1 turns) was.site x first now s.talking y after c.sent c.moves c.same
-            law moment requests c.added a);
-        replied =
-            more_replied t (Some requests) is c.added c.have_is
-            (asked_replied b limits url (opening ++ was.sent) (opening_told b.limits limits url ++ turns_told 1 2 turns) (tokens_behind 1 turns) (ids_behind 2 turns) (tokens_held 1 turns) was.site x first now s.talking y after c.sent c.moves c.same
-            law moment requests c.added a);
-        state_is =
-            more_state t (Some requests) is
-            (asked_state b limits url (opening ++ was.sent) (opening_told b.limits limits url ++ turns_told 1 2 turns) (tokens_behind 1 turns) (ids_behind 2 turns) (tokens_held 1 turns) was.site x first now s.talking y after c.sent c.moves c.same
-            law moment requests c.added a);
-        number_is =
-            more_number t (Some requests) is a.behind.number
-            (asked_number b limits url (opening ++ was.sent) (opening_told b.limits limits url ++ turns_told 1 2 turns) (tokens_behind 1 turns) (ids_behind 2 turns) (tokens_held 1 turns) was.site x first now s.talking y after c.sent c.moves c.same
-            law moment requests c.added a);
-        talking = more_talking t (Some requests) is c.sent a.behind
-            (talks_asked b limits url (opening ++ was.sent) (opening_told b.limits limits url ++ turns_told 1 2 turns) (tokens_behind 1 turns) (ids_behind 2 turns) (tokens_held 1 turns) was.site x first now s.talking y after c.sent c.moves c.same law moment requests c.added a);
+        sent_is = more_sent (Some requests) c.sent sent_is;
+        replied = more_replied (Some requests) c.added c.have_is (calls_replied talk was.site x now s.talks y after c.sent c.moves c.same law moment requests c.added a);
+        talks = talks_on (Some requests) a.behind c.sent sent_is (calls_talk talk was.site x now s.talks y after c.sent c.moves c.same law moment requests c.added a);
       }
 
   -- the token is renewed
-  pub stays_renewed : (t : Option (List Request)) (done : Unit {0}) → t ≡ None → Renews {A = Unit {0}} moment x y now after (Ok done) → have ≡ had → StaysTalking b limits url moment opened (turns ++ t ∷ []) y first after have
-  stays_renewed t done is c same =
+  renewed_on : IsTrue (date_time.encodable moment) → (done : Unit {0}) → Renews {A = Unit {0}} moment x y now after (Ok done) → have ≡ had → StaysTalking b limits url moment opened (turns ++ None ∷ []) y first after have
+  renewed_on dated done c same =
       let a = c.answers was.site was.at in
       let u : Site = a.1.0 in
       let renewed : IsRenewed (channel_of y) was.site u c.moves.taken = a.1.1 in
+      let sent_is : c.sent ≡ octets_of talk moment None = renewing_sent talk was.site x now s.talks y after moment dated done c was.at in
       record {
-        able = s.able;
-        accepted =
-            more_accepted t
-            (refused_as t None is
-            ∙ renewed_judged b limits url (opening ++ was.sent) (opening_told b.limits limits url ++ turns_told 1 2 turns) (tokens_behind 1 turns) (ids_behind 2 turns) (tokens_held 1 turns) was.site x first now s.talking y after c.sent c.moves c.same
-            moment (sym (c.judged was.site was.at)));
         stays = record {
           site = u;
           at = renewed.at;
-          sent = was.sent ++ renewal_at was.site moment;
-          course = subst (λ (r : List Reply). Course moment opened (turns ++ t ∷ []) u (was.sent ++ renewal_at was.site moment) r) (sym same) (Renewed t (channel_of y) was.course is renewed);
+          sent = was.sent ++ c.sent;
+          course = subst (λ (o : List ℕ). Course moment opened (turns ++ None ∷ []) u (was.sent ++ o) have) (sym a.0)
+              (subst (λ (r : List Reply). Course moment opened (turns ++ None ∷ []) u (was.sent ++ renewal_at was.site moment) r) (sym same) (Renewed None (channel_of y) was.course refl renewed));
           got = was.got ++ c.moves.got;
-          carried = subst (λ (o : List ℕ). WhereTold (Carries (was.got ++ c.moves.got) (opening ++ (was.sent ++ o))) first after) a.0 (carried_on c.moves.got c.sent c.moves.carried);
+          carried = carried_on c.moves.got c.sent c.moves.carried;
           got_is = got_on was.got c.moves.got was.site.octets (untaken_of x) c.moves.taken (untaken_of y) was.got_is c.moves.parts ∙ ap (λ (o : List ℕ). o ++ untaken_of y) (sym renewed.octets);
         };
-        sent_is =
-            more_sent t None is (renewal_at was.site moment)
-            (renewal_sent b limits url (opening ++ was.sent) (opening_told b.limits limits url ++ turns_told 1 2 turns) (tokens_behind 1 turns) (ids_behind 2 turns) (tokens_held 1 turns) was.site x first now s.talking y after c.sent c.moves c.same moment);
-        number_is = more_number t None is u.number renewed.number;
-        replied = more_replied t None is [] (same ∙ sym (append-nil had)) refl;
-        state_is = more_state t None is (state_renewal b (opening_told b.limits limits url ++ turns_told 1 2 turns) (ids_behind 2 turns) 0 (tokens_behind 1 turns + 1) 3600000);
-        talking = more_talking t None is (renewal_at was.site moment) u
-            (subst (λ (o : List ℕ). AreTalking b limits url ((opening ++ was.sent) ++ o) ((opening_told b.limits limits url ++ turns_told 1 2 turns) ++ Opened (ids_behind 2 turns) 0 (tokens_behind 1 turns + 1) 3600000 ∷ []) (tokens_behind 1 turns + 1) (ids_behind 2 turns + 1) (tokens_held 1 turns + 1) u y first after) a.0
-            (talks_renewed b limits url (opening ++ was.sent) (opening_told b.limits limits url ++ turns_told 1 2 turns) (tokens_behind 1 turns) (ids_behind 2 turns) (tokens_held 1 turns) was.site x first now s.talking y after c.sent c.moves c.same
-            moment s.able.dated s.able.answered (sym (c.judged was.site was.at)) a.0 u renewed));
+        sent_is = more_sent None c.sent sent_is;
+        replied = more_replied None [] (same ∙ sym (append-nil had)) refl;
+        talks = talks_on None u c.sent sent_is (renewing_talks talk was.site x now s.talks y after moment dated done c was.at);
       }
+
+  -- a turn that asks these requests, or none
+  pub stays_asked : NonePending → (t : Option (List Request)) (requests : List Request) (done : Unit {0}) → t ≡ Some requests → CallsInto {A = Unit {0}} requests x y now after (Ok done) had have → StaysTalking b limits url moment opened (turns ++ t ∷ []) y first after have
+  stays_asked law t requests done is c = subst (λ (o : Option (List Request)). StaysTalking b limits url moment opened (turns ++ o ∷ []) y first after have) (sym is) (asked_on law requests done c)
+
+  pub stays_renewed : IsTrue (date_time.encodable moment) → (t : Option (List Request)) (done : Unit {0}) → t ≡ None → Renews {A = Unit {0}} moment x y now after (Ok done) → have ≡ had → StaysTalking b limits url moment opened (turns ++ t ∷ []) y first after have
+  stays_renewed dated t done is c same = subst (λ (o : Option (List Request)). StaysTalking b limits url moment opened (turns ++ o ∷ []) y first after have) (sym is) (renewed_on dated done c same)
 
   -- or it is not taken, by the first reason against it
 
-  pub asked_not : NonePending → (t : Option (List Request)) (requests : List Request) (f : CallsFault) → t ≡ Some requests → CallsInto {A = Unit {0}} requests x y now after (Err f) had have → IsTurnFault f.fault → turn_refusal acked turns t ≡ Some f.fault
+  pub asked_not : NonePending → (t : Option (List Request)) (requests : List Request) (f : CallsFault) → t ≡ Some requests → CallsInto {A = Unit {0}} requests x y now after (Err f) had have → IsTurnFault f.fault → turn_refusal (acked_in talk) turns t ≡ Some f.fault
   asked_not law t requests f is c reason =
-      refused_as t (Some requests) is
-      ∙ asked_refused b limits url (opening ++ was.sent) (opening_told b.limits limits url ++ turns_told 1 2 turns) (tokens_behind 1 turns) (ids_behind 2 turns) (tokens_held 1 turns) was.site x first now s.talking y after c.sent c.moves c.same
-      law requests f.fault reason (c.answers was.site was.at).broken
+      ap (turn_refusal (acked_in talk) turns) is ∙ calls_refused talk was.site x now s.talks y after c.sent c.moves c.same law moment requests f.fault reason (c.answers was.site was.at).broken
 
-  pub renewed_not : (t : Option (List Request)) (f : ClientFault) → t ≡ None → Renews {A = Unit {0}} moment x y now after (Err f) → IsTurnFault f → turn_refusal acked turns t ≡ Some f
-  renewed_not t f is c reason =
-      refused_as t None is
-      ∙ renewing_refused b limits url (opening ++ was.sent) (opening_told b.limits limits url ++ turns_told 1 2 turns) (tokens_behind 1 turns) (ids_behind 2 turns) (tokens_held 1 turns) was.site x first now s.talking y after c.sent c.moves c.same
-      moment f reason (c.answers was.site was.at) (c.judged was.site was.at)
+  pub renewed_not : (t : Option (List Request)) (f : ClientFault) → t ≡ None → Renews {A = Unit {0}} moment x y now after (Err f) → IsTurnFault f → turn_refusal (acked_in talk) turns t ≡ Some f
+  renewed_not t f is c reason = ap (turn_refusal (acked_in talk) turns) is ∙ renewing_not talk was.site x now s.talks y after moment f reason c was.at
 
 -- ---- the end
-
-module _ (b : Beginning) (octets more : List ℕ) (told : List Told) (q : ServerCloses b.limits b.channel more (told ++ Closed ∷ [])) (here : said_to b octets ≡ said b.channel b.first told Going (spent told b.moment)) where
-  -- a CLO is not answered
-  closing_said : said_to b more ≡ said_to b octets
-  closing_said =
-      said_by_run b more q.frames [] Over q.run
-      ∙ (ap (λ (k : List Told). said b.channel b.first k Over (spent k b.moment)) q.told_is ∙ (said_over b told ∙ sym here))
 
 -- it closes
 pub talked_all : (b : Beginning) (limits : Limits) (url : Option (List ℕ)) (moment : DateTime) (turns : List (Option (List Request))) (x : Connection) (first now after : Option Traffic) (replies : List Reply)
@@ -244,17 +157,11 @@ pub talked_all : (b : Beginning) (limits : Limits) (url : Option (List ℕ)) (mo
 talked_all b limits url moment turns x first now after replies w y later done s c =
     let opening : List ℕ = opening_octets limits url moment in
     let was = s.stays in
-    let t = s.talking.served in
-    let told : List Told = opening_told b.limits limits url ++ turns_told 1 2 turns in
+    let talk : SoFar = record { server = b; limits = limits; url = url; turns = turns; octets = opening ++ was.sent } in
     let sent_is : c.sent ≡ closing_at was.site moment = c.answers was.site was.at in
-    let all : (opening ++ was.sent) ++ closing_at was.site moment ≡ opening ++ (was.sent ++ closing_at was.site moment) = append_assoc opening was.sent (closing_at was.site moment) in
-    let acked : Ack = acknowledged b.limits limits url in
-    let lane_closing : closing_at was.site moment ≡ closing_by (Some (call_lane acked b.channel (tokens_behind 1 turns))) was.site.number (ids_behind 2 turns) moment =
-    closing_there b limits url (opening ++ was.sent) told (tokens_behind 1 turns) (ids_behind 2 turns) (tokens_held 1 turns) was.site (channel_of y) s.talking.served moment in
-    let used : id_at was.site < 4294967296 = omega (arith, t.id_is, t.few) in
-    let closes : ServerCloses b.limits b.channel (opening ++ (was.sent ++ closing_at was.site moment)) (conversation_told b.limits limits url turns) =
-    subst (λ (o : List ℕ). ServerCloses b.limits b.channel o (told ++ Closed ∷ [])) all
-    (closing_read b.limits url b.channel (opening ++ was.sent) told t.at_server (channel_of y) was.site t.at_client t.on t.serving.together moment used) in
+    let closing : closing_at was.site moment ≡ closing_behind (acked_in talk) b.channel moment turns = closing_is talk was.site y later s.talks moment in
+    let all : opening ++ (was.sent ++ closing_at was.site moment) ≡ closed_octets talk moment =
+    sym (append_assoc opening was.sent (closing_at was.site moment)) ∙ ap (λ (o : List ℕ). (opening ++ was.sent) ++ o) closing in
     record {
       channel = w.channel;
       opened = w.opened;
@@ -265,16 +172,15 @@ talked_all b limits url moment turns x first now after replies w y later done s 
       course = was.course;
       got = was.got;
       carried = carried-as (was.got ++ []) ((opening ++ was.sent) ++ c.sent) was.got (opening ++ (was.sent ++ closing_at was.site moment)) first after (append-nil was.got)
-          (ap (λ (o : List ℕ). (opening ++ was.sent) ++ o) sent_is ∙ all) (carried-then was.got (opening ++ was.sent) [] c.sent first later after was.carried c.carried);
-      accepted = s.accepted;
+          (ap (λ (o : List ℕ). (opening ++ was.sent) ++ o) sent_is ∙ append_assoc opening was.sent (closing_at was.site moment)) (carried-then was.got (opening ++ was.sent) [] c.sent first later after was.carried c.carried);
+      accepted = s.talks.accepted;
       replied = s.replied;
-      state_is = s.state_is;
+      state_is = s.talks.state_is;
       up_is =
           ap (λ (o : List ℕ). opening ++ (o ++ closing_at was.site moment)) s.sent_is
-          ∙ ap (λ (o : List ℕ). opening ++ (turns_octets acked b.channel moment 1 2 2 turns ++ o))
-          (lane_closing ∙ ap (λ (n : ℕ). closing_by (Some (call_lane acked b.channel (tokens_behind 1 turns))) n (ids_behind 2 turns) moment) s.number_is);
-      took = t.serving.taken ∙ sym (closing_said b (opening ++ was.sent) (opening ++ (was.sent ++ closing_at was.site moment)) told closes (said_there b (opening ++ was.sent) told t.at_server t.serving.together.server_reads));
-      closes = closes;
+          ∙ ap (λ (o : List ℕ). opening ++ (turns_octets (acked_in talk) b.channel moment 1 2 2 turns ++ o)) closing;
+      took = s.talks.talking.served.serving.taken ∙ (sym (closes_silent talk was.site y later s.talks moment) ∙ ap (said_to b) (sym all));
+      closes = subst (λ (o : List ℕ). ServerCloses b.limits b.channel o (conversation_told b.limits limits url turns)) (sym all) (closes_read talk was.site y later s.talks moment);
     }
 
 -- over a line to a server
@@ -303,12 +209,8 @@ closed_by b limits url moment turns old new replies none t =
     (sym (t.carried.written ∙ ap (λ (o : List ℕ). o ++ (opening_octets limits url moment ++ (t.sent ++ closing_at t.last moment))) none)) t.closes
 
 -- the line as it begins
-pub line_begins : (b : Beginning) (old : Served) → old.up ≡ [] → old.read ≡ 0 → ◌≡◌ {A = Option Traffic} (Some (traffic_of b old)) (Some (line_to b))
-line_begins b old none nothing_read =
-    ap (λ (l : Served). Some (traffic_of b l)) (same_kept old none nothing_read)
-  where
-    same_kept : (l : Served) → l.up ≡ [] → l.read ≡ 0 → l ≡ record l { up = []; read = 0 }
-    same_kept l p q = ap (λ (u : List ℕ). record l { up = u }) p ∙ ap (λ (n : ℕ). record l { up = []; read = n }) q
+pub line_begins : (b : Beginning) (old : Served) → old.up ≡ [] → old.read ≡ 0 → IsLineTo b [] [] (Some (traffic_of b old))
+line_begins b old none nothing_read = λ more. sym (ap (λ (n : ℕ). drop n (said_to b (old.up ++ more))) nothing_read ∙ ap (λ (u : List ℕ). said_to b (u ++ more)) none)
 
 -- ---- turns, one behind the other
 
@@ -359,7 +261,7 @@ module _ {A : Type 0} (turn_of : A → Option (List Request)) where
             ∙ (ap (λ (ts : List (Option (List Request))). ts ++ map turn_of (drop (index + 1) turns)) (turns_on turns index t less is)
             ∙ append_assoc (map turn_of (take index turns)) (turn_of t ∷ []) (map turn_of (drop (index + 1) turns))));
         place_is = length-map (take index turns) turn_of ∙ length-take-le index turns (omega (arith, less));
-        accepted = done.accepted;
+        accepted = done.talks.accepted;
         refused = refused b limits url opened (map turn_of (take index turns)) first done;
       }
 
@@ -373,7 +275,7 @@ module _ {A : Type 0} (turn_of : A → Option (List Request)) where
 
 -- it opened
 pub went_by : (limits : Limits) (url : Option (List ℕ)) (moment : DateTime) (before after : Option Traffic) (client : Client) → SettlesOpened
-    → (OpensNothing before after (Ok client) ⊎ OpensClient limits url moment before after (Ok client)) → (b : Beginning) → CanOpen b limits url moment → before ≡ Some (line_to b) → Went b limits url moment (connection_of client) before after
+    → (OpensNothing before after (Ok client) ⊎ OpensClient limits url moment before after (Ok client)) → (b : Beginning) → CanOpen b limits url moment → IsLineTo b [] [] before → Went b limits url moment (connection_of client) before after
 went_by limits url moment before after client law (inl nothing) b able line = let none : ◌≡◌ {A = Result Client ClientFault} (Ok client) (Err OutOfMemory) = nothing.0 in absurd cc
 went_by limits url moment before after client law (inr o) b able line = went_first b limits url moment before after client law o able line
 
@@ -453,7 +355,7 @@ left_well (Ok done) b s up now leaves closed = subst (λ (t : Stage). LeavesAt t
 
 module _ (b : Beginning) (limits : Limits) (channel : ℕ) (services : State) (url : Option (List ℕ)) (moment : DateTime) (turns : List (Option (List Request))) (old new : Served) (replies : List Reply) (is : b ≡ record { limits = limits; channel = channel; first = services; moment = moment })
     (able : CanOpen (record { limits = limits; channel = channel; first = services; moment = moment }) limits url moment) (none : old.up ≡ []) (nothing_read : old.read ≡ 0)
-    (t : (b' : Beginning) → CanOpen b' limits url moment → ◌≡◌ {A = Option Traffic} (Some (traffic_of b old)) (Some (line_to b')) → Talked b' limits url moment turns (Some (traffic_of b old)) (Some (traffic_of b new)) replies) where
+    (t : (b' : Beginning) → CanOpen b' limits url moment → IsLineTo b' [] [] (Some (traffic_of b old)) → Talked b' limits url moment turns (Some (traffic_of b old)) (Some (traffic_of b new)) replies) where
   talked : Talked b limits url moment turns (Some (traffic_of b old)) (Some (traffic_of b new)) replies
   talked = t b (subst (λ (d : Beginning). CanOpen d limits url moment) (sym is) able) (line_begins b old none nothing_read)
 
@@ -493,7 +395,7 @@ module _ (b : Beginning) (limits : Limits) (channel : ℕ) (services : State) (u
 -- what went over the line
 pub conversed_on : (r : Result (Unit {0}) ClientFault) (b : Beginning) (limits : Limits) (channel : ℕ) (services : State) (url : Option (List ℕ)) (moment : DateTime) (turns : List (Option (List Request))) (old new : Served) (replies : List Reply) (up down : List ℕ)
     → b ≡ record { limits = limits; channel = channel; first = services; moment = moment } → CanOpen (record { limits = limits; channel = channel; first = services; moment = moment }) limits url moment → old.up ≡ [] → old.read ≡ 0
-    → OnOk r ((b' : Beginning) → CanOpen b' limits url moment → ◌≡◌ {A = Option Traffic} (Some (traffic_of b old)) (Some (line_to b')) → Talked b' limits url moment turns (Some (traffic_of b old)) (Some (traffic_of b new)) replies)
+    → OnOk r ((b' : Beginning) → CanOpen b' limits url moment → IsLineTo b' [] [] (Some (traffic_of b old)) → Talked b' limits url moment turns (Some (traffic_of b old)) (Some (traffic_of b new)) replies)
     → up ≡ new.up → down ≡ said_to b new.up → OnOk r (Converses limits url moment turns up down replies)
 conversed_on (Err f) b limits channel services url moment turns old new replies up down is able none nothing_read t p q = tt
 conversed_on (Ok found) b limits channel services url moment turns old new replies up down is able none nothing_read t p q =
@@ -502,7 +404,7 @@ conversed_on (Ok found) b limits channel services url moment turns old new repli
 -- and what it told the server
 pub closed_on : (r : Result (Unit {0}) ClientFault) (b : Beginning) (limits : Limits) (channel : ℕ) (services : State) (url : Option (List ℕ)) (moment : DateTime) (turns : List (Option (List Request))) (old new : Served) (replies : List Reply) (up : List ℕ)
     → b ≡ record { limits = limits; channel = channel; first = services; moment = moment } → CanOpen (record { limits = limits; channel = channel; first = services; moment = moment }) limits url moment → old.up ≡ [] → old.read ≡ 0
-    → OnOk r ((b' : Beginning) → CanOpen b' limits url moment → ◌≡◌ {A = Option Traffic} (Some (traffic_of b old)) (Some (line_to b')) → Talked b' limits url moment turns (Some (traffic_of b old)) (Some (traffic_of b new)) replies)
+    → OnOk r ((b' : Beginning) → CanOpen b' limits url moment → IsLineTo b' [] [] (Some (traffic_of b old)) → Talked b' limits url moment turns (Some (traffic_of b old)) (Some (traffic_of b new)) replies)
     → up ≡ new.up → OnOk r (ServerCloses limits channel up (conversation_told limits limits url turns))
 closed_on (Err f) b limits channel services url moment turns old new replies up is able none nothing_read t p = tt
 closed_on (Ok found) b limits channel services url moment turns old new replies up is able none nothing_read t p =
@@ -511,7 +413,7 @@ closed_on (Ok found) b limits channel services url moment turns old new replies 
 -- and each turn was accepted
 pub accepted_on : (r : Result (Unit {0}) ClientFault) (b : Beginning) (limits : Limits) (channel : ℕ) (services : State) (url : Option (List ℕ)) (moment : DateTime) (turns : List (Option (List Request))) (old new : Served) (replies : List Reply)
     → b ≡ record { limits = limits; channel = channel; first = services; moment = moment } → CanOpen (record { limits = limits; channel = channel; first = services; moment = moment }) limits url moment → old.up ≡ [] → old.read ≡ 0
-    → OnOk r ((b' : Beginning) → CanOpen b' limits url moment → ◌≡◌ {A = Option Traffic} (Some (traffic_of b old)) (Some (line_to b')) → Talked b' limits url moment turns (Some (traffic_of b old)) (Some (traffic_of b new)) replies)
+    → OnOk r ((b' : Beginning) → CanOpen b' limits url moment → IsLineTo b' [] [] (Some (traffic_of b old)) → Talked b' limits url moment turns (Some (traffic_of b old)) (Some (traffic_of b new)) replies)
     → OnOk r (AreAccepted (acknowledged limits limits url) turns)
 accepted_on (Err f) b limits channel services url moment turns old new replies is able none nothing_read t = tt
 accepted_on (Ok found) b limits channel services url moment turns old new replies is able none nothing_read t = all_accepted b limits channel services url moment turns old new replies is able none nothing_read t
@@ -519,7 +421,7 @@ accepted_on (Ok found) b limits channel services url moment turns old new replie
 -- or the first that is not is named
 pub refused_on : (r : Result (Unit {0}) ClientFault) (b : Beginning) (limits : Limits) (channel : ℕ) (services : State) (url : Option (List ℕ)) (moment : DateTime) (turns : List (Option (List Request))) (old : Served) (place : ℕ)
     → b ≡ record { limits = limits; channel = channel; first = services; moment = moment } → CanOpen (record { limits = limits; channel = channel; first = services; moment = moment }) limits url moment → old.up ≡ [] → old.read ≡ 0
-    → IfErr r (λ f. IsTurnFault f → (b' : Beginning) → CanOpen b' limits url moment → ◌≡◌ {A = Option Traffic} (Some (traffic_of b old)) (Some (line_to b')) → FirstRefused (acknowledged b'.limits limits url) turns place f)
+    → IfErr r (λ f. IsTurnFault f → (b' : Beginning) → CanOpen b' limits url moment → IsLineTo b' [] [] (Some (traffic_of b old)) → FirstRefused (acknowledged b'.limits limits url) turns place f)
     → IfErr r (λ f. IsTurnFault f → FirstRefused (acknowledged limits limits url) turns place f)
 refused_on (Ok found) b limits channel services url moment turns old place is able none nothing_read t = tt
 refused_on (Err f) b limits channel services url moment turns old place is able none nothing_read t = λ reason.
@@ -528,7 +430,7 @@ refused_on (Err f) b limits channel services url moment turns old place is able 
 -- and the client sent just these octets
 pub sent_on : (r : Result (Unit {0}) ClientFault) (b : Beginning) (limits : Limits) (channel : ℕ) (services : State) (url : Option (List ℕ)) (moment : DateTime) (turns : List (Option (List Request))) (old new : Served) (replies : List Reply) (up : List ℕ)
     → b ≡ record { limits = limits; channel = channel; first = services; moment = moment } → CanOpen (record { limits = limits; channel = channel; first = services; moment = moment }) limits url moment → old.up ≡ [] → old.read ≡ 0
-    → OnOk r ((b' : Beginning) → CanOpen b' limits url moment → ◌≡◌ {A = Option Traffic} (Some (traffic_of b old)) (Some (line_to b')) → Talked b' limits url moment turns (Some (traffic_of b old)) (Some (traffic_of b new)) replies)
+    → OnOk r ((b' : Beginning) → CanOpen b' limits url moment → IsLineTo b' [] [] (Some (traffic_of b old)) → Talked b' limits url moment turns (Some (traffic_of b old)) (Some (traffic_of b new)) replies)
     → up ≡ new.up → OnOk r (up ≡ conversation_octets limits limits url channel moment turns)
 sent_on (Err f) b limits channel services url moment turns old new replies up is able none nothing_read t p = tt
 sent_on (Ok found) b limits channel services url moment turns old new replies up is able none nothing_read t p = all_sent b limits channel services url moment turns old new replies is able none nothing_read t up p
@@ -536,7 +438,7 @@ sent_on (Ok found) b limits channel services url moment turns old new replies up
 -- each request has the reply that is worked out of the services
 pub replied_on : (r : Result (Unit {0}) ClientFault) (b : Beginning) (limits : Limits) (channel : ℕ) (services : State) (url : Option (List ℕ)) (moment : DateTime) (turns : List (Option (List Request))) (old new : Served) (replies : List Reply)
     → b ≡ record { limits = limits; channel = channel; first = services; moment = moment } → CanOpen (record { limits = limits; channel = channel; first = services; moment = moment }) limits url moment → old.up ≡ [] → old.read ≡ 0
-    → OnOk r ((b' : Beginning) → CanOpen b' limits url moment → ◌≡◌ {A = Option Traffic} (Some (traffic_of b old)) (Some (line_to b')) → Talked b' limits url moment turns (Some (traffic_of b old)) (Some (traffic_of b new)) replies)
+    → OnOk r ((b' : Beginning) → CanOpen b' limits url moment → IsLineTo b' [] [] (Some (traffic_of b old)) → Talked b' limits url moment turns (Some (traffic_of b old)) (Some (traffic_of b new)) replies)
     → OnOk r (map (λ (x : Reply). Some x) replies ≡ turns_replies (record { limits = limits; channel = channel; first = services; moment = moment }) limits url services 1 turns)
 replied_on (Err f) b limits channel services url moment turns old new replies is able none nothing_read t = tt
 replied_on (Ok found) b limits channel services url moment turns old new replies is able none nothing_read t = all_replied b limits channel services url moment turns old new replies is able none nothing_read t
@@ -544,7 +446,7 @@ replied_on (Ok found) b limits channel services url moment turns old new replies
 -- and the services are as the turns leave them
 pub state_on : (r : Result (Unit {0}) ClientFault) (b : Beginning) (limits : Limits) (channel : ℕ) (services : State) (url : Option (List ℕ)) (moment : DateTime) (turns : List (Option (List Request))) (old new : Served) (replies : List Reply) (up : List ℕ) (now : State)
     → b ≡ record { limits = limits; channel = channel; first = services; moment = moment } → CanOpen (record { limits = limits; channel = channel; first = services; moment = moment }) limits url moment → old.up ≡ [] → old.read ≡ 0
-    → OnOk r ((b' : Beginning) → CanOpen b' limits url moment → ◌≡◌ {A = Option Traffic} (Some (traffic_of b old)) (Some (line_to b')) → Talked b' limits url moment turns (Some (traffic_of b old)) (Some (traffic_of b new)) replies)
+    → OnOk r ((b' : Beginning) → CanOpen b' limits url moment → IsLineTo b' [] [] (Some (traffic_of b old)) → Talked b' limits url moment turns (Some (traffic_of b old)) (Some (traffic_of b new)) replies)
     → up ≡ new.up → OnOk r (now ≡ left_by b up) → OnOk r (now ≡ turns_state services moment turns)
 state_on (Err f) b limits channel services url moment turns old new replies up now is able none nothing_read t p q = tt
 state_on (Ok found) b limits channel services url moment turns old new replies up now is able none nothing_read t p q = q ∙ all_left b limits channel services url moment turns old new replies is able none nothing_read t up p

@@ -1,7 +1,7 @@
 mod Further
 mod Lists
 pub mod Saying
-mod Stepped
+pub mod Stepped
 mod Pieces
 mod Lines
 pub mod Reaching
@@ -15,9 +15,12 @@ mod RenewedTaken
 pub mod Renewed
 mod Rounds
 mod Talks
+mod OneTurn
 mod Refused
 mod Begun
 pub mod Pushes
 pub mod Conversing
 mod Courses
 pub mod Fitting
+mod Calling
+mod Sessions

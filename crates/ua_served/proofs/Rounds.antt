@@ -46,7 +46,7 @@ use Rattle.ua_served.specs.Replies.{lane_back, requests_replies}
 use Rattle.ua_served.specs.Says.{said_to, spent, state_told}
 use Rattle.ua_served.specs.Together.{AreServing, behind_calls}
 use Rattle.ua_served.specs.Turns.{calls_told}
-use Rattle.ua_served.specs.inside.Talking.{IsServed}
+use Rattle.ua_served.specs.Talking.{IsServed}
 use Rattle.ua_served.proofs.Answering.{issued_stays}
 use Rattle.ua_served.proofs.Ending.{all_last}
 use Rattle.ua_served.proofs.Reaching.{acked_here, few_ids, lane_here, not_exhausted, requests_asked, tokens_here, writable}

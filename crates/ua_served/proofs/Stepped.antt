@@ -6,7 +6,10 @@ use Rattle.ua_builtin.specs.declared.status_code.StatusCode.{StatusCode}
 use Rattle.ua_frame.specs.declared.frame.Frame.{Frame}
 use Rattle.ua_frame.specs.declared.limits.Limits.{Limits}
 use Rattle.ua_frame.specs.Run.{Rules, End, Going, Stopped, Over, Run, events}
+use Rattle.ua_frame.proofs.Streams.{run_nil}
 use Rattle.ua_frame.proofs.Unique.{unique}
+use Rattle.ua_channel.proofs.ReadOn.{no_events}
+use Rattle.ua_channel.specs.Received.{closings, received}
 use Rattle.ua_channel.specs.ServerRules.{server_rules}
 use Rattle.ua_channel.specs.ServerStands.{channel_of, limits_of, rules_of}
 use Rattle.ua_channel.specs.ServerTold.{Told, Closed}
@@ -21,7 +24,7 @@ use Rattle.ua_server.specs.declared.step.End.TheVariants as ending
 use Rattle.ua_server.specs.declared.step.Step.{Step}
 use Rattle.ua_server.proofs.SaidInParts.{used_in-append}
 use Rattle.ua_served.specs.Beginning.{Beginning}
-use Rattle.ua_served.specs.Kept.{Keeps}
+use Rattle.ua_served.specs.Kept.{Keeps, Serves}
 use Rattle.ua_served.specs.Says.{end_by, left_by, said_to, spent}
 use Rattle.ua_served.specs.declared.stage.Stage.{Stage}
 use Rattle.ua_served.specs.declared.stage.Stage.TheVariants as stage
@@ -207,36 +210,22 @@ module _ (b : Beginning) (old new : Server) (before now : State) (moment : DateT
   pub takes_some : Takes piece step → 0 < length piece → 0 < step.taken
   takes_some takes some = taken_by step.end refl takes some
 
--- where memory is refused, what was said before stays
-pub keeps_broken : (b : Beginning) (old new : Server) (before now : State) (moment : DateTime) (up down : List ℕ) (read : ℕ) → Keeps b old before moment up down read stage.Going → Keeps b new now moment up down read stage.Broken
-keeps_broken b old new before now moment up down read k = record { moment_is = k.moment_is; down_is = k.down_is; within = k.within; serves = tt; leaves = tt; ends = k.ends }
-
--- ---- as it begins
-
-none_said : (channel : ℕ) (first : State) → said channel first [] Going [] ≡ []
-unfolding said
-none_said channel first = refl
-
--- a server that waits for a client
-pub keeps_first : (b : Beginning) (server : Server) (limits : Limits) (channel : ℕ) (first : State) (moment : DateTime) → b ≡ record { limits = limits; channel = channel; first = first; moment = moment }
-    → Stands (channel_in server) [] [] first [] first → limits_of (channel_in server) ≡ limits → channel_of (channel_in server) ≡ channel → Keeps b server first moment [] [] 0 stage.Going
-keeps_first b server limits channel first moment is stands limits_are channel_is =
-    subst (λ (c : Beginning). Keeps c server first moment [] [] 0 stage.Going) (sym is) (record {
-      moment_is = refl;
-      down_is =
-          sym (none_said channel first)
-          ∙ sym (said_at here (channel_in server) limits_are channel_is [] stands.goes.frames stands.goes.rest Going [] stands.goes.stands.run stands.goes.told_is);
+-- what a line keeps whose server took these octets
+pub keeps_where : (b : Beginning) (server : Server) (now : State) (moment : DateTime) (up : List ℕ) → moment ≡ b.moment → Serves b server now up → Keeps b server now moment up (said_to b up) 0 stage.Going
+keeps_where b server now moment up dated s =
+    let frames = s.stands.goes.frames in
+    let rest = s.stands.goes.rest in
+    record {
+      moment_is = dated;
+      down_is = refl;
       within = omega arith;
-      serves = record { told = []; stands = stands; limits_are = limits_are; channel_is = channel_is };
+      serves = s;
       leaves =
-          sym stands.state_is
-          ∙ (ap (λ (c : ℕ). (left c first [] []).state) channel_is
-          ∙ sym (left_at here (channel_in server) limits_are channel_is [] stands.goes.frames stands.goes.rest Going [] stands.goes.stands.run stands.goes.told_is));
-      ends = end_at here (channel_in server) limits_are channel_is [] stands.goes.frames stands.goes.rest Going [] stands.goes.stands.run stands.goes.told_is;
-    })
-  where
-    here : Beginning
-    here = record { limits = limits; channel = channel; first = first; moment = moment }
+          sym s.stands.state_is
+          ∙ (ap (λ (c : ℕ). (left c b.first s.told (spent s.told b.moment)).state) s.channel_is
+          ∙ sym (left_at b (channel_in server) s.limits_are s.channel_is up frames rest Going s.told s.stands.goes.stands.run s.stands.goes.told_is));
+      ends = end_at b (channel_in server) s.limits_are s.channel_is up frames rest Going s.told s.stands.goes.stands.run s.stands.goes.told_is;
+    }
 
 -- the same, by other names
 pub kept_as : (b : Beginning) (server : Server) (now : State) (moment : DateTime) (up down : List ℕ) (read : ℕ) (s : Stage) (up' down' : List ℕ) (s' : Stage)
@@ -244,6 +233,36 @@ pub kept_as : (b : Beginning) (server : Server) (now : State) (moment : DateTime
 kept_as b server now moment up down read s up' down' s' k p q r =
     subst (λ (u : List ℕ). Keeps b server now moment u down' read s') (sym p)
     (subst (λ (d : List ℕ). Keeps b server now moment up d read s') (sym q) (subst (λ (t : Stage). Keeps b server now moment up down read t) (sym r) k))
+
+-- ---- as it begins
+
+none_said : (channel : ℕ) (first : State) → said channel first [] Going [] ≡ []
+unfolding said
+none_said channel first = refl
+
+-- before any octet came nothing was said
+pub said_none : (b : Beginning) → said_to b [] ≡ []
+unfolding received closings
+said_none b =
+    said_by_run b [] [] [] Going (run_nil (rules_by b) refl)
+    ∙ (ap (λ (t : List Told). said b.channel b.first t Going (spent t b.moment)) (no_events (rules_by b)) ∙ none_said b.channel b.first)
+
+-- a server that waits for a client took no octet
+pub serves_first : (b : Beginning) (server : Server) → Stands (channel_in server) [] [] b.first [] b.first → limits_of (channel_in server) ≡ b.limits → channel_of (channel_in server) ≡ b.channel → Serves b server b.first []
+serves_first b server stands limits_are channel_is = record { told = []; stands = stands; limits_are = limits_are; channel_is = channel_is }
+
+-- a server that waits for a client
+pub keeps_first : (b : Beginning) (server : Server) (limits : Limits) (channel : ℕ) (first : State) (moment : DateTime) → b ≡ record { limits = limits; channel = channel; first = first; moment = moment }
+    → Stands (channel_in server) [] [] first [] first → limits_of (channel_in server) ≡ limits → channel_of (channel_in server) ≡ channel → Keeps b server first moment [] [] 0 stage.Going
+keeps_first b server limits channel first moment is stands limits_are channel_is =
+    subst (λ (c : Beginning). Keeps c server first moment [] [] 0 stage.Going) (sym is)
+    (kept_as here server first moment [] (said_to here []) 0 stage.Going [] [] stage.Going (keeps_where here server first moment [] refl serves) refl (sym (said_none here)) refl)
+  where
+    here : Beginning
+    here = record { limits = limits; channel = channel; first = first; moment = moment }
+
+    serves : Serves here server first []
+    serves = serves_first here server stands limits_are channel_is
 
 -- the same, where what was said more has another name
 pub kept_more : (b : Beginning) (server : Server) (now : State) (moment : DateTime) (up down out : List ℕ) (read : ℕ) (s : Stage) (up' down' out' : List ℕ) (s' : Stage)

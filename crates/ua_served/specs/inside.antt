@@ -1,2 +1,2 @@
--- Words that only contracts within this crate cite: where a client over a line to a server and that server are, turn by turn.
+-- Words that only contracts within this crate cite: what a client that takes all its turns at one moment did over a line to a server.
 pub mod Talking

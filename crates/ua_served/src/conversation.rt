@@ -18,10 +18,12 @@ ghost use Rattle.ua_served.specs.Sends.{conversation_octets};
 ghost use Rattle.ua_served.specs.Turns.{conversation_told};
 ghost use Rattle.ua_served.specs.declared.stage.Stage.TheVariants.{Ended};
 ghost use Rattle.ua_services.specs.declared.request.Request.{Request};
-ghost use Rattle.ua_served.specs.inside.Talking.{CanOpen, StaysTalking, Talked, Went, line_to};
+ghost use Rattle.ua_served.specs.Talking.{IsLineTo};
+ghost use Rattle.ua_served.specs.inside.Talking.{CanOpen, StaysTalking, Talked, Went};
 
 use crate::served_line::{Began, ServedLine};
 use crate::stage::Stage;
+use crate::talking;
 use crate::turn::AsTurn;
 use std::alloc::Global;
 use std::marker::Brand;
@@ -60,12 +62,12 @@ fn begin<L: Line>(
     moment: DateTime,
 ) -> Result<Client, ClientFault>
     requires { IsTrue (text.encodable url) }
-    ensures went { IfOk result (λ client. (b : Beginning) → CanOpen b limits url moment → L.traffic line.old ≡ Some (line_to b) → Went b limits url moment (connection_of client) (L.traffic line.old) (L.traffic line.new)) }
+    ensures went { IfOk result (λ client. (b : Beginning) → CanOpen b limits url moment → IsLineTo b [] [] (L.traffic line.old) → Went b limits url moment (connection_of client) (L.traffic line.old) (L.traffic line.new)) }
     ensures ready { IfOk result (λ client. IsReady client) }
     ensures faults { IfErr result (λ fault. IsTurnFault fault → ⊥) }
 {
     clients_are_settled();
-    match Client::open(alloc, line, limits, url, moment) {
+    match talking::open(alloc, line, limits, url, moment) {
         Ok(client) => Ok(client),
         Err(fault) => Err(fault),
     }
@@ -88,11 +90,11 @@ fn take_turn<T: AsTurn, L: Line>(
 {
     clients_are_settled();
     match turn.requests() {
-        Some(requests) => match client.call_into(line, requests, moment, replies) {
+        Some(requests) => match talking::call_into(client, line, requests, moment, replies) {
             Ok(()) => Ok(()),
             Err(calls) => Err(calls.fault),
         },
-        None => match client.renew(line, moment) {
+        None => match talking::renew(client, line, moment) {
             Ok(()) => Ok(()),
             Err(fault) => Err(fault),
         },
@@ -140,9 +142,9 @@ fn talk<T: AsTurn, L: Line>(
     requires url { IsTrue (text.encodable url) }
     requires none { replies.old.items ≡ [] }
     requires first { taken.old ≡ 0 }
-    ensures talked { OnOk result ((b : Beginning) → CanOpen b limits url moment → L.traffic line.old ≡ Some (line_to b) → Talked b limits url moment (map T.turn turns.now) (L.traffic line.old) (L.traffic line.new) replies.new.items) }
+    ensures talked { OnOk result ((b : Beginning) → CanOpen b limits url moment → IsLineTo b [] [] (L.traffic line.old) → Talked b limits url moment (map T.turn turns.now) (L.traffic line.old) (L.traffic line.new) replies.new.items) }
     ensures taken { OnOk result (taken.new ≡ length turns.now) }
-    ensures refused { IfErr result (λ fault. IsTurnFault fault → (b : Beginning) → CanOpen b limits url moment → L.traffic line.old ≡ Some (line_to b) → FirstRefused (acknowledged b.limits limits url) (map T.turn turns.now) taken.new fault) }
+    ensures refused { IfErr result (λ fault. IsTurnFault fault → (b : Beginning) → CanOpen b limits url moment → IsLineTo b [] [] (L.traffic line.old) → FirstRefused (acknowledged b.limits limits url) (map T.turn turns.now) taken.new fault) }
 {
     let mut client = match begin(alloc, line, limits, url, moment) {
         Ok(client) => client,
@@ -152,7 +154,7 @@ fn talk<T: AsTurn, L: Line>(
         Ok(()) => {}
         Err(fault) => return Err(fault),
     }
-    match client.close(line, moment) {
+    match talking::close(&mut client, line, moment) {
         Ok(()) => Ok(()),
         Err(fault) => Err(fault),
     }

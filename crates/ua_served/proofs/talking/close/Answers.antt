@@ -1,0 +1,11 @@
+use Rattle.ua_served.proofs.Calling.{closes_there, left_there, silent_there}
+use Rattle.ua_served.proofs.talking.close.Goals as goal
+
+pub returns-in-Ok-clause-reaches : goal.returns-in-Ok-clause-reaches
+returns-in-Ok-clause-reaches g c = λ t k. closes_there t c.args.client.now (g.L.Line.traffic c.args.line.now) k c.args.moment
+
+pub returns-in-Ok-clause-silent : goal.returns-in-Ok-clause-silent
+returns-in-Ok-clause-silent g c = λ t k. silent_there t c.args.client.now (g.L.Line.traffic c.args.line.now) k c.args.moment
+
+pub returns-in-Ok-clause-state : goal.returns-in-Ok-clause-state
+returns-in-Ok-clause-state g c = λ t k. left_there t c.args.client.now (g.L.Line.traffic c.args.line.now) k c.args.moment
