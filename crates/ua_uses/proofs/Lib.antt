@@ -1,3 +1,4 @@
 mod Passed
 mod Pieces
 mod Talks
+mod Serving

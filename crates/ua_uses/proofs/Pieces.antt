@@ -1,6 +1,6 @@
 -- A reader that takes a piece, step by step.
 use Rattle.std.proofs.Common.{◌≡◌, ℕ, ◌+◌, ◌≤◌, List, [], ◌∷◌, ◌++◌, Option, Some, None, Ok, length, take, drop, sym, ap, subst, ◌∙◌, arith, append_assoc, length-drop}
-use Rattle.std.specs.Prelude.{Result, Err, if◌then◌else◌, false}
+use Rattle.std.specs.Prelude.{Result, Err, if◌then◌else◌, true, false}
 use Rattle.std.specs.Result.{is_ok, is_err}
 use Rattle.std.proofs.Math.Seq.{take-add, take-length}
 use Rattle.ua_frame.specs.declared.frame.Frame.{Frame}
@@ -56,7 +56,12 @@ went-all x y before fs piece at done went =
     let whole : at ≡ length piece = omega (arith, done, went.0) in
     subst (λ t. Goes x before t y fs) (all_taken piece at whole) went.1
 
--- a list to which an item was pushed, where memory was not refused
-pub pushed : {T E : Type 0} (r : Result T E) (new more old : List Frame) → false ≡ is_err r → new ≡ (if is_ok r then more else old) → new ≡ more
+-- a list that was made longer, where memory was not refused
+pub pushed : {T E A : Type 0} (r : Result T E) (new more old : List A) → false ≡ is_err r → new ≡ (if is_ok r then more else old) → new ≡ more
 pushed (Ok x) new more old well is = is
 pushed (Err e) new more old well is = absurd cc
+
+-- and where it was
+pub not_pushed : {T E A : Type 0} (r : Result T E) (new more old : List A) → true ≡ is_err r → new ≡ (if is_ok r then more else old) → new ≡ old
+not_pushed (Ok x) new more old refused is = absurd cc
+not_pushed (Err e) new more old refused is = is

@@ -1,14 +1,17 @@
 //! Uses of the stack, as its callers write them, each with a contract of its own: a value through
-//! octets and back, the frames of a piece of a stream, a value of a node file, the body of a request, a conversation over a line.
+//! octets and back, the frames of a piece of a stream, a value of a node file, the body of a request, a conversation
+//! over a line, octets that a server serves.
 #![tactic(auto)]
 
 mod requests;
+mod serve;
 mod stream;
 mod tables;
 mod talk;
 mod values;
 
 pub use requests::take_request;
+pub use serve::{serve_connection, serve_octets};
 pub use stream::take_frames;
 pub use tables::{TableFault, value_in_file};
 pub use talk::write_and_read;
