@@ -21,7 +21,7 @@ use Rattle.ua_channel.specs.Received.{latest}
 use Rattle.ua_channel.specs.ServerReads.{AtServer, with_message}
 use Rattle.ua_channel.specs.ServerSends.{replied}
 use Rattle.ua_channel.proofs.ClientReading.{reads_call, reads_replied}
-use Rattle.ua_channel.proofs.InStep.{in_step_call, in_step_reply, lane_from_server}
+use Rattle.ua_channel.proofs.InStep.{in_more, in_step_call, in_step_reply, lane_from_server}
 use Rattle.ua_services.proofs.Lengths.{response_takes_some}
 use Rattle.ua_services.specs.Response.{response}
 use Rattle.ua_services.specs.declared.response.Response.{Response}
@@ -58,9 +58,6 @@ calls_asked limits asks octets told c r (body ∷ bodies) =
 or_true : (b : Bool) → (b || true) ≡ true
 or_true true = refl
 or_true false = refl
-
-in_more : (n m : ℕ) (ms : List ℕ) → is_in n ms ≡ true → is_in n (ms ++ m ∷ []) ≡ true
-in_more n m ms e = list_any-append (λ (k : ℕ). eqb k n) ms (m ∷ []) ∙ ap (λ (b : Bool). b || (eqb m n || false)) e
 
 in_last : (n m : ℕ) (ms : List ℕ) → m ≡ n → is_in n (ms ++ m ∷ []) ≡ true
 in_last n m ms e = list_any-append (λ (k : ℕ). eqb k n) ms (m ∷ []) ∙ (ap (λ (b : Bool). is_in n ms || (b || false)) (eq-eqb m n e) ∙ or_true (is_in n ms))

@@ -1,5 +1,6 @@
 -- That both ends are in step behind the opening of a client over a line to a server.
 use Rattle.std.proofs.Common.{◌≡◌, ℕ, ◌≤◌, List, [], ◌∷◌, ◌++◌, Option, Ok, length, refl, sym, ◌∙◌, ap, subst, arith, append-nil, length-append}
+use Rattle.std.proofs.lemmas.List.{nil_from_length}
 use Rattle.ua_octets.specs.Format.{Extends}
 use Rattle.ua_builtin.specs.declared.date_time.DateTime.{DateTime}
 use Rattle.ua_frame.specs.After.{each_from}
@@ -49,7 +50,7 @@ use Rattle.ua_served.specs.inside.Talking.{CanOpen, StaysTalking, Went}
 use Rattle.ua_served.specs.Together.{AreServing, opening_answer}
 use Rattle.ua_served.specs.Turns.{opening_told}
 use Rattle.ua_served.proofs.Ending.{frames_behind}
-use Rattle.ua_served.proofs.Lists.{no_more, split_last}
+use Rattle.ua_served.proofs.Lists.{split_last}
 use Rattle.ua_served.proofs.Opened.{answer_read, begin_together, opening_said, state_first_two}
 use Rattle.ua_served.proofs.Refused.{short_url}
 use Rattle.ua_served.proofs.Talks.{fronts, line_on, talking_as}
@@ -105,7 +106,7 @@ module _ (b : Beginning) (url : Option (List ℕ)) (x : ClientChannel) (octets :
       let same = ap (λ (fs : List Frame). length (frames_octets fs)) (e ∙ append-nil here) in
       sym (front.parts
       ∙ (ap (λ (t : List ℕ). octets ++ t)
-      (no_more front.more (omega (arith, whole, part, more, same, length-append (frames_octets read.frames) [], length-append (frames_octets here) [], length-append octets front.more)))
+      (nil_from_length front.more (omega (arith, whole, part, more, same, length-append (frames_octets read.frames) [], length-append (frames_octets here) [], length-append octets front.more)))
       ∙ append-nil octets))
   took_by (f ∷ later) e =
       let middle = split_last agrees.frames here later opn f (sym frames_are ∙ e) in

@@ -5,6 +5,7 @@ use Rattle.ua_frame.specs.After.{AllFrom, AllAfter}
 use Rattle.ua_frame.specs.Frames.{frames_octets}
 use Rattle.ua_frame.specs.Run.{Rules, Fits, End, Going, Stopped, Over, EndsIn, Run}
 use Rattle.ua_channel.proofs.AskedLater.{frames_octets-append}
+use Rattle.ua_channel.proofs.ReadOn.{all_append}
 
 -- the rules behind frames
 abbrev pub behind : {E X : Type 0} → Rules E X → List Frame → Rules E X
@@ -23,10 +24,6 @@ all_behind : {E X : Type 0} (R : Rules E X) (fs start gs : List Frame) → AllFr
 all_behind R fs start [] h = tt
 all_behind R fs start (g ∷ gs) h =
     (fits_behind R fs start g h.0, subst (λ (t : List Frame). AllFrom (Fits R) t gs) (sym (append_assoc fs start (g ∷ []))) (all_behind R fs (start ++ g ∷ []) gs h.1))
-
-all_append : {A : Type 0} (P : List A → A → Type 0) (start xs ys : List A) → AllFrom P start xs → AllFrom P (start ++ xs) ys → AllFrom P start (xs ++ ys)
-all_append {A = A} P start [] ys h k = subst (λ (t : List A). AllFrom P t ys) (append-nil start) k
-all_append {A = A} P start (x ∷ xs) ys h k = (h.0, all_append P (start ++ x ∷ []) xs ys h.1 (subst (λ (t : List A). AllFrom P t ys) (sym (append_assoc start (x ∷ []) xs)) k))
 
 end_behind : {E X : Type 0} (R : Rules E X) (fs gs : List Frame) (rest : List ℕ) (end : End X) → EndsIn (behind R fs) gs rest end → EndsIn R (fs ++ gs) rest end
 end_behind R fs gs rest Going e = e

@@ -21,6 +21,6 @@ mod Begun
 pub mod Pushes
 pub mod Conversing
 mod Courses
-pub mod Fitting
+mod Fitting
 mod Calling
 mod Sessions

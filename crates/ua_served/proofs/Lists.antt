@@ -1,5 +1,5 @@
 -- Lists that begin alike.
-use Rattle.std.proofs.Common.{◌≡◌, ◌⊎◌, inl, inr, ℕ, List, [], ◌∷◌, ◌++◌, length, refl, sym, ◌∙◌, ap, arith, length-append}
+use Rattle.std.proofs.Common.{◌≡◌, ◌⊎◌, inl, inr, List, [], ◌∷◌, ◌++◌, length, refl, sym, ◌∙◌, ap, arith, length-append}
 
 pub same_next : {A : Type 0} (x y : A) (xs ys : List A) → x ∷ xs ≡ y ∷ ys → (x ≡ y) × (xs ≡ ys)
 same_next x y xs ys e = (cc, cc)
@@ -24,7 +24,3 @@ meets {A = A} (x ∷ xs) (y ∷ ys) us vs e =
     by : x ≡ y → (((more : List A) × (ys ≡ xs ++ more)) ⊎ ((more : List A) × (xs ≡ ys ++ more))) → ((more : List A) × (y ∷ ys ≡ (x ∷ xs) ++ more)) ⊎ ((more : List A) × (x ∷ xs ≡ (y ∷ ys) ++ more))
     by same (inl p) = inl (p.0, ap (λ z. z ∷ ys) (sym same) ∙ ap (λ zs. x ∷ zs) p.1)
     by same (inr p) = inr (p.0, ap (λ z. z ∷ xs) same ∙ ap (λ zs. y ∷ zs) p.1)
-
-pub no_more : (more : List ℕ) → length more ≡ 0 → more ≡ []
-no_more [] e = refl
-no_more (x ∷ more) e = absurd (omega (arith, e))

@@ -2,7 +2,7 @@
 use Rattle.std.proofs.Common.{◌≡◌, ℕ, ◌+◌, ◌<◌, ◌≤◌, ◌^◌, IsTrue, Bool, false, ◌||◌, eqb, List, [], ◌∷◌, ◌++◌, Option, None, length, refl, sym, ◌∙◌, ap, subst, arith, append-nil, append_assoc, length-append}
 use Rattle.std.specs.List.{AllByRecursion}
 use Rattle.std.proofs.lemmas.Bool.{ne_eqb}
-use Rattle.std.proofs.lemmas.List.{append_cancel_left, length-replicate}
+use Rattle.std.proofs.lemmas.List.{append_cancel_left, nil_from_length}
 use Rattle.ua_octets.specs.Format.{Extends}
 use Rattle.ua_builtin.specs.DateTime.{date_time}
 use Rattle.ua_builtin.specs.declared.date_time.DateTime.{DateTime}
@@ -33,8 +33,8 @@ use Rattle.ua_channel.proofs.ClientReading.{reads_renewal, reads_renewed}
 use Rattle.ua_channel.proofs.Following.{client_told}
 use Rattle.ua_channel.proofs.InStep.{in_step_answer, in_step_renewal}
 use Rattle.ua_channel.proofs.Written.{opening_size}
-use Rattle.ua_server.specs.Said.{Course, left, left_by, said_of, start, used_in}
-use Rattle.ua_server.proofs.SaidInParts.{course, left_by-uses}
+use Rattle.ua_server.specs.Said.{Course, left, left_by, said_of}
+use Rattle.ua_server.proofs.SaidInParts.{course}
 use Rattle.ua_client.specs.Renewing.{IsRenewed, IsSettled, asks_renewed, is_renewed, renewal_at, renewal_refusal}
 use Rattle.ua_client.specs.Site.{Site, id_at}
 use Rattle.ua_client.proofs.Renewals.{tokens-answer, tokens-told}
@@ -43,18 +43,11 @@ use Rattle.ua_served.specs.Says.{said_to, spent}
 use Rattle.ua_served.specs.Together.{AreServing, renewal_answer}
 use Rattle.ua_served.proofs.Reaching.{not_exhausted, renewal_read}
 use Rattle.ua_served.proofs.RenewedTaken.{TellsLast, just_answer}
-use Rattle.ua_served.proofs.Saying.{left_on, spent-enough}
+use Rattle.ua_served.proofs.Replying.{none_left}
+use Rattle.ua_served.proofs.Saying.{left_on}
 use Rattle.ua_served.proofs.Staying.{behind_told, said_more}
 
 -- ---- lists
-
-no_length : (ids : List ℕ) → length ids ≤ 0 → ids ≡ []
-no_length [] h = refl
-no_length (id ∷ ids) h = absurd (omega (arith, h))
-
-no_moments : (moments : List DateTime) → length moments ≤ 0 → moments ≡ []
-no_moments [] h = refl
-no_moments (moment ∷ moments) h = absurd (omega (arith, h))
 
 neither : (a b : Bool) → a ≡ false → b ≡ false → (a || b) ≡ false
 neither a b p q = cc
@@ -65,13 +58,6 @@ none_past most [] h = refl
 none_past most (token ∷ tokens) h = neither (eqb token (most + 1)) (is_in (most + 1) tokens) (ne_eqb token (most + 1) (λ e. omega (arith, e, h.0))) (none_past most tokens h.1)
 
 -- ---- what a server says of it
-
--- all its moments are spent
-all_spent : (b : Beginning) (told : List Told) → (left b.channel b.first told (spent told b.moment)).moments ≡ []
-unfolding left
-all_spent b told =
-    no_moments (left b.channel b.first told (spent told b.moment)).moments
-    (omega (arith, left_by-uses b.channel (start b.first (spent told b.moment)) told (spent-enough told b.moment), length-replicate (used_in told) b.moment))
 
 module _ (b : Beginning) (url : Option (List ℕ)) (octets : List ℕ) (told : List Told) (s : AtServer) (x : ClientChannel) (site : Site) (c : AtClient) (moment : DateTime)
     (on : b.channel < 2 ^ 32) (t : AreServing b url octets told s x site c) (judged : renewal_refusal site ≡ None) (dated : IsTrue (date_time.encodable moment)) where
@@ -96,7 +82,7 @@ module _ (b : Beginning) (url : Option (List ℕ)) (octets : List ℕ) (told : L
 
   course_is : behind_told b octets told s t.together.server_reads opens ≡ course before.state c.next (b.moment ∷ []) before.agreement
   course_is =
-      ap (λ (ms : List DateTime). course before.state before.number (ms ++ spent opens b.moment) before.agreement) (all_spent b told)
+      ap (λ (ms : List DateTime). course before.state before.number (ms ++ spent opens b.moment) before.agreement) (none_left b.channel b.first told b.moment)
       ∙ ap (λ (n : ℕ). course before.state n (b.moment ∷ []) before.agreement) t.says_next
 
   -- its OPN response, with the next token
@@ -127,7 +113,7 @@ module _ (b : Beginning) (url : Option (List ℕ)) (octets : List ℕ) (told : L
         let r = t.together.client_reads in
         let all = tokens-answer (client_limits x) site.asks r.frames r.run.good in
         let few_asked : length (renewals (asked_in site.asks)) ≤ tokens-told site.told = settled.renewed in
-        sym r.renewals_are ∙ no_length (pending_renewals (opened_ids (received r.frames).openings) (asked_in site.asks)) (omega (arith, all, few_asked, ap tokens-told r.told_is))
+        sym r.renewals_are ∙ nil_from_length (pending_renewals (opened_ids (received r.frames).openings) (asked_in site.asks)) (omega (arith, all, few_asked, ap tokens-told r.told_is))
 
     asked : ClientReads (client_limits x) (asks_renewed site) site.octets site.told waiting
     asked = reads_renewal (client_limits x) site.asks site.octets site.told c t.together.client_reads

@@ -3,6 +3,7 @@ use Rattle.std.proofs.Common.{◌≡◌, ℕ, suc, ◌+◌, Bool, true, IsTrue, 
 use Rattle.std.specs.Prelude.{cond}
 use Rattle.std.specs.List.{AllByRecursion}
 use Rattle.std.proofs.lemmas.Bool.{eq-eqb}
+use Rattle.std.proofs.lemmas.List.{length-map}
 use Rattle.ua_builtin.specs.Status.{of_code}
 use Rattle.ua_builtin.specs.declared.date_time.DateTime.{DateTime}
 use Rattle.ua_builtin.specs.declared.status_code.StatusCode.{StatusCode}
@@ -94,15 +95,11 @@ moments_there b told token id bodies =
     ap (λ (ms : List DateTime). ms ++ spent (calls_told token id bodies) b.moment) (none_left b.channel b.first told b.moment)
     ∙ (ap (λ (n : ℕ). replicate n b.moment) (calls_used token id bodies) ∙ sym (append-nil (replicate (length bodies) b.moment)))
 
-bodies_length : (ms : List Request) → length (bodies_of ms) ≡ length ms
-bodies_length [] = refl
-bodies_length (m ∷ ms) = let more = bodies_length ms in omega (arith, more)
-
 pub state_calls : (b : Beginning) (told : List Told) (token id : ℕ) (ms : List Request) → AreWritable ms → state_told b (told ++ calls_told token id (bodies_of ms)) ≡ state_behind (state_told b told) b.moment ms
 state_calls b told token id ms fits =
     ap (λ (k : Course). k.state) (left_on b told (calls_told token id (bodies_of ms)))
     ∙ calls_state b.channel (with_more (left b.channel b.first told (spent told b.moment)) (spent (calls_told token id (bodies_of ms)) b.moment)) token id ms b.moment [] fits
-    (moments_there b told token id (bodies_of ms) ∙ ap (λ (n : ℕ). replicate n b.moment ++ []) (bodies_length ms))
+    (moments_there b told token id (bodies_of ms) ∙ ap (λ (n : ℕ). replicate n b.moment ++ []) (length-map ms request.canonical))
 
 pub state_renewal : (b : Beginning) (told : List Told) (id handle token lifetime : ℕ) → state_told b (told ++ Opened id handle token lifetime ∷ []) ≡ state_told b told
 state_renewal b told id handle token lifetime = ap (λ (k : Course). k.state) (left_on b told (Opened id handle token lifetime ∷ []))

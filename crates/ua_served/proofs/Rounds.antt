@@ -1,6 +1,7 @@
 -- That both ends stay in step behind groups of calls that are answered, one behind another, and behind a renewal.
 use Rattle.std.proofs.Common.{◌≡◌, ℕ, ◌+◌, ◌<◌, Bool, IsTrue, List, [], ◌∷◌, ◌++◌, Option, Some, None, length, map, replicate, zero, suc, refl, sym, ◌∙◌, ap, subst, arith, append-nil, append_assoc, length-append, add-zero}
 use Rattle.std.specs.List.{AllByRecursion}
+use Rattle.std.proofs.lemmas.List.{length-map}
 use Rattle.ua_octets.specs.Format.{Extends}
 use Rattle.ua_builtin.specs.DateTime.{date_time}
 use Rattle.ua_builtin.specs.Reasons.{first_reason}
@@ -53,7 +54,7 @@ use Rattle.ua_served.proofs.Reaching.{acked_here, few_ids, lane_here, not_exhaus
 use Rattle.ua_served.proofs.Renewed.{renewal_taken, renewed_together}
 use Rattle.ua_served.proofs.Saying.{said_further}
 use Rattle.ua_served.proofs.Replying.{AreWritable, moments_there, replies-append, replies_are, some-append, state_calls}
-use Rattle.ua_served.proofs.Staying.{answered_taken, bodies_count, stay_together, told_together}
+use Rattle.ua_served.proofs.Staying.{answered_taken, stay_together, told_together}
 
 -- ---- lists
 
@@ -185,7 +186,7 @@ module _ (b : Beginning) (limits : Limits) (url : Option (List ℕ)) (octets : L
     ids_then : id_at behind ≡ id + length requests
     ids_then =
         let ids : id_at behind ≡ id_at site + length (bodies_of requests) = ap (λ (p : List Placed). next_id (asked_in p)) a.asks ∙ next-calls site.asks (length site.octets) (id_at site) (bodies_of requests) in
-        omega (arith, ids, bodies_count requests, t.id_is)
+        omega (arith, ids, length-map requests request.canonical, t.id_is)
 
     told_is : calls_told c.newest (id_at site) (bodies_of requests) ≡ calls_told token id (bodies_of requests)
     told_is = ap (λ (k : ℕ). calls_told k (id_at site) (bodies_of requests)) t.newest_is ∙ ap (λ (n : ℕ). calls_told token n (bodies_of requests)) t.id_is
@@ -204,7 +205,7 @@ module _ (b : Beginning) (limits : Limits) (url : Option (List ℕ)) (octets : L
           tokens_are = issued_stays s (lane_from c) (bodies_of requests) ∙ t.tokens_are;
           newest_is = d.2 ∙ t.newest_is;
           id_is = ids_then;
-          few = omega (arith, most, bodies_count requests, t.id_is);
+          few = omega (arith, most, length-map requests request.canonical, t.id_is);
           held_is = d.3 ∙ ap (λ (k : ℕ). held_behind_calls k (length requests)) t.held_is;
         }
 
@@ -213,7 +214,7 @@ module _ (b : Beginning) (limits : Limits) (url : Option (List ℕ)) (octets : L
     group_replied fits =
         let hello_is : s.hello ≡ hello_to limits url = t.serving.together.in_step.hello_is ∙ ap (λ (l : Limits). hello_to l url) t.limits_are in
         let all = told_together b url octets told s x site behind c requests taken replies t.on t.serving some a y at same_limits took_group in
-        let moments = moments_there b told c.newest (id_at site) (bodies_of requests) ∙ ap (λ (n : ℕ). replicate n b.moment ++ []) (bodies_count requests) in
+        let moments = moments_there b told c.newest (id_at site) (bodies_of requests) ∙ ap (λ (n : ℕ). replicate n b.moment ++ []) (length-map requests request.canonical) in
         replies_are (lane_of b.channel c.newest (agreement_of b.limits s.hello)) (state_told b told)
         ((left b.channel b.first told (spent told b.moment)).moments ++ spent (calls_told c.newest (id_at site) (bodies_of requests)) b.moment) (id_at site) requests b.moment [] site.told behind.told replies
         fits moments all a.replies_are
@@ -354,7 +355,7 @@ module _ (b : Beginning) (limits : Limits) (url : Option (List ℕ)) (octets : L
       let more_is : more ≡ calls_octets lane (numbers (bodies_of all)) (id + length (bodies_of all)) (bodies_of group) =
       ap (λ (l : Option Lane). calls_octets l m.number (id_at m) (bodies_of group)) lane_is
       ∙ (ap (λ (n : ℕ). calls_octets lane n (id_at m) (bodies_of group)) before.number_is
-      ∙ ap (λ (n : ℕ). calls_octets lane (numbers (bodies_of all)) n (bodies_of group)) (there.id_is ∙ ap (λ (n : ℕ). id + n) (sym (bodies_count all)))) in
+      ∙ ap (λ (n : ℕ). calls_octets lane (numbers (bodies_of all)) n (bodies_of group)) (there.id_is ∙ ap (λ (n : ℕ). id + n) (sym (length-map all request.canonical)))) in
       subst (λ (ms : List Request). Behind b limits url octets told token id held s.number (sent ++ more) (replies ++ added) ms t) pushed (record {
         channel = z;
         replies_are =

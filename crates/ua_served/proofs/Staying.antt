@@ -1,6 +1,7 @@
 -- That both ends in one process stay in step.
 use Rattle.std.proofs.Common.{◌≡◌, ◌⊎◌, inl, inr, ℕ, ◌+◌, ◌<◌, ◌≤◌, ◌^◌, List, [], ◌∷◌, ◌++◌, Option, Some, length, refl, sym, ◌∙◌, ap, subst, arith, length-append}
 use Rattle.std.specs.List.{AllByRecursion}
+use Rattle.std.proofs.lemmas.List.{length-map}
 use Rattle.ua_octets.specs.Format.{Extends}
 use Rattle.ua_builtin.specs.declared.date_time.DateTime.{DateTime}
 use Rattle.ua_frame.specs.Run.{Going}
@@ -18,6 +19,7 @@ use Rattle.ua_channel.specs.ServerReads.{AtServer, ServerReads}
 use Rattle.ua_channel.specs.ServerTold.{Told}
 use Rattle.ua_channel.specs.declared.client.channel.ClientChannel.{ClientChannel}
 use Rattle.ua_channel.proofs.Following.{client_told}
+use Rattle.ua_services.specs.Request.{request}
 use Rattle.ua_services.specs.declared.request.Request.{Request}
 use Rattle.ua_server.specs.Said.{Course, left, left_by, said, said_of, with_more}
 use Rattle.ua_server.proofs.SaidInParts.{course}
@@ -57,12 +59,8 @@ module _ (b : Beginning) (octets : List ℕ) (told : List Told) (s : AtServer) (
       ∙ (ap (λ (k : List Told). said b.channel b.first k Going (spent k b.moment)) q.told_is
       ∙ (said_on b told more ∙ ap (λ (o : List ℕ). o ++ said_of b.channel (behind_told more) more) (sym said_there)))
 
-pub bodies_count : (requests : List Request) → length (bodies_of requests) ≡ length requests
-bodies_count [] = refl
-bodies_count (m ∷ ms) = let more = bodies_count ms in omega (arith, more)
-
 some_bodies : (requests : List Request) → 0 < length requests → 0 < length (bodies_of requests)
-some_bodies requests some = omega (arith, some, bodies_count requests)
+some_bodies requests some = omega (arith, some, length-map requests request.canonical)
 
 -- ---- a turn
 
@@ -144,7 +142,7 @@ module _ (b : Beginning) (url : Option (List ℕ)) (octets : List ℕ) (told : L
   held_then : length heard_then.at.tokens ≡ held_behind_calls (length c.tokens) (length requests)
   held_then =
       heard_then.held
-      ∙ (ap (λ (ks : List ℕ). held_behind_calls (length ks) (length bodies)) (tokens_stay c (id_at site) bodies) ∙ ap (λ (n : ℕ). held_behind_calls (length c.tokens) n) (bodies_count requests))
+      ∙ (ap (λ (ks : List ℕ). held_behind_calls (length ks) (length bodies)) (tokens_stay c (id_at site) bodies) ∙ ap (λ (n : ℕ). held_behind_calls (length c.tokens) n) (length-map requests request.canonical))
 
   module _ (y : ClientChannel) (stands : At y behind) (same : client_limits y ≡ client_limits x) where
     -- the client reads what the server says of it
@@ -169,7 +167,7 @@ module _ (b : Beginning) (url : Option (List ℕ)) (octets : List ℕ) (told : L
     -- something was told of each call there
     each_told : (k : ℕ) → id_at site ≤ k → k < id_at site + length requests → 0 < length (told_of k told_then)
     each_told k from to =
-        let some_told = told_each (lane_of b.channel lane.token g) before.state moments (id_at site) bodies k from (omega (arith, to, bodies_count requests)) in
+        let some_told = told_each (lane_of b.channel lane.token g) before.state moments (id_at site) bodies k from (omega (arith, to, length-map requests request.canonical)) in
         let answers : List Heard = answers_told (lane_of b.channel lane.token g) before.state moments (id_at site) bodies in
         omega (arith, some_told, ap length (filter_append (is_told_of k) site.told answers), length-append (told_of k site.told) (told_of k answers))
 

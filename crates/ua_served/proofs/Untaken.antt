@@ -3,6 +3,7 @@ use Rattle.std.proofs.Common.{◌≡◌, ℕ, ◌+◌, ◌<◌, ◌≤◌, Bool,
 use Rattle.std.specs.Prelude.{cond, is_none}
 use Rattle.std.specs.List.{filter, flat_map, list_any}
 use Rattle.std.proofs.lemmas.Grind.{flat_map-append}
+use Rattle.std.proofs.lemmas.List.{nil_from_length}
 use Rattle.ua_octets.specs.Format.{Extends}
 use Rattle.ua_builtin.specs.Reasons.{first_reason}
 use Rattle.ua_frame.specs.After.{AllAfter, AllFrom, each_from}
@@ -35,7 +36,7 @@ use Rattle.ua_client.specs.declared.reply.Reply.{Reply}
 use Rattle.ua_client.proofs.Renewals.{none-holds}
 use Rattle.ua_client.proofs.Settled.{NonePending}
 use Rattle.ua_served.proofs.Ending.{EndsInChunk}
-use Rattle.ua_served.proofs.Lists.{no_more, split_last}
+use Rattle.ua_served.proofs.Lists.{split_last}
 
 -- ---- calls of which none is unanswered
 
@@ -125,7 +126,7 @@ module _ (law : NonePending) (y : ClientChannel) (s : Site) (at : At y s) (settl
       let same = ap (λ (fs : List Frame). length (frames_octets fs)) (e ∙ append-nil here) in
       sym (front.parts
       ∙ (ap (λ (o : List ℕ). s.octets ++ o)
-      (no_more front.more (omega (arith, whole, part, more, same, length-append (frames_octets frames) [], length-append (frames_octets here) at.goes.rest, length-append s.octets front.more)))
+      (nil_from_length front.more (omega (arith, whole, part, more, same, length-append (frames_octets frames) [], length-append (frames_octets here) at.goes.rest, length-append s.octets front.more)))
       ∙ append-nil s.octets))
   took_by (f ∷ later) e =
       let middle = split_last last.before here later last.frame f (sym last.parts ∙ e) in
@@ -168,7 +169,7 @@ module _ (y : ClientChannel) (requests : List Request) (id : ℕ) (s : Site) (ca
       let same = ap (λ (fs : List Frame). length (frames_octets fs)) (e ∙ append-nil r.frames) in
       is
       ∙ (ap (λ (o : List ℕ). all ++ o)
-      (no_more more (omega (arith, whole, part, same, length-append all more, length-append (frames_octets taken) [], length-append (frames_octets r.frames) [])))
+      (nil_from_length more (omega (arith, whole, part, same, length-append all more, length-append (frames_octets taken) [], length-append (frames_octets r.frames) [])))
       ∙ append-nil all)
   none_behind_it (g ∷ gs) e =
       let middle = split_last came.tells.frames r.frames gs came.tells.frame g e in
