@@ -1,9 +1,6 @@
 -- What a client's channel that is open answers when it is asked, and where it then stands.
-use Rattle.std.proofs.Common.{◌≡◌, ℕ, ◌<◌, ◌+◌, ◌*◌, List, [], ◌∷◌, ◌++◌, Bool, true, false, ◌&&◌, not, Option, Some, None, length, refl, sym, ◌∙◌, ap, subst, arith, eqb, ltb, leb, length-append}
+use Rattle.std.proofs.Common.{◌≡◌, ℕ, ◌<◌, ◌+◌, List, [], ◌∷◌, ◌++◌, Bool, true, false, Option, Some, None, length, refl, sym, ◌∙◌, ap, subst, arith, leb, length-append}
 use Rattle.std.specs.List.{AllByRecursion}
-use Rattle.ua_chunk.specs.Cutting.{pieces}
-use Rattle.ua_chunk.specs.Refusal.{passes}
-use Rattle.ua_chunk.proofs.Pieces as chunk_pieces
 use Rattle.ua_chunk.specs.declared.chunk.Chunk.{Chunk}
 use Rattle.ua_frame.specs.declared.limits.Limits.{Limits}
 use Rattle.ua_channel.specs.Asks.{Asking, id_of, next_id}
@@ -17,20 +14,6 @@ use Rattle.ua_channel.specs.ClientTokens.{opened_ids}
 use Rattle.ua_channel.specs.Received.{Received, listed}
 use Rattle.ua_channel.specs.declared.client.talking.Talking.{Talking}
 use Rattle.ua_channel.proofs.Askings.{pending_calls-call, pending_calls-renewal, pending_renewals-call, pending_renewals-renewal, all-push, all-weaken}
-
-no_pieces : (k : ℕ) → pieces k [] ≡ []
-unfolding pieces
-no_pieces k = refl
-
-none_more : (b : Bool) (n : ℕ) → (b && ltb n 0) ≡ false
-none_more true n = grind arith
-none_more false n = refl
-
-pub more_pieces : (limit room len : ℕ) (body : List ℕ) → 0 < room → length body ≡ len → passes limit (length (pieces room body)) ≡ (not (eqb limit 0) && ltb (limit * room) len)
-more_pieces limit room len [] some is =
-    ap (λ (ps : List (List ℕ)). passes limit (length ps)) (no_pieces room)
-    ∙ (none_more (not (eqb limit 0)) limit ∙ (sym (none_more (not (eqb limit 0)) (limit * room)) ∙ ap (λ (n : ℕ). not (eqb limit 0) && ltb (limit * room) n) is))
-more_pieces limit room len (x ∷ body) some is = chunk_pieces.more_pieces limit room (x ∷ body) some (omega arith) ∙ ap (λ (n : ℕ). not (eqb limit 0) && ltb (limit * room) n) is
 
 -- ---- one call more
 

@@ -3,12 +3,11 @@
 ghost use Rattle.std.specs.Prelude.{◌≡◌, ◌<◌, ◌+◌, ◌^◌};
 ghost use Rattle.ua_channel.specs.inside.ServerParts.{JudgesHello};
 
-use crate::sizes::CHUNK_HEADERS;
 use crate::step_fault::StepFault;
 use std::alloc::Global;
 use std::marker::Model;
 use ua_builtin::{StatusCode, Wire};
-use ua_chunk::Lane;
+use ua_chunk::{CHUNK_HEADERS, Lane};
 use ua_frame::{Ack, Hello, Limits, agree};
 
 /// What a server and a client agreed to: the ACK, and the client's limits of a message.
@@ -61,7 +60,7 @@ impl Agreement {
         Lane {
             channel,
             token,
-            room: self.ack.send_buffer_size - CHUNK_HEADERS,
+            room: self.ack.send_buffer_size - CHUNK_HEADERS as u32,
             octets: self.octets,
             chunks: self.chunks,
         }

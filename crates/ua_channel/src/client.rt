@@ -7,6 +7,7 @@ mod channel;
 mod event;
 mod fault;
 mod greeting;
+mod ids;
 mod octets;
 mod phase;
 mod rules;

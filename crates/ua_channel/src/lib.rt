@@ -37,7 +37,6 @@ mod server_event;
 mod server_fault;
 mod server_opening;
 mod server_rules;
-mod sizes;
 mod step_fault;
 
 pub use client::{AskFault, ClientChannel, ClientEvent, ClientTakeFault};

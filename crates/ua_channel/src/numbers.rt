@@ -2,8 +2,7 @@
 
 ghost use Rattle.std.specs.Prelude.{◌<◌, ◌≤◌};
 
-/// The greatest sequence number that senders use. The number 1 follows it.
-const LAST_NUMBER: u32 = 4294966272;
+use ua_chunk::next_number;
 
 /// The sequence numbers that one end gives its chunks: 1, 2, 3, .. up to 4294966272, and then 1
 /// again (OPC 10000-6, 6.7.2.4).
@@ -38,13 +37,7 @@ impl Numbers {
     pub(crate) fn step(&mut self)
         ensures { self.new.next ≡ next_number self.old.next }
     {
-        *self = if self.next == LAST_NUMBER {
-            Numbers { next: 1 }
-        } else {
-            Numbers {
-                next: self.next + 1,
-            }
-        };
+        self.go_on(next_number(self.next));
     }
 
     /// Goes on at this number.

@@ -10,11 +10,10 @@ use crate::sending::{Opening, agreed_octets, opened_octets, reply_octets};
 use crate::server_event::{Event, ServerEvent};
 use crate::server_fault::{ChannelFault, ReplyFault};
 use crate::server_rules::{ServerRules, hello_gate};
-use crate::sizes::LEAST_SIZE;
 use std::alloc::{AllocError, Global};
 use ua_builtin::DateTime;
 use ua_chunk::Lane;
-use ua_frame::{FrameReader, Limits};
+use ua_frame::{FrameReader, LEAST_BUFFER_SIZE, Limits};
 
 /// How far a connection has come.
 #[derive(Drop)]
@@ -82,7 +81,7 @@ impl ServerChannel {
                 rules: ServerRules { limits, channel },
                 reader: FrameReader::new(alloc, hello_gate()),
                 numbers: Numbers::new(),
-                bound: LEAST_SIZE as usize,
+                bound: LEAST_BUFFER_SIZE as usize,
                 phase: Phase::Waiting,
             },
         }

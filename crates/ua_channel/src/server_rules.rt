@@ -17,11 +17,10 @@ use crate::end_core::EndRules;
 use crate::running::Running;
 use crate::server::Phase;
 use crate::server_event::Event;
-use crate::sizes::{LEAST_SIZE, MOST_OPEN};
 use crate::step_fault::StepFault;
 use std::alloc::Global;
-use ua_chunk::read_chunk;
-use ua_frame::{Frame, Gate, Kind, Limits};
+use ua_chunk::{MOST_OPEN, read_chunk};
+use ua_frame::{Frame, Gate, Kind, LEAST_BUFFER_SIZE, Limits};
 
 /// What a server does with frames: its limits, and the id of its channel.
 #[derive(Drop)]
@@ -34,7 +33,7 @@ pub struct ServerRules {
 pub fn hello_gate() -> Gate
     ensures { result ≡ first_gate }
 {
-    Gate::new(LEAST_SIZE).taking(Kind::Hel)
+    Gate::new(LEAST_BUFFER_SIZE).taking(Kind::Hel)
 }
 
 impl ServerRules {

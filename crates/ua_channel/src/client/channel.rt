@@ -21,15 +21,15 @@ ghost use Rattle.ua_channel.specs.declared.client.fault.ClientTakeFault.TheVaria
 use crate::client::address::Address;
 use crate::client::event::{ClientEvent, Event};
 use crate::client::fault::{AskFault, ClientTakeFault};
+use crate::client::ids::FIRST_ID;
 use crate::client::octets::{close_octets, hello_octets, open_octets};
 use crate::client::phase::Phase;
 use crate::client::rules::ClientRules;
 use crate::end_core::EndCore;
 use crate::numbers::Numbers;
-use crate::sizes::{FIRST_ID, LEAST_SIZE};
 use std::alloc::{AllocError, Global};
 use ua_builtin::{DateTime, UaString};
-use ua_frame::{FrameReader, Gate, Kind, Limits};
+use ua_frame::{FrameReader, Gate, Kind, LEAST_BUFFER_SIZE, Limits};
 
 /// The client's end of a connection and its secure channel (OPC 10000-6, 6.7 and 7.1), with no IO:
 /// octets that came go in, octets to be sent come out.
@@ -51,7 +51,9 @@ impl ClientChannel {
         ensures url { url_of result ≡ url }
         ensures next { client_next result ≡ 2 }
     {
-        let gate = Gate::new(LEAST_SIZE).taking(Kind::Ack).taking(Kind::Err);
+        let gate = Gate::new(LEAST_BUFFER_SIZE)
+            .taking(Kind::Ack)
+            .taking(Kind::Err);
         let mut numbers = Numbers::new();
         numbers.step(); // The OPN takes the first one.
         ClientChannel {
@@ -61,7 +63,7 @@ impl ClientChannel {
                 rules: ClientRules { limits },
                 reader: FrameReader::new(alloc, gate),
                 numbers,
-                bound: LEAST_SIZE as usize,
+                bound: LEAST_BUFFER_SIZE as usize,
                 phase: Phase::Waiting,
             },
         }

@@ -11,11 +11,10 @@ ghost use Rattle.ua_channel.specs.Content.Content.{Acks};
 ghost use Rattle.ua_channel.specs.Received.{nothing_received};
 
 use crate::client::agreed::Agreed;
-use crate::sizes::LEAST_SIZE;
 use crate::step_fault::StepFault;
 use std::alloc::{AllocError, Global};
 use ua_builtin::{StatusCode, Wire};
-use ua_frame::{Ack, ErrorFrame, Frame, Kind, Limits};
+use ua_frame::{Ack, ErrorFrame, Frame, Kind, LEAST_BUFFER_SIZE, Limits};
 
 /// The Acknowledge that the body of an ACK is, if it is one.
 fn read_ack(alloc: Global, body: &[u8]) -> Result<Option<Ack>, AllocError>
@@ -47,8 +46,8 @@ fn is_outside(limits: &Limits, ack: &Ack) -> bool
     ensures value { result ≡ is_outside limits.now ack.now }
     ensures sizes { IsFalse result → (8192 ≤ ack.now.receive_buffer_size) × (8192 ≤ ack.now.send_buffer_size) }
 {
-    ack.receive_buffer_size < LEAST_SIZE
-        || ack.send_buffer_size < LEAST_SIZE
+    ack.receive_buffer_size < LEAST_BUFFER_SIZE
+        || ack.send_buffer_size < LEAST_BUFFER_SIZE
         || limits.send_buffer_size < ack.receive_buffer_size
         || limits.receive_buffer_size < ack.send_buffer_size
 }

@@ -4,8 +4,7 @@ ghost use Rattle.std.specs.Prelude.{◌≡◌};
 
 use crate::client::agreed::Agreed;
 use crate::client::talking::Talking;
-use crate::sizes::LEAST_SIZE;
-use ua_frame::{Gate, Kind};
+use ua_frame::{Gate, Kind, LEAST_BUFFER_SIZE};
 
 /// The phases of a client's channel, in order.
 #[derive(Drop)]
@@ -29,7 +28,9 @@ impl Phase {
     {
         match self {
             Phase::Waiting | Phase::Done => {
-                Gate::new(LEAST_SIZE).taking(Kind::Ack).taking(Kind::Err)
+                Gate::new(LEAST_BUFFER_SIZE)
+                    .taking(Kind::Ack)
+                    .taking(Kind::Err)
             }
             Phase::Agreed(agreed) => Gate::new(agreed.ack.send_buffer_size)
                 .taking(Kind::Opn)

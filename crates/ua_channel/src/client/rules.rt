@@ -16,9 +16,9 @@ use crate::client::greeting::greet;
 use crate::client::phase::Phase;
 use crate::client::talking::Talking;
 use crate::end_core::EndRules;
-use crate::sizes::MOST_OPEN;
 use crate::step_fault::StepFault;
 use std::alloc::Global;
+use ua_chunk::MOST_OPEN;
 use ua_frame::{Frame, Gate, Limits};
 
 /// What a client does with frames: its limits.

@@ -6,8 +6,6 @@ ghost use Rattle.ua_frame.specs.Frames.{LetsIn};
 ghost use Rattle.ua_frame.specs.declared.limits.Limits.{Limits};
 ghost use Rattle.ua_chunk.specs.Assembling.{Stands};
 ghost use Rattle.ua_chunk.specs.declared.chunk.Chunk.{Chunk};
-ghost use Rattle.ua_chunk.specs.Cutting.{pieces};
-ghost use Rattle.ua_chunk.specs.Refusal.{passes};
 ghost use Rattle.ua_channel.specs.Asks.{Asking};
 ghost use Rattle.ua_channel.specs.Asks.Asking.{Call, Renewal};
 ghost use Rattle.ua_channel.specs.ClientAsks.{Talks, call_lane, renew_reasons, is_too_large, Calls, Renews, AnswersFor};
@@ -24,13 +22,13 @@ use crate::client::answer::{Answer, judge_answer};
 use crate::client::event::Event;
 use crate::client::fault::AskFault;
 use crate::client::greeting::stop_of_error;
+use crate::client::ids::{FIRST_ID, OPENING_ID};
 use crate::client::octets::renewal_octets;
 use crate::numbers::Numbers;
-use crate::sizes::{CHUNK_HEADERS, FIRST_ID, OPENING_ID};
 use crate::step_fault::StepFault;
 use std::alloc::Global;
 use ua_builtin::{DateTime, StatusCode};
-use ua_chunk::{Assembler, Chunk, Delivered, Lane, cut, read_chunk};
+use ua_chunk::{Assembler, CHUNK_HEADERS, Chunk, Delivered, Lane, cut, read_chunk};
 use ua_frame::{Frame, Kind, Limits};
 
 /// The most calls that may be unanswered.
@@ -84,14 +82,6 @@ fn forget(ids: &mut Vec<u32>, request: u32)
     ensures { ids.new.items ≡ left_behind true request ids.old.items }
 {
     ids.retain(|id| *id != request);
-}
-
-/// Whether a body of so many octets has more pieces of this size than a limit, of which 0 is none.
-fn has_more_pieces(limit: u32, room: u32, len: usize) -> bool
-    requires { 0 < room }
-    ensures { (body : List ℕ) → length body ≡ len → result ≡ passes limit (length (pieces room body)) }
-{
-    limit != 0 && len as u128 > u128::from(limit) * u128::from(room)
 }
 
 /// What a delivered message tells.
@@ -290,7 +280,7 @@ impl Talking {
         Lane {
             channel: self.channel,
             token: self.newest,
-            room: ack.receive_buffer_size - CHUNK_HEADERS,
+            room: ack.receive_buffer_size - CHUNK_HEADERS as u32,
             octets: ack.max_message_size,
             chunks: ack.max_chunk_count,
         }
@@ -313,10 +303,7 @@ impl Talking {
     fn is_too_large(&self, len: usize) -> bool
         ensures { (body : List ℕ) → length body ≡ len → result ≡ is_too_large self.now.agreed.ack body }
     {
-        let ack = self.agreed.ack;
-        let room = ack.receive_buffer_size - CHUNK_HEADERS;
-        (ack.max_message_size != 0 && len > ack.max_message_size as usize)
-            || has_more_pieces(ack.max_chunk_count, room, len)
+        self.lane().refusal(len).is_some()
     }
 
     /// Why a call of a body of so many octets is refused after so many more calls.
