@@ -197,7 +197,6 @@ impl ServerChannel {
         ensures parts { (octets : List ℕ) (told : List Told) → Goes self.old octets told
             → IfOk result.1 (λ e. AsksInParts (parts_asked e) self.new (octets ++ take result.0 piece.now)) }
         ensures progress { Progress piece.now result.0 result.1 }
-        ensures within { result.0 ≤ length piece.now }
         ensures closed { IsDone self.old → (result.0 ≡ 0) × (result.1 ≡ Err fault.Closed) × (self.new ≡ self.old) }
         // Where memory is refused, what was taken ends at the eighth octet of a good header, or within its frame.
         ensures starves { (octets : List ℕ) (told : List Told) → Goes self.old octets told → IsErrOf result.1 fault.OutOfMemory
@@ -292,7 +291,6 @@ impl ServerChannel {
         ensures unchanged { IsErrOf result NotOpen → self.new ≡ self.old }
         ensures before { (octets : List ℕ) (frames : List Frame) (rest : List ℕ) → Stands self.old octets frames rest
             → IsErrOf result NotOpen ↔ ((received frames).openings ≡ []) }
-        ensures closed { IsDone self.old → (result ≡ Err NotOpen) × (self.new ≡ self.old) }
         ensures failed { IsErrOf result OutOfMemory → IsDone self.new }
         ensures bound { bound_of self.new ≡ bound_of self.old }
         ensures limits { limits_of self.new ≡ limits_of self.old }

@@ -3,7 +3,7 @@ use Rattle.std.proofs.Common.{◌≡◌, ◌++◌, ◌∙◌, ap, take, Result, 
 use Rattle.ua_channel.specs.declared.server_event.ServerEvent.{ServerEvent}
 use Rattle.ua_channel.specs.declared.server_fault.ChannelFault.{ChannelFault}
 use Rattle.ua_channel.specs.declared.server_fault.ChannelFault.TheVariants as fault
-use Rattle.ua_channel.specs.ServerAnswers.{AnswersAt, AsksInParts, parts_asked}
+use Rattle.ua_channel.specs.ServerAnswers.{AnswersAt, AsksInParts, Progress, parts_asked}
 use Rattle.ua_channel.specs.ServerStands.{channel_of, next_of}
 use Rattle.ua_channel.proofs.server.ServerChannel.take.Goals as goal
 
@@ -24,4 +24,4 @@ returns-in-Ok-clause-parts c = λ octets told g.
 pub returns-in-Err-clause-starves : goal.returns-in-Err-clause-starves
 returns-in-Err-clause-starves c = λ octets told g failed.
     let is : c.in-Err.fault ≡ fault.OutOfMemory = cc in
-    (c.advance-n.result.0, c.advance-n.ensures.within, c.advance-n.ensures.starves octets told g (c.in-Err.is ∙ ap Err is))
+    (c.advance-n.result.0, subst (λ (a : Result ServerEvent ChannelFault). Progress c.args.piece.now c.advance-n.result.0 a) c.in-Err.is c.advance-n.ensures.progress, c.advance-n.ensures.starves octets told g (c.in-Err.is ∙ ap Err is))
