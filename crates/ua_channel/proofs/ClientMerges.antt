@@ -28,6 +28,7 @@ use Rattle.ua_chunk.specs.Layout.{chunk_in}
 use Rattle.ua_chunk.specs.Merge.{Sent, is_item_of, outcome_under, outcomes, sent_under}
 use Rattle.ua_chunk.specs.Open.{open_ids}
 use Rattle.ua_chunk.specs.Refusal.{TakesMessages}
+use Rattle.ua_chunk.specs.Sequence.{may_follow}
 use Rattle.ua_channel.specs.Asks.{Asking, Placed, asked_before, asked_in, calls, end_of, id_of, is_finished, is_in, next_id, pending_calls, pending_renewals, renewals}
 use Rattle.ua_channel.specs.ClientConversation.{IsClientOrderOpen, IsGoodReply, IsGoodResponse, MayCarryBack, largest_taken}
 use Rattle.ua_channel.specs.ClientReads.{AtClient, ClientReads}
@@ -37,7 +38,7 @@ use Rattle.ua_channel.specs.ClientTold.{ClientTold, client_tells, told_item, tol
 use Rattle.ua_channel.specs.ClientTold.ClientTold.{Agreed, Opened, Answered, GaveUp, Renewed}
 use Rattle.ua_channel.specs.Content.{Content, Opening, closes, content, content_by}
 use Rattle.ua_channel.specs.Content.Content.{Opens, Sends}
-use Rattle.ua_channel.specs.Merges.{CarriesEither, ClientMerge, ended_by, is_told_under, latest_or, placed_later, renewed_in, told_back, told_merged_back, told_renewed, tokens_renewed, with_merged_back}
+use Rattle.ua_channel.specs.Merges.{CarriesEither, ClientMerge, MayComeNext, ended_by, is_told_under, latest_or, placed_later, renewed_in, tokens_renewed, told_back, told_merged_back, told_renewed, with_merged_back}
 use Rattle.ua_channel.specs.Paired.{is_of_call, told_of_calls}
 use Rattle.ua_channel.specs.Received.{Received, after, chunks_in, latest, messages, numbers, openings, openings_in, received, tokens_in, used_tokens}
 use Rattle.ua_channel.proofs.AskedLater.{frames_octets-append, going_on}
@@ -47,7 +48,7 @@ use Rattle.ua_channel.proofs.ClientTakes.{tokens_used}
 use Rattle.ua_channel.proofs.ClientTalks.{awaited_later, channel_in-push, no_ids, no_responses, no_tokens, opened_ids-push, responses-push, tokens_of-push}
 use Rattle.ua_channel.proofs.HeldTokens.{held_by-push, held_by-used, latest-from_last, latest-push}
 use Rattle.ua_channel.proofs.MergedChunks.{Comes, EachEnds, closed_fresh, comes, given_fresh, outcomes_once, takes_fresh, told_new, names_kept}
-use Rattle.ua_channel.proofs.MergedFrames.{all_told, at_end, each_along, each_chunk, goes_follows, goes_ordered, goes_small, latest_or-append, of_either, sized}
+use Rattle.ua_channel.proofs.MergedFrames.{all_told, at_end, each_along, each_chunk, goes_follows, goes_ordered, goes_small, latest_or-append, of_either, sized, next_follows}
 use Rattle.ua_channel.proofs.PairedCalls.{tells_delivered}
 use Rattle.ua_channel.proofs.ReadOn.{events_on, run_on}
 
@@ -325,8 +326,14 @@ ids-append : (os more : List Opening) → opened_ids (os ++ more) ≡ opened_ids
 unfolding opened_ids
 ids-append os more = flat_map-append (λ (o : Opening). id_listed o.numbers) os more
 
-module _ (limits : Limits) (asks later : List Placed) (octets : List ℕ) (told : List ClientTold) (at : AtClient) (ms : List Sent) (more : List Frame) (next : ℕ)
-    (r : ClientReads limits asks octets told at) (m : ClientMerge limits at (asked_in asks) later ms more next) where
+module _ (limits : Limits) (asks later : List Placed) (octets : List ℕ) (told : List ClientTold) (stood : AtClient) (start : ℕ) (ms : List Sent) (more : List Frame) (next : ℕ)
+    (r : ClientReads limits asks octets told stood) (n : MayComeNext (client_rules limits asks) octets start) (m : ClientMerge limits (record stood { next = start }) (asked_in asks) later ms more next) where
+  abbrev at : AtClient
+  at = record stood { next = start }
+
+  follows : may_follow (received r.frames).last start ≡ true
+  follows = next_follows (client_rules limits asks) octets r.frames start r.run n
+
   -- the chunks and the ids of OPNs before the merge, what was asked before it, the asks with those in the middle of it, and the request id behind them
   abbrev base : List Chunk
   base = (received r.frames).messages
@@ -514,7 +521,7 @@ module _ (limits : Limits) (asks later : List Placed) (octets : List ℕ) (told 
       (λ us f rest can p unended.
       subst (λ (t : List Asking). MayCarryBack limits (received (r.frames ++ us)) t (content f)) (sym (asked_at (length octets) asks later r.frames us f reached r.placed))
       (carried us f (received (r.frames ++ us)) rest can p unended)))
-      (goes_ordered (received r.frames).last at.next next (numbers more) r.follows m.numbered)
+      (goes_ordered (received r.frames).last start next (numbers more) follows m.numbered)
       (subst (λ (us : List Chunk). TakesMessages limits.max_message_size limits.max_chunk_count us (messages more)) (append-nil base)
       (takes_fresh limits.max_message_size limits.max_chunk_count base [] (messages more) r.none_open merge.taken))
 
@@ -580,8 +587,8 @@ module _ (limits : Limits) (asks later : List Placed) (octets : List ℕ) (told 
     asked_below = rw (count, asked_all) asked_below;
     sent_below = rw (count, there.messages_are) sent_below;
     opened_below = rw (count, there.opened_are) opened_below;
-    follows = goes_follows r.frames more at.next next r.follows m.numbered;
-    next_small = goes_small at.next next (numbers more) r.next_small m.numbered;
+    follows = goes_follows r.frames more start next follows m.numbered;
+    next_small = goes_small start next (numbers more) m.numbered;
     none_open = ap open_ids there.messages_are ∙ closed_fresh base (messages more) r.none_open merge.none_open;
   }
 

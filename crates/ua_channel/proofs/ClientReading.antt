@@ -383,7 +383,7 @@ module _ (limits : Limits) (asks : List Placed) (octets : List ℕ) (told : List
       ∙ (ap (filter (λ (i : ℕ). not (is_in i (opened_ids (openings fs))))) (append-nil at.renewals) ∙ answers_are) in
       let read : ClientReads limits asks (octets ++ frames_octets fs) (told ++ told_merged_back ms fs) (with_merged_back at (asked_in []) fs next) =
       subst (λ (t : List Placed). ClientReads limits t (octets ++ frames_octets fs) (told ++ told_merged_back ms fs) (with_merged_back at (asked_in []) fs next)) (append-nil asks)
-      (reads_merged limits asks [] octets told at ms fs next r m) in
+      (reads_merged limits asks [] octets told at at.next ms fs next r (record { frames = r.frames; run = r.run; follows = r.follows }) m) in
       at_as (held_by (latest (used_tokens fs)) (at.tokens ++ tokens_of (responses (openings fs)))) tokens (latest_or at.newest (tokens_of (responses (openings fs)))) newest _ pending _ waiting held last left waits read
     where
       at_as : (ts us : List ℕ) (n o : ℕ) (ps qs ws vs : List ℕ) → ts ≡ us → n ≡ o → ps ≡ qs → ws ≡ vs

@@ -1,17 +1,19 @@
 -- What frames of a merge bring, one after the other, and what is so of each of them behind those before it.
-use Rattle.std.proofs.Common.{◌≡◌, ℕ, ◌≤◌, true, List, [], ◌∷◌, ◌++◌, Option, None, refl, sym, ◌∙◌, ap, subst, arith, append-nil, append_assoc}
+use Rattle.std.proofs.Common.{◌≡◌, ℕ, ◌≤◌, true, List, [], ◌∷◌, ◌++◌, Option, None, refl, sym, ◌∙◌, ap, subst, append-nil, append_assoc}
 use Rattle.std.specs.List.{AllByRecursion}
 use Rattle.std.proofs.lemmas.List.{flat_map_more}
 use Rattle.std.proofs.lemmas.List.Concat.{flat_map-append}
 use Rattle.ua_frame.specs.After.{AllFrom, each_from}
 use Rattle.ua_frame.specs.Frames.{frame_size}
+use Rattle.ua_frame.specs.Run.{Going, Rules, Run}
 use Rattle.ua_frame.specs.declared.frame.Frame.{Frame}
+use Rattle.ua_frame.proofs.Unique.{unique}
 use Rattle.ua_chunk.specs.Sequence.{may_follow}
 use Rattle.ua_chunk.specs.declared.chunk.Chunk.{Chunk}
 use Rattle.ua_channel.specs.Content.{Content, Opening, content}
 use Rattle.ua_channel.specs.Content.Content.{Greets, Acks, Fails, Opens, Sends, Closes, Nothing}
 use Rattle.ua_channel.specs.Conversation.{AreOrdered}
-use Rattle.ua_channel.specs.Merges.{CarriesEither, NumbersGoOn, latest_or}
+use Rattle.ua_channel.specs.Merges.{CarriesEither, MayComeNext, NumbersGoOn, latest_or}
 use Rattle.ua_channel.specs.Received.{Received, after, chunks_in, latest, latest_behind, messages, numbers, numbers_in, openings, openings_in, received, tokens_in, used_tokens}
 use Rattle.ua_channel.proofs.Askings.{all_append}
 use Rattle.ua_channel.proofs.OneFrameMore.{behind_append, received-push}
@@ -44,16 +46,20 @@ goes_ordered last next after [] follows g = tt
 goes_ordered last next after (n ∷ ns) follows g = (ap (may_follow last) g.0 ∙ follows, g.1)
 
 goes_behind : (last : Option ℕ) (next after : ℕ) (ns : List ℕ) → may_follow last next ≡ true → NumbersGoOn next ns after → may_follow (latest_behind last ns) after ≡ true
-goes_behind last next after [] follows g = ap (may_follow last) g ∙ follows
+goes_behind last next after [] follows g = ap (may_follow last) g.0 ∙ follows
 goes_behind last next after (n ∷ ns) follows g = g.2
 
 -- and the one after them may follow the last
 pub goes_follows : (before more : List Frame) (next after : ℕ) → may_follow (received before).last next ≡ true → NumbersGoOn next (numbers more) after → may_follow (received (before ++ more)).last after ≡ true
 goes_follows before more next after follows g = ap (λ (o : Option ℕ). may_follow o after) (last_behind before more) ∙ goes_behind (received before).last next after (numbers more) follows g
 
-pub goes_small : (next after : ℕ) (ns : List ℕ) → next ≤ 4294966272 → NumbersGoOn next ns after → after ≤ 4294966272
-goes_small next after [] small g = omega (arith, small, g)
-goes_small next after (n ∷ ns) small g = g.3
+pub goes_small : (next after : ℕ) (ns : List ℕ) → NumbersGoOn next ns after → after ≤ 4294966272
+goes_small next after [] g = g.1
+goes_small next after (n ∷ ns) g = g.3
+
+-- a number that may come next follows the last one of the frames
+pub next_follows : {T W : Type 0} (R : Rules T W) (octets : List ℕ) (fs : List Frame) (number : ℕ) → Run R octets fs [] Going → MayComeNext R octets number → may_follow (received fs).last number ≡ true
+next_follows R octets fs number run n = subst (λ (gs : List Frame). may_follow (received gs).last number ≡ true) (sym (unique R octets fs n.frames [] [] Going Going run n.run).frames) n.follows
 
 -- ---- the lists that frames brought
 

@@ -1,5 +1,5 @@
 -- That a server reads merged messages with renewals among them from where it stands, what they tell it, and where it stands behind them.
-use Rattle.std.proofs.Common.{◌≡◌, ℕ, zero, suc, ◌+◌, ◌<◌, ◌≤◌, ◌^◌, false, leb, List, [], ◌∷◌, ◌++◌, Option, Some, None, length, map, refl, sym, ◌∙◌, ap, subst, arith, append-nil, append_assoc, length-append}
+use Rattle.std.proofs.Common.{◌≡◌, ℕ, zero, suc, ◌+◌, ◌<◌, ◌≤◌, ◌^◌, true, false, leb, List, [], ◌∷◌, ◌++◌, Option, Some, None, length, map, refl, sym, ◌∙◌, ap, subst, arith, append-nil, append_assoc, length-append}
 use Rattle.std.specs.List.{filter, range_with_len}
 use Rattle.std.proofs.lemmas.Bool.{and_from, eq-eqb, eqb-false, le-leb}
 use Rattle.std.proofs.lemmas.List.Concat.{flat_map-append}
@@ -17,10 +17,11 @@ use Rattle.ua_chunk.specs.Item.Item.{Whole, Aborted}
 use Rattle.ua_chunk.specs.Merge.{Sent, is_item_of, outcome_under, outcomes, sent_under}
 use Rattle.ua_chunk.specs.Open.{open_ids}
 use Rattle.ua_chunk.specs.Refusal.{TakesMessages}
+use Rattle.ua_chunk.specs.Sequence.{may_follow}
 use Rattle.ua_channel.specs.Content.{Content, Opening, content}
 use Rattle.ua_channel.specs.Content.Content.{Opens, Sends}
 use Rattle.ua_channel.specs.Conversation.{IsGoodRequest, IsOrderOpen, MayCarry}
-use Rattle.ua_channel.specs.Merges.{CarriesEither, IsChunkHere, ServerMerge, ended_by, is_message_under, latest_or, told_by_merged, told_of_merge, token_in, tokens_told, with_merged}
+use Rattle.ua_channel.specs.Merges.{CarriesEither, IsChunkHere, MayComeNext, ServerMerge, ended_by, is_message_under, latest_or, told_by_merged, told_of_merge, token_in, tokens_told, with_merged}
 use Rattle.ua_channel.specs.Received.{Received, after, chunks_in, messages, numbers, openings, openings_in, received, tokens_in, used_tokens}
 use Rattle.ua_channel.specs.ServerMessages.{message_in, message_of, messages_in}
 use Rattle.ua_channel.specs.ServerReads.{AtServer, ServerReads}
@@ -28,7 +29,7 @@ use Rattle.ua_channel.specs.ServerRefusals.{last_used}
 use Rattle.ua_channel.specs.ServerRules.{receive_size, server_rules}
 use Rattle.ua_channel.specs.ServerTold.{Told, issued, opened_by, request_behind, request_of, server_tells, told_under}
 use Rattle.ua_channel.proofs.MergedChunks.{Comes, EachEnds, closed_fresh, comes, given_fresh, outcomes_once, takes_fresh, told_new}
-use Rattle.ua_channel.proofs.MergedFrames.{all_told, at_end, each_along, goes_follows, goes_ordered, goes_small, latest_or-append, of_either, openings-more, sized}
+use Rattle.ua_channel.proofs.MergedFrames.{all_told, at_end, each_along, goes_follows, goes_ordered, goes_small, latest_or-append, next_follows, of_either, openings-more, sized}
 use Rattle.ua_channel.proofs.ReadOn.{events_on, run_on}
 use Rattle.ua_channel.proofs.ServerConversing.{taken_open}
 use Rattle.ua_channel.proofs.ServerMessages.{messages_delivered}
@@ -178,8 +179,14 @@ no_openings : (n : ℕ) → n + length (openings []) ≡ n
 unfolding openings
 no_openings n = omega arith
 
-module _ (limits : Limits) (channel : ℕ) (octets : List ℕ) (told : List Told) (at : AtServer) (ms : List Sent) (more : List Frame) (next : ℕ)
-    (r : ServerReads limits channel octets told at) (m : ServerMerge limits channel at ms more next) where
+module _ (limits : Limits) (channel : ℕ) (octets : List ℕ) (told : List Told) (stood : AtServer) (start : ℕ) (ms : List Sent) (more : List Frame) (next : ℕ)
+    (r : ServerReads limits channel octets told stood) (n : MayComeNext (server_rules limits channel) octets start) (m : ServerMerge limits channel (record stood { next = start }) ms more next) where
+  abbrev at : AtServer
+  at = record stood { next = start }
+
+  follows : may_follow (received r.frames).last start ≡ true
+  follows = next_follows (server_rules limits channel) octets r.frames start r.run n
+
   abbrev base : List Chunk
   base = (received r.frames).messages
 
@@ -211,7 +218,7 @@ module _ (limits : Limits) (channel : ℕ) (octets : List ℕ) (told : List Told
       (λ us f rest can p ends. subst (λ (o : Option Hello). frame_size f ≤ receive_size limits o) (sym p.hello_is) can.0))
       (each_along r.frames (Place at base) (May limits channel at base) (step limits channel at base) more first may (λ us c. given us c ≡ ended_by ms c) merge.each
       (λ us f. MayCarry channel (received us) (content f)) (λ us f rest can p ends. carried limits channel at base us (received (r.frames ++ us)) (content f) can.1 p))
-      (goes_ordered (received r.frames).last at.next next (numbers more) r.follows m.numbered)
+      (goes_ordered (received r.frames).last start next (numbers more) follows m.numbered)
       (subst (λ (us : List Chunk). TakesMessages limits.max_message_size limits.max_chunk_count us (messages more)) (append-nil base)
       (takes_fresh limits.max_message_size limits.max_chunk_count base [] (messages more) r.none_open merge.taken))
 
@@ -238,8 +245,8 @@ module _ (limits : Limits) (channel : ℕ) (octets : List ℕ) (told : List Told
     few_issued = there.few_issued;
     used_is = there.used_is;
     some_used = there.some_used;
-    follows = goes_follows r.frames more at.next next r.follows m.numbered;
-    next_small = goes_small at.next next (numbers more) r.next_small m.numbered;
+    follows = goes_follows r.frames more start next follows m.numbered;
+    next_small = goes_small start next (numbers more) m.numbered;
     none_open = ap open_ids there.messages_are ∙ closed_fresh base (messages more) r.none_open merge.none_open;
   }
 

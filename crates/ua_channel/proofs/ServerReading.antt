@@ -154,7 +154,7 @@ module _ (limits : Limits) (channel : ℕ) (octets : List ℕ) (told : List Told
       (record at { issued = at.issued + length (openings (map frame_of chunks)); used = u; next = number_after at.next (pieces lane.room body) }))
       used
       (subst (λ (ts : List Told). ServerReads limits channel (octets ++ chunks_octets chunks) (told ++ ts) (with_merged at (map frame_of chunks) (number_after at.next (pieces lane.room body)))) tells
-      (reads_merged limits channel octets told at (alone.message ∷ []) (map frame_of chunks) (number_after at.next (pieces lane.room body)) r merge)))
+      (reads_merged limits channel octets told at at.next (alone.message ∷ []) (map frame_of chunks) (number_after at.next (pieces lane.room body)) r (record { frames = r.frames; run = r.run; follows = r.follows }) merge)))
 
 -- ---- one frame
 

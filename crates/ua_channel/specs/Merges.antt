@@ -5,6 +5,7 @@ use Rattle.std.specs.Prelude.{◌≡◌, ◌<◌, ◌≤◌, ◌+◌, ◌++◌, 
 use Rattle.std.specs.List.{AllByRecursion, filter, flat_map, range_with_len}
 use Rattle.ua_frame.specs.After.{AllFrom, each_from}
 use Rattle.ua_frame.specs.Frames.{frame_size, frames_octets}
+use Rattle.ua_frame.specs.Run.{Going, Rules, Run}
 use Rattle.ua_frame.specs.declared.frame.Frame.{Frame}
 use Rattle.ua_frame.specs.declared.limits.Limits.{Limits}
 use Rattle.ua_chunk.specs.Cutting.{pieces}
@@ -24,7 +25,7 @@ use Rattle.ua_channel.specs.ClientTold.{ClientTold, ClientTold as client_told, t
 use Rattle.ua_channel.specs.Content.{Content, Opening, content}
 use Rattle.ua_channel.specs.Content.Content.{Opens, Sends}
 use Rattle.ua_channel.specs.Conversation.{AreOrdered, IsFramed, IsGoodRequest}
-use Rattle.ua_channel.specs.Received.{latest, latest_behind, messages, numbers, openings, used_tokens}
+use Rattle.ua_channel.specs.Received.{latest, latest_behind, messages, numbers, openings, received, used_tokens}
 use Rattle.ua_channel.specs.ServerReads.{AtServer, IsBodyFor, IsTakenAt}
 use Rattle.ua_channel.specs.ServerRules.{receive_size}
 use Rattle.ua_channel.specs.ServerTold.{Told, opened_by, request_of, told_under}
@@ -63,10 +64,16 @@ abbrev pub latest_or : ℕ → List ℕ → ℕ
 latest_or n [] = n
 latest_or n (m ∷ ms) = latest_or m ms
 
+-- a number that may come next at an end with these rules, behind these octets, which are whole good frames
+pub record MayComeNext {T W : Type 0} (R : Rules T W) (octets : List ℕ) (number : ℕ) : Type 0 where
+  pub frames : List Frame
+  pub run : Run R octets frames [] Going
+  pub follows : IsTrue (may_follow (received frames).last number)
+
 -- numbers that go on: the first one is the next, each further one follows the one before it, and the one after them may follow the last; it is at
 -- most 4294966272, behind which a sender starts again. Where there are none, the one after them is the next
 abbrev pub NumbersGoOn : ℕ → List ℕ → ℕ → Type 0
-NumbersGoOn next [] after = after ≡ next
+NumbersGoOn next [] after = (after ≡ next) × (after ≤ 4294966272)
 NumbersGoOn next (n ∷ ns) after = (n ≡ next) × AreOrdered (Some n) ns × IsTrue (may_follow (latest_behind (Some n) ns) after) × (after ≤ 4294966272)
 
 -- what a chunk of these messages delivers: where it is the last of its message, the whole of that, or the code and the reason for which it

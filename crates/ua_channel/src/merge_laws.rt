@@ -19,14 +19,16 @@ ghost use Rattle.ua_chunk.specs.declared.flag.Flag.TheVariants.{F};
 ghost use Rattle.ua_chunk.specs.declared.lane.Lane.{Lane};
 ghost use Rattle.ua_channel.specs.Asks.{Placed, asked_in};
 ghost use Rattle.ua_channel.specs.ClientReads.{AtClient, ClientReads};
+ghost use Rattle.ua_channel.specs.ClientTable.{client_rules};
 ghost use Rattle.ua_channel.specs.ClientTokens.{responses, tokens_of};
 ghost use Rattle.ua_channel.specs.ClientTold.{ClientTold, told_item};
 ghost use Rattle.ua_channel.specs.Conversation.{FitMessages};
-ghost use Rattle.ua_channel.specs.Merges.{AreMerged, ClientMerge, IsCutBody, ServerMerge, is_message_under, is_told_under, placed_later, told_merged_back, told_of_merge, tokens_renewed, tokens_told, with_merged, with_merged_back};
+ghost use Rattle.ua_channel.specs.Merges.{AreMerged, ClientMerge, IsCutBody, MayComeNext, ServerMerge, is_message_under, is_told_under, placed_later, told_merged_back, told_of_merge, tokens_renewed, tokens_told, with_merged, with_merged_back};
 ghost use Rattle.ua_channel.specs.Paired.{told_of_calls};
 ghost use Rattle.ua_channel.specs.Received.{messages, openings};
 ghost use Rattle.ua_channel.specs.ServerMessages.{message_of, messages_in};
 ghost use Rattle.ua_channel.specs.ServerReads.{AtServer, IsBodyFor, ServerReads};
+ghost use Rattle.ua_channel.specs.ServerRules.{server_rules};
 ghost use Rattle.ua_channel.specs.ServerTold.{Told};
 
 /// Chunks of which none is refused for its message are those whose messages fit, in plain words; so
@@ -51,23 +53,26 @@ pub fn cut_bodies_merge()
 /// From where a server stands, with its channel open, it reads requests under request ids of their own,
 /// cut in any way within its limits and each ending in an F or given up by an A that reads, whose chunks
 /// come merged in any way with at most 4 unfinished after each, and OPNs that renew the token anywhere
-/// among them. It refuses none. It stands behind them with a token more for each renewal, the last token
+/// among them, from any number on that may come next. It refuses none. It stands behind them with a token more for each renewal, the last token
 /// that a chunk used, and the number that is next. So merges are chained with what comes before and
 /// behind: `server_follows` follows them all. It is told each message at its last chunk, once under its
 /// request id, and each renewal with the next token.
 pub fn server_reads_merged()
-    ensures reads { (limits : Limits) (channel : ℕ) (octets : List ℕ) (told : List Told) (at : AtServer) (ms : List Sent) (more : List Frame) (next : ℕ) →
-        ServerReads limits channel octets told at → ServerMerge limits channel at ms more next →
+    ensures reads { (limits : Limits) (channel : ℕ) (octets : List ℕ) (told : List Told) (at : AtServer) (first : ℕ) (ms : List Sent) (more : List Frame) (next : ℕ) →
+        ServerReads limits channel octets told at → MayComeNext (server_rules limits channel) octets first → ServerMerge limits channel (record at { next = first }) ms more next →
         ServerReads limits channel (octets ++ frames_octets more) (told ++ told_of_merge ms at.issued more) (with_merged at more next) }
-    ensures messages { (limits : Limits) (channel : ℕ) (octets : List ℕ) (told : List Told) (at : AtServer) (ms : List Sent) (more : List Frame) (next : ℕ) →
-        ServerReads limits channel octets told at → ServerMerge limits channel at ms more next →
+    ensures messages { (limits : Limits) (channel : ℕ) (octets : List ℕ) (told : List Told) (at : AtServer) (first : ℕ) (ms : List Sent) (more : List Frame) (next : ℕ) →
+        ServerReads limits channel octets told at → MayComeNext (server_rules limits channel) octets first → ServerMerge limits channel (record at { next = first }) ms more next →
         messages_in (told_of_merge ms at.issued more) ≡ map message_of (outcomes ms (messages more)) }
-    ensures once { (limits : Limits) (channel : ℕ) (octets : List ℕ) (told : List Told) (at : AtServer) (ms : List Sent) (more : List Frame) (next : ℕ) →
-        ServerReads limits channel octets told at → ServerMerge limits channel at ms more next →
+    ensures once { (limits : Limits) (channel : ℕ) (octets : List ℕ) (told : List Told) (at : AtServer) (first : ℕ) (ms : List Sent) (more : List Frame) (next : ℕ) →
+        ServerReads limits channel octets told at → MayComeNext (server_rules limits channel) octets first → ServerMerge limits channel (record at { next = first }) ms more next →
         (id : ℕ) → filter (is_message_under id) (messages_in (told_of_merge ms at.issued more)) ≡ map message_of (outcome_under (sent_under id ms)) }
-    ensures tokens { (limits : Limits) (channel : ℕ) (octets : List ℕ) (told : List Told) (at : AtServer) (ms : List Sent) (more : List Frame) (next : ℕ) →
-        ServerReads limits channel octets told at → ServerMerge limits channel at ms more next →
+    ensures tokens { (limits : Limits) (channel : ℕ) (octets : List ℕ) (told : List Told) (at : AtServer) (first : ℕ) (ms : List Sent) (more : List Frame) (next : ℕ) →
+        ServerReads limits channel octets told at → MayComeNext (server_rules limits channel) octets first → ServerMerge limits channel (record at { next = first }) ms more next →
         tokens_told (told_of_merge ms at.issued more) ≡ range_with_len (at.issued + 1) (length (openings more)) }
+    // The number that is next where it stands is one that may come first.
+    ensures first { (limits : Limits) (channel : ℕ) (octets : List ℕ) (told : List Told) (at : AtServer) → ServerReads limits channel octets told at →
+        MayComeNext (server_rules limits channel) octets at.next }
 {}
 
 /// The same of a client and merged replies, with the answers to renewals among them, where the client asks
@@ -75,16 +80,18 @@ pub fn server_reads_merged()
 /// the calls and renewals that were not answered, and is told each reply at its last chunk, once under the
 /// request id of its call, and each token.
 pub fn client_reads_merged()
-    ensures reads { (limits : Limits) (asks later : List Placed) (octets : List ℕ) (told : List ClientTold) (at : AtClient) (ms : List Sent) (more : List Frame) (next : ℕ) →
-        ClientReads limits asks octets told at → ClientMerge limits at (asked_in asks) later ms more next →
+    ensures reads { (limits : Limits) (asks later : List Placed) (octets : List ℕ) (told : List ClientTold) (at : AtClient) (first : ℕ) (ms : List Sent) (more : List Frame) (next : ℕ) →
+        ClientReads limits asks octets told at → MayComeNext (client_rules limits asks) octets first → ClientMerge limits (record at { next = first }) (asked_in asks) later ms more next →
         ClientReads limits (asks ++ placed_later (length octets) later) (octets ++ frames_octets more) (told ++ told_merged_back ms more) (with_merged_back at (asked_in later) more next) }
-    ensures messages { (limits : Limits) (asks later : List Placed) (octets : List ℕ) (told : List ClientTold) (at : AtClient) (ms : List Sent) (more : List Frame) (next : ℕ) →
-        ClientReads limits asks octets told at → ClientMerge limits at (asked_in asks) later ms more next →
+    ensures messages { (limits : Limits) (asks later : List Placed) (octets : List ℕ) (told : List ClientTold) (at : AtClient) (first : ℕ) (ms : List Sent) (more : List Frame) (next : ℕ) →
+        ClientReads limits asks octets told at → MayComeNext (client_rules limits asks) octets first → ClientMerge limits (record at { next = first }) (asked_in asks) later ms more next →
         told_of_calls (told_merged_back ms more) ≡ map told_item (outcomes ms (messages more)) }
-    ensures once { (limits : Limits) (asks later : List Placed) (octets : List ℕ) (told : List ClientTold) (at : AtClient) (ms : List Sent) (more : List Frame) (next : ℕ) →
-        ClientReads limits asks octets told at → ClientMerge limits at (asked_in asks) later ms more next →
+    ensures once { (limits : Limits) (asks later : List Placed) (octets : List ℕ) (told : List ClientTold) (at : AtClient) (first : ℕ) (ms : List Sent) (more : List Frame) (next : ℕ) →
+        ClientReads limits asks octets told at → MayComeNext (client_rules limits asks) octets first → ClientMerge limits (record at { next = first }) (asked_in asks) later ms more next →
         (id : ℕ) → filter (is_told_under id) (told_merged_back ms more) ≡ map told_item (outcome_under (sent_under id ms)) }
-    ensures tokens { (limits : Limits) (asks later : List Placed) (octets : List ℕ) (told : List ClientTold) (at : AtClient) (ms : List Sent) (more : List Frame) (next : ℕ) →
-        ClientReads limits asks octets told at → ClientMerge limits at (asked_in asks) later ms more next →
+    ensures tokens { (limits : Limits) (asks later : List Placed) (octets : List ℕ) (told : List ClientTold) (at : AtClient) (first : ℕ) (ms : List Sent) (more : List Frame) (next : ℕ) →
+        ClientReads limits asks octets told at → MayComeNext (client_rules limits asks) octets first → ClientMerge limits (record at { next = first }) (asked_in asks) later ms more next →
         tokens_renewed (told_merged_back ms more) ≡ tokens_of (responses (openings more)) }
+    ensures first { (limits : Limits) (asks : List Placed) (octets : List ℕ) (told : List ClientTold) (at : AtClient) → ClientReads limits asks octets told at →
+        MayComeNext (client_rules limits asks) octets at.next }
 {}

@@ -12,3 +12,6 @@ returns-clause-once c = reads_once
 
 pub returns-clause-tokens : goal.returns-clause-tokens
 returns-clause-tokens c = reads_tokens
+
+pub returns-clause-first : goal.returns-clause-first
+returns-clause-first c = λ limits asks octets told at r. record { frames = r.frames; run = r.run; follows = r.follows }
