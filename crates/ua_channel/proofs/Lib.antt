@@ -50,6 +50,7 @@ mod MergedChunks
 mod MergedFrames
 mod CutChunks
 mod ServerMerges
+mod ServerRuns
 mod ClientMerges
 pub mod Groups
 mod Connected

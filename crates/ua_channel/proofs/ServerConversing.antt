@@ -178,7 +178,7 @@ abbrev Order : Received → List Content → Type 0
 Order b cs = order_by b.closed b.hello (issued b) cs
 
 -- OPNs come behind a Hello
-abbrev IsPlaced : Received → Type 0
+abbrev pub IsPlaced : Received → Type 0
 IsPlaced b = b.hello ≡ None → issued b ≡ 0
 
 no_chunk : (found : Option Chunk) (cs : List Content) → (IsServerOrder (sends found ∷ cs) → ⊥) × (IsOrderGreeted (sends found ∷ cs) → ⊥)
@@ -264,7 +264,7 @@ placed_more limits b f Opn (Some h) q placed kind none = let never : Some h ≡ 
 placed_more limits b f Clo o q placed kind none = close_placed b (chunk_in f) placed none
 
 module _ (limits : Limits) (channel : ℕ) where
-  placed_next : (start : List Frame) (f : Frame) → IsPlaced (received start) → IsTrue (lets_in (server_gate limits (received start)) f.kind) → IsPlaced (received (start ++ f ∷ []))
+  pub placed_next : (start : List Frame) (f : Frame) → IsPlaced (received start) → IsTrue (lets_in (server_gate limits (received start)) f.kind) → IsPlaced (received (start ++ f ∷ []))
   placed_next start f placed kind =
       subst IsPlaced (sym (received-push start f ∙ ap (after (received start)) (content_kind f))) (placed_more limits (received start) f f.kind (received start).hello refl placed kind)
 
@@ -302,7 +302,7 @@ module _ (limits : Limits) (channel : ℕ) where
         messages_fit = fit;
       })
 
-  nothing_placed : IsPlaced (received [])
+  pub nothing_placed : IsPlaced (received [])
   nothing_placed none = ap issued received-nil
 
   nothing_order : (frames : List Frame) → Order (received []) (map content frames) ↔ order_by false None 0 (map content frames)

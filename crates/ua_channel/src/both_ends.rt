@@ -14,10 +14,13 @@ ghost use Rattle.ua_frame.specs.Agreement.{ack_to, url_length};
 ghost use Rattle.ua_frame.specs.Frames.{frame_octets};
 ghost use Rattle.ua_frame.specs.Messages.{ack, ack_frame, hello};
 ghost use Rattle.ua_frame.specs.declared.ack.Ack.{Ack};
+ghost use Rattle.ua_frame.specs.Run.{Going, Run, events};
 ghost use Rattle.ua_frame.specs.declared.frame.Frame.{Frame};
+ghost use Rattle.ua_frame.specs.declared.hello.Hello.{Hello};
 ghost use Rattle.ua_frame.specs.declared.limits.Limits.{Limits};
 ghost use Rattle.ua_chunk.specs.Cutting.{chunks_octets, chunks_of, cut_refusal, number_after, pieces};
-ghost use Rattle.ua_chunk.specs.Sequence.{next_number};
+ghost use Rattle.ua_chunk.specs.Open.{open_ids};
+ghost use Rattle.ua_chunk.specs.Sequence.{may_follow, next_number};
 ghost use Rattle.ua_chunk.specs.declared.lane.Lane.{Lane};
 ghost use Rattle.ua_channel.specs.Agreement.{agreement_of};
 ghost use Rattle.ua_channel.specs.Asks.{Placed, asked_in, is_in, next_id};
@@ -25,14 +28,16 @@ ghost use Rattle.ua_channel.specs.Asks.Asking.{Call, Renewal};
 ghost use Rattle.ua_channel.specs.ClientReads.{AtClient, ClientAgrees, ClientReads, IsAnswered, IsLaneBack, lane_from, opened_at, told_reply, with_answer, with_call, with_renewal, with_reply};
 ghost use Rattle.ua_channel.specs.ClientAsks.{is_too_large, reasons_of_call, reasons_of_renewal, room_of};
 ghost use Rattle.ua_channel.specs.InStep.{AreInStep, lane_back};
-ghost use Rattle.ua_channel.specs.Received.{has_some, latest};
+ghost use Rattle.ua_channel.specs.Received.{has_some, latest, received};
 ghost use Rattle.ua_channel.specs.ClientSends.{close_frame, first_open, hello_frame, hello_to, renewal_frame};
 ghost use Rattle.ua_channel.specs.Client.{call_refused, client_limits, ClientEnded, ClientGoes, ClientStands, closing_refused, renewal_refused, SendsCall, SendsClosing, SendsRenewal};
 ghost use Rattle.ua_channel.specs.ClientTold.{ClientTold, ClientTold as client_told, Why};
 ghost use Rattle.ua_channel.specs.ServerReads.{AtServer, IsBodyFor, IsLaneTo, IsTakenAt, ServerCloses, ServerReads, greeted_at, with_message, with_token};
+ghost use Rattle.ua_channel.specs.ServerRefusals.{last_used};
+ghost use Rattle.ua_channel.specs.ServerRules.{server_rules};
 ghost use Rattle.ua_channel.specs.ServerSends.{opened_frame, replied};
 ghost use Rattle.ua_channel.specs.ServerStands.{ClosedAt, Goes, RefusedAt, channel_of, limits_of};
-ghost use Rattle.ua_channel.specs.ServerTold.{Told, Told as server_told};
+ghost use Rattle.ua_channel.specs.ServerTold.{Told, Told as server_told, issued};
 ghost use Rattle.ua_channel.specs.declared.client.channel.ClientChannel.{ClientChannel};
 ghost use Rattle.ua_channel.specs.declared.server.ServerChannel.{ServerChannel};
 
@@ -68,6 +73,16 @@ pub fn server_reads_close()
     ensures { (limits : Limits) (channel : ℕ) (octets : List ℕ) (told : List Told) (at : AtServer) (token id : ℕ) (moment : DateTime) →
         ServerReads limits channel octets told at → IsTakenAt at token → channel < 2 ^ 32 → id < 2 ^ 32 →
         ServerCloses limits channel (octets ++ frame_octets (close_frame channel token at.next id moment)) (told ++ server_told.Closed ∷ []) }
+{}
+
+/// Whatever came before: behind whole frames that are good, with its channel open and no message
+/// unfinished, a server stands as the laws here say it, with any number next that may follow and is at
+/// most 4294966272. There is one.
+pub fn server_reads_run()
+    ensures reads { (limits : Limits) (channel : ℕ) (octets : List ℕ) (frames : List Frame) → Run (server_rules limits channel) octets frames [] Going → 0 < issued (received frames) → open_ids (received frames).messages ≡ [] →
+        (next : ℕ) → IsTrue (may_follow (received frames).last next) → next ≤ 4294966272 →
+        (said : Hello) × ((received frames).hello ≡ Some said) × ServerReads limits channel octets (events (server_rules limits channel) frames) (record { hello = said; issued = issued (received frames); used = last_used (received frames); next = next }) }
+    ensures numbered { (last : Option ℕ) → (next : ℕ) × IsTrue (may_follow last next) × (next ≤ 4294966272) }
 {}
 
 /// A client takes the ACK of a server to its HEL.
