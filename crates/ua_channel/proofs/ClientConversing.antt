@@ -191,7 +191,7 @@ abbrev Order : Received → List Kind → Type 0
 Order b ks = order_by b.ack (responses b.openings) ks
 
 -- responses come behind an Acknowledge
-abbrev IsPlaced : Received → Type 0
+abbrev pub IsPlaced : Received → Type 0
 IsPlaced b = b.ack ≡ None → responses b.openings ≡ []
 
 order_is : (b : Received) (ks : List Kind) (o : Option Ack) (rs : List OpenResponse) → b.ack ≡ o → responses b.openings ≡ rs → Order b ks ↔ order_by o rs ks
@@ -236,7 +236,7 @@ module _ (limits : Limits) (asked : List Asking) (b : Received) (f : Frame) (ks 
   order_here (Some a) (p ∷ ps) Clo q r placed may = out_of_order (λ e. cc) (λ e. e)
 
 -- no CLO is let in
-no_close : (o : Option Ack) (rs : List OpenResponse) → IsTrue (lets_in (client_gate_behind o rs) Clo) → ⊥
+pub no_close : (o : Option Ack) (rs : List OpenResponse) → IsTrue (lets_in (client_gate_behind o rs) Clo) → ⊥
 no_close None rs h = absurd cc
 no_close (Some a) [] h = absurd cc
 no_close (Some a) (r ∷ rs) h = absurd cc
@@ -266,7 +266,7 @@ placed_more b f Opn placed kind none = absurd (opn_some b.ack (responses b.openi
 placed_more b f Clo placed kind none = absurd (no_close b.ack (responses b.openings) kind)
 
 module _ (limits : Limits) (asks : List Placed) where
-  placed_next : (start : List Frame) (f : Frame) → IsPlaced (received start) → IsTrue (lets_in (client_gate (received start)) f.kind) → IsPlaced (received (start ++ f ∷ []))
+  pub placed_next : (start : List Frame) (f : Frame) → IsPlaced (received start) → IsTrue (lets_in (client_gate (received start)) f.kind) → IsPlaced (received (start ++ f ∷ []))
   placed_next start f placed kind = subst IsPlaced (sym (received-push start f ∙ ap (after (received start)) (content_kind f))) (placed_more (received start) f f.kind placed kind)
 
   order_frame : (asked : List Asking) (b : Received) (f : Frame) (ks : List Kind) → IsPlaced b → MayCarryBack limits b asked (content f) → InOrder (client_gate b) f.kind (Order (after b (content f)) ks) (Order b (f.kind ∷ ks))
@@ -307,7 +307,7 @@ module _ (limits : Limits) (asks : List Placed) where
   nothing_there : responses (received []).openings ≡ []
   nothing_there = ap (λ (b : Received). responses b.openings) received-nil ∙ no_responses
 
-  nothing_placed : IsPlaced (received [])
+  pub nothing_placed : IsPlaced (received [])
   nothing_placed none = nothing_there
 
   nothing_order : (frames : List Frame) → Order (received []) (map (λ (f : Frame). f.kind) frames) ↔ order_by None [] (map (λ (f : Frame). f.kind) frames)

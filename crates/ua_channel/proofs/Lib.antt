@@ -52,6 +52,7 @@ mod CutChunks
 mod ServerMerges
 mod ServerRuns
 mod ClientMerges
+mod ClientRuns
 pub mod Groups
 mod Connected
 mod ExampleRounds

@@ -7,6 +7,7 @@
 //! came.
 
 ghost use Rattle.std.specs.Prelude.{◌≡◌, ◌<◌, ◌≤◌, ◌+◌, ◌^◌, ◌∷◌, ◌++◌, [], ℕ, List, Option, None, Some, IsTrue, IsFalse, length};
+ghost use Rattle.std.specs.List.{AllByRecursion};
 ghost use Rattle.ua_builtin.specs.DateTime.{date_time};
 ghost use Rattle.ua_builtin.specs.Reasons.{first_reason};
 ghost use Rattle.ua_builtin.specs.declared.date_time.DateTime.{DateTime};
@@ -23,7 +24,7 @@ ghost use Rattle.ua_chunk.specs.Open.{open_ids};
 ghost use Rattle.ua_chunk.specs.Sequence.{may_follow, next_number};
 ghost use Rattle.ua_chunk.specs.declared.lane.Lane.{Lane};
 ghost use Rattle.ua_channel.specs.Agreement.{agreement_of};
-ghost use Rattle.ua_channel.specs.Asks.{Placed, asked_in, is_in, next_id};
+ghost use Rattle.ua_channel.specs.Asks.{Asking, Placed, asked_in, id_of, is_in, next_id, pending_calls, pending_renewals};
 ghost use Rattle.ua_channel.specs.Asks.Asking.{Call, Renewal};
 ghost use Rattle.ua_channel.specs.ClientReads.{AtClient, ClientAgrees, ClientReads, IsAnswered, IsLaneBack, lane_from, opened_at, told_reply, with_answer, with_call, with_renewal, with_reply};
 ghost use Rattle.ua_channel.specs.ClientAsks.{is_too_large, reasons_of_call, reasons_of_renewal, room_of};
@@ -31,6 +32,8 @@ ghost use Rattle.ua_channel.specs.InStep.{AreInStep, lane_back};
 ghost use Rattle.ua_channel.specs.Received.{has_some, latest, received};
 ghost use Rattle.ua_channel.specs.ClientSends.{close_frame, first_open, hello_frame, hello_to, renewal_frame};
 ghost use Rattle.ua_channel.specs.Client.{call_refused, client_limits, ClientEnded, ClientGoes, ClientStands, closing_refused, renewal_refused, SendsCall, SendsClosing, SendsRenewal};
+ghost use Rattle.ua_channel.specs.ClientTable.{client_rules};
+ghost use Rattle.ua_channel.specs.ClientTokens.{channel_in, held_tokens, opened_ids, responses};
 ghost use Rattle.ua_channel.specs.ClientTold.{ClientTold, ClientTold as client_told, Why};
 ghost use Rattle.ua_channel.specs.ServerReads.{AtServer, IsBodyFor, IsLaneTo, IsTakenAt, ServerCloses, ServerReads, greeted_at, with_message, with_token};
 ghost use Rattle.ua_channel.specs.ServerRefusals.{last_used};
@@ -122,6 +125,29 @@ pub fn client_reads_renewed()
     ensures { (limits : Limits) (asks : List Placed) (octets : List ℕ) (told : List ClientTold) (at : AtClient) (id handle token lifetime : ℕ) (moment : DateTime) →
         ClientReads limits asks octets told at → IsAnswered at.channel at.next id handle token lifetime moment → at.renewals ≡ id ∷ [] → IsFalse (is_in token at.tokens) →
         ClientReads limits asks (octets ++ frame_octets (opened_frame at.channel at.next id handle token lifetime moment)) (told ++ client_told.Renewed token ∷ []) (with_answer at token (next_number at.next)) }
+{}
+
+/// Whatever came before, and whatever was asked: behind whole frames that are good, with its channel
+/// open and no message unfinished, a client stands as the laws here say it, with any number next that
+/// may follow and is at most 4294966272. All was asked by then, under request ids below the next one, as
+/// what a channel asks is. There is a newest of the tokens that it holds.
+pub fn client_reads_run()
+    ensures reads { (limits : Limits) (asks : List Placed) (octets : List ℕ) (frames : List Frame) → Run (client_rules limits asks) octets frames [] Going →
+        AllByRecursion (λ (a : Placed). a.0 ≤ length octets) asks → AllByRecursion (λ (a : Asking). id_of a < next_id (asked_in asks)) (asked_in asks) →
+        (channel : ℕ) → channel_in (responses (received frames).openings) ≡ Some channel → open_ids (received frames).messages ≡ [] →
+        (next : ℕ) → IsTrue (may_follow (received frames).last next) → next ≤ 4294966272 →
+        (said : Ack) × ((received frames).ack ≡ Some said) × (newest : ℕ) × (latest (held_tokens (received frames)) ≡ Some newest) ×
+        ClientReads limits asks octets (events (client_rules limits asks) frames) (record {
+          ack = said;
+          channel = channel;
+          tokens = held_tokens (received frames);
+          newest = newest;
+          pending = pending_calls (received frames).messages (asked_in asks);
+          renewals = pending_renewals (opened_ids (received frames).openings) (asked_in asks);
+          next = next;
+        }) }
+    ensures own_asks { (x : ClientChannel) (asks : List Placed) (octets : List ℕ) (frames : List Frame) (rest : List ℕ) → ClientStands x asks octets frames rest →
+        AllByRecursion (λ (a : Placed). a.0 ≤ length octets) asks × AllByRecursion (λ (a : Asking). id_of a < next_id (asked_in asks)) (asked_in asks) }
 {}
 
 /// Behind any beginning of octets that a server reads, in whatever pieces it came, its channel was
