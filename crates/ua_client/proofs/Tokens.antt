@@ -3,16 +3,11 @@ use Rattle.std.specs.Prelude.{◌≡◌, ◌≢◌, None}
 use Rattle.std.proofs.Common.{refl}
 use Rattle.ua_services.specs.Response.{kind_of}
 use Rattle.ua_services.specs.declared.response.Response.{Response}
-use Rattle.ua_services.specs.declared.response.Response.TheVariants.{GetEndpoints, CreateSession, ActivateSession, CloseSession, Read, Write, ServiceFault}
+use Rattle.ua_services.specs.declared.response.Response.TheVariants.{CreateSession}
 use Rattle.ua_services.specs.declared.response.ResponseKind.TheVariants.{CreateSession as CreateSessionKind}
 use Rattle.ua_client.specs.Session.{token_in}
 use Rattle.ua_client.specs.declared.reply.Reply.TheVariants.{Response as Responds}
 
 pub no_token : (r : Response) → kind_of r ≢ CreateSessionKind → token_in (Responds r) ≡ None
-no_token (GetEndpoints m) h = refl
 no_token (CreateSession m) h = absurd (h refl)
-no_token (ActivateSession m) h = refl
-no_token (CloseSession m) h = refl
-no_token (Read m) h = refl
-no_token (Write m) h = refl
-no_token (ServiceFault m) h = refl
+no_token other h = refl
