@@ -15,8 +15,8 @@ use Rattle.ua_server.specs.declared.serve_fault.ServeFault.TheVariants.{Read, Wr
 use Rattle.ua_server.specs.declared.step.End.{End}
 use Rattle.ua_server.specs.declared.step.End.TheVariants.{Closed, NoClose, Cut, Refused}
 use Rattle.ua_server.specs.declared.watch.AnsweredRequest.{AnsweredRequest}
+use Rattle.ua_services.specs.Request.{request_kind_name}
 use Rattle.ua_services.specs.declared.request.RequestKind.{RequestKind}
-use Rattle.ua_services.specs.declared.request.RequestKind.TheVariants as kind
 use Rattle.ua_texts.specs.Shown.{code_text}
 use Rattle.ua_commands.specs.declared.serve.Halt.{Halt}
 use Rattle.ua_commands.specs.declared.serve.Halt.TheVariants.{Memory, Output}
@@ -97,12 +97,7 @@ pub record IsConnectionLine (number : ℕ) (line : List ℕ) : Type 0 where
 -- the name of a kind of request; none is that of a message that is no request of these services
 abbrev pub kind_name : Option RequestKind → List ℕ
 kind_name None = codes "unknown"
-kind_name (Some kind.GetEndpoints) = codes "GetEndpointsRequest"
-kind_name (Some kind.CreateSession) = codes "CreateSessionRequest"
-kind_name (Some kind.ActivateSession) = codes "ActivateSessionRequest"
-kind_name (Some kind.CloseSession) = codes "CloseSessionRequest"
-kind_name (Some kind.Read) = codes "ReadRequest"
-kind_name (Some kind.Write) = codes "WriteRequest"
+kind_name (Some kind) = request_kind_name kind
 
 -- the line of a request that was answered on a connection: its name, how many items it asks for, and the code of its answer
 unfoldable pub request_line : ℕ → AnsweredRequest → List ℕ

@@ -118,12 +118,7 @@ fn kind_name(kind: Option<RequestKind>) -> &'static str
     ensures { result.now ≡ kind_name kind }
 {
     match kind {
-        Some(RequestKind::GetEndpoints) => "GetEndpointsRequest",
-        Some(RequestKind::CreateSession) => "CreateSessionRequest",
-        Some(RequestKind::ActivateSession) => "ActivateSessionRequest",
-        Some(RequestKind::CloseSession) => "CloseSessionRequest",
-        Some(RequestKind::Read) => "ReadRequest",
-        Some(RequestKind::Write) => "WriteRequest",
+        Some(kind) => kind.name(),
         None => "unknown",
     }
 }

@@ -9,7 +9,7 @@ use ua_builtin::{DateTime, Identifier, NodeId, Octets, UaString, WriteFault};
 use ua_services::{
     ActivateSessionRequest, CloseSessionRequest, CreateSessionRequest, GetEndpointsRequest,
     ReadRequest, ReadValueId, Request, RequestFault, RequestHeader, RequestKind, WriteRequest,
-    WriteValue, read_request, skip_request, write_request,
+    WriteValue, by_kind, read_request, requests, skip_request, write_request,
 };
 use ua_variant::{DataValue, HeldVariant, Variant};
 
@@ -77,14 +77,7 @@ impl Shown for Request {
     fn show(&self, fields: &mut Fields) {
         fields.word(kind_name(self.kind()));
         fields.field("handle", &self.header().request_handle);
-        match self {
-            Request::GetEndpoints(message) => message.show(fields),
-            Request::CreateSession(message) => message.show(fields),
-            Request::ActivateSession(message) => message.show(fields),
-            Request::CloseSession(message) => message.show(fields),
-            Request::Read(message) => message.show(fields),
-            Request::Write(message) => message.show(fields),
-        }
+        requests!(by_kind, self, message, _number => message.show(fields))
     }
 }
 
@@ -94,16 +87,20 @@ impl Message for Request {
     }
 }
 
+/// The name of the service of a kind.
+macro_rules! service_of {
+    ($all:ident $kinds:ident [$($kind:ident($held:ident) = $of:literal,)+] $of_kind:expr) => {
+        match $of_kind {
+            $($kinds::$kind => stringify!($kind),)+
+        }
+    };
+}
+
+pub(crate) use service_of;
+
 /// The name of a kind of request.
 pub fn kind_name(kind: RequestKind) -> &'static str {
-    match kind {
-        RequestKind::GetEndpoints => "GetEndpoints",
-        RequestKind::CreateSession => "CreateSession",
-        RequestKind::ActivateSession => "ActivateSession",
-        RequestKind::CloseSession => "CloseSession",
-        RequestKind::Read => "Read",
-        RequestKind::Write => "Write",
-    }
+    requests!(service_of, kind)
 }
 
 /// What is printed of a request: its kind, its handle, its fields, and what is written for it; or

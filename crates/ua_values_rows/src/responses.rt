@@ -3,7 +3,7 @@
 use crate::fault::Fault;
 use crate::messages::{Message, message_text};
 use crate::octets::octets_of;
-use crate::requests::kind_name;
+use crate::requests::{kind_name, service_of};
 use crate::shown::named;
 use crate::structure_fields::{Fields, Shown};
 use std::alloc::Global;
@@ -11,7 +11,7 @@ use ua_builtin::{Octets, WriteFault};
 use ua_services::{
     ActivateSessionResponse, CloseSessionResponse, CreateSessionResponse, GetEndpointsResponse,
     ReadResponse, RequestKind, Response, ResponseFault, ResponseKind, ServiceFault, WriteResponse,
-    read_response, write_response,
+    by_kind, read_response, requests, responses, write_response,
 };
 
 impl Shown for GetEndpointsResponse {
@@ -80,30 +80,22 @@ impl Shown for Response {
     fn show(&self, fields: &mut Fields) {
         fields.word(response_name(self.kind()));
         fields.field("handle", &self.header().request_handle);
-        match self {
-            Response::GetEndpoints(message) => message.show(fields),
-            Response::CreateSession(message) => message.show(fields),
-            Response::ActivateSession(message) => message.show(fields),
-            Response::CloseSession(message) => message.show(fields),
-            Response::Read(message) => message.show(fields),
-            Response::Write(message) => message.show(fields),
-            Response::ServiceFault(message) => message.show(fields),
-        }
+        responses!(by_kind, self, message, _number => message.show(fields));
         show_answered(self, fields);
     }
+}
+
+/// Each kind.
+macro_rules! kinds {
+    ($all:ident $kinds:ident [$($kind:ident($held:ident) = $of:literal,)+]) => {
+        [$($kinds::$kind),+]
+    };
 }
 
 /// The requests that a response answers.
 fn show_answered(response: &Response, fields: &mut Fields) {
     fields.word("answers");
-    for kind in [
-        RequestKind::GetEndpoints,
-        RequestKind::CreateSession,
-        RequestKind::ActivateSession,
-        RequestKind::CloseSession,
-        RequestKind::Read,
-        RequestKind::Write,
-    ] {
+    for kind in requests!(kinds) {
         if response.answers(kind) {
             fields.word(kind_name(kind));
         }
@@ -117,15 +109,7 @@ impl Message for Response {
 }
 
 fn response_name(kind: ResponseKind) -> &'static str {
-    match kind {
-        ResponseKind::GetEndpoints => "GetEndpoints",
-        ResponseKind::CreateSession => "CreateSession",
-        ResponseKind::ActivateSession => "ActivateSession",
-        ResponseKind::CloseSession => "CloseSession",
-        ResponseKind::Read => "Read",
-        ResponseKind::Write => "Write",
-        ResponseKind::ServiceFault => "ServiceFault",
-    }
+    responses!(service_of, kind)
 }
 
 /// What is printed of a response: its kind, its handle, its fields, the kinds of request that it
