@@ -17,6 +17,7 @@ use ua_channel::{ListMoments, Moments};
 use ua_frame::Limits;
 use ua_nodes::{LoadFault, NodeTable};
 use ua_server::{End, Endpoint, ServeFault, Server, Services, Step, StepFault, serve};
+use ua_uses::serve_connection;
 
 /// What rows have said of a server, and what was begun with it.
 #[derive(Drop)]
@@ -94,6 +95,7 @@ impl Serving {
                 take_pieces(given, self, size as usize, octets.as_slice(), told);
             }
             "held" => self.tell_held(told),
+            "serve-octets" => self.serve_octets(given, words, told),
             _ => self.sweep(given, kind, words, told),
         }
     }
@@ -193,6 +195,31 @@ impl Serving {
             }
             _ => told.fail("no row"),
         }
+    }
+
+    /// How octets end that are served from the beginning of a connection, and what is sent back.
+    fn serve_octets(&mut self, given: &Given, words: &str, told: &mut Told) {
+        let octets = given.octets(words, told);
+        let (Some(services), Some(limits)) = (&mut self.services, self.limits) else {
+            told.fail("no row");
+            return;
+        };
+        let (alloc, channel) = (told.alloc(), self.channel);
+        let mut out = Vec::new(alloc);
+        match serve_connection(
+            alloc,
+            limits,
+            channel,
+            services,
+            octets.as_slice(),
+            given.moment,
+            &mut out,
+        ) {
+            Ok(Some(end)) => tell_end(end, told),
+            Ok(None) => told.word("waits"),
+            Err(_) => told.end("serve-octets: out of memory"),
+        }
+        given.tell_frames(out.as_slice(), told);
     }
 
     /// What comes of octets where they end at any place, or where one of them is another one.
