@@ -1,5 +1,5 @@
 -- What a client's channel makes of a frame in each of its phases.
-use Rattle.std.proofs.Common.{◌≡◌, ℕ, ◌+◌, ◌*◌, ◌≤◌, false, List, [], ◌∷◌, ◌++◌, Option, Some, None, Result, Ok, Err, arith, refl, sym, ◌∙◌, ap, subst}
+use Rattle.std.proofs.Common.{◌≡◌, ℕ, ◌≤◌, false, List, [], ◌∷◌, ◌++◌, Option, Some, None, Result, Ok, Err, arith, refl, sym, ◌∙◌, ap, subst}
 use Rattle.ua_frame.specs.declared.frame.Frame.{Frame}
 use Rattle.ua_frame.specs.declared.gate.Gate.{Gate}
 use Rattle.ua_frame.specs.declared.limits.Limits.{Limits}
@@ -9,10 +9,9 @@ use Rattle.ua_channel.specs.Client.{InPhase, client_bound_behind}
 use Rattle.ua_channel.specs.inside.ClientAsking.{client_phase_gate}
 use Rattle.ua_channel.specs.ClientAsks.{Talks}
 use Rattle.ua_channel.specs.inside.ClientParts.{Judged, TookFrame, IsOpenedBy, TakesFrame, greeted}
-use Rattle.ua_channel.specs.ClientTable.{client_gate, client_reasons, gate_agreed, ack_gate, answer_gate, reply_gate}
+use Rattle.ua_channel.specs.ClientTable.{client_gate, client_reasons, gate_agreed, answer_gate, reply_gate}
 use Rattle.ua_channel.specs.Content.{Content, content}
-use Rattle.ua_channel.specs.Content.Content.{Acks}
-use Rattle.ua_channel.specs.Received.{Received, after, nothing_received}
+use Rattle.ua_channel.specs.Received.{Received, after}
 use Rattle.ua_channel.specs.declared.client.agreed.Agreed.{Agreed}
 use Rattle.ua_channel.specs.declared.client.event.Event.{Event}
 use Rattle.ua_channel.specs.declared.client.event.Event.TheVariants as event
@@ -40,13 +39,6 @@ use Rattle.ua_channel.proofs.ClientGreets.{judged_same}
 use Rattle.ua_channel.proofs.ClientStands.{gate_talking}
 use Rattle.ua_channel.proofs.ClientTalks.{no_responses}
 
--- ---- an ACK
-
-pub greeting_takes : (limits : Limits) (c : Content) (g : Agreed) (bound : ℕ) → c ≡ Acks (Some g.ack) → bound ≡ g.ack.send_buffer_size + 4 * limits.max_message_size
-    → TookFrame limits nothing_received [] c (AgreedTo g) bound (Some (event.Agreed g.ack))
-greeting_takes limits c g bound is bound_is =
-    subst (λ (d : Content). TookFrame limits nothing_received [] d (AgreedTo g) bound (Some (event.Agreed g.ack))) (sym is) (record { tells = refl; parts = tt; phase_is = (refl, refl); bound_is = bound_is })
-
 -- ---- an opening
 
 pub opening_takes : (limits : Limits) (g : Agreed) (c : Content) (t : Talking) (bound : ℕ) → bound ≡ client_bound_behind limits (Some g.ack) → IsOpenedBy limits g c t → TookFrame limits (greeted g) [] c (Open t) bound (Some (event.Opened t.channel t.newest))
@@ -65,13 +57,6 @@ let_in_phase : (limits : Limits) (p : Phase) (before : Received) (asked : List A
 let_in_phase limits p before asked f h l = subst (λ (g : Gate). LetsIn g f) (sym (gate_in limits p before asked h)) l
 
 module _ (limits : Limits) (p : Phase) (before : Received) (asked : List Asking) (f : Frame) (q : Phase) (bound : ℕ) (r : Result (Option Event) StepFault) (in_phase : InPhase limits p before asked) (let_in : LetsIn (client_gate before) f) where
-  pub waiting_judged : p ≡ Waiting → (LetsIn ack_gate f → Judged (client_reasons limits nothing_received [] (content f)) (TookFrame limits nothing_received [] (content f) q bound) r)
-      → Judged (client_reasons limits before asked (content f)) (TookFrame limits before asked (content f) q bound) r
-  waiting_judged is h =
-      let here : InPhase limits Waiting before asked = subst (λ (w : Phase). InPhase limits w before asked) is in_phase in
-      subst (λ (k : List Asking). Judged (client_reasons limits before k (content f)) (TookFrame limits before k (content f) q bound) r) (sym here.1)
-      (subst (λ (b : Received). Judged (client_reasons limits b [] (content f)) (TookFrame limits b [] (content f) q bound) r) (sym here.0) (h (let_in_phase limits Waiting before asked f here let_in)))
-
   pub agreed_judged : (g : Agreed) → p ≡ AgreedTo g → (client_bound_behind limits before.ack ≡ client_bound_behind limits (Some g.ack) → LetsIn (answer_gate g.ack.send_buffer_size) f → Judged (client_reasons limits (greeted g) [] (content f)) (TookFrame limits (greeted g) [] (content f) q bound) r)
       → Judged (client_reasons limits before asked (content f)) (TookFrame limits before asked (content f) q bound) r
   agreed_judged g is h =

@@ -7,7 +7,7 @@ use Rattle.ua_frame.specs.declared.fault.FrameFault.{FrameFault}
 use Rattle.ua_frame.specs.declared.frame.Frame.{Frame}
 use Rattle.ua_frame.specs.declared.gate.Gate.{Gate}
 use Rattle.ua_frame.specs.Frames.{frame_octets, frames_octets}
-use Rattle.ua_frame.specs.Reader.{Reader, open_reader, TakesAll, TakesFrame, Takes}
+use Rattle.ua_frame.specs.Reader.{Reader, open_reader, TakesFrame, Takes}
 use Rattle.ua_frame.specs.Run.{Rules, Run, End, EndsIn, refusal, events, Going, Over}
 use Rattle.ua_frame.proofs.Streams.{frames_octets-push, events-push}
 use Rattle.ua_chunk.specs.Open.{open_octets}
@@ -56,17 +56,6 @@ module _ {R P E : Type 0} (S : Side R P E) where
   module _ (grows : (k : S.Key) (n m : ℕ) → n ≤ m → S.placed k n → S.placed k m) where
     placed_more : (k : S.Key) (octets more : List ℕ) → S.placed k (length octets) → S.placed k (length (octets ++ more))
     placed_more k octets more placed = grows k (length octets) (length (octets ++ more)) (omega (arith, length-append octets more)) placed
-
-    -- a piece without the end of one
-    pub part_goes : (x : EndCore R P) (r : Reader) (k : S.Key) (octets piece : List ℕ) (n : ℕ) (told : List S.Told) → EndGoes S x k octets told → TakesAll x.reader piece n r → EndGoes S (record x { reader = r }) k (octets ++ take n piece) told
-    part_goes x r k octets piece n told g t =
-        let p = part S.Told S.Why (rules_by S x k) octets g.rest piece g.frames x.reader r g.stands.run g.stands.reader_is n t in
-        record {
-          frames = g.frames;
-          rest = g.rest ++ take n piece;
-          stands = record { run = p.0; placed = placed_more k octets (take n piece) g.stands.placed; reader_is = p.1; phase_is = g.stands.phase_is; bound_is = g.stands.bound_is };
-          told_is = g.told_is;
-        }
 
     module _ (x : EndCore R P) (k : S.Key) (octets piece : List ℕ) (n : ℕ) (told : List S.Told) (f : Frame) (r : Reader) (g : EndGoes S x k octets told) (t : TakesFrame x.reader piece n f r) where
       at : TakesFrame (open_reader ((rules_by S x k).gate g.frames) g.rest) piece n f r

@@ -2,7 +2,7 @@
 use Rattle.std.proofs.Common.{◌≡◌, ℕ, ◌+◌, Bool, true, false, IsTrue, not, eqb, List, [], ◌∷◌, ◌++◌, Option, Some, None, Err, option_map, refl, sym, ◌∙◌, ap, subst, arith, map, length, length-append}
 use Rattle.std.specs.Prelude.{IsFalse}
 use Rattle.ua_builtin.specs.Reasons.{first_reason, renamed_reason}
-use Rattle.ua_builtin.proofs.FirstReasons.{first_among, first_behind, first_reason-map}
+use Rattle.ua_builtin.proofs.FirstReasons.{first_behind, first_reason-map}
 use Rattle.ua_frame.specs.declared.limits.Limits.{Limits}
 use Rattle.ua_chunk.specs.declared.chunk.Chunk.{Chunk}
 use Rattle.ua_chunk.specs.declared.fault.AssembleFault.{AssembleFault}
@@ -53,17 +53,6 @@ module _ (limits : Limits) (r : Running) (before : Received) (channel : ℕ) (c 
   pub ids_as : ids_reasons c channel (last_used before) (issued before) ≡ ids_reasons c channel r.used r.issued
   ids_as = ap (λ (n : ℕ). ids_reasons c channel n (issued before)) stays.used_is ∙ ap (ids_reasons c channel r.used) stays.issued_is
 
-  -- its ids are refused
-  pub sends_ids_refused : (code : ℕ) → first_reason (ids_reasons c channel r.used r.issued) ≡ Some code → first_reason (server_reasons limits channel before (Sends c)) ≡ Some code
-  sends_ids_refused code e =
-      judged_sends limits channel before c
-      ∙ first_among (ids_reasons c channel (last_used before) (issued before)) (map (renamed_reason refused_code) (reasons limits.max_message_size limits.max_chunk_count before.last before.messages c)) code (ap first_reason ids_as ∙ e)
-
-  pub closes_ids_refused : (code : ℕ) → first_reason (ids_reasons c channel r.used r.issued) ≡ Some code → first_reason (server_reasons limits channel before (Closes c)) ≡ Some code
-  closes_ids_refused code e =
-      judged_closes limits channel before c
-      ∙ first_among (ids_reasons c channel (last_used before) (issued before)) ((0x8088_0000, not (may_follow before.last c.sequence)) ∷ []) code (ap first_reason ids_as ∙ e)
-
   -- its ids are good
   refusal_as : refusal (octet_limit r.assembler) (chunk_limit r.assembler) (last_number r.assembler) before.messages c ≡ refusal limits.max_message_size limits.max_chunk_count before.last before.messages c
   refusal_as =
@@ -77,12 +66,6 @@ module _ (limits : Limits) (r : Running) (before : Received) (channel : ℕ) (c 
       ∙ (first_behind (ids_reasons c channel (last_used before) (issued before)) (map (renamed_reason refused_code) (reasons limits.max_message_size limits.max_chunk_count before.last before.messages c)) (ap first_reason ids_as ∙ e)
       ∙ (first_reason-map refused_code (reasons limits.max_message_size limits.max_chunk_count before.last before.messages c)
       ∙ ap (option_map refused_code) (sym refusal_as)))
-
-  pub closes_judged : first_reason (ids_reasons c channel r.used r.issued) ≡ None → first_reason (server_reasons limits channel before (Closes c)) ≡ first_reason ((0x8088_0000, not (may_follow (last_number r.assembler) c.sequence)) ∷ [])
-  closes_judged e =
-      judged_closes limits channel before c
-      ∙ (first_behind (ids_reasons c channel (last_used before) (issued before)) ((0x8088_0000, not (may_follow before.last c.sequence)) ∷ []) (ap first_reason ids_as ∙ e)
-      ∙ ap (λ (o : Option ℕ). first_reason ((0x8088_0000, not (may_follow o c.sequence)) ∷ [])) stays.last_is)
 
   -- ---- a MSG
 
