@@ -1,6 +1,6 @@
 -- What is pending, with one ask more, and with one frame more.
-use Rattle.std.proofs.Common.{◌≡◌, ℕ, ◌≤◌, ◌<◌, List, [], ◌∷◌, ◌++◌, Bool, true, false, ◌&&◌, ◌||◌, not, map, refl, sym, ◌∙◌, ap, arith, ltb, eqb, append-nil, subst, ◌+◌, length, length-append}
-use Rattle.std.specs.List.{AllByRecursion, filter}
+use Rattle.std.proofs.Common.{◌≡◌, ℕ, zero, suc, ◌≤◌, ◌<◌, List, [], ◌∷◌, ◌++◌, Bool, true, false, ◌&&◌, ◌||◌, not, map, refl, sym, ◌∙◌, ap, arith, ltb, eqb, append-nil, subst, ◌+◌, length, length-append}
+use Rattle.std.specs.List.{AllByRecursion, filter, range_with_len}
 use Rattle.std.specs.Prelude.{if◌then◌else◌}
 use Rattle.std.proofs.lemmas.Bool.{eqb-true}
 use Rattle.std.proofs.lemmas.List.{flat_map_more, map-append, length-map}
@@ -13,6 +13,30 @@ use Rattle.ua_channel.specs.Asks.{Asking, Placed, id_of, call_in, renewal_in, ca
 use Rattle.ua_channel.specs.Asks.Asking.{Call, Renewal}
 use Rattle.ua_channel.specs.Outgoing.{Outgoing, asks_at}
 use Rattle.ua_channel.specs.inside.ClientParts.{left_pending}
+
+-- ---- numbers that are counted on
+
+-- so many numbers from one on, and more behind them
+pub range-append : (a m n : ℕ) → range_with_len a m ++ range_with_len (a + m) n ≡ range_with_len a (m + n)
+range-append a zero n =
+    let start : a + 0 ≡ a = omega arith in
+    let count : n ≡ 0 + n = omega arith in
+    ap (λ (t : ℕ). range_with_len t n) start ∙ ap (range_with_len a) count
+range-append a (suc m) n =
+    let start : a + suc m ≡ (a + 1) + m = omega arith in
+    let count : suc (m + n) ≡ suc m + n = omega arith in
+    ap (λ (t : ℕ). a ∷ (range_with_len (a + 1) m ++ range_with_len t n)) start
+    ∙ (ap (λ (ts : List ℕ). a ∷ ts) (range-append (a + 1) m n)
+    ∙ ap (range_with_len a) count)
+
+-- one more that is asked, under the next request id
+pub counted_more : (asked : List Asking) (a : Asking) → map id_of asked ≡ range_with_len 2 (length asked) → id_of a ≡ next_id asked → map id_of (asked ++ a ∷ []) ≡ range_with_len 2 (length (asked ++ a ∷ []))
+counted_more asked a counted is =
+    let here : id_of a ≡ 2 + length asked = omega (arith, is) in
+    map-append id_of asked (a ∷ [])
+    ∙ (ap (λ (ids : List ℕ). ids ++ id_of a ∷ []) counted
+    ∙ (ap (λ (n : ℕ). range_with_len 2 (length asked) ++ n ∷ []) here
+    ∙ (range-append 2 (length asked) 1 ∙ ap (range_with_len 2) (sym (length-append asked (a ∷ []))))))
 
 -- ---- all of a list
 

@@ -13,7 +13,7 @@ use Rattle.ua_channel.specs.declared.client.fault.AskFault.TheVariants.{TooManyP
 use Rattle.ua_channel.specs.ClientTokens.{opened_ids}
 use Rattle.ua_channel.specs.Received.{Received, listed}
 use Rattle.ua_channel.specs.declared.client.talking.Talking.{Talking}
-use Rattle.ua_channel.proofs.Askings.{pending_calls-call, pending_calls-renewal, pending_renewals-call, pending_renewals-renewal, all-push, all-weaken}
+use Rattle.ua_channel.proofs.Askings.{counted_more, pending_calls-call, pending_calls-renewal, pending_renewals-call, pending_renewals-renewal, all-push, all-weaken}
 
 -- ---- one call more
 
@@ -36,6 +36,7 @@ talks_call limits t new before asked h is pending few =
       renewal_is = h.renewal_is ∙ sym (pending_renewals-call (opened_ids before.openings) asked t.next);
       next_is = next_more asked (Call t.next) t.next h.next_is;
       asked_below = all-push (λ (a : Asking). id_of a < t.next + 1) asked (Call t.next) (below_more id_of t.next asked h.asked_below) (omega arith);
+      counted = counted_more asked (Call t.next) h.counted h.next_is;
       sent_below = below_more (λ (c : Chunk). c.request) t.next before.messages h.sent_below;
       opened_below = below_more (λ (id : ℕ). id) t.next (opened_ids before.openings) h.opened_below;
       last_is = h.last_is;
@@ -59,6 +60,7 @@ talks_renewal limits t new before asked h is none =
           ∙ sym (pending_renewals-renewal (opened_ids before.openings) asked t.next h.opened_below);
       next_is = next_more asked (Renewal t.next) t.next h.next_is;
       asked_below = all-push (λ (a : Asking). id_of a < t.next + 1) asked (Renewal t.next) (below_more id_of t.next asked h.asked_below) (omega arith);
+      counted = counted_more asked (Renewal t.next) h.counted h.next_is;
       sent_below = below_more (λ (c : Chunk). c.request) t.next before.messages h.sent_below;
       opened_below = below_more (λ (id : ℕ). id) t.next (opened_ids before.openings) h.opened_below;
       last_is = h.last_is;
@@ -80,6 +82,7 @@ talks_as_before limits t new before asked h same =
       renewal_is = h.renewal_is;
       next_is = h.next_is;
       asked_below = h.asked_below;
+      counted = h.counted;
       sent_below = h.sent_below;
       opened_below = h.opened_below;
       last_is = h.last_is;

@@ -30,7 +30,7 @@ use Rattle.ua_channel.specs.inside.ClientParts.{told_by_frame}
 use Rattle.ua_channel.specs.inside.ClientEvents.{event_parts}
 use Rattle.ua_channel.specs.Client.{client_side}
 use Rattle.ua_channel.specs.inside.Parts.{MayEndIn}
-use Rattle.ua_channel.specs.inside.Ends.{ComesNext, IsBehind, JudgesBy, closes_by, parts_by, told_by as told_list}
+use Rattle.ua_channel.specs.inside.Ends.{ComesNext, IsBehind, JudgesNext, closes_by, parts_by, told_if as told_list}
 use Rattle.ua_channel.specs.declared.client.rules.ClientRules.{ClientRules}
 use Rattle.ua_channel.specs.declared.step_fault.StepFault.TheVariants.{Refused, Peer, Closed, OutOfMemory}
 use Rattle.ua_channel.proofs.Askings.{all-weaken, asked_before-all}
@@ -98,7 +98,7 @@ module _ (r : ClientRules) (asks : List Placed) (frames : List Frame) (f : Frame
   behind_is (Some e) h = h
 
   judged_so : (answer : Result (Option Event) StepFault) → refusal (client_rules r.limits asks) frames f ≡ first_reason (client_reasons r.limits (received frames) (asked_in asks) (content f))
-      → Judged (client_reasons r.limits (received frames) (asked_in asks) (content f)) (TookFrame r.limits (received frames) (asked_in asks) (content f) p bound) answer → JudgesBy client_side r asks frames f p bound answer
+      → Judged (client_reasons r.limits (received frames) (asked_in asks) (content f)) (TookFrame r.limits (received frames) (asked_in asks) (content f) p bound) answer → JudgesNext client_side r asks frames f p bound answer
   judged_so (Ok e) so j = record {
     accepted = so ∙ j.0;
     tells = j.1.tells ∙ list_is e;
@@ -116,7 +116,7 @@ module _ (r : ClientRules) (asks : List Placed) (frames : List Frame) (f : Frame
 pub judged : (r : ClientRules) (old p : Phase) (was bound : ℕ) (f : Frame) (answer : Result (Option Event) StepFault)
     → ((before : Received) (asked : List Asking) → InPhase r.limits old before asked → was ≡ client_bound_behind r.limits before.ack → LetsIn (client_gate before) f
     → Judged (client_reasons r.limits before asked (content f)) (TookFrame r.limits before asked (content f) p bound) answer)
-    → (asks : List Placed) (frames : List Frame) → ComesNext client_side r asks old was frames f → JudgesBy client_side r asks frames f p bound answer
+    → (asks : List Placed) (frames : List Frame) → ComesNext client_side r asks old was frames f → JudgesNext client_side r asks frames f p bound answer
 judged r old p was bound f answer judges asks frames next =
     judged_so r asks frames f p bound answer
     (ap (λ (asked : List Asking). first_reason (client_reasons r.limits (received frames) asked (content f))) (asked_before-all (end_of frames f) next.came asks next.later next.placed))

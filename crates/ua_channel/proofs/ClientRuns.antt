@@ -1,6 +1,6 @@
 -- That a client stands as its laws say it behind any good frames, where its channel is open and no message is unfinished.
 use Rattle.std.proofs.Common.{◌≡◌, ℕ, ◌<◌, ◌≤◌, ◌^◌, Bool, true, false, IsTrue, ◌||◌, ltb, List, [], ◌∷◌, ◌++◌, Option, Some, None, length, map, refl, sym, ◌∙◌, ap, subst, arith, append-nil, append_assoc}
-use Rattle.std.specs.List.{AllByRecursion, filter}
+use Rattle.std.specs.List.{AllByRecursion, filter, range_with_len}
 use Rattle.std.proofs.lemmas.Bool.{eqb-true, ltb-false}
 use Rattle.ua_frame.specs.After.{AllAfter, AllFrom}
 use Rattle.ua_frame.specs.Kinds.{lets_in}
@@ -274,7 +274,17 @@ own_below limits (phase.Agreed g) b asked h = subst (λ (ss : List Asking). AllB
 own_below limits (phase.Open t) b asked h = subst (λ (m : ℕ). AllByRecursion (λ (a : Asking). id_of a < m) asked) h.next_is h.asked_below
 own_below limits phase.Done b asked h = absurd h
 
--- they were asked by the end of the octets, under ids below the next one
+own_counted : (limits : Limits) (p : Phase) (b : Received) (asked : List Asking) → InPhase limits p b asked → map id_of asked ≡ range_with_len 2 (length asked)
+own_counted limits phase.Waiting b asked h = subst (λ (ss : List Asking). map id_of ss ≡ range_with_len 2 (length ss)) (sym h.1) refl
+own_counted limits (phase.Agreed g) b asked h = subst (λ (ss : List Asking). map id_of ss ≡ range_with_len 2 (length ss)) (sym h.1) refl
+own_counted limits (phase.Open t) b asked h = h.counted
+own_counted limits phase.Done b asked h = absurd h
+
+-- they were asked by the end of the octets, under ids below the next one, which are counted on from 2
 pub own_asks : (x : ClientChannel) (asks : List Placed) (octets : List ℕ) (frames : List Frame) (rest : List ℕ) → ClientStands x asks octets frames rest
-    → AllByRecursion (λ (a : Placed). a.0 ≤ length octets) asks × AllByRecursion (λ (a : Asking). id_of a < next_id (asked_in asks)) (asked_in asks)
-own_asks x asks octets frames rest s = (s.placed, own_below (client_limits x) (phase_of x) (received frames) (asked_in asks) s.phase_is)
+    → AllByRecursion (λ (a : Placed). a.0 ≤ length octets) asks × AllByRecursion (λ (a : Asking). id_of a < next_id (asked_in asks)) (asked_in asks) × (map id_of (asked_in asks) ≡ range_with_len 2 (length (asked_in asks)))
+own_asks x asks octets frames rest s = (
+  s.placed,
+  own_below (client_limits x) (phase_of x) (received frames) (asked_in asks) s.phase_is,
+  own_counted (client_limits x) (phase_of x) (received frames) (asked_in asks) s.phase_is,
+)

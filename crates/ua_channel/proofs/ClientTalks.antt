@@ -113,6 +113,7 @@ module _ (limits : Limits) (g : Agreed) (a : Answer) (t : Talking) (o : Opening)
     renewal_is = ap listed h.renewal_is ∙ sym (nothing_renewed (opened_ids (o ∷ [])));
     next_is = h.next_is;
     asked_below = tt;
+    counted = refl;
     sent_below = tt;
     opened_below = subst (λ (ids : List ℕ). AllByRecursion (λ (id : ℕ). id < t.next) ids) (sym one_id) (omega (arith, is_first (eqb a.request 1) a.request refl none, h.next_is), tt);
     last_is = ap (number_or None) ans.numbers_are ∙ sym h.last_is;
@@ -185,6 +186,7 @@ module _ (limits : Limits) (t : Talking) (before : Received) (asked : List Askin
           renewal_is = sym (ap (λ (ids : List ℕ). pending_renewals ids asked) more_ids ∙ pending_renewals-more (opened_ids before.openings) a.request asked one);
           next_is = h.next_is;
           asked_below = h.asked_below;
+          counted = h.counted;
           sent_below = h.sent_below;
           opened_below = subst (λ (ids : List ℕ). AllByRecursion (λ (id : ℕ). id < t.next) ids) (sym more_ids) (all-push (λ (id : ℕ). id < t.next) (opened_ids before.openings) a.request h.opened_below below);
           last_is = ap (number_or before.last) ans.numbers_are ∙ sym n.last_is;
@@ -239,6 +241,7 @@ module _ (limits : Limits) (t : Talking) (before : Received) (asked : List Askin
           renewal_is = h.renewal_is;
           next_is = h.next_is;
           asked_below = h.asked_below;
+          counted = h.counted;
           sent_below = all-push (λ (d : Chunk). d.request < t.next) before.messages c h.sent_below below;
           opened_below = h.opened_below;
           last_is = sym n.last_is;

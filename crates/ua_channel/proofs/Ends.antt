@@ -17,7 +17,7 @@ use Rattle.ua_channel.specs.Received.{received}
 use Rattle.ua_channel.specs.declared.end_core.EndCore.{EndCore}
 use Rattle.ua_channel.specs.declared.step_fault.StepFault.{StepFault}
 use Rattle.ua_channel.specs.declared.step_fault.StepFault.TheVariants.{Refused, Peer, Closed, OutOfMemory}
-use Rattle.ua_channel.specs.Ends.{Side, EndDone, EndGoes, EndStands, EndStarves, EndStops, EndTells, HandsOut, rules_by}
+use Rattle.ua_channel.specs.Ends.{Side, EndDone, EndGoes, EndStands, EndStarves, EndStops, EndTells, HandsOutParts, rules_by}
 use Rattle.ua_channel.specs.inside.Ends.{ComesBy, ComesNext, EndNexts, EndSteps, EndTook, FailsBy, IsBehind, JudgesWhole, MovesBy, RefusedBy, SameEnd, TakenBy, TakesWhole, closes_by}
 use Rattle.ua_channel.specs.inside.Parts.{MayEndIn, Moves}
 use Rattle.ua_channel.specs.inside.StepFaults.{least_at, of_frame_fault}
@@ -99,7 +99,7 @@ module _ {R P E : Type 0} (S : Side R P E) where
           told_is = events-push (rules_by S x k) g.frames f ∙ (ap (λ (u : List S.Told). events (rules_by S x k) g.frames ++ u) h.taken.tells ∙ (append-nil (events (rules_by S x k) g.frames) ∙ g.told_is));
         }
 
-        hands_out : (e : E) → TakesWhole S (end_with x z p b) k g.frames f (Some e) → S.closes e ≡ false → (o : Option (List (List ℕ))) → MayEndIn (received g.frames).messages (content f) o → HandsOut S o (end_with x z p b) k (octets ++ take n piece)
+        hands_out : (e : E) → TakesWhole S (end_with x z p b) k g.frames f (Some e) → S.closes e ≡ false → (o : Option (List (List ℕ))) → MayEndIn (received g.frames).messages (content f) o → HandsOutParts S o (end_with x z p b) k (octets ++ take n piece)
         hands_out e h goes None ends = tt
         hands_out e h goes (Some parts) ends = record { frames = g.frames; frame = f; stands = stands_more (Some e) h goes; ends = ends }
 

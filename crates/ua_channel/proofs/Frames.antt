@@ -24,14 +24,14 @@ use Rattle.ua_channel.specs.Content.Content.{Greets, Closes}
 use Rattle.ua_channel.specs.Received.{Received, nothing_received, or_before, after}
 use Rattle.ua_channel.specs.inside.ServerParts.{AgreesTo, IsRefusalFor, IsRefused, JudgesHello, Judges, JudgesClose}
 use Rattle.ua_channel.specs.ServerStands.{HasGreeted, InServerPhase, bound_behind, bound_after}
-use Rattle.ua_channel.specs.inside.ServerFrames.{phase_gate, GoesOn, JudgesFrame, TakesFrame}
+use Rattle.ua_channel.specs.inside.ServerFrames.{phase_gate, GoesOn, JudgesFrame, ServerTakesFrame}
 use Rattle.ua_channel.specs.ServerRules.{opening_gate, running_gate}
 use Rattle.ua_channel.specs.ServerTold.{Told as told, server_tells}
 use Rattle.ua_frame.specs.declared.gate.Gate.{Gate}
 use Rattle.ua_channel.specs.inside.Parts.{MayEndIn}
 use Rattle.ua_channel.specs.inside.ServerEvents.{parts_of, told_list, told_of}
 use Rattle.ua_channel.specs.ServerStands.{server_side}
-use Rattle.ua_channel.specs.inside.Ends.{ComesNext, IsBehind, JudgesBy, TakenBy, closes_by, parts_by, told_by}
+use Rattle.ua_channel.specs.inside.Ends.{ComesNext, IsBehind, JudgesNext, TakenBy, closes_by, parts_by, told_if}
 use Rattle.ua_channel.specs.Received.{received}
 use Rattle.ua_channel.proofs.OneFrameMore.{received-push}
 use Rattle.ua_channel.proofs.Phases.{closing, gate_is, silent_open, telling_open}
@@ -135,7 +135,7 @@ last_is limits before c (Some (event.Asked id token message)) tells goes = telli
 last_is limits before c (Some (event.Aborted id)) tells goes = telling_open limits before c (told_of (event.Aborted id)) tells (λ z. absurd cc) goes
 last_is limits before c (Some event.Closed) tells goes = closing limits before c tells
 
-list_is : (e : Option Event) → told_list e ≡ told_by server_side e
+list_is : (e : Option Event) → told_list e ≡ told_if server_side e
 list_is None = refl
 list_is (Some e) = refl
 
@@ -148,7 +148,7 @@ module _ (r : ServerRules) (frames : List Frame) (f : Frame) (p : Phase) (bound 
   behind_is false h = subst (InServerPhase r.limits p) (sym (received-push frames f)) h
   behind_is true h = h
 
-  taken_so : (e : Option Event) → (received frames).closed ≡ false → TakesFrame r (received frames) (content f) p bound e → TakenBy server_side r tt frames f p bound e
+  taken_so : (e : Option Event) → (received frames).closed ≡ false → ServerTakesFrame r (received frames) (content f) p bound e → TakenBy server_side r tt frames f p bound e
   taken_so e goes t =
       let last = last_is r.limits (received frames) (content f) e t.takes.tells goes in
       record {
@@ -160,7 +160,7 @@ module _ (r : ServerRules) (frames : List Frame) (f : Frame) (p : Phase) (bound 
         bound_is = t.bound_is ∙ ap (bound_after r.limits) (sym (received-push frames f));
       }
 
-  judged_so : (answer : Result (Option Event) StepFault) → (received frames).closed ≡ false → JudgesFrame r (received frames) (content f) p bound answer → JudgesBy server_side r tt frames f p bound answer
+  judged_so : (answer : Result (Option Event) StepFault) → (received frames).closed ≡ false → JudgesFrame r (received frames) (content f) p bound answer → JudgesNext server_side r tt frames f p bound answer
   judged_so (Ok e) goes j = taken_so e goes j
   judged_so (Err (Refused code)) goes j = j
   judged_so (Err (Peer code)) goes j = j
@@ -170,7 +170,7 @@ module _ (r : ServerRules) (frames : List Frame) (f : Frame) (p : Phase) (bound 
 -- what is made of one that comes next
 pub judged : (r : ServerRules) (old p : Phase) (was bound : ℕ) (f : Frame) (answer : Result (Option Event) StepFault)
     → ((before : Received) → InServerPhase r.limits old before → was ≡ bound_after r.limits before → IsTrue (lets_in (phase_gate old) f.kind) → JudgesFrame r before (content f) p bound answer)
-    → (k : Unit {0}) (frames : List Frame) → ComesNext server_side r k old was frames f → JudgesBy server_side r k frames f p bound answer
+    → (k : Unit {0}) (frames : List Frame) → ComesNext server_side r k old was frames f → JudgesNext server_side r k frames f p bound answer
 judged r old p was bound f answer judges k frames next =
     let here : IsTrue (lets_in (phase_gate old) f.kind) = subst (λ (g : Gate). IsTrue (lets_in g f.kind)) (sym (gate_is r.limits old (received frames) next.holds)) next.let_in.kind in
     judged_so r frames f p bound answer (open_before r.limits old (received frames) next.holds) (judges (received frames) next.holds next.bound_is here)

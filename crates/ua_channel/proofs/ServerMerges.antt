@@ -1,5 +1,5 @@
 -- That a server reads merged messages with renewals among them from where it stands, what they tell it, and where it stands behind them.
-use Rattle.std.proofs.Common.{◌≡◌, ℕ, zero, suc, ◌+◌, ◌<◌, ◌≤◌, ◌^◌, true, false, leb, List, [], ◌∷◌, ◌++◌, Option, Some, None, length, map, refl, sym, ◌∙◌, ap, subst, arith, append-nil, append_assoc, length-append}
+use Rattle.std.proofs.Common.{◌≡◌, ℕ, ◌+◌, ◌<◌, ◌≤◌, ◌^◌, true, false, leb, List, [], ◌∷◌, ◌++◌, Option, Some, None, length, map, refl, sym, ◌∙◌, ap, subst, arith, append-nil, append_assoc, length-append}
 use Rattle.std.specs.List.{filter, range_with_len}
 use Rattle.std.proofs.lemmas.Bool.{and_from, eq-eqb, eqb-false, le-leb}
 use Rattle.std.proofs.lemmas.List.Concat.{flat_map-append}
@@ -28,6 +28,7 @@ use Rattle.ua_channel.specs.ServerReads.{AtServer, ServerReads}
 use Rattle.ua_channel.specs.ServerRefusals.{last_used}
 use Rattle.ua_channel.specs.ServerRules.{receive_size, server_rules}
 use Rattle.ua_channel.specs.ServerTold.{Told, issued, opened_by, request_behind, request_of, server_tells, told_under}
+use Rattle.ua_channel.proofs.Askings.{range-append}
 use Rattle.ua_channel.proofs.MergedChunks.{Comes, EachEnds, closed_fresh, comes, given_fresh, outcomes_once, takes_fresh, told_new}
 use Rattle.ua_channel.proofs.MergedFrames.{all_told, at_end, each_along, goes_follows, goes_ordered, goes_small, latest_or-append, next_follows, of_either, openings-more, sized}
 use Rattle.ua_channel.proofs.ReadOn.{events_on, run_on}
@@ -48,18 +49,6 @@ token_opened token (Some m) body r e = ap (λ (q : Option OpenRequest). tokens_t
 request_token : (channel count token : ℕ) (o : Opening) → IsGoodRequest channel count o → tokens_told (opened_by token o.numbers (request_of o)) ≡ token ∷ []
 unfolding request_of
 request_token channel count token o g = token_opened token o.numbers o.body g.request g.request_is
-
-range-append : (a m n : ℕ) → range_with_len a m ++ range_with_len (a + m) n ≡ range_with_len a (m + n)
-range-append a zero n =
-    let start : a + 0 ≡ a = omega arith in
-    let count : n ≡ 0 + n = omega arith in
-    ap (λ (t : ℕ). range_with_len t n) start ∙ ap (range_with_len a) count
-range-append a (suc m) n =
-    let start : a + suc m ≡ (a + 1) + m = omega arith in
-    let count : suc (m + n) ≡ suc m + n = omega arith in
-    ap (λ (t : ℕ). a ∷ (range_with_len (a + 1) m ++ range_with_len t n)) start
-    ∙ (ap (λ (ts : List ℕ). a ∷ ts) (range-append (a + 1) m n)
-    ∙ ap (range_with_len a) count)
 
 -- ---- messages of one request id
 

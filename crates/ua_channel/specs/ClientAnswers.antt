@@ -6,7 +6,7 @@ use Rattle.ua_frame.specs.declared.ack.Ack.{Ack}
 use Rattle.ua_frame.specs.Frames.{frame_octets}
 use Rattle.ua_channel.specs.Asks.{Placed}
 use Rattle.ua_channel.specs.Client.{ClientGoes, ClientGoesTelling, ClientEnded, IsClientDone, client_side}
-use Rattle.ua_channel.specs.Ends.{HandsOut}
+use Rattle.ua_channel.specs.Ends.{HandsOutParts}
 use Rattle.ua_channel.specs.ClientSends.{first_open}
 use Rattle.ua_channel.specs.ClientTold.{ClientTold, ClientTold as told}
 use Rattle.ua_channel.specs.declared.client.channel.ClientChannel.{ClientChannel}
@@ -51,7 +51,7 @@ parts_handed other = None
 
 -- a message, where one is handed out behind these octets, comes in the parts in which its chunks brought it
 abbrev pub ComesInParts : Option (List (List ℕ)) → ClientChannel → List Placed → List ℕ → Type 0
-ComesInParts parts new asks octets = HandsOut client_side parts new.end asks octets
+ComesInParts parts new asks octets = HandsOutParts client_side parts new.end asks octets
 
 -- what is taken is within the piece, and is something unless the piece is empty
 abbrev pub ClientProgress : {A : Type 0} → List ℕ → Result (ℕ × A) ClientTakeFault → Type 0

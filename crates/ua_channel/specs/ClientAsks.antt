@@ -1,6 +1,6 @@
 -- What a client sends when it is asked, and why it sends nothing: by what it received and asked, and by what an open channel keeps.
-use Rattle.std.specs.Prelude.{◌≡◌, ℕ, ◌+◌, ◌-◌, ◌<◌, ◌≤◌, nat_le, Bool, ◌||◌, is_none, is_some, length, List, [], ◌∷◌, Option, Some, None, Result, Ok, Err}
-use Rattle.std.specs.List.{AllByRecursion}
+use Rattle.std.specs.Prelude.{◌≡◌, ℕ, ◌+◌, ◌-◌, ◌<◌, ◌≤◌, nat_le, Bool, ◌||◌, is_none, is_some, length, map, List, [], ◌∷◌, Option, Some, None, Result, Ok, Err}
+use Rattle.std.specs.List.{AllByRecursion, range_with_len}
 use Rattle.ua_builtin.specs.declared.date_time.DateTime.{DateTime}
 use Rattle.ua_frame.specs.declared.ack.Ack.{Ack}
 use Rattle.ua_frame.specs.declared.limits.Limits.{Limits}
@@ -129,6 +129,7 @@ pub record Talks (limits : Limits) (t : Talking) (before : Received) (asked : Li
   pub renewal_is : listed t.renewal ≡ pending_renewals (opened_ids before.openings) asked
   pub next_is : t.next ≡ next_id asked
   pub asked_below : AllByRecursion (λ (a : Asking). id_of a < t.next) asked
+  pub counted : map id_of asked ≡ range_with_len 2 (length asked)
   pub sent_below : AllByRecursion (λ (c : Chunk). c.request < t.next) before.messages
   pub opened_below : AllByRecursion (λ (id : ℕ). id < t.next) (opened_ids before.openings)
   pub last_is : before.last ≡ last_number t.assembler

@@ -106,6 +106,6 @@ pub record EndStarves {R P E : Type 0} (S : Side R P E) (x : EndCore R P) (k : S
   pub within : (length rest ≡ 8) ⊎ (length rest ≤ size_of rest)
 
 -- a message, where one is handed out behind these octets, comes in the parts in which its chunks brought it
-abbrev pub HandsOut : {R P E : Type 0} (S : Side R P E) → Option (List (List ℕ)) → EndCore R P → (k : S.Key) → List ℕ → Type 0
-HandsOut S None x k octets = Unit {0}
-HandsOut S (Some parts) x k octets = EndMessage S x k octets parts
+abbrev pub HandsOutParts : {R P E : Type 0} (S : Side R P E) → Option (List (List ℕ)) → EndCore R P → (k : S.Key) → List ℕ → Type 0
+HandsOutParts S None x k octets = Unit {0}
+HandsOutParts S (Some parts) x k octets = EndMessage S x k octets parts

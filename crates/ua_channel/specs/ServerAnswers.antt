@@ -10,7 +10,7 @@ use Rattle.ua_channel.specs.declared.server_event.ServerEvent.TheVariants.{NeedM
 use Rattle.ua_channel.specs.declared.server_event.ServerEvent.TheVariants as event
 use Rattle.ua_channel.specs.declared.server_fault.ChannelFault.{ChannelFault}
 use Rattle.ua_channel.specs.declared.server_fault.ChannelFault.TheVariants.{Refused, Closed, OutOfMemory}
-use Rattle.ua_channel.specs.Ends.{HandsOut}
+use Rattle.ua_channel.specs.Ends.{HandsOutParts}
 use Rattle.ua_channel.specs.ServerSends.{AreSent, counted_by}
 use Rattle.ua_channel.specs.ServerStands.{next_of, server_side, IsDone, Goes, GoesTelling, ClosedAt, RefusedAt}
 use Rattle.ua_channel.specs.ServerTold.{Told}
@@ -46,7 +46,7 @@ parts_asked other = None
 
 -- a message, where one is handed out behind these octets, comes in the parts in which its chunks brought it
 abbrev pub AsksInParts : Option (List (List ℕ)) → ServerChannel → List ℕ → Type 0
-AsksInParts parts new octets = HandsOut server_side parts new.end tt octets
+AsksInParts parts new octets = HandsOutParts server_side parts new.end tt octets
 
 -- how many octets of a piece are taken with an event: all where nothing came, else some
 abbrev pub Counts : List ℕ → ℕ → ServerEvent → Type 0

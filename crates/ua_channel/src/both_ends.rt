@@ -6,8 +6,8 @@
 //! `ClientReads` where the client is behind what the server wrote, whatever the pieces in which it
 //! came.
 
-ghost use Rattle.std.specs.Prelude.{◌≡◌, ◌<◌, ◌≤◌, ◌+◌, ◌^◌, ◌∷◌, ◌++◌, [], ℕ, List, Option, None, Some, IsTrue, IsFalse, length};
-ghost use Rattle.std.specs.List.{AllByRecursion};
+ghost use Rattle.std.specs.Prelude.{◌≡◌, ◌<◌, ◌≤◌, ◌+◌, ◌^◌, ◌∷◌, ◌++◌, [], ℕ, List, Option, None, Some, IsTrue, IsFalse, length, map};
+ghost use Rattle.std.specs.List.{AllByRecursion, range_with_len};
 ghost use Rattle.ua_builtin.specs.DateTime.{date_time};
 ghost use Rattle.ua_builtin.specs.Reasons.{first_reason};
 ghost use Rattle.ua_builtin.specs.declared.date_time.DateTime.{DateTime};
@@ -80,7 +80,7 @@ pub fn server_reads_close()
 
 /// Whatever came before: behind whole frames that are good, with its channel open and no message
 /// unfinished, a server stands as the laws here say it, with any number next that may follow and is at
-/// most 4294966272. There is one.
+/// most 4294966272. There is such a number.
 pub fn server_reads_run()
     ensures reads { (limits : Limits) (channel : ℕ) (octets : List ℕ) (frames : List Frame) → Run (server_rules limits channel) octets frames [] Going → 0 < issued (received frames) → open_ids (received frames).messages ≡ [] →
         (next : ℕ) → IsTrue (may_follow (received frames).last next) → next ≤ 4294966272 →
@@ -130,7 +130,7 @@ pub fn client_reads_renewed()
 /// Whatever came before, and whatever was asked: behind whole frames that are good, with its channel
 /// open and no message unfinished, a client stands as the laws here say it, with any number next that
 /// may follow and is at most 4294966272. All was asked by then, under request ids below the next one, as
-/// what a channel asks is. There is a newest of the tokens that it holds.
+/// what a channel asks is, whose ids are counted on from 2. There is a newest of the tokens that it holds.
 pub fn client_reads_run()
     ensures reads { (limits : Limits) (asks : List Placed) (octets : List ℕ) (frames : List Frame) → Run (client_rules limits asks) octets frames [] Going →
         AllByRecursion (λ (a : Placed). a.0 ≤ length octets) asks → AllByRecursion (λ (a : Asking). id_of a < next_id (asked_in asks)) (asked_in asks) →
@@ -147,7 +147,8 @@ pub fn client_reads_run()
           next = next;
         }) }
     ensures own_asks { (x : ClientChannel) (asks : List Placed) (octets : List ℕ) (frames : List Frame) (rest : List ℕ) → ClientStands x asks octets frames rest →
-        AllByRecursion (λ (a : Placed). a.0 ≤ length octets) asks × AllByRecursion (λ (a : Asking). id_of a < next_id (asked_in asks)) (asked_in asks) }
+        AllByRecursion (λ (a : Placed). a.0 ≤ length octets) asks × AllByRecursion (λ (a : Asking). id_of a < next_id (asked_in asks)) (asked_in asks)
+        × (map id_of (asked_in asks) ≡ range_with_len 2 (length (asked_in asks))) }
 {}
 
 /// Behind any beginning of octets that a server reads, in whatever pieces it came, its channel was

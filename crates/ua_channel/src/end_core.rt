@@ -1,13 +1,13 @@
 //! What both ends of a connection keep, and their one loop over frames.
 
-ghost use Rattle.std.specs.Prelude.{◌≡◌, ◌+◌, ◌≤◌, ◌++◌, ℕ, [], List, length, OnErr};
+ghost use Rattle.std.specs.Prelude.{◌≡◌, ◌+◌, ◌≤◌, ℕ, [], List, length, OnErr};
 ghost use Rattle.ua_chunk.specs.Open.{open_octets};
 ghost use Rattle.ua_frame.specs.declared.frame.Frame.{Frame};
 ghost use Rattle.ua_frame.specs.Reader.{open_reader};
 ghost use Rattle.ua_channel.specs.Received.{received};
 ghost use Rattle.ua_channel.specs.inside.Parts.{HasShape};
 ghost use Rattle.ua_channel.specs.Ends.{Side};
-ghost use Rattle.ua_channel.specs.inside.Ends.{ComesNext, JudgesBy};
+ghost use Rattle.ua_channel.specs.inside.Ends.{ComesNext, JudgesNext};
 
 use crate::numbers::Numbers;
 use crate::step_fault::StepFault;
@@ -40,7 +40,7 @@ pub trait EndRules<P> {
     ) -> Result<Option<Self::Event>, StepFault>
         requires shape { HasShape frame }
         ensures judges { (k : side.Key) (frames : List Frame) → ComesNext side self.now k phase.old bound.old frames frame
-            → JudgesBy side self.now k frames frame phase.new bound.new result }
+            → JudgesNext side self.now k frames frame phase.new bound.new result }
         ensures failed { OnErr result (bound.new ≡ bound.old) };
 
     /// How many octets are held of unfinished messages.
@@ -68,7 +68,7 @@ pub struct EndCore<R, P> {
 }
 
 impl<R: EndRules<P>, P: Drop> EndCore<R, P> {
-    ghost use Rattle.std.specs.Prelude.{IfOk, take, Some};
+    ghost use Rattle.std.specs.Prelude.{take, Some};
     ghost use Rattle.ua_channel.specs.Ends.{EndStands, EndGoes, EndDone};
     ghost use Rattle.ua_channel.specs.inside.Ends.{EndSteps, EndNexts, JudgesWhole, MovesBy};
 

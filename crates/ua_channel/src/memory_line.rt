@@ -1,7 +1,7 @@
 //! A line over memory.
 
-ghost use Rattle.std.specs.Prelude.{◌≡◌, ◌≤◌, ◌<◌, ◌++◌, ℕ, List, [], Some, Option, length, drop, take, min, IfOk, Ok, option_map};
-ghost use Rattle.ua_channel.specs.Line.{Traffic, HandsOut, Takes, WhereTold, failures_after};
+ghost use Rattle.std.specs.Prelude.{◌≡◌, ◌≤◌, ◌<◌, [], Some, Option, length, drop, min, IfOk, Ok};
+ghost use Rattle.ua_channel.specs.Line.{HandsOut, Takes, failures_after};
 ghost use Rattle.ua_channel.specs.MemoryLine.{Pace as Calls, Memory, moves, after_call, traffic_of};
 
 use crate::line::{Line, LineFault};

@@ -53,10 +53,10 @@ pub fn cut_bodies_merge()
 /// From where a server stands, with its channel open, it reads requests under request ids of their own,
 /// cut in any way within its limits and each ending in an F or given up by an A that reads, whose chunks
 /// come merged in any way with at most 4 unfinished after each, and OPNs that renew the token anywhere
-/// among them, from any number on that may come next. It refuses none. It stands behind them with a token more for each renewal, the last token
-/// that a chunk used, and the number that is next. So merges are chained with what comes before and
-/// behind: `server_follows` follows them all. It is told each message at its last chunk, once under its
-/// request id, and each renewal with the next token.
+/// among them, from any number on that may come next. It refuses none. It stands behind them with a token
+/// more for each renewal, the last token that a chunk used, and the number that is next. So merges are
+/// chained with what comes before and behind: `server_follows` follows them all. It is told each message
+/// at its last chunk, once under its request id, and each renewal with the next token.
 pub fn server_reads_merged()
     ensures reads { (limits : Limits) (channel : ℕ) (octets : List ℕ) (told : List Told) (at : AtServer) (first : ℕ) (ms : List Sent) (more : List Frame) (next : ℕ) →
         ServerReads limits channel octets told at → MayComeNext (server_rules limits channel) octets first → ServerMerge limits channel (record at { next = first }) ms more next →

@@ -1,6 +1,6 @@
 //! An open channel, at a server.
 
-ghost use Rattle.std.specs.Prelude.{◌≡◌, pos, option_map};
+ghost use Rattle.std.specs.Prelude.{◌≡◌, option_map};
 
 use crate::agreement::Agreement;
 use crate::server_event::Event;
@@ -26,7 +26,7 @@ pub struct Running {
 }
 
 impl Running {
-    ghost use Rattle.std.specs.Prelude.{◌<◌, ◌≤◌, ◌+◌, ◌^◌, ◌*◌, length, List, IfOk, Some};
+    ghost use Rattle.std.specs.Prelude.{◌<◌, ◌≤◌, ◌+◌, ◌^◌, ◌*◌, length, Some};
     ghost use Rattle.ua_builtin.specs.Reasons.{first_reason};
     ghost use Rattle.ua_frame.specs.declared.limits.Limits.{Limits};
     ghost use Rattle.ua_chunk.specs.declared.chunk.Chunk.{Chunk};

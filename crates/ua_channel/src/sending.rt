@@ -1,6 +1,6 @@
 //! What a server sends.
 
-ghost use Rattle.std.specs.Prelude.{◌≡◌, ◌<◌, ◌≤◌, ◌+◌, ◌++◌, ◌^◌, ℕ, List, length, IfOk, OnOk};
+ghost use Rattle.std.specs.Prelude.{◌≡◌, ◌<◌, ◌+◌, ◌++◌, ◌^◌, ℕ, List, length, IfOk, OnOk};
 ghost use Rattle.ua_frame.specs.Frames.{frame_octets};
 ghost use Rattle.ua_frame.specs.Messages.{ack_frame};
 ghost use Rattle.ua_channel.specs.ServerSends.{opening_frame, opened_frame, IsReply};

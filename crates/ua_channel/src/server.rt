@@ -42,22 +42,16 @@ pub struct ServerChannel {
 }
 
 impl ServerChannel {
-    ghost use Rattle.std.specs.Prelude.{◌≡◌, ◌≢◌, ◌<◌, ◌≤◌, ◌+◌, ◌++◌, ◌^◌, ◌↔◌, [], ℕ, List, length, take, None, Some, Ok, Err, IfOk, IfSome, MatchOption, MatchResult, OnOk, OnErr, IsErrOf, IsTrue};
+    ghost use Rattle.std.specs.Prelude.{◌≡◌, ◌<◌, ◌≤◌, ◌+◌, ◌++◌, ◌^◌, ◌↔◌, [], ℕ, List, length, take, None, Some, Ok, Err, IfOk, IfSome, MatchOption, MatchResult, OnOk, OnErr, IsErrOf, IsTrue};
     ghost use Rattle.ua_frame.specs.declared.frame.Frame.{Frame};
-    ghost use Rattle.ua_frame.specs.declared.kind.Kind.TheVariants.{Msg};
-    ghost use Rattle.ua_frame.specs.Kinds.{lets_in};
     ghost use Rattle.ua_chunk.specs.Cutting.{most_octets};
     ghost use Rattle.ua_chunk.specs.declared.lane.Lane.{Lane};
-    ghost use Rattle.ua_chunk.specs.Open.{open_ids, open_octets};
-    ghost use Rattle.ua_channel.specs.Content.{content};
-    ghost use Rattle.ua_channel.specs.inside.Parts.{HasShape};
-    ghost use Rattle.ua_channel.specs.Received.{Received, received};
+    ghost use Rattle.ua_chunk.specs.Open.{open_ids};
+    ghost use Rattle.ua_channel.specs.Received.{received};
     ghost use Rattle.ua_channel.specs.ServerAnswers.{Progress, AnswersAt, ServerAnswers, AsksInParts, parts_asked};
     ghost use Rattle.ua_channel.specs.inside.ServerSteps.{AnswersTo, StandsWith};
-    ghost use Rattle.ua_channel.specs.inside.ServerEvents.{parts_of};
-    ghost use Rattle.ua_channel.specs.ServerStands.{StarvedAt, Stays, limits_of, channel_of, next_of, bound_of, HasNoToken, IsWithoutToken, Stands, Goes, IsDone, bound_after, held_after};
+    ghost use Rattle.ua_channel.specs.ServerStands.{StarvedAt, limits_of, channel_of, next_of, bound_of, HasNoToken, IsWithoutToken, Stands, Goes, IsDone, bound_after, held_after};
     ghost use Rattle.ua_channel.specs.inside.ServerFrames.{LaneIs};
-    ghost use Rattle.ua_channel.specs.ServerRules.{receive_size};
     ghost use Rattle.ua_channel.specs.ServerSends.{IsReply, RepliesGo};
     ghost use Rattle.ua_channel.specs.ServerTold.{Told};
     ghost use Rattle.ua_channel.specs.declared.server.Phase.TheVariants as phase;

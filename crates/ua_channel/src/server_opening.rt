@@ -3,7 +3,6 @@
 ghost use Rattle.std.specs.Prelude.{◌≡◌, option_map};
 ghost use Rattle.ua_builtin.specs.Reasons.{first_reason};
 ghost use Rattle.ua_channel.specs.inside.ServerParts.{AsksFor, ReadsAsked, asked_reasons, JudgesOpening};
-ghost use Rattle.ua_channel.specs.ServerTold.{lifetime_for};
 
 use crate::server_event::Event;
 use crate::step_fault::StepFault;

@@ -6,7 +6,7 @@ use Rattle.ua_frame.specs.Reader.{open_reader}
 use Rattle.ua_frame.specs.Run.{refusal}
 use Rattle.ua_channel.specs.Asks.{end_of}
 use Rattle.ua_channel.specs.Content.{content}
-use Rattle.ua_channel.specs.Ends.{Side, EndDone, EndGoes, EndOver, EndStarves, EndStops, EndTells, HandsOut, rules_by}
+use Rattle.ua_channel.specs.Ends.{Side, EndDone, EndGoes, EndOver, EndStarves, EndStops, EndTells, HandsOutParts, rules_by}
 use Rattle.ua_channel.specs.Received.{received}
 use Rattle.ua_channel.specs.inside.Parts.{IsFaultFor, MayEndIn, Moves}
 use Rattle.ua_channel.specs.declared.end_core.EndCore.{EndCore}
@@ -21,9 +21,9 @@ SameEnd a b = b ≡ record a { reader = b.reader; bound = b.bound; phase = b.pha
 
 module _ {R P E : Type 0} (S : Side R P E) where
   -- what is told, if a frame comes to something; whether it is the last; the parts of its message, if it hands one out
-  abbrev pub told_by : Option E → List S.Told
-  told_by None = []
-  told_by (Some e) = S.tells e ∷ []
+  abbrev pub told_if : Option E → List S.Told
+  told_if None = []
+  told_if (Some e) = S.tells e ∷ []
 
   abbrev pub closes_by : Option E → Bool
   closes_by None = false
@@ -50,7 +50,7 @@ pub record ComesNext {R P E : Type 0} (S : Side R P E) (r : R) (k : S.Key) (p : 
 -- a frame is taken behind these, and comes to this; where the end then is
 pub record TakenBy {R P E : Type 0} (S : Side R P E) (r : R) (k : S.Key) (frames : List Frame) (f : Frame) (p : P) (bound : ℕ) (e : Option E) : Type 0 where
   pub accepted : refusal (S.rules r k) frames f ≡ None
-  pub tells : (S.rules r k).tells frames f ≡ told_by S e
+  pub tells : (S.rules r k).tells frames f ≡ told_if S e
   pub last : (S.rules r k).over (frames ++ f ∷ []) ≡ closes_by S e
   pub parts : MayEndIn (received frames).messages (content f) (parts_by S e)
   pub behind : IsBehind S (closes_by S e) r k p (frames ++ f ∷ [])
@@ -62,15 +62,15 @@ RefusedBy S r k frames f fault =
     IsFaultFor (λ (code : ℕ). refusal (S.rules r k) frames f ≡ Some ((S.rules r k).of_header code)) (λ (code : ℕ). MatchOption (S.peer code) ⊥ (λ (why : S.Why). refusal (S.rules r k) frames f ≡ Some why)) fault
 
 -- what is made of a frame behind these
-abbrev pub JudgesBy : {R P E : Type 0} (S : Side R P E) → R → (k : S.Key) → List Frame → Frame → P → ℕ → Result (Option E) StepFault → Type 0
-JudgesBy S r k frames f p bound (Ok e) = TakenBy S r k frames f p bound e
-JudgesBy S r k frames f p bound (Err fault) = RefusedBy S r k frames f fault
+abbrev pub JudgesNext : {R P E : Type 0} (S : Side R P E) → R → (k : S.Key) → List Frame → Frame → P → ℕ → Result (Option E) StepFault → Type 0
+JudgesNext S r k frames f p bound (Ok e) = TakenBy S r k frames f p bound e
+JudgesNext S r k frames f p bound (Err fault) = RefusedBy S r k frames f fault
 
 -- ---- where the end then stands
 
 -- behind the frame of an event, by whether that is the last
 abbrev pub ComesBy : {R P E : Type 0} (S : Side R P E) → Bool → EndCore R P → (k : S.Key) → List ℕ → List S.Told → E → Type 0
-ComesBy S false x k octets told e = EndTells S x k octets told (S.tells e) × HandsOut S (S.parts e) x k octets
+ComesBy S false x k octets told e = EndTells S x k octets told (S.tells e) × HandsOutParts S (S.parts e) x k octets
 ComesBy S true x k octets told e = EndOver S x k octets (told ++ S.tells e ∷ [])
 
 -- with a fault

@@ -39,12 +39,12 @@ GoesOn false limits p before = InServerPhase limits p before
 GoesOn true limits p before = p ≡ Done
 
 -- a frame that carries this is taken, and comes to this; where the connection then is
-pub record TakesFrame (r : ServerRules) (before : Received) (c : Content) (p : Phase) (bound : ℕ) (e : Option Event) : Type 0 where
+pub record ServerTakesFrame (r : ServerRules) (before : Received) (c : Content) (p : Phase) (bound : ℕ) (e : Option Event) : Type 0 where
   pub takes : TakesSo r.limits r.channel before c e
   pub goes : GoesOn (after before c).closed r.limits p (after before c)
   pub bound_is : bound ≡ bound_after r.limits (after before c)
 
 -- what is made of a frame that carries this
 abbrev pub JudgesFrame : ServerRules → Received → Content → Phase → ℕ → Result (Option Event) StepFault → Type 0
-JudgesFrame r before c p bound (Ok e) = TakesFrame r before c p bound e
+JudgesFrame r before c p bound (Ok e) = ServerTakesFrame r before c p bound e
 JudgesFrame r before c p bound (Err fault) = IsRefusalFor (IsRefused r.limits r.channel before c) fault

@@ -1,6 +1,4 @@
 //! The answers to OPNs.
-
-ghost use Rattle.std.specs.Prelude.{◌≡◌};
 ghost use Rattle.ua_services.specs.Open.{answer_read};
 ghost use Rattle.ua_channel.specs.inside.ClientParts.{Judged, JudgesAnswer, body_reasons, response_reasons, IsResponse, IsAnsweredBy};
 ghost use Rattle.ua_channel.specs.Content.{opening_of};

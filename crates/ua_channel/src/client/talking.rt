@@ -1,6 +1,6 @@
 //! A client's channel that is open.
 
-ghost use Rattle.std.specs.Prelude.{true, ◌≡◌, ◌≤◌, ◌<◌, ◌+◌, ◌^◌, ◌++◌, ◌∷◌, [], List, ℕ, length, OnErr, IfOk};
+ghost use Rattle.std.specs.Prelude.{true, ◌≡◌, ◌<◌, ◌+◌, ◌^◌, ◌++◌, ◌∷◌, [], List, ℕ, length, OnErr, IfOk};
 ghost use Rattle.ua_builtin.specs.Reasons.{first_reason};
 ghost use Rattle.ua_frame.specs.Frames.{LetsIn};
 ghost use Rattle.ua_frame.specs.declared.limits.Limits.{Limits};
