@@ -23,7 +23,7 @@ use Rattle.ua_served.specs.Accepted.{IsTurnFault, turn_refusal}
 use Rattle.ua_served.specs.Beginning.{Beginning}
 use Rattle.ua_served.specs.Replies.{lane_back, requests_replies, turn_state}
 use Rattle.ua_served.specs.Says.{left_by, said_to}
-use Rattle.ua_served.specs.Talking.{IsBehindFirst, IsLineTo, IsTalking, Reads, SoFar, acked_in, closed_octets, id_in, opening, state_in, token_in, told_in, with_turn}
+use Rattle.ua_served.specs.Talking.{IsBehindFirst, IsLineTo, IsTalking, Reads, SoFar, acked_in, closed_octets, id_in, opening, state_in, newest_in, told_in, with_turn}
 use Rattle.ua_served.specs.Turns.{turn_told}
 use Rattle.ua_served.specs.inside.Talking.{CanOpen}
 use Rattle.ua_served.proofs.Begun.{SettlesOpened, opened_ready, opened_talk, settled_there}
@@ -44,7 +44,7 @@ opens_talk limits url moment before after client law (inr o) b able line = recor
 -- ---- behind a turn
 
 module _ (t : SoFar) (moment : DateTime) (turn : Option (List Request)) (y : Client) (after : Option Traffic) (k : IsTalking (with_turn t moment turn) y after) where
-  pub reads_turn : Reads t.server (with_turn t moment turn).octets (told_in t ++ turn_told (token_in t) (id_in t) turn)
+  pub reads_turn : Reads t.server (with_turn t moment turn).octets (told_in t ++ turn_told (newest_in t) (id_in t) turn)
   reads_turn = turn_read t moment turn k.site (connection_of y) after k.talks
 
   pub leaves_turn : left_by t.server (with_turn t moment turn).octets ≡ turn_state (state_in t) t.server.moment turn
@@ -83,11 +83,11 @@ module _ (t : SoFar) (x : Client) (before : Option Traffic) (k : IsTalking t x b
         talks = calls_talk t k.site (connection_of x) before k.talks (connection_of y) after sent moves same law moment requests replies q;
       }
 
-      pub asks_replied : map (λ (r : Reply). Some r) replies ≡ requests_replies (lane_back t.server t.limits t.url (token_in t)) (state_in t) t.server.moment requests
+      pub asks_replied : map (λ (r : Reply). Some r) replies ≡ requests_replies (lane_back t.server t.limits t.url (newest_in t)) (state_in t) t.server.moment requests
       asks_replied = calls_replied t k.site (connection_of x) before k.talks (connection_of y) after sent moves same law moment requests replies q
 
       pub asks_added : (had have : List Reply) → have ≡ had ++ replies
-          → map (λ (r : Reply). Some r) have ≡ map (λ (r : Reply). Some r) had ++ requests_replies (lane_back t.server t.limits t.url (token_in t)) (state_in t) t.server.moment requests
+          → map (λ (r : Reply). Some r) have ≡ map (λ (r : Reply). Some r) had ++ requests_replies (lane_back t.server t.limits t.url (newest_in t)) (state_in t) t.server.moment requests
       asks_added had have is = ap (map (λ (r : Reply). Some r)) is ∙ (some-append had replies ∙ ap (λ (os : List (Option Reply)). map (λ (r : Reply). Some r) had ++ os) asks_replied)
 
     module _ (f : ClientFault) (is : IsTurnFault f) (q : BrokenAll requests k.site (connection_of y) sent moves.taken f) where

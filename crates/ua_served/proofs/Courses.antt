@@ -37,7 +37,7 @@ use Rattle.ua_served.specs.Kept.{EndsAt, LeavesAt, Served, traffic_of}
 use Rattle.ua_served.specs.Replies.{lane_back, turn_replies, turns_replies, turns_state}
 use Rattle.ua_served.specs.Sends.{closing_behind, conversation_octets, turns_octets}
 use Rattle.ua_served.specs.Says.{end_by, left_by, said_to, state_told}
-use Rattle.ua_served.specs.Talking.{IsLineTo, SoFar, TalksAt, acked_in, closed_octets, octets_of, state_in, token_in, with_turn}
+use Rattle.ua_served.specs.Talking.{IsLineTo, SoFar, TalksAt, acked_in, closed_octets, octets_of, state_in, newest_in, with_turn}
 use Rattle.ua_served.specs.inside.Talking.{CanOpen, StaysTalking, Talked, Went}
 use Rattle.ua_served.specs.Turns.{conversation_told, opening_told, turns_told}
 use Rattle.ua_served.specs.declared.stage.Stage.{Stage}
@@ -68,7 +68,7 @@ module _ (b : Beginning) (limits : Limits) (url : Option (List ℕ)) (moment : D
       ∙ (ap (λ (o : List ℕ). turns_octets (acked_in talk) b.channel moment 1 2 2 turns ++ o) is ∙ sym (octets_push (acked_in talk) b.channel moment 1 2 2 turns turn))
 
   -- the replies with it
-  more_replied : (turn : Option (List Request)) (added : List Reply) → have ≡ had ++ added → map (λ (r : Reply). Some r) added ≡ turn_replies (lane_back b limits url (token_in talk)) (state_in talk) b.moment turn
+  more_replied : (turn : Option (List Request)) (added : List Reply) → have ≡ had ++ added → map (λ (r : Reply). Some r) added ≡ turn_replies (lane_back b limits url (newest_in talk)) (state_in talk) b.moment turn
       → map (λ (r : Reply). Some r) have ≡ turns_replies b limits url b.first 1 (turns ++ turn ∷ [])
   more_replied turn added have_is replied =
       ap (λ (rs : List Reply). map (λ (r : Reply). Some r) rs) have_is

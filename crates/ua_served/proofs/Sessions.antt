@@ -19,7 +19,7 @@ use Rattle.ua_client.specs.declared.reply.Reply.{Reply}
 use Rattle.ua_client.proofs.Askings.{next-calls}
 use Rattle.ua_client.proofs.Settled.{NonePending}
 use Rattle.ua_served.specs.Accepted.{tokens_held}
-use Rattle.ua_served.specs.Talking.{IsTalking, SoFar, id_in, session_requests, told_in, token_in, with_turn}
+use Rattle.ua_served.specs.Talking.{IsTalking, SoFar, id_in, session_requests, told_in, newest_in, with_turn}
 use Rattle.ua_served.proofs.OneTurn.{asked_more}
 use Rattle.ua_served.proofs.Talks.{asked_behind, rounds_octets}
 
@@ -72,7 +72,7 @@ module _ (t : SoFar) (x : Client) (before : Option Traffic) (k : IsTalking t x b
   session_on ready =
       let held : ℕ = tokens_held 1 t.turns in
       let behind =
-      asked_behind t.server t.limits t.url t.octets (told_in t) (token_in t) (id_in t) held k.site (connection_of x) before k.talks.talking (connection_of y) after c.sent c.moves c.same law activated.behind rounds
+      asked_behind t.server t.limits t.url t.octets (told_in t) (newest_in t) (id_in t) held k.site (connection_of x) before k.talks.talking (connection_of y) after c.sent c.moves c.same law activated.behind rounds
       (omega arith, (omega arith, tt)) sent_is there.taken_parts in
       subst (λ (ms : List Request). IsTalking (with_turn t moment (Some ms)) y after) are_session (record {
         ready = ready;

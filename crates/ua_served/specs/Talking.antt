@@ -73,8 +73,8 @@ abbrev pub told_in : SoFar → List Told
 told_in t = opening_told t.server.limits t.limits t.url ++ turns_told 1 2 t.turns
 
 -- the newest token, and the next request id
-abbrev pub token_in : SoFar → ℕ
-token_in t = tokens_behind 1 t.turns
+abbrev pub newest_in : SoFar → ℕ
+newest_in t = tokens_behind 1 t.turns
 
 abbrev pub id_in : SoFar → ℕ
 id_in t = ids_behind 2 t.turns
@@ -85,7 +85,7 @@ state_in t = turns_state t.server.first t.server.moment t.turns
 
 -- the octets of one turn more, taken at this moment: its requests under the newest token and the next request ids, or the OPN of a renewal
 abbrev pub octets_of : SoFar → DateTime → Option (List Request) → List ℕ
-octets_of t moment turn = turn_octets (call_lane (acked_in t) t.server.channel (token_in t)) (turns_number (acked_in t) t.server.channel 1 2 t.turns) (id_in t) moment turn
+octets_of t moment turn = turn_octets (call_lane (acked_in t) t.server.channel (newest_in t)) (turns_number (acked_in t) t.server.channel 1 2 t.turns) (id_in t) moment turn
 
 -- with one turn more, taken at this moment
 abbrev pub with_turn : SoFar → DateTime → Option (List Request) → SoFar
@@ -131,7 +131,7 @@ pub record TalksAt (t : SoFar) (site : Site) (x : Connection) (now : Option Traf
   pub accepted : AreAccepted (acked_in t) t.turns
   pub number_is : site.number ≡ turns_number (acked_in t) t.server.channel 1 2 t.turns
   pub state_is : state_told t.server (told_in t) ≡ state_in t
-  pub talking : AreTalking t.server t.limits t.url t.octets (told_in t) (token_in t) (id_in t) (tokens_held 1 t.turns) site x now
+  pub talking : AreTalking t.server t.limits t.url t.octets (told_in t) (newest_in t) (id_in t) (tokens_held 1 t.turns) site x now
 
 -- a client over a line to a server is behind this talk, and may be called: the server read all that it sent and was told just its turns, the
 -- client took all that the server says of that, and both are in step

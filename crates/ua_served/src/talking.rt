@@ -1,10 +1,11 @@
 //! Calls of a client over any line whose octets down are what a server says of its octets up.
 //!
-//! Each function is the call of [`Client`] of its name, with what that comes to over such a line, call by
-//! call, whatever the limits of both ends: behind a talk so far the server reads just what the call asks,
-//! each request whole, once, in order and under its own request id; each reply is that of its own request
-//! in the state that those before it left; and behind the call the client is behind the talk with this turn
-//! more, so that the next call says the same again. [`open`] begins a talk.
+//! Each function is the call of [`Client`] of its name, with what that comes to over such a line where it
+//! succeeds, at a server whose answers all have one moment, call by call, whatever the limits of both ends:
+//! behind a talk so far the server reads just what the call asks, each request whole, once, in order and
+//! under its own request id; each reply is that of its own request in the state that those before it left;
+//! and behind the call the client is behind the talk with this turn more, so that the next call says the
+//! same again. [`open`] begins a talk.
 
 ghost use Rattle.std.specs.Prelude.{◌≡◌, ◌⊎◌, ◌+◌, ◌<◌, ◌∷◌, ◌++◌, [], length, map, Err, None, Some, IfErr, IfOk, IsTrue, OnOk};
 ghost use Rattle.ua_octets.specs.Counted.{text};
@@ -22,7 +23,7 @@ ghost use Rattle.ua_served.specs.Accepted.{IsTurnFault, turn_refusal};
 ghost use Rattle.ua_served.specs.Beginning.{Beginning};
 ghost use Rattle.ua_served.specs.Replies.{lane_back, requests_replies, state_behind};
 ghost use Rattle.ua_served.specs.Says.{left_by, said_to};
-ghost use Rattle.ua_served.specs.Talking.{CanBegin, IsBehindFirst, IsLineTo, IsTalking, Reads, SoFar, acked_in, closed_octets, id_in, opening, session_requests, state_in, token_in, told_in, with_turn};
+ghost use Rattle.ua_served.specs.Talking.{CanBegin, IsBehindFirst, IsLineTo, IsTalking, Reads, SoFar, acked_in, closed_octets, id_in, opening, session_requests, state_in, newest_in, told_in, with_turn};
 ghost use Rattle.ua_served.specs.Turns.{calls_told};
 
 use std::alloc::Global;
@@ -70,7 +71,7 @@ pub fn begin_session_as<L: Line>(
     // Behind a talk, it goes on with a turn of two requests: CreateSession, and ActivateSession with the token that the server gave.
     ensures stays { IfOk result (λ token. (t : SoFar) → IsTalking t client.old (L.traffic line.old) → IsTalking (with_turn t moment (Some (session_requests t policy_id token moment))) client.new (L.traffic line.new)) }
     // The server reads just these, and its services are as they leave them.
-    ensures reaches { IfOk result (λ token. (t : SoFar) → IsTalking t client.old (L.traffic line.old) → Reads t.server (with_turn t moment (Some (session_requests t policy_id token moment))).octets (told_in t ++ calls_told (token_in t) (id_in t) (bodies_of (session_requests t policy_id token moment)))) }
+    ensures reaches { IfOk result (λ token. (t : SoFar) → IsTalking t client.old (L.traffic line.old) → Reads t.server (with_turn t moment (Some (session_requests t policy_id token moment))).octets (told_in t ++ calls_told (newest_in t) (id_in t) (bodies_of (session_requests t policy_id token moment)))) }
     ensures state { IfOk result (λ token. (t : SoFar) → IsTalking t client.old (L.traffic line.old) → left_by t.server (with_turn t moment (Some (session_requests t policy_id token moment))).octets ≡ state_behind (state_in t) t.server.moment (session_requests t policy_id token moment)) }
 {
     clients_are_settled();
@@ -94,13 +95,13 @@ pub fn call_all<L: Line>(
     ensures failed { L.failures line.new ≡ failures_behind (L.failures line.old) result }
 
     // Behind a talk, the server reads just these requests more: each whole, once, in order, under its own request id and the newest token.
-    ensures reaches { OnOk result ((t : SoFar) → IsTalking t client.old (L.traffic line.old) → Reads t.server (with_turn t moment (Some requests.now)).octets (told_in t ++ calls_told (token_in t) (id_in t) (bodies_of requests.now))) }
+    ensures reaches { OnOk result ((t : SoFar) → IsTalking t client.old (L.traffic line.old) → Reads t.server (with_turn t moment (Some requests.now)).octets (told_in t ++ calls_told (newest_in t) (id_in t) (bodies_of requests.now))) }
     // Each reply is that of its own request in the state that those before it left, and all of them leave this state.
-    ensures replied { IfOk result (λ replies. (t : SoFar) → IsTalking t client.old (L.traffic line.old) → map Some replies.items ≡ requests_replies (lane_back t.server t.limits t.url (token_in t)) (state_in t) t.server.moment requests.now) }
+    ensures replied { IfOk result (λ replies. (t : SoFar) → IsTalking t client.old (L.traffic line.old) → map Some replies.items ≡ requests_replies (lane_back t.server t.limits t.url (newest_in t)) (state_in t) t.server.moment requests.now) }
     ensures state { OnOk result ((t : SoFar) → IsTalking t client.old (L.traffic line.old) → left_by t.server (with_turn t moment (Some requests.now)).octets ≡ state_behind (state_in t) t.server.moment requests.now) }
     // The talk goes on with this turn more.
     ensures stays { OnOk result ((t : SoFar) → IsTalking t client.old (L.traffic line.old) → IsTalking (with_turn t moment (Some requests.now)) client.new (L.traffic line.new)) }
-    // A fault that is a reason against a request is the first against them, and the talk goes on with the requests before its group.
+    // A fault that is a reason against a request is the first against them, and the talk goes on with the first of these requests, which were asked.
     ensures refused { IfErr result (λ fault. IsTurnFault fault → (t : SoFar) → IsTalking t client.old (L.traffic line.old) → turn_refusal (acked_in t) t.turns (Some requests.now) ≡ Some fault) }
     ensures before { IfErr result (λ fault. IsTurnFault fault → (t : SoFar) → IsTalking t client.old (L.traffic line.old) → IsBehindFirst t moment requests.now client.new (L.traffic line.new)) }
 {
@@ -127,8 +128,8 @@ pub fn call_into<L: Line>(
     ensures failed { L.failures line.new ≡ failures_behind (L.failures line.old) (fault_alone result) }
 
     // The same as of `call_all`.
-    ensures reaches { OnOk result ((t : SoFar) → IsTalking t client.old (L.traffic line.old) → Reads t.server (with_turn t moment (Some requests.now)).octets (told_in t ++ calls_told (token_in t) (id_in t) (bodies_of requests.now))) }
-    ensures replied { OnOk result ((t : SoFar) → IsTalking t client.old (L.traffic line.old) → map Some replies.new.items ≡ map Some replies.old.items ++ requests_replies (lane_back t.server t.limits t.url (token_in t)) (state_in t) t.server.moment requests.now) }
+    ensures reaches { OnOk result ((t : SoFar) → IsTalking t client.old (L.traffic line.old) → Reads t.server (with_turn t moment (Some requests.now)).octets (told_in t ++ calls_told (newest_in t) (id_in t) (bodies_of requests.now))) }
+    ensures replied { OnOk result ((t : SoFar) → IsTalking t client.old (L.traffic line.old) → map Some replies.new.items ≡ map Some replies.old.items ++ requests_replies (lane_back t.server t.limits t.url (newest_in t)) (state_in t) t.server.moment requests.now) }
     ensures state { OnOk result ((t : SoFar) → IsTalking t client.old (L.traffic line.old) → left_by t.server (with_turn t moment (Some requests.now)).octets ≡ state_behind (state_in t) t.server.moment requests.now) }
     ensures stays { OnOk result ((t : SoFar) → IsTalking t client.old (L.traffic line.old) → IsTalking (with_turn t moment (Some requests.now)) client.new (L.traffic line.new)) }
     ensures refused { IfErr result (λ calls. IsTurnFault calls.fault → (t : SoFar) → IsTalking t client.old (L.traffic line.old) → turn_refusal (acked_in t) t.turns (Some requests.now) ≡ Some calls.fault) }
@@ -154,7 +155,7 @@ pub fn renew<L: Line>(
     ensures failed { L.failures line.new ≡ failures_behind (L.failures line.old) result }
 
     // Behind a talk, the server reads just this OPN more, and issues the next token, for an hour (OPC 10000-4, 5.6.2).
-    ensures reaches { OnOk result ((t : SoFar) → IsTalking t client.old (L.traffic line.old) → Reads t.server (with_turn t moment None).octets (told_in t ++ Opened (id_in t) 0 (token_in t + 1) 3600000 ∷ [])) }
+    ensures reaches { OnOk result ((t : SoFar) → IsTalking t client.old (L.traffic line.old) → Reads t.server (with_turn t moment None).octets (told_in t ++ Opened (id_in t) 0 (newest_in t + 1) 3600000 ∷ [])) }
     // It leaves the services as they were.
     ensures state { OnOk result ((t : SoFar) → IsTalking t client.old (L.traffic line.old) → left_by t.server (with_turn t moment None).octets ≡ state_in t) }
     // The talk goes on with this turn more: calls go out under the next token.
