@@ -1,5 +1,5 @@
 -- A server that serves octets, step by step.
-use Rattle.std.proofs.Common.{◌≡◌, inl, inr, ℕ, ◌+◌, ◌≤◌, List, [], ◌∷◌, ◌++◌, Option, Some, None, Result, Ok, Err, length, take, drop, refl, sym, ◌∙◌, ap, subst, arith, append-nil, append_assoc}
+use Rattle.std.proofs.Common.{◌≡◌, inl, inr, ℕ, ◌+◌, ◌<◌, ◌≤◌, List, [], ◌∷◌, ◌++◌, Option, Some, None, Result, Ok, Err, length, take, drop, refl, sym, ◌∙◌, ap, subst, arith, append-nil, append_assoc}
 use Rattle.std.specs.Prelude.{OnOk}
 use Rattle.std.proofs.lemmas.List.{take-append-drop}
 use Rattle.std.proofs.Math.Seq.{take-add, take-length}
@@ -9,7 +9,7 @@ use Rattle.ua_frame.specs.Run.{Rules, End, Going, Stopped, Over, Run, events}
 use Rattle.ua_frame.specs.declared.limits.Limits.{Limits}
 use Rattle.ua_frame.proofs.Ends.{ends_stay}
 use Rattle.ua_channel.specs.ServerRules.{server_rules}
-use Rattle.ua_channel.specs.ServerStands.{channel_of, limits_of}
+use Rattle.ua_channel.specs.ServerStands.{IsDone, channel_of, limits_of}
 use Rattle.ua_channel.specs.ServerTold.{Told, Asked}
 use Rattle.ua_channel.proofs.ReadOn.{told_behind}
 use Rattle.ua_server.specs.Reply.{answered}
@@ -213,7 +213,9 @@ module _ (moment : DateTime) (octets : List ℕ) (first : Server) (began : State
       taken_front = front_of before octets piece at step.taken piece_is;
       left_is = left_then b before serves dated step.end refl;
       heard = before ++ take at octets;
+      heard_behind = record { more = take at octets; parts = refl };
       heard_front = front_there before octets at;
+      taken_behind = record { more = take step.taken piece; parts = refl };
       answers = answered_there b before serves dated;
     }
 
@@ -222,19 +224,23 @@ module _ (moment : DateTime) (octets : List ℕ) (first : Server) (began : State
     t : ServedTo b moment before octets x now at old out
     t = s.to b before serves dated
 
-    broken_at : (front : List ℕ) → Extends front (before ++ octets) → later ≡ left_by b front → BreaksOff b before (before ++ octets) old out later
-    broken_at front extends left_is = record {
+    broken_at : (front : List ℕ) → Extends front (before ++ octets) → Extends (before ++ take at octets) front → later ≡ left_by b front → BreaksOff b before (before ++ octets) old out later
+    broken_at front extends behind left_is = record {
       taken = front;
       taken_front = extends;
       left_is = left_is;
       heard = before ++ take at octets;
+      heard_behind = record { more = take at octets; parts = refl };
       heard_front = front_there before octets at;
+      taken_behind = behind;
       answers = record { more = t.added; said_is = sym t.keeps.down_is; added_is = t.added_is };
     }
 
     broken_by : StepBreaks (limits_of (channel_in x)) (channel_of (channel_in x)) b.moment piece (channel_in y) (before ++ take at octets) t.keeps.serves.told now later → BreaksOff b before (before ++ octets) old out later
-    broken_by (done, inl same) = broken_at (before ++ take at octets) (front_there before octets at) (same ∙ t.keeps.leaves)
-    broken_by (done, inr l) = broken_at ((before ++ take at octets) ++ take l.ends.n piece) (front_of before octets piece at l.ends.n piece_is) (left_message b x later (before ++ take at octets) piece now t.keeps.serves l)
+    broken_by (done, inl same) = broken_at (before ++ take at octets) (front_there before octets at) (record { more = []; parts = sym (append-nil (before ++ take at octets)) }) (same ∙ t.keeps.leaves)
+    broken_by (done, inr l) =
+        broken_at ((before ++ take at octets) ++ take l.ends.n piece) (front_of before octets piece at l.ends.n piece_is) (record { more = take l.ends.n piece; parts = refl })
+        (left_message b x later (before ++ take at octets) piece now t.keeps.serves l)
 
     fault_by : (f : StepFault) → StepAnswers (limits_of (channel_in x)) (channel_of (channel_in x)) b.moment piece (Err f) (channel_in y) (before ++ take at octets) t.keeps.serves.told b.first (spent t.keeps.serves.told b.moment) now later
         → BreaksOff b before (before ++ octets) old out later × (f ≡ step_fault.OutOfMemory)
@@ -246,6 +252,35 @@ module _ (moment : DateTime) (octets : List ℕ) (first : Server) (began : State
         fault_by f
         (subst (λ (m : DateTime). StepAnswers (limits_of (channel_in x)) (channel_of (channel_in x)) m piece (Err f) (channel_in y) (before ++ take at octets) t.keeps.serves.told b.first (spent t.keeps.serves.told b.moment) now later) dated
         (answers (before ++ take at octets) t.keeps.serves.told b.first (spent t.keeps.serves.told b.moment) t.keeps.serves.stands))
+
+-- ---- a server that ended
+
+-- a server that ended at first took nothing
+abbrev pub StaysEnded : {A : Type 0} → Server → State → A → Server → State → ℕ → A → Type 0
+StaysEnded first began old server now at out = IsDone (channel_in first) → (at ≡ 0) × (server ≡ first) × (now ≡ began) × (out ≡ old)
+
+-- what a step of one that ended answers
+abbrev pub StepsEnded : Server → State → Server → State → Result Step StepFault → Type 0
+StepsEnded old before new now result = IsDone (channel_in old) → (result ≡ Err step_fault.Closed) × (new ≡ old) × (now ≡ before)
+
+module _ {A : Type 0} (first : Server) (began : State) (old : A) (x y : Server) (now later : State) (at : ℕ) (out : A) (stays : StaysEnded first began old x now at out) (ended : IsDone (channel_in first)) where
+  ended_there : IsDone (channel_in x)
+  ended_there = subst (λ (s : Server). IsDone (channel_in s)) (sym (stays ended).1) ended
+
+  -- its step is none
+  pub takes_none : {B : Type 0} (step : Step) → StepsEnded x now y later (Ok step) → B
+  takes_none step steps = let no : ◌≡◌ {A = Result Step StepFault} (Ok step) (Err step_fault.Closed) = (steps ended_there).0 in absurd cc
+
+  -- and says so
+  pub says_ended : (f : StepFault) → StepsEnded x now y later (Err f) → (f ≡ step_fault.Closed) × (out ≡ old) × (later ≡ began)
+  says_ended f steps =
+      let s = steps ended_there in
+      let no : ◌≡◌ {A = Result Step StepFault} (Err f) (Err step_fault.Closed) = s.0 in
+      let k = stays ended in
+      (cc, k.3, s.2 ∙ k.2)
+
+  pub takes_some : {B : Type 0} (octets : List ℕ) → 0 < length octets → length octets ≤ at → B
+  takes_some octets some enough = let none : at ≡ 0 = (stays ended).0 in absurd (omega (arith, some, enough, none))
 
 -- ---- all of it
 

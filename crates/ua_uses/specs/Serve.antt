@@ -19,11 +19,14 @@ pub record Answers (b : Beginning) (before all : List ℕ) (out_before out : Lis
   pub said_is : said_to b all ≡ said_to b before ++ more
   pub added_is : out ≡ out_before ++ more
 
--- memory was refused: the services are what a front of all octets that came leaves, and what was added is what the server says of a front of them
+-- memory was refused: the services are what a front of all octets that came leaves, and what was added is what the server says of a front of
+-- that, which has all octets that came before
 pub record BreaksOff (b : Beginning) (before all : List ℕ) (out_before out : List ℕ) (services : State) : Type 0 where
   pub taken : List ℕ
   pub taken_front : Extends taken all
   pub left_is : services ≡ left_by b taken
   pub heard : List ℕ
+  pub heard_behind : Extends before heard
   pub heard_front : Extends heard all
+  pub taken_behind : Extends heard taken
   pub answers : Answers b before heard out_before out

@@ -32,3 +32,10 @@ returns-clause-breaks c =
     let b : Beginning = record { limits = c.args.limits; channel = c.args.channel_id; first = first; moment = c.args.moment } in
     c.serve_octets.ensures.breaks b []
     (serves_none c.args.limits c.args.channel_id first c.begin.new.self c.args.moment c.new-server.result c.begin.ensures c.new-server.ensures.stands c.new-server.ensures.limits c.new-server.ensures.channel) refl
+
+pub returns-clause-memory : goal.returns-clause-memory
+returns-clause-memory c =
+    let first = begun c.args.services.now in
+    let b : Beginning = record { limits = c.args.limits; channel = c.args.channel_id; first = first; moment = c.args.moment } in
+    c.serve_octets.ensures.memory b []
+    (serves_none c.args.limits c.args.channel_id first c.begin.new.self c.args.moment c.new-server.result c.begin.ensures c.new-server.ensures.stands c.new-server.ensures.limits c.new-server.ensures.channel) refl
