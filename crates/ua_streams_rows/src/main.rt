@@ -28,6 +28,7 @@ mod server;
 mod serving;
 mod sweeps;
 mod taking;
+mod talks;
 mod told;
 mod uses;
 mod words;

@@ -9,7 +9,7 @@ use crate::serving::Serving;
 use crate::taking::take_pieces;
 use crate::told::Told;
 use crate::words::{first_number, front, limits_of, text_of};
-use crate::{bodies, calling, client, ends, frames, parts, served, server, uses};
+use crate::{bodies, calling, client, ends, frames, parts, served, server, talks, uses};
 use std::alloc::Global;
 use ua_builtin::Wire;
 use ua_channel::{ClientChannel, ServerChannel};
@@ -97,6 +97,7 @@ impl Rows {
             "source" => parts::tell_source(&self.given, words, told),
             "dissect-all" => tell_all(&self.given, words, told),
             "write-and-read" => uses::tell(&self.given, &mut self.course, words, told),
+            "talk" => talks::tell(&self.given, &mut self.course, words, told),
             _ => self.begin_or_step(kind, words, told),
         }
     }

@@ -43,12 +43,13 @@ returns-in-Some-clause-ends c = λ b before serves dated.
 pub loop-at-preserved : goal.loop-at-preserved
 loop-at-preserved c =
     let rest = take_rest c.args.octets.now c.loop-at.at in
-    let few : c.in-Ok.step.taken ≤ length (drop c.loop-at.at c.args.octets.now) = subst (λ (t : List ℕ). c.in-Ok.step.taken ≤ length t) rest c.in-Ok.ensures.progress.0 in
-    (served_more c.args.moment c.args.octets.now c.args.server.now c.args.services.now c.loop-at.server c.step.new.self c.loop-at.services c.step.new.services c.loop-at.at c.args.out.now.items c.loop-at.out.items c.loop-at.invariant.0
-    _ rest c.in-Ok.step c.in-Ok.ensures.answers c.in-Ok.ensures.limits c.in-Ok.ensures.channel
-    c.extend_from_slice.new.self.items (pushed _ _ _ _ c.if-is_err.ensures.value c.extend_from_slice.ensures.items ∙ ap (λ (o : List ℕ). c.loop-at.out.items ++ o) c.deref.ensures.value) c.in_default.is
-    (omega (arith, few, length-drop c.loop-at.at c.args.octets.now, c.loop-at.invariant.0.within)),
-    λ ended. takes_none c.args.server.now c.args.services.now c.args.out.now c.loop-at.server c.step.new.self c.loop-at.services c.step.new.services c.loop-at.at c.loop-at.out c.loop-at.invariant.1 ended c.in-Ok.step c.in-Ok.ensures.closed)
+    let few : c.in-Ok.step.taken ≤ length (drop c.loop-at.at c.args.octets.now) = subst (λ (t : List ℕ). c.in-Ok.step.taken ≤ length t) rest c.in-Ok.ensures.progress.0 in (
+      served_more c.args.moment c.args.octets.now c.args.server.now c.args.services.now c.loop-at.server c.step.new.self c.loop-at.services c.step.new.services c.loop-at.at c.args.out.now.items c.loop-at.out.items c.loop-at.invariant.0
+          _ rest c.in-Ok.step c.in-Ok.ensures.answers c.in-Ok.ensures.limits c.in-Ok.ensures.channel
+          c.extend_from_slice.new.self.items (pushed _ _ _ _ c.if-is_err.ensures.value c.extend_from_slice.ensures.items ∙ ap (λ (o : List ℕ). c.loop-at.out.items ++ o) c.deref.ensures.value) c.in_default.is
+          (omega (arith, few, length-drop c.loop-at.at c.args.octets.now, c.loop-at.invariant.0.within)),
+      λ ended. takes_none c.args.server.now c.args.services.now c.args.out.now c.loop-at.server c.step.new.self c.loop-at.services c.step.new.services c.loop-at.at c.loop-at.out c.loop-at.invariant.1 ended c.in-Ok.step c.in-Ok.ensures.closed,
+    )
 
 pub returns-clause-leaves : goal.returns-clause-leaves
 returns-clause-leaves c = λ b before serves dated.
