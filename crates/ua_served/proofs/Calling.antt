@@ -4,12 +4,13 @@ use Rattle.ua_builtin.specs.DateTime.{date_time}
 use Rattle.ua_builtin.specs.declared.date_time.DateTime.{DateTime}
 use Rattle.ua_frame.specs.declared.limits.Limits.{Limits}
 use Rattle.ua_channel.specs.Client.{SameClient}
-use Rattle.ua_channel.specs.Line.{Traffic}
+use Rattle.ua_channel.specs.Line.{Traffic, WhereTold}
 use Rattle.ua_channel.specs.ServerReads.{ServerCloses}
 use Rattle.ua_channel.specs.ServerTold.{Closed}
 use Rattle.ua_services.specs.declared.request.Request.{Request}
+use Rattle.ua_client.specs.Carried.{Carries}
 use Rattle.ua_client.specs.Calls.{AnsweredAll, BrokenAll, all_of}
-use Rattle.ua_client.specs.Client.{IsLeft, IsReady, OpensClient, OpensNothing, client_channel, connection_of}
+use Rattle.ua_client.specs.Client.{Closes, IsLeft, IsReady, OpensClient, OpensNothing, client_channel, connection_of}
 use Rattle.ua_client.specs.Hearing.{Moves}
 use Rattle.ua_client.specs.Renewing.{Renews}
 use Rattle.ua_client.specs.Site.{At}
@@ -23,11 +24,12 @@ use Rattle.ua_served.specs.Accepted.{IsTurnFault, turn_refusal}
 use Rattle.ua_served.specs.Beginning.{Beginning}
 use Rattle.ua_served.specs.Replies.{lane_back, requests_replies, turn_state}
 use Rattle.ua_served.specs.Says.{left_by, said_to}
-use Rattle.ua_served.specs.Talking.{IsBehindFirst, IsLineTo, IsTalking, Reads, SoFar, acked_in, closed_octets, id_in, opening, state_in, newest_in, told_in, with_turn}
+use Rattle.ua_served.specs.Sends.{closing_behind}
+use Rattle.ua_served.specs.Talking.{IsBehindFirst, IsLineTo, IsSentOver, IsTalking, Reads, SoFar, acked_in, closed_octets, id_in, newest_in, octets_of, opening, state_in, told_in, with_turn}
 use Rattle.ua_served.specs.Turns.{turn_told}
 use Rattle.ua_served.specs.inside.Talking.{CanOpen}
 use Rattle.ua_served.proofs.Begun.{SettlesOpened, opened_ready, opened_talk, settled_there}
-use Rattle.ua_served.proofs.OneTurn.{calls_refused, calls_replied, calls_talk, closes_left, closes_read, closes_silent, first_talk, renewing_not, renewing_talks, turn_left, turn_read}
+use Rattle.ua_served.proofs.OneTurn.{calls_refused, calls_replied, calls_sent, calls_talk, closes_left, closes_read, closes_silent, closing_is, first_talk, renewing_not, renewing_sent, renewing_talks, turn_left, turn_read}
 use Rattle.ua_served.proofs.Replying.{some-append}
 
 -- ---- it opens
@@ -40,6 +42,13 @@ opens_talk limits url moment before after client law (inr o) b able line = recor
   site = (settled_there b limits url moment before after client law o able line).0;
   talks = opened_talk b limits url moment before after client law o able line;
 }
+
+-- ---- what is sent
+
+pub sent_over : (got sent octets : List ℕ) (before after : Option Traffic) → sent ≡ octets → WhereTold (Carries got sent) before after → IsSentOver octets before after
+sent_over got sent octets None after is carried = carried
+sent_over got sent octets (Some f) None is carried = absurd carried
+sent_over got sent octets (Some f) (Some g) is carried = carried.written ∙ ap (λ (o : List ℕ). f.written ++ o) is
 
 -- ---- behind a turn
 
@@ -83,6 +92,11 @@ module _ (t : SoFar) (x : Client) (before : Option Traffic) (k : IsTalking t x b
         talks = calls_talk t k.site (connection_of x) before k.talks (connection_of y) after sent moves same law moment requests replies q;
       }
 
+      pub asks_sent : IsSentOver (octets_of t moment (Some requests)) before after
+      asks_sent =
+          sent_over moves.got sent (octets_of t moment (Some requests)) before after
+          (calls_sent t k.site (connection_of x) before k.talks (connection_of y) after sent moves same law moment requests replies q) moves.carried
+
       pub asks_replied : map (λ (r : Reply). Some r) replies ≡ requests_replies (lane_back t.server t.limits t.url (newest_in t)) (state_in t) t.server.moment requests
       asks_replied = calls_replied t k.site (connection_of x) before k.talks (connection_of y) after sent moves same law moment requests replies q
 
@@ -116,6 +130,11 @@ module _ (t : SoFar) (x : Client) (before : Option Traffic) (k : IsTalking t x b
       talks = renewing_talks t k.site (connection_of x) before k.talks (connection_of y) after moment dated done c stands_there;
     }
 
+    pub renews_sent : IsTrue (date_time.encodable moment) → (done : Unit {0}) → Renews {A = Unit {0}} moment (connection_of x) (connection_of y) before after (Ok done) → IsSentOver (octets_of t moment None) before after
+    renews_sent dated done c =
+        sent_over c.moves.got c.sent (octets_of t moment None) before after
+        (renewing_sent t k.site (connection_of x) before k.talks (connection_of y) after moment dated done c stands_there) c.moves.carried
+
     pub renews_not : (f : ClientFault) → IsTurnFault f → Renews {A = Unit {0}} moment (connection_of x) (connection_of y) before after (Err f) → turn_refusal (acked_in t) t.turns None ≡ Some f
     renews_not f is c = renewing_not t k.site (connection_of x) before k.talks (connection_of y) after moment f is c stands_there
 
@@ -124,6 +143,11 @@ module _ (t : SoFar) (x : Client) (before : Option Traffic) (k : IsTalking t x b
   module _ (moment : DateTime) where
     pub closes_there : ServerCloses t.server.limits t.server.channel (closed_octets t moment) (told_in t ++ Closed ∷ [])
     closes_there = closes_read t k.site (connection_of x) before k.talks moment
+
+    pub closes_sent : (after : Option Traffic) (done : Unit {0}) → Closes {A = Unit {0}} moment (client_channel x) before after (Ok done) → IsSentOver (closing_behind (acked_in t) t.server.channel moment t.turns) before after
+    closes_sent after done c =
+        sent_over [] c.sent (closing_behind (acked_in t) t.server.channel moment t.turns) before after
+        (c.answers k.site stands_there ∙ closing_is t k.site (connection_of x) before k.talks moment) c.carried
 
     pub silent_there : said_to t.server (closed_octets t moment) ≡ said_to t.server t.octets
     silent_there = closes_silent t k.site (connection_of x) before k.talks moment

@@ -102,7 +102,7 @@ module _ (t : SoFar) (site : Site) (x : Connection) (before : Option Traffic) (s
     -- requests are answered
     module _ (moment : DateTime) (requests : List Request) (replies : List Reply) (u : Site) (at : At (channel_of y) u) (octets_are : u.octets ≡ site.octets ++ moves.taken)
         (there : Behind b t.limits t.url t.octets (told_in t) (newest_in t) (id_in t) held site.number sent replies requests u) where
-      asked_sent : sent ≡ octets_of t moment (Some requests)
+      pub asked_sent : sent ≡ octets_of t moment (Some requests)
       asked_sent = more_sent moment (Some requests) there.sent_is
 
       pub asked_more : TalksAt (with_turn t moment (Some requests)) u y after

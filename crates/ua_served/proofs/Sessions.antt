@@ -19,8 +19,10 @@ use Rattle.ua_client.specs.declared.reply.Reply.{Reply}
 use Rattle.ua_client.proofs.Askings.{next-calls}
 use Rattle.ua_client.proofs.Settled.{NonePending}
 use Rattle.ua_served.specs.Accepted.{tokens_held}
-use Rattle.ua_served.specs.Talking.{IsTalking, SoFar, id_in, session_requests, told_in, newest_in, with_turn}
-use Rattle.ua_served.proofs.OneTurn.{asked_more}
+use Rattle.ua_served.specs.Talking.{IsSentOver, IsTalking, SoFar, id_in, newest_in, octets_of, session_requests, told_in, with_turn}
+use Rattle.ua_served.proofs.Calling.{sent_over}
+use Rattle.ua_served.proofs.OneTurn.{asked_more, asked_sent}
+use Rattle.ua_served.proofs.Rounds.{Behind}
 use Rattle.ua_served.proofs.Talks.{asked_behind, rounds_octets}
 
 module _ (t : SoFar) (x : Client) (before : Option Traffic) (k : IsTalking t x before) (y : Client) (after : Option Traffic) (law : NonePending) (policy_id : Option (List ℕ)) (moment : DateTime) (token : NodeId)
@@ -68,15 +70,24 @@ module _ (t : SoFar) (x : Client) (before : Option Traffic) (k : IsTalking t x b
       ∙ (ap (λ (n : ℕ). create_session t.url moment (id_in t) ∷ (activate_session_as policy_id there.token moment n ∷ [])) id_then
       ∙ ap (λ (given : NodeId). create_session t.url moment (id_in t) ∷ (activate_session_as policy_id given moment (id_in t + 1) ∷ [])) there.further.0))
 
+  behind_there : Behind t.server t.limits t.url t.octets (told_in t) (newest_in t) (id_in t) (tokens_held 1 t.turns) k.site.number c.sent (there.reply ∷ (activated.reply ∷ [])) (first ∷ (second ∷ [])) activated.behind
+  behind_there =
+      asked_behind t.server t.limits t.url t.octets (told_in t) (newest_in t) (id_in t) (tokens_held 1 t.turns) k.site (connection_of x) before k.talks.talking (connection_of y) after c.sent c.moves c.same law activated.behind rounds
+      (omega arith, (omega arith, tt)) sent_is there.taken_parts
+
+  pub session_sent : IsSentOver (octets_of t moment (Some (session_requests t policy_id token moment))) before after
+  session_sent =
+      sent_over c.moves.got c.sent (octets_of t moment (Some (session_requests t policy_id token moment))) before after
+      (asked_sent t k.site (connection_of x) before k.talks (connection_of y) after c.sent c.moves c.same moment (first ∷ (second ∷ [])) (there.reply ∷ (activated.reply ∷ [])) activated.behind activated.at
+      (rounds_octets rounds ∙ ap (λ (o : List ℕ). k.site.octets ++ o) (sym there.taken_parts)) behind_there
+      ∙ ap (λ (ms : List Request). octets_of t moment (Some ms)) are_session)
+      c.moves.carried
+
   pub session_on : IsReady y → IsTalking (with_turn t moment (Some (session_requests t policy_id token moment))) y after
   session_on ready =
-      let held : ℕ = tokens_held 1 t.turns in
-      let behind =
-      asked_behind t.server t.limits t.url t.octets (told_in t) (newest_in t) (id_in t) held k.site (connection_of x) before k.talks.talking (connection_of y) after c.sent c.moves c.same law activated.behind rounds
-      (omega arith, (omega arith, tt)) sent_is there.taken_parts in
       subst (λ (ms : List Request). IsTalking (with_turn t moment (Some ms)) y after) are_session (record {
         ready = ready;
         site = activated.behind;
         talks = asked_more t k.site (connection_of x) before k.talks (connection_of y) after c.sent c.moves c.same moment (first ∷ (second ∷ [])) (there.reply ∷ (activated.reply ∷ [])) activated.behind activated.at
-            (rounds_octets rounds ∙ ap (λ (o : List ℕ). k.site.octets ++ o) (sym there.taken_parts)) behind;
+            (rounds_octets rounds ∙ ap (λ (o : List ℕ). k.site.octets ++ o) (sym there.taken_parts)) behind_there;
       })

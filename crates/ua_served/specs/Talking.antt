@@ -8,7 +8,7 @@ use Rattle.ua_frame.specs.declared.limits.Limits.{Limits}
 use Rattle.ua_channel.specs.Client.{client_limits, url_of}
 use Rattle.ua_channel.specs.ClientAsks.{call_lane}
 use Rattle.ua_channel.specs.ClientReads.{AtClient}
-use Rattle.ua_channel.specs.Line.{Traffic}
+use Rattle.ua_channel.specs.Line.{Traffic, WhereTold}
 use Rattle.ua_channel.specs.ServerReads.{AtServer, ServerReads}
 use Rattle.ua_channel.specs.ServerTold.{Told}
 use Rattle.ua_channel.specs.declared.client.channel.ClientChannel.{ClientChannel}
@@ -32,11 +32,15 @@ use Rattle.ua_served.specs.Turns.{ids_behind, opening_told, tokens_behind, turns
 
 -- ---- the line
 
--- the octets down of a line are what a server that began so says of its octets up: these were sent over it and those were got, and whatever
--- more is sent, to come is what the server says of all of it, behind what was got
+-- the octets down of a line are what a server that began so says of its octets up, behind these up and those down: whatever more is sent, to
+-- come is what the server says of all of it, behind what was got
 abbrev pub IsLineTo : Beginning → List ℕ → List ℕ → Option Traffic → Type 0
 IsLineTo b sent got None = ⊥
 IsLineTo b sent got (Some traffic) = (more : List ℕ) → said_to b (sent ++ more) ≡ got ++ traffic.coming more
+
+-- just these octets were sent over a line, if it tells them, between two moments
+abbrev pub IsSentOver : List ℕ → Option Traffic → Option Traffic → Type 0
+IsSentOver octets before after = WhereTold (λ (a b : Traffic). b.written ≡ a.written ++ octets) before after
 
 -- the numbers of a server have 32 bits, as its ACK and its channel give them, and its moment can be written (OPC 10000-6, 7.1.2.4)
 pub record CanBegin (b : Beginning) : Type 0 where

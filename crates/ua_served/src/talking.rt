@@ -23,7 +23,8 @@ ghost use Rattle.ua_served.specs.Accepted.{IsTurnFault, turn_refusal};
 ghost use Rattle.ua_served.specs.Beginning.{Beginning};
 ghost use Rattle.ua_served.specs.Replies.{lane_back, requests_replies, state_behind};
 ghost use Rattle.ua_served.specs.Says.{left_by, said_to};
-ghost use Rattle.ua_served.specs.Talking.{CanBegin, IsBehindFirst, IsLineTo, IsTalking, Reads, SoFar, acked_in, closed_octets, id_in, opening, session_requests, state_in, newest_in, told_in, with_turn};
+ghost use Rattle.ua_served.specs.Talking.{CanBegin, IsBehindFirst, IsLineTo, IsSentOver, IsTalking, Reads, SoFar, acked_in, closed_octets, id_in, opening, session_requests, state_in, newest_in, octets_of, told_in, with_turn};
+ghost use Rattle.ua_served.specs.Sends.{closing_behind};
 ghost use Rattle.ua_served.specs.Turns.{calls_told};
 
 use std::alloc::Global;
@@ -70,6 +71,8 @@ pub fn begin_session_as<L: Line>(
 
     // Behind a talk, it goes on with a turn of two requests: CreateSession, and ActivateSession with the token that the server gave.
     ensures stays { IfOk result (λ token. (t : SoFar) → IsTalking t client.old (L.traffic line.old) → IsTalking (with_turn t moment (Some (session_requests t policy_id token moment))) client.new (L.traffic line.new)) }
+    // Just their octets are sent.
+    ensures sends { IfOk result (λ token. (t : SoFar) → IsTalking t client.old (L.traffic line.old) → IsSentOver (octets_of t moment (Some (session_requests t policy_id token moment))) (L.traffic line.old) (L.traffic line.new)) }
     // The server reads just these, and its services are as they leave them.
     ensures reaches { IfOk result (λ token. (t : SoFar) → IsTalking t client.old (L.traffic line.old) → Reads t.server (with_turn t moment (Some (session_requests t policy_id token moment))).octets (told_in t ++ calls_told (newest_in t) (id_in t) (bodies_of (session_requests t policy_id token moment)))) }
     ensures state { IfOk result (λ token. (t : SoFar) → IsTalking t client.old (L.traffic line.old) → left_by t.server (with_turn t moment (Some (session_requests t policy_id token moment))).octets ≡ state_behind (state_in t) t.server.moment (session_requests t policy_id token moment)) }
@@ -94,7 +97,9 @@ pub fn call_all<L: Line>(
     ensures closed { IsDone client.old → (result ≡ Err Closed) × (client.new ≡ client.old) × (line.new ≡ line.old) }
     ensures failed { L.failures line.new ≡ failures_behind (L.failures line.old) result }
 
-    // Behind a talk, the server reads just these requests more: each whole, once, in order, under its own request id and the newest token.
+    // Behind a talk, just the octets of these requests are sent.
+    ensures sends { OnOk result ((t : SoFar) → IsTalking t client.old (L.traffic line.old) → IsSentOver (octets_of t moment (Some requests.now)) (L.traffic line.old) (L.traffic line.new)) }
+    // The server reads just these requests more: each whole, once, in order, under its own request id and the newest token.
     ensures reaches { OnOk result ((t : SoFar) → IsTalking t client.old (L.traffic line.old) → Reads t.server (with_turn t moment (Some requests.now)).octets (told_in t ++ calls_told (newest_in t) (id_in t) (bodies_of requests.now))) }
     // Each reply is that of its own request in the state that those before it left, and all of them leave this state.
     ensures replied { IfOk result (λ replies. (t : SoFar) → IsTalking t client.old (L.traffic line.old) → map Some replies.items ≡ requests_replies (lane_back t.server t.limits t.url (newest_in t)) (state_in t) t.server.moment requests.now) }
@@ -128,6 +133,7 @@ pub fn call_into<L: Line>(
     ensures failed { L.failures line.new ≡ failures_behind (L.failures line.old) (fault_alone result) }
 
     // The same as of `call_all`.
+    ensures sends { OnOk result ((t : SoFar) → IsTalking t client.old (L.traffic line.old) → IsSentOver (octets_of t moment (Some requests.now)) (L.traffic line.old) (L.traffic line.new)) }
     ensures reaches { OnOk result ((t : SoFar) → IsTalking t client.old (L.traffic line.old) → Reads t.server (with_turn t moment (Some requests.now)).octets (told_in t ++ calls_told (newest_in t) (id_in t) (bodies_of requests.now))) }
     ensures replied { OnOk result ((t : SoFar) → IsTalking t client.old (L.traffic line.old) → map Some replies.new.items ≡ map Some replies.old.items ++ requests_replies (lane_back t.server t.limits t.url (newest_in t)) (state_in t) t.server.moment requests.now) }
     ensures state { OnOk result ((t : SoFar) → IsTalking t client.old (L.traffic line.old) → left_by t.server (with_turn t moment (Some requests.now)).octets ≡ state_behind (state_in t) t.server.moment requests.now) }
@@ -154,7 +160,9 @@ pub fn renew<L: Line>(
     ensures closed { IsDone client.old → (result ≡ Err Closed) × (client.new ≡ client.old) × (line.new ≡ line.old) }
     ensures failed { L.failures line.new ≡ failures_behind (L.failures line.old) result }
 
-    // Behind a talk, the server reads just this OPN more, and issues the next token, for an hour (OPC 10000-4, 5.6.2).
+    // Behind a talk, just the octets of an OPN are sent.
+    ensures sends { OnOk result ((t : SoFar) → IsTalking t client.old (L.traffic line.old) → IsSentOver (octets_of t moment None) (L.traffic line.old) (L.traffic line.new)) }
+    // The server reads just this OPN more, and issues the next token, for an hour (OPC 10000-4, 5.6.2).
     ensures reaches { OnOk result ((t : SoFar) → IsTalking t client.old (L.traffic line.old) → Reads t.server (with_turn t moment None).octets (told_in t ++ Opened (id_in t) 0 (newest_in t + 1) 3600000 ∷ [])) }
     // It leaves the services as they were.
     ensures state { OnOk result ((t : SoFar) → IsTalking t client.old (L.traffic line.old) → left_by t.server (with_turn t moment None).octets ≡ state_in t) }
@@ -180,7 +188,9 @@ pub fn close<L: Line>(
     ensures closed { IsDone client.old → (result ≡ Err Closed) × (client.new ≡ client.old) × (line.new ≡ line.old) }
     ensures failed { L.failures line.new ≡ failures_behind (L.failures line.old) result }
 
-    // Behind a talk, the server reads just this CLO more, which closes its channel.
+    // Behind a talk, just the octets of a CLO are sent.
+    ensures sends { OnOk result ((t : SoFar) → IsTalking t client.old (L.traffic line.old) → IsSentOver (closing_behind (acked_in t) t.server.channel moment t.turns) (L.traffic line.old) (L.traffic line.new)) }
+    // The server reads just this CLO more, which closes its channel.
     ensures reaches { OnOk result ((t : SoFar) → IsTalking t client.old (L.traffic line.old) → ServerCloses t.server.limits t.server.channel (closed_octets t moment) (told_in t ++ ToldClosed ∷ [])) }
     // It says nothing of that, so that the client took all that it said; and its services are as the talk left them.
     ensures silent { OnOk result ((t : SoFar) → IsTalking t client.old (L.traffic line.old) → said_to t.server (closed_octets t moment) ≡ said_to t.server t.octets) }

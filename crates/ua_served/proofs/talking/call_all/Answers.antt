@@ -1,4 +1,4 @@
-use Rattle.ua_served.proofs.Calling.{asks_first, asks_on, asks_refused, asks_replied, leaves_turn, reads_turn, stands_there}
+use Rattle.ua_served.proofs.Calling.{asks_first, asks_on, asks_refused, asks_replied, asks_sent, leaves_turn, reads_turn, stands_there}
 use Rattle.ua_served.proofs.talking.call_all.Goals as goal
 use Rattle.std.specs.Prelude.{Some}
 
@@ -39,3 +39,11 @@ returns-in-Err-clause-before g c = λ reason t k.
     let calls = c.in-Err.ensures.calls k.ready in
     asks_first t c.args.client.now before k c.call_all.new.self after c.clients_are_settled.ensures.none_pending c.args.moment c.args.requests.now calls.sent calls.moves calls.same
     c.in-Err.fault reason (calls.answers k.site (stands_there t c.args.client.now before k)) (c.in-Err.ensures.left k.ready)
+
+pub returns-in-Ok-clause-sends : goal.returns-in-Ok-clause-sends
+returns-in-Ok-clause-sends g c = λ t k.
+    let before = g.L.Line.traffic c.args.line.now in
+    let after = g.L.Line.traffic c.call_all.new.line in
+    let calls = c.in-Ok.ensures.calls k.ready in
+    asks_sent t c.args.client.now before k c.call_all.new.self after c.clients_are_settled.ensures.none_pending c.args.moment c.args.requests.now calls.sent calls.moves calls.same
+    c.in-Ok.replies.items (calls.answers k.site (stands_there t c.args.client.now before k))

@@ -1,6 +1,6 @@
 use Rattle.std.proofs.Common.{FitsSigned, rules, w64}
 use Rattle.std.specs.Prelude.{None}
-use Rattle.ua_served.proofs.Calling.{leaves_turn, reads_turn, renews_not, renews_on}
+use Rattle.ua_served.proofs.Calling.{leaves_turn, reads_turn, renews_not, renews_on, renews_sent}
 use Rattle.ua_served.proofs.Fitting.{moment_fits}
 use Rattle.ua_served.proofs.talking.renew.Goals as goal
 
@@ -17,3 +17,8 @@ returns-in-Ok-clause-state g c = λ t k. leaves_turn t c.args.moment None c.rene
 
 pub returns-in-Err-clause-refused : goal.returns-in-Err-clause-refused
 returns-in-Err-clause-refused g c = λ reason t k. renews_not t c.args.client.now (g.L.Line.traffic c.args.line.now) k c.renew.new.self (g.L.Line.traffic c.renew.new.line) c.args.moment c.in-Err.fault reason (c.in-Err.ensures.renews k.ready)
+
+pub returns-in-Ok-clause-sends : goal.returns-in-Ok-clause-sends
+returns-in-Ok-clause-sends g c = λ t k.
+    let dated : FitsSigned w64 c.args.moment.ticks = search rules in
+    renews_sent t c.args.client.now (g.L.Line.traffic c.args.line.now) k c.renew.new.self (g.L.Line.traffic c.renew.new.line) c.args.moment (moment_fits c.args.moment dated) c.in-Ok.field-0 (c.in-Ok.ensures.renews k.ready)
