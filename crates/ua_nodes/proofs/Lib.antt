@@ -11,6 +11,7 @@ pub mod Parsed
 pub mod Pieces
 pub mod Ranges
 pub mod Reasons
+pub mod Sets
 pub mod SoundFile
 pub mod SoundRead
 pub mod SoundWrite

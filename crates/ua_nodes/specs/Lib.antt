@@ -3,6 +3,7 @@ pub mod LineFault
 pub mod NodeFile
 pub mod Range
 pub mod Read
+pub mod Set
 pub mod Sound
 pub mod Status
 pub mod Table

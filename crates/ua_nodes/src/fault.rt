@@ -58,6 +58,21 @@ impl<T: Drop> From<AllocFailed<T>> for InsertFault {
     }
 }
 
+/// Why a reading was not taken. The table is as it was.
+#[derive(Clone, Copy, PartialEq, Eq, Debug, Error)]
+pub enum SetFault {
+    /// There is no node of that NodeId.
+    #[error("there is no node of that id")]
+    Unknown,
+    /// The value is none of the node's type, or an array with dimensions.
+    #[error("the value is none of the node's type")]
+    Mismatch,
+    /// The value cannot be written within a DataValue: it has too many levels, or a part of it cannot
+    /// be written.
+    #[error("the value cannot be written")]
+    NotWritable,
+}
+
 /// Why a line of a node file is no node. A line is refused for the first of these that holds.
 #[derive(Clone, Copy, PartialEq, Eq, Debug, Error)]
 pub enum LineReason {

@@ -22,6 +22,7 @@ mod number;
 mod part;
 mod range;
 mod read;
+mod set;
 mod sound;
 mod stamps;
 mod table;
@@ -30,7 +31,7 @@ mod type_name;
 mod value;
 mod write;
 
-pub use fault::{InsertFault, LineReason, LoadFault, ValueFault};
+pub use fault::{InsertFault, LineReason, LoadFault, SetFault, ValueFault};
 pub use laws::{
     a_file_has_one_first_bad_line, a_file_loads_in_one_way, a_file_that_loads_has_no_bad_line,
     a_loaded_table_is_sound, a_node_is_sound_where_it_passes, a_node_keeps_the_last_good_item,
@@ -40,6 +41,7 @@ pub use laws::{
 pub use node::{Access, Node, NodeValue, Variable};
 pub use node_file::{is_read, without_return};
 pub use range::is_range;
+pub use set::Reading;
 pub use stamps::Stamps;
 pub use table::NodeTable;
 pub use type_name::parse_type;

@@ -90,7 +90,7 @@ impl Variable {
     }
 
     /// Keeps a value, its status and when it came about.
-    fn store(&mut self, given: DataValue, moment: DateTime)
+    pub(crate) fn store(&mut self, given: DataValue, moment: DateTime)
         requires { IsSome given.value }
         ensures { self.new ≡ stored self.old given moment }
     {

@@ -16,6 +16,10 @@ mod Pendings
 mod Advancing
 mod Turning
 mod Handling
+mod Nows
+mod NowStanding
+mod Livings
+mod EndpointStays
 mod Stepped
 mod Thinned
 mod Clean

@@ -59,7 +59,7 @@ used-quiet told ids = no-more (used_in (told ++ given_up ids)) (used_in told) (u
 abbrev pub course : State → ℕ → List DateTime → Option Agreement → Course
 course s n moments a = record { state = s; number = n; moments = moments; agreement = a }
 
-same-course : (c : Course) (s : State) (n : ℕ) (ms : List DateTime) (a : Option Agreement) → c.state ≡ s → c.number ≡ n → c.moments ≡ ms → c.agreement ≡ a → c ≡ course s n ms a
+pub same-course : (c : Course) (s : State) (n : ℕ) (ms : List DateTime) (a : Option Agreement) → c.state ≡ s → c.number ≡ n → c.moments ≡ ms → c.agreement ≡ a → c ≡ course s n ms a
 same-course c s n ms a p q r t =
     ap (λ (x : State). course x c.number c.moments c.agreement) p
     ∙ (ap (λ (x : ℕ). course s x c.moments c.agreement) q

@@ -9,6 +9,8 @@ pub mod Said
 pub mod Requests
 pub mod Happening
 pub mod Stepping
+pub mod Now
+pub mod Living
 pub mod Served
 pub mod Serving
 pub mod ServingParts

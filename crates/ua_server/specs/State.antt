@@ -30,6 +30,10 @@ with_next_session s = record { nodes = s.nodes; endpoint = s.endpoint; made = s.
 abbrev pub with_nodes : State → Nodes → State
 with_nodes s nodes = record { nodes = nodes; endpoint = s.endpoint; made = s.made; session = s.session }
 
+-- the state with this session, or none
+abbrev pub with_session : State → Option Session → State
+with_session s session = record { nodes = s.nodes; endpoint = s.endpoint; made = s.made; session = session }
+
 -- the SessionId of the nth session: ns=1;i=n
 abbrev pub session_id : ℕ → NodeId
 session_id n = node 1 (Numeric n)

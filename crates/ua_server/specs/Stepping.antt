@@ -8,7 +8,7 @@ use Rattle.ua_channel.specs.Agreement.{Agreement}
 use Rattle.ua_channel.specs.Received.{has_some, listed}
 use Rattle.ua_channel.specs.ServerAnswers.{AnswersAt}
 use Rattle.ua_channel.specs.ServerRules.{server_rules}
-use Rattle.ua_channel.specs.ServerStands.{limits_of, channel_of, next_of, IsDone, Goes, GoesTelling, ClosedAt, RefusedAt}
+use Rattle.ua_channel.specs.ServerStands.{channel_of, next_of, IsDone, Goes, GoesTelling, ClosedAt, RefusedAt}
 use Rattle.ua_channel.specs.ServerTold.{Told, GaveUp, Asked, Closed}
 use Rattle.ua_channel.specs.declared.server.ServerChannel.{ServerChannel}
 use Rattle.ua_channel.specs.declared.server_event.ServerEvent.{ServerEvent}
@@ -170,14 +170,6 @@ is_given_up (Err f) = false
 pub record AnswersBehind (channel number : ℕ) (moment : DateTime) (piece : List ℕ) (n : ℕ) (answer : Result ServerEvent ChannelFault) (new : ServerChannel) (octets : List ℕ) (before : List Told) : Type 0 where
   pub quiet : List ℕ
   pub answers : AnswersAt channel number moment piece n answer new octets (before ++ given_up quiet)
-
--- the server stood there, and its channel answered this to the first octets of the piece, behind messages that were given up
-pub record AnsweredBehind (old : ServerChannel) (moment : DateTime) (piece : List ℕ) (n : ℕ) (answer : Result ServerEvent ChannelFault) (mid : ServerChannel) (octets : List ℕ) (told : List Told) (first : State) (moments : List DateTime) (before : State) : Type 0 where
-  pub stands : Stands old octets told first moments before
-  pub limits : limits_of mid ≡ limits_of old
-  pub channel : channel_of mid ≡ channel_of old
-  pub quiet : List ℕ
-  pub answers : AnswersAt (channel_of old) (next_of old) moment piece n answer mid octets (told ++ given_up quiet)
 
 -- what is answered is told apart, and which request it is, if it is one
 pub record Tells (answered : Bool) (request : Option AnsweredRequest) (channel : ℕ) (moment : DateTime) (piece : List ℕ) (n : ℕ) (out : List ℕ) (new : ServerChannel) (octets : List ℕ) (told : List Told) (first : State) (moments : List DateTime) (now : State) : Type 0 where

@@ -20,6 +20,7 @@
 #![tactic(auto)]
 
 mod attributes;
+mod connection;
 mod endpoint;
 pub mod laws;
 mod reply;
@@ -32,10 +33,12 @@ mod sessions;
 mod step;
 mod watch;
 
+pub use connection::Connection;
 pub use endpoint::Endpoint;
 pub use serve_fault::ServeFault;
 pub use server::Server;
 pub use services::Services;
 pub use serving::{serve, serve_watched};
+pub use session::Seat;
 pub use step::{End, Step, StepFault};
 pub use watch::{AnsweredRequest, Unwatched, Watch};

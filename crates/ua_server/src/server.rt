@@ -10,11 +10,12 @@ ghost use Rattle.ua_channel.specs.ServerStands.{limits_of, channel_of, next_of, 
 ghost use Rattle.ua_channel.specs.ServerTold.{Told, Asked};
 ghost use Rattle.ua_channel.specs.declared.server.ServerChannel.{ServerChannel};
 ghost use Rattle.ua_channel.specs.declared.server_fault.ChannelFault.TheVariants as channel_fault;
+ghost use Rattle.ua_server.specs.Now.{NowBehind, StepNow};
 ghost use Rattle.ua_server.specs.Reply.{answered};
 ghost use Rattle.ua_server.specs.Requests.{request_answered};
 ghost use Rattle.ua_server.specs.Said.{lane_at};
 ghost use Rattle.ua_server.specs.State.{State};
-ghost use Rattle.ua_server.specs.Stepping.{AnswersBehind, AnsweredBehind, IsReplyAt, StepAnswers, StepStands, is_given_up};
+ghost use Rattle.ua_server.specs.Stepping.{AnswersBehind, IsReplyAt, StepStands, is_given_up};
 ghost use Rattle.ua_server.specs.declared.step.StepFault.TheVariants as step_fault;
 
 use crate::services::Services;
@@ -115,11 +116,11 @@ fn reply_to(
 /// What comes of a fault of the channel behind so many octets: the ERR frame that says why what
 /// stands there is refused.
 fn refusal(alloc: Global, taken: usize, fault: ChannelFault) -> Result<Step, StepFault>
-    ensures answers { (old mid : ServerChannel) (moment : DateTime) (piece octets : List ℕ) (told : List Told) (first : State) (moments : List DateTime) (before : State)
-        → AnsweredBehind old moment piece taken (Err fault) mid octets told first moments before
-        → StepAnswers (limits_of old) (channel_of old) moment piece result mid octets told first moments before before }
     ensures stands { (old mid : ServerChannel) (moment : DateTime) (piece octets : List ℕ) (told : List Told)
         → AnswersBehind (channel_of old) (next_of old) moment piece taken (Err fault) mid octets told → StepStands piece result mid octets told }
+    ensures now { (old mid : ServerChannel) (moment : DateTime) (piece octets : List ℕ) (told : List Told) (before : State)
+        → NowBehind old moment piece taken (Err fault) mid octets told
+        → StepNow (limits_of old) (channel_of old) (next_of old) moment piece result mid octets told before before }
     ensures taken { IfOk result (λ step. (step.taken ≡ taken) × (step.end ≡ None → ⊥)) }
     ensures closed { fault ≡ channel_fault.Closed → result ≡ Err step_fault.Closed }
 {
@@ -151,22 +152,25 @@ pub struct Server {
 }
 
 impl Server {
-    ghost use Rattle.std.specs.Prelude.{◌≡◌, ◌≤◌, ◌↔◌, [], ℕ, List, length, false, Ok, Err, IfOk, IsErrOf, IsTrue};
+    ghost use Rattle.std.specs.Prelude.{◌≡◌, ◌≤◌, ◌↔◌, ◌++◌, [], ℕ, List, length, take, None, false, Ok, Err, IfOk, IsErrOf, IsTrue};
     ghost use Rattle.ua_builtin.specs.declared.date_time.DateTime.{DateTime};
     ghost use Rattle.ua_channel.specs.Received.{received};
     ghost use Rattle.ua_channel.specs.ServerStands.{limits_of, channel_of, next_of, bound_of, Goes, IsDone, bound_after, held_after, Stands as Holds};
     ghost use Rattle.ua_channel.specs.ServerTold.{Told};
     ghost use Rattle.ua_channel.specs.declared.server.ServerChannel.{ServerChannel};
     ghost use Rattle.ua_frame.specs.declared.frame.Frame.{Frame};
+    ghost use Rattle.ua_server.specs.Living.{Happening, Lives, LivesOn};
+    ghost use Rattle.ua_server.specs.Now.{AdvanceNow, NowBehind, StepNow};
     ghost use Rattle.ua_server.specs.Served.{channel_in};
     ghost use Rattle.ua_server.specs.Serving.{IsClean};
     ghost use Rattle.ua_server.specs.State.{State};
-    ghost use Rattle.ua_server.specs.Stepping.{AnswersBehind, AnsweredBehind, Advances, AdvanceStands, Stands, StepAnswers, StepStands, Takes, is_given_up};
+    ghost use Rattle.ua_server.specs.Stepping.{AnswersBehind, Advances, AdvanceStands, Stands, StepAnswers, StepStands, Takes, is_given_up};
     ghost use Rattle.ua_server.specs.declared.step.StepFault.TheVariants as step_fault;
 
     /// Waits for the HEL of a client, with these limits; the channel will have this id.
     pub fn new(alloc: Global, limits: Limits, channel_id: u32) -> Server
         ensures stands { (first : State) → Stands (channel_in result) [] [] first [] first }
+        ensures lives { (first : State) → Lives (channel_in result) [] [] first first }
         ensures holds { Holds (channel_in result) [] [] [] }
         ensures limits { limits_of (channel_in result) ≡ limits }
         ensures channel { channel_of (channel_in result) ≡ channel_id }
@@ -210,8 +214,15 @@ impl Server {
     ) -> Result<Step, StepFault>
         ensures answers { (octets : List ℕ) (told : List Told) (first : State) (moments : List DateTime) → Stands (channel_in self.old) octets told first moments services.old
             → StepAnswers (limits_of (channel_in self.old)) (channel_of (channel_in self.old)) moment piece.now result (channel_in self.new) octets told first moments services.old services.new }
+        // By what stands alone, however that came to be.
+        ensures now { (octets : List ℕ) (told : List Told) → Goes (channel_in self.old) octets told
+            → StepNow (limits_of (channel_in self.old)) (channel_of (channel_in self.old)) (next_of (channel_in self.old)) moment piece.now result (channel_in self.new) octets told services.old services.new }
+        // It lives on, whatever happened to its services before.
+        ensures lives { (octets : List ℕ) (hs : List Happening) (first : State) → Lives (channel_in self.old) octets hs first services.old
+            → IfOk result (λ step. step.end ≡ None → LivesOn (channel_in self.new) (channel_of (channel_in self.old)) (octets ++ take step.taken piece.now) step.out.items hs first services.new) }
         // Where it then stands is the same whatever the services are.
         ensures stands { (octets : List ℕ) (told : List Told) → Goes (channel_in self.old) octets told → StepStands piece.now result (channel_in self.new) octets told }
+        ensures endpoint { services.new.endpoint ≡ services.old.endpoint }
         ensures progress { IfOk result (λ step. Takes piece.now step) }
         // After want of memory, the bound is what it was before the call.
         ensures starved { (octets : List ℕ) (told : List Told) → Goes (channel_in self.old) octets told
@@ -243,7 +254,10 @@ impl Server {
     ) -> Result<(Step, bool, Option<AnsweredRequest>), StepFault>
         ensures answers { (octets : List ℕ) (told : List Told) (first : State) (moments : List DateTime) → Stands (channel_in self.old) octets told first moments services.old
             → Advances (limits_of (channel_in self.old)) (channel_of (channel_in self.old)) moment piece.now result (channel_in self.new) octets told first moments services.old services.new }
+        ensures now { (octets : List ℕ) (told : List Told) → Goes (channel_in self.old) octets told
+            → AdvanceNow (limits_of (channel_in self.old)) (channel_of (channel_in self.old)) (next_of (channel_in self.old)) moment piece.now result (channel_in self.new) octets told services.old services.new }
         ensures stands { (octets : List ℕ) (told : List Told) → Goes (channel_in self.old) octets told → AdvanceStands piece.now result (channel_in self.new) octets told }
+        ensures endpoint { services.new.endpoint ≡ services.old.endpoint }
         ensures progress { IfOk result (λ found. Takes piece.now found.0) }
         ensures starved { (octets : List ℕ) (told : List Told) → Goes (channel_in self.old) octets told
             → IsErrOf result step_fault.OutOfMemory → bound_of (channel_in self.new) ≡ bound_of (channel_in self.old) }
@@ -262,6 +276,7 @@ impl Server {
     }
 
     /// What comes of an event behind so many octets.
+    #[tactic(auto, using(crate::proofs::EndpointStays::left_stays, crate::proofs::EndpointStays::broken_stays))]
     fn answer(
         &mut self,
         services: &mut Services,
@@ -270,11 +285,12 @@ impl Server {
         moment: DateTime,
     ) -> Result<(Step, bool, Option<AnsweredRequest>), StepFault>
         requires { is_given_up (Ok event) ≡ false }
-        ensures answers { (old : ServerChannel) (piece octets : List ℕ) (told : List Told) (first : State) (moments : List DateTime)
-            → AnsweredBehind old moment piece taken (Ok event) (channel_in self.old) octets told first moments services.old
-            → Advances (limits_of old) (channel_of old) moment piece result (channel_in self.new) octets told first moments services.old services.new }
+        ensures now { (old : ServerChannel) (piece octets : List ℕ) (told : List Told)
+            → NowBehind old moment piece taken (Ok event) (channel_in self.old) octets told
+            → AdvanceNow (limits_of old) (channel_of old) (next_of old) moment piece result (channel_in self.new) octets told services.old services.new }
         ensures stands { (old : ServerChannel) (piece octets : List ℕ) (told : List Told)
             → AnswersBehind (channel_of old) (next_of old) moment piece taken (Ok event) (channel_in self.old) octets told → AdvanceStands piece result (channel_in self.new) octets told }
+        ensures endpoint { services.new.endpoint ≡ services.old.endpoint }
         ensures taken { IfOk result (λ found. found.0.taken ≡ taken) }
         ensures starved { (old : ServerChannel) (piece octets : List ℕ) (told : List Told) → Goes old octets told → limits_of (channel_in self.old) ≡ limits_of old
             → AnswersBehind (channel_of old) (next_of old) moment piece taken (Ok event) (channel_in self.old) octets told

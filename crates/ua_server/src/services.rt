@@ -1,18 +1,21 @@
 //! The services of a server.
 
-ghost use Rattle.std.specs.Prelude.{◌≡◌, IsTrue, IfOk, OnErr};
+ghost use Rattle.std.specs.Prelude.{◌≡◌, IsTrue, IfOk, OnErr, MatchResult, None, Some};
+ghost use Rattle.ua_nodes.specs.Set.{after_set, set_refusal};
+ghost use Rattle.ua_nodes.specs.Table.{node_at};
 ghost use Rattle.ua_nodes.specs.Sound.{IsSound};
 ghost use Rattle.ua_services.specs.Response.{response};
 ghost use Rattle.ua_server.specs.Answer.{fault_of, answer};
 ghost use Rattle.ua_server.specs.Endpoint.{Fits};
-ghost use Rattle.ua_server.specs.State.{fresh, begun};
+ghost use Rattle.ua_server.specs.State.{fresh, begun, with_nodes, with_session};
 
 use crate::endpoint::Endpoint;
-use crate::session::Session;
+use crate::session::{Seat, Session};
 use std::alloc::{AllocError, Global};
 use std::marker::Model;
-use ua_builtin::{DateTime, StatusCode};
-use ua_nodes::NodeTable;
+use std::mem;
+use ua_builtin::{DateTime, NodeId, StatusCode};
+use ua_nodes::{NodeTable, Reading, SetFault};
 use ua_services::{Request, Response, ServiceFault};
 
 /// The state of a server, and what it answers: its nodes, what it says of itself, how many sessions
@@ -62,6 +65,38 @@ impl Services {
         ensures { self.new ≡ begun self.old }
     {
         self.session = None;
+    }
+
+    /// The nodes as they are.
+    pub fn nodes(&self) -> &NodeTable
+        ensures { result.now ≡ self.now.nodes }
+    {
+        &self.nodes
+    }
+
+    /// The nodes as they are, for good.
+    pub fn into_nodes(self) -> NodeTable
+        ensures is { result ≡ self.nodes }
+        ensures sound { IsSound result }
+    {
+        self.nodes
+    }
+
+    /// Sets what the node of a NodeId holds, as [`NodeTable::set`]. Takes no memory.
+    pub fn set(&mut self, id: &NodeId, reading: Reading) -> Result<(), SetFault>
+        ensures state { self.new ≡ with_nodes self.old (after_set id.now reading self.old.nodes) }
+        ensures answer { MatchResult result (λ _. set_refusal (node_at self.old.nodes id.now) reading ≡ None) (λ fault. set_refusal (node_at self.old.nodes id.now) reading ≡ Some fault) }
+        ensures kept { OnErr result (self.new ≡ self.old) }
+    {
+        self.nodes.set(id, reading)
+    }
+
+    /// The session that there is, if there is one, and that of the seat change places. Takes no memory.
+    pub fn swap_seat(&mut self, seat: &mut Seat)
+        ensures services { self.new ≡ with_session self.old seat.old.session }
+        ensures seat { seat.new.session ≡ self.old.session }
+    {
+        mem::swap(&mut self.session, &mut seat.session);
     }
 
     /// The ServiceFault of this code, to the request with this RequestHandle, at a moment

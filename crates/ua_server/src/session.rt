@@ -1,6 +1,6 @@
 //! A session.
 
-ghost use Rattle.std.specs.Prelude.{◌≡◌};
+ghost use Rattle.std.specs.Prelude.{◌≡◌, None};
 ghost use Rattle.ua_server.specs.State.{session_id, session_token};
 
 use ua_builtin::{Identifier, NodeId};
@@ -10,6 +10,22 @@ use ua_builtin::{Identifier, NodeId};
 pub struct Session {
     pub number: u32,
     pub activated: bool,
+}
+
+/// What a connection has of the state of a server, beside its channel: its session, if there is one.
+/// It is made empty, and filled by [`Services::swap_seat`](crate::Services::swap_seat) alone.
+#[derive(Drop)]
+pub struct Seat {
+    pub(crate) session: Option<Session>,
+}
+
+impl Seat {
+    /// Without a session.
+    pub fn empty() -> Seat
+        ensures { result ≡ record { session = None } }
+    {
+        Seat { session: None }
+    }
 }
 
 /// The namespace of SessionIds.

@@ -1,30 +1,11 @@
-use Rattle.std.proofs.Common.{Ok, Err}
+use Rattle.std.proofs.Common.{◌∙◌, false, None, Ok, Err}
 use Rattle.ua_channel.specs.ServerStands.{channel_of, next_of}
 use Rattle.ua_server.specs.Served.{channel_in}
 use Rattle.ua_server.proofs.Bounds.{fault-bound}
 use Rattle.ua_server.proofs.Standing.{behind-as}
-use Rattle.ua_server.proofs.Events.{answered-behind, ended-with}
+use Rattle.ua_server.proofs.Nows.{now-behind, now-ended}
+use Rattle.ua_server.proofs.NowStanding.{as-advanced}
 use Rattle.ua_server.proofs.server.Server.advance.Goals as goal
-
-pub returns-in-Ok-clause-answers : goal.returns-in-Ok-clause-answers
-returns-in-Ok-clause-answers c = λ octets told first moments s.
-    c.answer.ensures.answers (channel_in c.args.self.now) c.args.piece.now octets told first moments
-    (answered-behind (channel_in c.args.self.now) c.next_answered-taken.new.channel c.args.moment c.args.piece.now c.next_answered-taken.result.0 octets told first moments c.args.services.now
-    c.next_answered-taken.result.1 (Ok c.in-Ok.event) c.in-Ok.is s c.next_answered-taken.ensures.limits c.next_answered-taken.ensures.channel (c.next_answered-taken.ensures.answers octets told s.goes))
-
-pub returns-in-Ok-refusal-clause-answers : goal.returns-in-Ok-refusal-clause-answers
-returns-in-Ok-refusal-clause-answers c = λ octets told first moments s.
-    let there = answered-behind (channel_in c.args.self.now) c.next_answered-taken.new.channel c.args.moment c.args.piece.now c.next_answered-taken.result.0 octets told first moments c.args.services.now
-    c.next_answered-taken.result.1 (Err c.in-Err.fault) c.in-Err.is s c.next_answered-taken.ensures.limits c.next_answered-taken.ensures.channel (c.next_answered-taken.ensures.answers octets told s.goes) in
-    ended-with (channel_of (channel_in c.args.self.now)) c.args.moment c.args.piece.now c.in-Ok-refusal.step.end c.in-Ok-refusal.step.taken c.in-Ok-refusal.step.out.items c.next_answered-taken.new.channel octets told first moments c.args.services.now c.args.services.now
-    c.in-Ok-refusal.ensures.taken.1
-    (c.in-Ok-refusal.ensures.answers (channel_in c.args.self.now) c.next_answered-taken.new.channel c.args.moment c.args.piece.now octets told first moments c.args.services.now there)
-
-pub returns-in-Err-refusal-clause-answers : goal.returns-in-Err-refusal-clause-answers
-returns-in-Err-refusal-clause-answers c = λ octets told first moments s.
-    let there = answered-behind (channel_in c.args.self.now) c.next_answered-taken.new.channel c.args.moment c.args.piece.now c.next_answered-taken.result.0 octets told first moments c.args.services.now
-    c.next_answered-taken.result.1 (Err c.in-Err.fault) c.in-Err.is s c.next_answered-taken.ensures.limits c.next_answered-taken.ensures.channel (c.next_answered-taken.ensures.answers octets told s.goes) in
-    c.in-Err-refusal.ensures.answers (channel_in c.args.self.now) c.next_answered-taken.new.channel c.args.moment c.args.piece.now octets told first moments c.args.services.now there
 
 pub returns-in-Ok-clause-stands : goal.returns-in-Ok-clause-stands
 returns-in-Ok-clause-stands c = λ octets told g.
@@ -56,3 +37,38 @@ returns-in-Err-refusal-clause-starved c = λ octets told g fails.
     c.in-Err.fault c.next_answered-taken.result.1 c.in-Err.is (c.next_answered-taken.ensures.starved octets told g)
     (behind-as (channel_of (channel_in c.args.self.now)) (next_of (channel_in c.args.self.now)) c.args.moment c.args.piece.now c.next_answered-taken.result.0 c.next_answered-taken.new.channel octets told
     c.next_answered-taken.result.1 (Err c.in-Err.fault) c.in-Err.is (c.next_answered-taken.ensures.answers octets told g))
+
+pub returns-in-Ok-clause-now : goal.returns-in-Ok-clause-now
+returns-in-Ok-clause-now c = λ octets told g.
+    c.answer.ensures.now (channel_in c.args.self.now) c.args.piece.now octets told
+    (now-behind (channel_in c.args.self.now) c.next_answered-taken.new.channel c.args.moment c.args.piece.now c.next_answered-taken.result.0 octets told
+    c.next_answered-taken.result.1 (Ok c.in-Ok.event) c.in-Ok.is c.next_answered-taken.ensures.limits c.next_answered-taken.ensures.channel (c.next_answered-taken.ensures.answers octets told g))
+
+pub returns-in-Ok-refusal-clause-now : goal.returns-in-Ok-refusal-clause-now
+returns-in-Ok-refusal-clause-now c = λ octets told g.
+    let there = now-behind (channel_in c.args.self.now) c.next_answered-taken.new.channel c.args.moment c.args.piece.now c.next_answered-taken.result.0 octets told
+    c.next_answered-taken.result.1 (Err c.in-Err.fault) c.in-Err.is c.next_answered-taken.ensures.limits c.next_answered-taken.ensures.channel (c.next_answered-taken.ensures.answers octets told g) in
+    now-ended (channel_of (channel_in c.args.self.now)) (next_of (channel_in c.args.self.now)) c.args.moment c.args.piece.now c.in-Ok-refusal.step.end c.in-Ok-refusal.step.taken c.in-Ok-refusal.step.out.items c.next_answered-taken.new.channel octets told c.args.services.now c.args.services.now
+    c.in-Ok-refusal.ensures.taken.1
+    (c.in-Ok-refusal.ensures.now (channel_in c.args.self.now) c.next_answered-taken.new.channel c.args.moment c.args.piece.now octets told c.args.services.now there)
+
+pub returns-in-Err-refusal-clause-now : goal.returns-in-Err-refusal-clause-now
+returns-in-Err-refusal-clause-now c = λ octets told g.
+    c.in-Err-refusal.ensures.now (channel_in c.args.self.now) c.next_answered-taken.new.channel c.args.moment c.args.piece.now octets told c.args.services.now
+    (now-behind (channel_in c.args.self.now) c.next_answered-taken.new.channel c.args.moment c.args.piece.now c.next_answered-taken.result.0 octets told
+    c.next_answered-taken.result.1 (Err c.in-Err.fault) c.in-Err.is c.next_answered-taken.ensures.limits c.next_answered-taken.ensures.channel (c.next_answered-taken.ensures.answers octets told g))
+
+pub returns-in-Ok-clause-answers : goal.returns-in-Ok-clause-answers
+returns-in-Ok-clause-answers c = λ octets told first moments s.
+    as-advanced (channel_in c.args.self.now) (channel_in c.answer.new.self) c.args.moment c.args.piece.now octets told first moments c.args.services.now c.answer.new.services c.answer.result s
+    (c.answer.ensures.channel ∙ c.next_answered-taken.ensures.channel) (returns-in-Ok-clause-now c octets told s.goes)
+
+pub returns-in-Ok-refusal-clause-answers : goal.returns-in-Ok-refusal-clause-answers
+returns-in-Ok-refusal-clause-answers c = λ octets told first moments s.
+    as-advanced (channel_in c.args.self.now) c.next_answered-taken.new.channel c.args.moment c.args.piece.now octets told first moments c.args.services.now c.args.services.now (Ok (c.in-Ok-refusal.step, false, None)) s
+    c.next_answered-taken.ensures.channel (returns-in-Ok-refusal-clause-now c octets told s.goes)
+
+pub returns-in-Err-refusal-clause-answers : goal.returns-in-Err-refusal-clause-answers
+returns-in-Err-refusal-clause-answers c = λ octets told first moments s.
+    as-advanced (channel_in c.args.self.now) c.next_answered-taken.new.channel c.args.moment c.args.piece.now octets told first moments c.args.services.now c.args.services.now (Err c.in-Err-refusal.fault) s
+    c.next_answered-taken.ensures.channel (returns-in-Err-refusal-clause-now c octets told s.goes)

@@ -7,52 +7,14 @@ use Rattle.ua_server.specs.declared.step.End.TheVariants as ending
 use Rattle.ua_server.specs.declared.step.Step.{Step}
 use Rattle.ua_server.proofs.Bounds.{asked-bound}
 use Rattle.ua_server.proofs.Standing.{event-as, silent-stands, saying-stands, stands-quiet, stands-sent, stands-replied, stands-closed, stands-broken}
-use Rattle.ua_server.proofs.Events.{at-event, silently, saying, breaks-by, on-quiet, on-send, on-reply, on-break, on-close}
+use Rattle.ua_server.proofs.Nows.{now-event, now-silently, now-saying, now-quiet, now-send, now-reply, now-break, now-breaks, now-close}
 use Rattle.ua_server.proofs.server.Server.answer.Goals as goal
-
-pub returns-in-NeedMore-clause-answers : goal.returns-in-NeedMore-clause-answers
-returns-in-NeedMore-clause-answers c = λ old piece octets told first moments b.
-    silently old (channel_in c.args.self.now) c.args.moment piece c.args.taken octets told first moments c.args.services.now c.silent.result None c.silent.ensures.taken c.silent.ensures.out c.silent.ensures.end
-    (λ out none. on-quiet old (channel_in c.args.self.now) c.args.moment piece c.args.taken octets told first moments c.args.services.now
-    (at-event old (channel_in c.args.self.now) c.args.moment piece c.args.taken octets told first moments c.args.services.now c.args.event event.NeedMore c.in-NeedMore.is b) out none)
-
-pub returns-in-Send-clause-answers : goal.returns-in-Send-clause-answers
-returns-in-Send-clause-answers c = λ old piece octets told first moments b.
-    let said : Step = record { taken = c.args.taken; out = c.in-Send.out; end = None } in
-    saying old (channel_in c.args.self.now) c.args.moment piece c.args.taken octets told first moments c.args.services.now None c.saying.result said (channel_in c.args.self.now) c.args.services.now c.saying.ensures
-    (on-send old (channel_in c.args.self.now) c.args.moment piece c.args.taken octets told first moments c.args.services.now c.in-Send.out
-    (at-event old (channel_in c.args.self.now) c.args.moment piece c.args.taken octets told first moments c.args.services.now c.args.event (event.Send c.in-Send.out) c.in-Send.is b))
-
-pub returns-in-Ok-clause-answers : goal.returns-in-Ok-clause-answers
-returns-in-Ok-clause-answers c = λ old piece octets told first moments b.
-    let said : Step = record { taken = c.args.taken; out = c.in-Ok.told.0; end = None } in
-    let there = at-event old (channel_in c.args.self.now) c.args.moment piece c.args.taken octets told first moments c.args.services.now c.args.event (event.Asked c.in-Asked.id c.in-Asked.message) c.in-Asked.is b in
-    saying old (channel_in c.args.self.now) c.args.moment piece c.args.taken octets told first moments c.args.services.now (Some c.in-Ok.told.1) c.saying-in-Ok.result said c.reply_to.new.channel c.reply_to.new.services c.saying-in-Ok.ensures
-    (on-reply old (channel_in c.args.self.now) c.args.moment piece c.args.taken octets told first moments c.args.services.now c.in-Ok.told.1 c.reply_to.new.channel c.in-Asked.id c.in-Asked.message c.in-Ok.told.0.items c.reply_to.new.services there
-    c.reply_to.ensures.channel (c.in-Ok.ensures.sent (octets ++ take c.args.taken piece) (told ++ given_up there.quiet) there.answers.1.0.token there.answers.1.0.goes) c.in-Ok.ensures.state
-    (c.in-Ok.ensures.noted (octets ++ take c.args.taken piece) (told ++ given_up there.quiet) there.answers.1.0.token there.answers.1.0.goes))
-
-pub returns-in-Err-clause-answers : goal.returns-in-Err-clause-answers
-returns-in-Err-clause-answers c = λ old piece octets told first moments b.
-    let there = at-event old (channel_in c.args.self.now) c.args.moment piece c.args.taken octets told first moments c.args.services.now c.args.event (event.Asked c.in-Asked.id c.in-Asked.message) c.in-Asked.is b in
-    let failed = c.in-Err.ensures.failed (octets ++ take c.args.taken piece) (told ++ given_up there.quiet) there.answers.1.0.token there.answers.1.0.goes in
-    breaks-by (limits_of old) (channel_of old) c.args.moment piece c.in-Err.fault c.reply_to.new.channel octets told first moments c.args.services.now c.reply_to.new.services failed.0
-    (on-break old (channel_in c.args.self.now) c.args.moment piece c.args.taken octets told first moments c.args.services.now c.reply_to.new.channel c.in-Asked.id c.in-Asked.message c.reply_to.new.services there failed.1 c.in-Err.ensures.broken)
 
 pub returns-in-Err-clause-starved : goal.returns-in-Err-clause-starved
 returns-in-Err-clause-starved c = λ old piece octets told g limits b fails.
     c.reply_to.ensures.bound
     ∙ asked-bound old (channel_in c.args.self.now) c.args.moment piece c.args.taken octets told g limits c.in-Asked.id c.in-Asked.message
     (event-as (channel_of old) (next_of old) c.args.moment piece c.args.taken (channel_in c.args.self.now) octets told c.args.event (event.Asked c.in-Asked.id c.in-Asked.message) c.in-Asked.is b)
-
-pub returns-in-Closed-clause-answers : goal.returns-in-Closed-clause-answers
-returns-in-Closed-clause-answers c = λ old piece octets told first moments b.
-    silently old (channel_in c.args.self.now) c.args.moment piece c.args.taken octets told first moments c.args.services.now c.silent-step.result (Some ending.Closed) c.silent-step.ensures.taken c.silent-step.ensures.out c.silent-step.ensures.end
-    (λ out none. (
-      on-close old (channel_in c.args.self.now) c.args.moment piece c.args.taken octets told first moments c.args.services.now
-          (at-event old (channel_in c.args.self.now) c.args.moment piece c.args.taken octets told first moments c.args.services.now c.args.event event.Closed c.in-Closed.is b) out none,
-      refl,
-    ))
 
 pub returns-in-NeedMore-clause-stands : goal.returns-in-NeedMore-clause-stands
 returns-in-NeedMore-clause-stands c = λ old piece octets told b.
@@ -86,3 +48,41 @@ returns-in-Closed-clause-stands c = λ old piece octets told b.
     silent-stands (channel_of old) (next_of old) c.args.moment piece c.args.taken (channel_in c.args.self.now) octets told c.silent-step.result (Some ending.Closed) c.silent-step.ensures.taken c.silent-step.ensures.out c.silent-step.ensures.end
     (stands-closed (channel_of old) (next_of old) c.args.moment piece c.args.taken (channel_in c.args.self.now) octets told
     (event-as (channel_of old) (next_of old) c.args.moment piece c.args.taken (channel_in c.args.self.now) octets told c.args.event event.Closed c.in-Closed.is b))
+
+pub returns-in-NeedMore-clause-now : goal.returns-in-NeedMore-clause-now
+returns-in-NeedMore-clause-now c = λ old piece octets told b.
+    now-silently old (channel_in c.args.self.now) c.args.moment piece c.args.taken octets told c.args.services.now c.silent.result None c.silent.ensures.taken c.silent.ensures.out c.silent.ensures.end
+    (now-quiet old (channel_in c.args.self.now) c.args.moment piece c.args.taken octets told c.args.services.now
+    (now-event old (channel_in c.args.self.now) c.args.moment piece c.args.taken octets told c.args.event event.NeedMore c.in-NeedMore.is b))
+
+pub returns-in-Send-clause-now : goal.returns-in-Send-clause-now
+returns-in-Send-clause-now c = λ old piece octets told b.
+    let said : Step = record { taken = c.args.taken; out = c.in-Send.out; end = None } in
+    now-saying old (channel_in c.args.self.now) c.args.moment piece c.args.taken octets told c.args.services.now None c.saying.result said (channel_in c.args.self.now) c.args.services.now c.saying.ensures
+    (now-send old (channel_in c.args.self.now) c.args.moment piece c.args.taken octets told c.args.services.now c.in-Send.out
+    (now-event old (channel_in c.args.self.now) c.args.moment piece c.args.taken octets told c.args.event (event.Send c.in-Send.out) c.in-Send.is b))
+
+pub returns-in-Ok-clause-now : goal.returns-in-Ok-clause-now
+returns-in-Ok-clause-now c = λ old piece octets told b.
+    let said : Step = record { taken = c.args.taken; out = c.in-Ok.told.0; end = None } in
+    let there = now-event old (channel_in c.args.self.now) c.args.moment piece c.args.taken octets told c.args.event (event.Asked c.in-Asked.id c.in-Asked.message) c.in-Asked.is b in
+    now-saying old (channel_in c.args.self.now) c.args.moment piece c.args.taken octets told c.args.services.now (Some c.in-Ok.told.1) c.saying-in-Ok.result said c.reply_to.new.channel c.reply_to.new.services c.saying-in-Ok.ensures
+    (now-reply old (channel_in c.args.self.now) c.args.moment piece c.args.taken octets told c.args.services.now c.in-Ok.told.1 c.reply_to.new.channel c.in-Asked.id c.in-Asked.message c.in-Ok.told.0.items c.reply_to.new.services there
+    (c.in-Ok.ensures.sent (octets ++ take c.args.taken piece) (told ++ given_up there.quiet) there.answers.1.0.token there.answers.1.0.goes) c.in-Ok.ensures.state
+    (c.in-Ok.ensures.noted (octets ++ take c.args.taken piece) (told ++ given_up there.quiet) there.answers.1.0.token there.answers.1.0.goes))
+
+pub returns-in-Err-clause-now : goal.returns-in-Err-clause-now
+returns-in-Err-clause-now c = λ old piece octets told b.
+    let there = now-event old (channel_in c.args.self.now) c.args.moment piece c.args.taken octets told c.args.event (event.Asked c.in-Asked.id c.in-Asked.message) c.in-Asked.is b in
+    let failed = c.in-Err.ensures.failed (octets ++ take c.args.taken piece) (told ++ given_up there.quiet) there.answers.1.0.token there.answers.1.0.goes in
+    now-breaks (limits_of old) (channel_of old) (next_of old) c.args.moment piece c.in-Err.fault c.reply_to.new.channel octets told c.args.services.now c.reply_to.new.services failed.0
+    (now-break old (channel_in c.args.self.now) c.args.moment piece c.args.taken octets told c.args.services.now c.reply_to.new.channel c.in-Asked.id c.in-Asked.message c.reply_to.new.services there failed.1 c.in-Err.ensures.broken)
+
+pub returns-in-Closed-clause-now : goal.returns-in-Closed-clause-now
+returns-in-Closed-clause-now c = λ old piece octets told b.
+    now-silently old (channel_in c.args.self.now) c.args.moment piece c.args.taken octets told c.args.services.now c.silent-step.result (Some ending.Closed) c.silent-step.ensures.taken c.silent-step.ensures.out c.silent-step.ensures.end
+    (λ out none. (
+      now-close old (channel_in c.args.self.now) c.args.moment piece c.args.taken octets told c.args.services.now
+          (now-event old (channel_in c.args.self.now) c.args.moment piece c.args.taken octets told c.args.event event.Closed c.in-Closed.is b) out none,
+      refl,
+    ))

@@ -1,15 +1,29 @@
-use Rattle.ua_channel.specs.ServerStands.{channel_of}
+use Rattle.ua_server.specs.Living.{told_in}
+use Rattle.ua_server.proofs.Livings.{lives_step}
+use Rattle.std.proofs.Common.{Ok}
+use Rattle.ua_channel.specs.ServerStands.{channel_of, next_of}
 use Rattle.ua_server.specs.Served.{channel_in}
 use Rattle.ua_server.specs.declared.step.StepFault.TheVariants as step_fault
 use Rattle.ua_server.proofs.Bounds.{same-fault}
-use Rattle.ua_server.proofs.Events.{without}
+use Rattle.ua_server.proofs.Nows.{now-without}
+use Rattle.ua_server.proofs.NowStanding.{as-told}
 use Rattle.ua_server.proofs.server.Server.step.Goals as goal
-
-pub returns-in-Ok-clause-answers : goal.returns-in-Ok-clause-answers
-returns-in-Ok-clause-answers c = λ octets told first moments s.
-    without c.in-Ok.found.1 c.in-Ok.found.2 (channel_of (channel_in c.args.self.now)) c.args.moment c.args.piece.now c.in-Ok.found.0.end c.in-Ok.found.0.taken c.in-Ok.found.0.out.items (channel_in c.advance.new.self) octets told first moments c.args.services.now c.advance.new.services
-    (c.in-Ok.ensures.answers octets told first moments s)
 
 pub returns-in-Err-clause-starved : goal.returns-in-Err-clause-starved
 returns-in-Err-clause-starved c = λ octets told g fails.
     c.in-Err.ensures.starved octets told g (same-fault c.in-Err.fault step_fault.OutOfMemory fails)
+
+pub returns-in-Ok-clause-now : goal.returns-in-Ok-clause-now
+returns-in-Ok-clause-now c = λ octets told g.
+    now-without c.in-Ok.found.1 c.in-Ok.found.2 (channel_of (channel_in c.args.self.now)) (next_of (channel_in c.args.self.now)) c.args.moment c.args.piece.now c.in-Ok.found.0.end c.in-Ok.found.0.taken c.in-Ok.found.0.out.items (channel_in c.advance.new.self) octets told c.args.services.now c.advance.new.services
+    (c.in-Ok.ensures.now octets told g)
+
+pub returns-in-Ok-clause-answers : goal.returns-in-Ok-clause-answers
+returns-in-Ok-clause-answers c = λ octets told first moments s.
+    as-told (channel_in c.args.self.now) (channel_in c.advance.new.self) c.args.moment c.args.piece.now octets told first moments c.args.services.now c.advance.new.services (Ok c.in-Ok.found.0) s
+    c.advance.ensures.channel (returns-in-Ok-clause-now c octets told s.goes)
+
+pub returns-in-Ok-clause-lives : goal.returns-in-Ok-clause-lives
+returns-in-Ok-clause-lives c = λ octets hs first s.
+    lives_step (channel_in c.args.self.now) (channel_in c.advance.new.self) c.args.moment c.args.piece.now octets hs first c.args.services.now c.advance.new.services (Ok c.in-Ok.found.0) s
+    c.advance.ensures.channel (returns-in-Ok-clause-now c octets (told_in hs) s.goes)

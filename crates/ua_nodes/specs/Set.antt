@@ -1,0 +1,50 @@
+-- Readings that a program sets, and what they leave.
+use Rattle.std.specs.Prelude.{Bool, not, cond, List, [], ◌∷◌, Option, None, Some, is_none}
+use Rattle.std.specs.Map.{set_value}
+use Rattle.ua_builtin.specs.Reasons.{first_reason}
+use Rattle.ua_builtin.specs.declared.node_id.NodeId.{NodeId}
+use Rattle.ua_variant.specs.Encodable.{data_value_encodable}
+use Rattle.ua_variant.specs.View.{variant_of, data_value_of}
+use Rattle.ua_variant.specs.declared.values.DataValue.{DataValue}
+use Rattle.ua_nodes.specs.Table.{Nodes, node_at, same_id}
+use Rattle.ua_nodes.specs.Write.{holds_type, stored}
+use Rattle.ua_nodes.specs.declared.fault.SetFault.{SetFault}
+use Rattle.ua_nodes.specs.declared.fault.SetFault.TheVariants.{Unknown, Mismatch, NotWritable}
+use Rattle.ua_nodes.specs.declared.node.Variable.{Variable}
+use Rattle.ua_nodes.specs.declared.set.Reading.{Reading}
+
+-- a reading, as a DataValue
+abbrev pub given_by : Reading → DataValue
+given_by r = record {
+  value = Some (variant_of r.value);
+  status = r.status;
+  source_timestamp = Some r.source_time;
+  source_picoseconds = r.source_picoseconds;
+  server_timestamp = None;
+  server_picoseconds = None;
+}
+
+-- why this is refused for the node, in the order in which it is judged; the access bits are a client's
+abbrev pub set_reasons : Variable → DataValue → List (SetFault × Bool)
+set_reasons v given =
+    (Mismatch, not (holds_type v.kind v.array given.value))
+    ∷ (NotWritable, not (data_value_encodable (data_value_of given)))
+    ∷ []
+
+-- why a reading is refused, by the node that it is of, if it is
+abbrev pub set_refusal : Option Variable → Reading → Option SetFault
+set_refusal None r = Some Unknown
+set_refusal (Some v) r = first_reason (set_reasons v (given_by r))
+
+-- the node with the value, status and source time of the reading, or as it was where that is refused
+abbrev pub set_node : Variable → Reading → Variable
+set_node v r = cond (is_none (first_reason (set_reasons v (given_by r)))) (stored v (given_by r) r.source_time) v
+
+-- the nodes with this reading of this one, which the NodeId names
+abbrev pub with_reading : Option Variable → NodeId → Reading → Nodes → Nodes
+with_reading None id r nodes = nodes
+with_reading (Some v) id r nodes = set_value (same_id id) nodes (set_node v r)
+
+-- what a reading of the node of a NodeId leaves
+unfoldable pub after_set : NodeId → Reading → Nodes → Nodes
+after_set id r nodes = with_reading (node_at nodes id) id r nodes

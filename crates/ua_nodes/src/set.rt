@@ -1,0 +1,93 @@
+//! Readings that a program sets.
+
+ghost use Rattle.std.specs.Prelude.{◌≡◌, MatchResult, OnErr, IsSome, Some, None};
+ghost use Rattle.ua_builtin.specs.Reasons.{first_reason};
+ghost use Rattle.ua_nodes.specs.Set.{after_set, given_by, set_node, set_reasons, set_refusal};
+ghost use Rattle.ua_nodes.specs.Sound.{IsSound};
+ghost use Rattle.ua_nodes.specs.Table.{node_at};
+
+use crate::fault::SetFault;
+use crate::node::Variable;
+use crate::table::NodeTable;
+use crate::write::is_value_of;
+use ua_builtin::{DateTime, NodeId, StatusCode};
+use ua_variant::{DataValue, HeldVariant, Variant};
+
+/// A value with its status, and when it came about.
+#[derive(Drop)]
+pub struct Reading {
+    pub value: Variant,
+    pub status: Option<StatusCode>,
+    pub source_time: DateTime,
+    /// What is to be added to the source time, in units of 10 picoseconds.
+    pub source_picoseconds: Option<u16>,
+}
+
+impl Reading {
+    /// The reading as a DataValue. Takes no memory.
+    fn into_data(self) -> DataValue
+        ensures { result ≡ given_by self }
+    {
+        DataValue {
+            value: Some(HeldVariant::new(self.value)),
+            status: self.status,
+            source_timestamp: Some(self.source_time),
+            source_picoseconds: self.source_picoseconds,
+            server_timestamp: None,
+            server_picoseconds: None,
+        }
+    }
+}
+
+impl NodeTable {
+    /// Sets what the node of a NodeId holds, whatever may be done with its value: that is said to
+    /// clients. Takes no memory.
+    pub fn set(&mut self, id: &NodeId, reading: Reading) -> Result<(), SetFault>
+        ensures nodes { self.new ≡ after_set id.now reading self.old }
+        ensures answer { MatchResult result (λ _. set_refusal (node_at self.old id.now) reading ≡ None) (λ fault. set_refusal (node_at self.old id.now) reading ≡ Some fault) }
+        ensures kept { OnErr result (self.new ≡ self.old) }
+        ensures sound { IsSound self.old → IsSound self.new }
+    {
+        match self.nodes.get_mut(id) {
+            Some(variable) => variable.set(reading),
+            None => {
+                drop(reading);
+                Err(SetFault::Unknown)
+            }
+        }
+    }
+}
+
+impl Variable {
+    /// Takes a reading, unless it is refused.
+    fn set(&mut self, reading: Reading) -> Result<(), SetFault>
+        ensures node { self.new ≡ set_node self.old reading }
+        ensures answer { MatchResult result (λ _. first_reason (set_reasons self.old (given_by reading)) ≡ None) (λ fault. first_reason (set_reasons self.old (given_by reading)) ≡ Some fault) }
+    {
+        let moment = reading.source_time;
+        let given = reading.into_data();
+        if let Some(fault) = self.set_refusal(&given) {
+            drop(given);
+            return Err(fault);
+        }
+        self.store(given, moment);
+        Ok(())
+    }
+
+    /// Why this is refused for this node.
+    fn set_refusal(&self, given: &DataValue) -> Option<SetFault>
+        requires { IsSome given.now.value }
+        ensures { result ≡ first_reason (set_reasons self.now given.now) }
+    {
+        let Some(value) = &given.value else {
+            unreachable!();
+        };
+        if !is_value_of(self.kind, self.array, value.get()) {
+            return Some(SetFault::Mismatch);
+        }
+        if !given.writable() {
+            return Some(SetFault::NotWritable);
+        }
+        None
+    }
+}

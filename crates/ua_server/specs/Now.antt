@@ -1,0 +1,78 @@
+-- What a step answers by what stands: by the state of its services, the number of the chunk that it sends next and what was agreed to, whatever was before.
+use Rattle.std.specs.Prelude.{◌≡◌, ℕ, Bool, false, List, [], ◌++◌, take, Option, None, Some, Result, Ok, Err}
+use Rattle.ua_builtin.specs.declared.date_time.DateTime.{DateTime}
+use Rattle.ua_frame.specs.Run.{Stopped}
+use Rattle.ua_frame.specs.declared.limits.Limits.{Limits}
+use Rattle.ua_channel.specs.Agreement.{Agreement}
+use Rattle.ua_channel.specs.Received.{has_some, listed}
+use Rattle.ua_channel.specs.ServerAnswers.{AnswersAt}
+use Rattle.ua_channel.specs.ServerPlaces.{agreed_by}
+use Rattle.ua_channel.specs.ServerStands.{limits_of, channel_of, next_of, Goes}
+use Rattle.ua_channel.specs.ServerTold.{Told}
+use Rattle.ua_channel.specs.declared.server.ServerChannel.{ServerChannel}
+use Rattle.ua_channel.specs.declared.server_event.ServerEvent.{ServerEvent}
+use Rattle.ua_channel.specs.declared.server_fault.ChannelFault.{ChannelFault}
+use Rattle.ua_server.specs.Requests.{requests_of}
+use Rattle.ua_server.specs.Said.{Course, last_words, left_by, said_of}
+use Rattle.ua_server.specs.State.{State}
+use Rattle.ua_server.specs.Stepping.{ClosesAt, RefusesAt, StepBreaks, Stops, given_up, spent}
+use Rattle.ua_server.specs.declared.step.End.{End as Ending}
+use Rattle.ua_server.specs.declared.step.End.TheVariants as ending
+use Rattle.ua_server.specs.declared.step.Step.{Step}
+use Rattle.ua_server.specs.declared.step.StepFault.{StepFault}
+use Rattle.ua_server.specs.declared.step.StepFault.TheVariants as step_fault
+use Rattle.ua_server.specs.declared.watch.AnsweredRequest.{AnsweredRequest}
+
+-- how far a server is that stands so, and answers these at a moment
+abbrev pub standing : State → ℕ → Option Agreement → List Told → DateTime → Course
+standing now number agreement more moment = record { state = now; number = number; moments = spent more moment; agreement = agreement }
+
+-- it goes on: what was taken told that messages were given up, and then at most one thing more, which is answered; what is said of that, the
+-- state that is left and the number of the chunk that is sent next are what is said of it, and left, from where it stands
+pub record NowGoes (channel number : ℕ) (moment : DateTime) (piece : List ℕ) (n : ℕ) (out : List ℕ) (new : ServerChannel) (octets : List ℕ) (told : List Told) (before now : State) : Type 0 where
+  pub quiet : List ℕ
+  pub more : List Told
+  pub stops : Stops new octets piece n out (told ++ given_up quiet) more
+  pub goes : Goes new (octets ++ take n piece) ((told ++ given_up quiet) ++ more)
+  pub out_is : out ≡ said_of channel (standing before number (agreed_by told) more moment) more
+  pub state_is : now ≡ (left_by channel (standing before number (agreed_by told) more moment) more).state
+  pub number_is : next_of new ≡ (left_by channel (standing before number (agreed_by told) more moment) more).number
+
+-- by how the connection ended, if it did: then the services are as they were, and the last word of a refusal is the ERR frame
+abbrev pub NowBy : ℕ → ℕ → DateTime → List ℕ → Option Ending → ℕ → List ℕ → ServerChannel → List ℕ → List Told → State → State → Type 0
+NowBy channel number moment piece None n out new octets told before now = NowGoes channel number moment piece n out new octets told before now
+NowBy channel number moment piece (Some ending.Closed) n out new octets told before now = ClosesAt piece n new octets told × (out ≡ []) × (now ≡ before)
+NowBy channel number moment piece (Some (ending.Refused code)) n out new octets told before now = RefusesAt code.code piece n new octets told × (out ≡ last_words (Stopped code.code)) × (now ≡ before)
+NowBy channel number moment piece (Some ending.NoClose) n out new octets told before now = ⊥
+NowBy channel number moment piece (Some ending.Cut) n out new octets told before now = ⊥
+
+-- what a step answers to a piece at a moment, by what stands behind octets that told this
+abbrev pub StepNow : Limits → ℕ → ℕ → DateTime → List ℕ → Result Step StepFault → ServerChannel → List ℕ → List Told → State → State → Type 0
+StepNow limits channel number moment piece (Ok step) new octets told before now = NowBy channel number moment piece step.end step.taken step.out.items new octets told before now
+StepNow limits channel number moment piece (Err step_fault.OutOfMemory) new octets told before now = StepBreaks limits channel moment piece new octets told before now
+StepNow limits channel number moment piece (Err step_fault.Closed) new octets told before now = ⊥
+
+-- ---- inside
+
+-- the channel answered this to the first octets of the piece, behind messages that were given up
+pub record NowBehind (old : ServerChannel) (moment : DateTime) (piece : List ℕ) (n : ℕ) (answer : Result ServerEvent ChannelFault) (mid : ServerChannel) (octets : List ℕ) (told : List Told) : Type 0 where
+  pub limits : limits_of mid ≡ limits_of old
+  pub channel : channel_of mid ≡ channel_of old
+  pub quiet : List ℕ
+  pub answers : AnswersAt (channel_of old) (next_of old) moment piece n answer mid octets (told ++ given_up quiet)
+
+-- what is answered is told apart, and which request it is, if it is one
+pub record NowTells (answered : Bool) (request : Option AnsweredRequest) (channel number : ℕ) (moment : DateTime) (piece : List ℕ) (n : ℕ) (out : List ℕ) (new : ServerChannel) (octets : List ℕ) (told : List Told) (before now : State) : Type 0 where
+  pub goes : NowGoes channel number moment piece n out new octets told before now
+  pub answered_is : answered ≡ has_some goes.more
+  pub requests_are : listed request ≡ requests_of channel (standing before number (agreed_by told) goes.more moment) goes.more
+
+-- the same by how the connection ended, with whether something was answered, and which request
+abbrev pub AdvanceNowBy : Bool → Option AnsweredRequest → ℕ → ℕ → DateTime → List ℕ → Option Ending → ℕ → List ℕ → ServerChannel → List ℕ → List Told → State → State → Type 0
+AdvanceNowBy answered request channel number moment piece None n out new octets told before now = NowTells answered request channel number moment piece n out new octets told before now
+AdvanceNowBy answered request channel number moment piece (Some end) n out new octets told before now = NowBy channel number moment piece (Some end) n out new octets told before now × (answered ≡ false)
+
+-- what a step answers, with whether something was answered, and which request
+abbrev pub AdvanceNow : Limits → ℕ → ℕ → DateTime → List ℕ → Result (Step × Bool × Option AnsweredRequest) StepFault → ServerChannel → List ℕ → List Told → State → State → Type 0
+AdvanceNow limits channel number moment piece (Ok found) new octets told before now = AdvanceNowBy found.1 found.2 channel number moment piece found.0.end found.0.taken found.0.out.items new octets told before now
+AdvanceNow limits channel number moment piece (Err f) new octets told before now = StepNow limits channel number moment piece (Err f) new octets told before now
