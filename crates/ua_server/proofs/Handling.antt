@@ -19,7 +19,7 @@ use Rattle.ua_server.specs.Said.{left}
 use Rattle.ua_server.specs.Served.{channel_in}
 use Rattle.ua_server.specs.Happening.{Event, Happens, noted_in}
 use Rattle.ua_server.specs.Requests.{requests}
-use Rattle.ua_server.specs.Serving.{moments_in, greatest, Answered, AnsweredTo, Moves, ServesTelling, ServesBy, TellsAll, TellsBy}
+use Rattle.ua_server.specs.Serving.{coming_now, moments_in, greatest, Answered, AnsweredTo, Moves, ServesTelling, ServesBy, TellsAll, TellsBy}
 use Rattle.ua_server.specs.ServingParts.{EndsTelling, Exchanged, FailsTelling, Finishes, Handles, Keeps, Reads, Turns, TurnsTo}
 use Rattle.ua_server.specs.State.{State}
 use Rattle.ua_server.specs.declared.serve_fault.ServeFault.{ServeFault}
@@ -221,15 +221,13 @@ module _ (limits : Limits) (channel : ℕ) (first : State) where
     abbrev step : M × W → Event → M × W → Type 0
     step = Happens gives notes
 
-    -- what is exchanged with a line that tells its octets is served
+    -- what is exchanged with a line is served
     pub served : (m : M × W) (read : List ℕ) (la lb : Option Traffic) (result : Result Ending ServeFault) (now : State) (P : List ℕ → List Event → Type 0) → Exchanged step m0 m read la lb P
-        → ((b : Traffic) (w : List ℕ) (ts : List Event) → lb ≡ Some b → P w ts → ComesTo result read w ts now (b.coming []))
-        → WhereTold (ServesTelling limits channel gives notes first m0 result now m) la lb
-    served m read (Some a) (Some b) result now P e by =
-        let to = by b e.written e.ticks refl e.holds in
+        → ((w : List ℕ) (ts : List Event) → P w ts → ComesTo result read w ts now (coming_now lb))
+        → ServesTelling limits channel gives notes first m0 result now m la lb
+    served m read la lb result now P e by =
+        let to = by e.written e.ticks e.holds in
         record { read = read; written = e.written; happened = e.ticks; moved = e.moved; led = e.given; comes_to = to.0; tells = to.1 }
-    served m read (Some a) None result now P e by = e.moved
-    served m read None lb result now P e by = e.moved
 
     handed : (n : ℕ) (buffer : List ℕ) (a b : Option Traffic) → WhereTold (HandsOut (Ok n) buffer) a b → WhereTold (Moves (take n buffer) []) a b
     handed n buffer (Some a) (Some b) h = (h.0, h.1 ∙ sym (append-nil a.written))
@@ -241,12 +239,10 @@ module _ (limits : Limits) (channel : ℕ) (first : State) where
     not-handed f buffer (Some a) None h = h
     not-handed f buffer None b h = h
 
-    ended : (n : ℕ) (buffer : List ℕ) (a b : Option Traffic) (t : Traffic) → WhereTold (HandsOut (Ok n) buffer) a b → n ≡ 0 → 0 < length buffer → b ≡ Some t → t.coming [] ≡ []
-    ended n buffer (Some a) (Some b) t h zero room is =
-        let same : b ≡ t = cc in
-        sym (ap (λ (s : Traffic). s.coming []) same) ∙ (sym (ap (λ (k : ℕ). take k buffer ++ b.coming []) zero) ∙ (sym (h.0 []) ∙ h.2 zero room))
-    ended n buffer (Some a) None t h zero room is = absurd h
-    ended n buffer None b t h zero room is = let none : ◌≡◌ {A = Option Traffic} None (Some t) = sym h ∙ is in absurd cc
+    ended : (n : ℕ) (buffer : List ℕ) (a b : Option Traffic) → WhereTold (HandsOut (Ok n) buffer) a b → n ≡ 0 → 0 < length buffer → coming_now b ≡ []
+    ended n buffer (Some a) (Some b) h zero room = sym (ap (λ (k : ℕ). take k buffer ++ b.coming []) zero) ∙ (sym (h.0 []) ∙ h.2 zero room)
+    ended n buffer (Some a) None h zero room = refl
+    ended n buffer None b h zero room = ap coming_now h
 
     -- so many reads are answered, and it goes on
     abbrev pub Served : Option Traffic → ℕ → M × W → Option Traffic → Serving → State → Type 0
@@ -256,10 +252,10 @@ module _ (limits : Limits) (channel : ℕ) (first : State) where
     served-nothing la x now k = record { read = []; enough = omega arith; exchanged = record { written = []; ticks = []; moved = told-nothing la; given = refl; holds = k } }
 
     -- nothing was read, for want of memory
-    pub serves-nothing : (la : Option Traffic) (x : Serving) (now : State) → Keeps x limits channel first [] [] [] now → WhereTold (ServesTelling limits channel gives notes first m0 (Err fault.OutOfMemory) now m0) la la
+    pub serves-nothing : (la : Option Traffic) (x : Serving) (now : State) → Keeps x limits channel first [] [] [] now → ServesTelling limits channel gives notes first m0 (Err fault.OutOfMemory) now m0 la la
     serves-nothing la x now k =
         served m0 [] la la (Err fault.OutOfMemory) now (λ w ts. Keeps x limits channel first [] w ts now) (record { written = []; ticks = []; moved = told-nothing la; given = refl; holds = k })
-        (λ b w ts is h.
+        (λ w ts h.
         let broken = pending-unwritten limits channel first (noted_in ts) [] [] w h.used (listed x.moment) (moments_in ts) now h.moments_are (listed-one limits channel first x.moment) h.pending in
         ((broken.0, inr broken.1), inr (broken.1, broken.2)))
 
@@ -275,26 +271,26 @@ module _ (limits : Limits) (channel : ℕ) (first : State) where
     }
 
     pub read-failed : (la lb lc : Option Traffic) (reads : ℕ) (m : M × W) (x : Serving) (now : State) (f : LineFault) (buffer : List ℕ) → Served la reads m lb x now → WhereTold (HandsOut (Err f) buffer) lb lc
-        → WhereTold (ServesTelling limits channel gives notes first m0 (Err fault.Read) now m) la lc
+        → ServesTelling limits channel gives notes first m0 (Err fault.Read) now m la lc
     read-failed la lb lc reads m x now f buffer s h =
         served m s.read la lc (Err fault.Read) now (λ written ts. Keeps x limits channel first s.read written ts now)
         (subst (λ (r : List ℕ). Exchanged step m0 m r la lc (λ written ts. Keeps x limits channel first s.read written ts now)) (append-nil s.read)
         (read-on la lb lc reads m x now 0 [] s (not-handed f buffer lb lc h)))
-        (λ b w ts is k. still-going x s.read w ts now k)
+        (λ w ts k. still-going x s.read w ts now k)
 
     pub read-ended : (la lb lc : Option Traffic) (reads : ℕ) (m : M × W) (x : Serving) (now : State) (n : ℕ) (buffer : List ℕ) (end : Ending) → Served la reads m lb x now → WhereTold (HandsOut (Ok n) buffer) lb lc → n ≡ 0 → 0 < length buffer
         → ((octets : List ℕ) (frames : List Frame) (rest : List ℕ) → Holds (channel_in x.server) octets frames rest → Finishes end frames rest)
-        → WhereTold (ServesTelling limits channel gives notes first m0 (Ok end) now m) la lc
+        → ServesTelling limits channel gives notes first m0 (Ok end) now m la lc
     read-ended la lb lc reads m x now n buffer end s h zero room by =
         served m s.read la lc (Ok end) now (λ written ts. Keeps x limits channel first s.read written ts now)
         (subst (λ (r : List ℕ). Exchanged step m0 m r la lc (λ written ts. Keeps x limits channel first s.read written ts now)) (ap (λ (k : ℕ). s.read ++ take k buffer) zero ∙ append-nil s.read)
         (read-on la lb lc reads m x now n buffer s (handed n buffer lb lc h)))
-        (λ b w ts is k. finished x end s.read w ts now (b.coming []) k by (ended n buffer lb lc b h zero room is))
+        (λ w ts k. finished x end s.read w ts now (coming_now lc) k by (ended n buffer lb lc h zero room))
 
-    pub read-too-long : (la lb : Option Traffic) (reads : ℕ) (m : M × W) (x : Serving) (now : State) → greatest ≤ reads → Served la reads m lb x now → WhereTold (ServesTelling limits channel gives notes first m0 (Err fault.TooLong) now m) la lb
+    pub read-too-long : (la lb : Option Traffic) (reads : ℕ) (m : M × W) (x : Serving) (now : State) → greatest ≤ reads → Served la reads m lb x now → ServesTelling limits channel gives notes first m0 (Err fault.TooLong) now m la lb
     read-too-long la lb reads m x now h s =
         served m s.read la lb (Err fault.TooLong) now (λ written ts. Keeps x limits channel first s.read written ts now) s.exchanged
-        (λ b w ts is k.
+        (λ w ts k.
         let going = still-going x s.read w ts now k in
         ((going.0, more-than greatest reads (length s.read) h s.enough), going.1))
       where
@@ -329,16 +325,16 @@ module _ (limits : Limits) (channel : ℕ) (first : State) where
       }
 
       pub served-end : (end : Ending) → Exchanged step m m' [] lc ld (λ more ts. Handles (Ok (Some end)) y limits channel first (s.read ++ take n buffer) (s.exchanged.written ++ more) (s.exchanged.ticks ++ ts) now')
-          → WhereTold (ServesTelling limits channel gives notes first m0 (Ok end) now' m') la ld
+          → ServesTelling limits channel gives notes first m0 (Ok end) now' m' la ld
       served-end end f =
           served m' (s.read ++ take n buffer) la ld (Ok end) now' (λ written ts. EndsTelling end limits channel first (s.read ++ take n buffer) written ts now') (handles-on (Ok (Some end)) f)
-          (λ b w ts is k. ends-serves end (s.read ++ take n buffer) w ts now' (b.coming []) k)
+          (λ w ts k. ends-serves end (s.read ++ take n buffer) w ts now' (coming_now ld) k)
 
       pub served-fault : (f : ServeFault) → Exchanged step m m' [] lc ld (λ more ts. Handles (Err f) y limits channel first (s.read ++ take n buffer) (s.exchanged.written ++ more) (s.exchanged.ticks ++ ts) now')
-          → WhereTold (ServesTelling limits channel gives notes first m0 (Err f) now' m') la ld
+          → ServesTelling limits channel gives notes first m0 (Err f) now' m' la ld
       served-fault f e =
           served m' (s.read ++ take n buffer) la ld (Err f) now' (λ written ts. FailsTelling f limits channel first (s.read ++ take n buffer) written ts now') (handles-on (Err f) e)
-          (λ b w ts is k. fails-serves f (s.read ++ take n buffer) w ts now' (b.coming []) k)
+          (λ w ts k. fails-serves f (s.read ++ take n buffer) w ts now' (coming_now ld) k)
 
 -- less of a piece is left behind a turn
 pub turns-fewer : (piece : List ℕ) (taken n : ℕ) → taken < length piece → n ≤ length (rest_of piece taken) → (0 < length (rest_of piece taken) → 0 < n) → length piece - (taken + n) < length piece - taken

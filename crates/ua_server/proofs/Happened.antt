@@ -80,8 +80,8 @@ given-led {M = M} gives notes a b (Noted r ∷ es) l = subst (λ (m : M). Gives 
 
 -- what is served, without a word on who is told of requests
 pub serves-plain : {M W : Type 0} (limits : Limits) (channel : ℕ) (gives : M → ℤ → M → Type 0) (notes : W → AnsweredRequest → W → Type 0) (first : State) (a b : M × W) (result : Result Ending ServeFault) (now : State) (before after : Option Traffic)
-    → WhereTold (ServesTelling limits channel gives notes first a result now b) before after → WhereTold (Serves limits channel gives first a.0 result now b.0) before after
-serves-plain limits channel gives notes first a b result now (Some x) (Some y) s = record {
+    → ServesTelling limits channel gives notes first a result now b before after → Serves limits channel gives first a.0 result now b.0 before after
+serves-plain limits channel gives notes first a b result now before after s = record {
   read = s.read;
   written = s.written;
   ticks = ticks_in s.happened;
@@ -89,5 +89,3 @@ serves-plain limits channel gives notes first a b result now (Some x) (Some y) s
   given = given-led gives notes a b s.happened s.led;
   comes_to = s.comes_to;
 }
-serves-plain limits channel gives notes first a b result now (Some x) None s = s
-serves-plain limits channel gives notes first a b result now None after s = s

@@ -1,11 +1,11 @@
 -- What serving a line comes to.
-use Rattle.std.specs.Prelude.{◌≡◌, ◌⊎◌, ℕ, ◌+◌, ◌<◌, ◌≤◌, ℤ, IsTrue, List, [], ◌∷◌, ◌++◌, map, min, length, Result, Ok, Err}
+use Rattle.std.specs.Prelude.{◌≡◌, ◌⊎◌, ℕ, ◌+◌, ◌<◌, ◌≤◌, ℤ, IsTrue, List, [], ◌∷◌, ◌++◌, map, min, length, Option, Some, None, Result, Ok, Err}
 use Rattle.ua_builtin.specs.declared.date_time.DateTime.{DateTime}
 use Rattle.ua_chunk.specs.Open.{open_ids}
 use Rattle.ua_frame.specs.Run.{End, Going, Stopped, Over, Run, events}
 use Rattle.ua_frame.specs.declared.frame.Frame.{Frame}
 use Rattle.ua_frame.specs.declared.limits.Limits.{Limits}
-use Rattle.ua_channel.specs.Line.{Traffic, one_more}
+use Rattle.ua_channel.specs.Line.{Traffic, WhereTold, one_more}
 use Rattle.ua_channel.specs.Moments.{Gives}
 use Rattle.ua_channel.specs.Received.{received}
 use Rattle.ua_channel.specs.ServerRules.{server_rules}
@@ -208,24 +208,29 @@ TellsBy (Err fault.TooLong) limits channel first read written moments now coming
 abbrev pub Moves : List ℕ → List ℕ → Traffic → Traffic → Type 0
 Moves read written before after = ((more : List ℕ) → before.coming (written ++ more) ≡ read ++ after.coming more) × (after.written ≡ before.written ++ written)
 
--- a line that tells its octets was served from this state on: octets were read and written, and moments were given in turn
-pub record Serves {M : Type 0} (limits : Limits) (channel : ℕ) (gives : M → ℤ → M → Type 0) (first : State) (moments : M) (result : Result Ending ServeFault) (now : State) (later : M) (before after : Traffic) : Type 0 where
+-- the octets that are to come from a line before more is written; none where it does not tell them
+abbrev pub coming_now : Option Traffic → List ℕ
+coming_now None = []
+coming_now (Some traffic) = traffic.coming []
+
+-- a line was served from this state on: octets were read and written, just these where it tells its octets, and moments were given in turn
+pub record Serves {M : Type 0} (limits : Limits) (channel : ℕ) (gives : M → ℤ → M → Type 0) (first : State) (moments : M) (result : Result Ending ServeFault) (now : State) (later : M) (before after : Option Traffic) : Type 0 where
   pub read : List ℕ
   pub written : List ℕ
   pub ticks : List ℤ
-  pub moved : Moves read written before after
+  pub moved : WhereTold (Moves read written) before after
   pub given : Gives gives moments ticks later
-  pub comes_to : ServesBy result limits channel first read written (map moment_of ticks) now (after.coming [])
+  pub comes_to : ServesBy result limits channel first read written (map moment_of ticks) now (coming_now after)
 
 -- the same with who is told of requests: moments were given and requests told in turn
-pub record ServesTelling {M W : Type 0} (limits : Limits) (channel : ℕ) (gives : M → ℤ → M → Type 0) (notes : W → AnsweredRequest → W → Type 0) (first : State) (beside : M × W) (result : Result Ending ServeFault) (now : State) (later : M × W) (before after : Traffic) : Type 0 where
+pub record ServesTelling {M W : Type 0} (limits : Limits) (channel : ℕ) (gives : M → ℤ → M → Type 0) (notes : W → AnsweredRequest → W → Type 0) (first : State) (beside : M × W) (result : Result Ending ServeFault) (now : State) (later : M × W) (before after : Option Traffic) : Type 0 where
   pub read : List ℕ
   pub written : List ℕ
   pub happened : List Event
-  pub moved : Moves read written before after
+  pub moved : WhereTold (Moves read written) before after
   pub led : Leads (Happens gives notes) beside happened later
-  pub comes_to : ServesBy result limits channel first read written (moments_in happened) now (after.coming [])
-  pub tells : TellsBy result limits channel first read written (moments_in happened) now (after.coming []) comes_to (noted_in happened)
+  pub comes_to : ServesBy result limits channel first read written (moments_in happened) now (coming_now after)
+  pub tells : TellsBy result limits channel first read written (moments_in happened) now (coming_now after) comes_to (noted_in happened)
 
 -- the count of failures of a line after a call: it moved on by one where the line is named as failing, and nowhere else
 abbrev pub LineFailed : {A : Type 0} → ℕ → Result A ServeFault → ℕ → Type 0

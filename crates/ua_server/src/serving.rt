@@ -34,7 +34,7 @@ pub fn serve<L: Line, M: Moments>(
     channel_id: u32,
     moments: &mut M,
 ) -> Result<End, ServeFault>
-    ensures serves { WhereTold (Serves limits channel_id M.gives (begun services.old) moments.old result services.new moments.new) (L.traffic line.old) (L.traffic line.new) }
+    ensures serves { Serves limits channel_id M.gives (begun services.old) moments.old result services.new moments.new (L.traffic line.old) (L.traffic line.new) }
     ensures failed { LineFailed (L.failures line.old) result (L.failures line.new) }
 {
     serve_watched(
@@ -59,7 +59,7 @@ pub fn serve_watched<L: Line, M: Moments, W: Watch>(
     moments: &mut M,
     watch: &mut W,
 ) -> Result<End, ServeFault>
-    ensures serves { WhereTold (ServesTelling limits channel_id M.gives W.notes (begun services.old) (moments.old, watch.old) result services.new (moments.new, watch.new)) (L.traffic line.old) (L.traffic line.new) }
+    ensures serves { ServesTelling limits channel_id M.gives W.notes (begun services.old) (moments.old, watch.old) result services.new (moments.new, watch.new) (L.traffic line.old) (L.traffic line.new) }
     ensures told { WasTold W.notes watch.old watch.new }
     ensures failed { LineFailed (L.failures line.old) result (L.failures line.new) }
 {
@@ -285,7 +285,7 @@ impl Serving {
     ) -> Result<End, ServeFault>
         requires { 0 < length buffer.old }
         ensures serves { (limits : Limits) (channel : ℕ) (first : State) → Keeps self.old limits channel first [] [] [] services.old
-            → WhereTold (ServesTelling limits channel M.gives W.notes first (moments.old, watch.old) result services.new (moments.new, watch.new)) (L.traffic line.old) (L.traffic line.new) }
+            → ServesTelling limits channel M.gives W.notes first (moments.old, watch.old) result services.new (moments.new, watch.new) (L.traffic line.old) (L.traffic line.new) }
         ensures told { WasTold W.notes watch.old watch.new }
         ensures failed { LineFailed (L.failures line.old) result (L.failures line.new) }
     {
